@@ -1,0 +1,51 @@
+-- An application, as its file has it.
+use Rattle.std.specs.Prelude.{ℕ, List, [], length, Option, Some, None, slice_get, option_and_then, option_map, unwrap_or, codes}
+use Rattle.model.specs.declared.op.Op.{Op}
+use Rattle.model.specs.declared.op.Op.TheVariants.{Work, Delay, Yield, Time, Mark, Expect, Repeat, End}
+
+-- a task of the file
+pub record Definition : Type 0 where
+  pub name : List ℕ
+  pub priority : ℕ
+  pub script : List Op
+
+-- where a run ends at the latest
+pub record Bounds : Type 0 where
+  pub ticks : ℕ
+  pub steps : ℕ
+
+pub record Application : Type 0 where
+  -- the time at reset
+  pub start : ℕ
+  pub limits : Bounds
+  pub tasks : List Definition
+
+abbrev pub definition_of : Application → ℕ → Option Definition
+definition_of app task = slice_get app.tasks task
+
+-- the script of a task
+abbrev pub script_of : Application → ℕ → List Op
+script_of app task = unwrap_or (option_map (λ (d : Definition). d.script) (definition_of app task)) []
+
+-- the op of a task's script at a place
+abbrev pub op_at : Application → ℕ → ℕ → Option Op
+op_at app task place = slice_get (script_of app task) place
+
+-- how many ops a task's script has
+abbrev pub op_count : Application → ℕ → ℕ
+op_count app task = length (script_of app task)
+
+-- the name of a task
+abbrev pub name_of : Application → ℕ → List ℕ
+name_of app task = unwrap_or (option_map (λ (d : Definition). d.name) (definition_of app task)) []
+
+-- the first word of an op's text
+abbrev pub word_of : Op → List ℕ
+word_of (Work n) = codes "work"
+word_of (Delay n) = codes "delay"
+word_of Yield = codes "yield"
+word_of Time = codes "time"
+word_of (Mark n) = codes "mark"
+word_of (Expect a) = codes "expect"
+word_of (Repeat n) = codes "repeat"
+word_of End = codes "end"

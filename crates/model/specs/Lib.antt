@@ -1,0 +1,9 @@
+pub mod Application
+pub mod Scripts
+pub mod Trace
+pub mod Order
+pub mod State
+pub mod Step
+pub mod Run
+pub mod Invariant
+pub mod Examples

@@ -1,0 +1,241 @@
+-- One step of the kernel. Each word here is one deed; a deed takes a state to the next.
+use Rattle.std.specs.Prelude.{ℕ, ◌+◌, ◌-◌, ◌%◌, ◌^◌, ◌==◌, ◌&&◌, Bool, true, false, not, List, [], ◌∷◌, ◌++◌, Option, Some, None, nat_lt, nat_le, nat_eq, if◌then◌else◌, fold, length}
+use Rattle.std.specs.List.{list_any}
+use Rattle.std.specs.Option.{option_eq}
+use Rattle.model.specs.declared.op.Op.{Op}
+use Rattle.model.specs.declared.op.Op.TheVariants.{Work, Delay, Yield, Time, Mark, Expect, Repeat, End}
+use Rattle.model.specs.declared.event.Loop.{Loop}
+use Rattle.model.specs.Trace.{What, Call, Marked, Runs, Check, printed}
+use Rattle.model.specs.Application.{Application, Definition, op_at, op_count}
+use Rattle.model.specs.State.{State, Task, Status, Ready, Asleep, Ended, task_at, with_task}
+use Rattle.model.specs.Order.{Key, Entry, line, tasks_of, first}
+
+-- The lines of tasks
+
+abbrev pub key : ℕ → ℕ → Key
+key rank number = record { rank = rank; number = number }
+
+abbrev pub ready_status_key : ℕ → Status → Option Key
+ready_status_key priority (Ready number) = Some (key priority number)
+ready_status_key priority (Asleep moment begun) = None
+ready_status_key priority Ended = None
+
+-- A Ready task stands by its priority, among equals by its number.
+abbrev pub ready_key : Task → Option Key
+ready_key t = ready_status_key t.priority t.status
+
+abbrev pub due_status_key : ℕ → Status → Option Key
+due_status_key now (Ready number) = None
+due_status_key now (Asleep moment begun) = if moment == now then Some (key 0 begun) else None
+due_status_key now Ended = None
+
+-- A sleeper that is due now stands by the beginning of its sleep.
+abbrev pub due_key : ℕ → Task → Option Key
+due_key now t = due_status_key now t.status
+
+abbrev pub readies : State → List Entry
+readies s = line ready_key s.tasks
+
+abbrev pub due : State → List Entry
+due s = line (due_key s.time) s.tasks
+
+-- The trace
+
+abbrev pub write : What → State → State
+write w s = record s { log = s.log ++ record { step = s.steps; tick = printed s.time; what = w } ∷ [] }
+
+-- Who runs
+
+abbrev pub is_ready_status : Status → Bool
+is_ready_status (Ready number) = true
+is_ready_status (Asleep moment begun) = false
+is_ready_status Ended = false
+
+abbrev pub is_ready : State → ℕ → Bool
+is_ready s task = is_ready_status (task_at s task).status
+
+-- The task goes to the back of its line: it takes the next number.
+abbrev pub enter : State → ℕ → State
+enter s task = record (with_task s task (record (task_at s task) { status = Ready s.next })) { next = s.next + 1 }
+
+-- the choice: the Ready task of highest priority, among equals the one of least number; else idle
+abbrev pub task_of : Option Entry → Option ℕ
+task_of None = None
+task_of (Some e) = Some e.task
+
+abbrev pub choice : State → Option ℕ
+choice s = task_of (first (readies s))
+
+abbrev pub is_same : Option ℕ → Option ℕ → Bool
+is_same a b = option_eq nat_eq a b
+
+-- The processor goes to this task, or to idle.
+unfoldable pub dispatch : Option ℕ → State → State
+dispatch c s = if is_same c s.running then s else write (Runs c) (record s { running = c })
+
+-- The choice runs, and no number is given.
+unfoldable pub anew : State → State
+anew s = dispatch (choice s) s
+
+abbrev pub leave_from : Option ℕ → State → State
+leave_from None s = s
+leave_from (Some task) s = if is_ready s task then enter s task else s
+
+-- The running task leaves the processor: it takes the next number if it is Ready.
+unfoldable pub leave : State → State
+leave s = leave_from s.running s
+
+-- A Ready task is above the running one: of strictly higher priority, or idle runs.
+abbrev pub is_above : State → Option ℕ → Entry → Bool
+is_above s None e = true
+is_above s (Some task) e = nat_lt (task_at s task).priority e.key.rank
+
+-- Another Ready task has the running one's priority.
+abbrev pub is_beside : State → Option ℕ → Entry → Bool
+is_beside s None e = false
+is_beside s (Some task) e = not (nat_eq e.task task) && nat_eq e.key.rank (task_at s task).priority
+
+abbrev pub is_outranked : State → Bool
+is_outranked s = list_any (is_above s s.running) (readies s)
+
+abbrev pub is_sharing : State → Bool
+is_sharing s = list_any (is_beside s s.running) (readies s)
+
+-- Where a Ready task is above the running one, that one leaves and the choice runs.
+unfoldable pub higher : State → State
+higher s = if is_outranked s then anew (leave s) else s
+
+-- The same, or else the time slice: another Ready task of the same priority has its turn.
+unfoldable pub switch : State → State
+switch s = if is_outranked s then anew (leave s) else if is_sharing s then anew (leave s) else s
+
+abbrev pub is_off : State → Option ℕ → Bool
+is_off s None = false
+is_off s (Some task) = not (is_ready s task)
+
+-- A step that leaves the running task not Ready ends with the choice.
+unfoldable pub settle : State → State
+settle s = if is_off s s.running then anew s else s
+
+-- The tick
+
+-- Each sleeper that is due becomes Ready, in the order in which they began.
+unfoldable pub wake : State → State
+wake s = fold enter s (tasks_of (due s))
+
+unfoldable pub tick : State → State
+tick s = switch (wake (record s { time = s.time + 1; elapsed = s.elapsed + 1 }))
+
+-- The ops
+
+-- The task goes on at this op, of which nothing is used up; past the last op it is Ended.
+abbrev pub moved_to : ℕ → ℕ → Task → Task
+moved_to count place t = record t { place = place; used = 0; status = if place == count then Ended else t.status }
+
+-- The op of the task, which is now as given, is complete.
+unfoldable pub complete : Application → ℕ → Task → State → State
+complete app task t s = with_task s task (moved_to (op_count app task) (t.place + 1) t)
+
+-- The call is complete with this answer.
+unfoldable pub answer : Application → ℕ → Option ℕ → State → State
+answer app task a s =
+    let t = task_at s task in
+    complete app task (record t { answer = a }) (write (Call task t.place a) s)
+
+-- One more of a `work` is used up, the last or another.
+unfoldable pub use_up : Application → ℕ → ℕ → State → State
+use_up app task n s =
+    let t = task_at s task in
+    if t.used + 1 == n then complete app task t s else with_task s task (record t { used = t.used + 1 })
+
+-- The task takes the next number, where it is still Ready.
+unfoldable pub behind : ℕ → State → State
+behind task s = if is_ready s task then enter s task else s
+
+-- The task sleeps until the moment, where it is still Ready.
+unfoldable pub sleep : ℕ → ℕ → State → State
+sleep task moment s =
+    if is_ready s task
+    then record (with_task s task (record (task_at s task) { status = Asleep moment s.next })) { next = s.next + 1 }
+    else s
+
+-- what `delay` does to its task once it has answered, at this time
+abbrev pub rest : ℕ → ℕ → ℕ → State → State
+rest task n time s = if n == 0 then behind task s else sleep task (time + n) s
+
+unfoldable pub expect : Application → ℕ → Option ℕ → State → State
+expect app task a s =
+    let t = task_at s task in
+    if option_eq nat_eq t.answer a then complete app task t s else record s { stopped = Some (Check task t.place) }
+
+unfoldable pub open_loop : Application → ℕ → ℕ → State → State
+open_loop app task n s =
+    let t = task_at s task in
+    complete app task (record t { loops = record { start = t.place + 1; left = n } ∷ t.loops }) s
+
+-- The innermost loop has one turn less: the next turn begins, or the loop is left.
+abbrev pub turn : Application → ℕ → Task → List Loop → State → State
+turn app task t [] s = complete app task t s
+turn app task t (l ∷ ls) s =
+    if nat_le l.left 1
+    then complete app task (record t { loops = ls }) s
+    else with_task s task (moved_to (op_count app task) l.start (record t { loops = record l { left = l.left - 1 } ∷ ls }))
+
+unfoldable pub close_turn : Application → ℕ → State → State
+close_turn app task s = turn app task (task_at s task) (task_at s task).loops s
+
+-- what each op does
+abbrev pub act : Application → ℕ → Op → State → State
+act app task (Work n) s = tick (use_up app task n s)
+act app task (Delay n) s = anew (rest task n s.time (answer app task (Some 0) s))
+act app task Yield s = anew (behind task (answer app task (Some 0) s))
+act app task Time s = answer app task (Some (printed s.time)) s
+act app task (Mark n) s = complete app task (task_at s task) (write (Marked task n) s)
+act app task (Expect a) s = expect app task a s
+act app task (Repeat n) s = open_loop app task n s
+act app task End s = close_turn app task s
+
+-- A step
+
+abbrev pub act_if : Application → ℕ → Option Op → State → State
+act_if app task None s = s
+act_if app task (Some op) s = act app task op s
+
+-- the running task does what its op asks for; idle lets time pass
+abbrev pub deed : Application → Option ℕ → State → State
+deed app None s = tick s
+deed app (Some task) s = act_if app task (op_at app task (task_at s task).place) s
+
+unfoldable pub step : Application → State → State
+step app s =
+    let t = settle (deed app s.running (record s { log = [] })) in
+    record t { steps = s.steps + 1 }
+
+-- Reset
+
+abbrev pub status_at_reset : ℕ → List Op → Status
+status_at_reset i [] = Ended
+status_at_reset i (op ∷ ops) = Ready i
+
+-- the task of this index, as it is at reset: the tasks enter their lines in the order of the file
+abbrev pub task_at_reset : ℕ → Definition → Task
+task_at_reset i d = record { priority = d.priority; place = 0; used = 0; loops = []; answer = None; status = status_at_reset i d.script }
+
+abbrev pub tasks_at_reset : ℕ → List Definition → List Task
+tasks_at_reset i [] = []
+tasks_at_reset i (d ∷ ds) = task_at_reset i d ∷ tasks_at_reset (i + 1) ds
+
+abbrev pub before_first_choice : Application → State
+before_first_choice app = record {
+    tasks = tasks_at_reset 0 app.tasks;
+    time = app.start;
+    elapsed = 0;
+    running = None;
+    next = length app.tasks;
+    steps = 0;
+    stopped = None;
+    log = [] }
+
+-- The choice at reset is no line.
+unfoldable pub reset : Application → State
+reset app = record (before_first_choice app) { running = choice (before_first_choice app) }

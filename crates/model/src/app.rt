@@ -1,0 +1,159 @@
+//! An application: its tasks, its limits, the time at reset.
+ghost use Rattle.std.specs.Prelude.{◌≡◌, ◌<◌, ◌≤◌, length, string_bytes};
+ghost use Rattle.std.specs.List.{AllByRecursion};
+ghost use Rattle.model.specs.Application.{op_at, op_count, name_of};
+ghost use Rattle.model.specs.Scripts.{IsScript, IsDefinition, IsWellFormed};
+ghost use Rattle.model.specs.Trace.{bounds_of};
+
+use crate::ids::TaskId;
+use crate::limits::Limits;
+use crate::op::Op;
+use crate::script::Script;
+use std::marker::Model;
+
+/// A task as the file has it.
+#[derive(Drop)]
+pub struct TaskDefinition {
+    name: String,
+    priority: u8,
+    script: Script,
+}
+
+impl Model for TaskDefinition {
+    ghost use Rattle.std.specs.Prelude.{string_bytes};
+    ghost use Rattle.model.specs.Application.{Definition};
+
+    ghost Value = { Definition };
+
+    ghost view = { λ t. record { name = string_bytes t.name; priority = t.priority; script = t.script } };
+}
+
+impl TaskDefinition {
+    /// A task of this name (at most 16 bytes), priority (0 to 31, a larger number is a higher priority) and script.
+    pub fn new(name: String, priority: u8, script: Script) -> Self
+        requires name { length (string_bytes name) ≤ 16 }
+        requires priority { priority < 32 }
+        requires script { IsScript script }
+        ensures value { result ≡ record { name = string_bytes name; priority = priority; script = script } }
+        ensures formed { IsDefinition result }
+    {
+        TaskDefinition {
+            name,
+            priority,
+            script,
+        }
+    }
+
+    /// The name.
+    pub fn name(&self) -> &str
+        ensures { result.now ≡ self.now.name }
+    {
+        self.name.as_str()
+    }
+
+    /// The priority, 0 to 31.
+    pub fn priority(&self) -> u8
+        ensures { result ≡ self.now.priority }
+    {
+        self.priority
+    }
+
+    /// The ops of the script.
+    pub fn ops(&self) -> &[Op]
+        ensures { result.now ≡ self.now.script }
+    {
+        self.script.ops()
+    }
+}
+
+/// An application: what a run starts from.
+#[derive(Drop)]
+pub struct App {
+    start: u32,
+    limits: Limits,
+    tasks: Vec<TaskDefinition>,
+}
+
+impl Model for App {
+    ghost use Rattle.model.specs.Application.{Application};
+    ghost use Rattle.model.specs.Trace.{bounds_of};
+    ghost use Rattle.model.specs.Scripts.{IsWellFormed};
+
+    ghost Value = { Application };
+
+    ghost view = { λ a. record { start = a.start; limits = bounds_of a.limits; tasks = a.tasks.items } };
+
+    ghost invariant = { λ a. IsWellFormed (record { start = a.start; limits = bounds_of a.limits; tasks = a.tasks.items }) };
+}
+
+impl App {
+    /// An application of these tasks, 1 to 32 of them, whose time at reset is `start`.
+    pub fn new(start: u32, limits: Limits, tasks: Vec<TaskDefinition>) -> Self
+        requires some { 1 ≤ length tasks.items }
+        requires few { length tasks.items ≤ 32 }
+        requires formed { AllByRecursion IsDefinition tasks.items }
+        ensures { result ≡ record { start = start; limits = bounds_of limits; tasks = tasks.items } }
+    {
+        App {
+            start,
+            limits,
+            tasks,
+        }
+    }
+
+    /// What holds of every application.
+    pub fn well_formed(&self)
+        ensures { IsWellFormed self.now }
+    {
+        let _ = &self.start;
+    }
+
+    /// The time at reset.
+    pub fn start(&self) -> u32
+        ensures { result ≡ self.now.start }
+    {
+        self.start
+    }
+
+    /// Where a run ends at the latest.
+    pub fn limits(&self) -> Limits
+        ensures { bounds_of result ≡ self.now.limits }
+    {
+        self.limits
+    }
+
+    /// The tasks, in the order of the file.
+    pub fn tasks(&self) -> &[TaskDefinition]
+        ensures { result.now ≡ self.now.tasks }
+    {
+        self.tasks.as_slice()
+    }
+
+    /// The op of a task at a place of its script; `None` past its end, or where there is no such task.
+    pub fn op(&self, task: TaskId, place: u16) -> Option<Op>
+        ensures { result ≡ op_at self.now task.number place }
+    {
+        let definition = self.tasks.get(task.number as usize)?;
+        definition.ops().get(place as usize).copied()
+    }
+
+    /// How many ops the script of a task has; 0 where there is no such task.
+    pub fn op_count(&self, task: TaskId) -> usize
+        ensures { result ≡ op_count self.now task.number }
+    {
+        match self.tasks.get(task.number as usize) {
+            None => 0,
+            Some(definition) => definition.ops().len(),
+        }
+    }
+
+    /// The name of a task; empty where there is no such task.
+    pub fn name(&self, task: TaskId) -> &str
+        ensures { result.now ≡ name_of self.now task.number }
+    {
+        match self.tasks.get(task.number as usize) {
+            None => "",
+            Some(definition) => definition.name(),
+        }
+    }
+}

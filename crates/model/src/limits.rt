@@ -1,0 +1,66 @@
+//! Where a run ends at the latest, and how many steps were run.
+ghost use Rattle.std.specs.Prelude.{◌≡◌, ◌≤◌, ◌<◌, ◌+◌, ◌^◌, ◌↔◌, ℕ, IsSome, IfSome};
+
+use std::marker::Model;
+
+/// Where a run ends at the latest: elapsed ticks and steps, each 1 to 1,000,000 (profile).
+#[derive(Clone, Copy, Debug, PartialEq, Eq)]
+pub struct Limits {
+    pub ticks: u32,
+    pub steps: u32,
+    pub ghost ticks_known: { (1 ≤ ticks) × (ticks ≤ 1000000) },
+    pub ghost steps_known: { (1 ≤ steps) × (steps ≤ 1000000) },
+}
+
+impl Limits {
+    pub const MOST: u32 = 1_000_000;
+
+    /// The limits; `None` where a number is not 1 to 1,000,000.
+    pub fn new(ticks: u32, steps: u32) -> Option<Self>
+        ensures known { IsSome result ↔ ((1 ≤ ticks) × (ticks ≤ 1000000) × (1 ≤ steps) × (steps ≤ 1000000)) }
+        ensures value { IfSome result (λ limits. (limits.ticks ≡ ticks) × (limits.steps ≡ steps)) }
+    {
+        let is_known = |n: u32| n >= 1 && n <= 1_000_000;
+        if is_known(ticks) && is_known(steps) {
+            Some(Limits { ticks, steps })
+        } else {
+            None
+        }
+    }
+}
+
+/// Counts the kernel steps of the calls that it is lent to.
+#[derive(Debug, Drop)]
+pub struct Meter {
+    steps: u64,
+}
+
+impl Model for Meter {
+    ghost Value = { ℕ };
+
+    ghost view = { λ m. m.steps };
+}
+
+impl Meter {
+    /// A meter that has counted nothing.
+    pub fn new() -> Self
+        ensures { result ≡ 0 }
+    {
+        Meter { steps: 0 }
+    }
+
+    /// The steps counted so far.
+    pub fn steps(&self) -> u64
+        ensures { result ≡ self.now }
+    {
+        self.steps
+    }
+
+    /// Counts a step.
+    pub fn count(&mut self)
+        requires { self.old < 2 ^ 63 }
+        ensures { self.new ≡ self.old + 1 }
+    {
+        self.steps += 1;
+    }
+}
