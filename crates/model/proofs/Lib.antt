@@ -1,1 +1,4 @@
 pub mod Nesting
+pub mod Sorting
+pub mod Lines
+pub mod Tables

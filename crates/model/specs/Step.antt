@@ -1,5 +1,5 @@
 -- One step of the kernel. Each word here is one deed; a deed takes a state to the next.
-use Rattle.std.specs.Prelude.{ℕ, ◌+◌, ◌-◌, ◌%◌, ◌^◌, ◌==◌, ◌&&◌, Bool, true, false, not, List, [], ◌∷◌, ◌++◌, Option, Some, None, nat_lt, nat_le, nat_eq, if◌then◌else◌, fold, length}
+use Rattle.std.specs.Prelude.{ℕ, ◌+◌, ◌-◌, ◌%◌, ◌^◌, ◌==◌, ◌&&◌, Bool, true, false, not, List, [], ◌∷◌, ◌++◌, Option, Some, None, nat_lt, nat_le, nat_eq, if◌then◌else◌, fold, map, filter}
 use Rattle.std.specs.List.{list_any}
 use Rattle.std.specs.Option.{option_eq}
 use Rattle.model.specs.declared.op.Op.{Op}
@@ -24,20 +24,32 @@ ready_status_key priority Ended = None
 abbrev pub ready_key : Task → Option Key
 ready_key t = ready_status_key t.priority t.status
 
-abbrev pub due_status_key : ℕ → Status → Option Key
-due_status_key now (Ready number) = None
-due_status_key now (Asleep moment begun) = if moment == now then Some (key 0 begun) else None
-due_status_key now Ended = None
+abbrev pub sleep_status_key : Status → Option Key
+sleep_status_key (Ready number) = None
+sleep_status_key (Asleep moment begun) = Some (key 0 begun)
+sleep_status_key Ended = None
 
--- A sleeper that is due now stands by the beginning of its sleep.
-abbrev pub due_key : ℕ → Task → Option Key
-due_key now t = due_status_key now t.status
+-- A sleeper stands by the beginning of its sleep.
+abbrev pub sleep_key : Task → Option Key
+sleep_key t = sleep_status_key t.status
 
 abbrev pub readies : State → List Entry
 readies s = line ready_key s.tasks
 
+abbrev pub sleepers : State → List Entry
+sleepers s = line sleep_key s.tasks
+
+abbrev pub is_due_status : ℕ → Status → Bool
+is_due_status now (Ready number) = false
+is_due_status now (Asleep moment begun) = moment == now
+is_due_status now Ended = false
+
+-- the sleepers whose moment is now, in the order in which they began
+abbrev pub is_due : State → Entry → Bool
+is_due s e = is_due_status s.time (task_at s e.task).status
+
 abbrev pub due : State → List Entry
-due s = line (due_key s.time) s.tasks
+due s = filter (is_due s) (sleepers s)
 
 -- The trace
 
@@ -101,11 +113,8 @@ is_outranked s = list_any (is_above s s.running) (readies s)
 abbrev pub is_sharing : State → Bool
 is_sharing s = list_any (is_beside s s.running) (readies s)
 
--- Where a Ready task is above the running one, that one leaves and the choice runs.
-unfoldable pub higher : State → State
-higher s = if is_outranked s then anew (leave s) else s
-
--- The same, or else the time slice: another Ready task of the same priority has its turn.
+-- Where a Ready task is above the running one, that one leaves and the choice runs; or else the time slice: another
+-- Ready task of the same priority has its turn.
 unfoldable pub switch : State → State
 switch s = if is_outranked s then anew (leave s) else if is_sharing s then anew (leave s) else s
 
@@ -132,9 +141,13 @@ tick s = switch (wake (record s { time = s.time + 1; elapsed = s.elapsed + 1 }))
 abbrev pub moved_to : ℕ → ℕ → Task → Task
 moved_to count place t = record t { place = place; used = 0; status = if place == count then Ended else t.status }
 
+-- The task, which is now as given, goes on at this op.
+unfoldable pub go_to : Application → ℕ → ℕ → Task → State → State
+go_to app task place t s = with_task s task (moved_to (op_count app task) place t)
+
 -- The op of the task, which is now as given, is complete.
-unfoldable pub complete : Application → ℕ → Task → State → State
-complete app task t s = with_task s task (moved_to (op_count app task) (t.place + 1) t)
+abbrev pub complete : Application → ℕ → Task → State → State
+complete app task t s = go_to app task (t.place + 1) t s
 
 -- The call is complete with this answer.
 unfoldable pub answer : Application → ℕ → Option ℕ → State → State
@@ -179,7 +192,7 @@ turn app task t [] s = complete app task t s
 turn app task t (l ∷ ls) s =
     if nat_le l.left 1
     then complete app task (record t { loops = ls }) s
-    else with_task s task (moved_to (op_count app task) l.start (record t { loops = record l { left = l.left - 1 } ∷ ls }))
+    else go_to app task l.start (record t { loops = record l { left = l.left - 1 } ∷ ls }) s
 
 unfoldable pub close_turn : Application → ℕ → State → State
 close_turn app task s = turn app task (task_at s task) (task_at s task).loops s
@@ -213,29 +226,35 @@ step app s =
 
 -- Reset
 
-abbrev pub status_at_reset : ℕ → List Op → Status
-status_at_reset i [] = Ended
-status_at_reset i (op ∷ ops) = Ready i
+abbrev pub is_empty : List Op → Bool
+is_empty [] = true
+is_empty (op ∷ ops) = false
 
--- the task of this index, as it is at reset: the tasks enter their lines in the order of the file
-abbrev pub task_at_reset : ℕ → Definition → Task
-task_at_reset i d = record { priority = d.priority; place = 0; used = 0; loops = []; answer = None; status = status_at_reset i d.script }
+-- a task that has not entered its line
+abbrev pub task_at_reset : Definition → Task
+task_at_reset d = record { priority = d.priority; place = 0; used = 0; loops = []; answer = None; status = Ended }
 
-abbrev pub tasks_at_reset : ℕ → List Definition → List Task
-tasks_at_reset i [] = []
-tasks_at_reset i (d ∷ ds) = task_at_reset i d ∷ tasks_at_reset (i + 1) ds
-
-abbrev pub before_first_choice : Application → State
-before_first_choice app = record {
-    tasks = tasks_at_reset 0 app.tasks;
+-- no task has entered its line, and idle runs
+unfoldable pub before_entry : Application → State
+before_entry app = record {
+    tasks = map task_at_reset app.tasks;
     time = app.start;
     elapsed = 0;
     running = None;
-    next = length app.tasks;
+    next = 0;
     steps = 0;
     stopped = None;
     log = [] }
 
--- The choice at reset is no line.
+-- the tasks that have an op, in the order of the file; the first of the list is the task of this number
+abbrev pub with_ops : ℕ → List Definition → List ℕ
+with_ops i [] = []
+with_ops i (d ∷ ds) = if is_empty d.script then with_ops (i + 1) ds else i ∷ with_ops (i + 1) ds
+
+-- They enter their lines in the order of the file. A task with an empty script is Ended.
+unfoldable pub entered_at_reset : Application → State
+entered_at_reset app = fold enter (before_entry app) (with_ops 0 app.tasks)
+
+-- The choice runs, and that is no line.
 unfoldable pub reset : Application → State
-reset app = record (before_first_choice app) { running = choice (before_first_choice app) }
+reset app = let s = entered_at_reset app in record s { running = choice s }
