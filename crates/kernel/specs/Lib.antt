@@ -1,3 +1,4 @@
 pub mod Lines
 pub mod Loops
 pub mod Slots
+pub mod Stands

@@ -100,7 +100,8 @@ impl Line {
 
     /// The tasks with their ranks, in order.
     pub(crate) fn entries(&self) -> &[Ranked]
-        ensures { map pair_of result.now ≡ self.now }
+        ensures pairs { map pair_of result.now ≡ self.now }
+        ensures few { length result.now ≤ 32 }
     {
         self.entries.as_slice()
     }

@@ -2,3 +2,5 @@ pub mod Nesting
 pub mod Sorting
 pub mod Lines
 pub mod Tables
+pub mod Chosen
+pub mod Reached

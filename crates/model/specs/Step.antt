@@ -1,5 +1,5 @@
 -- One step of the kernel. Each word here is one deed; a deed takes a state to the next.
-use Rattle.std.specs.Prelude.{ℕ, ◌+◌, ◌-◌, ◌%◌, ◌^◌, ◌==◌, ◌&&◌, Bool, true, false, not, List, [], ◌∷◌, ◌++◌, Option, Some, None, nat_lt, nat_le, nat_eq, if◌then◌else◌, fold, map, filter}
+use Rattle.std.specs.Prelude.{ℕ, ◌+◌, ◌-◌, ◌%◌, ◌^◌, ◌==◌, ◌&&◌, ◌||◌, Bool, true, false, not, List, [], ◌∷◌, ◌++◌, Option, Some, None, nat_lt, nat_le, nat_eq, if◌then◌else◌, fold, map, filter}
 use Rattle.std.specs.List.{list_any}
 use Rattle.std.specs.Option.{option_eq}
 use Rattle.model.specs.declared.op.Op.{Op}
@@ -116,7 +116,7 @@ is_sharing s = list_any (is_beside s s.running) (readies s)
 -- Where a Ready task is above the running one, that one leaves and the choice runs; or else the time slice: another
 -- Ready task of the same priority has its turn.
 unfoldable pub switch : State → State
-switch s = if is_outranked s then anew (leave s) else if is_sharing s then anew (leave s) else s
+switch s = if is_outranked s || is_sharing s then anew (leave s) else s
 
 abbrev pub is_off : State → Option ℕ → Bool
 is_off s None = false

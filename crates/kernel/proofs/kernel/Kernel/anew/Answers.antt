@@ -1,0 +1,10 @@
+use Rattle.std.proofs.Common.{refl, sym, ap, ◌∙◌, Option, Some, None, ◌≡◌, ℕ, true, false}
+use Rattle.model.specs.Step.{anew}
+use Rattle.model.proofs.Chosen.{choice_within}
+use Rattle.kernel.proofs.kernel.Kernel.anew.Goals as goal
+
+pub returns-clause-at : goal.returns-clause-at
+unfolding anew
+returns-clause-at c = λ s h.
+    let same = c.choose-choice.ensures s h.stands in
+    rw same at (c.dispatch.ensures.at s h (rw same (choice_within s)))

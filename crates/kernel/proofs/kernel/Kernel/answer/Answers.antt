@@ -1,0 +1,7 @@
+use Rattle.std.proofs.Common.{refl, sym, ap, ◌∙◌, Option, Some, None, ◌≡◌, ℕ, true, false}
+use Rattle.kernel.proofs.Acting.{answered}
+use Rattle.kernel.proofs.kernel.Kernel.answer.Goals as goal
+
+pub returns-clause-at : goal.returns-clause-at
+returns-clause-at c = λ s h.
+    rw c.go_to.ensures (answered c.args.app.now c.args.self.now c.args.log.now c.write.new.log s h c.args.task c.requires.runs c.slot-slot.result c.slot-slot.ensures c.args.given (c.write.ensures.at s h))

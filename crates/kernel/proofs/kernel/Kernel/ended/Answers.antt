@@ -1,0 +1,5 @@
+use Rattle.std.proofs.Common.{refl, sym, ap, ◌∙◌, Option, Some, None, ◌≡◌, ℕ, true, false}
+use Rattle.kernel.proofs.kernel.Kernel.ended.Goals as goal
+
+pub returns : goal.returns
+returns c = λ s h. c.first_end.ensures ∙ ?

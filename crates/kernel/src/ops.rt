@@ -1,0 +1,229 @@
+//! What each op does.
+ghost use Rattle.std.specs.Prelude.{◌≡◌, ◌<◌, ◌≤◌, ◌+◌, ◌^◌, ℕ, Some, None, length};
+ghost use Rattle.model.specs.State.{State};
+ghost use Rattle.model.specs.Step.{answer, use_up, behind, sleep, rest, expect, open_loop, close_turn, act, complete, tick};
+ghost use Rattle.arrayvec.specs.ArrayVec.{array_vec_len};
+ghost use Rattle.kernel.specs.Stands.{Stands, At, Does, Moves, slot_in, CanAct};
+
+use crate::kernel::{Kernel, StepLog};
+use crate::slot::Slot;
+use model::{App, End, Loop, Op, TaskId, What};
+
+impl Kernel {
+    /// A call of the running task is complete with this answer.
+    #[tactic(auto, unfolding(model::specs::Step::answer))]
+    fn answer(&mut self, app: &App, task: TaskId, given: Option<u32>, log: &mut StepLog)
+        requires room { array_vec_len log.old < 128 }
+        requires runs { self.old.running ≡ Some task }
+        requires place { (slot_in self.old.slots task.number).place < 256 }
+        ensures at { Does self.old log.old self.new log.new (answer app.now task.number given) }
+        ensures few { array_vec_len log.new ≡ array_vec_len log.old + 1 }
+        ensures runs { self.new.running ≡ Some task }
+    {
+        let slot = self.slot(task);
+        self.write(log, What::Call(task, slot.place, given));
+        self.go_to(
+            app,
+            task,
+            slot.place + 1,
+            Slot {
+                answer: given,
+                ..slot
+            },
+        );
+    }
+
+    /// One more of a `work` is used up.
+    #[tactic(auto, unfolding(model::specs::Step::use_up))]
+    fn use_up(&mut self, app: &App, task: TaskId, units: u32)
+        requires runs { self.old.running ≡ Some task }
+        requires place { (slot_in self.old.slots task.number).place < 256 }
+        requires used { (slot_in self.old.slots task.number).used < units }
+        ensures at { Moves self.old self.new (use_up app.now task.number units) }
+        ensures time { self.new.time ≡ self.old.time }
+        ensures elapsed { self.new.elapsed ≡ self.old.elapsed }
+    {
+        let slot = self.slot(task);
+        let used = slot.used + 1;
+        if used == units {
+            self.go_to(app, task, slot.place + 1, slot);
+        } else {
+            self.slots[task.number as usize] = Slot { used, ..slot };
+        }
+    }
+
+    /// The running task goes behind its equals, where it is still Ready.
+    #[tactic(auto, unfolding(model::specs::Step::behind))]
+    fn behind(&mut self, task: TaskId)
+        requires { self.old.running ≡ Some task }
+        ensures { Moves self.old self.new (behind task.number) }
+    {
+        if self.is_ready(task) {
+            self.renew(task);
+        }
+    }
+
+    /// The running task sleeps until the moment, where it is still Ready.
+    #[tactic(auto, unfolding(model::specs::Step::sleep))]
+    fn sleep(&mut self, task: TaskId, moment: u64)
+        requires { self.old.running ≡ Some task }
+        ensures { Moves self.old self.new (sleep task.number moment) }
+    {
+        if self.is_ready(task) {
+            self.lull(task, moment);
+        }
+    }
+
+    /// `expect`: the run ends where the last answer differs.
+    #[tactic(auto, unfolding(model::specs::Step::expect))]
+    fn expect(&mut self, app: &App, task: TaskId, wanted: Option<u32>)
+        requires runs { self.old.running ≡ Some task }
+        requires place { (slot_in self.old.slots task.number).place < 256 }
+        ensures { Moves self.old self.new (expect app.now task.number wanted) }
+    {
+        let slot = self.slot(task);
+        if slot.answer == wanted {
+            self.go_to(app, task, slot.place + 1, slot);
+        } else {
+            self.stopped = Some(End::Check(task, slot.place));
+        }
+    }
+
+    /// `repeat`: a loop is opened.
+    #[tactic(auto, unfolding(model::specs::Step::open_loop))]
+    fn open_loop(&mut self, app: &App, task: TaskId, turns: u16)
+        requires runs { self.old.running ≡ Some task }
+        requires place { (slot_in self.old.slots task.number).place < 256 }
+        requires depth { (slot_in self.old.slots task.number).loops.depth < 4 }
+        ensures { Moves self.old self.new (open_loop app.now task.number turns) }
+    {
+        let slot = self.slot(task);
+        let start = slot.place + 1;
+        let loops = slot.loops.opened(Loop { start, left: turns });
+        self.go_to(app, task, start, Slot { loops, ..slot });
+    }
+
+    /// `end`: the next turn begins, or the loop is left.
+    #[tactic(auto, unfolding(model::specs::Step::close_turn))]
+    fn close_turn(&mut self, app: &App, task: TaskId)
+        requires runs { self.old.running ≡ Some task }
+        requires place { (slot_in self.old.slots task.number).place < 256 }
+        ensures { Moves self.old self.new (close_turn app.now task.number) }
+    {
+        let slot = self.slot(task);
+        let Some(innermost) = slot.loops.innermost() else {
+            self.go_to(app, task, slot.place + 1, slot);
+            return;
+        };
+        let outer = slot.loops.closed();
+        if innermost.left <= 1 {
+            let loops = outer;
+            self.go_to(app, task, slot.place + 1, Slot { loops, ..slot });
+        } else {
+            let left = innermost.left - 1;
+            let loops = outer.opened(Loop { left, ..innermost });
+            self.go_to(app, task, innermost.start, Slot { loops, ..slot });
+        }
+    }
+
+    /// `work`: a unit of it is used up, and time passes.
+    fn work(&mut self, app: &App, task: TaskId, units: u32, log: &mut StepLog)
+        requires room { array_vec_len log.old < 128 }
+        requires runs { self.old.running ≡ Some task }
+        requires place { (slot_in self.old.slots task.number).place < 256 }
+        requires used { (slot_in self.old.slots task.number).used < units }
+        requires time { self.old.time + 1 < 2 ^ 64 }
+        requires elapsed { self.old.elapsed + 1 < 2 ^ 32 }
+        ensures at { Does self.old log.old self.new log.new (act app.now task.number (Op.Work units)) }
+        ensures few { array_vec_len log.new ≤ array_vec_len log.old + 1 }
+    {
+        self.use_up(app, task, units);
+        self.tick(log);
+    }
+
+    // The rest of a `delay` that has answered.
+    fn rest(&mut self, task: TaskId, ticks: u32, time: u64)
+        requires runs { self.old.running ≡ Some task }
+        requires time { time + 2 ^ 32 < 2 ^ 64 }
+        ensures { Moves self.old self.new (rest task.number ticks time) }
+    {
+        if ticks == 0 {
+            self.behind(task);
+        } else {
+            self.sleep(task, time + u64::from(ticks));
+        }
+    }
+
+    /// `delay`: the task sleeps; for 0 ticks it gives way to its equals.
+    fn delay(&mut self, app: &App, task: TaskId, ticks: u32, log: &mut StepLog)
+        requires room { array_vec_len log.old < 127 }
+        requires runs { self.old.running ≡ Some task }
+        requires place { (slot_in self.old.slots task.number).place < 256 }
+        requires time { self.old.time + 2 ^ 32 < 2 ^ 64 }
+        ensures at { Does self.old log.old self.new log.new (act app.now task.number (Op.Delay ticks)) }
+        ensures few { array_vec_len log.new ≤ array_vec_len log.old + 2 }
+    {
+        let time = self.time;
+        self.answer(app, task, Some(0), log);
+        self.rest(task, ticks, time);
+        self.anew(log);
+    }
+
+    /// `yield`: the task goes behind its equals.
+    fn give_way(&mut self, app: &App, task: TaskId, log: &mut StepLog)
+        requires room { array_vec_len log.old < 127 }
+        requires runs { self.old.running ≡ Some task }
+        requires place { (slot_in self.old.slots task.number).place < 256 }
+        ensures at { Does self.old log.old self.new log.new (act app.now task.number Op.Yield) }
+        ensures few { array_vec_len log.new ≤ array_vec_len log.old + 2 }
+    {
+        self.answer(app, task, Some(0), log);
+        self.behind(task);
+        self.anew(log);
+    }
+
+    /// `time`: the printed tick is the answer.
+    fn tell_time(&mut self, app: &App, task: TaskId, log: &mut StepLog)
+        requires room { array_vec_len log.old < 128 }
+        requires runs { self.old.running ≡ Some task }
+        requires place { (slot_in self.old.slots task.number).place < 256 }
+        ensures at { Does self.old log.old self.new log.new (act app.now task.number Op.Time) }
+        ensures few { array_vec_len log.new ≤ array_vec_len log.old + 1 }
+    {
+        let tick = (self.time % 4_294_967_296) as u32;
+        self.answer(app, task, Some(tick), log);
+    }
+
+    /// `mark`: a mark line is written.
+    fn mark(&mut self, app: &App, task: TaskId, number: u32, log: &mut StepLog)
+        requires room { array_vec_len log.old < 128 }
+        requires runs { self.old.running ≡ Some task }
+        requires place { (slot_in self.old.slots task.number).place < 256 }
+        ensures at { Does self.old log.old self.new log.new (act app.now task.number (Op.Mark number)) }
+        ensures few { array_vec_len log.new ≤ array_vec_len log.old + 1 }
+    {
+        self.write(log, What::Mark(task, number));
+        let slot = self.slot(task);
+        self.go_to(app, task, slot.place + 1, slot);
+    }
+
+    /// What the running task's op does.
+    pub(crate) fn act(&mut self, app: &App, task: TaskId, op: Op, log: &mut StepLog)
+        requires room { array_vec_len log.old < 127 }
+        requires runs { self.old.running ≡ Some task }
+        requires can { CanAct self.old task.number op }
+        ensures at { Does self.old log.old self.new log.new (act app.now task.number op) }
+        ensures few { array_vec_len log.new ≤ array_vec_len log.old + 2 }
+    {
+        match op {
+            Op::Work(units) => self.work(app, task, units, log),
+            Op::Delay(ticks) => self.delay(app, task, ticks, log),
+            Op::Yield => self.give_way(app, task, log),
+            Op::Time => self.tell_time(app, task, log),
+            Op::Mark(number) => self.mark(app, task, number, log),
+            Op::Expect(wanted) => self.expect(app, task, wanted),
+            Op::Repeat(turns) => self.open_loop(app, task, turns),
+            Op::End => self.close_turn(app, task),
+        }
+    }
+}

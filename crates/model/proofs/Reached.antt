@@ -1,0 +1,157 @@
+-- What is true of every state that a run comes to.
+use Rattle.std.proofs.Common.{◌≡◌, ◌≢◌, ◌<◌, ◌≤◌, ◌+◌, ◌-◌, ℕ, zero, suc, Bool, true, false, cond, eqb, leb, ◌||◌, not, List, [], ◌∷◌, length, map, get_or, set, drop, Option, Some, None, refl, ap, sym, subst, ◌∙◌, arith, get_or-set_same, get_or-set_other, add-one}
+use Rattle.std.specs.List.{AllByRecursion, fold, slice_get}
+use Rattle.std.specs.Option.{IfSome, option_map, unwrap_or, option_eq}
+use Rattle.std.proofs.Math.ListN.{length-set}
+use Rattle.std.proofs.lemmas.List.{length-map}
+use Rattle.std.proofs.lemmas.Bool.{ltb-true, leb-true}
+use Rattle.std.proofs.lemmas.Bool.Decides.{nat_tests}
+use Rattle.std.proofs.lemmas.Option.{slice_get_within}
+use Rattle.model.specs.declared.op.Op.{Op}
+use Rattle.model.specs.declared.op.Op.TheVariants.{Work, Delay, Yield, Time, Mark, Expect, Repeat, End}
+use Rattle.model.specs.declared.event.Loop.{Loop}
+use Rattle.model.specs.Application.{Application, Bounds, Definition, script_of, op_at, op_count}
+use Rattle.model.specs.Scripts.{InRange, may_stand, depth_past, Nests, IsScript, IsDefinition, IsWellFormed}
+use Rattle.model.specs.Trace.{Line, Ending, Call, Marked}
+use Rattle.model.specs.State.{State, Task, Status, Ready, Asleep, Ended, task_at, with_task, no_task}
+use Rattle.model.specs.Order.{tasks_of}
+use Rattle.model.specs.Step.{enter, dispatch, anew, choice, is_same, leave, leave_from, is_ready, switch, is_outranked, is_sharing, settle, is_off, wake, due, tick, go_to, moved_to, complete, answer, use_up, behind, sleep, rest, expect, open_loop, turn, close_turn, act, act_if, deed, step, reset, before_entry, entered_at_reset, task_at_reset, with_ops, is_empty, write}
+use Rattle.model.specs.Run.{end_of, or_else}
+use Rattle.model.specs.Invariant.{HasNumberBelow, AllNumbered, IsTable, IsUsedBy, LoopsNest, IsAt, IsState}
+use Rattle.model.proofs.Sorting.{by_test}
+use Rattle.model.proofs.Lines.{eqb-refl, eqb-same, eqb-apart}
+use Rattle.model.proofs.Tables.{number_at, table-set, table-numbered, table-enter}
+use Rattle.model.proofs.Chosen.{choice_within, due_within}
+
+-- Scripts
+
+none_formed : IsScript []
+none_formed = record { ranges = tt; nests = refl; few = omega arith }
+
+formed_at : (i : ℕ) (ds : List Definition) → AllByRecursion IsDefinition ds → IsScript (unwrap_or (option_map (λ (d : Definition). d.script) (slice_get ds i)) [])
+formed_at i [] h = none_formed
+formed_at zero (d ∷ ds) h = h.0.script
+formed_at (suc i) (d ∷ ds) h = formed_at i ds h.1
+
+pub script_formed : (app : Application) → IsWellFormed app → (i : ℕ) → IsScript (script_of app i)
+script_formed app h i = formed_at i app.tasks h.tasks
+
+-- the op at a place where so many loops are open
+pub stands_at : (d p : ℕ) (ops : List Op) (op : Op) → Nests d (drop p ops) → slice_get ops p ≡ Some op → may_stand d op ≡ true
+stands_at d p [] op n e = absurd (cc)
+stands_at d zero (o ∷ ops) op n e = let same : o ≡ op = cc in rw (← same) n.0
+stands_at d (suc p) (o ∷ ops) op n e = stands_at d p ops op n e
+
+past : (d p : ℕ) (ops : List Op) (op : Op) → Nests d (drop p ops) → slice_get ops p ≡ Some op → Nests (depth_past d op) (drop (suc p) ops)
+past d p [] op n e = absurd (cc)
+past d zero (o ∷ ops) op n e = let same : o ≡ op = cc in rw (← same) n.1
+past d (suc p) (o ∷ ops) op n e = past d p ops op n e
+
+pub nests_past : (d p : ℕ) (ops : List Op) (op : Op) → Nests d (drop p ops) → slice_get ops p ≡ Some op → Nests (depth_past d op) (drop (p + 1) ops)
+nests_past d p ops op n e = rw add-one (past d p ops op n e)
+
+used_none : (p : ℕ) (ops : List Op) → AllByRecursion InRange ops → IsUsedBy 0 (slice_get ops p)
+used_none p [] h = tt
+used_none zero ((Work n) ∷ ops) h = let low = h.0.0 in omega arith
+used_none zero ((Delay n) ∷ ops) h = tt
+used_none zero (Yield ∷ ops) h = tt
+used_none zero (Time ∷ ops) h = tt
+used_none zero ((Mark n) ∷ ops) h = tt
+used_none zero ((Expect a) ∷ ops) h = tt
+used_none zero ((Repeat n) ∷ ops) h = tt
+used_none zero (End ∷ ops) h = tt
+used_none (suc p) (o ∷ ops) h = used_none p ops h.1
+
+-- What each deed keeps
+
+module _ (app : Application) (formed : IsWellFormed app) where
+  -- neither the lines of the trace nor the steps done matter, nor an end that a step has brought about
+  framed : (s : State) (log : List Line) (steps : ℕ) (stopped : Option Ending) → IsState app s → IsState app (record s { log = log; steps = steps; stopped = stopped })
+  framed s log steps stopped h = record {
+      table = record { numbers = h.table.numbers; few = h.table.few; running = h.table.running };
+      tasks = h.tasks; places = h.places; time = h.time }
+
+  places-set : (s : State) (i : ℕ) (t : Task) → IsState app s → i < length s.tasks → IsAt (script_of app i) t → (j : ℕ) → IsAt (script_of app j) (get_or (set s.tasks i t) j no_task)
+  places-set s i t h l a j = by_test (eqb j i)
+      (λ u. let same : j ≡ i = eqb-same j i u in rw (same, get_or-set_same s.tasks i t no_task l) a)
+      (λ u. let apart : j ≢ i = (λ q. let w : eqb j i ≡ true = rw q (eqb-refl i) in absurd (cc)) in
+      rw (get_or-set_other s.tasks i j t no_task apart) (h.places j))
+
+  changed : (s : State) (i : ℕ) (t : Task) → IsState app s → i < length s.tasks → HasNumberBelow s.next t.status → IsAt (script_of app i) t → IsState app (with_task s i t)
+  changed s i t h l b a = record { table = table-set s i t h.table b; tasks = rw length-set h.tasks; places = places-set s i t h l a; time = h.time }
+
+  numbered : (s : State) (i : ℕ) (t : Task) → IsState app s → i < length s.tasks → HasNumberBelow (s.next + 1) t.status → IsAt (script_of app i) t → IsState app (record (with_task s i t) { next = s.next + 1 })
+  numbered s i t h l b a = record { table = table-numbered s i t h.table b; tasks = rw length-set h.tasks; places = places-set s i t h l a; time = h.time }
+
+  -- whatever it does
+  at_any : (s : State) (i : ℕ) (u : Status) → IsState app s → IsAt (script_of app i) (record (task_at s i) { status = u })
+  at_any s i u h = let a = h.places i in record { nests = a.nests; loops = a.loops; used = a.used }
+
+  entered : (s : State) (i : ℕ) → IsState app s → i < length s.tasks → IsState app (enter s i)
+  entered s i h l = numbered s i (record (task_at s i) { status = Ready s.next }) h l (omega arith) (at_any s i (Ready s.next) h)
+
+  all_entered : (s : State) (is : List ℕ) → IsState app s → AllByRecursion (λ i. i < length s.tasks) is → IsState app (fold enter s is)
+  all_entered s [] h a = h
+  all_entered s (i ∷ is) h a = all_entered (enter s i) is (entered s i h a.0) (rw length-set a.1)
+
+  runs : (s : State) (c : Option ℕ) → IsState app s → IfSome c (λ i. i < length s.tasks) → IsState app (record s { running = c })
+  runs s c h l = record { table = record { numbers = h.table.numbers; few = h.table.few; running = l }; tasks = h.tasks; places = h.places; time = h.time }
+
+  chosen : (s : State) → IsState app s → IsState app (anew s)
+  unfolding anew dispatch
+  chosen s h = by_test (is_same (choice s) s.running)
+      (λ t. rw t h)
+      (λ t. rw t (framed (record s { running = choice s }) _ s.steps s.stopped (runs s (choice s) h (choice_within s))))
+
+  left_by : (s : State) (r : Option ℕ) → IsState app s → IfSome r (λ i. i < length s.tasks) → IsState app (leave_from r s)
+  left_by s None h l = h
+  left_by s (Some i) h l = by_test (is_ready s i) (λ t. rw t (entered s i h l)) (λ t. rw t h)
+
+  left : (s : State) → IsState app s → IsState app (leave s)
+  unfolding leave
+  left s h = left_by s s.running h h.table.running
+
+  switched : (s : State) → IsState app s → IsState app (switch s)
+  unfolding switch
+  switched s h = by_test (is_outranked s || is_sharing s) (λ t. rw t (chosen (leave s) (left s h))) (λ t. rw t h)
+
+  settled : (s : State) → IsState app s → IsState app (settle s)
+  unfolding settle
+  settled s h = by_test (is_off s s.running) (λ t. rw t (chosen s h)) (λ t. rw t h)
+
+  woken : (s : State) → IsState app s → IsState app (wake s)
+  unfolding wake
+  woken s h = all_entered s (tasks_of (due s)) h (due_within s)
+
+  later : (s : State) → IsState app s → IsState app (record s { time = s.time + 1; elapsed = s.elapsed + 1 })
+  later s h = let le = h.time in record { table = record { numbers = h.table.numbers; few = h.table.few; running = h.table.running }; tasks = h.tasks; places = h.places; time = omega arith }
+
+  ticked : (s : State) → IsState app s → IsState app (tick s)
+  unfolding tick
+  ticked s h = switched _ (woken _ (later s h))
+
+  -- The task of the state is at an op, which does something and goes on.
+  module _ (s : State) (i : ℕ) (h : IsState app s) (l : i < length s.tasks) where
+    number_kept : HasNumberBelow s.next (task_at s i).status
+    number_kept = number_at s.next i s.tasks h.table.numbers
+
+    gone : (place : ℕ) (t : Task) → t.status ≡ (task_at s i).status → Nests (length t.loops) (drop place (script_of app i)) → LoopsNest (script_of app i) t.loops → IsState app (go_to app i place t s)
+    unfolding go_to
+    gone place t same n ls =
+        let a : (u : Status) → IsAt (script_of app i) (record t { place = place; used = 0; status = u }) = λ u. record { nests = n; loops = ls; used = used_none place (script_of app i) (script_formed app formed i).ranges } in
+        by_test (eqb place (op_count app i))
+        (λ e. rw e (changed s i (record t { place = place; used = 0; status = Ended }) h l tt (a Ended)))
+        (λ e. rw e (changed s i (record t { place = place; used = 0 }) h l (rw same number_kept) (a t.status)))
+
+    module _ (op : Op) (is : op_at app i (task_at s i).place ≡ Some op) where
+      past_it : Nests (depth_past (length (task_at s i).loops) op) (drop ((task_at s i).place + 1) (script_of app i))
+      past_it = nests_past (length (task_at s i).loops) (task_at s i).place (script_of app i) op (h.places i).nests is
+
+      -- an op that opens or closes no loop, whatever the answer
+      plain : (a : Option ℕ) → depth_past (length (task_at s i).loops) op ≡ length (task_at s i).loops → IsState app (complete app i (record (task_at s i) { answer = a }) s)
+      plain a e = gone ((task_at s i).place + 1) (record (task_at s i) { answer = a }) refl (rw e at past_it) (h.places i).loops
+
+  module _ (s : State) (i : ℕ) (op : Op) (h : IsState app s) (l : i < length s.tasks) (is : op_at app i (task_at s i).place ≡ Some op) where
+    answered : (a : Option ℕ) → depth_past (length (task_at s i).loops) op ≡ length (task_at s i).loops → IsState app (answer app i a s)
+    unfolding answer
+    answered a e = plain (write (Call i (task_at s i).place a) s) i (framed s _ s.steps s.stopped h) l op is a e
