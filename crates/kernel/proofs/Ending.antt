@@ -12,7 +12,11 @@ use Rattle.model.specs.declared.ids.TaskId.{TaskId}
 use Rattle.model.proofs.Sorting.{length-in_order}
 use Rattle.model.proofs.Lines.{eqb-apart}
 use Rattle.kernel.specs.declared.kernel.Kernel.{Kernel}
-use Rattle.kernel.specs.Stands.{seen_line, Stands}
+use Rattle.arrayvec.specs.ArrayVec.{ArrayVec}
+use Rattle.model.specs.declared.event.Event.{Event}
+use Rattle.model.specs.Application.{Application}
+use Rattle.model.specs.Step.{settle, deed, step}
+use Rattle.kernel.specs.Stands.{seen_line, Stands, At}
 
 some : (n : ℕ) → eqb (suc n) 0 ≡ false
 some n = eqb-apart (suc n) 0 (λ e. omega arith)
@@ -43,9 +47,17 @@ asleep o (t ∷ ts) =
 pub over_is : (k : Kernel) (s : State) → Stands k s → eqb (length k.ready) 0 && eqb (length k.asleep) 0 ≡ are_all_ended s
 over_is k s h = rw (h.ready, h.asleep, length-seen ready_key s.tasks, length-seen sleep_key s.tasks) (over 0 s.tasks)
 
-none_is : (r : Option TaskId) → is_none r ≡ is_none (number_of r)
-none_is None = refl
-none_is (Some t) = refl
+pub stuck_is : (k : Kernel) (s : State) → Stands k s → is_none (number_of k.running) && eqb (length k.asleep) 0 ≡ is_stuck s
+stuck_is k s h = rw (h.running, h.asleep, length-seen sleep_key s.tasks, asleep 0 s.tasks) refl
 
-pub stuck_is : (k : Kernel) (s : State) → Stands k s → is_none k.running && eqb (length k.asleep) 0 ≡ is_stuck s
-stuck_is k s h = rw (none_is k.running, h.running, h.asleep, length-seen sleep_key s.tasks, asleep 0 s.tasks) refl
+-- A step begins with no line written, and ends with one step more.
+pub begun : (k : Kernel) (w : ArrayVec Event) (s : State) → Stands k s → w.items ≡ [] → At k w (record s { log = [] })
+begun k w s h e = record {
+    stands = record { slots = h.slots; full = h.full; ready = h.ready; asleep = h.asleep; running = h.running; time = h.time; elapsed = h.elapsed; steps = h.steps; stopped = h.stopped; table = record { numbers = h.table.numbers; few = h.table.few; running = h.table.running } };
+    log = rw e refl }
+
+pub stepped : (app : Application) (s : State) (k : Kernel) (w : ArrayVec Event) (n : ℕ) → n ≡ s.steps → At k w (settle (deed app s.running (record s { log = [] }))) → Stands (record k { steps = n + 1 }) (step app s)
+unfolding step
+stepped app s k w n e a =
+    let h = a.stands in
+    record { slots = h.slots; full = h.full; ready = h.ready; asleep = h.asleep; running = h.running; time = h.time; elapsed = h.elapsed; steps = ap (λ m. m + 1) e; stopped = h.stopped; table = record { numbers = h.table.numbers; few = h.table.few; running = h.table.running } }

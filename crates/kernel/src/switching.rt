@@ -45,7 +45,7 @@ fn is_above(first: Option<Ranked>, priority: Option<u8>) -> bool
 
 impl Kernel {
     /// The Ready task of highest priority, among equals the one that came first; else idle.
-    fn choose(&self) -> Option<TaskId>
+    pub(crate) fn choose(&self) -> Option<TaskId>
         ensures { (s : State) → Stands self.now s → number_of result ≡ choice s }
     {
         match self.ready.first() {
