@@ -1,5 +1,5 @@
 -- The kernel at reset.
-use Rattle.std.proofs.Common.{◌≡◌, ◌≢◌, ◌<◌, ◌≤◌, ◌+◌, ℕ, zero, suc, Bool, true, false, cond, eqb, List, [], ◌∷◌, ◌++◌, map, length, get_or, set, take, replicate, Option, Some, None, refl, ap, sym, subst, ◌∙◌, arith, get_or-set_same, get_or-set_other, length-append}
+use Rattle.std.proofs.Common.{◌≡◌, ◌≢◌, ◌<◌, ◌≤◌, ◌+◌, ℕ, zero, suc, Bool, true, false, cond, eqb, List, [], ◌∷◌, ◌++◌, map, length, get_or, set, take, replicate, Option, refl, ap, sym, subst, ◌∙◌, arith, get_or-set_same, get_or-set_other}
 use Rattle.std.specs.List.{fold}
 use Rattle.std.proofs.lemmas.List.{take_more, map-append, length-map}
 use Rattle.arrayvec.specs.ArrayVec.{ArrayVec}
@@ -10,7 +10,7 @@ use Rattle.model.specs.declared.ids.TaskId.{TaskId}
 use Rattle.model.specs.Trace.{number_of}
 use Rattle.model.specs.Application.{Application, Definition}
 use Rattle.model.specs.State.{State, Task, no_task}
-use Rattle.model.specs.Order.{Entry, keyed, line}
+use Rattle.model.specs.Order.{keyed, line}
 use Rattle.model.specs.Step.{enter, task_at_reset, with_ops, is_empty, ready_key, sleep_key, choice, reset, before_entry, entered_at_reset}
 use Rattle.model.proofs.Sorting.{by_test}
 use Rattle.model.proofs.Lines.{eqb-refl, eqb-same, eqb-apart}
@@ -98,7 +98,7 @@ module _ (k next : Kernel) (w : ArrayVec Event) (s : State) (ds : List Definitio
       let low : j < length so.tasks = rw (length-fold s (with_ops 0 (take j ds)), n) l in
       let one = goes w so h low in
       let more : with_ops 0 (take (j + 1) ds) ≡ with_ops 0 (take j ds) ++ cond (is_empty d.script) [] (j ∷ []) =
-          ap (with_ops 0) (take_more ds j d l ∙ ap (λ x. take j ds ++ x ∷ []) (sym at)) ∙ with_ops-append 0 (take j ds) d ∙ rw (length_taken ds j l) (let z : 0 + j ≡ j = omega arith in rw z refl) in
+      ap (with_ops 0) (take_more ds j d l ∙ ap (λ x. take j ds ++ x ∷ []) (sym at)) ∙ with_ops-append 0 (take j ds) d ∙ rw (length_taken ds j l) (let z : 0 + j ≡ j = omega arith in rw z refl) in
       let test : b ≡ is_empty d.script = empty ∙ empty_is d.script in
       rw (more, fold-append s (with_ops 0 (take j ds)) (cond (is_empty d.script) [] (j ∷ [])), fold-cond so (is_empty d.script) j, ← test) one
 

@@ -1,7 +1,5 @@
 -- A kernel whose run goes on keeps within the numbers of the code.
-use Rattle.std.proofs.Common.{◌≡◌, ◌<◌, ◌≤◌, ◌+◌, ◌^◌, ℕ, zero, suc, Bool, true, false, cond, leb, List, [], ◌∷◌, length, drop, Option, Some, None, refl, ap, sym, subst, ◌∙◌, arith}
-use Rattle.std.specs.List.{slice_get}
-use Rattle.std.specs.Option.{IfSome}
+use Rattle.std.proofs.Common.{◌≡◌, ◌<◌, ◌+◌, ℕ, zero, suc, Bool, true, false, cond, leb, List, length, Option, Some, None, refl, ap, sym, subst, ◌∙◌, arith}
 use Rattle.std.proofs.lemmas.Bool.{ltb-true}
 use Rattle.std.proofs.lemmas.Bool.Decides.{nat_tests}
 use Rattle.std.proofs.lemmas.Option.{slice_get_within}
@@ -10,17 +8,16 @@ use Rattle.model.specs.declared.event.Loop.{Loop}
 use Rattle.model.specs.declared.op.Op.{Op}
 use Rattle.model.specs.declared.op.Op.TheVariants.{Work, Delay, Yield, Time, Mark, Expect, Repeat, End}
 use Rattle.model.specs.Application.{Application, Bounds, script_of, op_at}
-use Rattle.model.specs.Scripts.{may_stand, IsWellFormed, IsScript}
+use Rattle.model.specs.Scripts.{may_stand, IsWellFormed}
 use Rattle.model.specs.Trace.{Ending, Pass, Ticks, Steps, Stuck}
-use Rattle.model.specs.State.{State, Task, task_at}
+use Rattle.model.specs.State.{State, task_at}
 use Rattle.model.specs.Run.{end_of, or_else, are_all_ended, is_stuck}
-use Rattle.model.specs.Invariant.{IsState, IsAt, IsUsedBy}
+use Rattle.model.specs.Invariant.{IsUsedBy}
 use Rattle.model.proofs.Reached.{script_formed, stands_at}
 use Rattle.kernel.specs.Loops.{open_in, loops_of}
 use Rattle.kernel.specs.Slots.{Bare}
-use Rattle.kernel.specs.declared.slot.Slot.{Slot}
 use Rattle.kernel.specs.declared.kernel.Kernel.{Kernel}
-use Rattle.kernel.specs.Stands.{slot_in, Stands, CanAct, CanDo, CanStep, IsUsedLess, HasLoopRoom}
+use Rattle.kernel.specs.Stands.{slot_in, CanAct, CanDo, CanStep, IsUsedLess, HasLoopRoom}
 
 leb-less : (a b : ℕ) → leb a b ≡ false → b < a
 leb-less a b e = grind (arith, nat_tests)

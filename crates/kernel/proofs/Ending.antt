@@ -1,14 +1,13 @@
 -- When a run ends.
-use Rattle.std.proofs.Common.{◌≡◌, ◌<◌, ◌+◌, ℕ, suc, Bool, true, false, not, ◌&&◌, ◌||◌, eqb, List, [], ◌∷◌, map, length, Option, Some, None, refl, ap, sym, ◌∙◌, arith}
+use Rattle.std.proofs.Common.{◌≡◌, ◌+◌, ℕ, suc, Bool, true, false, not, ◌&&◌, ◌||◌, eqb, List, [], ◌∷◌, length, Option, refl, ap, ◌∙◌, arith}
 use Rattle.std.specs.List.{list_all, list_any, cons_option}
 use Rattle.std.specs.Option.{option_map, is_none}
 use Rattle.std.proofs.lemmas.List.{length-map}
-use Rattle.model.specs.State.{State, Task, Status, Ready, Asleep, Ended}
+use Rattle.model.specs.State.{State, Task, Ready, Asleep, Ended}
 use Rattle.model.specs.Order.{Key, Entry, entry, keyed, line}
-use Rattle.model.specs.Step.{readies, sleepers, ready_key, sleep_key, ready_status_key, sleep_status_key}
+use Rattle.model.specs.Step.{ready_key, sleep_key, ready_status_key, sleep_status_key}
 use Rattle.model.specs.Run.{is_ended, is_asleep, are_all_ended, is_stuck}
 use Rattle.model.specs.Trace.{number_of}
-use Rattle.model.specs.declared.ids.TaskId.{TaskId}
 use Rattle.model.proofs.Sorting.{length-in_order}
 use Rattle.model.proofs.Lines.{eqb-apart}
 use Rattle.kernel.specs.declared.kernel.Kernel.{Kernel}
@@ -32,10 +31,11 @@ over : (o : ℕ) (ts : List Task) → eqb (length (keyed ready_key o ts)) 0 && e
 over o [] = refl
 over o (t ∷ ts) =
     let later = over (o + 1) ts in
-    elim (t.status) as (λ u. eqb (length (cons_option (option_map (entry o) (ready_status_key t.priority u)) (keyed ready_key (o + 1) ts))) 0 && eqb (length (cons_option (option_map (entry o) (sleep_status_key u)) (keyed sleep_key (o + 1) ts))) 0 ≡ is_ended u && list_all (λ (v : Task). is_ended v.status) ts)
-    [ Ready n ↦ rw (some (length (keyed ready_key (o + 1) ts))) refl
-    | Asleep m b ↦ rw (some (length (keyed sleep_key (o + 1) ts))) (and_false (eqb (length (keyed ready_key (o + 1) ts)) 0))
-    | Ended ↦ later ]
+    elim (t.status) as (λ u. eqb (length (cons_option (option_map (entry o) (ready_status_key t.priority u)) (keyed ready_key (o + 1) ts))) 0 && eqb (length (cons_option (option_map (entry o) (sleep_status_key u)) (keyed sleep_key (o + 1) ts))) 0 ≡ is_ended u && list_all (λ (v : Task). is_ended v.status) ts) [
+      | Ready n ↦ rw (some (length (keyed ready_key (o + 1) ts))) refl
+      | Asleep m b ↦ rw (some (length (keyed sleep_key (o + 1) ts))) (and_false (eqb (length (keyed ready_key (o + 1) ts)) 0))
+      | Ended ↦ later
+    ]
 
 asleep : (o : ℕ) (ts : List Task) → eqb (length (keyed sleep_key o ts)) 0 ≡ not (list_any (λ (t : Task). is_asleep t.status) ts)
 asleep o [] = refl
@@ -53,8 +53,9 @@ stuck_is k s h = rw (h.running, h.asleep, length-seen sleep_key s.tasks, asleep 
 -- A step begins with no line written, and ends with one step more.
 pub begun : (k : Kernel) (w : ArrayVec Event) (s : State) → Stands k s → w.items ≡ [] → At k w (record s { log = [] })
 begun k w s h e = record {
-    stands = record { slots = h.slots; full = h.full; ready = h.ready; asleep = h.asleep; running = h.running; time = h.time; elapsed = h.elapsed; steps = h.steps; stopped = h.stopped; table = record { numbers = h.table.numbers; few = h.table.few; running = h.table.running } };
-    log = rw e refl }
+  stands = record { slots = h.slots; full = h.full; ready = h.ready; asleep = h.asleep; running = h.running; time = h.time; elapsed = h.elapsed; steps = h.steps; stopped = h.stopped; table = record { numbers = h.table.numbers; few = h.table.few; running = h.table.running } };
+  log = rw e refl;
+}
 
 pub stepped : (app : Application) (s : State) (k : Kernel) (w : ArrayVec Event) (n : ℕ) → n ≡ s.steps → At k w (settle (deed app s.running (record s { log = [] }))) → Stands (record k { steps = n + 1 }) (step app s)
 unfolding step

@@ -1,17 +1,15 @@
 -- A run, step by step.
-use Rattle.std.proofs.Common.{◌≡◌, ◌≢◌, ◌<◌, ◌≤◌, ◌+◌, ℕ, zero, suc, true, false, eqb, leb, List, [], ◌∷◌, ◌++◌, map, Option, Some, None, refl, ap, sym, subst, ◌∙◌, arith, add-one}
+use Rattle.std.proofs.Common.{◌≡◌, ◌≢◌, ◌<◌, ◌≤◌, ℕ, zero, suc, true, false, eqb, leb, List, [], ◌∷◌, ◌++◌, None, refl, sym, subst, ◌∙◌, arith}
 use Rattle.std.proofs.lemmas.List.{map-append}
 use Rattle.std.proofs.lemmas.Bool.{leb-true}
 use Rattle.std.proofs.lemmas.Bool.Decides.{nat_tests}
 use Rattle.model.proofs.Sorting.{by_test}
 use Rattle.model.proofs.Lines.{eqb-refl, eqb-same}
-use Rattle.arrayvec.specs.ArrayVec.{ArrayVec}
 use Rattle.model.specs.declared.event.Event.{Event}
-use Rattle.model.specs.declared.event.End.{End}
 use Rattle.model.specs.declared.limits.Limits.{Limits}
 use Rattle.model.specs.Application.{Application, Bounds}
 use Rattle.model.specs.Scripts.{IsWellFormed}
-use Rattle.model.specs.Trace.{Line, Ending, lines_of, line_of, ending_of, bounds_of}
+use Rattle.model.specs.Trace.{Line, Ending, lines_of, line_of, bounds_of}
 use Rattle.model.specs.State.{State}
 use Rattle.std.specs.List.{fold}
 use Rattle.model.specs.Step.{step, reset, entered_at_reset, before_entry, with_ops, enter}
@@ -41,8 +39,9 @@ steps_begin app k h = h.steps ∙ steps-reset app
 
 pub begins : (app : Application) (limits : Bounds) (k : Kernel) → Stands k (reset app) → IsUnderWay app limits k
 begins app limits k h = record {
-    stands = let Q : ℕ → Type 0 = λ n. Stands k (state_after app n) in subst Q (sym (steps_begin app k h)) h;
-    goes_on = λ n l. let e = steps_begin app k h in absurd (omega arith) }
+  stands = let Q : ℕ → Type 0 = λ n. Stands k (state_after app n) in subst Q (sym (steps_begin app k h)) h;
+  goes_on = λ n l. let e = steps_begin app k h in absurd (omega arith);
+}
 
 pub no_lines : (app : Application) (k : Kernel) → Stands k (reset app) → lines_after app k.steps ≡ []
 no_lines app k h = rw (steps_begin app k h) refl
@@ -67,8 +66,9 @@ module _ (app : Application) (formed : IsWellFormed app) (limits : Limits) (k : 
 
     pub goes_on : IsUnderWay app (bounds_of limits) next
     goes_on = record {
-        stands = let Q : ℕ → Type 0 = λ n. Stands next (state_after app n) in subst Q (sym steps_more) (stands (state_after app k.steps) h.stands);
-        goes_on = λ n l. let m : n < suc k.steps = rw steps_more at l in by_last n m }
+      stands = let Q : ℕ → Type 0 = λ n. Stands next (state_after app n) in subst Q (sym steps_more) (stands (state_after app k.steps) h.stands);
+      goes_on = λ n l. let m : n < suc k.steps = rw steps_more at l in by_last n m;
+    }
 
     -- and its lines
     pub more_lines : (events more all : List Event) → lines_of events ≡ lines_after app k.steps → lines_of more ≡ (step app (state_after app k.steps)).log → all ≡ events ++ more → lines_of all ≡ lines_after app next.steps

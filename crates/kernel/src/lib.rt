@@ -7,8 +7,8 @@ mod line;
 mod loops;
 mod ops;
 mod outcome;
-mod steps;
 mod slot;
+mod steps;
 mod switching;
 mod time;
 

@@ -27,9 +27,7 @@ fn is_same(a: Option<TaskId>, b: Option<TaskId>) -> bool
 fn is_any_beside(entries: &[Ranked], task: TaskId, rank: u8) -> bool
     ensures { result ≡ list_any (λ e. is_beside_pair task.number rank (pair_of e)) entries.now }
 {
-    entries
-        .iter()
-        .any(|entry| entry.task.number != task.number && entry.rank == rank)
+    entries.iter().any(|entry| entry.task.number != task.number && entry.rank == rank)
 }
 
 // Whether the first task of a line is above one of this priority, or above idle.

@@ -1,26 +1,22 @@
 -- What is true of every state that a run comes to.
-use Rattle.std.proofs.Common.{◌≡◌, ◌≢◌, ◌<◌, ◌≤◌, ◌+◌, ◌-◌, ℕ, zero, suc, Bool, true, false, cond, eqb, leb, ◌||◌, not, List, [], ◌∷◌, length, map, get_or, set, drop, Option, Some, None, refl, ap, sym, subst, ◌∙◌, arith, get_or-set_same, get_or-set_other, add-one}
+use Rattle.std.proofs.Common.{◌≡◌, ◌≢◌, ◌<◌, ◌≤◌, ◌+◌, ◌-◌, ℕ, zero, suc, true, eqb, leb, ◌||◌, List, [], ◌∷◌, length, map, get_or, set, drop, Option, Some, None, refl, ap, sym, subst, ◌∙◌, arith, get_or-set_same, get_or-set_other, add-one}
 use Rattle.std.specs.List.{AllByRecursion, fold, slice_get}
 use Rattle.std.specs.Option.{IfSome, option_map, unwrap_or, option_eq}
 use Rattle.std.proofs.Math.ListN.{length-set}
 use Rattle.std.proofs.lemmas.List.{length-map}
-use Rattle.std.proofs.lemmas.Bool.{ltb-true, leb-true}
-use Rattle.std.proofs.lemmas.Bool.Decides.{nat_tests}
-use Rattle.std.proofs.lemmas.Option.{slice_get_within}
 use Rattle.model.specs.declared.op.Op.{Op}
 use Rattle.model.specs.declared.op.Op.TheVariants.{Work, Delay, Yield, Time, Mark, Expect, Repeat, End}
 use Rattle.model.specs.declared.event.Loop.{Loop}
-use Rattle.model.specs.Application.{Application, Bounds, Definition, script_of, op_at, op_count}
+use Rattle.model.specs.Application.{Application, Definition, script_of, op_at, op_count}
 use Rattle.model.specs.Scripts.{InRange, may_stand, depth_past, Nests, IsScript, IsDefinition, IsWellFormed}
 use Rattle.model.specs.Trace.{Line, Ending, Call, Marked}
 use Rattle.model.specs.State.{State, Task, Status, Ready, Asleep, Ended, task_at, with_task, no_task}
 use Rattle.model.specs.Order.{tasks_of}
-use Rattle.model.specs.Step.{enter, dispatch, anew, choice, is_same, leave, leave_from, is_ready, switch, is_outranked, is_sharing, settle, is_off, wake, due, tick, go_to, moved_to, complete, answer, use_up, behind, sleep, rest, expect, open_loop, turn, close_turn, act, act_if, deed, step, reset, before_entry, entered_at_reset, task_at_reset, with_ops, is_empty, write}
-use Rattle.model.specs.Run.{end_of, or_else}
-use Rattle.model.specs.Invariant.{HasNumberBelow, AllNumbered, IsTable, IsUsedBy, LoopsNest, IsAt, IsState}
+use Rattle.model.specs.Step.{enter, dispatch, anew, choice, is_same, leave, leave_from, is_ready, switch, is_outranked, is_sharing, settle, is_off, wake, due, tick, go_to, complete, answer, use_up, behind, sleep, rest, expect, open_loop, turn, close_turn, act, act_if, deed, step, reset, before_entry, entered_at_reset, task_at_reset, with_ops, is_empty, write}
+use Rattle.model.specs.Invariant.{HasNumberBelow, AllNumbered, IsUsedBy, LoopsNest, IsAt, IsState}
 use Rattle.model.proofs.Sorting.{by_test}
-use Rattle.model.proofs.Lines.{eqb-refl, eqb-same, eqb-apart}
-use Rattle.model.proofs.Tables.{number_at, table-set, table-numbered, table-enter}
+use Rattle.model.proofs.Lines.{eqb-refl, eqb-same}
+use Rattle.model.proofs.Tables.{number_at, table-set, table-numbered}
 use Rattle.model.proofs.Chosen.{choice_within, due_within}
 
 -- Scripts
@@ -68,8 +64,11 @@ module _ (app : Application) (formed : IsWellFormed app) where
   -- neither the lines of the trace nor the steps done matter, nor an end that a step has brought about
   framed : (s : State) (log : List Line) (steps : ℕ) (stopped : Option Ending) → IsState app s → IsState app (record s { log = log; steps = steps; stopped = stopped })
   framed s log steps stopped h = record {
-      table = record { numbers = h.table.numbers; few = h.table.few; running = h.table.running };
-      tasks = h.tasks; places = h.places; time = h.time }
+    table = record { numbers = h.table.numbers; few = h.table.few; running = h.table.running };
+    tasks = h.tasks;
+    places = h.places;
+    time = h.time;
+  }
 
   places-set : (s : State) (i : ℕ) (t : Task) → IsState app s → i < length s.tasks → IsAt (script_of app i) t → (j : ℕ) → IsAt (script_of app j) (get_or (set s.tasks i t) j no_task)
   places-set s i t h l a j = by_test (eqb j i)
@@ -169,7 +168,7 @@ module _ (app : Application) (formed : IsWellFormed app) where
         let more : (task_at s i).used + 1 < n = omega arith in
         let V : Option Op → Type 0 = λ o. IsUsedBy ((task_at s i).used + 1) o in
         rw t (changed s i (record (task_at s i) { used = (task_at s i).used + 1 }) h l (number_kept s i h l)
-            (record { nests = a.nests; loops = a.loops; used = subst V (sym (is ∙ ap Some e)) more })))
+        (record { nests = a.nests; loops = a.loops; used = subst V (sym (is ∙ ap Some e)) more })))
 
     expected : (a : Option ℕ) → op ≡ Expect a → IsState app (expect app i a s)
     unfolding expect
@@ -270,10 +269,11 @@ module _ (app : Application) (formed : IsWellFormed app) where
   pub reached_before : IsState app (before_entry app)
   unfolding before_entry
   reached_before = record {
-      table = record { numbers = none_numbered app.tasks; few = rw length-map formed.few; running = tt };
-      tasks = length-map app.tasks task_at_reset;
-      places = λ i. places-reset i app.tasks formed.tasks;
-      time = omega arith }
+    table = record { numbers = none_numbered app.tasks; few = rw length-map formed.few; running = tt };
+    tasks = length-map app.tasks task_at_reset;
+    places = λ i. places-reset i app.tasks formed.tasks;
+    time = omega arith;
+  }
 
   pub reached_entered : IsState app (entered_at_reset app)
   unfolding entered_at_reset before_entry

@@ -6,9 +6,10 @@ use Rattle.kernel.proofs.steps.finish.Goals as goal
 
 pub steps-init : goal.steps-init
 steps-init c = record {
-    way = begins c.args.app.now (bounds_of c.args.limits.now) c.args.kernel.now c.requires.stands;
-    lines = rw (c.requires.events, no_lines c.args.app.now c.args.kernel.now c.requires.stands) refl;
-    meter = let e = steps_begin c.args.app.now c.args.kernel.now c.requires.stands in omega arith }
+  way = begins c.args.app.now (bounds_of c.args.limits.now) c.args.kernel.now c.requires.stands;
+  lines = rw (c.requires.events, no_lines c.args.app.now c.args.kernel.now c.requires.stands) refl;
+  meter = let e = steps_begin c.args.app.now c.args.kernel.now c.requires.stands in omega arith;
+}
 
 pub step-requires-clause-going : goal.step-requires-clause-going
 step-requires-clause-going c =
@@ -29,7 +30,8 @@ steps-preserved c =
     record {
       way = goes_on c.args.app.now c.well_formed-2.ensures c.args.limits.now c.steps.kernel c.steps.invariant.way on c.step.new.self c.step.ensures.stands;
       lines = more_lines c.args.app.now c.well_formed-2.ensures c.args.limits.now c.steps.kernel c.steps.invariant.way on c.step.new.self c.step.ensures.stands c.steps.events.items c.step.new.log.items c.keep.new.events.items c.steps.invariant.lines (c.step.ensures.log _ c.steps.invariant.way.stands) c.in_ok-keep.ensures;
-      meter = omega arith }
+      meter = omega arith;
+    }
 
 pub returns-in_err-keep-clause-way : goal.returns-in_err-keep-clause-way
 returns-in_err-keep-clause-way c =

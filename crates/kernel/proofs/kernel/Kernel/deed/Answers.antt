@@ -1,4 +1,4 @@
-use Rattle.std.proofs.Common.{refl, sym, ap, ◌∙◌, Option, Some, None, ◌≡◌, ℕ, true, false}
+use Rattle.std.proofs.Common.{sym}
 use Rattle.kernel.proofs.kernel.Kernel.deed.Goals as goal
 
 pub act-requires-clause-can : goal.act-requires-clause-can

@@ -1,4 +1,4 @@
-use Rattle.std.proofs.Common.{refl, sym, ap, ◌∙◌, Option, Some, None, ◌≡◌, ℕ, true, false}
+use Rattle.std.proofs.Common.{refl, ◌∙◌}
 use Rattle.kernel.proofs.kernel.Kernel.ended.Goals as goal
 
 pub returns : goal.returns

@@ -1,4 +1,4 @@
-use Rattle.std.proofs.Common.{refl, sym, ap, ◌∙◌, Option, Some, None, ◌≡◌, ℕ, true, false}
+use Rattle.std.proofs.Common.{◌∙◌}
 use Rattle.kernel.proofs.Ending.{stuck_is}
 use Rattle.kernel.proofs.kernel.Kernel.is_stuck.Goals as goal
 

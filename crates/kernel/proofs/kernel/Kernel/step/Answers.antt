@@ -1,4 +1,3 @@
-use Rattle.std.proofs.Common.{refl, sym, ap, ◌∙◌, Option, Some, None, ◌≡◌, ℕ, true, false}
 use Rattle.model.specs.Step.{step}
 use Rattle.kernel.proofs.Bounds.{can_do}
 use Rattle.kernel.proofs.Ending.{begun, stepped}
