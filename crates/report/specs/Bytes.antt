@@ -1,0 +1,26 @@
+-- What calls on sources and sinks say of their bytes.
+use Rattle.std.specs.Prelude.{◌≡◌, ℕ, Bool, true, false, ◌==◌, ◌&&◌, nat_lt, List, ◌++◌, length, Option, Result, Ok, Err, MatchResult}
+use Rattle.std.specs.Io.KnownBytes.{Appends}
+
+-- whether `put` has failed: an error, or none of some bytes was taken
+abbrev pub failed_after : {E : Type 0} → Result ℕ E → List ℕ → Bool
+failed_after (Ok n) bytes = (n == 0) && nat_lt 0 (length bytes)
+failed_after (Err e) bytes = true
+
+abbrev pub is_err : {T E : Type 0} → Result T E → Bool
+is_err (Ok x) = false
+is_err (Err e) = true
+
+-- Of the text a front went out, and this rest has not.
+pub record Sent (old new : Option (List ℕ)) (text rest : List ℕ) : Type 0 where
+  pub front : List ℕ
+  pub whole : text ≡ front ++ rest
+  pub appends : Appends old new front
+
+-- some beginning of the text went out
+abbrev pub SentFront : Option (List ℕ) → Option (List ℕ) → List ℕ → Type 0
+SentFront old new text = (rest : List ℕ) × Sent old new text rest
+
+-- a writing call: all of the text at `Ok`, a beginning of it at `Err`
+abbrev pub Writes : {T E : Type 0} → Option (List ℕ) → Option (List ℕ) → Result T E → List ℕ → Type 0
+Writes old new r text = MatchResult r (λ _. Appends old new text) (λ _. SentFront old new text)
