@@ -2,7 +2,8 @@
 use Rattle.std.specs.Prelude.{ℕ, List, [], ◌++◌, codes, decimal, Option, Some, None, option_map, unwrap_or}
 use Rattle.std.specs.List.{flat_map}
 use Rattle.model.specs.Application.{Application, op_at, word_of, name_of}
-use Rattle.model.specs.Trace.{Line, What, Call, Marked, Runs, Ending, Pass, Check, Ticks, Steps, Stuck}
+use Rattle.model.specs.declared.event.Event.{Event}
+use Rattle.model.specs.Trace.{line_of, Line, What, Call, Marked, Runs, Ending, Pass, Check, Ticks, Steps, Stuck}
 
 -- the first word of the op of a task at a place; empty where no op is
 abbrev pub word_at : Application → ℕ → ℕ → List ℕ
@@ -40,3 +41,7 @@ head_text app steps ticks end =
 -- a run: its head line, and the lines of its trace
 abbrev pub run_text : Application → List Line → ℕ → ℕ → Ending → List ℕ
 run_text app lines steps ticks end = head_text app steps ticks end ++ flat_map (line_text app) lines
+
+-- the line that an event of the code tells
+abbrev pub event_text : Application → Event → List ℕ
+event_text app event = line_text app (line_of event)

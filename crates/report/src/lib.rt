@@ -1,15 +1,21 @@
 //! Bytes in and out, and the text of a run.
 #![tactic(auto)]
 
+mod add;
 mod bytes;
 mod page;
 mod put;
 mod read;
-mod text;
+mod run;
 mod std_io;
+mod text;
+mod words;
 
+pub use add::flush;
 pub use bytes::{Failed, Sink, Source};
 pub use page::Page;
 pub use put::{WriteFault, put_all};
 pub use read::{ReadFault, read_all};
+pub use run::{add_run, write_run};
 pub use std_io::{FromReader, ToWriter};
+pub use words::{Piece, write_words};

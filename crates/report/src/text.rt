@@ -9,7 +9,7 @@ use crate::page::Page;
 use model::{App, End, Event, TaskId, What};
 
 // The bytes that a line has at most.
-pub const LINE: usize = 128;
+pub(crate) const LINE: usize = 128;
 
 // The name of a task.
 fn name(app: &App, task: TaskId) -> &[u8]
