@@ -3,6 +3,7 @@
 
 mod add;
 mod bytes;
+mod laws;
 mod page;
 mod put;
 mod read;
@@ -13,6 +14,7 @@ mod words;
 
 pub use add::flush;
 pub use bytes::{Failed, Sink, Source};
+pub use laws::report_of_delay_one;
 pub use page::Page;
 pub use put::{WriteFault, put_all};
 pub use read::{ReadFault, read_all};
