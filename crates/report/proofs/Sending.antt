@@ -1,5 +1,5 @@
 -- What several calls of a sink send together.
-use Rattle.std.proofs.Common.{◌≡◌, ℕ, ◌≤◌, ◌<◌, ◌+◌, ◌-◌, List, [], ◌++◌, length, take, drop, get_or, Option, Result, Ok, Err, refl, sym, ap, ◌∙◌, subst, append_assoc, append-nil, arith, take-append-drop, drop_of_length-le}
+use Rattle.std.proofs.Common.{◌≡◌, ℕ, ◌≤◌, ◌<◌, ◌+◌, ◌-◌, List, [], ◌++◌, length, take, drop, get_or, Option, Result, Ok, Err, refl, sym, ap, ◌∙◌, append_assoc, append-nil, arith, take-append-drop, drop_of_length-le}
 use Rattle.std.proofs.lemmas.Grind.{common_steps}
 use Rattle.std.proofs.lemmas.Bool.{false≢true}
 use Rattle.std.proofs.lemmas.List.{drop_more}
@@ -114,10 +114,6 @@ Adds_unable a b page kept text (Err e) err front = SentFront_longer a b page tex
 pub Adds_failed : {T E : Type 0} (a b : Option (List ℕ)) (page kept text : List ℕ) (r : Result T E) → IsErr r → SentFront a b (page ++ text) → Adds a b page kept r text
 Adds_failed a b page kept text (Ok v) err front = absurd (false≢true err)
 Adds_failed a b page kept text (Err e) err front = front
-
-pub Writes_failed : {T E : Type 0} (a b : Option (List ℕ)) (text : List ℕ) (r : Result T E) → IsErr r → SentFront a b text → Writes a b r text
-Writes_failed a b text (Ok v) err front = absurd (false≢true err)
-Writes_failed a b text (Err e) err front = front
 
 -- the page goes out, and then the text past it
 pub Adds_past : {T E : Type 0} (a b c : Option (List ℕ)) (page kept text : List ℕ) (r : Result T E)

@@ -1,15 +1,11 @@
 -- What calls on sources and sinks say of their bytes.
-use Rattle.std.specs.Prelude.{◌≡◌, ℕ, Bool, true, false, ◌==◌, ◌&&◌, nat_lt, List, ◌++◌, length, Option, Result, Ok, Err, MatchResult}
+use Rattle.std.specs.Prelude.{◌≡◌, ℕ, Bool, true, ◌==◌, ◌&&◌, nat_lt, List, ◌++◌, length, Option, Result, Ok, Err, MatchResult}
 use Rattle.std.specs.Io.KnownBytes.{Appends}
 
 -- whether `put` has failed: an error, or none of some bytes was taken
 abbrev pub failed_after : {E : Type 0} → Result ℕ E → List ℕ → Bool
 failed_after (Ok n) bytes = (n == 0) && nat_lt 0 (length bytes)
 failed_after (Err e) bytes = true
-
-abbrev pub is_err : {T E : Type 0} → Result T E → Bool
-is_err (Ok x) = false
-is_err (Err e) = true
 
 -- Of the text a front went out, and this rest has not.
 pub record Sent (old new : Option (List ℕ)) (text rest : List ℕ) : Type 0 where

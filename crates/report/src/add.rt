@@ -3,7 +3,8 @@
 //! Each function requires that the sink has not failed. At `Err` the sink has failed, it has taken a beginning of the page's
 //! bytes and what was added, and the page is of no more use.
 ghost use Rattle.std.specs.Prelude.{◌≡◌, ◌≤◌, ◌+◌, false, [], length, OnOk, MatchResult};
-ghost use Rattle.report.specs.Bytes.{Sent, SentFront, Writes, Adds, is_err};
+ghost use Rattle.std.specs.Result.{is_err};
+ghost use Rattle.report.specs.Bytes.{Sent, SentFront, Writes, Adds};
 
 use crate::bytes::Sink;
 use crate::page::Page;
@@ -23,7 +24,11 @@ pub fn flush<W: Sink>(writer: &mut W, page: &mut Page) -> Result<(), WriteFault>
 
 // Makes room in the page for so many bytes.
 #[tactic(auto, using(crate::proofs::Sending::Sent_none, crate::proofs::Sending::Sent_all))]
-pub(crate) fn make_room<W: Sink>(writer: &mut W, page: &mut Page, count: usize) -> Result<(), WriteFault>
+pub(crate) fn make_room<W: Sink>(
+    writer: &mut W,
+    page: &mut Page,
+    count: usize,
+) -> Result<(), WriteFault>
     requires working { W.has_failed writer.old ≡ false }
     requires fits { count ≤ Page.SIZE }
     ensures sent { MatchResult result (λ _. Sent (W.held writer.old) (W.held writer.new) page.old page.new) (λ _. SentFront (W.held writer.old) (W.held writer.new) page.old) }
@@ -37,7 +42,11 @@ pub(crate) fn make_room<W: Sink>(writer: &mut W, page: &mut Page, count: usize) 
 }
 
 // Adds a text of any length.
-pub(crate) fn add_text<W: Sink>(writer: &mut W, page: &mut Page, text: &[u8]) -> Result<(), WriteFault>
+pub(crate) fn add_text<W: Sink>(
+    writer: &mut W,
+    page: &mut Page,
+    text: &[u8],
+) -> Result<(), WriteFault>
     requires { W.has_failed writer.old ≡ false }
     ensures text { Adds (W.held writer.old) (W.held writer.new) page.old page.new result text.now }
     ensures failed { W.has_failed writer.new ≡ is_err result }

@@ -1,7 +1,8 @@
 //! Where bytes come from and where they go.
 ghost use Rattle.std.specs.Prelude.{◌≡◌, ◌≤◌, ℕ, List, Option, Bool, false, length, IfOk};
 ghost use Rattle.std.specs.Io.KnownBytes.{WriteAppends, ReadConsumes};
-ghost use Rattle.report.specs.Bytes.{failed_after, is_err};
+ghost use Rattle.std.specs.Result.{is_err};
+ghost use Rattle.report.specs.Bytes.{failed_after};
 
 /// A call of a source or a sink failed.
 #[derive(Clone, Copy, Debug, PartialEq, Eq)]

@@ -9,6 +9,8 @@ mod put;
 mod read;
 mod run;
 mod std_io;
+#[cfg(test)]
+mod tests;
 mod text;
 mod words;
 

@@ -1,6 +1,7 @@
 //! All of some bytes, to a sink.
 ghost use Rattle.std.specs.Prelude.{◌≡◌, false};
-ghost use Rattle.report.specs.Bytes.{Writes, is_err};
+ghost use Rattle.std.specs.Result.{is_err};
+ghost use Rattle.report.specs.Bytes.{Writes};
 
 use crate::bytes::{Failed, Sink};
 

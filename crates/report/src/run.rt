@@ -2,7 +2,8 @@
 ghost use Rattle.std.specs.Prelude.{◌≡◌, false};
 ghost use Rattle.std.specs.List.{flat_map};
 ghost use Rattle.model.specs.Trace.{lines_of, ending_of};
-ghost use Rattle.report.specs.Bytes.{Writes, Adds, is_err};
+ghost use Rattle.std.specs.Result.{is_err};
+ghost use Rattle.report.specs.Bytes.{Writes, Adds};
 ghost use Rattle.report.specs.Text.{event_text, head_text, run_text};
 
 use crate::add::{flush, make_room};
@@ -12,7 +13,14 @@ use crate::put::WriteFault;
 use crate::text::{LINE, push_head, push_line};
 use model::{App, End, Event};
 
-fn add_head<W: Sink>(writer: &mut W, page: &mut Page, app: &App, steps: u32, ticks: u32, end: End) -> Result<(), WriteFault>
+fn add_head<W: Sink>(
+    writer: &mut W,
+    page: &mut Page,
+    app: &App,
+    steps: u32,
+    ticks: u32,
+    end: End,
+) -> Result<(), WriteFault>
     requires { W.has_failed writer.old ≡ false }
     ensures text { Adds (W.held writer.old) (W.held writer.new) page.old page.new result (head_text app.now steps ticks (ending_of end)) }
     ensures failed { W.has_failed writer.new ≡ is_err result }
@@ -22,7 +30,12 @@ fn add_head<W: Sink>(writer: &mut W, page: &mut Page, app: &App, steps: u32, tic
     Ok(())
 }
 
-fn add_line<W: Sink>(writer: &mut W, page: &mut Page, app: &App, event: &Event) -> Result<(), WriteFault>
+fn add_line<W: Sink>(
+    writer: &mut W,
+    page: &mut Page,
+    app: &App,
+    event: &Event,
+) -> Result<(), WriteFault>
     requires { W.has_failed writer.old ≡ false }
     ensures text { Adds (W.held writer.old) (W.held writer.new) page.old page.new result (event_text app.now event.now) }
     ensures failed { W.has_failed writer.new ≡ is_err result }
@@ -32,7 +45,12 @@ fn add_line<W: Sink>(writer: &mut W, page: &mut Page, app: &App, event: &Event) 
     Ok(())
 }
 
-fn add_lines<W: Sink>(writer: &mut W, page: &mut Page, app: &App, events: &[Event]) -> Result<(), WriteFault>
+fn add_lines<W: Sink>(
+    writer: &mut W,
+    page: &mut Page,
+    app: &App,
+    events: &[Event],
+) -> Result<(), WriteFault>
     requires { W.has_failed writer.old ≡ false }
     ensures text { Adds (W.held writer.old) (W.held writer.new) page.old page.new result (flat_map (event_text app.now) events.now) }
     ensures failed { W.has_failed writer.new ≡ is_err result }

@@ -1,7 +1,8 @@
 //! A line of words, as of a fault.
 ghost use Rattle.std.specs.Prelude.{◌≡◌, ◌∷◌, false};
 ghost use Rattle.std.specs.List.{flat_map};
-ghost use Rattle.report.specs.Bytes.{Writes, Adds, is_err};
+ghost use Rattle.std.specs.Result.{is_err};
+ghost use Rattle.report.specs.Bytes.{Writes, Adds};
 ghost use Rattle.report.specs.Words.{piece_text, spaced_text, words_text};
 
 use crate::add::{add_text, flush};
@@ -41,7 +42,11 @@ fn add_spaced<W: Sink>(writer: &mut W, page: &mut Page, piece: Piece<'_>) -> Res
     add_piece(writer, page, piece)
 }
 
-fn add_others<W: Sink>(writer: &mut W, page: &mut Page, others: &[Piece<'_>]) -> Result<(), WriteFault>
+fn add_others<W: Sink>(
+    writer: &mut W,
+    page: &mut Page,
+    others: &[Piece<'_>],
+) -> Result<(), WriteFault>
     requires { W.has_failed writer.old ≡ false }
     ensures text { Adds (W.held writer.old) (W.held writer.new) page.old page.new result (flat_map spaced_text others.now) }
     ensures failed { W.has_failed writer.new ≡ is_err result }
@@ -52,7 +57,12 @@ fn add_others<W: Sink>(writer: &mut W, page: &mut Page, others: &[Piece<'_>]) ->
     Ok(())
 }
 
-fn add_first_and_others<W: Sink>(writer: &mut W, page: &mut Page, first: Piece<'_>, others: &[Piece<'_>]) -> Result<(), WriteFault>
+fn add_first_and_others<W: Sink>(
+    writer: &mut W,
+    page: &mut Page,
+    first: Piece<'_>,
+    others: &[Piece<'_>],
+) -> Result<(), WriteFault>
     requires { W.has_failed writer.old ≡ false }
     ensures text { Adds (W.held writer.old) (W.held writer.new) page.old page.new result (words_text (first.entry ∷ others.now)) }
     ensures failed { W.has_failed writer.new ≡ is_err result }
@@ -63,7 +73,11 @@ fn add_first_and_others<W: Sink>(writer: &mut W, page: &mut Page, first: Piece<'
 }
 
 #[tactic(auto, using(std::proofs::lemmas::Slice::first_rest))]
-fn add_words<W: Sink>(writer: &mut W, page: &mut Page, pieces: &[Piece<'_>]) -> Result<(), WriteFault>
+fn add_words<W: Sink>(
+    writer: &mut W,
+    page: &mut Page,
+    pieces: &[Piece<'_>],
+) -> Result<(), WriteFault>
     requires { W.has_failed writer.old ≡ false }
     ensures text { Adds (W.held writer.old) (W.held writer.new) page.old page.new result (words_text pieces.now) }
     ensures failed { W.has_failed writer.new ≡ is_err result }

@@ -12,6 +12,6 @@ returns-in_err-add_line-clause-text g c =
 pub loop-event-preserved : goal.loop-event-preserved
 loop-event-preserved g c = record {
   sent = Sent_item (event_text c.args.app.now) c.args.events.now c.loop-event.event-index c.event-item.result _ _ _ _ _ c.loop-event.page _
-    c.loop-event-test.true c.event-item.is c.loop-event.invariant.sent c.in_ok-add_line.ensures.text;
+      c.loop-event-test.true c.event-item.is c.loop-event.invariant.sent c.in_ok-add_line.ensures.text;
   working = c.in_ok-add_line.ensures.failed;
 }

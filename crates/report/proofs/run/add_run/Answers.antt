@@ -1,7 +1,5 @@
-use Rattle.std.proofs.Common.{◌≡◌, sym}
-use Rattle.std.specs.List.{flat_map}
 use Rattle.std.proofs.lemmas.List.Folds.{flat_map-map}
-use Rattle.model.specs.Trace.{line_of, lines_of, ending_of}
+use Rattle.model.specs.Trace.{line_of, ending_of}
 use Rattle.report.specs.Text.{head_text, line_text}
 use Rattle.report.proofs.Sending.{Adds_stopped, Adds_two}
 use Rattle.report.proofs.run.add_run.Goals as goal

@@ -13,6 +13,6 @@ returns-in_err-add_spaced-clause-text g c =
 pub loop-piece-preserved : goal.loop-piece-preserved
 loop-piece-preserved g c = record {
   sent = Sent_item spaced_text c.args.others.now c.loop-piece.piece-index _ _ _ _ _ _ c.loop-piece.page _
-    c.loop-piece-test.true refl c.loop-piece.invariant.sent c.in_ok-add_spaced.ensures.text;
+      c.loop-piece-test.true refl c.loop-piece.invariant.sent c.in_ok-add_spaced.ensures.text;
   working = c.in_ok-add_spaced.ensures.failed;
 }
