@@ -2,7 +2,7 @@
 //!
 //! Each function requires that the sink has not failed. At `Err` the sink has failed, it has taken a beginning of the page's
 //! bytes and what was added, and the page is of no more use.
-ghost use Rattle.std.specs.Prelude.{◌≡◌, ◌≤◌, ◌+◌, false, [], length, OnOk, MatchResult};
+ghost use Rattle.std.specs.Prelude.{◌≡◌, ◌≤◌, ◌+◌, false, [], length, OnOk, OnErr, MatchResult};
 ghost use Rattle.std.specs.Result.{is_err};
 ghost use Rattle.report.specs.Bytes.{Sent, SentFront, Writes, Adds};
 
@@ -10,11 +10,13 @@ use crate::bytes::Sink;
 use crate::page::Page;
 use crate::put::{WriteFault, put_all};
 
-/// Puts the bytes of the page, and empties it.
+/// Puts the bytes of the page, and empties it. At `Err` the sink failed or took none of some bytes, it has taken a
+/// beginning of the page's bytes, and the page is as it was.
 pub fn flush<W: Sink>(writer: &mut W, page: &mut Page) -> Result<(), WriteFault>
     requires { W.has_failed writer.old ≡ false }
     ensures text { Writes (W.held writer.old) (W.held writer.new) result page.old }
     ensures empty { OnOk result (page.new ≡ []) }
+    ensures kept { OnErr result (page.new ≡ page.old) }
     ensures failed { W.has_failed writer.new ≡ is_err result }
 {
     put_all(writer, page.bytes())?;
