@@ -1,5 +1,5 @@
 -- A run, step by step.
-use Rattle.std.proofs.Common.{◌≡◌, ◌≢◌, ◌<◌, ◌≤◌, ℕ, zero, suc, true, false, eqb, leb, List, [], ◌∷◌, ◌++◌, None, refl, sym, subst, ◌∙◌, arith}
+use Rattle.std.proofs.Common.{◌≡◌, ◌≢◌, ◌<◌, ◌≤◌, ℕ, suc, true, false, eqb, leb, List, [], ◌∷◌, ◌++◌, None, refl, sym, subst, ◌∙◌, arith}
 use Rattle.std.proofs.lemmas.List.{map-append}
 use Rattle.std.proofs.lemmas.Bool.{leb-true}
 use Rattle.std.proofs.lemmas.Bool.Decides.{nat_tests}
@@ -14,16 +14,11 @@ use Rattle.model.specs.State.{State}
 use Rattle.std.specs.List.{fold}
 use Rattle.model.specs.Step.{step, reset, entered_at_reset, before_entry, with_ops, enter}
 use Rattle.model.specs.Run.{end_of, state_after, lines_after, IsRun}
-use Rattle.model.specs.Invariant.{IsState}
-use Rattle.model.proofs.Reached.{reached_reset, reached_step}
+use Rattle.model.proofs.Reached.{reached_after}
 use Rattle.kernel.specs.declared.kernel.Kernel.{Kernel}
 use Rattle.kernel.specs.Stands.{Stands, CanStep}
 use Rattle.kernel.specs.Runs.{IsUnderWay}
 use Rattle.kernel.proofs.Bounds.{below_limits}
-
-pub reached_after : (app : Application) → IsWellFormed app → (n : ℕ) → IsState app (state_after app n)
-reached_after app formed zero = reached_reset app formed
-reached_after app formed (suc n) = reached_step app formed (state_after app n) (reached_after app formed n)
 
 -- the kernel at reset
 steps-fold : (s : State) (is : List ℕ) → (fold enter s is).steps ≡ s.steps

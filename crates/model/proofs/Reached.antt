@@ -13,6 +13,7 @@ use Rattle.model.specs.Trace.{Line, Ending, Call, Marked}
 use Rattle.model.specs.State.{State, Task, Status, Ready, Asleep, Ended, task_at, with_task, no_task}
 use Rattle.model.specs.Order.{tasks_of}
 use Rattle.model.specs.Step.{enter, dispatch, anew, choice, is_same, leave, leave_from, is_ready, switch, is_outranked, is_sharing, settle, is_off, wake, due, tick, go_to, complete, answer, use_up, behind, sleep, rest, expect, open_loop, turn, close_turn, act, act_if, deed, step, reset, before_entry, entered_at_reset, task_at_reset, with_ops, is_empty, write}
+use Rattle.model.specs.Run.{state_after}
 use Rattle.model.specs.Invariant.{HasNumberBelow, AllNumbered, IsUsedBy, LoopsNest, IsAt, IsState}
 use Rattle.model.proofs.Sorting.{by_test}
 use Rattle.model.proofs.Lines.{eqb-refl, eqb-same}
@@ -284,3 +285,8 @@ module _ (app : Application) (formed : IsWellFormed app) where
   pub reached_reset : IsState app (reset app)
   unfolding reset
   reached_reset = runs app formed (entered_at_reset app) (choice (entered_at_reset app)) reached_entered (choice_within (entered_at_reset app))
+
+  -- every state of a run
+  pub reached_after : (n : ℕ) → IsState app (state_after app n)
+  reached_after zero = reached_reset
+  reached_after (suc n) = reached_step app formed (state_after app n) (reached_after n)

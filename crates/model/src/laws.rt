@@ -3,13 +3,22 @@ ghost use Rattle.model.specs.State.{State};
 ghost use Rattle.model.specs.Step.{choice};
 ghost use Rattle.model.specs.Laws.{IsChoice};
 ghost use Rattle.model.specs.Examples.{wide, round_robin, round_robin_lines, delay_zero, delay_zero_lines, delay_one, delay_one_lines, across_the_wrap, across_the_wrap_lines};
-ghost use Rattle.model.specs.Run.{IsRun};
+ghost use Rattle.model.specs.Run.{IsRun, state_after};
+ghost use Rattle.model.specs.Application.{Application};
+ghost use Rattle.model.specs.Scripts.{IsWellFormed};
+ghost use Rattle.model.specs.Invariant.{IsState};
+ghost use Rattle.std.specs.Prelude.{ℕ};
 ghost use Rattle.model.specs.Trace.{Pass};
 
 /// The choice is a Ready task; none is of higher priority, and none of equal priority came earlier. It is idle only
 /// where no task is Ready.
 pub fn choice_in_words()
     ensures { (s : State) → IsChoice s (choice s) }
+{}
+
+/// Every state that a run of a well formed application comes to keeps to what the code's numbers need.
+pub fn states_are_sound()
+    ensures { (app : Application) → IsWellFormed app → (n : ℕ) → IsState app (state_after app n) }
 {}
 
 /// Two tasks of equal priority that compute take turns, tick by tick.

@@ -16,6 +16,7 @@ pub use event::{End, Event, Loop, What};
 pub use ids::{HandlerId, TaskId};
 pub use laws::{
     across_the_wrap_runs, choice_in_words, delay_one_runs, delay_zero_runs, round_robin_runs,
+    states_are_sound,
 };
 pub use limits::{Limits, Meter};
 pub use op::Op;
