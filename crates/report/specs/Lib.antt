@@ -1,0 +1,5 @@
+pub mod Bytes
+pub mod Read
+pub mod StdIo
+pub mod Text
+pub mod Words
