@@ -1,8 +1,9 @@
 -- The texts of ops: which words spell which op.
-use Rattle.std.specs.Prelude.{◌≡◌, ◌≤◌, ℕ, Bool, not, ◌||◌, ◌==◌, nat_lt, ◌+◌, ◌*◌, ◌-◌, List, [], ◌∷◌, length, filter, codes, Option, Some, None, option_map, option_and_then, if◌then◌else◌}
+use Rattle.std.specs.Prelude.{◌≡◌, ◌≤◌, ℕ, Bool, not, ◌&&◌, ◌||◌, ◌==◌, nat_lt, nat_le, List, [], ◌∷◌, length, filter, codes, Option, Some, None, option_map, option_and_then, if◌then◌else◌}
 use Rattle.std.specs.Char.{is_ascii_digit}
-use Rattle.std.specs.List.{slice_split}
+use Rattle.std.specs.List.{list_all, slice_split}
 use Rattle.std.specs.Str.{bytes_eq}
+use Rattle.std.specs.Str.Parse.{digits_value}
 use Rattle.model.specs.declared.op.Op.{Op}
 use Rattle.model.specs.declared.op.Op.TheVariants.{Work, Delay, Yield, Time, Mark, Expect, Repeat, End}
 
@@ -18,14 +19,13 @@ words text = filter is_word (slice_split (λ b. b == 32) text)
 
 -- ---- numbers
 
--- the number that digits stand for, after those of n; nothing where one is no digit
-abbrev pub digits_after : ℕ → Word → Option ℕ
-digits_after n [] = Some n
-digits_after n (b ∷ bs) = if is_ascii_digit b then digits_after (n * 10 + (b - 48)) bs else None
+-- one to ten digits
+abbrev pub is_number : Word → Bool
+is_number w = nat_lt 0 (length w) && (nat_le (length w) 10 && list_all is_ascii_digit w)
 
--- the number that one to ten digits stand for
+-- the number that a word writes, where it is one
 abbrev pub number : Word → Option ℕ
-number w = if length w == 0 || nat_lt 10 (length w) then None else digits_after 0 w
+number w = if is_number w then Some (digits_value 10 w) else None
 
 -- ---- the relation: what spells an op
 

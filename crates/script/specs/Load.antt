@@ -7,7 +7,7 @@ use Rattle.script.specs.declared.fault.LoadFault.TheVariants.{WrongKind}
 use Rattle.script.specs.declared.place.Section.TheVariants as section
 use Rattle.script.specs.declared.place.Key.TheVariants as key
 use Rattle.script.specs.Faults.{first, at_section, at_key}
-use Rattle.script.specs.Numbers.{member_of, optional_fault, optional_named}
+use Rattle.script.specs.Values.{member_of, optional_fault, optional_named}
 use Rattle.script.specs.Tasks.{section_fault, section_named}
 use Rattle.script.specs.Ops.{scripts_fault, with_ops}
 

@@ -10,7 +10,7 @@ use Rattle.script.specs.declared.place.Key.{Key}
 use Rattle.script.specs.declared.place.Key.TheVariants as key
 use Rattle.script.specs.declared.raw_task.RawTask.{RawTask}
 use Rattle.script.specs.Faults.{first, fails_if, at_section, at_entry, at_field, at_element}
-use Rattle.script.specs.Numbers.{member_of, required_fault, required_named, name_fault, name_named}
+use Rattle.script.specs.Values.{member_of, required_fault, required_named, name_fault, name_named}
 
 abbrev pub items_len : Items → ℕ
 items_len no_items = 0

@@ -2,7 +2,7 @@
 ghost use Rattle.toml.specs.View.{table_view};
 ghost use Rattle.model.specs.Trace.{bounds_of};
 ghost use Rattle.script.specs.Faults.{Judges, JudgesBy};
-ghost use Rattle.script.specs.Numbers.{data_of};
+ghost use Rattle.script.specs.Values.{data_of};
 ghost use Rattle.script.specs.Load.{limits_fault, limits_named, load_fault, app_named};
 
 use crate::fault::LoadFault;

@@ -2,7 +2,7 @@
 ghost use Rattle.std.specs.Prelude.{◌≡◌, ◌≤◌, ◌<◌, [], map, length, IfOk};
 ghost use Rattle.toml.specs.View.{view, items_view};
 ghost use Rattle.script.specs.Faults.{Judges, JudgesBy};
-ghost use Rattle.script.specs.Numbers.{data_of};
+ghost use Rattle.script.specs.Values.{data_of};
 ghost use Rattle.script.specs.Tasks.{texts_fault, few_texts_fault, script_fault, items_named, task_fault, task_named, raw_view, tasks_fault, tasks_named, entries_fault, section_fault, section_named};
 
 use crate::fault::LoadFault;

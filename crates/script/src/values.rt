@@ -5,7 +5,7 @@ ghost use Rattle.std.specs.Str.{bytes_eq};
 ghost use Rattle.toml.specs.Data.{get_member};
 ghost use Rattle.toml.specs.View.{view, table_view};
 ghost use Rattle.script.specs.Faults.{Judges, JudgesBy};
-ghost use Rattle.script.specs.Numbers.{data_of, number_fault, number_named, optional_fault, optional_named, required_fault, required_named, name_fault, name_named};
+ghost use Rattle.script.specs.Values.{data_of, number_fault, number_named, optional_fault, optional_named, required_fault, required_named, name_fault, name_named};
 
 use crate::fault::LoadFault;
 use crate::name::is_name;

@@ -1,7 +1,9 @@
 //! The words of an op's text, and the numbers among them.
-ghost use Rattle.std.specs.Prelude.{◌≡◌, ◌≤◌, ◌==◌, IfOk, IfSome, map};
-ghost use Rattle.std.specs.List.{slice_split};
-ghost use Rattle.script.specs.Grammar.{words, number, number_from};
+ghost use Rattle.std.specs.Prelude.{◌≡◌, ◌≤◌, ◌==◌, IfOk, IfSome, map, length, true};
+ghost use Rattle.std.specs.Char.{is_ascii_digit};
+ghost use Rattle.std.specs.List.{list_all, slice_split};
+ghost use Rattle.std.specs.Str.Parse.{digits_value};
+ghost use Rattle.script.specs.Grammar.{words, is_number, number, number_from};
 
 use std::alloc::{AllocError, Global};
 
@@ -26,21 +28,41 @@ pub(crate) fn words_of<'a>(alloc: Global, text: &'a [u8]) -> Result<Vec<&'a [u8]
     Ok(words)
 }
 
-// The number that one to ten digits stand for.
+fn are_digits(bytes: &[u8]) -> bool
+    ensures { result ≡ list_all is_ascii_digit bytes.now }
+{
+    bytes.iter().all(|byte| byte.is_ascii_digit())
+}
+
+// One to ten digits.
+fn is_number(word: &[u8]) -> bool
+    ensures { result ≡ is_number word.now }
+{
+    !word.is_empty() && word.len() <= 10 && are_digits(word)
+}
+
+// The number that digits write.
+fn value_of(digits: &[u8]) -> u64
+    requires few { length digits.now ≤ 10 }
+    requires digits { list_all is_ascii_digit digits.now ≡ true }
+    ensures { result ≡ digits_value 10 digits.now }
+{
+    let mut value = 0u64;
+    for digit in digits {
+        value = value * 10 + u64::from(*digit - b'0');
+    }
+    value
+}
+
+// The number that a word writes.
 fn number(word: &[u8]) -> Option<u64>
     ensures { result ≡ number word.now }
 {
-    if word.is_empty() || word.len() > 10 {
-        return None;
+    if is_number(word) {
+        Some(value_of(word))
+    } else {
+        None
     }
-    let mut value = 0u64;
-    for digit in word {
-        if !digit.is_ascii_digit() {
-            return None;
-        }
-        value = value * 10 + u64::from(*digit - b'0');
-    }
-    Some(value)
 }
 
 // A number of this range.
