@@ -1,8 +1,11 @@
 -- The checks of a file: where one looks, and which of them fails first.
-use Rattle.std.specs.Prelude.{◌≡◌, ℕ, Bool, List, [], ◌∷◌, Option, Some, None, Result, Ok, Err, codes, if◌then◌else◌}
+use Rattle.std.specs.Prelude.{◌≡◌, ℕ, Bool, List, [], ◌∷◌, Option, Some, None, Result, Ok, Err, codes, ◌++◌, option_map, option_to_list, if◌then◌else◌}
+use Rattle.std.specs.Fmt.{decimal}
 use Rattle.script.specs.declared.fault.LoadFault.{LoadFault}
 use Rattle.script.specs.declared.fault.LoadFault.TheVariants.{Missing, WrongKind, OutOfRange, BadOp, DoubleName, BadNesting, TooMany, Memory}
 use Rattle.script.specs.declared.place.Place.{Place}
+use Rattle.script.specs.declared.place.PlaceWord.{PlaceWord}
+use Rattle.script.specs.declared.place.PlaceWord.TheVariants.{Name, Index}
 use Rattle.script.specs.declared.place.Section.{Section}
 use Rattle.script.specs.declared.place.Section.TheVariants as section
 use Rattle.script.specs.declared.place.Key.{Key}
@@ -43,6 +46,20 @@ key_word key.Steps = codes "steps"
 key_word key.Name = codes "name"
 key_word key.Priority = codes "priority"
 key_word key.Script = codes "script"
+
+abbrev pub index_words : Option ℕ → List (List ℕ)
+index_words index = option_to_list (option_map decimal index)
+
+abbrev pub key_words : Option Key → List (List ℕ)
+key_words k = option_to_list (option_map key_word k)
+
+-- the section, the index of the entry, the key, and the index inside the key's array, as far as they apply
+abbrev pub place_words : Place → List (List ℕ)
+place_words p = section_word p.section ∷ (index_words p.entry ++ (key_words p.key ++ index_words p.index))
+
+abbrev pub word_text : PlaceWord → List ℕ
+word_text (Name name) = name.now
+word_text (Index index) = decimal index
 
 -- ---- the names and numbers of faults
 

@@ -15,4 +15,4 @@ mod words;
 pub use document::FromDocument;
 pub use fault::LoadFault;
 pub use op_text::{grammar, op_of};
-pub use place::{Key, Place, Section};
+pub use place::{Key, Place, PlaceWord, Section};

@@ -52,6 +52,13 @@ impl Key {
     }
 }
 
+/// A word of a place.
+#[derive(Clone, Copy, Debug, PartialEq, Eq)]
+pub enum PlaceWord {
+    Name(&'static str),
+    Index(usize),
+}
+
 /// Where in the file: the section, the index of the entry, the key, the index inside the key's array. Parts that do
 /// not apply are left out.
 #[derive(Clone, Copy, Debug, PartialEq, Eq)]
@@ -63,8 +70,24 @@ pub struct Place {
 }
 
 impl Place {
-    ghost use Rattle.std.specs.Prelude.{◌≡◌};
-    ghost use Rattle.script.specs.Faults.{at_section, at_key, at_entry, at_field, at_element};
+    ghost use Rattle.std.specs.Prelude.{◌≡◌, option_map};
+    ghost use Rattle.std.specs.List.{filter_map};
+    ghost use Rattle.script.specs.Faults.{word_text, place_words, at_section, at_key, at_entry, at_field, at_element};
+
+    /// The words that name it, in order; `None` stands for a part that does not apply.
+    pub fn words(self) -> [Option<PlaceWord>; 4]
+        ensures { filter_map (option_map word_text) result ≡ place_words self }
+    {
+        [
+            Some(PlaceWord::Name(self.section.word())),
+            self.entry.map(PlaceWord::Index),
+            match self.key {
+                Some(key) => Some(PlaceWord::Name(key.word())),
+                None => None,
+            },
+            self.index.map(PlaceWord::Index),
+        ]
+    }
 
     // A section as a whole.
     pub(crate) fn section(section: Section) -> Self
