@@ -29,9 +29,9 @@ at_entry s i = record { section = s; entry = Some i; key = None; index = None }
 abbrev pub at_field : Section → ℕ → Key → Place
 at_field s i k = record { section = s; entry = Some i; key = Some k; index = None }
 
--- the element n of the array at a key of the entry i
-abbrev pub at_element : Section → ℕ → Key → ℕ → Place
-at_element s i k n = record { section = s; entry = Some i; key = Some k; index = Some n }
+-- the element n of the array at a place
+abbrev pub at_element : Place → ℕ → Place
+at_element p n = record p { index = Some n }
 
 -- ---- the words of a place
 

@@ -7,11 +7,9 @@ use Rattle.model.specs.Scripts.{may_stand, depth_past}
 use Rattle.script.specs.declared.fault.LoadFault.{LoadFault}
 use Rattle.script.specs.declared.fault.LoadFault.TheVariants.{BadOp, BadNesting}
 use Rattle.script.specs.declared.place.Place.{Place}
-use Rattle.script.specs.declared.place.Section.{Section}
 use Rattle.script.specs.declared.place.Section.TheVariants as section
-use Rattle.script.specs.declared.place.Key.{Key}
 use Rattle.script.specs.declared.place.Key.TheVariants as key
-use Rattle.script.specs.Faults.{first, fails_if, at_element}
+use Rattle.script.specs.Faults.{first, fails_if, at_field, at_element}
 use Rattle.script.specs.Grammar.{words, op_of}
 use Rattle.script.specs.Tasks.{Raw}
 
@@ -33,11 +31,11 @@ depth_with depth None = depth
 depth_with depth (Some op) = depth_past depth op
 
 -- each op from the one numbered n on, where so many loops are open, and at the end that none is
-abbrev pub ops_fault : Section → ℕ → Key → ℕ → ℕ → Items → Option LoadFault
-ops_fault s i k n depth no_items = fails_if (nat_lt 0 depth) (BadNesting (at_element s i k n))
-ops_fault s i k n depth (item d ds) = first (
-    op_fault (at_element s i k n) depth (op_named d)
-    ∷ ops_fault s i k (n + 1) (depth_with depth (op_named d)) ds
+abbrev pub ops_fault : Place → ℕ → ℕ → Items → Option LoadFault
+ops_fault p n depth no_items = fails_if (nat_lt 0 depth) (BadNesting (at_element p n))
+ops_fault p n depth (item d ds) = first (
+    op_fault (at_element p n) depth (op_named d)
+    ∷ ops_fault p (n + 1) (depth_with depth (op_named d)) ds
     ∷ [])
 
 abbrev pub ops_named : Items → List Op
@@ -48,7 +46,7 @@ ops_named (item d ds) = option_to_list (op_named d) ++ ops_named ds
 abbrev pub scripts_fault : ℕ → List Raw → Option LoadFault
 scripts_fault i [] = None
 scripts_fault i (t ∷ ts) = first (
-    ops_fault section.Task i key.Script 0 0 t.script
+    ops_fault (at_field section.Task i key.Script) 0 0 t.script
     ∷ scripts_fault (i + 1) ts
     ∷ [])
 

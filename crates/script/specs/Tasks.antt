@@ -4,9 +4,8 @@ use Rattle.toml.specs.Data.{Data, Items, no_items, item, Members, as_str, as_tab
 use Rattle.toml.specs.View.{items_view}
 use Rattle.script.specs.declared.fault.LoadFault.{LoadFault}
 use Rattle.script.specs.declared.fault.LoadFault.TheVariants.{Missing, WrongKind, TooMany}
-use Rattle.script.specs.declared.place.Section.{Section}
+use Rattle.script.specs.declared.place.Place.{Place}
 use Rattle.script.specs.declared.place.Section.TheVariants as section
-use Rattle.script.specs.declared.place.Key.{Key}
 use Rattle.script.specs.declared.place.Key.TheVariants as key
 use Rattle.script.specs.declared.raw_task.RawTask.{RawTask}
 use Rattle.script.specs.Faults.{first, fails_if, at_section, at_entry, at_field, at_element}
@@ -16,30 +15,30 @@ abbrev pub items_len : Items → ℕ
 items_len no_items = 0
 items_len (item d ds) = suc (items_len ds)
 
--- ---- an array of texts, at a key of the entry i of a section
+-- ---- an array of texts, at a place
 
 -- each element from the one numbered n on is a text
-abbrev pub texts_fault : Section → ℕ → Key → ℕ → Items → Option LoadFault
-texts_fault s i k n no_items = None
-texts_fault s i k n (item d ds) = first (
-    fails_if (not (is_some (as_str d))) (WrongKind (at_element s i k n))
-    ∷ texts_fault s i k (n + 1) ds
+abbrev pub texts_fault : Place → ℕ → Items → Option LoadFault
+texts_fault p n no_items = None
+texts_fault p n (item d ds) = first (
+    fails_if (not (is_some (as_str d))) (WrongKind (at_element p n))
+    ∷ texts_fault p (n + 1) ds
     ∷ [])
 
 -- so many texts at most
-abbrev pub few_texts_fault : ℕ → Section → ℕ → Key → Items → Option LoadFault
-few_texts_fault most s i k ds = first (
-    fails_if (nat_lt most (items_len ds)) (TooMany (at_field s i k))
-    ∷ texts_fault s i k 0 ds
+abbrev pub few_texts_fault : ℕ → Place → Items → Option LoadFault
+few_texts_fault most p ds = first (
+    fails_if (nat_lt most (items_len ds)) (TooMany p)
+    ∷ texts_fault p 0 ds
     ∷ [])
 
-abbrev pub array_fault : ℕ → Section → ℕ → Key → Option Items → Option LoadFault
-array_fault most s i k None = Some (WrongKind (at_field s i k))
-array_fault most s i k (Some ds) = few_texts_fault most s i k ds
+abbrev pub array_fault : ℕ → Place → Option Items → Option LoadFault
+array_fault most p None = Some (WrongKind p)
+array_fault most p (Some ds) = few_texts_fault most p ds
 
-abbrev pub script_fault : ℕ → Section → ℕ → Key → Option Data → Option LoadFault
-script_fault most s i k None = Some (Missing (at_field s i k))
-script_fault most s i k (Some d) = array_fault most s i k (as_array d)
+abbrev pub script_fault : ℕ → Place → Option Data → Option LoadFault
+script_fault most p None = Some (Missing p)
+script_fault most p (Some d) = array_fault most p (as_array d)
 
 -- what stands in an array
 abbrev pub items_named : Option Data → Items
@@ -62,7 +61,7 @@ task_table_fault names i None = Some (WrongKind (at_entry section.Task i))
 task_table_fault names i (Some ms) = first (
     name_fault (at_field section.Task i key.Name) names (get_member (codes "name") ms)
     ∷ required_fault (at_field section.Task i key.Priority) 0 31 (get_member (codes "priority") ms)
-    ∷ script_fault 256 section.Task i key.Script (get_member (codes "script") ms)
+    ∷ script_fault 256 (at_field section.Task i key.Script) (get_member (codes "script") ms)
     ∷ [])
 
 abbrev pub task_fault : List (List ℕ) → ℕ → Data → Option LoadFault

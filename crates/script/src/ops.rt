@@ -51,29 +51,18 @@ fn push_op(
 }
 
 // The script of the ops that these texts spell.
-fn script_of(
-    alloc: Global,
-    texts: &[Value],
-    section: Section,
-    entry: usize,
-    key: Key,
-) -> Result<Script, LoadFault>
+fn script_of(alloc: Global, texts: &[Value], place: Place) -> Result<Script, LoadFault>
     requires { length texts.now ≤ 256 }
-    ensures checks { Judges result (ops_fault section entry key 0 0 (items_view texts.now)) (ops_named (items_view texts.now)) }
+    ensures checks { Judges result (ops_fault place 0 0 (items_view texts.now)) (ops_named (items_view texts.now)) }
     ensures script { IfOk result IsScript }
 {
     let mut builder = ScriptBuilder::new(alloc);
     for (index, text) in texts.iter().enumerate() {
-        push_op(
-            alloc,
-            &mut builder,
-            text,
-            Place::element(section, entry, key, index),
-        )?;
+        push_op(alloc, &mut builder, text, place.element(index))?;
     }
     match builder.finish() {
         Some(script) => Ok(script),
-        None => Err(LoadFault::BadNesting(Place::element(section, entry, key, texts.len()))),
+        None => Err(LoadFault::BadNesting(place.element(texts.len()))),
     }
 }
 
@@ -88,7 +77,11 @@ pub(crate) fn with_scripts(
 {
     let mut definitions = Vec::new(alloc);
     for (entry, task) in tasks.iter().enumerate() {
-        let script = script_of(alloc, task.script, Section::Task, entry, Key::Script)?;
+        let script = script_of(
+            alloc,
+            task.script,
+            Place::field(Section::Task, entry, Key::Script),
+        )?;
         let name = String::from_str(alloc, task.name)?;
         definitions.push(TaskDefinition::new(name, task.priority, script))?;
     }

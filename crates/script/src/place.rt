@@ -81,10 +81,7 @@ impl Place {
         [
             Some(PlaceWord::Name(self.section.word())),
             self.entry.map(PlaceWord::Index),
-            match self.key {
-                Some(key) => Some(PlaceWord::Name(key.word())),
-                None => None,
-            },
+            self.key.map(|key| PlaceWord::Name(key.word())),
             self.index.map(PlaceWord::Index),
         ]
     }
@@ -137,15 +134,13 @@ impl Place {
         }
     }
 
-    // An element of the array at a key of an entry.
-    pub(crate) fn element(section: Section, entry: usize, key: Key, index: usize) -> Self
-        ensures { result ≡ at_element section entry key index }
+    // An element of the array at this place.
+    pub(crate) fn element(self, index: usize) -> Self
+        ensures { result ≡ at_element self index }
     {
         Place {
-            section,
-            entry: Some(entry),
-            key: Some(key),
             index: Some(index),
+            ..self
         }
     }
 }

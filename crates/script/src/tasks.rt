@@ -12,13 +12,13 @@ use crate::values::{member, new_name, required_number};
 use std::alloc::Global;
 use toml::Value;
 
-// Each is a text. The place is that of the array.
-fn are_texts(texts: &[Value], section: Section, entry: usize, key: Key) -> Result<(), LoadFault>
-    ensures { Judges result (texts_fault section entry key 0 (items_view texts.now)) tt }
+// Each is a text.
+fn are_texts(texts: &[Value], place: Place) -> Result<(), LoadFault>
+    ensures { Judges result (texts_fault place 0 (items_view texts.now)) tt }
 {
     for (index, text) in texts.iter().enumerate() {
         if !text.is_str() {
-            return Err(LoadFault::WrongKind(Place::element(section, entry, key, index)));
+            return Err(LoadFault::WrongKind(place.element(index)));
         }
     }
     Ok(())
@@ -26,41 +26,28 @@ fn are_texts(texts: &[Value], section: Section, entry: usize, key: Key) -> Resul
 
 // At most so many texts.
 #[tactic(auto, using(crate::proofs::Views::items_len_view))]
-fn are_few_texts(
-    texts: &[Value],
-    most: usize,
-    section: Section,
-    entry: usize,
-    key: Key,
-) -> Result<(), LoadFault>
-    ensures checks { Judges result (few_texts_fault most section entry key (items_view texts.now)) tt }
+fn are_few_texts(texts: &[Value], most: usize, place: Place) -> Result<(), LoadFault>
+    ensures checks { Judges result (few_texts_fault most place (items_view texts.now)) tt }
     ensures few { IfOk result (λ _. length texts.now ≤ most) }
 {
     if texts.len() > most {
-        return Err(LoadFault::TooMany(Place::field(section, entry, key)));
+        return Err(LoadFault::TooMany(place));
     }
-    are_texts(texts, section, entry, key)
+    are_texts(texts, place)
 }
 
-// The texts of a script.
-fn script(
-    value: Option<&Value>,
-    most: usize,
-    section: Section,
-    entry: usize,
-    key: Key,
-) -> Result<&[Value], LoadFault>
-    ensures checks { JudgesBy (λ texts. items_view texts.now) result (script_fault most section entry key (data_of value.entry)) (items_named (data_of value.entry)) }
+// The texts of a script, at most so many.
+fn script(value: Option<&Value>, most: usize, place: Place) -> Result<&[Value], LoadFault>
+    ensures checks { JudgesBy (λ texts. items_view texts.now) result (script_fault most place (data_of value.entry)) (items_named (data_of value.entry)) }
     ensures few { IfOk result (λ texts. length texts.now ≤ most) }
 {
-    let place = Place::field(section, entry, key);
     let Some(value) = value else {
         return Err(LoadFault::Missing(place));
     };
     let Some(texts) = value.as_array() else {
         return Err(LoadFault::WrongKind(place));
     };
-    are_few_texts(texts.as_slice(), most, section, entry, key)?;
+    are_few_texts(texts.as_slice(), most, place)?;
     Ok(texts.as_slice())
 }
 
@@ -75,13 +62,8 @@ fn task<'a>(value: &'a Value, entry: usize, names: &[&str]) -> Result<RawTask<'a
     let name = new_name(member(table, "name"), place, names)?;
     let place = Place::field(Section::Task, entry, Key::Priority);
     let priority = required_number(member(table, "priority"), place, 0, 31)?;
-    let script = script(
-        member(table, "script"),
-        256,
-        Section::Task,
-        entry,
-        Key::Script,
-    )?;
+    let place = Place::field(Section::Task, entry, Key::Script);
+    let script = script(member(table, "script"), 256, place)?;
     Ok(RawTask {
         name,
         priority: priority as u8,
