@@ -1,5 +1,8 @@
 //! An application from a document.
+ghost use Rattle.std.specs.Prelude.{Option};
+ghost use Rattle.toml.specs.Data.{Members};
 ghost use Rattle.toml.specs.View.{table_view};
+ghost use Rattle.script.specs.declared.fault.LoadFault.{LoadFault};
 ghost use Rattle.model.specs.Trace.{bounds_of};
 ghost use Rattle.script.specs.Faults.{Judges, JudgesBy};
 ghost use Rattle.script.specs.Values.{data_of};
@@ -35,15 +38,23 @@ fn limits(value: Option<&Value>) -> Result<Limits, LoadFault>
 
 /// What a document describes.
 pub trait FromDocument: Sized {
-    /// Reads it from a document, or answers the first of the document's checks that fails.
-    fn from_document(alloc: Global, document: &Table) -> Result<Self, LoadFault>;
+    // The fault of the first check of a document that fails.
+    ghost fault_in: { Members → Option LoadFault };
+
+    // What a document names in which no check fails.
+    ghost named_by: { Members → Self };
+
+    /// What the document names, or the fault of the first of its checks that fails, or `Memory`.
+    fn from_document(alloc: Global, document: &Table) -> Result<Self, LoadFault>
+        ensures { Judges result (fault_in (table_view document.now)) (named_by (table_view document.now)) };
 }
 
 impl FromDocument for App {
-    /// The application that the document names, or the fault of the first of its checks that fails.
-    fn from_document(alloc: Global, document: &Table) -> Result<App, LoadFault>
-        ensures { Judges result (load_fault (table_view document.now)) (app_named (table_view document.now)) }
-    {
+    ghost fault_in = { load_fault };
+
+    ghost named_by = { app_named };
+
+    fn from_document(alloc: Global, document: &Table) -> Result<App, LoadFault> {
         let place = Place::section(Section::Start);
         let start = optional_number(member(document, "start"), place, 0, u32::MAX, 0)?;
         let limits = limits(member(document, "limits"))?;
