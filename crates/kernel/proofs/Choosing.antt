@@ -1,15 +1,15 @@
 -- Who runs: what the code's lines tell of the state's.
-use Rattle.std.proofs.Common.{◌≡◌, ◌<◌, ◌≤◌, ℕ, Bool, true, false, not, cond, eqb, ltb, ◌&&◌, List, [], ◌∷◌, ◌++◌, map, length, get_or, Option, Some, None, refl, ap, sym, subst, ◌∙◌, arith}
-use Rattle.std.specs.List.{filter, AllByRecursion, list_any}
-use Rattle.std.specs.Option.{option_map, IfSome, option_eq}
-use Rattle.std.proofs.lemmas.Bool.{ltb-true, ltb-false, lt-ltb, le-ltb}
+use Rattle.std.proofs.Common.{◌≡◌, ◌<◌, ◌≤◌, ℕ, Bool, true, false, cond, ltb, List, [], ◌∷◌, map, length, Option, Some, None, refl, ap, sym, subst, ◌∙◌, arith}
+use Rattle.std.specs.List.{AllByRecursion, list_any}
+use Rattle.std.specs.Option.{option_map, IfSome}
+use Rattle.std.proofs.lemmas.Bool.{ltb-false, le-ltb}
 use Rattle.arrayvec.specs.ArrayVec.{ArrayVec}
 use Rattle.model.specs.declared.ids.TaskId.{TaskId}
 use Rattle.model.specs.declared.event.Event.{Event}
 use Rattle.model.specs.Trace.{number_of, Runs}
-use Rattle.model.specs.State.{State, Task, task_at}
-use Rattle.model.specs.Order.{Key, Entry, line, first, in_order, keyed, tasks_of}
-use Rattle.model.specs.Step.{readies, ready_key, choice, task_of, dispatch, anew, leave, leave_from, is_ready, is_above, is_beside, is_outranked, is_sharing, is_same, enter, settle, is_off, write}
+use Rattle.model.specs.State.{State, task_at}
+use Rattle.model.specs.Order.{Entry, first, keyed}
+use Rattle.model.specs.Step.{readies, ready_key, choice, task_of, dispatch, anew, leave, leave_from, is_ready, is_above, is_outranked, is_sharing, is_same, enter, settle, is_off, write}
 use Rattle.model.proofs.Sorting.{by_test, Falls, Falls-in_order, IsAfter}
 use Rattle.kernel.specs.Lines.{pair_of, head, is_above_pair, is_beside_pair}
 use Rattle.kernel.specs.Slots.{Bare}
@@ -99,11 +99,12 @@ module _ (k : Kernel) (w : ArrayVec Event) (s : State) (h : At k w s) where
   unfolding leave
   left_idle r = let Q : Option ℕ → Type 0 = λ o. At k w (leave_from o s) in subst Q (sym r) h
 
--- The processor goes to a task or to idle.
+  -- The processor goes to a task or to idle.
   pub with_running : (c : Option TaskId) → IfSome (number_of c) (λ task. task < length s.tasks) → At (record k { running = c }) w (record s { running = number_of c })
   with_running c l = record {
-      stands = record { slots = h.stands.slots; full = h.stands.full; ready = h.stands.ready; asleep = h.stands.asleep; running = refl; time = h.stands.time; elapsed = h.stands.elapsed; steps = h.stands.steps; stopped = h.stands.stopped; table = record { numbers = h.stands.table.numbers; few = h.stands.table.few; running = l } };
-      log = h.log }
+    stands = record { slots = h.stands.slots; full = h.stands.full; ready = h.stands.ready; asleep = h.stands.asleep; running = refl; time = h.stands.time; elapsed = h.stands.elapsed; steps = h.stands.steps; stopped = h.stands.stopped; table = record { numbers = h.stands.table.numbers; few = h.stands.table.few; running = l } };
+    log = h.log;
+  }
 
   pub stays : (c : Option TaskId) → is_same (number_of c) (number_of k.running) ≡ true → At k w (dispatch (number_of c) s)
   unfolding dispatch

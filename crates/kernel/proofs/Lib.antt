@@ -4,3 +4,6 @@ pub mod Choosing
 pub mod Waking
 pub mod Acting
 pub mod Ending
+pub mod Bounds
+pub mod Booting
+pub mod Running

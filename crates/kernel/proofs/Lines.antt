@@ -1,5 +1,5 @@
 -- Lists of tasks with their ranks.
-use Rattle.std.proofs.Common.{rules, ◌≡◌, ◌<◌, ◌≤◌, ◌+◌, ℕ, suc, Bool, true, false, not, eqb, ltb, List, [], ◌∷◌, ◌++◌, map, length, get_or, take, drop, insert, refl, ap, sym, ◌∙◌, arith, append_assoc, append-nil, take_all}
+use Rattle.std.proofs.Common.{◌≡◌, ◌<◌, ◌≤◌, ◌+◌, ℕ, true, false, not, eqb, ltb, List, [], ◌∷◌, ◌++◌, map, length, get_or, take, drop, insert, refl, ap, sym, ◌∙◌, arith, append_assoc}
 use Rattle.std.specs.List.{filter, AllByRecursion, IsDistinct, list_any}
 use Rattle.std.proofs.lemmas.Bool.{lt-ltb, le-ltb}
 use Rattle.std.proofs.lemmas.Map.Steps.{length-le_from_distinct_below}
@@ -7,7 +7,7 @@ use Rattle.std.proofs.lemmas.List.{length-map, drop_more, take_more, drop-map, g
 use Rattle.model.proofs.Sorting.{by_test}
 use Rattle.model.proofs.Lines.{eqb-refl, eqb-apart, eqb-same}
 use Rattle.kernel.specs.declared.line.Ranked.{Ranked}
-use Rattle.kernel.specs.Lines.{pair_of, inserted, is_other, without, IsLine}
+use Rattle.kernel.specs.Lines.{pair_of, inserted, without, IsLine}
 
 pub map-filter : (i : ℕ) (xs : List Ranked) → map pair_of (filter (λ (e : Ranked). not (eqb e.task.number i)) xs) ≡ without i (map pair_of xs)
 map-filter i [] = refl
@@ -86,7 +86,7 @@ module _ (es : List Ranked) (r k : ℕ) (e : Ranked) (so : SoFar r k (map pair_o
   passed le i =
       let t : ltb e.rank r ≡ false = le-ltb e.rank r le in
       let more : take (k + 1) (map pair_of es) ≡ take k (map pair_of es) ++ pair_of e ∷ [] =
-          take_more (map pair_of es) k (pair_of e) (rw (length-map es pair_of) l) ∙ ap (λ x. take k (map pair_of es) ++ x ∷ []) (get_or-map pair_of es k e (pair_of e) l ∙ ap pair_of (sym at)) in
+      take_more (map pair_of es) k (pair_of e) (rw (length-map es pair_of) l) ∙ ap (λ x. take k (map pair_of es) ++ x ∷ []) (get_or-map pair_of es k e (pair_of e) l ∙ ap pair_of (sym at)) in
       so i ∙ rw (rest, t, more) (sym (append_assoc (take k (map pair_of es)) (pair_of e ∷ []) (inserted (i, r) (drop (k + 1) (map pair_of es)))))
 
 pub at_end : (es : List Ranked) (r k : ℕ) → length es ≤ k → k ≤ length es → SoFar r k (map pair_of es) → (i : ℕ) → insert (map pair_of es) (length es) (i, r) ≡ inserted (i, r) (map pair_of es)

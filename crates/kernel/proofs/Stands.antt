@@ -1,24 +1,21 @@
 -- What the parts of the kernel make of the states that it stands for.
-use Rattle.std.proofs.Common.{◌≡◌, ◌≢◌, ◌<◌, ◌≤◌, ◌+◌, ℕ, suc, Bool, true, false, not, cond, eqb, ltb, List, [], ◌∷◌, ◌++◌, map, length, get_or, set, Option, Some, None, refl, ap, sym, ◌∙◌, subst, arith, get_or-set_same, get_or-set_other}
+use Rattle.std.proofs.Common.{◌≡◌, ◌≢◌, ◌<◌, ◌+◌, ℕ, true, eqb, ltb, List, [], ◌∷◌, ◌++◌, length, get_or, set, Option, Some, None, refl, ap, sym, ◌∙◌, arith, get_or-set_same, get_or-set_other}
 use Rattle.std.specs.List.{filter, AllByRecursion}
-use Rattle.std.specs.Option.{option_map, IfSome}
 use Rattle.std.proofs.Math.ListN.{length-set}
 use Rattle.std.proofs.lemmas.Bool.{ltb-true, ltb-false}
 use Rattle.std.proofs.lemmas.List.{map-append}
 use Rattle.arrayvec.specs.ArrayVec.{ArrayVec}
 use Rattle.model.specs.declared.event.Event.{Event}
-use Rattle.model.specs.Trace.{number_of, ending_of, lines_of, line_of, told_by, printed}
-use Rattle.model.specs.State.{State, Task, Status, Ready, Asleep, Ended, task_at, with_task, no_task}
+use Rattle.model.specs.Trace.{line_of, told_by, printed}
+use Rattle.model.specs.State.{State, Task, Ready, Asleep, Ended, task_at, with_task, no_task}
 use Rattle.model.specs.Order.{Key, Entry, put, entry, line}
 use Rattle.model.specs.Step.{readies, sleepers, ready_key, sleep_key, enter, moved_to, write, go_to, is_ready, is_ready_status, key}
-use Rattle.model.specs.Application.{Application, op_count}
 use Rattle.model.specs.Invariant.{IsTable, HasNumberBelow}
 use Rattle.model.proofs.Sorting.{by_test, before_true, before_false}
 use Rattle.model.proofs.Lines.{other, eqb-refl, eqb-apart, line-entered, line-gone, line-kept, line_below}
 use Rattle.model.proofs.Tables.{below_ready, below_sleep, number_at, table-set, table-numbered, table-enter}
 use Rattle.kernel.specs.Lines.{inserted, without}
-use Rattle.kernel.specs.Slots.{Bare, bare, seen, moved_slot, phase_of}
-use Rattle.kernel.specs.declared.slot.Phase.{Phase}
+use Rattle.kernel.specs.Slots.{Bare, bare, seen, moved_slot}
 use Rattle.kernel.specs.declared.slot.Phase.TheVariants as phase
 use Rattle.kernel.specs.declared.slot.Slot.{Slot}
 use Rattle.kernel.specs.declared.kernel.Kernel.{Kernel}
@@ -97,8 +94,13 @@ module _ (k : Kernel) (s : State) (h : Stands k s) (i : ℕ) (l : i < length s.t
         full = h.full;
         ready = rw (priority_is, h.ready) (sym (seen-entered ready_key below_ready s i (task_at s i).priority t h.table l refl));
         asleep = h.asleep ∙ sym (seen-kept sleep_key i t s.tasks (sym (no_sleeper ready)));
-        running = h.running; time = h.time; elapsed = h.elapsed; steps = h.steps; stopped = h.stopped;
-        table = table-enter s i h.table }
+        running = h.running;
+        time = h.time;
+        elapsed = h.elapsed;
+        steps = h.steps;
+        stopped = h.stopped;
+        table = table-enter s i h.table;
+      }
 
   -- a sleeper becomes Ready
   pub stands-awakened : Stands (awakened i k) (enter s i)
@@ -109,8 +111,13 @@ module _ (k : Kernel) (s : State) (h : Stands k s) (i : ℕ) (l : i < length s.t
         full = rw length-set h.full;
         ready = rw (priority_is, h.ready) (sym (seen-entered ready_key below_ready s i (task_at s i).priority t h.table l refl));
         asleep = rw h.asleep (sym (seen-gone sleep_key i t s.tasks l refl));
-        running = h.running; time = h.time; elapsed = h.elapsed; steps = h.steps; stopped = h.stopped;
-        table = table-enter s i h.table }
+        running = h.running;
+        time = h.time;
+        elapsed = h.elapsed;
+        steps = h.steps;
+        stopped = h.stopped;
+        table = table-enter s i h.table;
+      }
 
   -- a task begins to sleep
   pub stands-slept : (moment : ℕ) → Stands (slept i moment k) (record (with_task s i (record (task_at s i) { status = Asleep moment s.next })) { next = s.next + 1 })
@@ -121,8 +128,13 @@ module _ (k : Kernel) (s : State) (h : Stands k s) (i : ℕ) (l : i < length s.t
         full = rw length-set h.full;
         ready = rw h.ready (sym (seen-gone ready_key i t s.tasks l refl));
         asleep = rw h.asleep (sym (seen-entered sleep_key below_sleep s i 0 t h.table l refl));
-        running = h.running; time = h.time; elapsed = h.elapsed; steps = h.steps; stopped = h.stopped;
-        table = table-numbered s i t h.table (omega arith) }
+        running = h.running;
+        time = h.time;
+        elapsed = h.elapsed;
+        steps = h.steps;
+        stopped = h.stopped;
+        table = table-numbered s i t h.table (omega arith);
+      }
 
   -- a task changes, and keeps its priority and its status
   module _ (v : Slot) (t : Task) (r : Replaces v s i t) where
@@ -134,12 +146,17 @@ module _ (k : Kernel) (s : State) (h : Stands k s) (i : ℕ) (l : i < length s.t
 
     pub stands-with : Stands (with_slot i v k) (with_task s i t)
     stands-with = record {
-        slots = slots_with v t r.seen;
-        full = rw length-set h.full;
-        ready = h.ready ∙ sym (seen-kept ready_key i t s.tasks kept_ready);
-        asleep = h.asleep ∙ sym (seen-kept sleep_key i t s.tasks (ap Rattle.model.specs.Step.sleep_status_key r.status));
-        running = h.running; time = h.time; elapsed = h.elapsed; steps = h.steps; stopped = h.stopped;
-        table = table-set s i t h.table kept_number }
+      slots = slots_with v t r.seen;
+      full = rw length-set h.full;
+      ready = h.ready ∙ sym (seen-kept ready_key i t s.tasks kept_ready);
+      asleep = h.asleep ∙ sym (seen-kept sleep_key i t s.tasks (ap Rattle.model.specs.Step.sleep_status_key r.status));
+      running = h.running;
+      time = h.time;
+      elapsed = h.elapsed;
+      steps = h.steps;
+      stopped = h.stopped;
+      table = table-set s i t h.table kept_number;
+    }
 
     -- it goes on at an op of so many
     moved_seen : (count place : ℕ) → seen (moved_slot count place v) ≡ bare (moved_to count place t)
@@ -149,21 +166,27 @@ module _ (k : Kernel) (s : State) (h : Stands k s) (i : ℕ) (l : i < length s.t
 
     pub stands-gone : (count place : ℕ) → Stands (gone_to count i place v k) (with_task s i (moved_to count place t))
     stands-gone count place = record {
-        slots = slots_with (moved_slot count place v) (moved_to count place t) (moved_seen count place);
-        full = rw length-set h.full;
-        ready = by_test (eqb place count)
-            (λ u. rw (u, h.ready) (sym (seen-gone ready_key i (record t { place = place; used = 0; status = Ended }) s.tasks l refl)))
-            (λ u. rw u (h.ready ∙ sym (seen-kept ready_key i (record t { place = place; used = 0 }) s.tasks kept_ready)));
-        asleep = by_test (eqb place count)
-            (λ u. rw (u, h.asleep) (sym (seen-gone sleep_key i (record t { place = place; used = 0; status = Ended }) s.tasks l refl)))
-            (λ u. rw u (h.asleep ∙ sym (seen-kept sleep_key i (record t { place = place; used = 0 }) s.tasks (ap Rattle.model.specs.Step.sleep_status_key r.status))));
-        running = h.running; time = h.time; elapsed = h.elapsed; steps = h.steps; stopped = h.stopped;
-        table = by_test (eqb place count)
-            (λ u. rw u (table-set s i (record t { place = place; used = 0; status = Ended }) h.table tt))
-            (λ u. rw u (table-set s i (record t { place = place; used = 0 }) h.table kept_number)) }
+      slots = slots_with (moved_slot count place v) (moved_to count place t) (moved_seen count place);
+      full = rw length-set h.full;
+      ready = by_test (eqb place count)
+          (λ u. rw (u, h.ready) (sym (seen-gone ready_key i (record t { place = place; used = 0; status = Ended }) s.tasks l refl)))
+          (λ u. rw u (h.ready ∙ sym (seen-kept ready_key i (record t { place = place; used = 0 }) s.tasks kept_ready)));
+      asleep = by_test (eqb place count)
+          (λ u. rw (u, h.asleep) (sym (seen-gone sleep_key i (record t { place = place; used = 0; status = Ended }) s.tasks l refl)))
+          (λ u. rw u (h.asleep ∙ sym (seen-kept sleep_key i (record t { place = place; used = 0 }) s.tasks (ap Rattle.model.specs.Step.sleep_status_key r.status))));
+      running = h.running;
+      time = h.time;
+      elapsed = h.elapsed;
+      steps = h.steps;
+      stopped = h.stopped;
+      table = by_test (eqb place count)
+          (λ u. rw u (table-set s i (record t { place = place; used = 0; status = Ended }) h.table tt))
+          (λ u. rw u (table-set s i (record t { place = place; used = 0 }) h.table kept_number));
+    }
 
 -- A line of the trace.
 pub at-written : (k : Kernel) (old new : ArrayVec Event) (s : State) (e : Event) → At k old s → new.items ≡ old.items ++ e ∷ [] → e.step ≡ k.steps → e.tick ≡ printed k.time → At k new (write (told_by e.what) s)
 at-written k old new s e h items step tick = record {
-    stands = record { slots = h.stands.slots; full = h.stands.full; ready = h.stands.ready; asleep = h.stands.asleep; running = h.stands.running; time = h.stands.time; elapsed = h.stands.elapsed; steps = h.stands.steps; stopped = h.stands.stopped; table = record { numbers = h.stands.table.numbers; few = h.stands.table.few; running = h.stands.table.running } };
-    log = rw items (map-append line_of old.items (e ∷ []) ∙ rw (h.log, step, tick, h.stands.steps, h.stands.time) refl) }
+  stands = record { slots = h.stands.slots; full = h.stands.full; ready = h.stands.ready; asleep = h.stands.asleep; running = h.stands.running; time = h.stands.time; elapsed = h.stands.elapsed; steps = h.stands.steps; stopped = h.stands.stopped; table = record { numbers = h.stands.table.numbers; few = h.stands.table.few; running = h.stands.table.running } };
+  log = rw items (map-append line_of old.items (e ∷ []) ∙ rw (h.log, step, tick, h.stands.steps, h.stands.time) refl);
+}

@@ -1,21 +1,19 @@
 -- The sleepers that are due.
-use Rattle.std.proofs.Common.{◌≡◌, ◌<◌, ◌≤◌, ◌+◌, ℕ, zero, suc, Bool, true, false, eqb, List, [], ◌∷◌, ◌++◌, map, length, get_or, set, take, Option, Some, None, refl, ap, sym, ◌∙◌, arith}
+use Rattle.std.proofs.Common.{◌≡◌, ◌<◌, ◌+◌, ℕ, zero, suc, Bool, List, [], ◌∷◌, ◌++◌, map, length, get_or, take, refl, ap, sym, ◌∙◌, arith}
 use Rattle.std.specs.List.{filter, AllByRecursion, fold}
-use Rattle.std.proofs.Math.ListN.{length-set}
 use Rattle.std.proofs.lemmas.List.{take_more, map-append}
 use Rattle.arrayvec.specs.ArrayVec.{ArrayVec}
 use Rattle.model.specs.declared.ids.TaskId.{TaskId}
 use Rattle.model.specs.declared.event.Event.{Event}
-use Rattle.model.specs.State.{State, Task, Status, Ready, Asleep, Ended, task_at}
-use Rattle.model.specs.Order.{Entry, line, tasks_of}
-use Rattle.model.specs.Step.{sleepers, sleep_key, due, is_due, is_due_status, enter}
+use Rattle.model.specs.State.{State, Status, Ready, Asleep, Ended, task_at}
+use Rattle.model.specs.Order.{Entry, tasks_of}
+use Rattle.model.specs.Step.{sleepers, due, is_due, is_due_status, enter}
 use Rattle.model.proofs.Sorting.{by_test}
 use Rattle.kernel.specs.Lines.{pair_of}
 use Rattle.kernel.specs.Slots.{Bare, phase_of}
 use Rattle.kernel.specs.declared.line.Ranked.{Ranked}
-use Rattle.kernel.specs.declared.slot.Phase.{Phase}
 use Rattle.kernel.specs.declared.kernel.Kernel.{Kernel}
-use Rattle.kernel.specs.Stands.{slot_in, seen_line, Stands, At, awakened, is_due_phase, is_due_slot, number_in}
+use Rattle.kernel.specs.Stands.{seen_line, Stands, At, awakened, is_due_phase, is_due_slot, number_in}
 use Rattle.kernel.proofs.Stands.{stands-awakened}
 use Rattle.model.proofs.Chosen.{fold-end, length-fold}
 
@@ -60,11 +58,12 @@ module _ (k : Kernel) (w : ArrayVec Event) (s : State) (ts : List TaskId) (j : �
       let here : t.number < length so.tasks = rw (length-fold s (map number_in (take j ts))) low in
       let one : At (awakened t.number k) w (enter so t.number) = record { stands = stands-awakened k so h.stands t.number here; log = h.log } in
       let more : map number_in (take (j + 1) ts) ≡ map number_in (take j ts) ++ t.number ∷ [] =
-          ap (map number_in) (take_more ts j t l ∙ ap (λ x. take j ts ++ x ∷ []) (sym e)) ∙ map-append number_in (take j ts) (t ∷ []) in
+      ap (map number_in) (take_more ts j t l ∙ ap (λ x. take j ts ++ x ∷ []) (sym e)) ∙ map-append number_in (take j ts) (t ∷ []) in
       rw (more, fold-end s (map number_in (take j ts)) t.number) one
 
 -- Time goes on.
 pub ticked : (k : Kernel) (w : ArrayVec Event) (s : State) → At k w s → At (record k { time = k.time + 1; elapsed = k.elapsed + 1 }) w (record s { time = s.time + 1; elapsed = s.elapsed + 1 })
 ticked k w s h = record {
-    stands = record { slots = h.stands.slots; full = h.stands.full; ready = h.stands.ready; asleep = h.stands.asleep; running = h.stands.running; time = ap (λ n. n + 1) h.stands.time; elapsed = ap (λ n. n + 1) h.stands.elapsed; steps = h.stands.steps; stopped = h.stands.stopped; table = record { numbers = h.stands.table.numbers; few = h.stands.table.few; running = h.stands.table.running } };
-    log = h.log }
+  stands = record { slots = h.stands.slots; full = h.stands.full; ready = h.stands.ready; asleep = h.stands.asleep; running = h.stands.running; time = ap (λ n. n + 1) h.stands.time; elapsed = ap (λ n. n + 1) h.stands.elapsed; steps = h.stands.steps; stopped = h.stands.stopped; table = record { numbers = h.stands.table.numbers; few = h.stands.table.few; running = h.stands.table.running } };
+  log = h.log;
+}

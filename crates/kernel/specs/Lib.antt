@@ -2,3 +2,4 @@ pub mod Lines
 pub mod Loops
 pub mod Slots
 pub mod Stands
+pub mod Runs

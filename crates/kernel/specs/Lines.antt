@@ -1,5 +1,5 @@
 -- A line of tasks as the code has it: each task once, with its rank, the highest rank first.
-use Rattle.std.specs.Prelude.{◌≡◌, ◌<◌, ◌&&◌, ℕ, Bool, true, false, not, List, [], ◌∷◌, Option, Some, None, map, nat_lt, nat_eq, if◌then◌else◌, filter}
+use Rattle.std.specs.Prelude.{◌≡◌, ◌<◌, ◌&&◌, ℕ, Bool, true, false, not, List, [], ◌∷◌, Option, Some, None, nat_lt, nat_eq, if◌then◌else◌, filter}
 use Rattle.std.specs.List.{AllByRecursion}
 use Rattle.kernel.specs.declared.line.Ranked.{Ranked}
 

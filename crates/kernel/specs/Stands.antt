@@ -1,11 +1,11 @@
 -- What a kernel stands for: a state of the definitions, whose numbers it doesn't have.
-use Rattle.std.specs.Prelude.{◌≡◌, ℕ, ◌==◌, ◌+◌, ◌^◌, ◌<◌, ◌≤◌, List, [], ◌∷◌, map, Option, Some, None, length, true, false, option_map, slice_index_or, slice_set, if◌then◌else◌, Bool}
+use Rattle.std.specs.Prelude.{◌≡◌, ℕ, ◌==◌, ◌+◌, ◌^◌, ◌<◌, ◌≤◌, List, map, Option, Some, None, length, false, option_map, slice_index_or, slice_set, if◌then◌else◌, Bool}
 use Rattle.arrayvec.specs.ArrayVec.{ArrayVec}
 use Rattle.model.specs.declared.event.Event.{Event}
 use Rattle.model.specs.declared.op.Op.{Op}
 use Rattle.model.specs.declared.op.Op.TheVariants as op
 use Rattle.model.specs.Trace.{number_of, ending_of, lines_of}
-use Rattle.model.specs.State.{State, Task, task_at, no_task}
+use Rattle.model.specs.State.{State, Task, task_at}
 use Rattle.model.specs.Order.{Entry}
 use Rattle.model.specs.Step.{readies, sleepers}
 use Rattle.model.specs.Application.{Application, Bounds, op_at}
@@ -67,14 +67,16 @@ abbrev pub awakened : ℕ → Kernel → Kernel
 awakened i k = record k {
   slots = slice_set k.slots i (record (slot_in k.slots i) { phase = phase.Ready });
   ready = inserted (i, (slot_in k.slots i).priority) (without i k.ready);
-  asleep = without i k.asleep }
+  asleep = without i k.asleep;
+}
 
 -- A task sleeps from now on.
 abbrev pub slept : ℕ → ℕ → Kernel → Kernel
 slept i moment k = record k {
   slots = slice_set k.slots i (record (slot_in k.slots i) { phase = phase.Asleep moment });
   ready = without i k.ready;
-  asleep = inserted (i, 0) (without i k.asleep) }
+  asleep = inserted (i, 0) (without i k.asleep);
+}
 
 abbrev pub with_slot : ℕ → Slot → Kernel → Kernel
 with_slot i slot k = record k { slots = slice_set k.slots i slot }
@@ -84,7 +86,8 @@ abbrev pub gone_to : ℕ → ℕ → ℕ → Slot → Kernel → Kernel
 gone_to count i place slot k = record k {
   slots = slice_set k.slots i (moved_slot count place slot);
   ready = if place == count then without i k.ready else k.ready;
-  asleep = if place == count then without i k.asleep else k.asleep }
+  asleep = if place == count then without i k.asleep else k.asleep;
+}
 
 -- The slot is a task's as its op leaves it, by which it keeps its priority and its status.
 pub record Replaces (slot : Slot) (s : State) (i : ℕ) (t : Task) : Type 0 where

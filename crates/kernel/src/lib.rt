@@ -1,12 +1,17 @@
 //! The kernel: its state, its steps, and whole runs.
 #![tactic(auto)]
 
+mod boot;
 mod kernel;
 mod line;
 mod loops;
 mod ops;
 mod outcome;
-mod run;
 mod slot;
+mod steps;
 mod switching;
 mod time;
+
+pub use kernel::{Kernel, StepLog};
+pub use outcome::{Memory, Run};
+pub use steps::run;

@@ -27,7 +27,8 @@ pub(crate) struct Slot {
 
 impl Slot {
     ghost use Rattle.std.specs.Prelude.{◌≡◌};
-    ghost use Rattle.kernel.specs.Slots.{moved_slot};
+    ghost use Rattle.kernel.specs.Slots.{moved_slot, seen, bare};
+    ghost use Rattle.model.specs.State.{no_task};
 
     /// A task that has ended.
     pub(crate) const BLANK: Slot = Slot {
@@ -38,6 +39,16 @@ impl Slot {
         answer: None,
         phase: Phase::Ended,
     };
+
+    /// A task of this priority that has not entered its line.
+    pub(crate) fn with_priority(priority: u8) -> Slot
+        ensures { seen result ≡ bare (record no_task { priority = priority }) }
+    {
+        Slot {
+            priority,
+            ..Slot::BLANK
+        }
+    }
 
     /// The task at this op, of which nothing is used up; Ended past the last of so many ops.
     pub(crate) fn moved_to(self, count: usize, place: u16) -> Slot

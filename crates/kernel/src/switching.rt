@@ -27,9 +27,7 @@ fn is_same(a: Option<TaskId>, b: Option<TaskId>) -> bool
 fn is_any_beside(entries: &[Ranked], task: TaskId, rank: u8) -> bool
     ensures { result ≡ list_any (λ e. is_beside_pair task.number rank (pair_of e)) entries.now }
 {
-    entries
-        .iter()
-        .any(|entry| entry.task.number != task.number && entry.rank == rank)
+    entries.iter().any(|entry| entry.task.number != task.number && entry.rank == rank)
 }
 
 // Whether the first task of a line is above one of this priority, or above idle.
@@ -45,7 +43,7 @@ fn is_above(first: Option<Ranked>, priority: Option<u8>) -> bool
 
 impl Kernel {
     /// The Ready task of highest priority, among equals the one that came first; else idle.
-    fn choose(&self) -> Option<TaskId>
+    pub(crate) fn choose(&self) -> Option<TaskId>
         ensures { (s : State) → Stands self.now s → number_of result ≡ choice s }
     {
         match self.ready.first() {

@@ -4,3 +4,5 @@ pub mod Lines
 pub mod Tables
 pub mod Chosen
 pub mod Reached
+pub mod Examples
+pub mod Words

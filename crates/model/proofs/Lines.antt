@@ -4,7 +4,7 @@ use Rattle.std.specs.List.{filter, cons_option, AllByRecursion}
 use Rattle.std.specs.Option.{option_map}
 use Rattle.std.proofs.lemmas.Bool.Decides.{nat_tests}
 use Rattle.model.specs.State.{Task, no_task}
-use Rattle.model.specs.Order.{Key, Entry, before, put, in_order, entry, keyed, line, tasks_of}
+use Rattle.model.specs.Order.{Key, Entry, before, put, in_order, entry, keyed, line}
 use Rattle.model.proofs.Sorting.{by_test, by_before, put-put, All-put, All-in_order, All-weaker, Falls, Falls-in_order, filter-put, filter-in_order, length-in_order}
 
 abbrev pub other : ℕ → Entry → Bool

@@ -1,5 +1,5 @@
 -- Scripts that are built op by op nest as a whole.
-use Rattle.std.proofs.Common.{◌≡◌, ◌<◌, ◌≤◌, ℕ, ◌+◌, List, [], ◌∷◌, ◌++◌, length, true, refl, arith, length-append, sym}
+use Rattle.std.proofs.Common.{◌≡◌, ◌<◌, ℕ, List, [], ◌∷◌, ◌++◌, length, true, refl, arith, length-append}
 use Rattle.std.specs.List.{AllByRecursion}
 use Rattle.model.specs.declared.op.Op.{Op}
 use Rattle.model.specs.Scripts.{InRange, depth_past, may_stand, Nests, NestsSoFar, depth_after, IsScript, IsPrefix}
@@ -25,7 +25,8 @@ pub prefix-append : (ops : List Op) (op : Op) → IsPrefix ops → InRange op �
 prefix-append ops op p r room m = record {
   ranges = ranges-append ops op p.ranges r;
   nests = nests-append 0 ops op p.nests m;
-  few = omega (arith, length-append ops (op ∷ [])) }
+  few = omega (arith, length-append ops (op ∷ []));
+}
 
 -- every loop is closed
 pub script-closed : (ops : List Op) → IsPrefix ops → depth_after 0 ops ≡ 0 → IsScript ops

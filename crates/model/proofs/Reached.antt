@@ -1,26 +1,22 @@
 -- What is true of every state that a run comes to.
-use Rattle.std.proofs.Common.{◌≡◌, ◌≢◌, ◌<◌, ◌≤◌, ◌+◌, ◌-◌, ℕ, zero, suc, Bool, true, false, cond, eqb, leb, ◌||◌, not, List, [], ◌∷◌, length, map, get_or, set, drop, Option, Some, None, refl, ap, sym, subst, ◌∙◌, arith, get_or-set_same, get_or-set_other, add-one}
+use Rattle.std.proofs.Common.{◌≡◌, ◌≢◌, ◌<◌, ◌≤◌, ◌+◌, ◌-◌, ℕ, zero, suc, true, eqb, leb, ◌||◌, List, [], ◌∷◌, length, map, get_or, set, drop, Option, Some, None, refl, ap, sym, subst, ◌∙◌, arith, get_or-set_same, get_or-set_other, add-one}
 use Rattle.std.specs.List.{AllByRecursion, fold, slice_get}
 use Rattle.std.specs.Option.{IfSome, option_map, unwrap_or, option_eq}
 use Rattle.std.proofs.Math.ListN.{length-set}
 use Rattle.std.proofs.lemmas.List.{length-map}
-use Rattle.std.proofs.lemmas.Bool.{ltb-true, leb-true}
-use Rattle.std.proofs.lemmas.Bool.Decides.{nat_tests}
-use Rattle.std.proofs.lemmas.Option.{slice_get_within}
 use Rattle.model.specs.declared.op.Op.{Op}
 use Rattle.model.specs.declared.op.Op.TheVariants.{Work, Delay, Yield, Time, Mark, Expect, Repeat, End}
 use Rattle.model.specs.declared.event.Loop.{Loop}
-use Rattle.model.specs.Application.{Application, Bounds, Definition, script_of, op_at, op_count}
+use Rattle.model.specs.Application.{Application, Definition, script_of, op_at, op_count}
 use Rattle.model.specs.Scripts.{InRange, may_stand, depth_past, Nests, IsScript, IsDefinition, IsWellFormed}
 use Rattle.model.specs.Trace.{Line, Ending, Call, Marked}
 use Rattle.model.specs.State.{State, Task, Status, Ready, Asleep, Ended, task_at, with_task, no_task}
 use Rattle.model.specs.Order.{tasks_of}
-use Rattle.model.specs.Step.{enter, dispatch, anew, choice, is_same, leave, leave_from, is_ready, switch, is_outranked, is_sharing, settle, is_off, wake, due, tick, go_to, moved_to, complete, answer, use_up, behind, sleep, rest, expect, open_loop, turn, close_turn, act, act_if, deed, step, reset, before_entry, entered_at_reset, task_at_reset, with_ops, is_empty, write}
-use Rattle.model.specs.Run.{end_of, or_else}
-use Rattle.model.specs.Invariant.{HasNumberBelow, AllNumbered, IsTable, IsUsedBy, LoopsNest, IsAt, IsState}
+use Rattle.model.specs.Step.{enter, dispatch, anew, choice, is_same, leave, leave_from, is_ready, switch, is_outranked, is_sharing, settle, is_off, wake, due, tick, go_to, complete, answer, use_up, behind, sleep, rest, expect, open_loop, turn, close_turn, act, act_if, deed, step, reset, before_entry, entered_at_reset, task_at_reset, with_ops, is_empty, write}
+use Rattle.model.specs.Invariant.{HasNumberBelow, AllNumbered, IsUsedBy, LoopsNest, IsAt, IsState}
 use Rattle.model.proofs.Sorting.{by_test}
-use Rattle.model.proofs.Lines.{eqb-refl, eqb-same, eqb-apart}
-use Rattle.model.proofs.Tables.{number_at, table-set, table-numbered, table-enter}
+use Rattle.model.proofs.Lines.{eqb-refl, eqb-same}
+use Rattle.model.proofs.Tables.{number_at, table-set, table-numbered}
 use Rattle.model.proofs.Chosen.{choice_within, due_within}
 
 -- Scripts
@@ -68,8 +64,11 @@ module _ (app : Application) (formed : IsWellFormed app) where
   -- neither the lines of the trace nor the steps done matter, nor an end that a step has brought about
   framed : (s : State) (log : List Line) (steps : ℕ) (stopped : Option Ending) → IsState app s → IsState app (record s { log = log; steps = steps; stopped = stopped })
   framed s log steps stopped h = record {
-      table = record { numbers = h.table.numbers; few = h.table.few; running = h.table.running };
-      tasks = h.tasks; places = h.places; time = h.time }
+    table = record { numbers = h.table.numbers; few = h.table.few; running = h.table.running };
+    tasks = h.tasks;
+    places = h.places;
+    time = h.time;
+  }
 
   places-set : (s : State) (i : ℕ) (t : Task) → IsState app s → i < length s.tasks → IsAt (script_of app i) t → (j : ℕ) → IsAt (script_of app j) (get_or (set s.tasks i t) j no_task)
   places-set s i t h l a j = by_test (eqb j i)
@@ -155,3 +154,133 @@ module _ (app : Application) (formed : IsWellFormed app) where
     answered : (a : Option ℕ) → depth_past (length (task_at s i).loops) op ≡ length (task_at s i).loops → IsState app (answer app i a s)
     unfolding answer
     answered a e = plain (write (Call i (task_at s i).place a) s) i (framed s _ s.steps s.stopped h) l op is a e
+
+    used_up : (n : ℕ) → op ≡ Work n → IsState app (use_up app i n s)
+    unfolding use_up
+    used_up n e = by_test (eqb ((task_at s i).used + 1) n)
+        (λ t. rw t (plain s i h l op is (task_at s i).answer (rw e refl)))
+        (λ t.
+        let a = h.places i in
+        let u : IsUsedBy (task_at s i).used (op_at app i (task_at s i).place) = a.used in
+        let W : Option Op → Type 0 = λ o. IsUsedBy (task_at s i).used o in
+        let less : (task_at s i).used < n = subst W (is ∙ ap Some e) u in
+        let apart : (task_at s i).used + 1 ≢ n = (λ q. let v : eqb ((task_at s i).used + 1) n ≡ true = rw q (eqb-refl n) in absurd (cc)) in
+        let more : (task_at s i).used + 1 < n = omega arith in
+        let V : Option Op → Type 0 = λ o. IsUsedBy ((task_at s i).used + 1) o in
+        rw t (changed s i (record (task_at s i) { used = (task_at s i).used + 1 }) h l (number_kept s i h l)
+        (record { nests = a.nests; loops = a.loops; used = subst V (sym (is ∙ ap Some e)) more })))
+
+    expected : (a : Option ℕ) → op ≡ Expect a → IsState app (expect app i a s)
+    unfolding expect
+    expected a e = by_test (option_eq eqb (task_at s i).answer a)
+        (λ t. rw t (plain s i h l op is (task_at s i).answer (rw e refl)))
+        (λ t. rw t (framed s s.log s.steps _ h))
+
+    opened : (n : ℕ) → op ≡ Repeat n → IsState app (open_loop app i n s)
+    unfolding open_loop
+    opened n e =
+        let t : Task = task_at s i in
+        let inner : Nests (length t.loops + 1) (drop (t.place + 1) (script_of app i)) = rw e at (past_it s i h l op is) in
+        let deep : Nests (suc (length t.loops)) (drop (t.place + 1) (script_of app i)) = let n : length t.loops + 1 ≡ suc (length t.loops) = omega arith in rw n at inner in
+        gone s i h l (t.place + 1) (record t { loops = record { start = t.place + 1; left = n } ∷ t.loops }) refl deep (deep, (h.places i).loops)
+
+    closed_by : op ≡ End → (ls : List Loop) → (task_at s i).loops ≡ ls → IsState app (turn app i (task_at s i) ls s)
+    closed_by e [] same =
+        let t : Task = task_at s i in
+        let may : may_stand (length t.loops) op ≡ true = stands_at (length t.loops) t.place (script_of app i) op (h.places i).nests is in
+        let none : may_stand 0 End ≡ true = rw (same, e) at may in
+        absurd (cc)
+    closed_by e (x ∷ xs) same =
+        let t : Task = task_at s i in
+        let all : LoopsNest (script_of app i) (x ∷ xs) = rw same at (h.places i).loops in
+        let P : List Loop → Type 0 = λ us. Nests (depth_past (length us) op) (drop (t.place + 1) (script_of app i)) in
+        let outer : Nests (length (x ∷ xs) - 1) (drop (t.place + 1) (script_of app i)) = rw e at (subst P same (past_it s i h l op is)) in
+        let rest : Nests (length xs) (drop (t.place + 1) (script_of app i)) = let n : length (x ∷ xs) - 1 ≡ length xs = omega arith in rw n at outer in
+        by_test (leb x.left 1)
+        (λ q. rw q (gone s i h l (t.place + 1) (record t { loops = xs }) refl rest all.1))
+        (λ q. rw q (gone s i h l x.start (record t { loops = record x { left = x.left - 1 } ∷ xs }) refl all.0 (all.0, all.1)))
+
+    closed : op ≡ End → IsState app (close_turn app i s)
+    unfolding close_turn
+    closed e = closed_by e (task_at s i).loops refl
+
+  rested : (s : State) (i n time : ℕ) → IsState app s → i < length s.tasks → IsState app (rest i n time s)
+  unfolding behind sleep
+  rested s i n time h l = by_test (eqb n 0)
+      (λ t. rw t (by_test (is_ready s i) (λ u. rw u (entered s i h l)) (λ u. rw u h)))
+      (λ t. rw t (by_test (is_ready s i)
+      (λ u. rw u (numbered s i (record (task_at s i) { status = Asleep (time + n) s.next }) h l (omega arith) (at_any s i (Asleep (time + n) s.next) h)))
+      (λ u. rw u h)))
+
+  gave_way : (s : State) (i : ℕ) → IsState app s → i < length s.tasks → IsState app (behind i s)
+  unfolding behind
+  gave_way s i h l = by_test (is_ready s i) (λ u. rw u (entered s i h l)) (λ u. rw u h)
+
+  -- an answer leaves the table as long as it was
+  length-answer : (s : State) (i : ℕ) (a : Option ℕ) → length (answer app i a s).tasks ≡ length s.tasks
+  unfolding answer go_to
+  length-answer s i a = length-set s.tasks i _
+
+  still_task : (s : State) (i : ℕ) (a : Option ℕ) → i < length s.tasks → i < length (answer app i a s).tasks
+  still_task s i a l = rw (length-answer s i a) l
+
+  acted : (s : State) (i : ℕ) (op : Op) → IsState app s → i < length s.tasks → op_at app i (task_at s i).place ≡ Some op → IsState app (act app i op s)
+  acted s i (Work n) h l is = ticked _ (used_up s i (Work n) h l is n refl)
+  acted s i (Delay n) h l is = chosen _ (rested _ i n s.time (answered s i (Delay n) h l is (Some 0) refl) (still_task s i (Some 0) l))
+  acted s i Yield h l is = chosen _ (gave_way _ i (answered s i Yield h l is (Some 0) refl) (still_task s i (Some 0) l))
+  acted s i Time h l is = answered s i Time h l is _ refl
+  acted s i (Mark n) h l is = plain (write (Marked i n) s) i (framed s _ s.steps s.stopped h) l (Mark n) is (task_at s i).answer refl
+  acted s i (Expect a) h l is = expected s i (Expect a) h l is a refl
+  acted s i (Repeat n) h l is = opened s i (Repeat n) h l is n refl
+  acted s i End h l is = closed s i End h l is refl
+
+  acted_if : (s : State) (i : ℕ) (o : Option Op) → IsState app s → i < length s.tasks → op_at app i (task_at s i).place ≡ o → IsState app (act_if app i o s)
+  acted_if s i None h l is = h
+  acted_if s i (Some op) h l is = acted s i op h l is
+
+  done : (s : State) (r : Option ℕ) → IsState app s → IfSome r (λ i. i < length s.tasks) → IsState app (deed app r s)
+  done s None h l = ticked s h
+  done s (Some i) h l = acted_if s i (op_at app i (task_at s i).place) h l refl
+
+  pub reached_step : (s : State) → IsState app s → IsState app (step app s)
+  unfolding step
+  reached_step s h =
+      let begun : IsState app (record s { log = [] }) = framed s [] s.steps s.stopped h in
+      framed _ _ (s.steps + 1) _ (settled _ (done (record s { log = [] }) s.running begun h.table.running))
+
+-- Reset
+
+none_numbered : (ds : List Definition) → AllNumbered 0 (map task_at_reset ds)
+none_numbered [] = tt
+none_numbered (d ∷ ds) = (tt, none_numbered ds)
+
+places-reset : (i : ℕ) (ds : List Definition) → AllByRecursion IsDefinition ds → IsAt (unwrap_or (option_map (λ (d : Definition). d.script) (slice_get ds i)) []) (get_or (map task_at_reset ds) i no_task)
+places-reset i [] h = record { nests = refl; loops = tt; used = tt }
+places-reset zero (d ∷ ds) h = record { nests = h.0.script.nests; loops = tt; used = used_none 0 d.script h.0.script.ranges }
+places-reset (suc i) (d ∷ ds) h = places-reset i ds h.1
+
+pub with_ops_within : (i n : ℕ) (ds : List Definition) → i + length ds ≤ n → AllByRecursion (λ j. j < n) (with_ops i ds)
+with_ops_within i n [] l = tt
+with_ops_within i n (d ∷ ds) l =
+    let more = with_ops_within (i + 1) n ds (omega arith) in
+    by_test (is_empty d.script) (λ t. rw t more) (λ t. rw t (omega arith, more))
+
+module _ (app : Application) (formed : IsWellFormed app) where
+  pub reached_before : IsState app (before_entry app)
+  unfolding before_entry
+  reached_before = record {
+    table = record { numbers = none_numbered app.tasks; few = rw length-map formed.few; running = tt };
+    tasks = length-map app.tasks task_at_reset;
+    places = λ i. places-reset i app.tasks formed.tasks;
+    time = omega arith;
+  }
+
+  pub reached_entered : IsState app (entered_at_reset app)
+  unfolding entered_at_reset before_entry
+  reached_entered =
+      let few : 0 + length app.tasks ≤ length (map task_at_reset app.tasks) = rw length-map (omega arith) in
+      all_entered app formed (before_entry app) (with_ops 0 app.tasks) reached_before (with_ops_within 0 (length (map task_at_reset app.tasks)) app.tasks few)
+
+  pub reached_reset : IsState app (reset app)
+  unfolding reset
+  reached_reset = runs app formed (entered_at_reset app) (choice (entered_at_reset app)) reached_entered (choice_within (entered_at_reset app))

@@ -1,6 +1,6 @@
 -- The table stays in order: numbers are below the next one, and so on.
-use Rattle.std.proofs.Common.{◌≡◌, ◌<◌, ◌≤◌, ◌+◌, ℕ, zero, suc, List, [], ◌∷◌, Option, Some, None, refl, arith, length, get_or, set}
-use Rattle.std.specs.List.{AllByRecursion, cons_option, fold}
+use Rattle.std.proofs.Common.{◌<◌, ◌+◌, ℕ, zero, suc, List, [], ◌∷◌, arith, get_or, set}
+use Rattle.std.specs.List.{AllByRecursion, cons_option}
 use Rattle.std.proofs.Math.ListN.{length-set}
 use Rattle.model.specs.State.{State, Task, Status, Ready, Asleep, Ended, task_at, with_task, no_task}
 use Rattle.model.specs.Order.{Key}

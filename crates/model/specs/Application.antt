@@ -1,5 +1,5 @@
 -- An application, as its file has it.
-use Rattle.std.specs.Prelude.{ℕ, List, [], length, Option, Some, None, slice_get, option_and_then, option_map, unwrap_or, codes}
+use Rattle.std.specs.Prelude.{ℕ, List, [], length, Option, slice_get, option_map, unwrap_or, codes}
 use Rattle.model.specs.declared.op.Op.{Op}
 use Rattle.model.specs.declared.op.Op.TheVariants.{Work, Delay, Yield, Time, Mark, Expect, Repeat, End}
 

@@ -1,9 +1,9 @@
 -- Worked examples: applications, and the lines that their runs write.
-use Rattle.std.specs.Prelude.{ℕ, zero, suc, Bool, true, ◌&&◌, List, [], ◌∷◌, Option, Some, None, is_none, codes}
+use Rattle.std.specs.Prelude.{ℕ, zero, suc, Bool, true, ◌&&◌, List, [], ◌∷◌, Some, None, is_none, codes}
 use Rattle.model.specs.declared.op.Op.{Op}
-use Rattle.model.specs.declared.op.Op.TheVariants.{Work, Delay, Yield, Time, Mark, Expect, Repeat, End}
+use Rattle.model.specs.declared.op.Op.TheVariants.{Work, Delay, Yield, Mark}
 use Rattle.model.specs.Trace.{What, Call, Marked, Runs, Line}
-use Rattle.model.specs.Application.{Application, Definition, Bounds}
+use Rattle.model.specs.Application.{Application, Bounds}
 use Rattle.model.specs.Run.{end_of, state_after}
 
 abbrev pub wide : Bounds
@@ -11,8 +11,12 @@ wide = record { ticks = 1000000; steps = 1000000 }
 
 -- two tasks of priority 1
 abbrev pub pair_of : ℕ → List Op → List Op → Application
-pair_of start of_a of_b = record { start = start; limits = wide; tasks =
-    record { name = codes "a"; priority = 1; script = of_a } ∷ record { name = codes "b"; priority = 1; script = of_b } ∷ [] }
+pair_of start of_a of_b = record {
+  start = start;
+  limits = wide;
+  tasks =
+      record { name = codes "a"; priority = 1; script = of_a } ∷ record { name = codes "b"; priority = 1; script = of_b } ∷ [];
+}
 
 abbrev pub a : ℕ
 a = 0

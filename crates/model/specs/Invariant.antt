@@ -1,8 +1,8 @@
 -- What is true of every state that a run comes to, by the definitions alone.
-use Rattle.std.specs.Prelude.{◌≡◌, ◌<◌, ◌≤◌, ℕ, ◌+◌, List, [], ◌∷◌, Option, Some, None, length, drop, slice_get, IfSome}
+use Rattle.std.specs.Prelude.{◌≡◌, ◌<◌, ◌≤◌, ℕ, ◌+◌, List, [], ◌∷◌, Option, Some, length, drop, slice_get, IfSome}
 use Rattle.std.specs.List.{AllByRecursion}
 use Rattle.model.specs.declared.op.Op.{Op}
-use Rattle.model.specs.declared.op.Op.TheVariants.{Work, Delay, Yield, Time, Mark, Expect, Repeat, End}
+use Rattle.model.specs.declared.op.Op.TheVariants.{Work}
 use Rattle.model.specs.declared.event.Loop.{Loop}
 use Rattle.model.specs.Application.{Application, script_of}
 use Rattle.model.specs.Scripts.{Nests}

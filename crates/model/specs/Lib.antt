@@ -7,3 +7,4 @@ pub mod Step
 pub mod Run
 pub mod Invariant
 pub mod Examples
+pub mod Laws

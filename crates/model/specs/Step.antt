@@ -1,5 +1,5 @@
 -- One step of the kernel. Each word here is one deed; a deed takes a state to the next.
-use Rattle.std.specs.Prelude.{ℕ, ◌+◌, ◌-◌, ◌%◌, ◌^◌, ◌==◌, ◌&&◌, ◌||◌, Bool, true, false, not, List, [], ◌∷◌, ◌++◌, Option, Some, None, nat_lt, nat_le, nat_eq, if◌then◌else◌, fold, map, filter}
+use Rattle.std.specs.Prelude.{ℕ, ◌+◌, ◌-◌, ◌==◌, ◌&&◌, ◌||◌, Bool, true, false, not, List, [], ◌∷◌, ◌++◌, Option, Some, None, nat_lt, nat_le, nat_eq, if◌then◌else◌, fold, map, filter}
 use Rattle.std.specs.List.{list_any}
 use Rattle.std.specs.Option.{option_eq}
 use Rattle.model.specs.declared.op.Op.{Op}
@@ -237,14 +237,15 @@ task_at_reset d = record { priority = d.priority; place = 0; used = 0; loops = [
 -- no task has entered its line, and idle runs
 unfoldable pub before_entry : Application → State
 before_entry app = record {
-    tasks = map task_at_reset app.tasks;
-    time = app.start;
-    elapsed = 0;
-    running = None;
-    next = 0;
-    steps = 0;
-    stopped = None;
-    log = [] }
+  tasks = map task_at_reset app.tasks;
+  time = app.start;
+  elapsed = 0;
+  running = None;
+  next = 0;
+  steps = 0;
+  stopped = None;
+  log = [];
+}
 
 -- the tasks that have an op, in the order of the file; the first of the list is the task of this number
 abbrev pub with_ops : ℕ → List Definition → List ℕ

@@ -1,5 +1,5 @@
 -- What a run tells: the lines of its trace, and how it ends.
-use Rattle.std.specs.Prelude.{ℕ, ◌%◌, Option, Some, None, option_map, List, map}
+use Rattle.std.specs.Prelude.{ℕ, ◌%◌, Option, option_map, List, map}
 use Rattle.model.specs.declared.ids.TaskId.{TaskId}
 use Rattle.model.specs.declared.event.Event.{Event}
 use Rattle.model.specs.declared.event.What.{What as WhatOfCode}

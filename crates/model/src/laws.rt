@@ -1,17 +1,33 @@
 //! Laws of the definitions: each is the contract of a function that does nothing.
-ghost use Rattle.std.specs.Prelude.{◌≡◌, true};
-ghost use Rattle.model.specs.Examples.{goes_on_below, wide, round_robin, round_robin_lines};
-ghost use Rattle.model.specs.Run.{lines_after, state_after, end_of, IsRun};
+ghost use Rattle.model.specs.State.{State};
+ghost use Rattle.model.specs.Step.{choice};
+ghost use Rattle.model.specs.Laws.{IsChoice};
+ghost use Rattle.model.specs.Examples.{wide, round_robin, round_robin_lines, delay_zero, delay_zero_lines, delay_one, delay_one_lines, across_the_wrap, across_the_wrap_lines};
+ghost use Rattle.model.specs.Run.{IsRun};
 ghost use Rattle.model.specs.Trace.{Pass};
 
-#[tactic(auto, unfolding(crate::specs::Step::dispatch, crate::specs::Step::anew, crate::specs::Step::leave, crate::specs::Step::switch, crate::specs::Step::settle, crate::specs::Step::wake, crate::specs::Step::tick, crate::specs::Step::go_to, crate::specs::Step::answer, crate::specs::Step::use_up, crate::specs::Step::behind, crate::specs::Step::sleep, crate::specs::Step::expect, crate::specs::Step::open_loop, crate::specs::Step::close_turn, crate::specs::Step::step, crate::specs::Step::reset, crate::specs::Step::before_entry, crate::specs::Step::entered_at_reset))]
-pub fn round_robin()
-    ensures goes_on { goes_on_below round_robin wide 6 ≡ true }
-    ensures lines { lines_after round_robin 6 ≡ round_robin_lines }
-    ensures ends { end_of wide (state_after round_robin 6) ≡ Some Pass }
+/// The choice is a Ready task; none is of higher priority, and none of equal priority came earlier. It is idle only
+/// where no task is Ready.
+pub fn choice_in_words()
+    ensures { (s : State) → IsChoice s (choice s) }
 {}
 
-/// A placeholder that cites the lemmas.
-pub fn sorting()
-    ensures { true ≡ true }
+/// Two tasks of equal priority that compute take turns, tick by tick.
+pub fn round_robin_runs()
+    ensures { IsRun round_robin wide round_robin_lines 6 6 Pass }
+{}
+
+/// `delay 0` gives way to an equal and does not sleep.
+pub fn delay_zero_runs()
+    ensures { IsRun delay_zero wide delay_zero_lines 3 0 Pass }
+{}
+
+/// `delay 1` sleeps until the next tick.
+pub fn delay_one_runs()
+    ensures { IsRun delay_one wide delay_one_lines 4 1 Pass }
+{}
+
+/// Two sleepers of one moment past the wrap of the tick wake in the order in which they began.
+pub fn across_the_wrap_runs()
+    ensures { IsRun across_the_wrap wide across_the_wrap_lines 8 3 Pass }
 {}

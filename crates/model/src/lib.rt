@@ -14,6 +14,9 @@ mod script;
 pub use app::{App, TaskDefinition};
 pub use event::{End, Event, Loop, What};
 pub use ids::{HandlerId, TaskId};
+pub use laws::{
+    across_the_wrap_runs, choice_in_words, delay_one_runs, delay_zero_runs, round_robin_runs,
+};
 pub use limits::{Limits, Meter};
 pub use op::Op;
 pub use plan::{BadPlan, Plan, Point};

@@ -37,7 +37,8 @@ fn depth_past(depth: u8, op: Op) -> Option<u8>
     ensures depth { IfSome result (λ past. past ≡ depth_past depth op) }
 {
     match op {
-        Op::Repeat(_) => if depth < 4 { Some(depth + 1) } else { None },
+        Op::Repeat(_) if depth < 4 => Some(depth + 1),
+        Op::Repeat(_) => None,
         Op::End => depth.checked_sub(1),
         _ => Some(depth),
     }

@@ -1,4 +1,3 @@
-use Rattle.std.proofs.Common.{refl, sym, ap, ◌∙◌, Option, Some, None, ◌≡◌, ℕ, true, false}
 use Rattle.model.specs.Step.{anew}
 use Rattle.model.proofs.Chosen.{choice_within}
 use Rattle.kernel.proofs.kernel.Kernel.anew.Goals as goal

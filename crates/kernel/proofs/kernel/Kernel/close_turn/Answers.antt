@@ -1,4 +1,4 @@
-use Rattle.std.proofs.Common.{refl, ◌∷◌, ◌-◌, sym, ap, ◌∙◌, Option, Some, None, ◌≡◌, ℕ, true, false}
+use Rattle.std.proofs.Common.{◌∷◌, ◌-◌, ap, ◌∙◌}
 use Rattle.kernel.proofs.Acting.{turn_none, turn_left, turn_again}
 use Rattle.kernel.proofs.kernel.Kernel.close_turn.Goals as goal
 

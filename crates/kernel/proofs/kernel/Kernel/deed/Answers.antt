@@ -1,5 +1,6 @@
-use Rattle.std.proofs.Common.{refl, sym, ap, ◌∙◌, Option, Some, None, ◌≡◌, ℕ, true, false}
+use Rattle.std.proofs.Common.{sym}
 use Rattle.kernel.proofs.kernel.Kernel.deed.Goals as goal
 
 pub act-requires-clause-can : goal.act-requires-clause-can
-act-requires-clause-can c = ?
+act-requires-clause-can c =
+    c.requires.can.act c.in-Some.task c.in-Some-op.op c.in-Some.is (rw (← c.slot-place.ensures) (sym c.in-Some-op.ensures))

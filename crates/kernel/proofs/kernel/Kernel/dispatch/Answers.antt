@@ -1,4 +1,4 @@
-use Rattle.std.proofs.Common.{refl, sym, ap, ◌∙◌, Option, Some, None, ◌≡◌, ℕ, true, false}
+use Rattle.std.proofs.Common.{sym}
 use Rattle.kernel.proofs.Choosing.{with_running, stays, goes}
 use Rattle.kernel.proofs.kernel.Kernel.dispatch.Goals as goal
 

@@ -1,4 +1,4 @@
-use Rattle.std.proofs.Common.{refl, sym, ap, ◌∙◌, Option, Some, None, ◌≡◌, ℕ, true, false}
+use Rattle.std.proofs.Common.{◌∙◌}
 use Rattle.kernel.proofs.Waking.{due_is}
 use Rattle.kernel.proofs.kernel.Kernel.due.Goals as goal
 

@@ -1,4 +1,4 @@
-use Rattle.std.proofs.Common.{refl, sym, ap, ◌∙◌, Option, Some, None, ◌≡◌, ℕ, true, false}
+use Rattle.std.proofs.Common.{sym}
 use Rattle.kernel.proofs.Acting.{expect_same, expect_other}
 use Rattle.kernel.proofs.kernel.Kernel.expect.Goals as goal
 

@@ -1,8 +1,5 @@
-use Rattle.std.proofs.Common.{refl, sym, ap, ◌∙◌, map, Option, Some, None, ◌≡◌, ℕ, ◌<◌, true, false}
-use Rattle.model.specs.Trace.{number_of}
-use Rattle.kernel.specs.Lines.{is_above_pair, head}
+use Rattle.std.proofs.Common.{sym, ◌∙◌}
 use Rattle.kernel.proofs.Choosing.{outranked-head}
-use Rattle.kernel.specs.Stands.{running_priority, seen_line}
 use Rattle.kernel.proofs.kernel.Kernel.is_outranked.Goals as goal
 
 pub returns : goal.returns

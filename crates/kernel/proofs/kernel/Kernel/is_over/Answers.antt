@@ -1,6 +1,6 @@
-use Rattle.std.proofs.Common.{refl, sym, ap, ◌∙◌, Option, Some, None, ◌≡◌, ℕ, true, false}
+use Rattle.std.proofs.Common.{◌∙◌}
 use Rattle.kernel.proofs.Ending.{over_is}
 use Rattle.kernel.proofs.kernel.Kernel.is_over.Goals as goal
 
 pub returns : goal.returns
-returns c = λ s h. ? ∙ over_is c.args.self.now s h
+returns c = λ s h. c.both.ensures ∙ rw (c.is_empty.ensures, c.is_empty-2.ensures) (over_is c.args.self.now s h)

@@ -1,4 +1,4 @@
-use Rattle.std.proofs.Common.{refl, sym, ap, ◌∙◌, Option, Some, None, ◌≡◌, ℕ, true, false}
+use Rattle.std.proofs.Common.{sym, ◌∙◌}
 use Rattle.kernel.proofs.Choosing.{sharing_is, sharing_idle, priority_is, runs_task, runs_idle}
 use Rattle.kernel.proofs.kernel.Kernel.is_sharing.Goals as goal
 

@@ -1,4 +1,4 @@
-use Rattle.std.proofs.Common.{refl, sym, ap, ◌∙◌, Option, Some, None, ◌≡◌, ℕ, true, false}
+use Rattle.std.proofs.Common.{sym}
 use Rattle.kernel.proofs.Choosing.{left_ready, left_other, left_idle, runs_task, runs_idle}
 use Rattle.kernel.proofs.kernel.Kernel.leave.Goals as goal
 

@@ -1,4 +1,3 @@
-use Rattle.std.proofs.Common.{refl, sym, ap, ◌∙◌, Option, Some, None, ◌≡◌, ℕ, true, false}
 use Rattle.kernel.proofs.Acting.{completed}
 use Rattle.kernel.proofs.kernel.Kernel.mark.Goals as goal
 

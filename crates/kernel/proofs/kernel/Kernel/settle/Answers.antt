@@ -1,4 +1,4 @@
-use Rattle.std.proofs.Common.{refl, sym, ap, ◌∙◌, Option, Some, None, ◌≡◌, ℕ, true, false}
+use Rattle.std.proofs.Common.{sym}
 use Rattle.kernel.proofs.Choosing.{settled_off, settled_on, settled_idle, runs_task, runs_idle}
 use Rattle.kernel.proofs.kernel.Kernel.settle.Goals as goal
 

@@ -1,14 +1,14 @@
-use Rattle.std.proofs.Common.{refl, sym, ap, ◌∙◌, Option, Some, None, ◌≡◌, ℕ, true, false}
 use Rattle.model.specs.Step.{step}
+use Rattle.kernel.proofs.Bounds.{can_do}
+use Rattle.kernel.proofs.Ending.{begun, stepped}
 use Rattle.kernel.proofs.kernel.Kernel.step.Goals as goal
 
 pub deed-requires-clause-can : goal.deed-requires-clause-can
-deed-requires-clause-can c = ?
+deed-requires-clause-can c = can_do c.args.app.now c.well_formed-2.ensures c.args.self.now c.requires.going
 
 pub returns-clause-stands : goal.returns-clause-stands
-unfolding step
-returns-clause-stands c = ?
+returns-clause-stands c = λ s h. stepped c.args.app.now s c.settle.new.self c.settle.new.log c.args.self.now.steps h.steps (c.settle.ensures.at _ (c.deed.ensures.at _ (begun c.args.self.now c.clear.new.self s h c.clear.ensures)))
 
 pub returns-clause-log : goal.returns-clause-log
 unfolding step
-returns-clause-log c = ?
+returns-clause-log c = λ s h. (c.settle.ensures.at _ (c.deed.ensures.at _ (begun c.args.self.now c.clear.new.self s h c.clear.ensures))).log

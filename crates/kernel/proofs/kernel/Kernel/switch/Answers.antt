@@ -1,4 +1,4 @@
-use Rattle.std.proofs.Common.{refl, sym, ap, ◌∙◌, Option, Some, None, ◌≡◌, ℕ, true, false}
+use Rattle.std.proofs.Common.{sym}
 use Rattle.model.specs.Step.{switch}
 use Rattle.kernel.proofs.kernel.Kernel.switch.Goals as goal
 

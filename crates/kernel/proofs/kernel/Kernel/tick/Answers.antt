@@ -1,4 +1,3 @@
-use Rattle.std.proofs.Common.{refl, sym, ap, ◌∙◌, Option, Some, None, ◌≡◌, ℕ, true, false}
 use Rattle.model.specs.Step.{tick}
 use Rattle.kernel.proofs.Waking.{ticked}
 use Rattle.kernel.proofs.kernel.Kernel.tick.Goals as goal

@@ -1,4 +1,3 @@
-use Rattle.std.proofs.Common.{refl, sym, ap, ◌∙◌, Option, Some, None, ◌≡◌, ℕ, true, false}
 use Rattle.kernel.proofs.Acting.{used_last, used_more}
 use Rattle.kernel.proofs.kernel.Kernel.use_up.Goals as goal
 

@@ -1,4 +1,4 @@
-use Rattle.std.proofs.Common.{◌≡◌, map, take, ℕ, ◌<◌, length}
+use Rattle.std.proofs.Common.{map, take, ◌<◌, length}
 use Rattle.std.specs.List.{fold, AllByRecursion}
 use Rattle.model.specs.State.{State}
 use Rattle.model.specs.Step.{enter}

@@ -1,5 +1,5 @@
 use Rattle.std.proofs.Common.{refl}
-use Rattle.kernel.proofs.Stands.{at-written, stands-renewed, stands-gone}
+use Rattle.kernel.proofs.Stands.{at-written}
 use Rattle.kernel.proofs.kernel.Kernel.write.Goals as goal
 
 pub returns-clause-at : goal.returns-clause-at

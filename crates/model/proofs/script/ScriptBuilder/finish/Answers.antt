@@ -1,4 +1,4 @@
-use Rattle.std.proofs.Common.{refl, sym, ◌∙◌}
+use Rattle.std.proofs.Common.{sym, ◌∙◌}
 use Rattle.model.proofs.Nesting.{script-closed}
 use Rattle.model.proofs.script.ScriptBuilder.finish.Goals as goal
 

@@ -1,0 +1,100 @@
+-- A kernel whose run goes on keeps within the numbers of the code.
+use Rattle.std.proofs.Common.{◌≡◌, ◌<◌, ◌+◌, ℕ, zero, suc, Bool, true, false, cond, leb, List, length, Option, Some, None, refl, ap, sym, subst, ◌∙◌, arith}
+use Rattle.std.proofs.lemmas.Bool.{ltb-true}
+use Rattle.std.proofs.lemmas.Bool.Decides.{nat_tests}
+use Rattle.std.proofs.lemmas.Option.{slice_get_within}
+use Rattle.model.specs.declared.ids.TaskId.{TaskId}
+use Rattle.model.specs.declared.event.Loop.{Loop}
+use Rattle.model.specs.declared.op.Op.{Op}
+use Rattle.model.specs.declared.op.Op.TheVariants.{Work, Delay, Yield, Time, Mark, Expect, Repeat, End}
+use Rattle.model.specs.Application.{Application, Bounds, script_of, op_at}
+use Rattle.model.specs.Scripts.{may_stand, IsWellFormed}
+use Rattle.model.specs.Trace.{Ending, Pass, Ticks, Steps, Stuck}
+use Rattle.model.specs.State.{State, task_at}
+use Rattle.model.specs.Run.{end_of, or_else, are_all_ended, is_stuck}
+use Rattle.model.specs.Invariant.{IsUsedBy}
+use Rattle.model.proofs.Reached.{script_formed, stands_at}
+use Rattle.kernel.specs.Loops.{open_in, loops_of}
+use Rattle.kernel.specs.Slots.{Bare}
+use Rattle.kernel.specs.declared.kernel.Kernel.{Kernel}
+use Rattle.kernel.specs.Stands.{slot_in, CanAct, CanDo, CanStep, IsUsedLess, HasLoopRoom}
+
+leb-less : (a b : ℕ) → leb a b ≡ false → b < a
+leb-less a b e = grind (arith, nat_tests)
+
+unended : (o : Option Ending) (a t p k : Bool) → or_else o (cond a (Some Pass) (cond t (Some Ticks) (cond p (Some Steps) (cond k (Some Stuck) None)))) ≡ None → (t ≡ false) × (p ≡ false)
+unended (Some e) a t p k h = absurd (cc)
+unended None true t p k h = absurd (cc)
+unended None false true p k h = absurd (cc)
+unended None false false true k h = absurd (cc)
+unended None false false false k h = (refl, refl)
+
+pub below_limits : (b : Bounds) (s : State) → end_of b s ≡ None → (s.elapsed < b.ticks) × (s.steps < b.steps)
+below_limits b s h =
+    let u = unended s.stopped (are_all_ended s) (leb b.ticks s.elapsed) (leb b.steps s.steps) (is_stuck s) h in
+    (leb-less b.ticks s.elapsed u.0, leb-less b.steps s.steps u.1)
+
+used_less : (does : Op) (used : ℕ) → IsUsedBy used (Some does) → IsUsedLess does used
+used_less (Work n) used h = h
+used_less (Delay n) used h = tt
+used_less Yield used h = tt
+used_less Time used h = tt
+used_less (Mark n) used h = tt
+used_less (Expect a) used h = tt
+used_less (Repeat n) used h = tt
+used_less End used h = tt
+
+loop_room : (does : Op) (depth : ℕ) → may_stand depth does ≡ true → HasLoopRoom does depth
+loop_room (Work n) depth h = tt
+loop_room (Delay n) depth h = tt
+loop_room Yield depth h = tt
+loop_room Time depth h = tt
+loop_room (Mark n) depth h = tt
+loop_room (Expect a) depth h = tt
+loop_room (Repeat n) depth h = ltb-true depth 4 h
+loop_room End depth h = tt
+
+length-open_in : (cells : List Loop) (depth : ℕ) → length (open_in cells depth) ≡ depth
+length-open_in cells zero = refl
+length-open_in cells (suc depth) = ap suc (length-open_in cells depth)
+
+module _ (app : Application) (formed : IsWellFormed app) (k : Kernel) (c : CanStep app k) where
+  elapsed_low : k.elapsed < 1000000
+  elapsed_low = let e = c.stands.elapsed in let l = (below_limits c.limits c.state c.goes_on).0 in let m = c.ticks in omega arith
+
+  pub steps_low : k.steps < 1000000
+  steps_low = let e = c.stands.steps in let l = (below_limits c.limits c.state c.goes_on).1 in let m = c.steps in omega arith
+
+  time_low : k.time < 4294967296 + 1000000
+  time_low = let e = c.stands.time in let f = c.stands.elapsed in let l = elapsed_low in let m = c.reached.time in let n = formed.start in omega arith
+
+  module _ (task : TaskId) (does : Op) (runs : k.running ≡ Some task) (op_is : op_at app task.number (slot_in k.slots task.number).place ≡ Some does) where
+    place_is : (slot_in k.slots task.number).place ≡ (task_at c.state task.number).place
+    place_is = ap (λ (b : Bare). b.place) (c.stands.slots task.number)
+
+    at_op : op_at app task.number (task_at c.state task.number).place ≡ Some does
+    at_op = rw (← place_is) op_is
+
+    act_place : (slot_in k.slots task.number).place < 256
+    act_place =
+        let w = slice_get_within (script_of app task.number) (slot_in k.slots task.number).place does op_is in
+        let n = (script_formed app formed task.number).few in omega arith
+
+    act_used : IsUsedLess does (slot_in k.slots task.number).used
+    act_used =
+        let used_is : (slot_in k.slots task.number).used ≡ (task_at c.state task.number).used = ap (λ (b : Bare). b.used) (c.stands.slots task.number) in
+        let W : Option Op → Type 0 = λ o. IsUsedBy (task_at c.state task.number).used o in
+        rw used_is (used_less does (task_at c.state task.number).used (subst W at_op (c.reached.places task.number).used))
+
+    act_depth : HasLoopRoom does (slot_in k.slots task.number).loops.depth
+    act_depth =
+        let loops_are : loops_of (slot_in k.slots task.number).loops ≡ (task_at c.state task.number).loops = ap (λ (b : Bare). b.loops) (c.stands.slots task.number) in
+        let n : length (task_at c.state task.number).loops ≡ (slot_in k.slots task.number).loops.depth = sym (ap length loops_are) ∙ length-open_in (slot_in k.slots task.number).loops.cells (slot_in k.slots task.number).loops.depth in
+        let may = stands_at (length (task_at c.state task.number).loops) (task_at c.state task.number).place (script_of app task.number) does (c.reached.places task.number).nests at_op in
+        loop_room does (slot_in k.slots task.number).loops.depth (rw (← n) may)
+
+    can_act : CanAct k task.number does
+    can_act = record { place = act_place; used = act_used; depth = act_depth; time = let l = time_low in omega arith; elapsed = let l = elapsed_low in omega arith }
+
+  pub can_do : CanDo app k
+  can_do = record { time = let l = time_low in omega arith; elapsed = let l = elapsed_low in omega arith; act = can_act }

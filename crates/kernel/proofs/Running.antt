@@ -1,0 +1,84 @@
+-- A run, step by step.
+use Rattle.std.proofs.Common.{◌≡◌, ◌≢◌, ◌<◌, ◌≤◌, ℕ, zero, suc, true, false, eqb, leb, List, [], ◌∷◌, ◌++◌, None, refl, sym, subst, ◌∙◌, arith}
+use Rattle.std.proofs.lemmas.List.{map-append}
+use Rattle.std.proofs.lemmas.Bool.{leb-true}
+use Rattle.std.proofs.lemmas.Bool.Decides.{nat_tests}
+use Rattle.model.proofs.Sorting.{by_test}
+use Rattle.model.proofs.Lines.{eqb-refl, eqb-same}
+use Rattle.model.specs.declared.event.Event.{Event}
+use Rattle.model.specs.declared.limits.Limits.{Limits}
+use Rattle.model.specs.Application.{Application, Bounds}
+use Rattle.model.specs.Scripts.{IsWellFormed}
+use Rattle.model.specs.Trace.{Line, Ending, lines_of, line_of, bounds_of}
+use Rattle.model.specs.State.{State}
+use Rattle.std.specs.List.{fold}
+use Rattle.model.specs.Step.{step, reset, entered_at_reset, before_entry, with_ops, enter}
+use Rattle.model.specs.Run.{end_of, state_after, lines_after, IsRun}
+use Rattle.model.specs.Invariant.{IsState}
+use Rattle.model.proofs.Reached.{reached_reset, reached_step}
+use Rattle.kernel.specs.declared.kernel.Kernel.{Kernel}
+use Rattle.kernel.specs.Stands.{Stands, CanStep}
+use Rattle.kernel.specs.Runs.{IsUnderWay}
+use Rattle.kernel.proofs.Bounds.{below_limits}
+
+pub reached_after : (app : Application) → IsWellFormed app → (n : ℕ) → IsState app (state_after app n)
+reached_after app formed zero = reached_reset app formed
+reached_after app formed (suc n) = reached_step app formed (state_after app n) (reached_after app formed n)
+
+-- the kernel at reset
+steps-fold : (s : State) (is : List ℕ) → (fold enter s is).steps ≡ s.steps
+steps-fold s [] = refl
+steps-fold s (i ∷ is) = steps-fold (enter s i) is
+
+steps-reset : (app : Application) → (reset app).steps ≡ 0
+unfolding reset entered_at_reset before_entry
+steps-reset app = steps-fold (before_entry app) (with_ops 0 app.tasks)
+
+pub steps_begin : (app : Application) (k : Kernel) → Stands k (reset app) → k.steps ≡ 0
+steps_begin app k h = h.steps ∙ steps-reset app
+
+pub begins : (app : Application) (limits : Bounds) (k : Kernel) → Stands k (reset app) → IsUnderWay app limits k
+begins app limits k h = record {
+  stands = let Q : ℕ → Type 0 = λ n. Stands k (state_after app n) in subst Q (sym (steps_begin app k h)) h;
+  goes_on = λ n l. let e = steps_begin app k h in absurd (omega arith);
+}
+
+pub no_lines : (app : Application) (k : Kernel) → Stands k (reset app) → lines_after app k.steps ≡ []
+no_lines app k h = rw (steps_begin app k h) refl
+
+module _ (app : Application) (formed : IsWellFormed app) (limits : Limits) (k : Kernel) (h : IsUnderWay app (bounds_of limits) k) (on : end_of (bounds_of limits) (state_after app k.steps) ≡ None) where
+  pub can_step : CanStep app k
+  can_step = record { state = state_after app k.steps; reached = reached_after app formed k.steps; stands = h.stands; limits = bounds_of limits; ticks = limits.ticks_known.1; steps = limits.steps_known.1; goes_on = on }
+
+  pub steps_below : k.steps < limits.steps
+  steps_below = let e = h.stands.steps in let l = (below_limits (bounds_of limits) (state_after app k.steps) on).1 in omega arith
+
+  -- one step more
+  module _ (next : Kernel) (stands : (s : State) → Stands k s → Stands next (step app s)) where
+    pub steps_more : next.steps ≡ suc k.steps
+    unfolding step
+    steps_more = let e = (stands (state_after app k.steps) h.stands).steps in let f = h.stands.steps in omega arith
+
+    by_last : (n : ℕ) → n < suc k.steps → end_of (bounds_of limits) (state_after app n) ≡ None
+    by_last n l = by_test (eqb n k.steps)
+        (λ t. let same : n ≡ k.steps = eqb-same n k.steps t in rw same on)
+        (λ t. h.goes_on n (let apart : n ≢ k.steps = (λ q. let w : eqb n k.steps ≡ true = rw q (eqb-refl k.steps) in absurd (cc)) in omega arith))
+
+    pub goes_on : IsUnderWay app (bounds_of limits) next
+    goes_on = record {
+      stands = let Q : ℕ → Type 0 = λ n. Stands next (state_after app n) in subst Q (sym steps_more) (stands (state_after app k.steps) h.stands);
+      goes_on = λ n l. let m : n < suc k.steps = rw steps_more at l in by_last n m;
+    }
+
+    -- and its lines
+    pub more_lines : (events more all : List Event) → lines_of events ≡ lines_after app k.steps → lines_of more ≡ (step app (state_after app k.steps)).log → all ≡ events ++ more → lines_of all ≡ lines_after app next.steps
+    more_lines events more all e f g = rw (g, steps_more) (map-append line_of events more ∙ rw (e, f) refl)
+
+-- The run that ends here is the run; one that is broken off has done no more steps.
+less : (a b : ℕ) → leb a b ≡ false → b < a
+less a b e = grind (arith, nat_tests)
+
+pub no_more : (app : Application) (limits : Bounds) (k : Kernel) → IsUnderWay app limits k → (lines : List Line) (steps ticks : ℕ) (end : Ending) → IsRun app limits lines steps ticks end → k.steps ≤ steps
+no_more app limits k h lines steps ticks end r = by_test (leb k.steps steps)
+    (λ t. leb-true k.steps steps t)
+    (λ t. let more : steps < k.steps = less k.steps steps t in let none = h.goes_on steps more in let some = r.ends in absurd (cc))

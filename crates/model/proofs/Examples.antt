@@ -1,0 +1,30 @@
+-- Runs, by tests that compute.
+use Rattle.std.proofs.Common.{◌≡◌, ◌≢◌, ◌<◌, ℕ, zero, suc, Bool, true, false, ◌&&◌, eqb, List, Option, Some, None, refl, arith}
+use Rattle.std.specs.Option.{is_none}
+use Rattle.model.specs.Application.{Application, Bounds}
+use Rattle.model.specs.Trace.{Line, Ending}
+use Rattle.model.specs.Run.{end_of, state_after, lines_after, IsRun}
+use Rattle.model.specs.Examples.{goes_on_below}
+use Rattle.model.proofs.Sorting.{by_test}
+use Rattle.model.proofs.Lines.{eqb-refl, eqb-same}
+
+none_from_test : (o : Option Ending) → is_none o ≡ true → o ≡ None
+none_from_test None h = refl
+none_from_test (Some e) h = absurd (cc)
+
+both : (a b : Bool) → a && b ≡ true → (a ≡ true) × (b ≡ true)
+both true b h = (refl, h)
+both false b h = absurd (cc)
+
+goes_on : (app : Application) (limits : Bounds) (n : ℕ) → goes_on_below app limits n ≡ true → (m : ℕ) → m < n → end_of limits (state_after app m) ≡ None
+goes_on app limits zero h m l = absurd (omega arith)
+goes_on app limits (suc n) h m l =
+    let parts = both (goes_on_below app limits n) (is_none (end_of limits (state_after app n))) h in
+    by_test (eqb m n)
+    (λ t. let same : m ≡ n = eqb-same m n t in rw same (none_from_test (end_of limits (state_after app n)) parts.1))
+    (λ t. let apart : m ≢ n = (λ q. let w : eqb m n ≡ true = rw q (eqb-refl n) in absurd (cc)) in goes_on app limits n parts.0 m (omega arith))
+
+pub is_run : (app : Application) (limits : Bounds) (lines : List Line) (steps ticks : ℕ) (end : Ending)
+    → goes_on_below app limits steps ≡ true → end_of limits (state_after app steps) ≡ Some end → lines ≡ lines_after app steps → ticks ≡ (state_after app steps).elapsed
+    → IsRun app limits lines steps ticks end
+is_run app limits lines steps ticks end g e l t = record { goes_on = goes_on app limits steps g; ends = e; trace = l; elapsed = t }
