@@ -4,8 +4,6 @@
 mod act;
 mod fault_line;
 mod serve;
-#[cfg(test)]
-mod tests;
 mod words;
 
 use crate::act::{Job, act, status_of};
