@@ -4,6 +4,8 @@
 mod act;
 mod fault_line;
 mod serve;
+#[cfg(test)]
+mod tests;
 mod words;
 
 use crate::act::{Job, act, status_of};
