@@ -19,6 +19,12 @@ pub enum Piece<'a> {
     Number(u64),
 }
 
+impl Default for Piece<'_> {
+    fn default() -> Self {
+        Piece::Text("")
+    }
+}
+
 fn add_piece<W: Sink>(writer: &mut W, page: &mut Page, piece: Piece<'_>) -> Result<(), WriteFault>
     requires { W.has_failed writer.old ≡ false }
     ensures text { Adds (W.held writer.old) (W.held writer.new) page.old page.new result (piece_text piece.entry) }

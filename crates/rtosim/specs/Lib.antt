@@ -1,0 +1,3 @@
+pub mod Serving
+pub mod Acting
+pub mod Words

@@ -1,0 +1,45 @@
+-- All checks of a document in their order, and the application that it names.
+use Rattle.std.specs.Prelude.{[], ◌∷◌, codes, map, Option, Some, None, option_and_then}
+use Rattle.toml.specs.Data.{Data, Members, as_table, get_member}
+use Rattle.model.specs.Application.{Application, Bounds}
+use Rattle.script.specs.declared.fault.LoadFault.{LoadFault}
+use Rattle.script.specs.declared.fault.LoadFault.TheVariants.{WrongKind}
+use Rattle.script.specs.declared.place.Section.TheVariants as section
+use Rattle.script.specs.declared.place.Key.TheVariants as key
+use Rattle.script.specs.Faults.{first, at_section, at_key}
+use Rattle.script.specs.Values.{member_of, optional_fault, optional_named}
+use Rattle.script.specs.Tasks.{section_fault, section_named}
+use Rattle.script.specs.Ops.{scripts_fault, with_ops}
+
+abbrev pub limits_table_fault : Option Members → Option LoadFault
+limits_table_fault None = Some (WrongKind (at_section section.Limits))
+limits_table_fault (Some ms) = first (
+    optional_fault (at_key section.Limits key.Ticks) 1 1000000 (get_member (codes "ticks") ms)
+    ∷ optional_fault (at_key section.Limits key.Steps) 1 1000000 (get_member (codes "steps") ms)
+    ∷ [])
+
+abbrev pub limits_fault : Option Data → Option LoadFault
+limits_fault None = None
+limits_fault (Some d) = limits_table_fault (as_table d)
+
+abbrev pub limits_named : Option Data → Bounds
+limits_named d = record {
+  ticks = optional_named 1000000 (member_of (codes "ticks") (option_and_then as_table d));
+  steps = optional_named 1000000 (member_of (codes "steps") (option_and_then as_table d));
+}
+
+-- the first check that fails: pass one, and then the scripts of the tasks that it names
+abbrev pub load_fault : Members → Option LoadFault
+load_fault document = first (
+    optional_fault (at_section section.Start) 0 4294967295 (get_member (codes "start") document)
+    ∷ limits_fault (get_member (codes "limits") document)
+    ∷ section_fault (get_member (codes "task") document)
+    ∷ scripts_fault 0 (section_named (get_member (codes "task") document))
+    ∷ [])
+
+abbrev pub app_named : Members → Application
+app_named document = record {
+  start = optional_named 0 (get_member (codes "start") document);
+  limits = limits_named (get_member (codes "limits") document);
+  tasks = map with_ops (section_named (get_member (codes "task") document));
+}

@@ -1,0 +1,74 @@
+-- What stands at the keys of a document: numbers and names, each with its checks and the value that it names.
+-- Where a check fails the value is a default, which no one sees.
+use Rattle.std.specs.Prelude.{ℕ, ℤ, pos, negsuc, not, ◌||◌, nat_lt, List, [], ◌∷◌, Option, Some, None, option_map, option_and_then, unwrap_or}
+use Rattle.std.specs.List.{list_any}
+use Rattle.std.specs.Str.{bytes_eq}
+use Rattle.std.specs.Borrow.{Bor}
+use Rattle.toml.specs.Data.{Data, Members, as_integer, as_str, get_member}
+use Rattle.toml.specs.View.{view}
+use Rattle.toml.specs.declared.value.Value.{Value}
+use Rattle.script.specs.declared.fault.LoadFault.{LoadFault}
+use Rattle.script.specs.declared.fault.LoadFault.TheVariants.{Missing, WrongKind, OutOfRange, DoubleName}
+use Rattle.script.specs.declared.place.Place.{Place}
+use Rattle.script.specs.Faults.{first, fails_if}
+use Rattle.script.specs.Names.{is_name}
+
+-- what the code found at a key
+abbrev pub data_of : Option (Bor Value) → Option Data
+data_of value = option_map (λ v. view v.now) value
+
+-- what stands at a key of a table, where it is one
+abbrev pub member_of : List ℕ → Option Members → Option Data
+member_of k members = option_and_then (get_member k) members
+
+-- ---- numbers
+
+abbrev pub integer_fault : Place → ℕ → ℕ → Option ℤ → Option LoadFault
+integer_fault p low high None = Some (WrongKind p)
+integer_fault p low high (Some (pos n)) = fails_if (nat_lt n low || nat_lt high n) (OutOfRange p)
+integer_fault p low high (Some (negsuc n)) = Some (OutOfRange p)
+
+abbrev pub integer_named : Option ℤ → ℕ
+integer_named (Some (pos n)) = n
+integer_named _ = 0
+
+-- an integer of this range
+abbrev pub number_fault : Place → ℕ → ℕ → Data → Option LoadFault
+number_fault p low high d = integer_fault p low high (as_integer d)
+
+abbrev pub number_named : Data → ℕ
+number_named d = integer_named (as_integer d)
+
+-- a number that may be left out
+abbrev pub optional_fault : Place → ℕ → ℕ → Option Data → Option LoadFault
+optional_fault p low high None = None
+optional_fault p low high (Some d) = number_fault p low high d
+
+abbrev pub optional_named : ℕ → Option Data → ℕ
+optional_named default None = default
+optional_named default (Some d) = number_named d
+
+-- a number that must be there
+abbrev pub required_fault : Place → ℕ → ℕ → Option Data → Option LoadFault
+required_fault p low high None = Some (Missing p)
+required_fault p low high (Some d) = number_fault p low high d
+
+abbrev pub required_named : Option Data → ℕ
+required_named d = optional_named 0 d
+
+-- ---- names
+
+-- a name that is none of these
+abbrev pub text_fault : Place → List (List ℕ) → Option (List ℕ) → Option LoadFault
+text_fault p names None = Some (WrongKind p)
+text_fault p names (Some name) = first (
+    fails_if (not (is_name name)) (OutOfRange p)
+    ∷ fails_if (list_any (bytes_eq name) names) (DoubleName p)
+    ∷ [])
+
+abbrev pub name_fault : Place → List (List ℕ) → Option Data → Option LoadFault
+name_fault p names None = Some (Missing p)
+name_fault p names (Some d) = text_fault p names (as_str d)
+
+abbrev pub name_named : Option Data → List ℕ
+name_named d = unwrap_or (option_and_then as_str d) []

@@ -1,0 +1,65 @@
+//! An application from a document.
+ghost use Rattle.std.specs.Prelude.{Option};
+ghost use Rattle.toml.specs.Data.{Members};
+ghost use Rattle.toml.specs.View.{table_view};
+ghost use Rattle.script.specs.declared.fault.LoadFault.{LoadFault};
+ghost use Rattle.model.specs.Trace.{bounds_of};
+ghost use Rattle.script.specs.Faults.{Judges, JudgesBy};
+ghost use Rattle.script.specs.Values.{data_of};
+ghost use Rattle.script.specs.Load.{limits_fault, limits_named, load_fault, app_named};
+
+use crate::fault::LoadFault;
+use crate::ops::with_scripts;
+use crate::place::{Key, Place, Section};
+use crate::tasks::raw_tasks;
+use crate::values::{member, optional_number};
+use model::{App, Limits};
+use std::alloc::Global;
+use toml::{Table, Value};
+
+fn limits(value: Option<&Value>) -> Result<Limits, LoadFault>
+    ensures { JudgesBy bounds_of result (limits_fault (data_of value.entry)) (limits_named (data_of value.entry)) }
+{
+    let Some(value) = value else {
+        return Ok(Limits {
+            ticks: Limits::MOST,
+            steps: Limits::MOST,
+        });
+    };
+    let Some(table) = value.as_table() else {
+        return Err(LoadFault::WrongKind(Place::section(Section::Limits)));
+    };
+    let place = Place::key(Section::Limits, Key::Ticks);
+    let ticks = optional_number(member(table, "ticks"), place, 1, Limits::MOST, Limits::MOST)?;
+    let place = Place::key(Section::Limits, Key::Steps);
+    let steps = optional_number(member(table, "steps"), place, 1, Limits::MOST, Limits::MOST)?;
+    Ok(Limits { ticks, steps })
+}
+
+/// What a document describes.
+pub trait FromDocument: Sized {
+    // The fault of the first check of a document that fails.
+    ghost fault_in: { Members → Option LoadFault };
+
+    // What a document names in which no check fails.
+    ghost named_by: { Members → Self };
+
+    /// What the document names, or the fault of the first of its checks that fails, or `Memory`.
+    fn from_document(alloc: Global, document: &Table) -> Result<Self, LoadFault>
+        ensures { Judges result (fault_in (table_view document.now)) (named_by (table_view document.now)) };
+}
+
+impl FromDocument for App {
+    ghost fault_in = { load_fault };
+
+    ghost named_by = { app_named };
+
+    fn from_document(alloc: Global, document: &Table) -> Result<App, LoadFault> {
+        let place = Place::section(Section::Start);
+        let start = optional_number(member(document, "start"), place, 0, u32::MAX, 0)?;
+        let limits = limits(member(document, "limits"))?;
+        let raw = raw_tasks(alloc, member(document, "task"))?;
+        let tasks = with_scripts(alloc, raw.as_slice())?;
+        Ok(App::new(start, limits, tasks))
+    }
+}

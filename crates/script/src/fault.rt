@@ -1,0 +1,96 @@
+//! Why a file was refused.
+ghost use Rattle.std.specs.Prelude.{◌≡◌};
+ghost use Rattle.script.specs.declared.fault.LoadFault.TheVariants.{Memory};
+
+use crate::place::Place;
+use std::alloc::{AllocError, AllocFailed};
+
+/// The first check that failed, and where.
+#[derive(Clone, Copy, Debug, PartialEq, Eq)]
+pub enum LoadFault {
+    /// What has to stand there does not.
+    Missing(Place),
+    /// A value of another kind: a text for a number, say.
+    WrongKind(Place),
+    /// A number outside its range, or a text that is no name.
+    OutOfRange(Place),
+    /// A text that spells no op.
+    BadOp(Place),
+    /// A name that an earlier entry has.
+    DoubleName(Place),
+    /// An `end` without a `repeat`, a fifth open `repeat`, or one that is never closed.
+    BadNesting(Place),
+    /// More entries than there may be.
+    TooMany(Place),
+    /// There was no memory.
+    Memory,
+}
+
+impl LoadFault {
+    ghost use Rattle.std.specs.Prelude.{◌≡◌};
+    ghost use Rattle.script.specs.Faults.{fault_code, fault_name, fault_place};
+
+    /// The number of the fault, 1 to 10.
+    pub fn code(self) -> u8
+        ensures { result ≡ fault_code self }
+    {
+        match self {
+            LoadFault::Missing(_) => 1,
+            LoadFault::WrongKind(_) => 2,
+            LoadFault::OutOfRange(_) => 3,
+            LoadFault::BadOp(_) => 4,
+            LoadFault::DoubleName(_) => 6,
+            LoadFault::BadNesting(_) => 7,
+            LoadFault::TooMany(_) => 9,
+            LoadFault::Memory => 10,
+        }
+    }
+
+    /// The name of the fault.
+    pub fn name(self) -> &'static str
+        ensures { result.now ≡ fault_name self }
+    {
+        match self {
+            LoadFault::Missing(_) => "Missing",
+            LoadFault::WrongKind(_) => "WrongKind",
+            LoadFault::OutOfRange(_) => "OutOfRange",
+            LoadFault::BadOp(_) => "BadOp",
+            LoadFault::DoubleName(_) => "DoubleName",
+            LoadFault::BadNesting(_) => "BadNesting",
+            LoadFault::TooMany(_) => "TooMany",
+            LoadFault::Memory => "Memory",
+        }
+    }
+
+    /// Where the check failed; `None` for memory, which has no place.
+    pub fn place(self) -> Option<Place>
+        ensures { result ≡ fault_place self }
+    {
+        match self {
+            LoadFault::Missing(place)
+            | LoadFault::WrongKind(place)
+            | LoadFault::OutOfRange(place)
+            | LoadFault::BadOp(place)
+            | LoadFault::DoubleName(place)
+            | LoadFault::BadNesting(place)
+            | LoadFault::TooMany(place) => Some(place),
+            LoadFault::Memory => None,
+        }
+    }
+}
+
+impl From<AllocError> for LoadFault {
+    ghost from_gives = { λ _ fault. fault ≡ Memory };
+
+    fn from(_error: AllocError) -> LoadFault {
+        LoadFault::Memory
+    }
+}
+
+impl<T: Drop> From<AllocFailed<T>> for LoadFault {
+    ghost from_gives = { λ _ fault. fault ≡ Memory };
+
+    fn from(_error: AllocFailed<T>) -> LoadFault {
+        LoadFault::Memory
+    }
+}

@@ -1,0 +1,18 @@
+//! Loads an application from a TOML document: the one that the document names, or the first of its checks that fails.
+#![tactic(auto)]
+
+mod document;
+mod fault;
+mod name;
+mod op_text;
+mod ops;
+mod place;
+mod raw_task;
+mod tasks;
+mod values;
+mod words;
+
+pub use document::FromDocument;
+pub use fault::LoadFault;
+pub use op_text::{grammar, op_of};
+pub use place::{Key, Place, PlaceWord, Section};

@@ -1,0 +1,27 @@
+//! Names of a file.
+ghost use Rattle.std.specs.Prelude.{◌≡◌};
+ghost use Rattle.std.specs.List.{list_all};
+ghost use Rattle.script.specs.Names.{is_name, is_name_byte};
+
+fn is_name_byte(byte: u8) -> bool
+    ensures { result ≡ is_name_byte byte }
+{
+    byte.is_ascii_alphanumeric() || byte == b'_'
+}
+
+fn are_name_bytes(bytes: &[u8]) -> bool
+    ensures { result ≡ list_all is_name_byte bytes.now }
+{
+    bytes.iter().all(|byte| is_name_byte(*byte))
+}
+
+// One to sixteen letters, digits and underscores, the first of them a letter.
+pub(crate) fn is_name(text: &str) -> bool
+    ensures { result ≡ is_name text.now }
+{
+    let bytes = text.as_bytes();
+    match bytes {
+        [] => false,
+        [first, ..] => bytes.len() <= 16 && first.is_ascii_alphabetic() && are_name_bytes(bytes),
+    }
+}

@@ -1,0 +1,146 @@
+//! Places of a file.
+
+/// A section of the file.
+#[derive(Clone, Copy, Debug, PartialEq, Eq)]
+pub enum Section {
+    Start,
+    Limits,
+    Task,
+}
+
+impl Section {
+    ghost use Rattle.std.specs.Prelude.{◌≡◌};
+    ghost use Rattle.script.specs.Faults.{section_word};
+
+    /// Its name in the file.
+    pub fn word(self) -> &'static str
+        ensures { result.now ≡ section_word self }
+    {
+        match self {
+            Section::Start => "start",
+            Section::Limits => "limits",
+            Section::Task => "task",
+        }
+    }
+}
+
+/// A key of a section.
+#[derive(Clone, Copy, Debug, PartialEq, Eq)]
+pub enum Key {
+    Ticks,
+    Steps,
+    Name,
+    Priority,
+    Script,
+}
+
+impl Key {
+    ghost use Rattle.std.specs.Prelude.{◌≡◌};
+    ghost use Rattle.script.specs.Faults.{key_word};
+
+    /// Its name in the file.
+    pub fn word(self) -> &'static str
+        ensures { result.now ≡ key_word self }
+    {
+        match self {
+            Key::Ticks => "ticks",
+            Key::Steps => "steps",
+            Key::Name => "name",
+            Key::Priority => "priority",
+            Key::Script => "script",
+        }
+    }
+}
+
+/// A word of a place.
+#[derive(Clone, Copy, Debug, PartialEq, Eq)]
+pub enum PlaceWord {
+    Name(&'static str),
+    Index(usize),
+}
+
+/// Where in the file: the section, the index of the entry, the key, the index inside the key's array. Parts that do
+/// not apply are left out.
+#[derive(Clone, Copy, Debug, PartialEq, Eq)]
+pub struct Place {
+    pub section: Section,
+    pub entry: Option<usize>,
+    pub key: Option<Key>,
+    pub index: Option<usize>,
+}
+
+impl Place {
+    ghost use Rattle.std.specs.Prelude.{◌≡◌, option_map};
+    ghost use Rattle.std.specs.List.{filter_map};
+    ghost use Rattle.script.specs.Faults.{word_text, place_words, at_section, at_key, at_entry, at_field, at_element};
+
+    /// The words that name it, in order; `None` stands for a part that does not apply.
+    pub fn words(self) -> [Option<PlaceWord>; 4]
+        ensures { filter_map (option_map word_text) result ≡ place_words self }
+    {
+        [
+            Some(PlaceWord::Name(self.section.word())),
+            self.entry.map(PlaceWord::Index),
+            self.key.map(|key| PlaceWord::Name(key.word())),
+            self.index.map(PlaceWord::Index),
+        ]
+    }
+
+    // A section as a whole.
+    pub(crate) fn section(section: Section) -> Self
+        ensures { result ≡ at_section section }
+    {
+        Place {
+            section,
+            entry: None,
+            key: None,
+            index: None,
+        }
+    }
+
+    // A key of a section that is no array.
+    pub(crate) fn key(section: Section, key: Key) -> Self
+        ensures { result ≡ at_key section key }
+    {
+        Place {
+            section,
+            entry: None,
+            key: Some(key),
+            index: None,
+        }
+    }
+
+    // An entry of a section.
+    pub(crate) fn entry(section: Section, entry: usize) -> Self
+        ensures { result ≡ at_entry section entry }
+    {
+        Place {
+            section,
+            entry: Some(entry),
+            key: None,
+            index: None,
+        }
+    }
+
+    // A key of an entry.
+    pub(crate) fn field(section: Section, entry: usize, key: Key) -> Self
+        ensures { result ≡ at_field section entry key }
+    {
+        Place {
+            section,
+            entry: Some(entry),
+            key: Some(key),
+            index: None,
+        }
+    }
+
+    // An element of the array at this place.
+    pub(crate) fn element(self, index: usize) -> Self
+        ensures { result ≡ at_element self index }
+    {
+        Place {
+            index: Some(index),
+            ..self
+        }
+    }
+}

@@ -1,0 +1,117 @@
+//! The tasks of a document in pass one, which leaves the ops of their scripts as they stand.
+ghost use Rattle.std.specs.Prelude.{◌≡◌, ◌≤◌, ◌<◌, [], map, length, IfOk};
+ghost use Rattle.toml.specs.View.{view, items_view};
+ghost use Rattle.script.specs.Faults.{Judges, JudgesBy};
+ghost use Rattle.script.specs.Values.{data_of};
+ghost use Rattle.script.specs.Tasks.{texts_fault, few_texts_fault, script_fault, items_named, task_fault, task_named, raw_view, tasks_fault, tasks_named, entries_fault, section_fault, section_named};
+
+use crate::fault::LoadFault;
+use crate::place::{Key, Place, Section};
+use crate::raw_task::RawTask;
+use crate::values::{member, new_name, required_number};
+use std::alloc::Global;
+use toml::Value;
+
+// Each is a text.
+fn are_texts(texts: &[Value], place: Place) -> Result<(), LoadFault>
+    ensures { Judges result (texts_fault place 0 (items_view texts.now)) tt }
+{
+    for (index, text) in texts.iter().enumerate() {
+        if !text.is_str() {
+            return Err(LoadFault::WrongKind(place.element(index)));
+        }
+    }
+    Ok(())
+}
+
+// At most so many texts.
+#[tactic(auto, using(crate::proofs::Views::items_len_view))]
+fn are_few_texts(texts: &[Value], most: usize, place: Place) -> Result<(), LoadFault>
+    ensures checks { Judges result (few_texts_fault most place (items_view texts.now)) tt }
+    ensures few { IfOk result (λ _. length texts.now ≤ most) }
+{
+    if texts.len() > most {
+        return Err(LoadFault::TooMany(place));
+    }
+    are_texts(texts, place)
+}
+
+// The texts of a script, at most so many.
+fn script(value: Option<&Value>, most: usize, place: Place) -> Result<&[Value], LoadFault>
+    ensures checks { JudgesBy (λ texts. items_view texts.now) result (script_fault most place (data_of value.entry)) (items_named (data_of value.entry)) }
+    ensures few { IfOk result (λ texts. length texts.now ≤ most) }
+{
+    let Some(value) = value else {
+        return Err(LoadFault::Missing(place));
+    };
+    let Some(texts) = value.as_array() else {
+        return Err(LoadFault::WrongKind(place));
+    };
+    are_few_texts(texts.as_slice(), most, place)?;
+    Ok(texts.as_slice())
+}
+
+// The task at this index, after tasks of these names.
+fn task<'a>(value: &'a Value, entry: usize, names: &[&str]) -> Result<RawTask<'a>, LoadFault>
+    ensures { JudgesBy raw_view result (task_fault (map (λ n. n.now) names.now) entry (view value.now)) (task_named (view value.now)) }
+{
+    let Some(table) = value.as_table() else {
+        return Err(LoadFault::WrongKind(Place::entry(Section::Task, entry)));
+    };
+    let place = Place::field(Section::Task, entry, Key::Name);
+    let name = new_name(member(table, "name"), place, names)?;
+    let place = Place::field(Section::Task, entry, Key::Priority);
+    let priority = required_number(member(table, "priority"), place, 0, 31)?;
+    let place = Place::field(Section::Task, entry, Key::Script);
+    let script = script(member(table, "script"), 256, place)?;
+    Ok(RawTask {
+        name,
+        priority: priority as u8,
+        script,
+    })
+}
+
+fn tasks_of<'a>(alloc: Global, values: &'a [Value]) -> Result<Vec<RawTask<'a>>, LoadFault>
+    ensures checks { JudgesBy (λ v. map raw_view v.items) result (tasks_fault [] 0 (items_view values.now)) (tasks_named (items_view values.now)) }
+    ensures count { IfOk result (λ v. length v.items ≡ length values.now) }
+{
+    let mut names = Vec::new(alloc);
+    let mut tasks = Vec::new(alloc);
+    for (entry, value) in values.iter().enumerate() {
+        let task = task(value, entry, names.as_slice())?;
+        names.push(task.name)?;
+        tasks.push(task)?;
+    }
+    Ok(tasks)
+}
+
+#[tactic(auto, using(crate::proofs::Views::items_len_view))]
+fn some_tasks<'a>(alloc: Global, values: &'a [Value]) -> Result<Vec<RawTask<'a>>, LoadFault>
+    ensures checks { JudgesBy (λ v. map raw_view v.items) result (entries_fault (items_view values.now)) (tasks_named (items_view values.now)) }
+    ensures count { IfOk result (λ v. (1 ≤ length v.items) × (length v.items ≤ 32)) }
+{
+    if values.is_empty() {
+        return Err(LoadFault::Missing(Place::section(Section::Task)));
+    }
+    if values.len() > 32 {
+        return Err(LoadFault::TooMany(Place::section(Section::Task)));
+    }
+    tasks_of(alloc, values)
+}
+
+// The tasks of the section, 1 to 32.
+pub(crate) fn raw_tasks<'a>(
+    alloc: Global,
+    value: Option<&'a Value>,
+) -> Result<Vec<RawTask<'a>>, LoadFault>
+    ensures checks { JudgesBy (λ v. map raw_view v.items) result (section_fault (data_of value.entry)) (section_named (data_of value.entry)) }
+    ensures count { IfOk result (λ v. (1 ≤ length v.items) × (length v.items ≤ 32)) }
+{
+    let Some(value) = value else {
+        return Err(LoadFault::Missing(Place::section(Section::Task)));
+    };
+    let Some(values) = value.as_array() else {
+        return Err(LoadFault::WrongKind(Place::section(Section::Task)));
+    };
+    some_tasks(alloc, values.as_slice())
+}
