@@ -1,5 +1,0 @@
-//! Documents, and what the loader says of them.
-#![tactic(auto)]
-
-#[cfg(test)]
-mod tests;
