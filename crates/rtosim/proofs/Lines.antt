@@ -18,7 +18,7 @@ pub words_left : {X Y : Type 0} (h : X → Option Y) (xs : List X) (i : ℕ) (d 
 words_left h xs i d before after within is =
     let first : drop i xs ≡ get_or xs i d ∷ drop (i + 1) xs = grind (arith, drop-cons, common_steps) in
     rw (is, first) (append_assoc before (cons_option (h (get_or xs i d)) []) (filter_map h (drop (i + 1) xs))
-      ∙ ap (λ l. before ++ l) (cons_option-append (h (get_or xs i d)) (filter_map h (drop (i + 1) xs))))
+    ∙ ap (λ l. before ++ l) (cons_option-append (h (get_or xs i d)) (filter_map h (drop (i + 1) xs))))
 
 others-pieces : (pieces : List Piece) → flat_map spaced_text pieces ≡ flat_map (λ w. codes " " ++ w) (map piece_text pieces)
 others-pieces [] = refl

@@ -17,5 +17,5 @@ pub job_as : (a : App) (words : List (List ℕ)) (m : ArgMatches) (job : Job) �
     → IsJobOf (subcommand_rows_of m) job → IsJobOf (subcommand_of rtosim_app words) job
 job_as a words m job same has is =
     let found : subcommand_rows_of m ≡ subcommand_of rtosim_app words =
-        (has (ap is_simple same ∙ is_simple-rtosim)).1 ∙ ap (λ (x : App). subcommand_of x words) same in
+    (has (ap is_simple same ∙ is_simple-rtosim)).1 ∙ ap (λ (x : App). subcommand_of x words) same in
     subst (λ (s : Option (List ℕ × List Row)). IsJobOf s job) found is

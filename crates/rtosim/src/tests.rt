@@ -2,6 +2,7 @@
 ghost use Rattle.std.specs.Prelude.{◌≡◌, false};
 
 use crate::act::{Job, act};
+use crate::open_and_act;
 use crate::words::job_named;
 use clap::error::ErrorKind;
 use report::{Failed, FromReader, Sink, Source};
@@ -82,8 +83,7 @@ impl Source for Breaking {
 
 const ONE_MARK: &[u8] = b"task = [{ name = 'a', priority = 1, script = ['mark 5'] }] # ";
 
-const ONE_MARK_REPORT: &[u8] =
-    b"base: pass in 1 steps, 0 ticks\n0 0 mark a 5\n0 0 run -\n";
+const ONE_MARK_REPORT: &[u8] = b"base: pass in 1 steps, 0 ticks\n0 0 mark a 5\n0 0 run -\n";
 
 // Runs a file, over sinks that take so many bytes a call.
 fn run(alloc: Global, file: &[u8], at_once: usize) -> (u8, Narrow, Narrow) {
@@ -123,7 +123,7 @@ fn runs(rt: HostRuntime) {
         (
             "limits = { ticks = 2 }\ntask = [{ name = 'a', priority = 1, script = ['delay 3'] }, { name = 'b', priority = 1, script = ['work 5'] }]",
             1,
-            "base: ticks in 2 steps, 2 ticks\n",
+            "base: ticks in 3 steps, 2 ticks\n0 0 call a 0 delay = 0\n0 0 run b\n",
         ),
         (
             "task = [{ name = 'a', priority = 1, script = ['time', 'expect 1'] }]",
@@ -160,6 +160,11 @@ fn runs(rt: HostRuntime) {
             0,
             "base: pass in 8 steps, 0 ticks\n7 0 run -\n",
         ),
+        (
+            "task = [{ name = 'a', priority = 1, script = ['repeat 1000', 'work 1000', 'end'] }]",
+            1,
+            "base: steps in 1000000 steps, 999000 ticks\n",
+        ),
     ];
     for (file, status, report) in rows {
         for at_once in [1, 4096] {
@@ -180,10 +185,7 @@ fn faults_of_files(rt: HostRuntime) {
             b"\xff[[task]]\nname = 'a'\npriority = 1\nscript = []\n".as_slice(),
             "rtosim: not TOML\n",
         ),
-        (
-            b"start = 1.0".as_slice(),
-            "rtosim: 2 WrongKind: start\n",
-        ),
+        (b"start = 1.0".as_slice(), "rtosim: 2 WrongKind: start\n"),
         (
             b"start = 4294967296".as_slice(),
             "rtosim: 3 OutOfRange: start\n",
@@ -227,8 +229,24 @@ fn faults_of_files(rt: HostRuntime) {
             "rtosim: 4 BadOp: task 0 script 0\n",
         ),
         (
+            b"task = [{ name = 'a', priority = 1, script = ['mark 1', 'work 0'] }]".as_slice(),
+            "rtosim: 4 BadOp: task 0 script 1\n",
+        ),
+        (
+            b"task = [{ name = 'a', priority = 1, script = ['mark 4294967296'] }]".as_slice(),
+            "rtosim: 4 BadOp: task 0 script 0\n",
+        ),
+        (
+            b"task = [{ name = 'a', priority = 1, script = ['repeat 1001'] }]".as_slice(),
+            "rtosim: 4 BadOp: task 0 script 0\n",
+        ),
+        (
             b"task = [{ name = 'a', priority = 1, script = ['repeat 2', 'mark 1'] }]".as_slice(),
             "rtosim: 7 BadNesting: task 0 script 2\n",
+        ),
+        (
+            b"task = [{ name = 'a', priority = 1, script = ['repeat 1', 'repeat 1', 'repeat 1', 'repeat 1', 'repeat 1'] }]".as_slice(),
+            "rtosim: 7 BadNesting: task 0 script 4\n",
         ),
     ];
     for (file, line) in rows {
@@ -274,13 +292,22 @@ fn sizes(rt: HostRuntime) -> Result<(), AllocError> {
     let (file, _) = marks(alloc, 257)?;
     let got = run(alloc, file.as_bytes(), 100);
     assert_eq!(rt; got.0, 3);
-    assert_eq!(rt; got.2.bytes.as_slice(), b"rtosim: 9 TooMany: task 0 script\n".as_slice());
+    assert_eq!(rt;
+        got.2.bytes.as_slice(),
+        b"rtosim: 9 TooMany: task 0 script\n".as_slice()
+    );
     let file = tasks(alloc, 32)?;
     let got = run(alloc, file.as_bytes(), 100);
-    assert_eq!(rt; got.1.bytes.as_slice(), b"base: pass in 0 steps, 0 ticks\n".as_slice());
+    assert_eq!(rt;
+        got.1.bytes.as_slice(),
+        b"base: pass in 0 steps, 0 ticks\n".as_slice()
+    );
     let file = tasks(alloc, 33)?;
     let got = run(alloc, file.as_bytes(), 100);
-    assert_eq!(rt; got.2.bytes.as_slice(), b"rtosim: 9 TooMany: task\n".as_slice());
+    assert_eq!(rt;
+        got.2.bytes.as_slice(),
+        b"rtosim: 9 TooMany: task\n".as_slice()
+    );
     Ok(())
 }
 
@@ -318,6 +345,11 @@ fn readers_that_fail(rt: HostRuntime) {
             assert_eq!(rt; told.bytes.as_slice(), &line[..line.len().min(room)]);
         }
     }
+    let missing = Job::Run {
+        file: "no_such_folder/app.toml",
+    };
+    assert_eq!(rt; open_and_act(&rt, &missing), 3);
+    assert_eq!(rt; open_and_act(&rt, &Job::Run { file: "." }), 3);
 }
 
 // What is said of some words: the file that they name, or the kind of the error.
@@ -334,13 +366,31 @@ fn command_lines(rt: HostRuntime) {
         (["rtosim", "run", "app.toml"].as_slice(), Ok("app.toml")),
         (["rtosim", "run", "--", "-a"].as_slice(), Ok("-a")),
         (["rtosim", "--help"].as_slice(), Err(ErrorKind::DisplayHelp)),
-        (["rtosim", "run", "--help"].as_slice(), Err(ErrorKind::DisplayHelp)),
-        (["rtosim", "--version"].as_slice(), Err(ErrorKind::DisplayVersion)),
+        (
+            ["rtosim", "run", "--help"].as_slice(),
+            Err(ErrorKind::DisplayHelp),
+        ),
+        (
+            ["rtosim", "--version"].as_slice(),
+            Err(ErrorKind::DisplayVersion),
+        ),
         (["rtosim"].as_slice(), Err(ErrorKind::MissingSubcommand)),
-        (["rtosim", "fly"].as_slice(), Err(ErrorKind::InvalidSubcommand)),
-        (["rtosim", "run"].as_slice(), Err(ErrorKind::MissingRequiredArgument)),
-        (["rtosim", "run", "a", "b"].as_slice(), Err(ErrorKind::UnknownArgument)),
-        (["rtosim", "run", "a", "--at", "1"].as_slice(), Err(ErrorKind::UnknownArgument)),
+        (
+            ["rtosim", "fly"].as_slice(),
+            Err(ErrorKind::InvalidSubcommand),
+        ),
+        (
+            ["rtosim", "run"].as_slice(),
+            Err(ErrorKind::MissingRequiredArgument),
+        ),
+        (
+            ["rtosim", "run", "a", "b"].as_slice(),
+            Err(ErrorKind::UnknownArgument),
+        ),
+        (
+            ["rtosim", "run", "a", "--at", "1"].as_slice(),
+            Err(ErrorKind::UnknownArgument),
+        ),
     ];
     for (words, want) in rows {
         assert!(rt; answer(rt.alloc(), words) == want);
