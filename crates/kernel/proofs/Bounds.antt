@@ -1,19 +1,22 @@
 -- A kernel whose run goes on keeps within the numbers of the code.
-use Rattle.std.proofs.Common.{◌≡◌, ◌<◌, ◌+◌, ℕ, zero, suc, Bool, true, false, cond, leb, List, length, Option, Some, None, refl, ap, sym, subst, ◌∙◌, arith}
+use Rattle.std.proofs.Common.{◌≡◌, ◌<◌, ◌≤◌, ◌+◌, ℕ, zero, suc, Bool, true, false, cond, leb, List, length, Option, Some, None, refl, ap, sym, subst, ◌∙◌, arith}
 use Rattle.std.proofs.lemmas.Bool.{ltb-true}
 use Rattle.std.proofs.lemmas.Bool.Decides.{nat_tests}
 use Rattle.std.proofs.lemmas.Option.{slice_get_within}
 use Rattle.model.specs.declared.ids.TaskId.{TaskId}
 use Rattle.model.specs.declared.event.Loop.{Loop}
 use Rattle.model.specs.declared.op.Op.{Op}
-use Rattle.model.specs.declared.op.Op.TheVariants.{Work, Delay, Yield, Time, Mark, Expect, Repeat, End}
+use Rattle.model.specs.declared.op.Op.TheVariants.{Work, Delay, DelayUntil, Yield, Time, Mark, Expect, Repeat, End}
+use Rattle.std.specs.Option.{IfSome}
 use Rattle.model.specs.Application.{Application, Bounds, script_of, op_at}
 use Rattle.model.specs.Scripts.{may_stand, IsWellFormed}
 use Rattle.model.specs.Trace.{Ending, Pass, Ticks, Steps, Stuck}
-use Rattle.model.specs.State.{State, task_at}
-use Rattle.model.specs.Run.{end_of, or_else, are_all_ended, is_stuck}
-use Rattle.model.specs.Invariant.{IsUsedBy}
-use Rattle.model.proofs.Reached.{script_formed, stands_at}
+use Rattle.model.specs.State.{State, Status, Ready, Asleep, Ended, task_at}
+use Rattle.model.specs.Step.{is_ready, is_ready_status}
+use Rattle.model.specs.Run.{end_of, or_else, are_all_ended, is_stuck, state_after}
+use Rattle.model.specs.Invariant.{IsState, IsReckoned, IsUsedBy}
+use Rattle.model.proofs.Reached.{script_formed, stands_at, reached_after}
+use Rattle.model.proofs.Settled.{settled_after}
 use Rattle.kernel.specs.Loops.{open_in, loops_of}
 use Rattle.kernel.specs.Slots.{Bare}
 use Rattle.kernel.specs.declared.kernel.Kernel.{Kernel}
@@ -37,6 +40,7 @@ below_limits b s h =
 used_less : (does : Op) (used : ℕ) → IsUsedBy used (Some does) → IsUsedLess does used
 used_less (Work n) used h = h
 used_less (Delay n) used h = tt
+used_less (DelayUntil n) used h = tt
 used_less Yield used h = tt
 used_less Time used h = tt
 used_less (Mark n) used h = tt
@@ -47,6 +51,7 @@ used_less End used h = tt
 loop_room : (does : Op) (depth : ℕ) → may_stand depth does ≡ true → HasLoopRoom does depth
 loop_room (Work n) depth h = tt
 loop_room (Delay n) depth h = tt
+loop_room (DelayUntil n) depth h = tt
 loop_room Yield depth h = tt
 loop_room Time depth h = tt
 loop_room (Mark n) depth h = tt
@@ -58,21 +63,32 @@ length-open_in : (cells : List Loop) (depth : ℕ) → length (open_in cells dep
 length-open_in cells zero = refl
 length-open_in cells (suc depth) = ap suc (length-open_in cells depth)
 
+ready_reckoned : (now previous : ℕ) (u : Status) → is_ready_status u ≡ true → IsReckoned now previous u → previous ≤ now
+ready_reckoned now previous (Ready n) t h = h
+ready_reckoned now previous (Asleep m b) t h = absurd (cc)
+ready_reckoned now previous Ended t h = absurd (cc)
+
 module _ (app : Application) (formed : IsWellFormed app) (k : Kernel) (c : CanStep app k) where
-  elapsed_low : k.elapsed < 1000000
-  elapsed_low = let e = c.stands.elapsed in let l = (below_limits c.limits c.state c.goes_on).0 in let m = c.ticks in omega arith
+  abbrev state : State
+  state = state_after app c.steps
+
+  reached : IsState app state
+  reached = reached_after app formed c.steps
+
+  age_low : k.clock.age < 1000000
+  age_low = let e = c.stands.rest.clock.age in let l = (below_limits c.limits state c.goes_on).0 in let m = c.tick_limit in omega arith
 
   pub steps_low : k.steps < 1000000
-  steps_low = let e = c.stands.steps in let l = (below_limits c.limits c.state c.goes_on).1 in let m = c.steps in omega arith
+  steps_low = let e = c.stands.rest.steps in let l = (below_limits c.limits state c.goes_on).1 in let m = c.step_limit in omega arith
 
-  time_low : k.time < 4294967296 + 1000000
-  time_low = let e = c.stands.time in let f = c.stands.elapsed in let l = elapsed_low in let m = c.reached.time in let n = formed.start in omega arith
+  time_low : k.clock.now < 4294967296 + 1000000
+  time_low = let e = c.stands.rest.clock.now in let f = c.stands.rest.clock.age in let l = age_low in let m = reached.time in let n = formed.start in omega arith
 
-  module _ (task : TaskId) (does : Op) (runs : k.running ≡ Some task) (op_is : op_at app task.number (slot_in k.slots task.number).place ≡ Some does) where
-    place_is : (slot_in k.slots task.number).place ≡ (task_at c.state task.number).place
-    place_is = ap (λ (b : Bare). b.place) (c.stands.slots task.number)
+  module _ (task : TaskId) (does : Op) (runs : k.sched.running ≡ Some task.number) (op_is : op_at app task.number (slot_in k.slots task.number).place ≡ Some does) where
+    place_is : (slot_in k.slots task.number).place ≡ (task_at state task.number).place
+    place_is = ap (λ (b : Bare). b.place) (c.stands.rest.slots task.number)
 
-    at_op : op_at app task.number (task_at c.state task.number).place ≡ Some does
+    at_op : op_at app task.number (task_at state task.number).place ≡ Some does
     at_op = rw (← place_is) op_is
 
     act_place : (slot_in k.slots task.number).place < 256
@@ -82,19 +98,29 @@ module _ (app : Application) (formed : IsWellFormed app) (k : Kernel) (c : CanSt
 
     act_used : IsUsedLess does (slot_in k.slots task.number).used
     act_used =
-        let used_is : (slot_in k.slots task.number).used ≡ (task_at c.state task.number).used = ap (λ (b : Bare). b.used) (c.stands.slots task.number) in
-        let W : Option Op → Type 0 = λ o. IsUsedBy (task_at c.state task.number).used o in
-        rw used_is (used_less does (task_at c.state task.number).used (subst W at_op (c.reached.places task.number).used))
+        let used_is : (slot_in k.slots task.number).used ≡ (task_at state task.number).used = ap (λ (b : Bare). b.used) (c.stands.rest.slots task.number) in
+        let W : Option Op → Type 0 = λ o. IsUsedBy (task_at state task.number).used o in
+        rw used_is (used_less does (task_at state task.number).used (subst W at_op (reached.places task.number).used))
 
     act_depth : HasLoopRoom does (slot_in k.slots task.number).loops.depth
     act_depth =
-        let loops_are : loops_of (slot_in k.slots task.number).loops ≡ (task_at c.state task.number).loops = ap (λ (b : Bare). b.loops) (c.stands.slots task.number) in
-        let n : length (task_at c.state task.number).loops ≡ (slot_in k.slots task.number).loops.depth = sym (ap length loops_are) ∙ length-open_in (slot_in k.slots task.number).loops.cells (slot_in k.slots task.number).loops.depth in
-        let may = stands_at (length (task_at c.state task.number).loops) (task_at c.state task.number).place (script_of app task.number) does (c.reached.places task.number).nests at_op in
+        let loops_are : loops_of (slot_in k.slots task.number).loops ≡ (task_at state task.number).loops = ap (λ (b : Bare). b.loops) (c.stands.rest.slots task.number) in
+        let n : length (task_at state task.number).loops ≡ (slot_in k.slots task.number).loops.depth = sym (ap length loops_are) ∙ length-open_in (slot_in k.slots task.number).loops.cells (slot_in k.slots task.number).loops.depth in
+        let may = stands_at (length (task_at state task.number).loops) (task_at state task.number).place (script_of app task.number) does (reached.places task.number).nests at_op in
         loop_room does (slot_in k.slots task.number).loops.depth (rw (← n) may)
 
+    -- The running task is Ready.
+    is_on : is_ready state task.number ≡ true
+    is_on = let L : Option ℕ → Type 0 = λ o. IfSome o (λ i. is_ready state i ≡ true) in subst L (sym c.stands.sched.running ∙ runs) (settled_after app c.steps)
+
+    act_previous : (slot_in k.slots task.number).previous ≤ k.clock.now
+    act_previous =
+        let previous_is : (slot_in k.slots task.number).previous ≡ (task_at state task.number).previous = ap (λ (b : Bare). b.previous) (c.stands.rest.slots task.number) in
+        let low = ready_reckoned state.time (task_at state task.number).previous (task_at state task.number).status is_on (reached.places task.number).reckoned in
+        rw (previous_is, c.stands.rest.clock.now) low
+
     can_act : CanAct k task.number does
-    can_act = record { place = act_place; used = act_used; depth = act_depth; time = let l = time_low in omega arith; elapsed = let l = elapsed_low in omega arith }
+    can_act = record { place = act_place; used = act_used; depth = act_depth; previous = act_previous; time = let l = time_low in omega arith; age = let l = age_low in omega arith }
 
   pub can_do : CanDo app k
-  can_do = record { time = let l = time_low in omega arith; elapsed = let l = elapsed_low in omega arith; act = can_act }
+  can_do = record { age = let l = age_low in omega arith; act = can_act }

@@ -1,9 +1,8 @@
-pub mod Lines
 pub mod Stands
 pub mod Choosing
-pub mod Waking
+mod Waking
 pub mod Acting
-pub mod Ending
-pub mod Bounds
 pub mod Booting
+pub mod Bounds
+pub mod Ending
 pub mod Running

@@ -1,5 +1,5 @@
 -- A run, step by step.
-use Rattle.std.proofs.Common.{◌≡◌, ◌≢◌, ◌<◌, ◌≤◌, ℕ, suc, true, false, eqb, leb, List, [], ◌∷◌, ◌++◌, None, refl, sym, subst, ◌∙◌, arith}
+use Rattle.std.proofs.Common.{◌≡◌, ◌≢◌, ◌<◌, ◌≤◌, ℕ, zero, suc, true, false, eqb, leb, List, [], ◌∷◌, ◌++◌, None, refl, sym, subst, ◌∙◌, arith}
 use Rattle.std.proofs.lemmas.List.{map-append}
 use Rattle.std.proofs.lemmas.Bool.{leb-true}
 use Rattle.std.proofs.lemmas.Bool.Decides.{nat_tests}
@@ -14,7 +14,7 @@ use Rattle.model.specs.State.{State}
 use Rattle.std.specs.List.{fold}
 use Rattle.model.specs.Step.{step, reset, entered_at_reset, before_entry, with_ops, enter}
 use Rattle.model.specs.Run.{end_of, state_after, lines_after, IsRun}
-use Rattle.model.proofs.Reached.{reached_after}
+use Rattle.model.proofs.Ticking.{elapsed-reset, elapsed-step}
 use Rattle.kernel.specs.declared.kernel.Kernel.{Kernel}
 use Rattle.kernel.specs.Stands.{Stands, CanStep}
 use Rattle.kernel.specs.Runs.{IsUnderWay}
@@ -30,7 +30,7 @@ unfolding reset entered_at_reset before_entry
 steps-reset app = steps-fold (before_entry app) (with_ops 0 app.tasks)
 
 pub steps_begin : (app : Application) (k : Kernel) → Stands k (reset app) → k.steps ≡ 0
-steps_begin app k h = h.steps ∙ steps-reset app
+steps_begin app k h = h.rest.steps ∙ steps-reset app
 
 pub begins : (app : Application) (limits : Bounds) (k : Kernel) → Stands k (reset app) → IsUnderWay app limits k
 begins app limits k h = record {
@@ -43,16 +43,16 @@ no_lines app k h = rw (steps_begin app k h) refl
 
 module _ (app : Application) (formed : IsWellFormed app) (limits : Limits) (k : Kernel) (h : IsUnderWay app (bounds_of limits) k) (on : end_of (bounds_of limits) (state_after app k.steps) ≡ None) where
   pub can_step : CanStep app k
-  can_step = record { state = state_after app k.steps; reached = reached_after app formed k.steps; stands = h.stands; limits = bounds_of limits; ticks = limits.ticks_known.1; steps = limits.steps_known.1; goes_on = on }
+  can_step = record { steps = k.steps; stands = h.stands; limits = bounds_of limits; tick_limit = limits.ticks_known.1; step_limit = limits.steps_known.1; goes_on = on }
 
   pub steps_below : k.steps < limits.steps
-  steps_below = let e = h.stands.steps in let l = (below_limits (bounds_of limits) (state_after app k.steps) on).1 in omega arith
+  steps_below = let e = h.stands.rest.steps in let l = (below_limits (bounds_of limits) (state_after app k.steps) on).1 in omega arith
 
   -- one step more
   module _ (next : Kernel) (stands : (s : State) → Stands k s → Stands next (step app s)) where
     pub steps_more : next.steps ≡ suc k.steps
     unfolding step
-    steps_more = let e = (stands (state_after app k.steps) h.stands).steps in let f = h.stands.steps in omega arith
+    steps_more = let e = (stands (state_after app k.steps) h.stands).rest.steps in let f = h.stands.rest.steps in omega arith
 
     by_last : (n : ℕ) → n < suc k.steps → end_of (bounds_of limits) (state_after app n) ≡ None
     by_last n l = by_test (eqb n k.steps)
@@ -77,3 +77,15 @@ pub no_more : (app : Application) (limits : Bounds) (k : Kernel) → IsUnderWay 
 no_more app limits k h lines steps ticks end r = by_test (leb k.steps steps)
     (λ t. leb-true k.steps steps t)
     (λ t. let more : steps < k.steps = less k.steps steps t in let none = h.goes_on steps more in let some = r.ends in absurd (cc))
+
+-- The ticks of a run, as far as it has gone
+ticks_by : (app : Application) (limits : Limits) (n : ℕ) → ((m : ℕ) → m < n → end_of (bounds_of limits) (state_after app m) ≡ None) → (state_after app n).elapsed ≤ 1000000
+ticks_by app limits zero g = let e = elapsed-reset app in omega arith
+ticks_by app limits (suc n) g =
+    let low = (below_limits (bounds_of limits) (state_after app n) (g n (omega arith))).0 in
+    let one = elapsed-step app (state_after app n) in
+    let most = limits.ticks_known.1 in
+    omega arith
+
+pub ticks_low : (app : Application) (limits : Limits) (k : Kernel) → IsUnderWay app (bounds_of limits) k → k.clock.age ≤ 1000000
+ticks_low app limits k h = rw h.stands.rest.clock.age (ticks_by app limits k.steps h.goes_on)

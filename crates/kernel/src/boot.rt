@@ -1,16 +1,19 @@
 //! The kernel at reset.
-ghost use Rattle.std.specs.Prelude.{◌≡◌, ◌<◌, ◌≤◌, if◌then◌else◌, ℕ, length, map, fold, slice_index_or};
-ghost use Rattle.arrayvec.specs.ArrayVec.{ArrayVec};
-ghost use Rattle.model.specs.declared.event.Event.{Event};
-ghost use Rattle.model.specs.State.{State, no_task};
+ghost use Rattle.std.specs.Prelude.{◌≡◌, ◌<◌, ◌≤◌, if◌then◌else◌, ℕ, length, map, fold, false, slice_index_or};
+ghost use Rattle.std.specs.List.{AllByRecursion};
+ghost use Rattle.model.specs.State.{State, no_task, task_at};
 ghost use Rattle.model.specs.Step.{reset, before_entry, task_at_reset, with_ops, enter};
+ghost use Rattle.model.specs.Run.{is_asleep};
+ghost use Rattle.model.specs.Scripts.{IsDefinition};
+ghost use Rattle.sched.specs.Schedule.{priority_in};
 ghost use Rattle.kernel.specs.Slots.{seen, bare};
-ghost use Rattle.kernel.specs.Stands.{Stands, At, slot_in};
+ghost use Rattle.kernel.specs.Stands.{Stands, At, Written, AllAwake, slot_in, priorities_in};
 
 use crate::kernel::Kernel;
-use crate::line::Line;
 use crate::slot::Slot;
+use clock::Clock;
 use model::{App, TaskDefinition, TaskId};
+use sched::Sched;
 
 fn blank_slots() -> [Slot; 32]
     ensures slots { (i : ℕ) → seen (slot_in result i) ≡ bare no_task }
@@ -19,17 +22,39 @@ fn blank_slots() -> [Slot; 32]
     [Slot::BLANK; 32]
 }
 
-// The slots of the tasks before any has entered its line.
-fn slots_of(tasks: &[TaskDefinition]) -> [Slot; 32]
+/// The slots of the tasks at a time of reset.
+fn slots_of(tasks: &[TaskDefinition], start: u32) -> [Slot; 32]
     requires { length tasks.now ≤ 32 }
-    ensures slots { (i : ℕ) → seen (slot_in result i) ≡ bare (slice_index_or (map task_at_reset tasks.now) i no_task) }
+    ensures slots { (i : ℕ) → seen (slot_in result i) ≡ bare (slice_index_or (map (task_at_reset start) tasks.now) i no_task) }
     ensures full { length result ≡ 32 }
 {
     let mut slots = blank_slots();
-    for (index, task) in tasks.iter().enumerate() {
-        slots[index] = Slot::with_priority(task.priority());
+    for (index, _task) in tasks.iter().enumerate() {
+        slots[index] = Slot::at_start(start as u64);
     }
     slots
+}
+
+fn no_priorities() -> [u8; 32]
+    ensures none { (i : ℕ) → priority_in result i ≡ 0 }
+    ensures known { AllByRecursion (λ priority. priority < 32) result }
+    ensures full { length result ≡ 32 }
+{
+    [0; 32]
+}
+
+/// The priorities of the tasks, and 0 in the places after them.
+fn priorities_of(tasks: &[TaskDefinition]) -> [u8; 32]
+    requires few { length tasks.now ≤ 32 }
+    requires formed { AllByRecursion IsDefinition tasks.now }
+    ensures priorities { (i : ℕ) → priority_in result i ≡ priority_in (priorities_in tasks.now) i }
+    ensures known { AllByRecursion (λ priority. priority < 32) result }
+{
+    let mut priorities = no_priorities();
+    for (index, task) in tasks.iter().enumerate() {
+        priorities[index] = task.priority();
+    }
+    priorities
 }
 
 impl Kernel {
@@ -41,41 +66,37 @@ impl Kernel {
         app.well_formed();
         let mut kernel = Kernel::before_entry(app);
         kernel.enter_all(app.tasks());
-        kernel.running = kernel.choose();
+        kernel.sched.choose();
         kernel
     }
 
-    // The kernel before any task has entered its line.
+    /// The kernel before any task has entered its line.
     fn before_entry(app: &App) -> Self
         ensures { Stands result (before_entry app.now) }
     {
         app.well_formed();
-        let slots = slots_of(app.tasks());
         Kernel {
-            slots,
-            ready: Line::new(),
-            asleep: Line::new(),
-            running: None,
-            time: u64::from(app.start()),
-            elapsed: 0,
+            slots: slots_of(app.tasks(), app.start()),
+            sched: Sched::new(priorities_of(app.tasks())),
+            clock: Clock::new(app.start()),
             steps: 0,
             stopped: None,
         }
     }
 
-    // The task enters its line, unless it has no op.
+    /// The task enters its line, unless it has no op.
     fn enter_unless(&mut self, is_empty: bool, task: TaskId)
-        ensures { (w : ArrayVec Event) (s : State) → At self.old w s → task.number < length s.tasks → At self.new w (if is_empty then s else enter s task.number) }
+        ensures { (w : Written) (s : State) → At self.old w s → task.number < length s.tasks → is_asleep (task_at s task.number).status ≡ false → At self.new w (if is_empty then s else enter s task.number) }
     {
         if !is_empty {
-            self.awaken(task);
+            self.renew(task);
         }
     }
 
-    // Each task that has an op enters its line, in the order of the file.
+    /// Each task that has an op enters its line, in the order of the file.
     fn enter_all(&mut self, tasks: &[TaskDefinition])
         requires { length tasks.now ≤ 32 }
-        ensures { (w : ArrayVec Event) (s : State) → At self.old w s → length s.tasks ≡ length tasks.now → At self.new w (fold enter s (with_ops 0 tasks.now)) }
+        ensures { (w : Written) (s : State) → At self.old w s → length s.tasks ≡ length tasks.now → AllAwake s → At self.new w (fold enter s (with_ops 0 tasks.now)) }
     {
         for (index, task) in tasks.iter().enumerate() {
             let number = index as u8;

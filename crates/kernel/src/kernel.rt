@@ -1,16 +1,18 @@
 //! The kernel's state, and the parts of which each step is made.
-ghost use Rattle.std.specs.Prelude.{◌≡◌, ◌<◌, ◌+◌, ◌==◌, if◌then◌else◌, ℕ, length};
-ghost use Rattle.model.specs.Application.{op_count};
-ghost use Rattle.model.specs.State.{State, Task};
-ghost use Rattle.model.specs.Step.{go_to, write};
-ghost use Rattle.model.specs.Trace.{told_by};
-ghost use Rattle.arrayvec.specs.ArrayVec.{ArrayVec, array_vec_len};
-ghost use Rattle.kernel.specs.Stands.{Stands, At, Does, Moves, slot_in, renewed, awakened, slept, with_slot, gone_to, Replaces};
+ghost use Rattle.std.specs.Prelude.{◌≡◌, ◌<◌, ◌≤◌, ◌+◌, ◌^◌, ◌==◌, ◌++◌, ◌∷◌, [], ℕ, IsTrue, false, length, Some};
+ghost use Rattle.model.specs.State.{State, Task, task_at};
+ghost use Rattle.model.specs.Run.{is_asleep};
+ghost use Rattle.model.specs.Step.{go_to, write, enter, sleep, sleep_until, is_ready};
+ghost use Rattle.model.specs.Trace.{told_by, lines_of, printed};
+ghost use Rattle.arrayvec.specs.ArrayVec.{array_vec_len};
+ghost use Rattle.sched.specs.Schedule.{blocked, readied};
+ghost use Rattle.kernel.specs.Stands.{Stands, At, Does, Moves, slot_in, with_slot, Replaces, Written};
 
-use crate::line::Line;
-use crate::slot::{Phase, Slot};
+use crate::slot::Slot;
 use arrayvec::ArrayVec;
+use clock::Clock;
 use model::{App, End, Event, TaskId, What};
+use sched::Sched;
 
 /// The lines that one step writes.
 pub type StepLog = ArrayVec<Event, 128>;
@@ -19,17 +21,14 @@ pub type StepLog = ArrayVec<Event, 128>;
 #[derive(Drop)]
 pub struct Kernel {
     pub(crate) slots: [Slot; 32],
-    pub(crate) ready: Line,
-    pub(crate) asleep: Line,
-    pub(crate) running: Option<TaskId>,
-    pub(crate) time: u64,
-    pub(crate) elapsed: u32,
+    pub(crate) sched: Sched,
+    pub(crate) clock: Clock,
     pub(crate) steps: u32,
     pub(crate) stopped: Option<End>,
 }
 
 impl Kernel {
-    /// What the kernel keeps of a task.
+    /// Where a task is in its script.
     pub(crate) fn slot(&self, task: TaskId) -> Slot
         ensures { result ≡ slot_in self.now.slots task.number }
     {
@@ -40,59 +39,48 @@ impl Kernel {
     pub(crate) fn write(&self, log: &mut StepLog, what: What)
         requires { array_vec_len log.old < 128 }
         ensures at { Does self.now log.old self.now log.new (write (told_by what)) }
+        ensures line { lines_of log.new.items ≡ lines_of log.old.items ++ record { step = self.now.steps; tick = printed self.now.clock.now; what = told_by what } ∷ [] }
         ensures few { array_vec_len log.new ≡ array_vec_len log.old + 1 }
     {
-        let tick = (self.time % 4_294_967_296) as u32;
         log.push(Event {
             step: self.steps,
-            tick,
+            tick: self.clock.tick(),
             what,
         });
     }
 
-    /// A Ready task goes behind its equals.
+    /// A task that does not sleep goes behind its equals.
     pub(crate) fn renew(&mut self, task: TaskId)
-        ensures { self.new ≡ renewed task.number self.old }
+        ensures at { (w : Written) (s : State) → At self.old w s → task.number < length s.tasks → is_asleep (task_at s task.number).status ≡ false → At self.new w (enter s task.number) }
+        ensures runs { self.new.sched.running ≡ self.old.sched.running }
     {
-        let priority = self.slot(task).priority;
-        self.ready.insert(task, priority);
+        self.sched.make_ready(task);
     }
 
-    /// A sleeper becomes Ready.
-    pub(crate) fn awaken(&mut self, task: TaskId)
-        ensures { self.new ≡ awakened task.number self.old }
+    /// A Ready task sleeps for some ticks.
+    pub(crate) fn lull(&mut self, task: TaskId, ticks: u32)
+        requires { 0 < ticks }
+        ensures at { (w : Written) (s : State) → At self.old w s → task.number < length s.tasks → IsTrue (is_ready s task.number) → At self.new w (sleep task.number (s.time + ticks) s) }
+        ensures slots { self.new.slots ≡ self.old.slots }
+        ensures runs { self.new.sched.running ≡ self.old.sched.running }
     {
-        let slot = self.slot(task);
-        self.slots[task.number as usize] = Slot {
-            phase: Phase::Ready,
-            ..slot
-        };
-        self.ready.insert(task, slot.priority);
-        self.asleep.remove(task);
-    }
-
-    /// A task sleeps until the moment.
-    pub(crate) fn lull(&mut self, task: TaskId, moment: u64)
-        ensures { self.new ≡ slept task.number moment self.old }
-    {
-        let slot = self.slot(task);
-        self.slots[task.number as usize] = Slot {
-            phase: Phase::Asleep(moment),
-            ..slot
-        };
-        self.ready.remove(task);
-        self.asleep.insert(task, 0);
+        self.sched.block(task);
+        self.clock.wake(task);
+        self.clock.sleep(task, ticks);
     }
 
     /// The task, which is now as given, goes on at this op; past its last one it is Ended.
     pub(crate) fn go_to(&mut self, app: &App, task: TaskId, place: u16, slot: Slot)
-        ensures { self.new ≡ gone_to (op_count app.now task.number) task.number place slot self.old }
+        ensures at { (w : Written) (s : State) (t : Task) → At self.old w s → task.number < length s.tasks → Replaces slot s task.number t → At self.new w (go_to app.now task.number place t s) }
+        ensures runs { self.new.sched.running ≡ self.old.sched.running }
+        ensures clock { self.new.clock.now ≡ self.old.clock.now }
+        ensures age { self.new.clock.age ≡ self.old.clock.age }
     {
-        let count = app.op_count(task);
-        self.slots[task.number as usize] = slot.moved_to(count, place);
-        if place as usize == count {
-            self.ready.remove(task);
-            self.asleep.remove(task);
+        let moved = slot.moved_to(place);
+        self.slots[task.number as usize] = moved;
+        if place as usize == app.op_count(task) {
+            self.sched.block(task);
+            self.clock.wake(task);
         }
     }
 }

@@ -3,14 +3,12 @@
 
 mod boot;
 mod kernel;
-mod line;
 mod loops;
 mod ops;
 mod outcome;
 mod slot;
 mod steps;
 mod switching;
-mod time;
 
 pub use kernel::{Kernel, StepLog};
 pub use outcome::{Memory, Run};

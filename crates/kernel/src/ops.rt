@@ -1,9 +1,9 @@
 //! What each op does.
 ghost use Rattle.std.specs.Prelude.{◌≡◌, ◌<◌, ◌≤◌, ◌+◌, ◌^◌, ℕ, Some, None, length};
-ghost use Rattle.model.specs.State.{State};
-ghost use Rattle.model.specs.Step.{answer, use_up, behind, sleep, rest, expect, open_loop, close_turn, act, complete, tick};
+ghost use Rattle.model.specs.State.{State, task_at, with_task};
+ghost use Rattle.model.specs.Step.{answer, use_up, behind, sleep, sleep_until, reckon, rest, expect, open_loop, close_turn, act, complete, tick, delay_until};
 ghost use Rattle.arrayvec.specs.ArrayVec.{array_vec_len};
-ghost use Rattle.kernel.specs.Stands.{Stands, At, Does, Moves, slot_in, CanAct};
+ghost use Rattle.kernel.specs.Stands.{Stands, At, Does, Moves, slot_in, CanAct, Written};
 
 use crate::kernel::{Kernel, StepLog};
 use crate::slot::Slot;
@@ -14,11 +14,11 @@ impl Kernel {
     #[tactic(auto, unfolding(model::specs::Step::answer))]
     fn answer(&mut self, app: &App, task: TaskId, given: Option<u32>, log: &mut StepLog)
         requires room { array_vec_len log.old < 128 }
-        requires runs { self.old.running ≡ Some task }
+        requires runs { self.old.sched.running ≡ Some task.number }
         requires place { (slot_in self.old.slots task.number).place < 256 }
         ensures at { Does self.old log.old self.new log.new (answer app.now task.number given) }
         ensures few { array_vec_len log.new ≡ array_vec_len log.old + 1 }
-        ensures runs { self.new.running ≡ Some task }
+        ensures runs { self.new.sched.running ≡ Some task.number }
     {
         let slot = self.slot(task);
         self.write(log, What::Call(task, slot.place, given));
@@ -36,12 +36,11 @@ impl Kernel {
     /// One more of a `work` is used up.
     #[tactic(auto, unfolding(model::specs::Step::use_up))]
     fn use_up(&mut self, app: &App, task: TaskId, units: u32)
-        requires runs { self.old.running ≡ Some task }
+        requires runs { self.old.sched.running ≡ Some task.number }
         requires place { (slot_in self.old.slots task.number).place < 256 }
         requires used { (slot_in self.old.slots task.number).used < units }
         ensures at { Moves self.old self.new (use_up app.now task.number units) }
-        ensures time { self.new.time ≡ self.old.time }
-        ensures elapsed { self.new.elapsed ≡ self.old.elapsed }
+        ensures age { self.new.clock.age ≡ self.old.clock.age }
     {
         let slot = self.slot(task);
         let used = slot.used + 1;
@@ -55,7 +54,7 @@ impl Kernel {
     /// The running task goes behind its equals, where it is still Ready.
     #[tactic(auto, unfolding(model::specs::Step::behind))]
     fn behind(&mut self, task: TaskId)
-        requires { self.old.running ≡ Some task }
+        requires { self.old.sched.running ≡ Some task.number }
         ensures { Moves self.old self.new (behind task.number) }
     {
         if self.is_ready(task) {
@@ -63,21 +62,57 @@ impl Kernel {
         }
     }
 
-    /// The running task sleeps until the moment, where it is still Ready.
+    /// The running task sleeps for some ticks, where it is still Ready.
     #[tactic(auto, unfolding(model::specs::Step::sleep))]
-    fn sleep(&mut self, task: TaskId, moment: u64)
-        requires { self.old.running ≡ Some task }
-        ensures { Moves self.old self.new (sleep task.number moment) }
+    fn sleep(&mut self, task: TaskId, ticks: u32)
+        requires runs { self.old.sched.running ≡ Some task.number }
+        requires some { 0 < ticks }
+        ensures { Moves self.old self.new (λ s. sleep task.number (s.time + ticks) s) }
     {
         if self.is_ready(task) {
-            self.lull(task, moment);
+            self.lull(task, ticks);
+        }
+    }
+
+    /// A task counts from this moment on.
+    fn count_from(&mut self, task: TaskId, moment: u64)
+        ensures { (w : Written) (s : State) → At self.old w s → task.number < length s.tasks → At self.new w (with_task s task.number (record (task_at s task.number) { previous = moment })) }
+    {
+        let slot = self.slot(task);
+        self.slots[task.number as usize] = Slot {
+            previous: moment,
+            ..slot
+        };
+    }
+
+    /// The running task counts from this moment on, where it is still Ready.
+    #[tactic(auto, unfolding(model::specs::Step::reckon))]
+    fn reckon(&mut self, task: TaskId, moment: u64)
+        requires { self.old.sched.running ≡ Some task.number }
+        ensures { Moves self.old self.new (reckon task.number moment) }
+    {
+        if self.is_ready(task) {
+            self.count_from(task, moment);
+        }
+    }
+
+    /// The running task sleeps until this moment, which is so many ticks away, and counts from it, where it is still Ready.
+    #[tactic(auto, unfolding(model::specs::Step::sleep_until))]
+    fn sleep_until(&mut self, task: TaskId, ticks: u32, moment: u64)
+        requires runs { self.old.sched.running ≡ Some task.number }
+        requires some { 0 < ticks }
+        ensures { (w : Written) (s : State) → At self.old w s → moment ≡ s.time + ticks → At self.new w (sleep_until task.number moment s) }
+    {
+        if self.is_ready(task) {
+            self.lull(task, ticks);
+            self.count_from(task, moment);
         }
     }
 
     /// `expect`: the run ends where the last answer differs.
     #[tactic(auto, unfolding(model::specs::Step::expect))]
     fn expect(&mut self, app: &App, task: TaskId, wanted: Option<u32>)
-        requires runs { self.old.running ≡ Some task }
+        requires runs { self.old.sched.running ≡ Some task.number }
         requires place { (slot_in self.old.slots task.number).place < 256 }
         ensures { Moves self.old self.new (expect app.now task.number wanted) }
     {
@@ -92,7 +127,7 @@ impl Kernel {
     /// `repeat`: a loop is opened.
     #[tactic(auto, unfolding(model::specs::Step::open_loop))]
     fn open_loop(&mut self, app: &App, task: TaskId, turns: u16)
-        requires runs { self.old.running ≡ Some task }
+        requires runs { self.old.sched.running ≡ Some task.number }
         requires place { (slot_in self.old.slots task.number).place < 256 }
         requires depth { (slot_in self.old.slots task.number).loops.depth < 4 }
         ensures { Moves self.old self.new (open_loop app.now task.number turns) }
@@ -106,7 +141,7 @@ impl Kernel {
     /// `end`: the next turn begins, or the loop is left.
     #[tactic(auto, unfolding(model::specs::Step::close_turn))]
     fn close_turn(&mut self, app: &App, task: TaskId)
-        requires runs { self.old.running ≡ Some task }
+        requires runs { self.old.sched.running ≡ Some task.number }
         requires place { (slot_in self.old.slots task.number).place < 256 }
         ensures { Moves self.old self.new (close_turn app.now task.number) }
     {
@@ -129,11 +164,10 @@ impl Kernel {
     /// `work`: a unit of it is used up, and time passes.
     fn work(&mut self, app: &App, task: TaskId, units: u32, log: &mut StepLog)
         requires room { array_vec_len log.old < 128 }
-        requires runs { self.old.running ≡ Some task }
+        requires runs { self.old.sched.running ≡ Some task.number }
         requires place { (slot_in self.old.slots task.number).place < 256 }
         requires used { (slot_in self.old.slots task.number).used < units }
-        requires time { self.old.time + 1 < 2 ^ 64 }
-        requires elapsed { self.old.elapsed + 1 < 2 ^ 32 }
+        requires age { self.old.clock.age < 2 ^ 62 }
         ensures at { Does self.old log.old self.new log.new (act app.now task.number (Op.Work units)) }
         ensures few { array_vec_len log.new ≤ array_vec_len log.old + 1 }
     {
@@ -141,38 +175,59 @@ impl Kernel {
         self.tick(log);
     }
 
-    // The rest of a `delay` that has answered.
-    fn rest(&mut self, task: TaskId, ticks: u32, time: u64)
-        requires runs { self.old.running ≡ Some task }
-        requires time { time + 2 ^ 32 < 2 ^ 64 }
-        ensures { Moves self.old self.new (rest task.number ticks time) }
+    /// The rest of a `delay` that has answered.
+    fn rest(&mut self, task: TaskId, ticks: u32)
+        requires runs { self.old.sched.running ≡ Some task.number }
+        ensures { Moves self.old self.new (λ s. rest task.number ticks s.time s) }
     {
         if ticks == 0 {
             self.behind(task);
         } else {
-            self.sleep(task, time + u64::from(ticks));
+            self.sleep(task, ticks);
         }
     }
 
     /// `delay`: the task sleeps; for 0 ticks it gives way to its equals.
     fn delay(&mut self, app: &App, task: TaskId, ticks: u32, log: &mut StepLog)
         requires room { array_vec_len log.old < 127 }
-        requires runs { self.old.running ≡ Some task }
+        requires runs { self.old.sched.running ≡ Some task.number }
         requires place { (slot_in self.old.slots task.number).place < 256 }
-        requires time { self.old.time + 2 ^ 32 < 2 ^ 64 }
         ensures at { Does self.old log.old self.new log.new (act app.now task.number (Op.Delay ticks)) }
         ensures few { array_vec_len log.new ≤ array_vec_len log.old + 2 }
     {
-        let time = self.time;
         self.answer(app, task, Some(0), log);
-        self.rest(task, ticks, time);
+        self.rest(task, ticks);
         self.anew(log);
+    }
+
+    /// `delay_until`: the task sleeps until so many ticks after the moment from which it counts, and counts from there;
+    /// where that is not still to come, it goes on.
+    #[tactic(auto, unfolding(model::specs::Step::delay_until))]
+    fn delay_until(&mut self, app: &App, task: TaskId, ticks: u32, log: &mut StepLog)
+        requires room { array_vec_len log.old < 127 }
+        requires runs { self.old.sched.running ≡ Some task.number }
+        requires place { (slot_in self.old.slots task.number).place < 256 }
+        requires previous { (slot_in self.old.slots task.number).previous ≤ self.old.clock.now }
+        requires time { self.old.clock.now + 2 ^ 32 < 2 ^ 63 }
+        ensures at { Does self.old log.old self.new log.new (act app.now task.number (Op.DelayUntil ticks)) }
+        ensures few { array_vec_len log.new ≤ array_vec_len log.old + 2 }
+    {
+        let moment = self.slot(task).previous + ticks as u64;
+        let now = self.clock.mark().moment;
+        if now < moment {
+            self.answer(app, task, Some(1), log);
+            self.sleep_until(task, (moment - now) as u32, moment);
+            self.anew(log);
+        } else {
+            self.answer(app, task, Some(0), log);
+            self.reckon(task, moment);
+        }
     }
 
     /// `yield`: the task goes behind its equals.
     fn give_way(&mut self, app: &App, task: TaskId, log: &mut StepLog)
         requires room { array_vec_len log.old < 127 }
-        requires runs { self.old.running ≡ Some task }
+        requires runs { self.old.sched.running ≡ Some task.number }
         requires place { (slot_in self.old.slots task.number).place < 256 }
         ensures at { Does self.old log.old self.new log.new (act app.now task.number Op.Yield) }
         ensures few { array_vec_len log.new ≤ array_vec_len log.old + 2 }
@@ -185,19 +240,19 @@ impl Kernel {
     /// `time`: the printed tick is the answer.
     fn tell_time(&mut self, app: &App, task: TaskId, log: &mut StepLog)
         requires room { array_vec_len log.old < 128 }
-        requires runs { self.old.running ≡ Some task }
+        requires runs { self.old.sched.running ≡ Some task.number }
         requires place { (slot_in self.old.slots task.number).place < 256 }
         ensures at { Does self.old log.old self.new log.new (act app.now task.number Op.Time) }
         ensures few { array_vec_len log.new ≤ array_vec_len log.old + 1 }
     {
-        let tick = (self.time % 4_294_967_296) as u32;
+        let tick = self.clock.tick();
         self.answer(app, task, Some(tick), log);
     }
 
     /// `mark`: a mark line is written.
     fn mark(&mut self, app: &App, task: TaskId, number: u32, log: &mut StepLog)
         requires room { array_vec_len log.old < 128 }
-        requires runs { self.old.running ≡ Some task }
+        requires runs { self.old.sched.running ≡ Some task.number }
         requires place { (slot_in self.old.slots task.number).place < 256 }
         ensures at { Does self.old log.old self.new log.new (act app.now task.number (Op.Mark number)) }
         ensures few { array_vec_len log.new ≤ array_vec_len log.old + 1 }
@@ -210,7 +265,7 @@ impl Kernel {
     /// What the running task's op does.
     pub(crate) fn act(&mut self, app: &App, task: TaskId, op: Op, log: &mut StepLog)
         requires room { array_vec_len log.old < 127 }
-        requires runs { self.old.running ≡ Some task }
+        requires runs { self.old.sched.running ≡ Some task.number }
         requires can { CanAct self.old task.number op }
         ensures at { Does self.old log.old self.new log.new (act app.now task.number op) }
         ensures few { array_vec_len log.new ≤ array_vec_len log.old + 2 }
@@ -218,6 +273,7 @@ impl Kernel {
         match op {
             Op::Work(units) => self.work(app, task, units, log),
             Op::Delay(ticks) => self.delay(app, task, ticks, log),
+            Op::DelayUntil(ticks) => self.delay_until(app, task, ticks, log),
             Op::Yield => self.give_way(app, task, log),
             Op::Time => self.tell_time(app, task, log),
             Op::Mark(number) => self.mark(app, task, number, log),

@@ -1,5 +1,5 @@
 //! Steps, and whole runs.
-ghost use Rattle.std.specs.Prelude.{◌&&◌, ◌≡◌, ◌<◌, ◌≤◌, ◌+◌, ◌^◌, ℕ, List, [], Some, None, is_none, if◌then◌else◌, ◌++◌, IfOk, OnOk, OnErr, option_map};
+ghost use Rattle.std.specs.Prelude.{◌&&◌, ◌≡◌, ◌<◌, ◌≤◌, ◌+◌, ◌^◌, ℕ, List, [], Some, None, if◌then◌else◌, ◌++◌, IfOk, OnOk, OnErr, option_map, is_none};
 ghost use Rattle.model.specs.State.{State};
 ghost use Rattle.model.specs.Step.{deed, step, reset};
 ghost use Rattle.model.specs.Run.{end_of, IsRun, state_after, lines_after, are_all_ended, is_stuck, or_else};
@@ -21,7 +21,7 @@ impl Kernel {
         ensures at { (s : State) → At self.old log.old s → At self.new log.new (deed app.now s.running s) }
         ensures few { array_vec_len log.new ≤ array_vec_len log.old + 2 }
     {
-        let Some(task) = self.running else {
+        let Some(task) = self.sched.current() else {
             self.tick(log);
             return;
         };
@@ -56,14 +56,14 @@ impl Kernel {
     fn is_over(&self) -> bool
         ensures { (s : State) → Stands self.now s → result ≡ are_all_ended s }
     {
-        both(self.ready.is_empty(), self.asleep.is_empty())
+        both(!self.sched.has_ready(), self.clock.is_quiet())
     }
 
     /// Whether idle runs and no task sleeps.
     fn is_stuck(&self) -> bool
         ensures { (s : State) → Stands self.now s → result ≡ is_stuck s }
     {
-        both(is_idle(self.running), self.asleep.is_empty())
+        both(is_idle(self.sched.current()), self.clock.is_quiet())
     }
 
     /// The end of the run before its next step, under these limits; `None` where it goes on.
@@ -73,7 +73,7 @@ impl Kernel {
         first_end(
             self.stopped,
             self.is_over(),
-            limits.ticks <= self.elapsed,
+            limits.ticks as u64 <= self.clock.age(),
             limits.steps <= self.steps,
             self.is_stuck(),
         )
@@ -95,7 +95,7 @@ fn both(a: bool, b: bool) -> bool
     a && b
 }
 
-// The first of these ends that is due.
+/// The first of these ends that is due.
 fn first_end(stopped: Option<End>, over: bool, ticks: bool, steps: bool, stuck: bool) -> Option<End>
     ensures { option_map ending_of result ≡ or_else (option_map ending_of stopped) (if over then Some Pass else if ticks then Some Ticks else if steps then Some Steps else if stuck then Some Stuck else None) }
 {
@@ -109,7 +109,7 @@ fn first_end(stopped: Option<End>, over: bool, ticks: bool, steps: bool, stuck: 
     }
 }
 
-// Appends the lines of a step.
+/// Appends the lines of a step.
 fn keep(events: &mut Vec<Event>, log: &StepLog) -> Result<(), Memory>
     ensures { OnOk result (events.new.items ≡ events.old.items ++ log.now.items) }
 {
@@ -119,7 +119,7 @@ fn keep(events: &mut Vec<Event>, log: &StepLog) -> Result<(), Memory>
     }
 }
 
-// Goes on to the end of the run, and keeps the lines.
+/// Goes on to the end of the run, and keeps the lines.
 fn finish(
     kernel: &mut Kernel,
     app: &App,
@@ -171,7 +171,7 @@ pub fn run(
     Ok(Run {
         events,
         steps: kernel.steps,
-        ticks: kernel.elapsed,
+        ticks: kernel.clock.age() as u32,
         end,
     })
 }

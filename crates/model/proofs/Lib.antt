@@ -4,5 +4,7 @@ pub mod Lines
 pub mod Tables
 pub mod Chosen
 pub mod Reached
+pub mod Settled
+pub mod Ticking
 pub mod Examples
 pub mod Words

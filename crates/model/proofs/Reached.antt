@@ -1,24 +1,24 @@
 -- What is true of every state that a run comes to.
-use Rattle.std.proofs.Common.{◌≡◌, ◌≢◌, ◌<◌, ◌≤◌, ◌+◌, ◌-◌, ℕ, zero, suc, true, eqb, leb, ◌||◌, List, [], ◌∷◌, length, map, get_or, set, drop, Option, Some, None, refl, ap, sym, subst, ◌∙◌, arith, get_or-set_same, get_or-set_other, add-one}
-use Rattle.std.specs.List.{AllByRecursion, fold, slice_get}
+use Rattle.std.proofs.Common.{◌≡◌, ◌≢◌, ◌<◌, ◌≤◌, ◌+◌, ◌-◌, ℕ, zero, suc, true, eqb, leb, ltb, ltb-false, ◌||◌, List, [], ◌∷◌, length, map, get_or, set, drop, Option, Some, None, refl, ap, sym, subst, ◌∙◌, arith, get_or-set_same, get_or-set_other, add-one}
+use Rattle.std.specs.List.{AllByRecursion, fold, slice_get, filter}
 use Rattle.std.specs.Option.{IfSome, option_map, unwrap_or, option_eq}
 use Rattle.std.proofs.Math.ListN.{length-set}
 use Rattle.std.proofs.lemmas.List.{length-map}
 use Rattle.model.specs.declared.op.Op.{Op}
-use Rattle.model.specs.declared.op.Op.TheVariants.{Work, Delay, Yield, Time, Mark, Expect, Repeat, End}
+use Rattle.model.specs.declared.op.Op.TheVariants.{Work, Delay, DelayUntil, Yield, Time, Mark, Expect, Repeat, End}
 use Rattle.model.specs.declared.event.Loop.{Loop}
 use Rattle.model.specs.Application.{Application, Definition, script_of, op_at, op_count}
 use Rattle.model.specs.Scripts.{InRange, may_stand, depth_past, Nests, IsScript, IsDefinition, IsWellFormed}
 use Rattle.model.specs.Trace.{Line, Ending, Call, Marked}
 use Rattle.model.specs.State.{State, Task, Status, Ready, Asleep, Ended, task_at, with_task, no_task}
-use Rattle.model.specs.Order.{tasks_of}
-use Rattle.model.specs.Step.{enter, dispatch, anew, choice, is_same, leave, leave_from, is_ready, switch, is_outranked, is_sharing, settle, is_off, wake, due, tick, go_to, complete, answer, use_up, behind, sleep, rest, expect, open_loop, turn, close_turn, act, act_if, deed, step, reset, before_entry, entered_at_reset, task_at_reset, with_ops, is_empty, write}
+use Rattle.model.specs.Order.{Entry, tasks_of}
+use Rattle.model.specs.Step.{enter, dispatch, anew, choice, is_same, leave, leave_from, is_ready, switch, is_outranked, is_sharing, settle, is_off, wake, due, is_due, is_due_status, sleepers, sleep_key, is_ready_status, tick, go_to, complete, answer, use_up, behind, sleep, rest, sleep_until, reckon, delay_until, expect, open_loop, turn, close_turn, act, act_if, deed, step, reset, before_entry, entered_at_reset, task_at_reset, with_ops, is_empty, write}
 use Rattle.model.specs.Run.{state_after}
-use Rattle.model.specs.Invariant.{HasNumberBelow, AllNumbered, IsUsedBy, LoopsNest, IsAt, IsState}
+use Rattle.model.specs.Invariant.{HasNumberBelow, AllNumbered, IsUsedBy, LoopsNest, IsReckoned, IsAt, IsState}
 use Rattle.model.proofs.Sorting.{by_test}
 use Rattle.model.proofs.Lines.{eqb-refl, eqb-same}
 use Rattle.model.proofs.Tables.{number_at, table-set, table-numbered}
-use Rattle.model.proofs.Chosen.{choice_within, due_within}
+use Rattle.model.proofs.Chosen.{choice_within, line_within}
 
 -- Scripts
 
@@ -51,6 +51,7 @@ used_none : (p : ℕ) (ops : List Op) → AllByRecursion InRange ops → IsUsedB
 used_none p [] h = tt
 used_none zero ((Work n) ∷ ops) h = let low = h.0.0 in omega arith
 used_none zero ((Delay n) ∷ ops) h = tt
+used_none zero ((DelayUntil n) ∷ ops) h = tt
 used_none zero (Yield ∷ ops) h = tt
 used_none zero (Time ∷ ops) h = tt
 used_none zero ((Mark n) ∷ ops) h = tt
@@ -58,6 +59,51 @@ used_none zero ((Expect a) ∷ ops) h = tt
 used_none zero ((Repeat n) ∷ ops) h = tt
 used_none zero (End ∷ ops) h = tt
 used_none (suc p) (o ∷ ops) h = used_none p ops h.1
+
+-- Moments
+
+later_reckoned : (now previous : ℕ) (u : Status) → IsReckoned now previous u → IsReckoned (now + 1) previous u
+later_reckoned now p (Ready n) h = omega arith
+later_reckoned now p (Asleep m b) h = h
+later_reckoned now p Ended h = tt
+
+ready_reckoned : (now previous : ℕ) (u : Status) → IsReckoned now previous u → is_ready_status u ≡ true → previous ≤ now
+ready_reckoned now p (Ready n) h t = h
+ready_reckoned now p (Asleep m b) h t = absurd (cc)
+ready_reckoned now p Ended h t = absurd (cc)
+
+reckoned_now : (now previous : ℕ) (u : Status) → previous ≤ now → is_ready_status u ≡ true → IsReckoned now previous u
+reckoned_now now p (Ready n) h t = h
+reckoned_now now p (Asleep m b) h t = absurd (cc)
+reckoned_now now p Ended h t = absurd (cc)
+
+due_reckoned : (now previous : ℕ) (u : Status) → IsReckoned now previous u → is_due_status now u ≡ true → previous ≤ now
+due_reckoned now p (Ready n) h t = absurd (cc)
+due_reckoned now p (Asleep m b) h t = let e = eqb-same m now t in omega arith
+due_reckoned now p Ended h t = absurd (cc)
+
+-- a task that may become Ready now
+abbrev CanEnter : State → ℕ → Type 0
+CanEnter s i = (i < length s.tasks) × ((task_at s i).previous ≤ s.time)
+
+can_still : (s : State) (i j : ℕ) → CanEnter s i → CanEnter s j → CanEnter (enter s i) j
+can_still s i j c d = (
+  rw length-set d.0,
+  by_test (eqb j i)
+      (λ u. let same : j ≡ i = eqb-same j i u in rw (same, get_or-set_same s.tasks i (record (task_at s i) { status = Ready s.next }) no_task c.0) c.1)
+      (λ u. let apart : j ≢ i = (λ q. let w : eqb j i ≡ true = rw q (eqb-refl i) in absurd (cc)) in
+      rw (get_or-set_other s.tasks i j (record (task_at s i) { status = Ready s.next }) no_task apart) d.1),
+)
+
+still_can : (s : State) (i : ℕ) (js : List ℕ) → CanEnter s i → AllByRecursion (CanEnter s) js → AllByRecursion (CanEnter (enter s i)) js
+still_can s i [] c a = tt
+still_can s i (j ∷ js) c a = (can_still s i j c a.0, still_can s i js c a.1)
+
+due_can : (s : State) → ((i : ℕ) → IsReckoned s.time (task_at s i).previous (task_at s i).status) → (es : List Entry) → AllByRecursion (λ (e : Entry). e.task < length s.tasks) es → AllByRecursion (CanEnter s) (tasks_of (filter (is_due s) es))
+due_can s r [] a = tt
+due_can s r (e ∷ es) a = by_test (is_due s e)
+    (λ t. rw t ((a.0, due_reckoned s.time (task_at s e.task).previous (task_at s e.task).status (r e.task) t), due_can s r es a.1))
+    (λ t. rw t (due_can s r es a.1))
 
 -- What each deed keeps
 
@@ -71,28 +117,31 @@ module _ (app : Application) (formed : IsWellFormed app) where
     time = h.time;
   }
 
-  places-set : (s : State) (i : ℕ) (t : Task) → IsState app s → i < length s.tasks → IsAt (script_of app i) t → (j : ℕ) → IsAt (script_of app j) (get_or (set s.tasks i t) j no_task)
+  places-set : (s : State) (i : ℕ) (t : Task) → IsState app s → i < length s.tasks → IsAt s.time (script_of app i) t → (j : ℕ) → IsAt s.time (script_of app j) (get_or (set s.tasks i t) j no_task)
   places-set s i t h l a j = by_test (eqb j i)
       (λ u. let same : j ≡ i = eqb-same j i u in rw (same, get_or-set_same s.tasks i t no_task l) a)
       (λ u. let apart : j ≢ i = (λ q. let w : eqb j i ≡ true = rw q (eqb-refl i) in absurd (cc)) in
       rw (get_or-set_other s.tasks i j t no_task apart) (h.places j))
 
-  changed : (s : State) (i : ℕ) (t : Task) → IsState app s → i < length s.tasks → HasNumberBelow s.next t.status → IsAt (script_of app i) t → IsState app (with_task s i t)
+  changed : (s : State) (i : ℕ) (t : Task) → IsState app s → i < length s.tasks → HasNumberBelow s.next t.status → IsAt s.time (script_of app i) t → IsState app (with_task s i t)
   changed s i t h l b a = record { table = table-set s i t h.table b; tasks = rw length-set h.tasks; places = places-set s i t h l a; time = h.time }
 
-  numbered : (s : State) (i : ℕ) (t : Task) → IsState app s → i < length s.tasks → HasNumberBelow (s.next + 1) t.status → IsAt (script_of app i) t → IsState app (record (with_task s i t) { next = s.next + 1 })
+  numbered : (s : State) (i : ℕ) (t : Task) → IsState app s → i < length s.tasks → HasNumberBelow (s.next + 1) t.status → IsAt s.time (script_of app i) t → IsState app (record (with_task s i t) { next = s.next + 1 })
   numbered s i t h l b a = record { table = table-numbered s i t h.table b; tasks = rw length-set h.tasks; places = places-set s i t h l a; time = h.time }
 
   -- whatever it does
-  at_any : (s : State) (i : ℕ) (u : Status) → IsState app s → IsAt (script_of app i) (record (task_at s i) { status = u })
-  at_any s i u h = let a = h.places i in record { nests = a.nests; loops = a.loops; used = a.used }
+  at_any : (s : State) (i : ℕ) (u : Status) → IsState app s → IsReckoned s.time (task_at s i).previous u → IsAt s.time (script_of app i) (record (task_at s i) { status = u })
+  at_any s i u h r = let a = h.places i in record { nests = a.nests; loops = a.loops; used = a.used; reckoned = r }
 
-  entered : (s : State) (i : ℕ) → IsState app s → i < length s.tasks → IsState app (enter s i)
-  entered s i h l = numbered s i (record (task_at s i) { status = Ready s.next }) h l (omega arith) (at_any s i (Ready s.next) h)
+  entered : (s : State) (i : ℕ) → IsState app s → CanEnter s i → IsState app (enter s i)
+  entered s i h c = numbered s i (record (task_at s i) { status = Ready s.next }) h c.0 (omega arith) (at_any s i (Ready s.next) h c.1)
 
-  all_entered : (s : State) (is : List ℕ) → IsState app s → AllByRecursion (λ i. i < length s.tasks) is → IsState app (fold enter s is)
+  all_entered : (s : State) (is : List ℕ) → IsState app s → AllByRecursion (CanEnter s) is → IsState app (fold enter s is)
   all_entered s [] h a = h
-  all_entered s (i ∷ is) h a = all_entered (enter s i) is (entered s i h a.0) (rw length-set a.1)
+  all_entered s (i ∷ is) h a = all_entered (enter s i) is (entered s i h a.0) (still_can s i is a.0 a.1)
+
+  ready_can : (s : State) (i : ℕ) → IsState app s → i < length s.tasks → is_ready s i ≡ true → CanEnter s i
+  ready_can s i h l t = (l, ready_reckoned s.time (task_at s i).previous (task_at s i).status (h.places i).reckoned t)
 
   runs : (s : State) (c : Option ℕ) → IsState app s → IfSome c (λ i. i < length s.tasks) → IsState app (record s { running = c })
   runs s c h l = record { table = record { numbers = h.table.numbers; few = h.table.few; running = l }; tasks = h.tasks; places = h.places; time = h.time }
@@ -105,7 +154,7 @@ module _ (app : Application) (formed : IsWellFormed app) where
 
   left_by : (s : State) (r : Option ℕ) → IsState app s → IfSome r (λ i. i < length s.tasks) → IsState app (leave_from r s)
   left_by s None h l = h
-  left_by s (Some i) h l = by_test (is_ready s i) (λ t. rw t (entered s i h l)) (λ t. rw t h)
+  left_by s (Some i) h l = by_test (is_ready s i) (λ t. rw t (entered s i h (ready_can s i h l t))) (λ t. rw t h)
 
   left : (s : State) → IsState app s → IsState app (leave s)
   unfolding leave
@@ -121,10 +170,10 @@ module _ (app : Application) (formed : IsWellFormed app) where
 
   woken : (s : State) → IsState app s → IsState app (wake s)
   unfolding wake
-  woken s h = all_entered s (tasks_of (due s)) h (due_within s)
+  woken s h = all_entered s (tasks_of (due s)) h (due_can s (λ i. (h.places i).reckoned) (sleepers s) (line_within sleep_key s.tasks))
 
   later : (s : State) → IsState app s → IsState app (record s { time = s.time + 1; elapsed = s.elapsed + 1 })
-  later s h = let le = h.time in record { table = record { numbers = h.table.numbers; few = h.table.few; running = h.table.running }; tasks = h.tasks; places = h.places; time = omega arith }
+  later s h = let le = h.time in record { table = record { numbers = h.table.numbers; few = h.table.few; running = h.table.running }; tasks = h.tasks; places = λ i. let a = h.places i in record { nests = a.nests; loops = a.loops; used = a.used; reckoned = later_reckoned s.time (task_at s i).previous (task_at s i).status a.reckoned }; time = omega arith }
 
   ticked : (s : State) → IsState app s → IsState app (tick s)
   unfolding tick
@@ -135,13 +184,14 @@ module _ (app : Application) (formed : IsWellFormed app) where
     number_kept : HasNumberBelow s.next (task_at s i).status
     number_kept = number_at s.next i s.tasks h.table.numbers
 
-    gone : (place : ℕ) (t : Task) → t.status ≡ (task_at s i).status → Nests (length t.loops) (drop place (script_of app i)) → LoopsNest (script_of app i) t.loops → IsState app (go_to app i place t s)
+    gone : (place : ℕ) (t : Task) → t.status ≡ (task_at s i).status → t.previous ≡ (task_at s i).previous → Nests (length t.loops) (drop place (script_of app i)) → LoopsNest (script_of app i) t.loops → IsState app (go_to app i place t s)
     unfolding go_to
-    gone place t same n ls =
-        let a : (u : Status) → IsAt (script_of app i) (record t { place = place; used = 0; status = u }) = λ u. record { nests = n; loops = ls; used = used_none place (script_of app i) (script_formed app formed i).ranges } in
+    gone place t same before n ls =
+        let a : (u : Status) → IsReckoned s.time t.previous u → IsAt s.time (script_of app i) (record t { place = place; used = 0; status = u }) = λ u r. record { nests = n; loops = ls; used = used_none place (script_of app i) (script_formed app formed i).ranges; reckoned = r } in
+        let kept : IsReckoned s.time t.previous t.status = rw (same, before) (h.places i).reckoned in
         by_test (eqb place (op_count app i))
-        (λ e. rw e (changed s i (record t { place = place; used = 0; status = Ended }) h l tt (a Ended)))
-        (λ e. rw e (changed s i (record t { place = place; used = 0 }) h l (rw same number_kept) (a t.status)))
+        (λ e. rw e (changed s i (record t { place = place; used = 0; status = Ended }) h l tt (a Ended tt)))
+        (λ e. rw e (changed s i (record t { place = place; used = 0 }) h l (rw same number_kept) (a t.status kept)))
 
     module _ (op : Op) (is : op_at app i (task_at s i).place ≡ Some op) where
       past_it : Nests (depth_past (length (task_at s i).loops) op) (drop ((task_at s i).place + 1) (script_of app i))
@@ -149,7 +199,7 @@ module _ (app : Application) (formed : IsWellFormed app) where
 
       -- an op that opens or closes no loop, whatever the answer
       plain : (a : Option ℕ) → depth_past (length (task_at s i).loops) op ≡ length (task_at s i).loops → IsState app (complete app i (record (task_at s i) { answer = a }) s)
-      plain a e = gone ((task_at s i).place + 1) (record (task_at s i) { answer = a }) refl (rw e at past_it) (h.places i).loops
+      plain a e = gone ((task_at s i).place + 1) (record (task_at s i) { answer = a }) refl refl (rw e at past_it) (h.places i).loops
 
   module _ (s : State) (i : ℕ) (op : Op) (h : IsState app s) (l : i < length s.tasks) (is : op_at app i (task_at s i).place ≡ Some op) where
     answered : (a : Option ℕ) → depth_past (length (task_at s i).loops) op ≡ length (task_at s i).loops → IsState app (answer app i a s)
@@ -169,7 +219,7 @@ module _ (app : Application) (formed : IsWellFormed app) where
         let more : (task_at s i).used + 1 < n = omega arith in
         let V : Option Op → Type 0 = λ o. IsUsedBy ((task_at s i).used + 1) o in
         rw t (changed s i (record (task_at s i) { used = (task_at s i).used + 1 }) h l (number_kept s i h l)
-        (record { nests = a.nests; loops = a.loops; used = subst V (sym (is ∙ ap Some e)) more })))
+        (record { nests = a.nests; loops = a.loops; used = subst V (sym (is ∙ ap Some e)) more; reckoned = a.reckoned })))
 
     expected : (a : Option ℕ) → op ≡ Expect a → IsState app (expect app i a s)
     unfolding expect
@@ -183,7 +233,7 @@ module _ (app : Application) (formed : IsWellFormed app) where
         let t : Task = task_at s i in
         let inner : Nests (length t.loops + 1) (drop (t.place + 1) (script_of app i)) = rw e at (past_it s i h l op is) in
         let deep : Nests (suc (length t.loops)) (drop (t.place + 1) (script_of app i)) = let n : length t.loops + 1 ≡ suc (length t.loops) = omega arith in rw n at inner in
-        gone s i h l (t.place + 1) (record t { loops = record { start = t.place + 1; left = n } ∷ t.loops }) refl deep (deep, (h.places i).loops)
+        gone s i h l (t.place + 1) (record t { loops = record { start = t.place + 1; left = n } ∷ t.loops }) refl refl deep (deep, (h.places i).loops)
 
     closed_by : op ≡ End → (ls : List Loop) → (task_at s i).loops ≡ ls → IsState app (turn app i (task_at s i) ls s)
     closed_by e [] same =
@@ -198,24 +248,40 @@ module _ (app : Application) (formed : IsWellFormed app) where
         let outer : Nests (length (x ∷ xs) - 1) (drop (t.place + 1) (script_of app i)) = rw e at (subst P same (past_it s i h l op is)) in
         let rest : Nests (length xs) (drop (t.place + 1) (script_of app i)) = let n : length (x ∷ xs) - 1 ≡ length xs = omega arith in rw n at outer in
         by_test (leb x.left 1)
-        (λ q. rw q (gone s i h l (t.place + 1) (record t { loops = xs }) refl rest all.1))
-        (λ q. rw q (gone s i h l x.start (record t { loops = record x { left = x.left - 1 } ∷ xs }) refl all.0 (all.0, all.1)))
+        (λ q. rw q (gone s i h l (t.place + 1) (record t { loops = xs }) refl refl rest all.1))
+        (λ q. rw q (gone s i h l x.start (record t { loops = record x { left = x.left - 1 } ∷ xs }) refl refl all.0 (all.0, all.1)))
 
     closed : op ≡ End → IsState app (close_turn app i s)
     unfolding close_turn
     closed e = closed_by e (task_at s i).loops refl
 
-  rested : (s : State) (i n time : ℕ) → IsState app s → i < length s.tasks → IsState app (rest i n time s)
+  rested : (s : State) (i n time : ℕ) → IsState app s → i < length s.tasks → s.time ≡ time → IsState app (rest i n time s)
   unfolding behind sleep
-  rested s i n time h l = by_test (eqb n 0)
-      (λ t. rw t (by_test (is_ready s i) (λ u. rw u (entered s i h l)) (λ u. rw u h)))
+  rested s i n time h l now = by_test (eqb n 0)
+      (λ t. rw t (by_test (is_ready s i) (λ u. rw u (entered s i h (ready_can s i h l u))) (λ u. rw u h)))
       (λ t. rw t (by_test (is_ready s i)
-      (λ u. rw u (numbered s i (record (task_at s i) { status = Asleep (time + n) s.next }) h l (omega arith) (at_any s i (Asleep (time + n) s.next) h)))
+      (λ u. rw u (numbered s i (record (task_at s i) { status = Asleep (time + n) s.next }) h l (omega arith) (at_any s i (Asleep (time + n) s.next) h (let r = (ready_can s i h l u).1 in omega arith))))
       (λ u. rw u h)))
 
   gave_way : (s : State) (i : ℕ) → IsState app s → i < length s.tasks → IsState app (behind i s)
   unfolding behind
-  gave_way s i h l = by_test (is_ready s i) (λ u. rw u (entered s i h l)) (λ u. rw u h)
+  gave_way s i h l = by_test (is_ready s i) (λ u. rw u (entered s i h (ready_can s i h l u))) (λ u. rw u h)
+
+  slept : (s : State) (i moment : ℕ) → IsState app s → i < length s.tasks → IsState app (sleep_until i moment s)
+  unfolding sleep_until
+  slept s i moment h l = by_test (is_ready s i)
+      (λ u.
+      let a = h.places i in
+      rw u (numbered s i (record (task_at s i) { status = Asleep moment s.next; previous = moment }) h l (omega arith) (record { nests = a.nests; loops = a.loops; used = a.used; reckoned = omega arith })))
+      (λ u. rw u h)
+
+  counted : (s : State) (i moment : ℕ) → IsState app s → i < length s.tasks → moment ≤ s.time → IsState app (reckon i moment s)
+  unfolding reckon
+  counted s i moment h l le = by_test (is_ready s i)
+      (λ u.
+      let a = h.places i in
+      rw u (changed s i (record (task_at s i) { previous = moment }) h l (number_kept s i h l) (record { nests = a.nests; loops = a.loops; used = a.used; reckoned = reckoned_now s.time moment (task_at s i).status le u })))
+      (λ u. rw u h)
 
   -- an answer leaves the table as long as it was
   length-answer : (s : State) (i : ℕ) (a : Option ℕ) → length (answer app i a s).tasks ≡ length s.tasks
@@ -225,9 +291,24 @@ module _ (app : Application) (formed : IsWellFormed app) where
   still_task : (s : State) (i : ℕ) (a : Option ℕ) → i < length s.tasks → i < length (answer app i a s).tasks
   still_task s i a l = rw (length-answer s i a) l
 
+  time-answer : (s : State) (i : ℕ) (a : Option ℕ) → (answer app i a s).time ≡ s.time
+  unfolding answer go_to
+  time-answer s i a = refl
+
+  delayed : (s : State) (i n : ℕ) → IsState app s → i < length s.tasks → op_at app i (task_at s i).place ≡ Some (DelayUntil n) → IsState app (delay_until app i ((task_at s i).previous + n) s)
+  unfolding delay_until
+  delayed s i n h l is =
+      let moment = (task_at s i).previous + n in
+      by_test (ltb s.time moment)
+      (λ t. rw t (chosen _ (slept _ i moment (answered s i (DelayUntil n) h l is (Some 1) refl) (still_task s i (Some 1) l))))
+      (λ t.
+      let le : moment ≤ (answer app i (Some 0) s).time = rw time-answer (ltb-false s.time moment t) in
+      rw t (counted _ i moment (answered s i (DelayUntil n) h l is (Some 0) refl) (still_task s i (Some 0) l) le))
+
   acted : (s : State) (i : ℕ) (op : Op) → IsState app s → i < length s.tasks → op_at app i (task_at s i).place ≡ Some op → IsState app (act app i op s)
   acted s i (Work n) h l is = ticked _ (used_up s i (Work n) h l is n refl)
-  acted s i (Delay n) h l is = chosen _ (rested _ i n s.time (answered s i (Delay n) h l is (Some 0) refl) (still_task s i (Some 0) l))
+  acted s i (Delay n) h l is = chosen _ (rested _ i n s.time (answered s i (Delay n) h l is (Some 0) refl) (still_task s i (Some 0) l) (time-answer s i (Some 0)))
+  acted s i (DelayUntil n) h l is = delayed s i n h l is
   acted s i Yield h l is = chosen _ (gave_way _ i (answered s i Yield h l is (Some 0) refl) (still_task s i (Some 0) l))
   acted s i Time h l is = answered s i Time h l is _ refl
   acted s i (Mark n) h l is = plain (write (Marked i n) s) i (framed s _ s.steps s.stopped h) l (Mark n) is (task_at s i).answer refl
@@ -251,14 +332,20 @@ module _ (app : Application) (formed : IsWellFormed app) where
 
 -- Reset
 
-none_numbered : (ds : List Definition) → AllNumbered 0 (map task_at_reset ds)
-none_numbered [] = tt
-none_numbered (d ∷ ds) = (tt, none_numbered ds)
+none_numbered : (start : ℕ) (ds : List Definition) → AllNumbered 0 (map (task_at_reset start) ds)
+none_numbered start [] = tt
+none_numbered start (d ∷ ds) = (tt, none_numbered start ds)
 
-places-reset : (i : ℕ) (ds : List Definition) → AllByRecursion IsDefinition ds → IsAt (unwrap_or (option_map (λ (d : Definition). d.script) (slice_get ds i)) []) (get_or (map task_at_reset ds) i no_task)
-places-reset i [] h = record { nests = refl; loops = tt; used = tt }
-places-reset zero (d ∷ ds) h = record { nests = h.0.script.nests; loops = tt; used = used_none 0 d.script h.0.script.ranges }
-places-reset (suc i) (d ∷ ds) h = places-reset i ds h.1
+places-reset : (start i : ℕ) (ds : List Definition) → AllByRecursion IsDefinition ds → IsAt start (unwrap_or (option_map (λ (d : Definition). d.script) (slice_get ds i)) []) (get_or (map (task_at_reset start) ds) i no_task)
+places-reset start i [] h = record { nests = refl; loops = tt; used = tt; reckoned = tt }
+places-reset start zero (d ∷ ds) h = record { nests = h.0.script.nests; loops = tt; used = used_none 0 d.script h.0.script.ranges; reckoned = tt }
+places-reset start (suc i) (d ∷ ds) h = places-reset start i ds h.1
+
+-- each counts from the time at reset
+reset_can : (start : ℕ) (i : ℕ) (ds : List Definition) → i < length ds → (get_or (map (task_at_reset start) ds) i no_task).previous ≡ start
+reset_can start i [] l = absurd (omega arith)
+reset_can start zero (d ∷ ds) l = refl
+reset_can start (suc i) (d ∷ ds) l = reset_can start i ds (omega arith)
 
 pub with_ops_within : (i n : ℕ) (ds : List Definition) → i + length ds ≤ n → AllByRecursion (λ j. j < n) (with_ops i ds)
 with_ops_within i n [] l = tt
@@ -270,17 +357,20 @@ module _ (app : Application) (formed : IsWellFormed app) where
   pub reached_before : IsState app (before_entry app)
   unfolding before_entry
   reached_before = record {
-    table = record { numbers = none_numbered app.tasks; few = rw length-map formed.few; running = tt };
-    tasks = length-map app.tasks task_at_reset;
-    places = λ i. places-reset i app.tasks formed.tasks;
+    table = record { numbers = none_numbered app.start app.tasks; few = rw length-map formed.few; running = tt };
+    tasks = length-map app.tasks (task_at_reset app.start);
+    places = λ i. places-reset app.start i app.tasks formed.tasks;
     time = omega arith;
   }
 
+  all_can : (is : List ℕ) → AllByRecursion (λ j. j < length app.tasks) is → AllByRecursion (CanEnter (before_entry app)) is
+  unfolding before_entry
+  all_can [] a = tt
+  all_can (i ∷ is) a = ((rw length-map a.0, let e = reset_can app.start i app.tasks a.0 in omega arith), all_can is a.1)
+
   pub reached_entered : IsState app (entered_at_reset app)
-  unfolding entered_at_reset before_entry
-  reached_entered =
-      let few : 0 + length app.tasks ≤ length (map task_at_reset app.tasks) = rw length-map (omega arith) in
-      all_entered app formed (before_entry app) (with_ops 0 app.tasks) reached_before (with_ops_within 0 (length (map task_at_reset app.tasks)) app.tasks few)
+  unfolding entered_at_reset
+  reached_entered = all_entered app formed (before_entry app) (with_ops 0 app.tasks) reached_before (all_can (with_ops 0 app.tasks) (with_ops_within 0 (length app.tasks) app.tasks (omega arith)))
 
   pub reached_reset : IsState app (reset app)
   unfolding reset

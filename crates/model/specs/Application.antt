@@ -1,7 +1,7 @@
 -- An application, as its file has it.
 use Rattle.std.specs.Prelude.{ℕ, List, [], length, Option, slice_get, option_map, unwrap_or, codes}
 use Rattle.model.specs.declared.op.Op.{Op}
-use Rattle.model.specs.declared.op.Op.TheVariants.{Work, Delay, Yield, Time, Mark, Expect, Repeat, End}
+use Rattle.model.specs.declared.op.Op.TheVariants.{Work, Delay, DelayUntil, Yield, Time, Mark, Expect, Repeat, End}
 
 -- a task of the file
 pub record Definition : Type 0 where
@@ -43,6 +43,7 @@ name_of app task = unwrap_or (option_map (λ (d : Definition). d.name) (definiti
 abbrev pub word_of : Op → List ℕ
 word_of (Work n) = codes "work"
 word_of (Delay n) = codes "delay"
+word_of (DelayUntil n) = codes "delay_until"
 word_of Yield = codes "yield"
 word_of Time = codes "time"
 word_of (Mark n) = codes "mark"

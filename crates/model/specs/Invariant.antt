@@ -33,14 +33,21 @@ abbrev pub LoopsNest : List Op → List Loop → Type 0
 LoopsNest script [] = Unit {0}
 LoopsNest script (l ∷ ls) = Nests (length (l ∷ ls)) (drop l.start script) × LoopsNest script ls
 
--- A task is somewhere in its script.
-pub record IsAt (script : List Op) (t : Task) : Type 0 where
+-- The last moment of a Ready task is not after now, and that of a sleeper not after the moment until which it sleeps.
+abbrev pub IsReckoned : ℕ → ℕ → Status → Type 0
+IsReckoned now previous (Ready number) = previous ≤ now
+IsReckoned now previous (Asleep moment begun) = previous ≤ moment
+IsReckoned now previous Ended = Unit {0}
+
+-- A task is somewhere in its script, at a time.
+pub record IsAt (now : ℕ) (script : List Op) (t : Task) : Type 0 where
   pub nests : Nests (length t.loops) (drop t.place script)
   pub loops : LoopsNest script t.loops
   pub used : IsUsedBy t.used (slice_get script t.place)
+  pub reckoned : IsReckoned now t.previous t.status
 
 pub record IsState (app : Application) (s : State) : Type 0 where
   pub table : IsTable s
   pub tasks : length s.tasks ≡ length app.tasks
-  pub places : (task : ℕ) → IsAt (script_of app task) (task_at s task)
+  pub places : (task : ℕ) → IsAt s.time (script_of app task) (task_at s task)
   pub time : s.time ≤ app.start + s.elapsed

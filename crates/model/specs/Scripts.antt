@@ -2,12 +2,13 @@
 use Rattle.std.specs.Prelude.{◌≡◌, ◌<◌, ◌≤◌, ℕ, ◌+◌, ◌-◌, nat_lt, Bool, true, List, [], ◌∷◌, length}
 use Rattle.std.specs.List.{AllByRecursion}
 use Rattle.model.specs.declared.op.Op.{Op}
-use Rattle.model.specs.declared.op.Op.TheVariants.{Work, Repeat, End}
+use Rattle.model.specs.declared.op.Op.TheVariants.{Work, DelayUntil, Repeat, End}
 use Rattle.model.specs.Application.{Application, Definition}
 
 -- The numbers of an op are in their ranges.
 abbrev pub InRange : Op → Type 0
 InRange (Work n) = (1 ≤ n) × (n ≤ 1000000)
+InRange (DelayUntil n) = (1 ≤ n) × (n ≤ 4294967295)
 InRange (Repeat n) = (1 ≤ n) × (n ≤ 1000)
 InRange _ = Unit {0}
 

@@ -21,6 +21,8 @@ pub record Task : Type 0 where
   pub loops : List Loop
   -- the last answer; at first `none`
   pub answer : Option ℕ
+  -- the moment from which `delay_until` counts; at first the time at reset
+  pub previous : ℕ
   pub status : Status
 
 pub record State : Type 0 where
@@ -42,7 +44,7 @@ pub record State : Type 0 where
 
 -- what stands where there is no task
 abbrev pub no_task : Task
-no_task = record { priority = 0; place = 0; used = 0; loops = []; answer = None; status = Ended }
+no_task = record { priority = 0; place = 0; used = 0; loops = []; answer = None; previous = 0; status = Ended }
 
 abbrev pub task_at : State → ℕ → Task
 task_at s task = slice_index_or s.tasks task no_task

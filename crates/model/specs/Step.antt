@@ -3,7 +3,7 @@ use Rattle.std.specs.Prelude.{ℕ, ◌+◌, ◌-◌, ◌==◌, ◌&&◌, ◌||�
 use Rattle.std.specs.List.{list_any}
 use Rattle.std.specs.Option.{option_eq}
 use Rattle.model.specs.declared.op.Op.{Op}
-use Rattle.model.specs.declared.op.Op.TheVariants.{Work, Delay, Yield, Time, Mark, Expect, Repeat, End}
+use Rattle.model.specs.declared.op.Op.TheVariants.{Work, Delay, DelayUntil, Yield, Time, Mark, Expect, Repeat, End}
 use Rattle.model.specs.declared.event.Loop.{Loop}
 use Rattle.model.specs.Trace.{What, Call, Marked, Runs, Check, printed}
 use Rattle.model.specs.Application.{Application, Definition, op_at, op_count}
@@ -176,6 +176,24 @@ sleep task moment s =
 abbrev pub rest : ℕ → ℕ → ℕ → State → State
 rest task n time s = if n == 0 then behind task s else sleep task (time + n) s
 
+-- The same, and the task counts from the moment on.
+unfoldable pub sleep_until : ℕ → ℕ → State → State
+sleep_until task moment s =
+    if is_ready s task
+    then record (with_task s task (record (task_at s task) { status = Asleep moment s.next; previous = moment })) { next = s.next + 1 }
+    else s
+
+-- The task counts from the moment on, where it is still Ready.
+unfoldable pub reckon : ℕ → ℕ → State → State
+reckon task moment s = if is_ready s task then with_task s task (record (task_at s task) { previous = moment }) else s
+
+-- what `delay_until` does: the task sleeps until the moment, if that is still to come
+unfoldable pub delay_until : Application → ℕ → ℕ → State → State
+delay_until app task moment s =
+    if nat_lt s.time moment
+    then anew (sleep_until task moment (answer app task (Some 1) s))
+    else reckon task moment (answer app task (Some 0) s)
+
 unfoldable pub expect : Application → ℕ → Option ℕ → State → State
 expect app task a s =
     let t = task_at s task in
@@ -201,6 +219,7 @@ close_turn app task s = turn app task (task_at s task) (task_at s task).loops s
 abbrev pub act : Application → ℕ → Op → State → State
 act app task (Work n) s = tick (use_up app task n s)
 act app task (Delay n) s = anew (rest task n s.time (answer app task (Some 0) s))
+act app task (DelayUntil n) s = delay_until app task ((task_at s task).previous + n) s
 act app task Yield s = anew (behind task (answer app task (Some 0) s))
 act app task Time s = answer app task (Some (printed s.time)) s
 act app task (Mark n) s = complete app task (task_at s task) (write (Marked task n) s)
@@ -230,14 +249,14 @@ abbrev pub is_empty : List Op → Bool
 is_empty [] = true
 is_empty (op ∷ ops) = false
 
--- a task that has not entered its line
-abbrev pub task_at_reset : Definition → Task
-task_at_reset d = record { priority = d.priority; place = 0; used = 0; loops = []; answer = None; status = Ended }
+-- a task that has not entered its line, at this time
+abbrev pub task_at_reset : ℕ → Definition → Task
+task_at_reset start d = record { priority = d.priority; place = 0; used = 0; loops = []; answer = None; previous = start; status = Ended }
 
 -- no task has entered its line, and idle runs
 unfoldable pub before_entry : Application → State
 before_entry app = record {
-  tasks = map task_at_reset app.tasks;
+  tasks = map (task_at_reset app.start) app.tasks;
   time = app.start;
   elapsed = 0;
   running = None;

@@ -7,6 +7,8 @@ pub enum Op {
     Work(u32),
     /// Sleeps for this many ticks (`vTaskDelay`).
     Delay(u32),
+    /// Sleeps until so many ticks after the last such moment, 1 to 4,294,967,295 (`vTaskDelayUntil`).
+    DelayUntil(u32),
     /// Gives way to the tasks of equal priority (`taskYIELD`).
     Yield,
     /// Answers the printed tick (`xTaskGetTickCount`).
@@ -32,6 +34,7 @@ impl Op {
         match self {
             Op::Work(_) => "work",
             Op::Delay(_) => "delay",
+            Op::DelayUntil(_) => "delay_until",
             Op::Yield => "yield",
             Op::Time => "time",
             Op::Mark(_) => "mark",

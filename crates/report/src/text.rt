@@ -24,7 +24,7 @@ fn name(app: &App, task: TaskId) -> &[u8]
 #[tactic(auto, using(crate::proofs::Short::word_short))]
 fn word(app: &App, task: TaskId, place: u16) -> &'static [u8]
     ensures text { result.now ≡ word_at app.now task.number place }
-    ensures size { length result.now ≤ 6 }
+    ensures size { length result.now ≤ 11 }
 {
     match app.op(task, place) {
         None => b"",

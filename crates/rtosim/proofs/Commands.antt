@@ -1,5 +1,5 @@
 -- A command that is built of others is read as its definition.
-use Rattle.std.proofs.Common.{◌≡◌, ◌∙◌, ap, ap₂, refl, false, Result, Ok, Err, IfOk}
+use Rattle.std.proofs.Common.{◌∙◌, ap, ap₂, refl, Result, Ok, Err, IfOk}
 use Rattle.clap.specs.Words.{App, AddsSubcommand, with_subcommand}
 use Rattle.clap.specs.declared.builder.command.Command.{Command}
 use Rattle.rtosim.specs.Words.{IsCommandOf}

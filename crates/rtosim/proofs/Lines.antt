@@ -1,5 +1,5 @@
 -- The words of a line.
-use Rattle.std.proofs.Common.{◌≡◌, ℕ, Bool, ◌<◌, ◌+◌, List, [], ◌∷◌, ◌++◌, length, map, take, drop, get_or, filter_map, flat_map, Option, Some, None, Result, Ok, Err, refl, ap, ◌∙◌, sym, append_assoc, drop-cons, codes, arith}
+use Rattle.std.proofs.Common.{◌≡◌, ℕ, Bool, ◌<◌, ◌+◌, List, [], ◌∷◌, ◌++◌, length, map, drop, get_or, filter_map, flat_map, Option, Some, None, Result, Ok, Err, refl, ap, ◌∙◌, append_assoc, drop-cons, codes, arith}
 use Rattle.std.proofs.lemmas.Grind.{common_steps}
 use Rattle.std.specs.List.{cons_option}
 use Rattle.std.specs.Result.{is_err}

@@ -24,11 +24,20 @@ fn refuse(rt: &HostRuntime, file: &str, fault: ServeFault) -> u8 {
     status_of(Err(fault))
 }
 
+// The fault of a file that could not be opened.
+fn fault_of(error: &io::Error) -> ServeFault {
+    if error.kind() == io::ErrorKind::OutOfMemory {
+        ServeFault::Memory
+    } else {
+        ServeFault::Read
+    }
+}
+
 // Opens the file of the job, and does the job over it and the standard streams.
 fn open_and_act(rt: &HostRuntime, job: &Job<'_>) -> u8 {
     let file = match File::open(rt, job.file()) {
         Ok(file) => file,
-        Err(_) => return refuse(rt, job.file(), ServeFault::Read),
+        Err(error) => return refuse(rt, job.file(), fault_of(&error)),
     };
     act(
         rt.alloc(),

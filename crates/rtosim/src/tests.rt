@@ -161,6 +161,21 @@ fn runs(rt: HostRuntime) {
             "base: pass in 8 steps, 0 ticks\n7 0 run -\n",
         ),
         (
+            "task = [{ name = 'a', priority = 1, script = ['work 3', 'delay_until 2', 'delay_until 2', 'time'] }]",
+            0,
+            "base: pass in 7 steps, 4 ticks\n3 3 call a 1 delay_until = 0\n4 3 call a 2 delay_until = 1\n4 3 run -\n5 4 run a\n6 4 call a 3 time = 4\n6 4 run -\n",
+        ),
+        (
+            "task = [{ name = 'a', priority = 1, script = ['delay_until 5'] }]",
+            0,
+            "base: pass in 1 steps, 0 ticks\n0 0 call a 0 delay_until = 1\n0 0 run -\n",
+        ),
+        (
+            "start = 4294967295\ntask = [{ name = 'a', priority = 1, script = ['delay_until 1', 'time'] }]",
+            0,
+            "base: pass in 3 steps, 1 ticks\n0 4294967295 call a 0 delay_until = 1\n0 4294967295 run -\n1 0 run a\n2 0 call a 1 time = 0\n2 0 run -\n",
+        ),
+        (
             "task = [{ name = 'a', priority = 1, script = ['repeat 1000', 'work 1000', 'end'] }]",
             1,
             "base: steps in 1000000 steps, 999000 ticks\n",

@@ -7,7 +7,7 @@ use Rattle.std.proofs.lemmas.Slice.Eq.{bytes_eq-Decides}
 use Rattle.std.proofs.lemmas.Bool.{cases_Bool}
 use Rattle.std.proofs.lemmas.Bool.Decides.{nat_tests}
 use Rattle.model.specs.declared.op.Op.{Op}
-use Rattle.model.specs.declared.op.Op.TheVariants.{Work, Delay, Yield, Time, Mark, Expect, Repeat, End}
+use Rattle.model.specs.declared.op.Op.TheVariants.{Work, Delay, DelayUntil, Yield, Time, Mark, Expect, Repeat, End}
 use Rattle.script.specs.Grammar.{Word, number, in_range, number_from, answer_from, Plain, Paired, plain_ops, paired_ops, plain_op, paired_op, op_of, Spells, SpellsNumbered}
 
 chosen : {X : Type 0} (b : Bool) (x y z : X) → cond b x y ≡ z → ((b ≡ true) × (x ≡ z)) ⊎ ((b ≡ false) × (y ≡ z))
@@ -66,12 +66,15 @@ paired_ops_sound = (
   (
     numbered (codes "delay") 0 4294967295 Delay (λ n ws h. h),
     (
-      numbered (codes "mark") 0 4294967295 Mark (λ n ws h. h),
+      numbered (codes "delay_until") 1 4294967295 DelayUntil (λ n ws h. h),
       (
-        expected,
+        numbered (codes "mark") 0 4294967295 Mark (λ n ws h. h),
         (
-          numbered (codes "repeat") 1 1000 Repeat (λ n ws h. h),
-          tt,
+          expected,
+          (
+            numbered (codes "repeat") 1 1000 Repeat (λ n ws h. h),
+            tt,
+          ),
         ),
       ),
     ),
@@ -119,6 +122,7 @@ not_none w n e = elim (cases_Bool (bytes_eq w (codes "none"))) [
 pub complete : (ws : List Word) (op : Op) → Spells op ws → op_of ws ≡ Some op
 complete ws (Work n) h = rw (h.1, number_back 1 1000000 n h.0 h.2 h.3 h.4)
 complete ws (Delay n) h = rw (h.1, number_back 0 4294967295 n h.0 h.2 h.3 h.4)
+complete ws (DelayUntil n) h = rw (h.1, number_back 1 4294967295 n h.0 h.2 h.3 h.4)
 complete ws Yield h = rw h
 complete ws Time h = rw h
 complete ws (Mark n) h = rw (h.1, number_back 0 4294967295 n h.0 h.2 h.3 h.4)

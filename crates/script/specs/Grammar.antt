@@ -5,7 +5,7 @@ use Rattle.std.specs.List.{list_all, slice_split}
 use Rattle.std.specs.Str.{bytes_eq}
 use Rattle.std.specs.Str.Parse.{digits_value}
 use Rattle.model.specs.declared.op.Op.{Op}
-use Rattle.model.specs.declared.op.Op.TheVariants.{Work, Delay, Yield, Time, Mark, Expect, Repeat, End}
+use Rattle.model.specs.declared.op.Op.TheVariants.{Work, Delay, DelayUntil, Yield, Time, Mark, Expect, Repeat, End}
 
 abbrev pub Word : Type 0
 Word = List ℕ
@@ -36,6 +36,7 @@ SpellsNumbered name low high n ws = (digits : Word) × (ws ≡ name ∷ digits �
 abbrev pub Spells : Op → List Word → Type 0
 Spells (Work n) ws = SpellsNumbered (codes "work") 1 1000000 n ws
 Spells (Delay n) ws = SpellsNumbered (codes "delay") 0 4294967295 n ws
+Spells (DelayUntil n) ws = SpellsNumbered (codes "delay_until") 1 4294967295 n ws
 Spells Yield ws = ws ≡ codes "yield" ∷ []
 Spells Time ws = ws ≡ codes "time" ∷ []
 Spells (Mark n) ws = SpellsNumbered (codes "mark") 0 4294967295 n ws
@@ -78,6 +79,7 @@ abbrev pub paired_ops : List Paired
 paired_ops =
     record { name = codes "work"; op = λ w. option_map Work (number_from 1 1000000 w) }
     ∷ record { name = codes "delay"; op = λ w. option_map Delay (number_from 0 4294967295 w) }
+    ∷ record { name = codes "delay_until"; op = λ w. option_map DelayUntil (number_from 1 4294967295 w) }
     ∷ record { name = codes "mark"; op = λ w. option_map Mark (number_from 0 4294967295 w) }
     ∷ record { name = codes "expect"; op = λ w. option_map Expect (answer_from w) }
     ∷ record { name = codes "repeat"; op = λ w. option_map Repeat (number_from 1 1000 w) }

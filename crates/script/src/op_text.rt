@@ -49,6 +49,8 @@ fn paired_op(word: &[u8], argument: &[u8]) -> Option<Op>
         Some(Op::Work(number_from(argument, 1, 1_000_000)?))
     } else if is(word, "delay") {
         Some(Op::Delay(number_from(argument, 0, u32::MAX)?))
+    } else if is(word, "delay_until") {
+        Some(Op::DelayUntil(number_from(argument, 1, u32::MAX)?))
     } else if is(word, "mark") {
         Some(Op::Mark(number_from(argument, 0, u32::MAX)?))
     } else if is(word, "expect") {

@@ -7,4 +7,4 @@ use Rattle.kernel.proofs.boot.slots_of.Given as goal
 
 abbrev pub invariant-loop-index : goal.invariant-loop-index
 invariant-loop-index l =
-    ((i : ℕ) → seen (slot_in l.slots i) ≡ bare (get_or (map task_at_reset (take l.index l.tasks)) i no_task)) × (length l.slots ≡ 32)
+    ((i : ℕ) → seen (slot_in l.slots i) ≡ bare (get_or (map (task_at_reset l.start) (take l.index l.tasks)) i no_task)) × (length l.slots ≡ 32)

@@ -1,4 +1,3 @@
-use Rattle.std.proofs.Common.{rules, ap, sym, ◌∙◌}
 use Rattle.rtosim.proofs.Lines.{told_by_writes}
 use Rattle.rtosim.proofs.fault_line.tell.Goals as goal
 

@@ -3,4 +3,4 @@ use Rattle.kernel.proofs.kernel.Kernel.answer.Goals as goal
 
 pub returns-clause-at : goal.returns-clause-at
 returns-clause-at c = λ s h.
-    rw c.go_to.ensures (answered c.args.app.now c.args.self.now c.args.log.now c.write.new.log s h c.args.task c.requires.runs c.slot-slot.result c.slot-slot.ensures c.args.given (c.write.ensures.at s h))
+    answered c.args.app.now c.args.self.now c.go_to.new.self c.args.log.now c.write.new.log s h c.args.task.number c.requires.runs c.slot-slot.result c.slot-slot.ensures c.args.given (c.write.ensures.at s h) c.go_to.ensures.at

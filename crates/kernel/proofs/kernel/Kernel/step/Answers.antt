@@ -7,7 +7,7 @@ pub deed-requires-clause-can : goal.deed-requires-clause-can
 deed-requires-clause-can c = can_do c.args.app.now c.well_formed-2.ensures c.args.self.now c.requires.going
 
 pub returns-clause-stands : goal.returns-clause-stands
-returns-clause-stands c = λ s h. stepped c.args.app.now s c.settle.new.self c.settle.new.log c.args.self.now.steps h.steps (c.settle.ensures.at _ (c.deed.ensures.at _ (begun c.args.self.now c.clear.new.self s h c.clear.ensures)))
+returns-clause-stands c = λ s h. stepped c.args.app.now s c.settle.new.self c.settle.new.log c.args.self.now.steps h.rest.steps (c.settle.ensures.at _ (c.deed.ensures.at _ (begun c.args.self.now c.clear.new.self s h c.clear.ensures)))
 
 pub returns-clause-log : goal.returns-clause-log
 unfolding step

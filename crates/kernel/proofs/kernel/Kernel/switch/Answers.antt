@@ -1,7 +1,5 @@
-use Rattle.std.proofs.Common.{sym}
-use Rattle.model.specs.Step.{switch}
+use Rattle.kernel.proofs.Choosing.{switched}
 use Rattle.kernel.proofs.kernel.Kernel.switch.Goals as goal
 
-pub returns-then-gives_way-clause-at : goal.returns-then-gives_way-clause-at
-unfolding switch
-returns-then-gives_way-clause-at c = λ s h. let t = sym (c.if-gives_way.ensures s h.stands) in rw t (c.anew.ensures.at _ (c.leave.ensures _ s h))
+pub returns-clause-at : goal.returns-clause-at
+returns-clause-at c = λ s h. switched c.args.self.now c.args.log.now c.tell_change.new.log s c.slice.new.self _ h c.current-before.ensures.running c.tell_change.ensures.line (c.slice.ensures.switch s h.stands.sched)

@@ -3,8 +3,8 @@ use Rattle.kernel.proofs.kernel.Kernel.use_up.Goals as goal
 
 pub returns-then-used-units-clause-at : goal.returns-then-used-units-clause-at
 returns-then-used-units-clause-at c = λ w s h.
-    rw c.go_to.ensures (used_last c.args.app.now c.args.self.now w s h c.args.task c.requires.runs c.slot-slot.result c.slot-slot.ensures c.args.units c.if-used-units.true)
+    used_last c.args.app.now c.args.self.now c.go_to.new.self w s h c.args.task.number c.requires.runs c.slot-slot.result c.slot-slot.ensures c.args.units c.if-used-units.true c.go_to.ensures.at
 
 pub returns-else-used-units-clause-at : goal.returns-else-used-units-clause-at
 returns-else-used-units-clause-at c = λ w s h.
-    used_more c.args.app.now c.args.self.now w s h c.args.task c.requires.runs c.slot-slot.result c.slot-slot.ensures c.args.units c.if-used-units.false
+    used_more c.args.app.now c.args.self.now c.args.self.now w s h c.args.task.number c.requires.runs c.slot-slot.result c.slot-slot.ensures c.args.units c.if-used-units.false

@@ -1,0 +1,4 @@
+pub mod Advancing
+pub mod Sleeping
+pub mod Standing
+pub mod Taking

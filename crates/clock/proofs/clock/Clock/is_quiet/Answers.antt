@@ -1,0 +1,15 @@
+use Rattle.std.proofs.Common.{◌≡◌, ℕ, List, [], ◌∷◌, ◌++◌, ap, ◌∙◌, refl}
+use Rattle.clock.specs.Sleepers.{Time, moved}
+use Rattle.clock.proofs.clock.Clock.is_quiet.Goals as goal
+
+none_left : (base : ℕ) (xs ys : List (ℕ × ℕ)) → moved base xs ++ ys ≡ [] → xs ≡ []
+none_left base [] ys e = refl
+none_left base (x ∷ xs) ys e = absurd (cc)
+
+pub returns-else-is_empty : goal.returns-else-is_empty
+returns-else-is_empty c = record {
+  quiet = (
+    λ t. absurd (cc),
+    λ e. c.is_empty.ensures.empty.1 (none_left _ _ _ (ap (λ (t : Time). t.sleepers) c.self.view_is ∙ e)),
+  );
+}

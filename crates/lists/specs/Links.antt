@@ -1,0 +1,80 @@
+-- How the arrays of a table spell its lists.
+use Rattle.std.specs.Prelude.{◌≡◌, ℕ, zero, suc, ◌<◌, ◌≤◌, nat_lt, if◌then◌else◌, Option, Some, None, List, [], ◌∷◌, ◌++◌, get_or, set, length, map}
+use Rattle.lists.specs.Lists.{Each, Apart, EachOnce, first_of}
+
+-- the entries from `start` on: each node with its value, at most `fuel` of them
+abbrev pub walk : List (Option ℕ) → List ℕ → ℕ → Option ℕ → List (ℕ × ℕ)
+walk next values zero start = []
+walk next values (suc fuel) None = []
+walk next values (suc fuel) (Some n) = (n, get_or values n 0) ∷ walk next values fuel (get_or next n None)
+
+-- the entries of each list
+unfoldable pub lists_of : ℕ → List (Option ℕ) → List ℕ → List (Option ℕ) → List (List (ℕ × ℕ))
+lists_of fuel next values firsts = map (walk next values fuel) firsts
+
+-- A link is a node, or `None` for the end of its list, which stands before the first node and after
+-- the last. Here is what it leads to: the end leads to `end`, and a node to what `links` says
+abbrev pub at_link : List (Option ℕ) → Option ℕ → Option ℕ → Option ℕ
+at_link links end None = end
+at_link links end (Some n) = get_or links n None
+
+-- the links of the nodes, and those of the ends, after a write at a link of a list
+abbrev pub put_link : List (Option ℕ) → Option ℕ → Option ℕ → List (Option ℕ)
+put_link links None x = links
+put_link links (Some n) x = set links n x
+
+abbrev pub put_end : List (Option ℕ) → ℕ → Option ℕ → Option ℕ → List (Option ℕ)
+put_end ends list None x = set ends list x
+put_end ends list (Some n) x = ends
+
+-- from `a` on, through these entries, to the end: `next` leads forth, and `prev` leads back
+abbrev pub Linked : (Option ℕ → Option ℕ) → (Option ℕ → Option ℕ) → Option ℕ → List (ℕ × ℕ) → Type 0
+Linked next prev a [] = (next a ≡ None) × (prev None ≡ a)
+Linked next prev a (e ∷ xs) = (next a ≡ Some e.0) × (prev (Some e.0) ≡ a) × Linked next prev (Some e.0) xs
+
+-- the last entry's node, or `a` where there is none
+abbrev pub last_of : Option ℕ → List (ℕ × ℕ) → Option ℕ
+last_of a [] = a
+last_of a (e ∷ xs) = last_of (Some e.0) xs
+
+-- an entry of list l: its node is in the table, is marked as in that list, and has that value
+pub record InPlace (N : ℕ) (place : List (Option ℕ)) (values : List ℕ) (l : ℕ) (e : ℕ × ℕ) : Type 0 where
+  pub known : e.0 < N
+  pub placed : get_or place e.0 None ≡ Some l
+  pub valued : get_or values e.0 0 ≡ e.1
+
+-- the arrays of a table of L lists and N nodes spell these lists
+pub record Spells (L N : ℕ) (next prev place : List (Option ℕ)) (values : List ℕ) (firsts lasts : List (Option ℕ)) (ls : List (List (ℕ × ℕ))) : Type 0 where
+  pub next_length : length next ≡ N
+  pub prev_length : length prev ≡ N
+  pub place_length : length place ≡ N
+  pub values_length : length values ≡ N
+  pub firsts_length : length firsts ≡ L
+  pub lasts_length : length lasts ≡ L
+  pub as_many : length ls ≡ L
+  pub linked : (l : ℕ) → l < L → Linked (at_link next (get_or firsts l None)) (at_link prev (get_or lasts l None)) None (get_or ls l [])
+  pub in_place : (l : ℕ) → l < L → Each (InPlace N place values l) (get_or ls l [])
+  pub distinct : (l : ℕ) → l < L → EachOnce (get_or ls l [])
+  pub marked : (n l : ℕ) → get_or place n None ≡ Some l → (l < L) × (Apart (Some n) (get_or ls l []) → ⊥)
+
+-- the arrays of a table of L lists and N nodes
+pub record IsTable (L N : ℕ) (next prev place : List (Option ℕ)) (values : List ℕ) (firsts lasts : List (Option ℕ)) : Type 0 where
+  pub lists_fit : L ≤ 4096
+  pub nodes_fit : N ≤ 4096
+  pub spells : Spells L N next prev place values firsts lasts (lists_of N next values firsts)
+
+-- the entries before the first of a greater value, and those from it on
+abbrev pub lower : ℕ → List (ℕ × ℕ) → List (ℕ × ℕ)
+lower value [] = []
+lower value (x ∷ xs) = if nat_lt value x.1 then [] else x ∷ lower value xs
+
+abbrev pub upper : ℕ → List (ℕ × ℕ) → List (ℕ × ℕ)
+upper value [] = []
+upper value (x ∷ xs) = if nat_lt value x.1 then x ∷ xs else upper value xs
+
+-- a place among the entries, before some rest of them, of which `after` is the first node
+pub record IsPlace (entries : List (ℕ × ℕ)) (after : Option ℕ) : Type 0 where
+  pub before : List (ℕ × ℕ)
+  pub rest : List (ℕ × ℕ)
+  pub whole : entries ≡ before ++ rest
+  pub here : after ≡ first_of rest

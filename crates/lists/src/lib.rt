@@ -1,0 +1,14 @@
+//! Doubly linked lists over a fixed number of nodes, which take no memory.
+//!
+//! A table has `L` lists and `N` nodes. A node is named by its number, stands in one list at most,
+//! and has a value there. Each call takes constant time, but for `Table::insert_sorted`, which
+//! walks along its list.
+#![tactic(auto)]
+
+mod ids;
+mod table;
+#[cfg(test)]
+mod tests;
+
+pub use ids::{ListId, NodeId};
+pub use table::Table;

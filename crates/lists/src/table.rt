@@ -1,0 +1,225 @@
+ghost use Rattle.std.specs.Prelude.{◌≡◌, ℕ, ◌+◌, ◌<◌, ◌≤◌, ◌↔◌, List, [], ◌∷◌, ◌++◌, length, replicate, slice_set, slice_index_or, map, option_map, IsTrue, IsNone};
+ghost use Rattle.std.specs.Option.{ForSome};
+ghost use Rattle.lists.specs.Links.{lists_of, IsTable, IsPlace, at_link, put_link, put_end, upper};
+ghost use Rattle.lists.specs.Lists.{entries_of, first_of, has_node, inserted, next_of, place_of, value_of, without, IsSound};
+
+use crate::ids::{ListId, NodeId};
+use std::marker::Model;
+
+/// `L` lists over `N` nodes, each at most 4096. A node is in one list at most.
+#[derive(Drop)]
+pub struct Table<const L: usize, const N: usize> {
+    next: [Option<u16>; N],
+    prev: [Option<u16>; N],
+    place: [Option<u16>; N],
+    values: [u32; N],
+    firsts: [Option<u16>; L],
+    lasts: [Option<u16>; L],
+}
+
+// Clauses see for each list its entries in order, each a node and its value.
+impl<const L: usize, const N: usize> Model for Table<L, N> {
+    ghost Value = { List (List (ℕ × ℕ)) };
+
+    ghost view = { λ t. lists_of N t.next t.values t.firsts };
+
+    ghost invariant = { λ t. IsTable L N t.next t.prev t.place t.values t.firsts t.lasts };
+}
+
+/// Reads a link of a list: that of a node, or that of the list's end.
+fn link_at(
+    ends: &[Option<u16>],
+    links: &[Option<u16>],
+    list: ListId,
+    at: Option<u16>,
+) -> Option<u16>
+    requires list { list.number < length ends.now }
+    requires at { ForSome at (λ node. node < length links.now) }
+    ensures link { result ≡ at_link links.now (slice_index_or ends.now list.number None) at }
+{
+    match at {
+        None => ends[list.number as usize],
+        Some(node) => links[node as usize],
+    }
+}
+
+/// Writes a link of a list: that of a node, or that of the list's end.
+fn set_link(
+    ends: &mut [Option<u16>],
+    links: &mut [Option<u16>],
+    list: ListId,
+    at: Option<u16>,
+    to: Option<u16>,
+)
+    requires list { list.number < length ends.old }
+    requires at { ForSome at (λ node. node < length links.old) }
+    ensures ends { ends.new ≡ put_end ends.old list.number at to }
+    ensures links { links.new ≡ put_link links.old at to }
+{
+    match at {
+        None => ends[list.number as usize] = to,
+        Some(node) => links[node as usize] = to,
+    }
+}
+
+/// The node that a link leads to.
+fn node_of(link: Option<u16>) -> Option<NodeId>
+    requires { ForSome link (λ node. node < 4096) }
+    ensures node { option_map (λ node. node.number) result ≡ link }
+{
+    match link {
+        None => None,
+        Some(number) => Some(NodeId { number }),
+    }
+}
+
+/// The list that a mark names.
+fn list_of(mark: Option<u16>) -> Option<ListId>
+    requires { ForSome mark (λ list. list < 4096) }
+    ensures list { option_map (λ list. list.number) result ≡ mark }
+{
+    match mark {
+        None => None,
+        Some(number) => Some(ListId { number }),
+    }
+}
+
+impl<const L: usize, const N: usize> Table<L, N> {
+    /// Empty lists.
+    pub fn new() -> Self
+        requires lists { L ≤ 4096 }
+        requires nodes { N ≤ 4096 }
+        ensures empty { result ≡ replicate L [] }
+        ensures sound { IsSound L N result }
+    {
+        Table {
+            next: [None; N],
+            prev: [None; N],
+            place: [None; N],
+            values: [0; N],
+            firsts: [None; L],
+            lasts: [None; L],
+        }
+    }
+
+    /// The first node of a list.
+    pub fn first(&self, list: ListId) -> Option<NodeId>
+        requires { list.number < L }
+        ensures first { option_map (λ node. node.number) result ≡ first_of (entries_of self.now list.number) }
+        ensures sound { IsSound L N self.now }
+    {
+        node_of(self.firsts[list.number as usize])
+    }
+
+    /// Whether a list has no node.
+    pub fn is_empty(&self, list: ListId) -> bool
+        requires { list.number < L }
+        ensures empty { IsTrue result ↔ (entries_of self.now list.number ≡ []) }
+    {
+        self.firsts[list.number as usize].is_none()
+    }
+
+    /// The list that a node is in.
+    pub fn place(&self, node: NodeId) -> Option<ListId>
+        requires { node.number < N }
+        ensures place { option_map (λ list. list.number) result ≡ place_of self.now node.number }
+        ensures sound { IsSound L N self.now }
+    {
+        list_of(self.place[node.number as usize])
+    }
+
+    /// The value with which a node was put into its list. Of a node in no list, any number.
+    pub fn value(&self, node: NodeId) -> u32
+        requires { node.number < N }
+        ensures value { (list : ℕ) → IsTrue (has_node node.number (entries_of self.now list)) → result ≡ value_of node.number (entries_of self.now list) }
+        ensures sound { IsSound L N self.now }
+    {
+        self.values[node.number as usize]
+    }
+
+    /// The node after this one in its list; `None` after the last, and for a node in no list.
+    pub fn next(&self, node: NodeId) -> Option<NodeId>
+        requires { node.number < N }
+        ensures next { (list : ℕ) → IsTrue (has_node node.number (entries_of self.now list)) → option_map (λ node. node.number) result ≡ next_of node.number (entries_of self.now list) }
+        ensures outside { place_of self.now node.number ≡ None → IsNone result }
+        ensures sound { IsSound L N self.now }
+    {
+        if self.place[node.number as usize].is_some() {
+            node_of(self.next[node.number as usize])
+        } else {
+            None
+        }
+    }
+
+    /// Takes a node out of its list. One that is in no list stays so.
+    pub fn remove(&mut self, node: NodeId)
+        requires { node.number < N }
+        ensures removed { self.new ≡ map (without node.number) self.old }
+        ensures sound { IsSound L N self.new }
+    {
+        if let Some(list) = list_of(self.place[node.number as usize]) {
+            let before = self.prev[node.number as usize];
+            let after = self.next[node.number as usize];
+            set_link(&mut self.firsts, &mut self.next, list, before, after);
+            set_link(&mut self.lasts, &mut self.prev, list, after, before);
+            self.place[node.number as usize] = None;
+        }
+    }
+
+    /// Puts a node last, with a value.
+    pub fn push_back(&mut self, list: ListId, node: NodeId, value: u32)
+        requires list { list.number < L }
+        requires node { node.number < N }
+        requires free { place_of self.old node.number ≡ None }
+        ensures put { self.new ≡ slice_set self.old list.number (entries_of self.old list.number ++ (node.number, value) ∷ []) }
+        ensures sound { IsSound L N self.new }
+    {
+        self.put_before(list, None, node, value);
+    }
+
+    /// Puts a node before the first one of a greater value, or last.
+    pub fn insert_sorted(&mut self, list: ListId, node: NodeId, value: u32)
+        requires list { list.number < L }
+        requires node { node.number < N }
+        requires free { place_of self.old node.number ≡ None }
+        ensures put { self.new ≡ slice_set self.old list.number (inserted (node.number, value) (entries_of self.old list.number)) }
+        ensures sound { IsSound L N self.new }
+    {
+        let after = self.first_greater(list, value);
+        self.put_before(list, after, node, value);
+    }
+
+    /// Puts a node into a list before another, or last.
+    fn put_before(&mut self, list: ListId, after: Option<u16>, node: NodeId, value: u32)
+        requires list { list.number < L }
+        requires node { node.number < N }
+        requires free { place_of self.old node.number ≡ None }
+        requires placed { IsPlace (entries_of self.old list.number) after }
+        ensures put { (before rest : List (ℕ × ℕ)) → entries_of self.old list.number ≡ before ++ rest → after ≡ first_of rest → self.new ≡ slice_set self.old list.number (before ++ (node.number, value) ∷ rest) }
+        ensures sound { IsSound L N self.new }
+    {
+        let before = link_at(&self.lasts, &self.prev, list, after);
+        self.next[node.number as usize] = after;
+        self.prev[node.number as usize] = before;
+        self.place[node.number as usize] = Some(list.number);
+        self.values[node.number as usize] = value;
+        let linked = Some(node.number);
+        set_link(&mut self.firsts, &mut self.next, list, before, linked);
+        set_link(&mut self.lasts, &mut self.prev, list, after, linked);
+    }
+
+    /// The first node of a list whose value is greater.
+    fn first_greater(&self, list: ListId, value: u32) -> Option<u16>
+        requires { list.number < L }
+        ensures found { result ≡ first_of (upper value (entries_of self.now list.number)) }
+    {
+        let mut at = self.firsts[list.number as usize];
+        while let Some(node) = at {
+            if value < self.values[node as usize] {
+                return at;
+            }
+            at = self.next[node as usize];
+        }
+        None
+    }
+}

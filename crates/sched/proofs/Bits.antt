@@ -1,0 +1,127 @@
+-- The word of bits, one for each list.
+use Rattle.std.proofs.Common.{◌≡◌, ◌≢◌, ℕ, zero, suc, ◌-◌, ◌*◌, ◌/◌, ◌%◌, ◌^◌, ◌<◌, ◌≤◌, inl, inr, List, [], ◌∷◌, ◌++◌, None, Some, length, map, set, replicate, get_or, sym, ◌∙◌, ap, subst, arith, refl, bit_and, bit_or}
+use Rattle.std.specs.Int.{bit_at, bit_not, leading_zeros, w32}
+use Rattle.std.proofs.Math.Nat.{div-eq_of_lt-le}
+use Rattle.std.proofs.lemmas.Bool.{cases_eq, cases_lt}
+use Rattle.std.proofs.lemmas.Nat.{leading_top}
+use Rattle.std.proofs.lemmas.Nat.Bits.{bit_at-zero, bit_at_above, bit_at_clear_other, bit_at_clear_same, bit_at_set_other, bit_at_set_same}
+use Rattle.std.proofs.lemmas.List.{get_or_past}
+use Rattle.std.proofs.lemmas.Option.{same_Some}
+use Rattle.lists.specs.Lists.{IsSound, entries_of, place_of, without}
+use Rattle.lists.proofs.Entries.{has_or_not, apart_from_test, without-apart}
+use Rattle.lists.proofs.Laws.{entries_of-set_other, entries_of-set_same, entries_of-without}
+use Rattle.sched.specs.Lines.{AreLines, IsHighest, bit_of}
+
+-- the place of the highest bit
+highest_bit : (n : ℕ) → 0 < n → n < 2 ^ 32 → (31 - leading_zeros w32 n < 32) × (bit_at n (31 - leading_zeros w32 n) ≡ 1) × ((i : ℕ) → 31 - leading_zeros w32 n < i → bit_at n i ≡ 0)
+highest_bit n some fits =
+    let top = leading_top 32 n some fits in
+    let j = top.0 in
+    let place : 31 - leading_zeros w32 n ≡ j = omega (arith, top.1) in
+    let twice : 2 ^ suc j ≡ 2 * 2 ^ j = omega arith in
+    let one : n / 2 ^ j ≡ 1 = div-eq_of_lt-le (2 ^ j) (omega (arith, top.2)) (omega (arith, top.3, twice)) in (
+      omega arith,
+      ap (bit_at n) place ∙ ap (λ (q : ℕ). q % 2) one,
+      λ i above. bit_at_above n (suc j) i top.3 (omega (arith, place, above)),
+    )
+
+bit_of-empty : (xs : List (ℕ × ℕ)) → bit_of xs ≡ 0 → xs ≡ []
+bit_of-empty [] e = refl
+bit_of-empty (x ∷ xs) e = absurd (omega (arith, e))
+
+bit_of-last : (xs : List (ℕ × ℕ)) (e : ℕ × ℕ) → bit_of (xs ++ e ∷ []) ≡ 1
+bit_of-last [] e = refl
+bit_of-last (x ∷ xs) e = refl
+
+no_one : (b c : ℕ) → b ≡ 1 → c ≡ 0 → b ≡ c → ⊥
+no_one b c one none same = omega (arith, one, none, same)
+
+past_empty : {lists : List (List (ℕ × ℕ))} {full : ℕ} → AreLines lists full → (p : ℕ) → 32 ≤ p → entries_of lists p ≡ []
+past_empty {lists} {full} h p past = get_or_past lists p [] (let many = h.sound.as_many in omega (arith, many, past))
+
+pub highest_is : {lists : List (List (ℕ × ℕ))} {full : ℕ} → AreLines lists full → full ≢ 0 → full < 2 ^ 32 → IsHighest lists (Some (31 - leading_zeros w32 full))
+highest_is {lists} {full} h some fits =
+    let top = highest_bit full (omega (arith, some)) fits in
+    let p = 31 - leading_zeros w32 full in (
+      top.0,
+      λ e. no_one (bit_at full p) (bit_of (entries_of lists p)) top.1 (ap bit_of e) (h.bits p top.0),
+      λ q above. elim (cases_lt q 32) [
+        | inl below ↦ bit_of-empty (entries_of lists q) (sym (h.bits q below) ∙ top.2 q above)
+        | inr past ↦ past_empty h q past
+      ],
+    )
+
+pub none_is : {lists : List (List (ℕ × ℕ))} {full : ℕ} → AreLines lists full → full ≡ 0 → IsHighest lists None
+none_is {lists} {full} h zero_is = λ p. elim (cases_lt p 32) [
+  | inl below ↦ bit_of-empty (entries_of lists p) (sym (h.bits p below) ∙ ap (λ (n : ℕ). bit_at n p) zero_is ∙ bit_at-zero p)
+  | inr past ↦ past_empty h p past
+]
+
+-- a task goes into a list
+pub bit_set : {lists : List (List (ℕ × ℕ))} {full : ℕ} → AreLines lists full → (list : ℕ) (e : ℕ × ℕ) → list < 32 → IsSound 32 32 (set lists list (entries_of lists list ++ e ∷ [])) → AreLines (set lists list (entries_of lists list ++ e ∷ [])) (bit_or full (1 * 2 ^ list % 2 ^ 32))
+bit_set {lists} {full} h list e known sound =
+    let new = entries_of lists list ++ e ∷ [] in
+    let below : list < length lists = let many = h.sound.as_many in omega (arith, many, known) in
+    record {
+      sound = sound;
+      bits = λ p hp. elim (cases_eq p list) [
+        | inl same ↦
+            ap (bit_at (bit_or full (1 * 2 ^ list % 2 ^ 32))) same ∙ bit_at_set_same w32 full list known
+            ∙ sym (ap (λ (q : ℕ). bit_of (entries_of (set lists list new) q)) same ∙ ap bit_of (entries_of-set_same lists list new below) ∙ bit_of-last (entries_of lists list) e)
+        | inr other ↦
+            bit_at_set_other w32 full list known p other ∙ h.bits p hp
+            ∙ sym (ap bit_of (entries_of-set_other lists list p new other))
+      ];
+    }
+
+-- a task leaves a list
+left_other : {lists : List (List (ℕ × ℕ))} → IsSound 32 32 lists → (task list p : ℕ) → place_of lists task ≡ Some list → p ≢ list → entries_of (map (without task) lists) p ≡ entries_of lists p
+left_other {lists} sound task list p at other =
+    entries_of-without task p lists ∙ elim (has_or_not task (entries_of lists p)) [
+      | inl has ↦ absurd (other (same_Some p list (sym (sound.one_place task p has) ∙ at)))
+      | inr none ↦ without-apart task (entries_of lists p) (apart_from_test task (entries_of lists p) none)
+    ]
+
+pub bit_cleared : {lists : List (List (ℕ × ℕ))} {full : ℕ} → AreLines lists full → (task list : ℕ) → list < 32 → place_of lists task ≡ Some list → IsSound 32 32 (map (without task) lists) → entries_of (map (without task) lists) list ≡ [] → AreLines (map (without task) lists) (bit_and full (bit_not w32 (1 * 2 ^ list % 2 ^ 32)))
+bit_cleared {lists} {full} h task list known at sound empty = record {
+  sound = sound;
+  bits = λ p hp. elim (cases_eq p list) [
+    | inl same ↦
+        ap (bit_at (bit_and full (bit_not w32 (1 * 2 ^ list % 2 ^ 32)))) same ∙ bit_at_clear_same w32 full list known
+        ∙ sym (ap (λ (q : ℕ). bit_of (entries_of (map (without task) lists) q)) same ∙ ap bit_of empty)
+    | inr other ↦
+        bit_at_clear_other w32 full list known p hp other ∙ h.bits p hp
+        ∙ sym (ap bit_of (left_other h.sound task list p at other))
+  ];
+}
+
+bit_of-some : (xs : List (ℕ × ℕ)) → xs ≢ [] → bit_of xs ≡ 1
+bit_of-some [] some = absurd (some refl)
+bit_of-some (x ∷ xs) some = refl
+
+was_some : (task : ℕ) (xs ys : List (ℕ × ℕ)) → ys ≡ without task xs → ys ≢ [] → xs ≢ []
+was_some task [] ys is some = λ e. some is
+was_some task (x ∷ xs) ys is some = λ e. cc
+
+pub bit_kept : {lists : List (List (ℕ × ℕ))} {full : ℕ} → AreLines lists full → (task list : ℕ) → place_of lists task ≡ Some list → IsSound 32 32 (map (without task) lists) → entries_of (map (without task) lists) list ≢ [] → AreLines (map (without task) lists) full
+bit_kept {lists} {full} h task list at sound some = record {
+  sound = sound;
+  bits = λ p hp. elim (cases_eq p list) [
+    | inl same ↦
+        let left : entries_of (map (without task) lists) p ≢ [] = subst (λ (q : ℕ). entries_of (map (without task) lists) q ≢ []) (sym same) some in
+        h.bits p hp ∙ bit_of-some (entries_of lists p) (was_some task (entries_of lists p) (entries_of (map (without task) lists) p) (entries_of-without task p lists) left)
+        ∙ sym (bit_of-some (entries_of (map (without task) lists) p) left)
+    | inr other ↦ h.bits p hp ∙ sym (ap bit_of (left_other h.sound task list p at other))
+  ];
+}
+
+-- no task in new lists
+pub bits_empty : IsSound 32 32 (replicate 32 []) → AreLines (replicate 32 []) 0
+bits_empty sound = record {
+  sound = sound;
+  bits = λ p hp. bit_at-zero p ∙ sym (ap bit_of (none 32 p));
+} where
+  none : (n p : ℕ) → get_or (replicate n (let xs : List (ℕ × ℕ) = [] in xs)) p [] ≡ []
+  none zero p = refl
+  none (suc n) zero = refl
+  none (suc n) (suc p) = none n p
