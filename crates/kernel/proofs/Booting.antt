@@ -1,5 +1,5 @@
 -- The kernel at reset.
-use Rattle.std.proofs.Common.{◌≡◌, ◌≢◌, ◌<◌, ◌≤◌, ◌+◌, ℕ, zero, suc, Bool, true, false, cond, eqb, List, [], ◌∷◌, ◌++◌, map, length, get_or, set, take, replicate, Option, Some, None, refl, ap, sym, ◌∙◌, arith, get_or-set_same, get_or-set_other}
+use Rattle.std.proofs.Common.{◌≡◌, ◌≢◌, ◌<◌, ◌≤◌, ◌+◌, ℕ, zero, suc, Bool, true, false, cond, eqb, List, [], ◌∷◌, ◌++◌, map, length, get_or, set, take, replicate, refl, ap, sym, ◌∙◌, arith, get_or-set_same, get_or-set_other}
 use Rattle.std.specs.List.{fold, AllByRecursion}
 use Rattle.std.proofs.lemmas.List.{take_more, map-append, length-map}
 use Rattle.model.specs.declared.op.Op.{Op}
@@ -12,6 +12,7 @@ use Rattle.model.specs.Step.{enter, task_at_reset, with_ops, is_empty, is_same, 
 use Rattle.model.proofs.Sorting.{by_test}
 use Rattle.model.proofs.Lines.{eqb-refl, eqb-same, eqb-apart}
 use Rattle.model.proofs.Chosen.{length-fold, choice_within}
+use Rattle.model.proofs.Settled.{same_eq}
 use Rattle.sched.specs.Standing as sched
 use Rattle.sched.specs.Standing.{ranked}
 use Rattle.sched.specs.Schedule.{Schedule, priority_in}
@@ -160,12 +161,6 @@ module _ (k next : Kernel) (w : Written) (s : State) (ds : List Definition) (j :
       rw (more, fold-append s (with_ops 0 (take j ds)) (cond (is_empty d.script) [] (j ∷ [])), fold-cond so (is_empty d.script) j, ← test) one
 
 -- The choice runs, and that is no line.
-same_eq : (a b : Option ℕ) → is_same a b ≡ true → a ≡ b
-same_eq None None t = refl
-same_eq None (Some j) t = absurd (cc)
-same_eq (Some i) None t = absurd (cc)
-same_eq (Some i) (Some j) t = ap Some (eqb-same i j t)
-
 sched_chosen : (v : Schedule) (s : State) → sched.StandsFor v (anew s) → sched.StandsFor v (record s { running = choice s })
 unfolding anew dispatch
 sched_chosen v s h = by_test (is_same (choice s) s.running)

@@ -9,6 +9,8 @@ mod outcome;
 mod slot;
 mod steps;
 mod switching;
+#[cfg(test)]
+mod tests;
 
 pub use kernel::{Kernel, StepLog};
 pub use outcome::{Memory, Run};

@@ -42,12 +42,12 @@ impl Kernel {
         ensures at { Moves self.old self.new (use_up app.now task.number units) }
         ensures age { self.new.clock.age ≡ self.old.clock.age }
     {
-        let slot = self.slot(task);
-        let used = slot.used + 1;
+        let used = self.slots[task.number as usize].used + 1;
         if used == units {
+            let slot = self.slot(task);
             self.go_to(app, task, slot.place + 1, slot);
         } else {
-            self.slots[task.number as usize] = Slot { used, ..slot };
+            self.slots[task.number as usize].used = used;
         }
     }
 

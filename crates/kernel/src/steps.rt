@@ -2,7 +2,7 @@
 ghost use Rattle.std.specs.Prelude.{◌&&◌, ◌≡◌, ◌<◌, ◌≤◌, ◌+◌, ◌^◌, ℕ, List, [], Some, None, if◌then◌else◌, ◌++◌, IfOk, OnOk, OnErr, option_map, is_none};
 ghost use Rattle.model.specs.State.{State};
 ghost use Rattle.model.specs.Step.{deed, step, reset};
-ghost use Rattle.model.specs.Run.{end_of, IsRun, state_after, lines_after, are_all_ended, is_stuck, or_else};
+ghost use Rattle.model.specs.Run.{end_of, IsRun, state_after, lines_after, or_else};
 ghost use Rattle.model.specs.Trace.{Line, Ending, Pass, Ticks, Steps, Stuck, lines_of, ending_of, bounds_of, number_of};
 ghost use Rattle.arrayvec.specs.ArrayVec.{array_vec_len};
 ghost use Rattle.kernel.specs.Stands.{Stands, At, Does, CanDo, CanStep};
@@ -52,30 +52,17 @@ impl Kernel {
         meter.count();
     }
 
-    /// Whether every task is Ended.
-    fn is_over(&self) -> bool
-        ensures { (s : State) → Stands self.now s → result ≡ are_all_ended s }
-    {
-        both(!self.sched.has_ready(), self.clock.is_quiet())
-    }
-
-    /// Whether idle runs and no task sleeps.
-    fn is_stuck(&self) -> bool
-        ensures { (s : State) → Stands self.now s → result ≡ is_stuck s }
-    {
-        both(is_idle(self.sched.current()), self.clock.is_quiet())
-    }
-
     /// The end of the run before its next step, under these limits; `None` where it goes on.
     pub fn ended(&self, _app: &App, limits: &Limits) -> Option<End>
         ensures { (s : State) → Stands self.now s → option_map ending_of result ≡ end_of (bounds_of limits.now) s }
     {
+        let is_quiet = self.clock.is_quiet();
         first_end(
             self.stopped,
-            self.is_over(),
+            both(!self.sched.has_ready(), is_quiet),
             limits.ticks as u64 <= self.clock.age(),
             limits.steps <= self.steps,
-            self.is_stuck(),
+            both(is_idle(self.sched.current()), is_quiet),
         )
     }
 }
@@ -113,6 +100,9 @@ fn first_end(stopped: Option<End>, over: bool, ticks: bool, steps: bool, stuck: 
 fn keep(events: &mut Vec<Event>, log: &StepLog) -> Result<(), Memory>
     ensures { OnOk result (events.new.items ≡ events.old.items ++ log.now.items) }
 {
+    if log.is_empty() {
+        return Ok(());
+    }
     match events.extend_from_slice(log.as_slice()) {
         Ok(()) => Ok(()),
         Err(_) => Err(Memory),

@@ -1,5 +1,5 @@
 -- A step lets at most one tick pass, and reset none.
-use Rattle.std.proofs.Common.{◌≡◌, ◌≤◌, ◌+◌, ◌||◌, ℕ, zero, suc, eqb, leb, ltb, List, [], ◌∷◌, Option, Some, None, refl, ◌∙◌, arith}
+use Rattle.std.proofs.Common.{◌≡◌, ◌≤◌, ◌+◌, ◌||◌, ℕ, eqb, leb, ltb, List, [], ◌∷◌, Option, Some, None, refl, ◌∙◌, arith}
 use Rattle.std.specs.List.{fold}
 use Rattle.std.specs.Option.{option_eq}
 use Rattle.model.specs.declared.op.Op.{Op}
@@ -10,7 +10,6 @@ use Rattle.model.specs.Application.{Application, op_at}
 use Rattle.model.specs.State.{State, Task, task_at}
 use Rattle.model.specs.Order.{tasks_of}
 use Rattle.model.specs.Step.{enter, dispatch, anew, choice, is_same, leave, leave_from, is_ready, switch, is_outranked, is_sharing, settle, is_off, wake, due, tick, go_to, complete, answer, use_up, behind, sleep, rest, sleep_until, reckon, delay_until, expect, open_loop, turn, close_turn, act, act_if, deed, step, reset, before_entry, entered_at_reset, with_ops, write}
-use Rattle.model.specs.Run.{state_after}
 use Rattle.model.proofs.Sorting.{by_test}
 
 -- Who runs
@@ -160,11 +159,3 @@ elapsed-entered app = elapsed-fold (before_entry app) (with_ops 0 app.tasks) ∙
 pub elapsed-reset : (app : Application) → (reset app).elapsed ≡ 0
 unfolding reset
 elapsed-reset app = elapsed-entered app
-
--- After so many steps, at most so many ticks have passed.
-pub elapsed_after : (app : Application) (n : ℕ) → (state_after app n).elapsed ≤ n
-elapsed_after app zero = let e = elapsed-reset app in omega arith
-elapsed_after app (suc n) =
-    let most = elapsed_after app n in
-    let le = elapsed-step app (state_after app n) in
-    omega arith

@@ -7,7 +7,7 @@ pub enum Op {
     Work(u32),
     /// Sleeps for this many ticks (`vTaskDelay`).
     Delay(u32),
-    /// Sleeps until so many ticks after the last such moment, 1 to 4,294,967,295 (`vTaskDelayUntil`).
+    /// Sleeps until so many ticks after the last such moment, 1 to 4,294,967,295 (`xTaskDelayUntil`).
     DelayUntil(u32),
     /// Gives way to the tasks of equal priority (`taskYIELD`).
     Yield,

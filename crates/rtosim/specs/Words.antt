@@ -43,3 +43,12 @@ IsRunOf rows (Run file) = first_of (codes "FILE") rows ≡ Some file.now
 abbrev pub IsJobOf : Option (Text × List Row) → Job → Type 0
 IsJobOf None job = ⊥
 IsJobOf (Some named) job = (named.0 ≡ codes "run") × IsRunOf named.1 job
+
+-- The words of `run` name no file.
+abbrev pub NamesNoFile : List Row → Type 0
+NamesNoFile rows = first_of (codes "FILE") rows ≡ None
+
+-- The words name no job.
+abbrev pub NamesNoJob : Option (Text × List Row) → Type 0
+NamesNoJob None = Unit {0}
+NamesNoJob (Some named) = named.0 ≡ codes "run" → NamesNoFile named.1

@@ -1,8 +1,8 @@
 //! The words of the command line.
-ghost use Rattle.std.specs.Prelude.{◌≡◌, IfOk, IfErr, IfSome, true, map, option_map};
+ghost use Rattle.std.specs.Prelude.{◌≡◌, IfOk, IfErr, IfSome, IsNone, true, map, option_map};
 ghost use Rattle.clap.specs.Words.{takes, kind_of, subcommand_of, first_of, found_of, rows_of, subcommand_rows_of};
 ghost use Rattle.clap.specs.declared.error.kind.ErrorKind.TheVariants.{OutOfMemory};
-ghost use Rattle.rtosim.specs.Words.{file_rule, run_app, rtosim_top, rtosim_app, IsCommandOf, IsArgOf, IsRunOf, IsJobOf};
+ghost use Rattle.rtosim.specs.Words.{file_rule, run_app, rtosim_top, rtosim_app, IsCommandOf, IsArgOf, IsRunOf, IsJobOf, NamesNoFile, NamesNoJob};
 
 use crate::act::Job;
 use clap::{Arg, ArgAction, ArgMatches, Command, Error};
@@ -59,14 +59,16 @@ fn text<'a>(matches: &ArgMatches<'a>, id: &str) -> Option<&'a str>
 
 // The job of the command `run`.
 fn run_job<'a>(matches: &ArgMatches<'a>) -> Option<Job<'a>>
-    ensures { IfSome result (IsRunOf (rows_of (found_of matches.now))) }
+    ensures job { IfSome result (IsRunOf (rows_of (found_of matches.now))) }
+    ensures none { IsNone result → NamesNoFile (rows_of (found_of matches.now)) }
 {
     let file = text(matches, "FILE")?;
     Some(Job::Run { file })
 }
 
 fn job_of<'a>(matches: &ArgMatches<'a>) -> Option<Job<'a>>
-    ensures { IfSome result (IsJobOf (subcommand_rows_of matches.now)) }
+    ensures job { IfSome result (IsJobOf (subcommand_rows_of matches.now)) }
+    ensures none { IsNone result → NamesNoJob (subcommand_rows_of matches.now) }
 {
     let (name, inner) = matches.subcommand()?;
     if name == "run" { run_job(inner) } else { None }

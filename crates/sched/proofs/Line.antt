@@ -1,14 +1,15 @@
 -- The line of the Ready tasks, as the lists spell it, after a change of a list.
-use Rattle.std.proofs.Common.{◌≡◌, ◌≢◌, ℕ, zero, suc, ◌+◌, ◌<◌, ◌≤◌, inl, inr, Bool, true, false, not, Some, None, List, [], ◌∷◌, ◌++◌, get_or, set, length, map, sym, ◌∙◌, ap, ap₂, subst, arith, refl, append_assoc, append-nil}
+use Rattle.std.proofs.Common.{◌≡◌, ◌≢◌, ℕ, zero, suc, ◌+◌, ◌<◌, ◌≤◌, inl, inr, Bool, true, false, not, Option, Some, None, List, [], ◌∷◌, ◌++◌, get_or, set, length, map, sym, ◌∙◌, ap, ap₂, subst, arith, refl, append_assoc, append-nil}
 use Rattle.std.specs.Prelude.{◌==◌, ◌||◌, ◌&&◌, nat_lt}
 use Rattle.std.specs.List.{list_any}
-use Rattle.std.specs.Option.{is_some}
+use Rattle.std.specs.Option.{is_some, option_map}
 use Rattle.std.proofs.lemmas.Bool.{cases_lt, ne_eqb, eq-eqb, le-ltb, lt-ltb}
 use Rattle.std.proofs.lemmas.List.Folds.{list_any-append}
 use Rattle.lists.specs.Lists.{Each, IsSound, entries_of, first_of, has_node, place_of, without}
 use Rattle.lists.proofs.Entries.{Each-append, Each-imp, Each-without, apart_from_test, has_node-append, has_node-left, has_node-without_it, has_or_not, without-append}
 use Rattle.lists.proofs.Laws.{entries_of-without, place_of-None}
 use Rattle.sched.specs.Schedule.{is_above, is_beside, lined_up, priority_in}
+use Rattle.lists.specs.declared.ids.ListId.{ListId}
 use Rattle.sched.specs.Lines.{AtHome, IsHighest, line_of}
 
 -- the line from this priority on has no task of a lower one
@@ -129,6 +130,14 @@ first_of_highest ls p h =
 
 pub first_of_none : (ls : List (List (ℕ × ℕ))) → IsHighest ls None → first_of (line_of ls) ≡ None
 first_of_none ls h = ap first_of (line_of-empty ls h)
+
+some_first : (es : List (ℕ × ℕ)) → es ≢ [] → is_some (first_of es) ≡ true
+some_first [] n = absurd (n refl)
+some_first (e ∷ es) n = refl
+
+pub first_where_full : (ls : List (List (ℕ × ℕ))) (o : Option ListId) → IsHighest ls (option_map (λ l. l.number) o) → is_some o ≡ is_some (first_of (line_of ls))
+first_where_full ls None h = rw (first_of_none ls h) refl
+first_where_full ls (Some list) h = rw (first_of_highest ls list.number h) (sym (some_first (entries_of ls list.number) h.1))
 
 -- whether a task of the line is above or beside the running one
 

@@ -60,6 +60,13 @@ impl Lines {
         })
     }
 
+    /// Whether a list is not empty.
+    pub(crate) fn is_any_full(&self) -> bool
+        ensures any { result ≡ is_some (first_of (line_of self.now)) }
+    {
+        self.highest().is_some()
+    }
+
     /// The first task of the highest list that is not empty.
     pub(crate) fn first(&self) -> Option<TaskId>
         ensures first { option_map (λ task. task.number) result ≡ first_of (line_of self.now) }

@@ -58,7 +58,7 @@ impl Sched {
     pub fn has_ready(&self) -> bool
         ensures ready { result ≡ is_some (first_of self.now.ready) }
     {
-        self.lines.first().is_some()
+        self.lines.is_any_full()
     }
 
     /// The priority of a task, 0 to 31.
