@@ -100,13 +100,12 @@ fn first_end(stopped: Option<End>, over: bool, ticks: bool, steps: bool, stuck: 
 fn keep(events: &mut Vec<Event>, log: &StepLog) -> Result<(), Memory>
     ensures { OnOk result (events.new.items ≡ events.old.items ++ log.now.items) }
 {
-    if log.is_empty() {
-        return Ok(());
+    for event in log.as_slice() {
+        if events.push(*event).is_err() {
+            return Err(Memory);
+        }
     }
-    match events.extend_from_slice(log.as_slice()) {
-        Ok(()) => Ok(()),
-        Err(_) => Err(Memory),
-    }
+    Ok(())
 }
 
 /// Goes on to the end of the run, and keeps the lines.
