@@ -3,14 +3,15 @@ use Rattle.std.proofs.Common.{◌≡◌, ◌<◌, ◌≤◌, ◌+◌, ◌-◌, �
 use Rattle.std.specs.Option.{IfSome, option_eq}
 use Rattle.std.proofs.lemmas.Bool.Decides.{nat_tests}
 use Rattle.std.proofs.lemmas.Bool.{lt-ltb, le-ltb}
+use Rattle.std.proofs.Math.ListN.{length-set}
 use Rattle.std.proofs.lemmas.List.{set-set}
 use Rattle.model.specs.declared.ids.TaskId.{TaskId}
 use Rattle.model.specs.declared.event.Loop.{Loop}
-use Rattle.model.specs.Application.{Application}
+use Rattle.model.specs.Application.{Application, op_count}
 use Rattle.model.specs.Trace.{Call, Check}
 use Rattle.model.specs.declared.event.End.TheVariants as end
 use Rattle.model.specs.State.{State, Task, Asleep, task_at, with_task, no_task}
-use Rattle.model.specs.Step.{write, go_to, complete, answer, use_up, enter, behind, sleep, sleep_until, reckon, expect, open_loop, turn, close_turn, is_ready, anew, delay_until}
+use Rattle.model.specs.Step.{write, go_to, moved_to, complete, answer, use_up, enter, behind, sleep, sleep_until, reckon, expect, open_loop, turn, close_turn, is_ready, anew, delay_until}
 use Rattle.kernel.specs.Loops.{loops_of}
 use Rattle.kernel.specs.declared.loops.Loops.{Loops}
 use Rattle.kernel.specs.Slots.{Bare, bare, seen}
@@ -25,14 +26,42 @@ leb-true a b e = grind (arith, nat_tests)
 leb-false : (a b : ℕ) → b < a → leb a b ≡ false
 leb-false a b e = grind (arith, nat_tests)
 
--- The kernel is what it is after `go_to`, for every state and every task that the slot is of.
-abbrev pub Gone : Application → Kernel → ℕ → ℕ → Slot → Kernel → Type 0
-Gone app k i place slot new = (w : Written) (s : State) (t : Task) → At k w s → i < length s.tasks → Replaces slot s i t → At new w (go_to app i place t s)
+-- The kernel is what it is after a task of the old one went on at an op.
+abbrev pub Gone : Application → Kernel → ℕ → ℕ → Kernel → Type 0
+Gone app k i place new = (w : Written) (s : State) → At k w s → i < length s.tasks → At new w (go_to app i place (task_at s i) s)
+
+-- or after the op that it was at is complete
+abbrev pub Completed : Application → Kernel → ℕ → Kernel → Type 0
+Completed app k i new = (w : Written) (s : State) → At k w s → i < length s.tasks → At new w (complete app i (task_at s i) s)
 
 -- the running task
 module _ (k : Kernel) (w : Written) (s : State) (h : At k w s) (i : ℕ) (r : k.sched.running ≡ Some i) where
   pub within : i < length s.tasks
   within = let L : Option ℕ → Type 0 = λ o. IfSome o (λ j. j < length s.tasks) in subst L (sym h.stands.sched.running ∙ r) h.stands.sched.table.running
+
+-- To change a task and let it go on is to let the changed task go on.
+go_to_after : (app : Application) (s : State) (i place : ℕ) (t : Task) → i < length s.tasks → go_to app i place (task_at (with_task s i t) i) (with_task s i t) ≡ go_to app i place t s
+unfolding go_to
+go_to_after app s i place t l = rw (get_or-set_same s.tasks i t no_task l) (ap (λ (ts : List Task). record s { tasks = ts }) (set-set s.tasks i t (moved_to (op_count app i) place t)))
+
+complete_after : (app : Application) (s : State) (i : ℕ) (t : Task) → i < length s.tasks → complete app i (task_at (with_task s i t) i) (with_task s i t) ≡ complete app i t s
+complete_after app s i t l =
+    let same : task_at (with_task s i t) i ≡ t = get_or-set_same s.tasks i t no_task l in
+    ap (λ (x : Task). go_to app i (x.place + 1) (task_at (with_task s i t) i) (with_task s i t)) same ∙ go_to_after app s i (t.place + 1) t l
+
+-- a slot and its task change alike, and the task goes on
+module _ (app : Application) (k mid new : Kernel) (w : Written) (s : State) (h : At k w s) (i : ℕ) (l : i < length s.tasks) (v : Slot) (t : Task) (is : mid ≡ with_slot i v k) (c : Replaces v s i t) where
+  pub changed : At mid w (with_task s i t)
+  changed = rw is (record { stands = stands-with k s h.stands i l v t c; log = h.log })
+
+  still : i < length (with_task s i t).tasks
+  still = rw length-set l
+
+  pub changed_gone : (place : ℕ) → Gone app mid i place new → At new w (go_to app i place t s)
+  changed_gone place g = subst (λ (x : State). At new w x) (go_to_after app s i place t l) (g w (with_task s i t) changed still)
+
+  pub changed_completed : Completed app mid i new → At new w (complete app i t s)
+  changed_completed g = subst (λ (x : State). At new w x) (complete_after app s i t l) (g w (with_task s i t) changed still)
 
 -- the running task, and its slot
 module _ (app : Application) (k new : Kernel) (w : Written) (s : State) (h : At k w s) (i : ℕ) (r : k.sched.running ≡ Some i) (v : Slot) (e : v ≡ slot_in k.slots i) where
@@ -51,28 +80,21 @@ module _ (app : Application) (k new : Kernel) (w : Written) (s : State) (h : At 
   loops_are : loops_of v.loops ≡ (task_at s i).loops
   loops_are = ap (λ (b : Bare). b.loops) seen_is
 
-  -- the task, as its op leaves it, goes on
-  gone : (place there : ℕ) (u : Slot) (t : Task) → place ≡ there → Replaces u s i t → Gone app k i place u new → At new w (go_to app i there t s)
-  gone place there u t p c g = let P : ℕ → Type 0 = λ m. At new w (go_to app i m t s) in subst P p (g w s t h (within k w s h i r) c)
-
-  pub completed : Gone app k i (v.place + 1) v new → At new w (complete app i (task_at s i) s)
-  completed = gone (v.place + 1) ((task_at s i).place + 1) v (task_at s i) (ap (λ n. n + 1) place_is) (record { seen = seen_is; priority = refl; status = refl })
-
-  pub used_last : (n : ℕ) → v.used + 1 ≡ n → Gone app k i (v.place + 1) v new → At new w (use_up app i n s)
+  pub used_last : (n : ℕ) → v.used + 1 ≡ n → Completed app k i new → At new w (use_up app i n s)
   unfolding use_up
-  used_last n l g = rw (eqb-true ((task_at s i).used + 1) n (ap (λ m. m + 1) (sym used_is) ∙ l)) (completed g)
+  used_last n l g = rw (eqb-true ((task_at s i).used + 1) n (ap (λ m. m + 1) (sym used_is) ∙ l)) (g w s h (within k w s h i r))
 
-  pub used_more : (n : ℕ) → (v.used + 1 ≡ n → ⊥) → At (with_slot i (record v { used = v.used + 1 }) k) w (use_up app i n s)
+  pub used_more : (n : ℕ) → (v.used + 1 ≡ n → ⊥) → new ≡ with_slot i (record (slot_in k.slots i) { used = v.used + 1 }) k → At new w (use_up app i n s)
   unfolding use_up
-  used_more n l = rw (eqb-false ((task_at s i).used + 1) n (λ q. l (ap (λ m. m + 1) used_is ∙ q))) (record {
-    stands = stands-with k s h.stands i (within k w s h i r) (record v { used = v.used + 1 }) (record (task_at s i) { used = (task_at s i).used + 1 })
-        (record { seen = ap (λ (b : Bare). record b { used = b.used + 1 }) seen_is; priority = refl; status = refl });
-    log = h.log;
-  })
+  used_more n l is =
+      let t : Task = record (task_at s i) { used = (task_at s i).used + 1 } in
+      rw (eqb-false ((task_at s i).used + 1) n (λ q. l (ap (λ m. m + 1) used_is ∙ q)))
+      (changed app k new new w s h i (within k w s h i r) (record (slot_in k.slots i) { used = v.used + 1 }) t is
+      (record { seen = (λ j. record (h.stands.rest.slots i j) { used = used_is j + 1 }); priority = refl; status = refl }))
 
-  pub expect_same : (a : Option ℕ) → option_eq eqb v.answer a ≡ true → Gone app k i (v.place + 1) v new → At new w (expect app i a s)
+  pub expect_same : (a : Option ℕ) → option_eq eqb v.answer a ≡ true → Completed app k i new → At new w (expect app i a s)
   unfolding expect
-  expect_same a t g = let u : option_eq eqb (task_at s i).answer a ≡ true = rw (← answer_is) t in rw u (completed g)
+  expect_same a t g = let u : option_eq eqb (task_at s i).answer a ≡ true = rw (← answer_is) t in rw u (g w s h (within k w s h i r))
 
   pub expect_other : (a : Option ℕ) (task : TaskId) → task.number ≡ i → option_eq eqb v.answer a ≡ false → At (record k { stopped = Some (end.Check task v.place) }) w (expect app i a s)
   unfolding expect
@@ -90,50 +112,51 @@ module _ (app : Application) (k new : Kernel) (w : Written) (s : State) (h : At 
     log = h.log;
   })
 
-  pub loop_opened : (n : ℕ) (ls : Loops) → loops_of ls ≡ record { start = v.place + 1; left = n } ∷ loops_of v.loops → Gone app k i (v.place + 1) (record v { loops = ls }) new → At new w (open_loop app i n s)
-  unfolding open_loop
-  loop_opened n ls o =
-      let t : Task = task_at s i in
-      let same : loops_of ls ≡ record { start = t.place + 1; left = n } ∷ t.loops = o ∙ rw (place_is, loops_are) refl in
-      gone (v.place + 1) (t.place + 1) (record v { loops = ls }) (record t { loops = record { start = t.place + 1; left = n } ∷ t.loops }) (ap (λ m. m + 1) place_is)
-      (record { seen = (λ j. record (seen_is j) { loops = same j }); priority = refl; status = refl })
+  -- the open loops change
+  module _ (ls : Loops) (mid : Kernel) (is : mid ≡ with_slot i (record (slot_in k.slots i) { loops = ls }) k) where
+    with_loops : (us : List Loop) → loops_of ls ≡ us → Replaces (record (slot_in k.slots i) { loops = ls }) s i (record (task_at s i) { loops = us })
+    with_loops us o = record { seen = (λ j. record (h.stands.rest.slots i j) { loops = o j }); priority = refl; status = refl }
 
-  pub turn_none : loops_of v.loops ≡ [] → Gone app k i (v.place + 1) v new → At new w (close_turn app i s)
+    loops_completed : (us : List Loop) → loops_of ls ≡ us → Completed app mid i new → At new w (complete app i (record (task_at s i) { loops = us }) s)
+    loops_completed us o = changed_completed app k mid new w s h i (within k w s h i r) (record (slot_in k.slots i) { loops = ls }) (record (task_at s i) { loops = us }) is (with_loops us o)
+
+    pub loop_opened : (n : ℕ) → loops_of ls ≡ record { start = v.place + 1; left = n } ∷ loops_of v.loops → Completed app mid i new → At new w (open_loop app i n s)
+    unfolding open_loop
+    loop_opened n o =
+        let t : Task = task_at s i in
+        loops_completed (record { start = t.place + 1; left = n } ∷ t.loops) (o ∙ rw (place_is, loops_are) refl)
+
+    module _ (l : Loop) (o : loops_of v.loops ≡ l ∷ drop 1 (loops_of v.loops)) where
+      pub turn_left : l.left ≤ 1 → loops_of ls ≡ drop 1 (loops_of v.loops) → Completed app mid i new → At new w (close_turn app i s)
+      unfolding close_turn
+      turn_left few c g =
+          let Q : List Loop → Type 0 = λ us. At new w (turn app i (task_at s i) us s) in
+          subst Q (sym o ∙ loops_are) (rw (leb-true l.left 1 few) (loops_completed (drop 1 (loops_of v.loops)) c g))
+
+      pub turn_again : 1 < l.left → loops_of ls ≡ record l { left = l.left - 1 } ∷ drop 1 (loops_of v.loops) → Gone app mid i l.start new → At new w (close_turn app i s)
+      unfolding close_turn
+      turn_again more c g =
+          let us : List Loop = record l { left = l.left - 1 } ∷ drop 1 (loops_of v.loops) in
+          let Q : List Loop → Type 0 = λ us. At new w (turn app i (task_at s i) us s) in
+          subst Q (sym o ∙ loops_are) (rw (leb-false l.left 1 more)
+          (changed_gone app k mid new w s h i (within k w s h i r) (record (slot_in k.slots i) { loops = ls }) (record (task_at s i) { loops = us }) is (with_loops us c) l.start g))
+
+  pub turn_none : loops_of v.loops ≡ [] → Completed app k i new → At new w (close_turn app i s)
   unfolding close_turn
   turn_none n g =
       let Q : List Loop → Type 0 = λ ls. At new w (turn app i (task_at s i) ls s) in
-      subst Q (sym n ∙ loops_are) (completed g)
-
-  module _ (l : Loop) (o : loops_of v.loops ≡ l ∷ drop 1 (loops_of v.loops)) where
-    pub turn_left : (ls : Loops) → l.left ≤ 1 → loops_of ls ≡ drop 1 (loops_of v.loops) → Gone app k i (v.place + 1) (record v { loops = ls }) new → At new w (close_turn app i s)
-    unfolding close_turn
-    turn_left ls few c g =
-        let t : Task = task_at s i in
-        let Q : List Loop → Type 0 = λ us. At new w (turn app i t us s) in
-        subst Q (sym o ∙ loops_are) (rw (leb-true l.left 1 few)
-        (gone (v.place + 1) (t.place + 1) (record v { loops = ls }) (record t { loops = drop 1 (loops_of v.loops) }) (ap (λ m. m + 1) place_is)
-        (record { seen = (λ j. record (seen_is j) { loops = c j }); priority = refl; status = refl }) g))
-
-    pub turn_again : (ls : Loops) → 1 < l.left → loops_of ls ≡ record l { left = l.left - 1 } ∷ drop 1 (loops_of v.loops) → Gone app k i l.start (record v { loops = ls }) new → At new w (close_turn app i s)
-    unfolding close_turn
-    turn_again ls more c g =
-        let t : Task = task_at s i in
-        let Q : List Loop → Type 0 = λ us. At new w (turn app i t us s) in
-        subst Q (sym o ∙ loops_are) (rw (leb-false l.left 1 more)
-        (gone l.start l.start (record v { loops = ls }) (record t { loops = record l { left = l.left - 1 } ∷ drop 1 (loops_of v.loops) }) refl
-        (record { seen = (λ j. record (seen_is j) { loops = c j }); priority = refl; status = refl }) g))
+      subst Q (sym n ∙ loops_are) (g w s h (within k w s h i r))
 
 -- a call is complete, and its line is written
-pub answered : (app : Application) (k new : Kernel) (w u : Written) (s : State) → At k w s → (i : ℕ) → k.sched.running ≡ Some i → (v : Slot) → v ≡ slot_in k.slots i → (a : Option ℕ) → At k u (write (Call i v.place a) s) → Gone app k i (v.place + 1) (record v { answer = a }) new → At new u (answer app i a s)
+pub answered : (app : Application) (k mid new : Kernel) (w u : Written) (s : State) → At k w s → (i : ℕ) → k.sched.running ≡ Some i → (v : Slot) → v ≡ slot_in k.slots i → (a : Option ℕ) → At k u (write (Call i v.place a) s) → mid ≡ with_slot i (record (slot_in k.slots i) { answer = a }) k → Completed app mid i new → At new u (answer app i a s)
 unfolding answer
-answered app k new w u s h i r v e a written g =
+answered app k mid new w u s h i r v e a written is g =
     let t : Task = task_at s i in
-    let same = ap seen e ∙ h.stands.rest.slots i in
-    let place : v.place ≡ t.place = ap (λ (b : Bare). b.place) same in
+    let place : v.place ≡ t.place = ap (λ (b : Bare). b.place) (ap seen e ∙ h.stands.rest.slots i) in
     let s' : State = write (Call i t.place a) s in
     let W : ℕ → Type 0 = λ p. At k u (write (Call i p a) s) in
-    gone app k new u s' (subst W place written) i r v e (v.place + 1) (t.place + 1) (record v { answer = a }) (record t { answer = a }) (ap (λ m. m + 1) place)
-    (record { seen = ap (λ (b : Bare). record b { answer = a }) same; priority = refl; status = refl }) g
+    changed_completed app k mid new u s' (subst W place written) i (within k w s h i r) (record (slot_in k.slots i) { answer = a }) (record t { answer = a }) is
+    (record { seen = ap (λ (b : Bare). record b { answer = a }) (h.stands.rest.slots i); priority = refl; status = refl }) g
 
 -- where the running task is still Ready, and where it isn't
 module _ (new : Kernel) (w : Written) (s : State) (i : ℕ) where
@@ -173,11 +196,13 @@ module _ (new : Kernel) (w : Written) (s : State) (i : ℕ) where
       rw t (subst R (set-set s.tasks i a b) (subst Q (get_or-set_same s.tasks i a no_task l) asleep))
 
 -- the task counts from another moment
-pub counted : (k : Kernel) (w : Written) (s : State) (h : At k w s) (i : ℕ) (l : i < length s.tasks) (v : Slot) → seen v ≡ record (seen (slot_in k.slots i)) { previous = v.previous } → At (with_slot i v k) w (with_task s i (record (task_at s i) { previous = v.previous }))
-counted k w s h i l v e = record {
-  stands = stands-with k s h.stands i l v (record (task_at s i) { previous = v.previous }) (record { seen = e ∙ ap (λ (b : Bare). record b { previous = v.previous }) (h.stands.rest.slots i); priority = refl; status = refl });
-  log = h.log;
-}
+pub counted : (k new : Kernel) (w : Written) (s : State) → At k w s → (i : ℕ) → i < length s.tasks → (moment : ℕ) → new ≡ with_slot i (record (slot_in k.slots i) { previous = moment }) k → At new w (with_task s i (record (task_at s i) { previous = moment }))
+counted k new w s h i l moment is =
+    rw is (record {
+      stands = stands-with k s h.stands i l (record (slot_in k.slots i) { previous = moment }) (record (task_at s i) { previous = moment })
+          (record { seen = ap (λ (b : Bare). record b { previous = moment }) (h.stands.rest.slots i); priority = refl; status = refl });
+      log = h.log;
+    })
 
 -- an answer takes no time
 pub time-answered : (app : Application) (i : ℕ) (a : Option ℕ) (s : State) → (answer app i a s).time ≡ s.time

@@ -1,5 +1,5 @@
 -- What the parts of the kernel make of the states that it stands for.
-use Rattle.std.proofs.Common.{◌≡◌, ◌≢◌, ◌<◌, ◌+◌, ℕ, true, false, eqb, List, [], ◌∷◌, ◌++◌, length, get_or, set, None, refl, ap, sym, ◌∙◌, arith, get_or-set_same, get_or-set_other}
+use Rattle.std.proofs.Common.{◌≡◌, ◌≢◌, ◌<◌, ◌+◌, ℕ, true, false, eqb, List, [], ◌∷◌, ◌++◌, length, get_or, set, None, refl, ap, sym, subst, ◌∙◌, arith, get_or-set_same, get_or-set_other}
 use Rattle.std.specs.List.{filter}
 use Rattle.std.proofs.Math.ListN.{length-set}
 use Rattle.std.proofs.lemmas.List.{map-append, set-get_or}
@@ -242,14 +242,20 @@ pub sleep_log : (s : State) (i m : ℕ) → is_ready s i ≡ true → (sleep i m
 unfolding sleep
 sleep_log s i m ready = rw ready refl
 
--- the task, as its op leaves it, goes on
-module _ (app : Application) (k : Kernel) (w : Written) (s : State) (t : Task) (h : At k w s) (i : ℕ) (l : i < length s.tasks) (slot moved : Slot) (place count : ℕ) (r : Replaces slot s i t) (is : moved ≡ moved_slot place slot) (many : count ≡ op_count app i) where
-  pub goes_on : (place ≡ count → ⊥) → At (with_slot i moved k) w (go_to app i place t s)
-  unfolding go_to
-  goes_on off = rw (is, ← many) (record { stands = stands-gone k s h.stands i l slot t r count place (eqb-false place count off); log = h.log })
+-- the task goes on at an op
+module _ (app : Application) (k moved : Kernel) (w : Written) (s : State) (h : At k w s) (i : ℕ) (l : i < length s.tasks) (place count : ℕ) (is : moved ≡ with_slot i (moved_slot place (slot_in k.slots i)) k) (many : count ≡ op_count app i) where
+  alike : Replaces (slot_in k.slots i) s i (task_at s i)
+  alike = record { seen = h.stands.rest.slots i; priority = refl; status = refl }
 
-  pub ends : place ≡ count → (sched' : Schedule) → sched' ≡ blocked k.sched i → (clock' : Time) → clock'.now ≡ k.clock.now → clock'.age ≡ k.clock.age → clock'.sleepers ≡ without i k.clock.sleepers
-      → At (record k { slots = set k.slots i moved; sched = sched'; clock = clock' }) w (go_to app i place t s)
+  pub goes_on : (place ≡ count → ⊥) → At moved w (go_to app i place (task_at s i) s)
   unfolding go_to
-  ends on sched' blocks clock' now age sleepers =
-      rw (is, ← many) (record { stands = stands-ended k s h.stands i l slot t r count place (eqb-true place count on) sched' blocks clock' now age sleepers; log = h.log })
+  goes_on off = rw (is, ← many) (record { stands = stands-gone k s h.stands i l (slot_in k.slots i) (task_at s i) alike count place (eqb-false place count off); log = h.log })
+
+  pub ends : place ≡ count → (sched' : Schedule) → sched' ≡ blocked moved.sched i → (clock' : Time) → clock'.now ≡ moved.clock.now → clock'.age ≡ moved.clock.age → clock'.sleepers ≡ without i moved.clock.sleepers
+      → At (record moved { sched = sched'; clock = clock' }) w (go_to app i place (task_at s i) s)
+  unfolding go_to
+  ends on sched' =
+      let P : Kernel → Type 0 = λ m. sched' ≡ blocked m.sched i → (clock' : Time) → clock'.now ≡ m.clock.now → clock'.age ≡ m.clock.age → clock'.sleepers ≡ without i m.clock.sleepers
+      → At (record m { sched = sched'; clock = clock' }) w (with_task s i (moved_to (op_count app i) place (task_at s i))) in
+      subst P (sym is) (λ blocks clock' now age sleepers.
+      rw (← many) (record { stands = stands-ended k s h.stands i l (slot_in k.slots i) (task_at s i) alike count place (eqb-true place count on) sched' blocks clock' now age sleepers; log = h.log }))

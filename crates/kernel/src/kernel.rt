@@ -2,12 +2,14 @@
 ghost use Rattle.std.specs.Prelude.{◌≡◌, ◌<◌, ◌≤◌, ◌+◌, ◌^◌, ◌==◌, ◌++◌, ◌∷◌, [], ℕ, IsTrue, false, length, Some};
 ghost use Rattle.model.specs.State.{State, Task, task_at};
 ghost use Rattle.model.specs.Run.{is_asleep};
-ghost use Rattle.model.specs.Step.{go_to, write, enter, sleep, sleep_until, is_ready};
+ghost use Rattle.model.specs.Step.{go_to, complete, write, enter, sleep, sleep_until, is_ready};
 ghost use Rattle.model.specs.Trace.{told_by, lines_of, printed};
 ghost use Rattle.arrayvec.specs.ArrayVec.{array_vec_len};
 ghost use Rattle.sched.specs.Schedule.{blocked, readied};
-ghost use Rattle.kernel.specs.Stands.{Stands, At, Does, Moves, slot_in, with_slot, Replaces, Written};
+ghost use Rattle.kernel.specs.Slots.{moved_slot};
+ghost use Rattle.kernel.specs.Stands.{Stands, At, Does, Moves, slot_in, with_slot, Written};
 
+use crate::loops::Loops;
 use crate::slot::Slot;
 use arrayvec::ArrayVec;
 use clock::Clock;
@@ -69,18 +71,66 @@ impl Kernel {
         self.clock.sleep(task, ticks);
     }
 
-    /// The task, which is now as given, goes on at this op; past its last one it is Ended.
-    pub(crate) fn go_to(&mut self, app: &App, task: TaskId, place: u16, slot: Slot)
-        ensures at { (w : Written) (s : State) (t : Task) → At self.old w s → task.number < length s.tasks → Replaces slot s task.number t → At self.new w (go_to app.now task.number place t s) }
+    /// A task goes on at this op; past its last one it is Ended.
+    pub(crate) fn go_to(&mut self, app: &App, task: TaskId, place: u16)
+        ensures at { (w : Written) (s : State) → At self.old w s → task.number < length s.tasks → At self.new w (go_to app.now task.number place (task_at s task.number) s) }
         ensures runs { self.new.sched.running ≡ self.old.sched.running }
         ensures clock { self.new.clock.now ≡ self.old.clock.now }
         ensures age { self.new.clock.age ≡ self.old.clock.age }
     {
-        let moved = slot.moved_to(place);
-        self.slots[task.number as usize] = moved;
+        self.move_to(task, place);
         if place as usize == app.op_count(task) {
             self.sched.block(task);
             self.clock.wake(task);
         }
+    }
+
+    /// The op that a task is at is complete.
+    pub(crate) fn complete(&mut self, app: &App, task: TaskId)
+        requires place { (slot_in self.old.slots task.number).place < 256 }
+        ensures at { (w : Written) (s : State) → At self.old w s → task.number < length s.tasks → At self.new w (complete app.now task.number (task_at s task.number) s) }
+        ensures runs { self.new.sched.running ≡ self.old.sched.running }
+        ensures clock { self.new.clock.now ≡ self.old.clock.now }
+        ensures age { self.new.clock.age ≡ self.old.clock.age }
+    {
+        let next = self.slot(task).place + 1;
+        self.go_to(app, task, next);
+    }
+
+    /// Places a task at this op, of which nothing is used up.
+    fn move_to(&mut self, task: TaskId, place: u16)
+        ensures { self.new ≡ with_slot task.number (moved_slot place (slot_in self.old.slots task.number)) self.old }
+    {
+        let slot = &mut self.slots[task.number as usize];
+        slot.place = place;
+        slot.used = 0;
+    }
+
+    /// So much is used up of a task's `work`.
+    pub(crate) fn set_used(&mut self, task: TaskId, used: u32)
+        ensures { self.new ≡ with_slot task.number (record (slot_in self.old.slots task.number) { used = used }) self.old }
+    {
+        self.slots[task.number as usize].used = used;
+    }
+
+    /// A task's last answer is this.
+    pub(crate) fn set_answer(&mut self, task: TaskId, answer: Option<u32>)
+        ensures { self.new ≡ with_slot task.number (record (slot_in self.old.slots task.number) { answer = answer }) self.old }
+    {
+        self.slots[task.number as usize].answer = answer;
+    }
+
+    /// A task's open loops are these.
+    pub(crate) fn set_loops(&mut self, task: TaskId, loops: Loops)
+        ensures { self.new ≡ with_slot task.number (record (slot_in self.old.slots task.number) { loops = loops }) self.old }
+    {
+        self.slots[task.number as usize].loops = loops;
+    }
+
+    /// A task's `delay_until` counts from this moment.
+    pub(crate) fn set_previous(&mut self, task: TaskId, moment: u64)
+        ensures { self.new ≡ with_slot task.number (record (slot_in self.old.slots task.number) { previous = moment }) self.old }
+    {
+        self.slots[task.number as usize].previous = moment;
     }
 }

@@ -6,7 +6,6 @@ ghost use Rattle.arrayvec.specs.ArrayVec.{array_vec_len};
 ghost use Rattle.kernel.specs.Stands.{Stands, At, Does, Moves, slot_in, CanAct, Written};
 
 use crate::kernel::{Kernel, StepLog};
-use crate::slot::Slot;
 use model::{App, End, Loop, Op, TaskId, What};
 
 impl Kernel {
@@ -20,17 +19,10 @@ impl Kernel {
         ensures few { array_vec_len log.new ≡ array_vec_len log.old + 1 }
         ensures runs { self.new.sched.running ≡ Some task.number }
     {
-        let slot = self.slot(task);
-        self.write(log, What::Call(task, slot.place, given));
-        self.go_to(
-            app,
-            task,
-            slot.place + 1,
-            Slot {
-                answer: given,
-                ..slot
-            },
-        );
+        let place = self.slot(task).place;
+        self.write(log, What::Call(task, place, given));
+        self.set_answer(task, given);
+        self.complete(app, task);
     }
 
     /// One more of a `work` is used up.
@@ -42,12 +34,11 @@ impl Kernel {
         ensures at { Moves self.old self.new (use_up app.now task.number units) }
         ensures age { self.new.clock.age ≡ self.old.clock.age }
     {
-        let used = self.slots[task.number as usize].used + 1;
+        let used = self.slot(task).used + 1;
         if used == units {
-            let slot = self.slot(task);
-            self.go_to(app, task, slot.place + 1, slot);
+            self.complete(app, task);
         } else {
-            self.slots[task.number as usize].used = used;
+            self.set_used(task, used);
         }
     }
 
@@ -74,17 +65,6 @@ impl Kernel {
         }
     }
 
-    /// A task counts from this moment on.
-    fn count_from(&mut self, task: TaskId, moment: u64)
-        ensures { (w : Written) (s : State) → At self.old w s → task.number < length s.tasks → At self.new w (with_task s task.number (record (task_at s task.number) { previous = moment })) }
-    {
-        let slot = self.slot(task);
-        self.slots[task.number as usize] = Slot {
-            previous: moment,
-            ..slot
-        };
-    }
-
     /// The running task counts from this moment on, where it is still Ready.
     #[tactic(auto, unfolding(model::specs::Step::reckon))]
     fn reckon(&mut self, task: TaskId, moment: u64)
@@ -92,7 +72,7 @@ impl Kernel {
         ensures { Moves self.old self.new (reckon task.number moment) }
     {
         if self.is_ready(task) {
-            self.count_from(task, moment);
+            self.set_previous(task, moment);
         }
     }
 
@@ -105,7 +85,7 @@ impl Kernel {
     {
         if self.is_ready(task) {
             self.lull(task, ticks);
-            self.count_from(task, moment);
+            self.set_previous(task, moment);
         }
     }
 
@@ -118,7 +98,7 @@ impl Kernel {
     {
         let slot = self.slot(task);
         if slot.answer == wanted {
-            self.go_to(app, task, slot.place + 1, slot);
+            self.complete(app, task);
         } else {
             self.stopped = Some(End::Check(task, slot.place));
         }
@@ -135,7 +115,8 @@ impl Kernel {
         let slot = self.slot(task);
         let start = slot.place + 1;
         let loops = slot.loops.opened(Loop { start, left: turns });
-        self.go_to(app, task, start, Slot { loops, ..slot });
+        self.set_loops(task, loops);
+        self.complete(app, task);
     }
 
     /// `end`: the next turn begins, or the loop is left.
@@ -145,19 +126,19 @@ impl Kernel {
         requires place { (slot_in self.old.slots task.number).place < 256 }
         ensures { Moves self.old self.new (close_turn app.now task.number) }
     {
-        let slot = self.slot(task);
-        let Some(innermost) = slot.loops.innermost() else {
-            self.go_to(app, task, slot.place + 1, slot);
+        let loops = self.slot(task).loops;
+        let Some(innermost) = loops.innermost() else {
+            self.complete(app, task);
             return;
         };
-        let outer = slot.loops.closed();
+        let outer = loops.closed();
         if innermost.left <= 1 {
-            let loops = outer;
-            self.go_to(app, task, slot.place + 1, Slot { loops, ..slot });
+            self.set_loops(task, outer);
+            self.complete(app, task);
         } else {
             let left = innermost.left - 1;
-            let loops = outer.opened(Loop { left, ..innermost });
-            self.go_to(app, task, innermost.start, Slot { loops, ..slot });
+            self.set_loops(task, outer.opened(Loop { left, ..innermost }));
+            self.go_to(app, task, innermost.start);
         }
     }
 
@@ -258,8 +239,7 @@ impl Kernel {
         ensures few { array_vec_len log.new ≤ array_vec_len log.old + 1 }
     {
         self.write(log, What::Mark(task, number));
-        let slot = self.slot(task);
-        self.go_to(app, task, slot.place + 1, slot);
+        self.complete(app, task);
     }
 
     /// What the running task's op does.

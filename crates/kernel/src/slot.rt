@@ -18,7 +18,7 @@ pub(crate) struct Slot {
 impl Slot {
     ghost use Rattle.std.specs.Prelude.{◌≡◌};
     ghost use Rattle.model.specs.State.{no_task};
-    ghost use Rattle.kernel.specs.Slots.{moved_slot, seen, bare};
+    ghost use Rattle.kernel.specs.Slots.{seen, bare};
 
     /// What stands where there is no task.
     pub(crate) const BLANK: Slot = Slot {
@@ -36,17 +36,6 @@ impl Slot {
         Slot {
             previous: moment,
             ..Slot::BLANK
-        }
-    }
-
-    /// The task at this op, of which nothing is used up.
-    pub(crate) fn moved_to(self, place: u16) -> Slot
-        ensures { result ≡ moved_slot place self }
-    {
-        Slot {
-            place,
-            used: 0,
-            ..self
         }
     }
 }
