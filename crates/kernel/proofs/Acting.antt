@@ -1,5 +1,5 @@
 -- What the ops make of the states that the kernel stands for.
-use Rattle.std.proofs.Common.{◌≡◌, ◌<◌, ◌≤◌, ◌+◌, ◌-◌, ℕ, true, false, eqb, leb, ltb, List, [], ◌∷◌, length, drop, get_or, set, get_or-set_same, Option, Some, refl, ap, sym, subst, ◌∙◌, arith}
+use Rattle.std.proofs.Common.{◌≡◌, ◌<◌, ◌≤◌, ◌+◌, ◌-◌, ℕ, true, false, eqb, leb, ltb, List, [], ◌∷◌, length, drop, get_or-set_same, Option, Some, refl, ap, sym, subst, ◌∙◌, arith}
 use Rattle.std.specs.Option.{IfSome, option_eq}
 use Rattle.std.proofs.lemmas.Bool.Decides.{nat_tests}
 use Rattle.std.proofs.lemmas.Bool.{lt-ltb, le-ltb}
@@ -10,8 +10,8 @@ use Rattle.model.specs.declared.event.Loop.{Loop}
 use Rattle.model.specs.Application.{Application, op_count}
 use Rattle.model.specs.Trace.{Call, Check}
 use Rattle.model.specs.declared.event.End.TheVariants as end
-use Rattle.model.specs.State.{State, Task, Asleep, task_at, with_task, no_task}
-use Rattle.model.specs.Step.{write, go_to, moved_to, complete, answer, use_up, enter, behind, sleep, sleep_until, reckon, expect, open_loop, turn, close_turn, is_ready, anew, delay_until}
+use Rattle.model.specs.State.{State, Task, task_at, with_task, no_task}
+use Rattle.model.specs.Step.{write, go_to, moved_to, complete, answer, use_up, enter, behind, sleep, count_from, expect, open_loop, turn, close_turn, is_ready, anew, delay_until}
 use Rattle.kernel.specs.Loops.{loops_of}
 use Rattle.kernel.specs.declared.loops.Loops.{Loops}
 use Rattle.kernel.specs.Slots.{Bare, bare, seen}
@@ -158,45 +158,13 @@ answered app k mid new w u s h i r v e a written is g =
     changed_completed app k mid new u s' (subst W place written) i (within k w s h i r) (record (slot_in k.slots i) { answer = a }) (record t { answer = a }) is
     (record { seen = ap (λ (b : Bare). record b { answer = a }) (h.stands.rest.slots i); priority = refl; status = refl }) g
 
--- where the running task is still Ready, and where it isn't
-module _ (new : Kernel) (w : Written) (s : State) (i : ℕ) where
-  pub behind_ready : is_ready s i ≡ true → At new w (enter s i) → At new w (behind i s)
-  unfolding behind
-  behind_ready t h = rw t h
-
-  pub behind_other : is_ready s i ≡ false → At new w s → At new w (behind i s)
-  unfolding behind
-  behind_other t h = rw t h
-
-  pub sleep_other : (moment : ℕ) → is_ready s i ≡ false → At new w s → At new w (sleep i moment s)
-  unfolding sleep
-  sleep_other moment t h = rw t h
-
-  pub reckon_ready : (moment : ℕ) → is_ready s i ≡ true → At new w (with_task s i (record (task_at s i) { previous = moment })) → At new w (reckon i moment s)
-  unfolding reckon
-  reckon_ready moment t h = rw t h
-
-  pub reckon_other : (moment : ℕ) → is_ready s i ≡ false → At new w s → At new w (reckon i moment s)
-  unfolding reckon
-  reckon_other moment t h = rw t h
-
-  pub until_other : (moment : ℕ) → is_ready s i ≡ false → At new w s → At new w (sleep_until i moment s)
-  unfolding sleep_until
-  until_other moment t h = rw t h
-
-  -- it sleeps, and then counts from the moment
-  pub until_ready : (moment : ℕ) → is_ready s i ≡ true → i < length s.tasks → At new w (with_task (sleep i moment s) i (record (task_at (sleep i moment s) i) { previous = moment })) → At new w (sleep_until i moment s)
-  unfolding sleep sleep_until
-  until_ready moment t l h =
-      let a : Task = record (task_at s i) { status = Asleep moment s.next } in
-      let b : Task = record (task_at s i) { status = Asleep moment s.next; previous = moment } in
-      let asleep : At new w (record (with_task (with_task s i a) i (record (get_or (set s.tasks i a) i no_task) { previous = moment })) { next = s.next + 1 }) = rw t at h in
-      let Q : Task → Type 0 = λ x. At new w (record (with_task (with_task s i a) i (record x { previous = moment })) { next = s.next + 1 }) in
-      let R : List Task → Type 0 = λ ts. At new w (record s { tasks = ts; next = s.next + 1 }) in
-      rw t (subst R (set-set s.tasks i a b) (subst Q (get_or-set_same s.tasks i a no_task l) asleep))
+pub behind_ready : (new : Kernel) (w : Written) (s : State) (i : ℕ) → is_ready s i ≡ true → At new w (enter s i) → At new w (behind i s)
+unfolding behind
+behind_ready new w s i t h = rw t h
 
 -- the task counts from another moment
-pub counted : (k new : Kernel) (w : Written) (s : State) → At k w s → (i : ℕ) → i < length s.tasks → (moment : ℕ) → new ≡ with_slot i (record (slot_in k.slots i) { previous = moment }) k → At new w (with_task s i (record (task_at s i) { previous = moment }))
+pub counted : (k new : Kernel) (w : Written) (s : State) → At k w s → (i : ℕ) → i < length s.tasks → (moment : ℕ) → new ≡ with_slot i (record (slot_in k.slots i) { previous = moment }) k → At new w (count_from i moment s)
+unfolding count_from
 counted k new w s h i l moment is =
     rw is (record {
       stands = stands-with k s h.stands i l (record (slot_in k.slots i) { previous = moment }) (record (task_at s i) { previous = moment })
@@ -217,13 +185,13 @@ module _ (app : Application) (k new : Kernel) (w u : Written) (s : State) (h : A
   previous_is : v.previous ≡ (task_at s i).previous
   previous_is = ap (λ (b : Bare). b.previous) (ap seen e ∙ h.stands.rest.slots i)
 
-  pub until_later : now < v.previous + n → At new u (anew (sleep_until i (v.previous + n) (answer app i (Some 1) s))) → At new u (delay_until app i ((task_at s i).previous + n) s)
+  pub until_later : now < v.previous + n → At new u (anew (count_from i (v.previous + n) (sleep i (v.previous + n) (answer app i (Some 1) s)))) → At new u (delay_until app i ((task_at s i).previous + n) s)
   unfolding delay_until
   until_later l a =
       let later : ltb s.time ((task_at s i).previous + n) ≡ true = lt-ltb s.time ((task_at s i).previous + n) (rw (time_is, previous_is) at l) in
       rw later (rw previous_is at a)
 
-  pub until_past : v.previous + n ≤ now → At new u (reckon i (v.previous + n) (answer app i (Some 0) s)) → At new u (delay_until app i ((task_at s i).previous + n) s)
+  pub until_past : v.previous + n ≤ now → At new u (count_from i (v.previous + n) (answer app i (Some 0) s)) → At new u (delay_until app i ((task_at s i).previous + n) s)
   unfolding delay_until
   until_past l a =
       let past : ltb s.time ((task_at s i).previous + n) ≡ false = le-ltb s.time ((task_at s i).previous + n) (rw (time_is, previous_is) at l) in

@@ -78,9 +78,6 @@ module _ (app : Application) (formed : IsWellFormed app) (k : Kernel) (c : CanSt
   age_low : k.clock.age < 1000000
   age_low = let e = c.stands.rest.clock.age in let l = (below_limits c.limits state c.goes_on).0 in let m = c.tick_limit in omega arith
 
-  pub steps_low : k.steps < 1000000
-  steps_low = let e = c.stands.rest.steps in let l = (below_limits c.limits state c.goes_on).1 in let m = c.step_limit in omega arith
-
   time_low : k.clock.now < 4294967296 + 1000000
   time_low = let e = c.stands.rest.clock.now in let f = c.stands.rest.clock.age in let l = age_low in let m = reached.time in let n = formed.start in omega arith
 

@@ -5,6 +5,7 @@ use Rattle.model.specs.Trace.{Line, lines_of, printed, Runs}
 use Rattle.model.specs.State.{State, task_at}
 use Rattle.model.specs.Step.{choice, dispatch, anew, leave, leave_from, is_ready, is_outranked, is_sharing, is_same, switch, settle, is_off, write}
 use Rattle.model.specs.Invariant.{IsTable}
+use Rattle.model.proofs.Chosen.{switch-once}
 use Rattle.model.proofs.Sorting.{by_test}
 use Rattle.model.proofs.Lines.{eqb-refl}
 use Rattle.sched.specs.Standing as sched
@@ -12,10 +13,6 @@ use Rattle.sched.specs.Schedule.{Schedule}
 use Rattle.kernel.specs.declared.kernel.Kernel.{Kernel}
 use Rattle.kernel.specs.Stands.{Rest, Stands, At, Written, change_line}
 use Rattle.kernel.proofs.Stands.{rest_same, rest-renewed, ready_awake}
-
--- the line that tells who runs
-change_of : State → State → List Line
-change_of s new = change_line s.steps s.time s.running new.running
 
 same_self : (r : Option ℕ) → is_same r r ≡ true
 same_self None = refl
@@ -57,10 +54,9 @@ log-yielded s =
     subst V (log-left s s.running) (subst U (running-left s s.running) (subst T (time-left s s.running) (subst R (steps-left s s.running) (log-anew l))))
 
 pub log-switch : (s : State) → (switch s).log ≡ s.log ++ change_line s.steps s.time s.running (switch s).running
-unfolding switch
-log-switch s = by_test (is_outranked s || is_sharing s)
+log-switch s = rw (switch-once s) (by_test (is_outranked s || is_sharing s)
     (λ t. rw t (log-yielded s))
-    (λ t. rw t (sym (append-nil s.log) ∙ ap (λ l. s.log ++ l) (sym (same_runs s))))
+    (λ t. rw t (sym (append-nil s.log) ∙ ap (λ l. s.log ++ l) (sym (same_runs s)))))
 
 -- all but the scheduler stands as it stood
 
@@ -79,10 +75,11 @@ unfolding leave
 rest-yielded k s h table = rest-anew k (leave_from s.running s) (rest-left k s s.running h h.sched.table.running) table
 
 rest-switch : (k : Kernel) (s : State) → Stands k s → IsTable (switch s) → Rest k (switch s)
-unfolding switch
-rest-switch k s h table = by_test (is_outranked s || is_sharing s)
-    (λ t. rw t (rest-yielded k s h (rw t at table)))
-    (λ t. rw t h.rest)
+rest-switch k s h table =
+    let once : IsTable (cond (is_outranked s || is_sharing s) (anew (leave s)) s) = subst IsTable (switch-once s) table in
+    rw (switch-once s) (by_test (is_outranked s || is_sharing s)
+    (λ t. rw t (rest-yielded k s h (rw t at once)))
+    (λ t. rw t h.rest))
 
 -- The scheduler has changed, and the line that tells of it is written.
 changed : (k : Kernel) (w u : Written) (s new : State) (v : Schedule) (before : Option ℕ) → At k w s → before ≡ k.sched.running → sched.StandsFor v new → Rest k new → new.log ≡ s.log ++ change_line s.steps s.time s.running new.running

@@ -1,7 +1,6 @@
 -- A run, step by step.
 use Rattle.std.proofs.Common.{◌≡◌, ◌≢◌, ◌<◌, ◌≤◌, ℕ, zero, suc, true, false, eqb, leb, List, [], ◌∷◌, ◌++◌, None, refl, sym, subst, ◌∙◌, arith}
 use Rattle.std.proofs.lemmas.List.{map-append}
-use Rattle.std.proofs.lemmas.Bool.{leb-true}
 use Rattle.std.proofs.lemmas.Bool.Decides.{nat_tests}
 use Rattle.model.proofs.Sorting.{by_test}
 use Rattle.model.proofs.Lines.{eqb-refl, eqb-same}
@@ -9,11 +8,11 @@ use Rattle.model.specs.declared.event.Event.{Event}
 use Rattle.model.specs.declared.limits.Limits.{Limits}
 use Rattle.model.specs.Application.{Application, Bounds}
 use Rattle.model.specs.Scripts.{IsWellFormed}
-use Rattle.model.specs.Trace.{Line, Ending, lines_of, line_of, bounds_of}
+use Rattle.model.specs.Trace.{lines_of, line_of, bounds_of}
 use Rattle.model.specs.State.{State}
 use Rattle.std.specs.List.{fold}
 use Rattle.model.specs.Step.{step, reset, entered_at_reset, before_entry, with_ops, enter}
-use Rattle.model.specs.Run.{end_of, state_after, lines_after, IsRun}
+use Rattle.model.specs.Run.{end_of, state_after, lines_after}
 use Rattle.model.proofs.Ticking.{elapsed-reset, elapsed-step}
 use Rattle.kernel.specs.declared.kernel.Kernel.{Kernel}
 use Rattle.kernel.specs.Stands.{Stands, CanStep}
@@ -72,11 +71,6 @@ module _ (app : Application) (formed : IsWellFormed app) (limits : Limits) (k : 
 -- The run that ends here is the run; one that is broken off has done no more steps.
 less : (a b : ℕ) → leb a b ≡ false → b < a
 less a b e = grind (arith, nat_tests)
-
-pub no_more : (app : Application) (limits : Bounds) (k : Kernel) → IsUnderWay app limits k → (lines : List Line) (steps ticks : ℕ) (end : Ending) → IsRun app limits lines steps ticks end → k.steps ≤ steps
-no_more app limits k h lines steps ticks end r = by_test (leb k.steps steps)
-    (λ t. leb-true k.steps steps t)
-    (λ t. let more : steps < k.steps = less k.steps steps t in let none = h.goes_on steps more in let some = r.ends in absurd (cc))
 
 -- The ticks of a run, as far as it has gone
 ticks_by : (app : Application) (limits : Limits) (n : ℕ) → ((m : ℕ) → m < n → end_of (bounds_of limits) (state_after app m) ≡ None) → (state_after app n).elapsed ≤ 1000000

@@ -183,9 +183,6 @@ module _ (k : Kernel) (s : State) (h : Stands k s) (i : ℕ) (l : i < length s.t
           };
         }
 
-    moved_seen : (count place : ℕ) → seen (moved_slot place v) ≡ bare (moved_to count place t)
-    moved_seen count place = ap (λ (b : Bare). record b { place = place; used = 0 }) r.seen
-
     -- it goes on at an op of so many, which isn't past the last one
     pub stands-gone : (count place : ℕ) → eqb place count ≡ false → Stands (with_slot i (moved_slot place v) k) (with_task s i (moved_to count place t))
     stands-gone count place off =

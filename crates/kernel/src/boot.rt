@@ -58,8 +58,8 @@ fn priorities_of(tasks: &[TaskDefinition]) -> [u8; 32]
 }
 
 impl Kernel {
-    /// The kernel at reset: the tasks have entered their lines in the order of the file, and the choice runs. A task
-    /// with an empty script is Ended.
+    /// The kernel at reset: the tasks have entered their lines in the order of the file, and the choice runs (profile:
+    /// FreeRTOS runs the task of highest priority that was created last). A task with an empty script is Ended.
     pub fn boot(app: &App) -> Self
         ensures { Stands result (reset app.now) }
     {

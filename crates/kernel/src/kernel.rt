@@ -1,8 +1,8 @@
 //! The kernel's state, and the parts of which each step is made.
-ghost use Rattle.std.specs.Prelude.{◌≡◌, ◌<◌, ◌≤◌, ◌+◌, ◌^◌, ◌==◌, ◌++◌, ◌∷◌, [], ℕ, IsTrue, false, length, Some};
+ghost use Rattle.std.specs.Prelude.{◌≡◌, ◌<◌, ◌≤◌, ◌+◌, ◌^◌, ◌==◌, ◌++◌, ◌∷◌, [], ℕ, IsTrue, false, length};
 ghost use Rattle.model.specs.State.{State, Task, task_at};
 ghost use Rattle.model.specs.Run.{is_asleep};
-ghost use Rattle.model.specs.Step.{go_to, complete, write, enter, sleep, sleep_until, is_ready};
+ghost use Rattle.model.specs.Step.{go_to, complete, write, enter, sleep, is_ready};
 ghost use Rattle.model.specs.Trace.{told_by, lines_of, printed};
 ghost use Rattle.arrayvec.specs.ArrayVec.{array_vec_len};
 ghost use Rattle.sched.specs.Schedule.{blocked, readied};
@@ -16,10 +16,10 @@ use clock::Clock;
 use model::{App, End, Event, TaskId, What};
 use sched::Sched;
 
-/// The lines that one step writes.
+/// The lines that one step writes: there is room for 128, and no step writes more.
 pub type StepLog = ArrayVec<Event, 128>;
 
-/// A kernel between two steps.
+/// A kernel between two steps: FreeRTOS's scheduler and its tick, over tasks that follow scripts (profile).
 #[derive(Drop)]
 pub struct Kernel {
     pub(crate) slots: [Slot; 32],

@@ -1,7 +1,7 @@
 //! What each op does.
 ghost use Rattle.std.specs.Prelude.{◌≡◌, ◌<◌, ◌≤◌, ◌+◌, ◌^◌, ℕ, Some, None, length};
-ghost use Rattle.model.specs.State.{State, task_at, with_task};
-ghost use Rattle.model.specs.Step.{answer, use_up, behind, sleep, sleep_until, reckon, rest, expect, open_loop, close_turn, act, complete, tick, delay_until};
+ghost use Rattle.model.specs.State.{State};
+ghost use Rattle.model.specs.Step.{answer, use_up, behind, sleep, count_from, rest, expect, open_loop, close_turn, act, complete, tick, delay_until};
 ghost use Rattle.arrayvec.specs.ArrayVec.{array_vec_len};
 ghost use Rattle.kernel.specs.Stands.{Stands, At, Does, Moves, slot_in, CanAct, Written};
 
@@ -58,35 +58,19 @@ impl Kernel {
     fn sleep(&mut self, task: TaskId, ticks: u32)
         requires runs { self.old.sched.running ≡ Some task.number }
         requires some { 0 < ticks }
-        ensures { Moves self.old self.new (λ s. sleep task.number (s.time + ticks) s) }
+        ensures at { Moves self.old self.new (λ s. sleep task.number (s.time + ticks) s) }
+        ensures runs { self.new.sched.running ≡ self.old.sched.running }
     {
         if self.is_ready(task) {
             self.lull(task, ticks);
         }
     }
 
-    /// The running task counts from this moment on, where it is still Ready.
-    #[tactic(auto, unfolding(model::specs::Step::reckon))]
-    fn reckon(&mut self, task: TaskId, moment: u64)
-        requires { self.old.sched.running ≡ Some task.number }
-        ensures { Moves self.old self.new (reckon task.number moment) }
+    /// A task counts from this moment on.
+    fn count_from(&mut self, task: TaskId, moment: u64)
+        ensures { (w : Written) (s : State) → At self.old w s → task.number < length s.tasks → At self.new w (count_from task.number moment s) }
     {
-        if self.is_ready(task) {
-            self.set_previous(task, moment);
-        }
-    }
-
-    /// The running task sleeps until this moment, which is so many ticks away, and counts from it, where it is still Ready.
-    #[tactic(auto, unfolding(model::specs::Step::sleep_until))]
-    fn sleep_until(&mut self, task: TaskId, ticks: u32, moment: u64)
-        requires runs { self.old.sched.running ≡ Some task.number }
-        requires some { 0 < ticks }
-        ensures { (w : Written) (s : State) → At self.old w s → moment ≡ s.time + ticks → At self.new w (sleep_until task.number moment s) }
-    {
-        if self.is_ready(task) {
-            self.lull(task, ticks);
-            self.set_previous(task, moment);
-        }
+        self.set_previous(task, moment);
     }
 
     /// `expect`: the run ends where the last answer differs.
@@ -197,11 +181,12 @@ impl Kernel {
         let now = self.clock.mark().moment;
         if now < moment {
             self.answer(app, task, Some(1), log);
-            self.sleep_until(task, (moment - now) as u32, moment);
+            self.sleep(task, (moment - now) as u32);
+            self.count_from(task, moment);
             self.anew(log);
         } else {
             self.answer(app, task, Some(0), log);
-            self.reckon(task, moment);
+            self.count_from(task, moment);
         }
     }
 

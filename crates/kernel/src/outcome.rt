@@ -14,5 +14,6 @@ pub struct Run {
     pub steps: u32,
     /// The ticks since reset.
     pub ticks: u32,
+    /// Why it ended.
     pub end: End,
 }

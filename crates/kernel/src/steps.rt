@@ -5,7 +5,7 @@ ghost use Rattle.model.specs.Step.{deed, step, reset};
 ghost use Rattle.model.specs.Run.{end_of, IsRun, state_after, lines_after, or_else};
 ghost use Rattle.model.specs.Trace.{Line, Ending, Pass, Ticks, Steps, Stuck, lines_of, ending_of, bounds_of, number_of};
 ghost use Rattle.arrayvec.specs.ArrayVec.{array_vec_len};
-ghost use Rattle.kernel.specs.Stands.{Stands, At, Does, CanDo, CanStep};
+ghost use Rattle.kernel.specs.Stands.{Stands, At, CanDo, CanStep};
 ghost use Rattle.kernel.specs.Runs.{IsUnderWay};
 
 use crate::kernel::{Kernel, StepLog};
@@ -31,9 +31,11 @@ impl Kernel {
         }
     }
 
-    /// One step of the run: the lines that it writes are then in the log, in order, and nothing else.
+    /// One step of the run: the running task's op, or a tick of idle (profile). The lines that it writes are then in the
+    /// log, in order, and nothing else. It takes no memory.
     ///
-    /// The kernel is of this application, and its run has not ended. No application has handlers yet.
+    /// The kernel is of this application, and its run has not ended under some limits. No application has handlers yet.
+    /// The meter, which rises by 1, is below 2^63.
     pub fn step(&mut self, app: &App, handlers: &[HandlerId], meter: &mut Meter, log: &mut StepLog)
         requires handlers { handlers.now ≡ [] }
         requires going { CanStep app.now self.old }
@@ -52,7 +54,8 @@ impl Kernel {
         meter.count();
     }
 
-    /// The end of the run before its next step, under these limits; `None` where it goes on.
+    /// The end of the run before its next step, under these limits: the first that holds of a failed `expect`, every task
+    /// Ended, the ticks, the steps, stuck (profile). `None` where the run goes on.
     pub fn ended(&self, _app: &App, limits: &Limits) -> Option<End>
         ensures { (s : State) → Stands self.now s → option_map ending_of result ≡ end_of (bounds_of limits.now) s }
     {
@@ -139,8 +142,8 @@ fn finish(
 /// The run of an application from reset to its end under these limits. No application has handlers yet, so the plan
 /// is empty.
 ///
-/// The meter rises by the steps of the run. At `Err(Memory)`, answered only where a growth was refused, it has risen
-/// by no more than that.
+/// The meter, which is below 2^62, rises by the steps of the run. At `Err(Memory)`, answered only where a growth was
+/// refused, it has risen by no more than that.
 pub fn run(
     alloc: Global,
     app: &App,

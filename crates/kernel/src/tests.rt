@@ -10,8 +10,8 @@ use slow::SlowKernel;
 use std::alloc::Global;
 use std::process::Abort;
 
-/// Runs both, and compares what they tell.
-fn compare(rt: &impl Abort, alloc: Global, seed: u32, app: &App) {
+/// Runs both, and compares what they tell. Answers whether the tick wrapped.
+fn compare(rt: &impl Abort, alloc: Global, seed: u32, app: &App) -> bool {
     let plan = Plan::new(Vec::new(alloc)).expect(rt, "a plan without points");
     let limits = app.limits();
     let mut meter = Meter::new();
@@ -27,13 +27,18 @@ fn compare(rt: &impl Abort, alloc: Global, seed: u32, app: &App) {
     assert_eq!(rt; told.steps, slow.steps, "seed {seed}");
     assert_eq!(rt; told.ticks, slow.elapsed, "seed {seed}");
     assert_eq!(rt; meter.steps(), told.steps as u64, "seed {seed}");
+    told.ticks > u32::MAX - app.start()
 }
 
 #[test]
 fn the_slow_program_agrees(rt: HostRuntime) {
+    let mut wrapped = 0_usize;
     for seed in 0..4_000 {
         let mut dice = Dice { state: seed };
         let app = dice.app(rt.alloc()).expect(&rt, "memory");
-        compare(&rt, rt.alloc(), seed, &app);
+        if compare(&rt, rt.alloc(), seed, &app) {
+            wrapped = wrapped.saturating_add(1);
+        }
     }
+    assert!(rt; wrapped > 2_000, "{wrapped} of the runs cross the wrap");
 }

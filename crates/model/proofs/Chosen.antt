@@ -1,11 +1,11 @@
 -- The entries of a line are tasks, and so are the choice and those who are due.
-use Rattle.std.proofs.Common.{◌≡◌, ◌<◌, ℕ, Bool, List, [], ◌∷◌, ◌++◌, length, Option, refl, ◌∙◌}
+use Rattle.std.proofs.Common.{◌≡◌, ◌<◌, ◌||◌, ℕ, Bool, cond, List, [], ◌∷◌, ◌++◌, length, Option, refl, ◌∙◌}
 use Rattle.std.specs.List.{filter, AllByRecursion, fold}
 use Rattle.std.specs.Option.{IfSome}
 use Rattle.std.proofs.Math.ListN.{length-set}
 use Rattle.model.specs.State.{State, Task, Ready, task_at}
 use Rattle.model.specs.Order.{Key, Entry, line, first, tasks_of}
-use Rattle.model.specs.Step.{readies, ready_key, sleepers, sleep_key, choice, task_of, due, is_due, enter}
+use Rattle.model.specs.Step.{readies, ready_key, sleepers, sleep_key, choice, task_of, due, is_due, enter, anew, leave, is_outranked, is_sharing, higher, slice, switch}
 use Rattle.model.proofs.Sorting.{by_test}
 use Rattle.model.proofs.Lines.{HasKey, line_has}
 
@@ -38,3 +38,8 @@ fold-end s (j ∷ is) i = fold-end (enter s j) is i
 pub length-fold : (s : State) (is : List ℕ) → length (fold enter s is).tasks ≡ length s.tasks
 length-fold s [] = refl
 length-fold s (i ∷ is) = length-fold (enter s i) is ∙ length-set s.tasks i (record (task_at s i) { status = Ready s.next })
+
+-- The switch of a tick is one deed, in whichever of the two cases.
+pub switch-once : (s : State) → switch s ≡ cond (is_outranked s || is_sharing s) (anew (leave s)) s
+unfolding switch higher slice
+switch-once s = by_test (is_outranked s) (λ t. rw t refl) (λ t. rw t refl)

@@ -4,9 +4,13 @@ use Rattle.std.specs.Option.{is_none}
 use Rattle.model.specs.Application.{Application, Bounds}
 use Rattle.model.specs.Trace.{Line, Ending}
 use Rattle.model.specs.Run.{end_of, state_after, lines_after, IsRun}
-use Rattle.model.specs.Examples.{goes_on_below}
 use Rattle.model.proofs.Sorting.{by_test}
 use Rattle.model.proofs.Lines.{eqb-refl, eqb-same}
+
+-- No end before this step, by a test.
+abbrev pub goes_on_below : Application → Bounds → ℕ → Bool
+goes_on_below app limits zero = true
+goes_on_below app limits (suc n) = goes_on_below app limits n && is_none (end_of limits (state_after app n))
 
 none_from_test : (o : Option Ending) → is_none o ≡ true → o ≡ None
 none_from_test None h = refl

@@ -1,11 +1,11 @@
 -- What a change of one task does to a line.
-use Rattle.std.proofs.Common.{◌≡◌, ℕ, ◌+◌, ◌<◌, ◌≤◌, zero, suc, Bool, true, false, cond, not, List, [], ◌∷◌, ◌++◌, Option, Some, None, refl, ap, sym, ◌∙◌, arith, eqb, length, get_or, set, append_assoc, length-append}
+use Rattle.std.proofs.Common.{◌≡◌, ℕ, ◌+◌, ◌<◌, ◌≤◌, zero, suc, Bool, true, false, not, List, [], ◌∷◌, ◌++◌, Option, Some, None, refl, ap, sym, ◌∙◌, arith, eqb, length, get_or, set, append_assoc, length-append}
 use Rattle.std.specs.List.{filter, cons_option, AllByRecursion}
 use Rattle.std.specs.Option.{option_map}
 use Rattle.std.proofs.lemmas.Bool.Decides.{nat_tests}
 use Rattle.model.specs.State.{Task, no_task}
-use Rattle.model.specs.Order.{Key, Entry, before, put, in_order, entry, keyed, line}
-use Rattle.model.proofs.Sorting.{by_test, by_before, put-put, All-put, All-in_order, All-weaker, Falls, Falls-in_order, filter-put, filter-in_order, length-in_order}
+use Rattle.model.specs.Order.{Key, Entry, put, in_order, entry, keyed, line}
+use Rattle.model.proofs.Sorting.{by_before, put-put, All-in_order, All-weaker, Falls, Falls-in_order, filter-put}
 
 abbrev pub other : ℕ → Entry → Bool
 other k e = not (eqb e.task k)
@@ -141,59 +141,6 @@ line_without f i ts n = apart f i ts n (line f ts) (line_has f ts)
 pub filter-without : (i : ℕ) (xs : List Entry) → AllByRecursion (λ e. e.task ≡ i → ⊥) xs → filter (other i) xs ≡ xs
 filter-without i [] h = refl
 filter-without i (x ∷ xs) h = rw (eqb-apart x.task i h.0) (ap (λ l. x ∷ l) (filter-without i xs h.1))
-
--- Each task stands in a line once.
-abbrev pub Distinct : List Entry → Type 0
-Distinct [] = Unit {0}
-Distinct (x ∷ xs) = AllByRecursion (λ e. e.task ≡ x.task → ⊥) xs × Distinct xs
-
-Distinct-put : (e : Entry) (xs : List Entry) → AllByRecursion (λ x. x.task ≡ e.task → ⊥) xs → Distinct xs → Distinct (put e xs)
-Distinct-put e [] h d = (tt, tt)
-Distinct-put e (f ∷ fs) h d = by_test (before e.key f.key)
-    (λ t. rw t (h, d))
-    (λ t. rw t (All-put (λ x. x.task ≡ f.task → ⊥) e fs (λ s. h.0 (sym s)) d.0, Distinct-put e fs h.1 d.1))
-
-distinct_from : (f : Task → Option Key) (o : ℕ) (ts : List Task) → Distinct (in_order (keyed f o ts))
-distinct_from f o [] = tt
-distinct_from f o (t ∷ ts) =
-    let xs = in_order (keyed f (o + 1) ts) in
-    let later : Distinct xs = distinct_from f (o + 1) ts in
-    let here : AllByRecursion (λ e. e.task ≡ o → ⊥) xs = All-in_order (λ e. e.task ≡ o → ⊥) (keyed f (o + 1) ts) (All-weaker (λ e. o + 1 ≤ e.task) (λ e. e.task ≡ o → ⊥) (λ e le s. omega arith) (keyed f (o + 1) ts) (places f (o + 1) ts)) in
-    elim (f t) as (λ r. Distinct (in_order (cons_option (option_map (entry o) r) (keyed f (o + 1) ts)))) [ None ↦ later | Some k ↦ Distinct-put (entry o k) xs here later ]
-
-pub distinct_line : (f : Task → Option Key) (ts : List Task) → Distinct (line f ts)
-distinct_line f ts = distinct_from f 0 ts
-
--- a line that is part of another
-abbrev pub has : (Task → Bool) → List Task → Entry → Bool
-has p ts e = p (get_or ts e.task no_task)
-
-part_first : (f g : Task → Option Key) (p : Task → Bool) → ((s : Task) → f s ≡ cond (p s) (g s) None) → (q : Entry → Bool) (s : Task) (o : ℕ) (xs : List Entry) → ((k : Key) → q (entry o k) ≡ p s) → cons_option (option_map (entry o) (f s)) (filter q xs) ≡ filter q (cons_option (option_map (entry o) (g s)) xs)
-part_first f g p h q s o xs e = rw (h s) (by_test (p s)
-    (λ t. rw t (elim (g s) as (λ r. cons_option (option_map (entry o) r) (filter q xs) ≡ filter q (cons_option (option_map (entry o) r) xs)) [ None ↦ refl | Some k ↦ let y = e k ∙ t in rw y refl ]))
-    (λ t. rw t (elim (g s) as (λ r. filter q xs ≡ filter q (cons_option (option_map (entry o) r) xs)) [ None ↦ refl | Some k ↦ let y = e k ∙ t in rw y refl ])))
-
-module _ (f g : Task → Option Key) (p : Task → Bool) (h : (s : Task) → f s ≡ cond (p s) (g s) None) where
-  keyed-part : (o : ℕ) (pre ts : List Task) → length pre ≡ o → keyed f o ts ≡ filter (has p (pre ++ ts)) (keyed g o ts)
-  keyed-part o pre [] e = refl
-  keyed-part o pre (t ∷ ts) e =
-      let same : (pre ++ t ∷ []) ++ ts ≡ pre ++ t ∷ ts = append_assoc pre (t ∷ []) ts in
-      let later = keyed-part (o + 1) (pre ++ t ∷ []) ts (omega (arith, length-append pre (t ∷ []))) in
-      let again : keyed f (o + 1) ts ≡ filter (has p (pre ++ t ∷ ts)) (keyed g (o + 1) ts) = later ∙ ap (λ us. filter (has p us) (keyed g (o + 1) ts)) same in
-      ap (cons_option (option_map (entry o) (f t))) again
-      ∙ part_first f g p h (has p (pre ++ t ∷ ts)) t o (keyed g (o + 1) ts) (λ k. ap p (get_or-middle pre t ts o e))
-
-  pub line-part : (ts : List Task) → line f ts ≡ filter (has p ts) (line g ts)
-  line-part ts = ap in_order (keyed-part 0 [] ts refl) ∙ sym (filter-in_order (has p ts) (keyed g 0 ts))
-
-length-keyed : (f : Task → Option Key) (o : ℕ) (ts : List Task) → length (keyed f o ts) ≤ length ts
-length-keyed f o [] = omega arith
-length-keyed f o (t ∷ ts) =
-    let later = length-keyed f (o + 1) ts in
-    elim (f t) as (λ r. length (cons_option (option_map (entry o) r) (keyed f (o + 1) ts)) ≤ suc (length ts)) [ None ↦ omega arith | Some n ↦ omega arith ]
-
-pub length-line : (f : Task → Option Key) (ts : List Task) → length (line f ts) ≤ length ts
-length-line f ts = omega (arith, length-in_order (keyed f 0 ts), length-keyed f 0 ts)
 
 -- the numbers of a line
 below_all : (f : Task → Option Key) (n i : ℕ) (ts : List Task) → Below f n ts → AllByRecursion (λ e. e.key.number < n) (keyed f i ts)

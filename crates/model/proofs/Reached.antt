@@ -1,5 +1,5 @@
 -- What is true of every state that a run comes to.
-use Rattle.std.proofs.Common.{◌≡◌, ◌≢◌, ◌<◌, ◌≤◌, ◌+◌, ◌-◌, ℕ, zero, suc, true, eqb, leb, ltb, ltb-false, ◌||◌, List, [], ◌∷◌, length, map, get_or, set, drop, Option, Some, None, refl, ap, sym, subst, ◌∙◌, arith, get_or-set_same, get_or-set_other, add-one}
+use Rattle.std.proofs.Common.{◌≡◌, ◌≢◌, ◌<◌, ◌≤◌, ◌+◌, ◌-◌, ℕ, zero, suc, true, false, eqb, leb, ltb, ltb-false, ◌||◌, List, [], ◌∷◌, length, map, get_or, set, drop, Option, Some, None, refl, ap, sym, subst, ◌∙◌, arith, get_or-set_same, get_or-set_other, add-one}
 use Rattle.std.specs.List.{AllByRecursion, fold, slice_get, filter}
 use Rattle.std.specs.Option.{IfSome, option_map, unwrap_or, option_eq}
 use Rattle.std.proofs.Math.ListN.{length-set}
@@ -12,13 +12,14 @@ use Rattle.model.specs.Scripts.{InRange, may_stand, depth_past, Nests, IsScript,
 use Rattle.model.specs.Trace.{Line, Ending, Call, Marked}
 use Rattle.model.specs.State.{State, Task, Status, Ready, Asleep, Ended, task_at, with_task, no_task}
 use Rattle.model.specs.Order.{Entry, tasks_of}
-use Rattle.model.specs.Step.{enter, dispatch, anew, choice, is_same, leave, leave_from, is_ready, switch, is_outranked, is_sharing, settle, is_off, wake, due, is_due, is_due_status, sleepers, sleep_key, is_ready_status, tick, go_to, complete, answer, use_up, behind, sleep, rest, sleep_until, reckon, delay_until, expect, open_loop, turn, close_turn, act, act_if, deed, step, reset, before_entry, entered_at_reset, task_at_reset, with_ops, is_empty, write}
-use Rattle.model.specs.Run.{state_after}
+use Rattle.model.specs.Step.{enter, dispatch, anew, choice, is_same, leave, leave_from, is_ready, switch, is_outranked, is_sharing, settle, is_off, wake, due, is_due, is_due_status, sleepers, sleep_key, is_ready_status, tick, go_to, moved_to, complete, answer, use_up, behind, sleep, rest, count_from, delay_until, expect, open_loop, turn, close_turn, act, act_if, deed, step, reset, before_entry, entered_at_reset, task_at_reset, with_ops, is_empty, write}
+use Rattle.model.specs.Run.{state_after, is_asleep}
 use Rattle.model.specs.Invariant.{HasNumberBelow, AllNumbered, IsUsedBy, LoopsNest, IsReckoned, IsAt, IsState}
 use Rattle.model.proofs.Sorting.{by_test}
 use Rattle.model.proofs.Lines.{eqb-refl, eqb-same}
 use Rattle.model.proofs.Tables.{number_at, table-set, table-numbered}
-use Rattle.model.proofs.Chosen.{choice_within, line_within}
+use Rattle.model.proofs.Chosen.{choice_within, line_within, switch-once}
+use Rattle.model.proofs.Settled.{IsSettled, settled_after}
 
 -- Scripts
 
@@ -72,10 +73,20 @@ ready_reckoned now p (Ready n) h t = h
 ready_reckoned now p (Asleep m b) h t = absurd (cc)
 ready_reckoned now p Ended h t = absurd (cc)
 
-reckoned_now : (now previous : ℕ) (u : Status) → previous ≤ now → is_ready_status u ≡ true → IsReckoned now previous u
+reckoned_now : (now previous : ℕ) (u : Status) → previous ≤ now → is_asleep u ≡ false → IsReckoned now previous u
 reckoned_now now p (Ready n) h t = h
 reckoned_now now p (Asleep m b) h t = absurd (cc)
-reckoned_now now p Ended h t = absurd (cc)
+reckoned_now now p Ended h t = tt
+
+reckoned_ended : (now previous : ℕ) (u : Status) → is_ready_status u ≡ false → is_asleep u ≡ false → IsReckoned now previous u
+reckoned_ended now p (Ready n) h t = absurd (cc)
+reckoned_ended now p (Asleep m b) h t = absurd (cc)
+reckoned_ended now p Ended h t = tt
+
+ready_awake : (u : Status) → is_ready_status u ≡ true → is_asleep u ≡ false
+ready_awake (Ready n) t = refl
+ready_awake (Asleep m b) t = absurd (cc)
+ready_awake Ended t = absurd (cc)
 
 due_reckoned : (now previous : ℕ) (u : Status) → IsReckoned now previous u → is_due_status now u ≡ true → previous ≤ now
 due_reckoned now p (Ready n) h t = absurd (cc)
@@ -161,8 +172,7 @@ module _ (app : Application) (formed : IsWellFormed app) where
   left s h = left_by s s.running h h.table.running
 
   switched : (s : State) → IsState app s → IsState app (switch s)
-  unfolding switch
-  switched s h = by_test (is_outranked s || is_sharing s) (λ t. rw t (chosen (leave s) (left s h))) (λ t. rw t h)
+  switched s h = rw (switch-once s) (by_test (is_outranked s || is_sharing s) (λ t. rw t (chosen (leave s) (left s h))) (λ t. rw t h))
 
   settled : (s : State) → IsState app s → IsState app (settle s)
   unfolding settle
@@ -267,21 +277,30 @@ module _ (app : Application) (formed : IsWellFormed app) where
   unfolding behind
   gave_way s i h l = by_test (is_ready s i) (λ u. rw u (entered s i h (ready_can s i h l u))) (λ u. rw u h)
 
-  slept : (s : State) (i moment : ℕ) → IsState app s → i < length s.tasks → IsState app (sleep_until i moment s)
-  unfolding sleep_until
-  slept s i moment h l = by_test (is_ready s i)
-      (λ u.
-      let a = h.places i in
-      rw u (numbered s i (record (task_at s i) { status = Asleep moment s.next; previous = moment }) h l (omega arith) (record { nests = a.nests; loops = a.loops; used = a.used; reckoned = omega arith })))
+  slept : (s : State) (i moment : ℕ) → IsState app s → i < length s.tasks → (task_at s i).previous ≤ moment → IsState app (sleep i moment s)
+  unfolding sleep
+  slept s i moment h l le = by_test (is_ready s i)
+      (λ u. rw u (numbered s i (record (task_at s i) { status = Asleep moment s.next }) h l (omega arith) (at_any s i (Asleep moment s.next) h le)))
       (λ u. rw u h)
 
-  counted : (s : State) (i moment : ℕ) → IsState app s → i < length s.tasks → moment ≤ s.time → IsState app (reckon i moment s)
-  unfolding reckon
-  counted s i moment h l le = by_test (is_ready s i)
-      (λ u.
+  counted : (s : State) (i moment : ℕ) → IsState app s → i < length s.tasks → IsReckoned s.time moment (task_at s i).status → IsState app (count_from i moment s)
+  unfolding count_from
+  counted s i moment h l r =
       let a = h.places i in
-      rw u (changed s i (record (task_at s i) { previous = moment }) h l (number_kept s i h l) (record { nests = a.nests; loops = a.loops; used = a.used; reckoned = reckoned_now s.time moment (task_at s i).status le u })))
-      (λ u. rw u h)
+      changed s i (record (task_at s i) { previous = moment }) h l (number_kept s i h l) (record { nests = a.nests; loops = a.loops; used = a.used; reckoned = r })
+
+  -- One who has begun to sleep until a moment may count from it.
+  reckoned_asleep : (s : State) (i moment : ℕ) → i < length s.tasks → is_asleep (task_at s i).status ≡ false → IsReckoned (sleep i moment s).time moment (task_at (sleep i moment s) i).status
+  unfolding sleep
+  reckoned_asleep s i moment l awake =
+      let t : Task = record (task_at s i) { status = Asleep moment s.next } in
+      by_test (is_ready s i)
+      (λ u. rw (u, get_or-set_same s.tasks i t no_task l) (omega arith))
+      (λ u. rw u (reckoned_ended s.time moment (task_at s i).status u awake))
+
+  length-sleep : (s : State) (i moment : ℕ) → length (sleep i moment s).tasks ≡ length s.tasks
+  unfolding sleep
+  length-sleep s i moment = by_test (is_ready s i) (λ u. rw u (length-set s.tasks i _)) (λ u. rw u refl)
 
   -- an answer leaves the table as long as it was
   length-answer : (s : State) (i : ℕ) (a : Option ℕ) → length (answer app i a s).tasks ≡ length s.tasks
@@ -295,40 +314,61 @@ module _ (app : Application) (formed : IsWellFormed app) where
   unfolding answer go_to
   time-answer s i a = refl
 
-  delayed : (s : State) (i n : ℕ) → IsState app s → i < length s.tasks → op_at app i (task_at s i).place ≡ Some (DelayUntil n) → IsState app (delay_until app i ((task_at s i).previous + n) s)
+  -- The answering task was Ready, so it is so still, or Ended.
+  module _ (s : State) (i : ℕ) (a : Option ℕ) (l : i < length s.tasks) where
+    answering : Task
+    answering = moved_to (op_count app i) ((task_at s i).place + 1) (record (task_at s i) { answer = a })
+
+    at_answer : task_at (answer app i a s) i ≡ answering
+    unfolding answer go_to answering
+    at_answer = get_or-set_same s.tasks i answering no_task l
+
+    awake_answer : is_ready s i ≡ true → is_asleep (task_at (answer app i a s) i).status ≡ false
+    unfolding answering
+    awake_answer t = rw at_answer (by_test (eqb ((task_at s i).place + 1) (op_count app i)) (λ u. rw u refl) (λ u. rw u (ready_awake (task_at s i).status t)))
+
+    previous_answer : (task_at (answer app i a s) i).previous ≡ (task_at s i).previous
+    unfolding answering
+    previous_answer = rw at_answer refl
+
+  delayed : (s : State) (i n : ℕ) → IsState app s → i < length s.tasks → is_ready s i ≡ true → op_at app i (task_at s i).place ≡ Some (DelayUntil n) → IsState app (delay_until app i ((task_at s i).previous + n) s)
   unfolding delay_until
-  delayed s i n h l is =
+  delayed s i n h l ready is =
       let moment = (task_at s i).previous + n in
       by_test (ltb s.time moment)
-      (λ t. rw t (chosen _ (slept _ i moment (answered s i (DelayUntil n) h l is (Some 1) refl) (still_task s i (Some 1) l))))
+      (λ t.
+      let asked : State = answer app i (Some 1) s in
+      let there : i < length asked.tasks = still_task s i (Some 1) l in
+      let asleep : IsState app (sleep i moment asked) = slept asked i moment (answered s i (DelayUntil n) h l is (Some 1) refl) there (rw (previous_answer s i (Some 1) l) (omega arith)) in
+      rw t (chosen _ (counted (sleep i moment asked) i moment asleep (rw (length-sleep asked i moment) there) (reckoned_asleep asked i moment there (awake_answer s i (Some 1) l ready)))))
       (λ t.
       let le : moment ≤ (answer app i (Some 0) s).time = rw time-answer (ltb-false s.time moment t) in
-      rw t (counted _ i moment (answered s i (DelayUntil n) h l is (Some 0) refl) (still_task s i (Some 0) l) le))
+      rw t (counted _ i moment (answered s i (DelayUntil n) h l is (Some 0) refl) (still_task s i (Some 0) l) (reckoned_now _ moment _ le (awake_answer s i (Some 0) l ready))))
 
-  acted : (s : State) (i : ℕ) (op : Op) → IsState app s → i < length s.tasks → op_at app i (task_at s i).place ≡ Some op → IsState app (act app i op s)
-  acted s i (Work n) h l is = ticked _ (used_up s i (Work n) h l is n refl)
-  acted s i (Delay n) h l is = chosen _ (rested _ i n s.time (answered s i (Delay n) h l is (Some 0) refl) (still_task s i (Some 0) l) (time-answer s i (Some 0)))
-  acted s i (DelayUntil n) h l is = delayed s i n h l is
-  acted s i Yield h l is = chosen _ (gave_way _ i (answered s i Yield h l is (Some 0) refl) (still_task s i (Some 0) l))
-  acted s i Time h l is = answered s i Time h l is _ refl
-  acted s i (Mark n) h l is = plain (write (Marked i n) s) i (framed s _ s.steps s.stopped h) l (Mark n) is (task_at s i).answer refl
-  acted s i (Expect a) h l is = expected s i (Expect a) h l is a refl
-  acted s i (Repeat n) h l is = opened s i (Repeat n) h l is n refl
-  acted s i End h l is = closed s i End h l is refl
+  acted : (s : State) (i : ℕ) (op : Op) → IsState app s → i < length s.tasks → is_ready s i ≡ true → op_at app i (task_at s i).place ≡ Some op → IsState app (act app i op s)
+  acted s i (Work n) h l r is = ticked _ (used_up s i (Work n) h l is n refl)
+  acted s i (Delay n) h l r is = chosen _ (rested _ i n s.time (answered s i (Delay n) h l is (Some 0) refl) (still_task s i (Some 0) l) (time-answer s i (Some 0)))
+  acted s i (DelayUntil n) h l r is = delayed s i n h l r is
+  acted s i Yield h l r is = chosen _ (gave_way _ i (answered s i Yield h l is (Some 0) refl) (still_task s i (Some 0) l))
+  acted s i Time h l r is = answered s i Time h l is _ refl
+  acted s i (Mark n) h l r is = plain (write (Marked i n) s) i (framed s _ s.steps s.stopped h) l (Mark n) is (task_at s i).answer refl
+  acted s i (Expect a) h l r is = expected s i (Expect a) h l is a refl
+  acted s i (Repeat n) h l r is = opened s i (Repeat n) h l is n refl
+  acted s i End h l r is = closed s i End h l is refl
 
-  acted_if : (s : State) (i : ℕ) (o : Option Op) → IsState app s → i < length s.tasks → op_at app i (task_at s i).place ≡ o → IsState app (act_if app i o s)
-  acted_if s i None h l is = h
-  acted_if s i (Some op) h l is = acted s i op h l is
+  acted_if : (s : State) (i : ℕ) (o : Option Op) → IsState app s → i < length s.tasks → is_ready s i ≡ true → op_at app i (task_at s i).place ≡ o → IsState app (act_if app i o s)
+  acted_if s i None h l r is = h
+  acted_if s i (Some op) h l r is = acted s i op h l r is
 
-  done : (s : State) (r : Option ℕ) → IsState app s → IfSome r (λ i. i < length s.tasks) → IsState app (deed app r s)
-  done s None h l = ticked s h
-  done s (Some i) h l = acted_if s i (op_at app i (task_at s i).place) h l refl
+  done : (s : State) (r : Option ℕ) → IsState app s → IfSome r (λ i. i < length s.tasks) → IfSome r (λ i. is_ready s i ≡ true) → IsState app (deed app r s)
+  done s None h l on = ticked s h
+  done s (Some i) h l on = acted_if s i (op_at app i (task_at s i).place) h l on refl
 
-  pub reached_step : (s : State) → IsState app s → IsState app (step app s)
+  pub reached_step : (s : State) → IsState app s → IsSettled s → IsState app (step app s)
   unfolding step
-  reached_step s h =
+  reached_step s h on =
       let begun : IsState app (record s { log = [] }) = framed s [] s.steps s.stopped h in
-      framed _ _ (s.steps + 1) _ (settled _ (done (record s { log = [] }) s.running begun h.table.running))
+      framed _ _ (s.steps + 1) _ (settled _ (done (record s { log = [] }) s.running begun h.table.running on))
 
 -- Reset
 
@@ -379,4 +419,4 @@ module _ (app : Application) (formed : IsWellFormed app) where
   -- every state of a run
   pub reached_after : (n : ℕ) → IsState app (state_after app n)
   reached_after zero = reached_reset
-  reached_after (suc n) = reached_step app formed (state_after app n) (reached_after n)
+  reached_after (suc n) = reached_step app formed (state_after app n) (reached_after n) (settled_after app n)

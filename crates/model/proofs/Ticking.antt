@@ -9,8 +9,9 @@ use Rattle.model.specs.Trace.{Marked, printed}
 use Rattle.model.specs.Application.{Application, op_at}
 use Rattle.model.specs.State.{State, Task, task_at}
 use Rattle.model.specs.Order.{tasks_of}
-use Rattle.model.specs.Step.{enter, dispatch, anew, choice, is_same, leave, leave_from, is_ready, switch, is_outranked, is_sharing, settle, is_off, wake, due, tick, go_to, complete, answer, use_up, behind, sleep, rest, sleep_until, reckon, delay_until, expect, open_loop, turn, close_turn, act, act_if, deed, step, reset, before_entry, entered_at_reset, with_ops, write}
+use Rattle.model.specs.Step.{enter, dispatch, anew, choice, is_same, leave, leave_from, is_ready, switch, is_outranked, is_sharing, settle, is_off, wake, due, tick, go_to, complete, answer, use_up, behind, sleep, rest, count_from, delay_until, expect, open_loop, turn, close_turn, act, act_if, deed, step, reset, before_entry, entered_at_reset, with_ops, write}
 use Rattle.model.proofs.Sorting.{by_test}
+use Rattle.model.proofs.Chosen.{switch-once}
 
 -- Who runs
 
@@ -27,10 +28,9 @@ unfolding leave
 elapsed-leave s = elapsed-left s s.running
 
 pub elapsed-switch : (s : State) → (switch s).elapsed ≡ s.elapsed
-unfolding switch
-elapsed-switch s = by_test (is_outranked s || is_sharing s)
+elapsed-switch s = rw (switch-once s) (by_test (is_outranked s || is_sharing s)
     (λ t. rw t (elapsed-anew (leave s) ∙ elapsed-leave s))
-    (λ t. rw t refl)
+    (λ t. rw t refl))
 
 pub elapsed-settle : (s : State) → (settle s).elapsed ≡ s.elapsed
 unfolding settle
@@ -77,19 +77,17 @@ elapsed-sleep i moment s = by_test (is_ready s i) (λ t. rw t refl) (λ t. rw t 
 pub elapsed-rest : (i n time : ℕ) (s : State) → (rest i n time s).elapsed ≡ s.elapsed
 elapsed-rest i n time s = by_test (eqb n 0) (λ t. rw t (elapsed-behind i s)) (λ t. rw t (elapsed-sleep i (time + n) s))
 
-pub elapsed-sleep_until : (i moment : ℕ) (s : State) → (sleep_until i moment s).elapsed ≡ s.elapsed
-unfolding sleep_until
-elapsed-sleep_until i moment s = by_test (is_ready s i) (λ t. rw t refl) (λ t. rw t refl)
-
-pub elapsed-reckon : (i moment : ℕ) (s : State) → (reckon i moment s).elapsed ≡ s.elapsed
-unfolding reckon
-elapsed-reckon i moment s = by_test (is_ready s i) (λ t. rw t refl) (λ t. rw t refl)
+pub elapsed-count_from : (i moment : ℕ) (s : State) → (count_from i moment s).elapsed ≡ s.elapsed
+unfolding count_from
+elapsed-count_from i moment s = refl
 
 pub elapsed-delay_until : (app : Application) (i moment : ℕ) (s : State) → (delay_until app i moment s).elapsed ≡ s.elapsed
 unfolding delay_until
-elapsed-delay_until app i moment s = by_test (ltb s.time moment)
-    (λ t. rw t (elapsed-anew (sleep_until i moment (answer app i (Some 1) s)) ∙ elapsed-sleep_until i moment (answer app i (Some 1) s) ∙ elapsed-answer app i (Some 1) s))
-    (λ t. rw t (elapsed-reckon i moment (answer app i (Some 0) s) ∙ elapsed-answer app i (Some 0) s))
+elapsed-delay_until app i moment s =
+    let asked : State = answer app i (Some 1) s in
+    by_test (ltb s.time moment)
+    (λ t. rw t (elapsed-anew (count_from i moment (sleep i moment asked)) ∙ elapsed-count_from i moment (sleep i moment asked) ∙ elapsed-sleep i moment asked ∙ elapsed-answer app i (Some 1) s))
+    (λ t. rw t (elapsed-count_from i moment (answer app i (Some 0) s) ∙ elapsed-answer app i (Some 0) s))
 
 pub elapsed-expect : (app : Application) (i : ℕ) (a : Option ℕ) (s : State) → (expect app i a s).elapsed ≡ s.elapsed
 unfolding expect go_to

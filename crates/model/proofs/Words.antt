@@ -41,11 +41,6 @@ ready_is p (Ready n) h = (n, refl)
 ready_is p (Asleep m b) h = absurd (cc)
 ready_is p Ended h = absurd (cc)
 
-not_ready : (p : ℕ) (u : Status) → ready_status_key p u ≡ None → is_ready_status u ≡ false
-not_ready p (Ready n) h = absurd (cc)
-not_ready p (Asleep m b) h = refl
-not_ready p Ended h = refl
-
 key_is : (p : ℕ) (u : Status) (k : Key) → ready_status_key p u ≡ Some k → (u ≡ Ready k.number) × (k.rank ≡ p)
 key_is p (Ready n) k h = let e : key p n ≡ k = cc in (ap (λ (j : Key). Ready j.number) e, sym (ap (λ (j : Key). j.rank) e))
 key_is p (Asleep m b) k h = absurd (cc)

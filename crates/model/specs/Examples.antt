@@ -1,10 +1,9 @@
 -- Worked examples: applications, and the lines that their runs write.
-use Rattle.std.specs.Prelude.{ℕ, zero, suc, Bool, true, ◌&&◌, List, [], ◌∷◌, Some, None, is_none, codes}
+use Rattle.std.specs.Prelude.{ℕ, List, [], ◌∷◌, Some, None, codes}
 use Rattle.model.specs.declared.op.Op.{Op}
 use Rattle.model.specs.declared.op.Op.TheVariants.{Work, Delay, Yield, Mark}
 use Rattle.model.specs.Trace.{What, Call, Marked, Runs, Line}
 use Rattle.model.specs.Application.{Application, Bounds}
-use Rattle.model.specs.Run.{end_of, state_after}
 
 abbrev pub wide : Bounds
 wide = record { ticks = 1000000; steps = 1000000 }
@@ -26,11 +25,6 @@ b = 1
 
 abbrev pub at : ℕ → ℕ → What → Line
 at step tick what = record { step = step; tick = tick; what = what }
-
--- No end before this step, by a test.
-abbrev pub goes_on_below : Application → Bounds → ℕ → Bool
-goes_on_below app limits zero = true
-goes_on_below app limits (suc n) = goes_on_below app limits n && is_none (end_of limits (state_after app n))
 
 abbrev pub round_robin : Application
 round_robin = pair_of 0 (Work 3 ∷ []) (Work 3 ∷ [])

@@ -1,7 +1,7 @@
 -- The kernel's state.
 --
 -- A number is one of a single rising count: every entry to the Ready tasks and every beginning of a sleep takes the
--- next one. No code has these numbers: they say who came first.
+-- next one. They say who came first; the code has none of them.
 use Rattle.std.specs.Prelude.{ℕ, List, Option, None, [], slice_index_or, slice_set}
 use Rattle.model.specs.declared.event.Loop.{Loop}
 use Rattle.model.specs.Trace.{Line, Ending}

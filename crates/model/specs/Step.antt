@@ -1,5 +1,5 @@
 -- One step of the kernel. Each word here is one deed; a deed takes a state to the next.
-use Rattle.std.specs.Prelude.{ℕ, ◌+◌, ◌-◌, ◌==◌, ◌&&◌, ◌||◌, Bool, true, false, not, List, [], ◌∷◌, ◌++◌, Option, Some, None, nat_lt, nat_le, nat_eq, if◌then◌else◌, fold, map, filter}
+use Rattle.std.specs.Prelude.{ℕ, ◌+◌, ◌-◌, ◌==◌, ◌&&◌, Bool, true, false, not, List, [], ◌∷◌, ◌++◌, Option, Some, None, nat_lt, nat_le, nat_eq, if◌then◌else◌, fold, map, filter}
 use Rattle.std.specs.List.{list_any}
 use Rattle.std.specs.Option.{option_eq}
 use Rattle.model.specs.declared.op.Op.{Op}
@@ -44,10 +44,10 @@ is_due_status now (Ready number) = false
 is_due_status now (Asleep moment begun) = moment == now
 is_due_status now Ended = false
 
--- the sleepers whose moment is now, in the order in which they began
 abbrev pub is_due : State → Entry → Bool
 is_due s e = is_due_status s.time (task_at s e.task).status
 
+-- the sleepers whose moment is now, in the order in which they began
 abbrev pub due : State → List Entry
 due s = filter (is_due s) (sleepers s)
 
@@ -70,11 +70,11 @@ is_ready s task = is_ready_status (task_at s task).status
 abbrev pub enter : State → ℕ → State
 enter s task = record (with_task s task (record (task_at s task) { status = Ready s.next })) { next = s.next + 1 }
 
--- the choice: the Ready task of highest priority, among equals the one of least number; else idle
 abbrev pub task_of : Option Entry → Option ℕ
 task_of None = None
 task_of (Some e) = Some e.task
 
+-- the choice: the Ready task of highest priority, among equals the one of least number; else idle
 abbrev pub choice : State → Option ℕ
 choice s = task_of (first (readies s))
 
@@ -113,10 +113,17 @@ is_outranked s = list_any (is_above s s.running) (readies s)
 abbrev pub is_sharing : State → Bool
 is_sharing s = list_any (is_beside s s.running) (readies s)
 
--- Where a Ready task is above the running one, that one leaves and the choice runs; or else the time slice: another
--- Ready task of the same priority has its turn.
+-- Where a Ready task is above the running one, that one leaves and the choice runs.
+unfoldable pub higher : State → State
+higher s = if is_outranked s then anew (leave s) else s
+
+-- The time slice: where another Ready task has the running one's priority, it has its turn.
+unfoldable pub slice : State → State
+slice s = if is_sharing s then anew (leave s) else s
+
+-- A tick ends with the one, or else with the other.
 unfoldable pub switch : State → State
-switch s = if is_outranked s || is_sharing s then anew (leave s) else s
+switch s = if is_outranked s then higher s else slice s
 
 abbrev pub is_off : State → Option ℕ → Bool
 is_off s None = false
@@ -176,23 +183,16 @@ sleep task moment s =
 abbrev pub rest : ℕ → ℕ → ℕ → State → State
 rest task n time s = if n == 0 then behind task s else sleep task (time + n) s
 
--- The same, and the task counts from the moment on.
-unfoldable pub sleep_until : ℕ → ℕ → State → State
-sleep_until task moment s =
-    if is_ready s task
-    then record (with_task s task (record (task_at s task) { status = Asleep moment s.next; previous = moment })) { next = s.next + 1 }
-    else s
+-- The task counts from the moment on.
+unfoldable pub count_from : ℕ → ℕ → State → State
+count_from task moment s = with_task s task (record (task_at s task) { previous = moment })
 
--- The task counts from the moment on, where it is still Ready.
-unfoldable pub reckon : ℕ → ℕ → State → State
-reckon task moment s = if is_ready s task then with_task s task (record (task_at s task) { previous = moment }) else s
-
--- what `delay_until` does: the task sleeps until the moment, if that is still to come
+-- what `delay_until` does: the task sleeps until the moment, if that is still to come, and counts from it
 unfoldable pub delay_until : Application → ℕ → ℕ → State → State
 delay_until app task moment s =
     if nat_lt s.time moment
-    then anew (sleep_until task moment (answer app task (Some 1) s))
-    else reckon task moment (answer app task (Some 0) s)
+    then anew (count_from task moment (sleep task moment (answer app task (Some 1) s)))
+    else count_from task moment (answer app task (Some 0) s)
 
 unfoldable pub expect : Application → ℕ → Option ℕ → State → State
 expect app task a s =

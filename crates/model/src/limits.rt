@@ -13,6 +13,7 @@ pub struct Limits {
 }
 
 impl Limits {
+    /// The most ticks, and the most steps, of a run (profile); also where a file names no limit.
     pub const MOST: u32 = 1_000_000;
 
     /// The limits; `None` where a number is not 1 to 1,000,000.
@@ -56,7 +57,7 @@ impl Meter {
         self.steps
     }
 
-    /// Counts a step.
+    /// Counts a step. The meter is below 2^63.
     pub fn count(&mut self)
         requires { self.old < 2 ^ 63 }
         ensures { self.new ≡ self.old + 1 }

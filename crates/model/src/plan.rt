@@ -4,7 +4,7 @@ ghost use Rattle.std.specs.Prelude.{◌≡◌, [], List, IsOkAnd};
 use crate::ids::HandlerId;
 use std::marker::Model;
 
-/// An injection point: the handler runs before the step of this number.
+/// An injection point: the handler runs before the step of this number, from 0.
 #[derive(Clone, Copy, Debug, PartialEq, Eq)]
 pub struct Point {
     pub step: u32,

@@ -83,7 +83,8 @@ impl ScriptBuilder {
         }
     }
 
-    /// Appends an op. At an `Err` the script is as it was.
+    /// Appends an op, whose numbers are in their ranges, to fewer than 256. At an `Err` the script is as it was: the op may
+    /// not stand there, or no memory is left.
     pub fn push(&mut self, op: Op) -> Result<(), NestingFault>
         requires range { InRange op }
         requires room { length self.old < 256 }
@@ -101,13 +102,6 @@ impl ScriptBuilder {
             }
             Err(_) => Err(NestingFault::Memory),
         }
-    }
-
-    /// How many loops are open.
-    pub fn depth(&self) -> u8
-        ensures { result ≡ depth_after 0 self.now }
-    {
-        self.depth
     }
 
     /// The script, where every loop is closed.

@@ -1,5 +1,5 @@
 -- The word of bits, one for each list.
-use Rattle.std.proofs.Common.{◌≡◌, ◌≢◌, ℕ, zero, suc, ◌-◌, ◌*◌, ◌/◌, ◌%◌, ◌^◌, ◌<◌, ◌≤◌, inl, inr, List, [], ◌∷◌, ◌++◌, None, Some, length, map, set, replicate, get_or, sym, ◌∙◌, ap, subst, arith, refl, bit_and, bit_or}
+use Rattle.std.proofs.Common.{◌≡◌, ◌≢◌, ℕ, zero, suc, ◌-◌, ◌*◌, ◌/◌, ◌%◌, ◌^◌, ◌<◌, ◌≤◌, inl, inr, List, [], ◌∷◌, ◌++◌, Some, length, map, set, replicate, get_or, sym, ◌∙◌, ap, subst, arith, refl, bit_and, bit_or}
 use Rattle.std.specs.Int.{bit_at, bit_not, leading_zeros, w32}
 use Rattle.std.proofs.Math.Nat.{div-eq_of_lt-le}
 use Rattle.std.proofs.lemmas.Bool.{cases_eq, cases_lt}
@@ -50,12 +50,6 @@ highest_is {lists} {full} h some fits =
         | inr past ↦ past_empty h q past
       ],
     )
-
-pub none_is : {lists : List (List (ℕ × ℕ))} {full : ℕ} → AreLines lists full → full ≡ 0 → IsHighest lists None
-none_is {lists} {full} h zero_is = λ p. elim (cases_lt p 32) [
-  | inl below ↦ bit_of-empty (entries_of lists p) (sym (h.bits p below) ∙ ap (λ (n : ℕ). bit_at n p) zero_is ∙ bit_at-zero p)
-  | inr past ↦ past_empty h p past
-]
 
 -- a task goes into a list
 pub bit_set : {lists : List (List (ℕ × ℕ))} {full : ℕ} → AreLines lists full → (list : ℕ) (e : ℕ × ℕ) → list < 32 → IsSound 32 32 (set lists list (entries_of lists list ++ e ∷ [])) → AreLines (set lists list (entries_of lists list ++ e ∷ [])) (bit_or full (1 * 2 ^ list % 2 ^ 32))

@@ -1,6 +1,6 @@
 -- Each change of the schedule is a deed of the definitions.
 use Rattle.std.proofs.Common.{◌≡◌, ℕ, zero, suc, ◌+◌, ◌<◌, inl, inr, Bool, true, false, not, Option, Some, None, List, [], ◌∷◌, get_or, set, length, sym, ◌∙◌, ap, ap₂, subst, arith, refl, eqb, ltb}
-use Rattle.std.specs.Prelude.{◌==◌, ◌||◌, ◌&&◌, nat_lt, nat_eq, if◌then◌else◌}
+use Rattle.std.specs.Prelude.{◌==◌, ◌||◌, ◌&&◌, nat_lt, nat_eq}
 use Rattle.std.specs.List.{AllByRecursion, cons_option, filter, list_any}
 use Rattle.std.specs.Option.{IfSome, option_map}
 use Rattle.std.proofs.lemmas.Bool.{cases_eq, eq-eqb, ltb-false, ltb-true, ne_eqb}
@@ -13,6 +13,7 @@ use Rattle.model.specs.Invariant.{IsTable}
 use Rattle.model.proofs.Sorting.{before_false, before_true, by_test}
 use Rattle.model.proofs.Lines.{HasKey, eqb-same, line-entered, line-gone, line-kept, line_below, line_has, line_without, other}
 use Rattle.model.proofs.Tables.{below_ready, table-enter}
+use Rattle.model.proofs.Chosen.{switch-once}
 use Rattle.lists.specs.Lists.{first_of, has_node, without}
 use Rattle.sched.specs.Schedule as mine
 use Rattle.sched.specs.Schedule.{Schedule, chosen, lined_up, priority_in, readied, sliced, stepped_back, yielded}
@@ -184,21 +185,13 @@ stands_yielded v s h =
     let mine_back : StandsFor (stepped_back v v.running) (leave_from s.running s) = subst (λ (r : Option ℕ). StandsFor (stepped_back v r) (leave_from s.running s)) (sym h.running) back in
     stands_chosen (stepped_back v v.running) (leave_from s.running s) mine_back
 
--- where a Ready task is above the running one
-pub stands_preempted : (v : Schedule) (s : State) → StandsFor v s → StandsFor (mine.preempted v) (if◌then◌else◌ (step.is_outranked s) (anew (leave s)) s)
-stands_preempted v s h =
-    let same = outranked_same v s h in
-    by_test (step.is_outranked s)
-    (λ t. let u = same ∙ t in rw (t, u) (stands_yielded v s h))
-    (λ t. let u = same ∙ t in rw (t, u) h)
-
+-- where a Ready task is above the running one, or has its priority
 pub stands_sliced : (v : Schedule) (s : State) → StandsFor v s → StandsFor (sliced v) (switch s)
-unfolding switch
 stands_sliced v s h =
     let same : (mine.is_outranked v || mine.is_sharing v) ≡ (step.is_outranked s || step.is_sharing s) = ap₂ (λ (a b : Bool). a || b) (outranked_same v s h) (sharing_same v s h) in
-    by_test (step.is_outranked s || step.is_sharing s)
+    rw (switch-once s) (by_test (step.is_outranked s || step.is_sharing s)
     (λ t. let u = same ∙ t in rw (t, u) (stands_yielded v s h))
-    (λ t. let u = same ∙ t in rw (t, u) h)
+    (λ t. let u = same ∙ t in rw (t, u) h))
 
 -- a task changes by itself
 

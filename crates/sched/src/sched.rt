@@ -12,7 +12,9 @@ use lists::ListId;
 use model::TaskId;
 use std::marker::Model;
 
-/// The Ready tasks, the running task, and the priorities of all tasks.
+/// The Ready tasks, the running task, and the priorities of all tasks: FreeRTOS's ready lists, one for each priority.
+///
+/// Idle is no task here: it runs where no task is Ready, and is below every priority (profile).
 #[derive(Drop)]
 pub struct Sched {
     lines: Lines,
@@ -54,7 +56,7 @@ impl Sched {
         self.running
     }
 
-    /// Whether a task is Ready.
+    /// Whether any task is Ready.
     pub fn has_ready(&self) -> bool
         ensures ready { result ≡ is_some (first_of self.now.ready) }
     {
@@ -76,7 +78,8 @@ impl Sched {
         self.lines.contains(task)
     }
 
-    /// Makes a task Ready, behind the others of its priority. One that is Ready already goes there too.
+    /// Makes a task Ready, behind the others of its priority. One that is Ready already goes there too (profile: it
+    /// is how a running task leaves the processor; FreeRTOS moves its list's index instead).
     pub fn make_ready(&mut self, task: TaskId)
         ensures readied { self.new ≡ readied self.old task.number }
         ensures enter { (s : State) → StandsFor self.old s → task.number < length s.tasks → StandsFor self.new (step.enter s task.number) }
@@ -104,7 +107,7 @@ impl Sched {
     }
 
     /// Sends the running task behind the others of its priority, if it is Ready, and lets the choice
-    /// run.
+    /// run (`taskYIELD`).
     pub fn yield_now(&mut self)
         ensures yielded { self.new ≡ yielded self.old }
         ensures leave { Does self.old self.new (λ s. step.anew (step.leave s)) }
@@ -118,11 +121,11 @@ impl Sched {
     }
 
     /// Where a Ready task has a higher priority than the running one, or idle runs and a task is Ready,
-    /// yields. Answers whether it did. A Ready task of equal priority changes nothing.
+    /// yields. Answers whether it did. A Ready task of equal priority changes nothing (profile).
     pub fn preempt(&mut self) -> bool
         ensures outranked { result ≡ is_outranked self.old }
         ensures preempted { self.new ≡ preempted self.old }
-        ensures higher { Does self.old self.new (λ s. if step.is_outranked s then step.anew (step.leave s) else s) }
+        ensures higher { Does self.old self.new step.higher }
     {
         let outranked = self.is_outranked();
         if outranked {
@@ -132,7 +135,7 @@ impl Sched {
     }
 
     /// As `preempt`, and yields also where another Ready task has the running one's priority: its
-    /// turn has come. Answers whether it did.
+    /// turn has come, at the end of a tick (`configUSE_TIME_SLICING`). Answers whether it did.
     pub fn slice(&mut self) -> bool
         ensures ended { result ≡ (is_outranked self.old || is_sharing self.old) }
         ensures sliced { self.new ≡ sliced self.old }

@@ -27,16 +27,17 @@ impl Dice {
     fn op(&mut self) -> Op
         ensures { InRange result }
     {
-        match self.roll(14) {
-            0 | 1 => Op::Work(1 + self.roll(3)),
-            2 | 3 => Op::Delay(self.roll(4)),
-            4 | 5 => Op::DelayUntil(1 + self.roll(4)),
-            6 | 7 => Op::Yield,
-            8 => Op::Time,
-            9 => Op::Mark(self.roll(10)),
-            10 | 11 => Op::Repeat(1 + self.roll(3) as u16),
-            12 => Op::Expect(Some(self.roll(2))),
-            _ => Op::End,
+        match self.roll(26) {
+            0..=4 => Op::Work(1 + self.roll(3)),
+            5..=8 => Op::Delay(self.roll(4)),
+            9..=12 => Op::DelayUntil(1 + self.roll(4)),
+            13..=15 => Op::Yield,
+            16 => Op::Time,
+            17 => Op::Mark(self.roll(10)),
+            18..=20 => Op::Repeat(1 + self.roll(3) as u16),
+            21..=23 => Op::End,
+            24 => Op::Expect(Some(self.roll(2))),
+            _ => Op::Expect(None),
         }
     }
 
@@ -61,14 +62,14 @@ impl Dice {
         Some(TaskDefinition::new(String::new(alloc), priority, script))
     }
 
-    /// Four tasks of priorities 0 to 2. In most of them the tick wraps.
+    /// Four tasks of priorities 0 to 2, shortly before the tick wraps.
     pub(super) fn app(&mut self, alloc: Global) -> Option<App> {
         let mut tasks = Vec::new(alloc);
         tasks.push(self.task(alloc)?).ok()?;
         tasks.push(self.task(alloc)?).ok()?;
         tasks.push(self.task(alloc)?).ok()?;
         tasks.push(self.task(alloc)?).ok()?;
-        let start = u32::MAX.wrapping_sub(self.roll(12)).wrapping_add(2);
+        let start = u32::MAX - self.roll(8);
         let limits = Limits::new(10 + self.roll(50), 20 + self.roll(200))?;
         Some(App::new(start, limits, tasks))
     }
