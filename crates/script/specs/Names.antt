@@ -1,7 +1,8 @@
 -- Names of a file.
-use Rattle.std.specs.Prelude.{ℕ, Bool, false, ◌&&◌, ◌||◌, ◌==◌, nat_le, List, [], ◌∷◌, length}
-use Rattle.std.specs.List.{list_all}
+use Rattle.std.specs.Prelude.{ℕ, Bool, false, ◌&&◌, ◌||◌, ◌==◌, ◌≢◌, nat_le, List, [], ◌∷◌, length, map}
+use Rattle.std.specs.List.{list_all, AllPairs}
 use Rattle.std.specs.Char.{is_ascii_alphabetic, is_ascii_alphanumeric}
+use Rattle.model.specs.Application.{Application, Definition}
 
 -- a letter, a digit or an underscore
 abbrev pub is_name_byte : ℕ → Bool
@@ -11,3 +12,11 @@ is_name_byte b = is_ascii_alphanumeric b || b == 95
 abbrev pub is_name : List ℕ → Bool
 is_name [] = false
 is_name (b ∷ bs) = nat_le (length (b ∷ bs)) 16 && (is_ascii_alphabetic b && list_all is_name_byte (b ∷ bs))
+
+-- the names of the tasks, in their order
+abbrev pub task_names : Application → List (List ℕ)
+task_names app = map (λ (d : Definition). d.name) app.tasks
+
+-- Each task has a name of its own: no two of them have the same.
+abbrev pub HasDistinctNames : Application → Type 0
+HasDistinctNames app = AllPairs (λ name other. name ≢ other) (task_names app)

@@ -3,6 +3,7 @@
 
 mod document;
 mod fault;
+mod laws;
 mod name;
 mod op_text;
 mod ops;
@@ -14,5 +15,6 @@ mod words;
 
 pub use document::FromDocument;
 pub use fault::LoadFault;
+pub use laws::names_differ;
 pub use op_text::{grammar, op_of};
 pub use place::{Key, Place, PlaceWord, Section};
