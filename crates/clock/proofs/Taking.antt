@@ -33,12 +33,7 @@ head_of list n lists e =
     let f = head_of_at n (entries_of lists list) e in
     record { value = f.0; rest = f.1; is = f.2 }
 
--- a node that is first is a node of the table, and there is room for it among 32
-pub first_known : (list n : ℕ) (lists : List (List (ℕ × ℕ))) → IsSound 2 32 lists → First list n lists → n < 32
-first_known list n lists sound f =
-    let nodes : Each (λ e. e.0 < 32) ((n, f.value) ∷ f.rest) = subst (Each (λ e. e.0 < 32)) f.is (sound.nodes list) in
-    nodes.0
-
+-- where a list has a first entry left, fewer than 32 are taken
 pub has_room : (old new : List (List (ℕ × ℕ))) (list tick n : ℕ) (due : List ℕ) → IsSound 2 32 old → Taking old new list tick due → First list n new → length due < 32
 has_room old new list tick n due sound t f =
     let few : length (entries_of old list) ≤ 32 = sound.few list in

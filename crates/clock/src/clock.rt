@@ -1,4 +1,4 @@
-ghost use Rattle.std.specs.Prelude.{◌≡◌, ℕ, ◌+◌, ◌-◌, ◌*◌, ◌^◌, ◌<◌, ◌≤◌, ◌%◌, List, [], map, min, false, length, IsTrue, ◌↔◌};
+ghost use Rattle.std.specs.Prelude.{◌≡◌, ◌+◌, ◌-◌, ◌*◌, ◌^◌, ◌<◌, ◌≤◌, ◌%◌, [], map, min, false, length, IsTrue, ◌↔◌};
 ghost use Rattle.lists.specs.Lists.{inserted, without};
 ghost use Rattle.model.specs.State.{State};
 ghost use Rattle.model.specs.Order.{tasks_of};
@@ -12,7 +12,7 @@ use model::TaskId;
 use std::marker::Model;
 use std::mem;
 
-/// A moment of a clock, in ticks without bound.
+/// A moment of a clock, in ticks without bound: its tick at the start, and one more for each tick since (profile).
 #[derive(Clone, Copy, Debug, PartialEq, Eq)]
 pub struct Mark {
     pub moment: u64,
@@ -20,6 +20,9 @@ pub struct Mark {
 
 /// A tick of 32 bits with two lists of sleepers: those until a tick of this turn of the 32 bits,
 /// and those until one of the next turn. The lists are swapped when the tick becomes 0.
+///
+/// These are FreeRTOS's tick count and its two delayed task lists, which are swapped at the wrap
+/// too. That sleepers of one moment wake in the order in which they began to sleep is profile.
 #[derive(Drop)]
 pub struct Clock {
     table: Table<2, 32>,
@@ -52,7 +55,7 @@ fn node_of(task: TaskId) -> NodeId
 }
 
 impl Clock {
-    /// A clock that shows the tick `start`, and nobody sleeps.
+    /// A clock that shows the tick `start`, 0 to 4294967295, and nobody sleeps.
     pub fn new(start: u32) -> Self
         ensures now { result.now ≡ start }
         ensures age { result.age ≡ 0 }
@@ -68,7 +71,8 @@ impl Clock {
         }
     }
 
-    /// The tick that is shown: the time modulo 2^32.
+    /// The tick that is shown, 0 to 4294967295: the time modulo 2^32, as FreeRTOS's
+    /// `xTaskGetTickCount` answers it.
     pub fn tick(&self) -> u32
         ensures tick { result ≡ self.now.now % 2 ^ 32 }
     {
@@ -91,7 +95,8 @@ impl Clock {
         }
     }
 
-    /// The ticks since a mark of this clock, or 4294967295 where there are more.
+    /// The ticks since a mark of this clock, or 4294967295 where there are more (profile). The mark
+    /// is not after now.
     pub fn elapsed_since(&self, mark: Mark) -> u32
         requires { mark.moment ≤ self.now.now }
         ensures elapsed { result ≡ min (self.now.now - mark.moment) 4294967295 }
@@ -118,8 +123,8 @@ impl Clock {
         self.table.place(node_of(task)).is_some()
     }
 
-    /// Puts a task to sleep for this many ticks, 1 or more. It wakes after those that already sleep
-    /// until the same moment.
+    /// Puts a task that isn't asleep (`is_asleep` tells) to sleep for 1 to 4294967295 ticks. It wakes
+    /// after those that already sleep until the same moment (profile).
     pub fn sleep(&mut self, task: TaskId, ticks: u32)
         requires some { 0 < ticks }
         requires awake { sleeps self.old task.number ≡ false }
@@ -148,7 +153,8 @@ impl Clock {
     }
 
     /// Lets one tick pass, and ends the sleep of the tasks whose moment has come: they are answered
-    /// in the order in which they began to sleep. The age is below 2^62.
+    /// in the order in which they began to sleep (profile). Before the call the age is below 2^62
+    /// ticks.
     pub fn advance(&mut self) -> Due
         requires { self.old.age < 2 ^ 62 }
         ensures advances { Advances self.old self.new (map (λ task. task.number) result.items) }

@@ -1,4 +1,4 @@
-ghost use Rattle.std.specs.Prelude.{◌≡◌, ◌≢◌, ℕ, ◌<◌, ◌≤◌, List, ◌++◌, map, length};
+ghost use Rattle.std.specs.Prelude.{◌≡◌, ◌≢◌, ℕ, ◌<◌, ◌≤◌, ◌++◌, map};
 ghost use Rattle.lists.specs.Lists.{entries_of, Each, IsSorted, IsSound};
 ghost use Rattle.clock.specs.Sleepers.{at_moment};
 
@@ -6,7 +6,7 @@ use arrayvec::ArrayVec;
 use lists::{ListId, Table};
 use model::TaskId;
 
-/// The tasks whose moment has come, in the order in which they began to sleep.
+/// The tasks whose moment has come, 32 at most, in the order in which they began to sleep.
 pub type Due = ArrayVec<TaskId, 32>;
 
 /// Takes the entries of this value, which come first, out of a list.

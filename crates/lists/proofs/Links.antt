@@ -3,8 +3,13 @@ use Rattle.std.proofs.Common.{◌≡◌, ◌≢◌, ℕ, ◌<◌, Option, Some, 
 use Rattle.std.proofs.lemmas.List.{get_or-set_same, get_or-set_other, length-set}
 use Rattle.std.proofs.lemmas.Option.{same_Some}
 use Rattle.lists.specs.Lists.{Each, EachOnce, Apart, first_of}
-use Rattle.lists.specs.Links.{at_link, put_link, put_end, Linked, last_of}
+use Rattle.lists.specs.Links.{at_link, put_link, put_end, Linked}
 use Rattle.lists.proofs.Entries.{none-some, Each-left, Each-right, Each-imp}
+
+-- the last entry's node, or `a` where there is none
+abbrev pub last_of : Option ℕ → List (ℕ × ℕ) → Option ℕ
+last_of a [] = a
+last_of a (e ∷ xs) = last_of (Some e.0) xs
 
 -- what holds of each node holds of the last, and of the first
 pub last-in : (P : ℕ → Type 0) (a : Option ℕ) (xs : List (ℕ × ℕ)) (m : ℕ) → (a ≡ Some m → P m) → Each (λ e. P e.0) xs → last_of a xs ≡ Some m → P m

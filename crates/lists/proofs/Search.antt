@@ -4,9 +4,9 @@ use Rattle.std.specs.Prelude.{nat_lt, if◌then◌else◌}
 use Rattle.std.proofs.lemmas.Bool.{le-ltb, lt-ltb}
 use Rattle.std.proofs.lemmas.Option.{same_Some}
 use Rattle.lists.specs.Lists.{Each, EachOnce, first_of, inserted}
-use Rattle.lists.specs.Links.{walk, at_link, Linked, last_of, InPlace, Spells, lower, upper}
+use Rattle.lists.specs.Links.{walk, at_link, Linked, InPlace, Spells, upper}
 use Rattle.lists.proofs.Entries.{none-some, Each-right, Each-imp, distinct-right, few_entries}
-use Rattle.lists.proofs.Links.{at_place, after_place}
+use Rattle.lists.proofs.Links.{last_of, at_place, after_place}
 use Rattle.lists.proofs.Spelled.{walk-linked}
 
 -- the search has come to `at`, with entries before it that are not greater
@@ -16,6 +16,11 @@ pub record Search (value : ℕ) (entries : List (ℕ × ℕ)) (at : Option ℕ) 
   pub whole : entries ≡ before ++ rest
   pub here : at ≡ first_of rest
   pub same : upper value entries ≡ upper value rest
+
+-- the entries before the first of a greater value
+abbrev pub lower : ℕ → List (ℕ × ℕ) → List (ℕ × ℕ)
+lower value [] = []
+lower value (x ∷ xs) = if nat_lt value x.1 then [] else x ∷ lower value xs
 
 pub lower-upper : (value : ℕ) (xs : List (ℕ × ℕ)) → xs ≡ lower value xs ++ upper value xs
 lower-upper value [] = refl

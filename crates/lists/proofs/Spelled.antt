@@ -7,9 +7,9 @@ use Rattle.std.specs.List.{position_or_len}
 use Rattle.std.specs.Prelude.{◌==◌, nat_lt}
 use Rattle.std.proofs.lemmas.List.Sums.{position_or_len_is}
 use Rattle.lists.specs.Lists.{Each, EachOnce, Apart, first_of, without, has_node, place_of, value_of, next_of, IsSound}
-use Rattle.lists.specs.Links.{walk, lists_of, at_link, put_link, put_end, Linked, last_of, InPlace, Spells, IsTable}
+use Rattle.lists.specs.Links.{walk, lists_of, at_link, put_link, put_end, Linked, InPlace, Spells, IsTable}
 use Rattle.lists.proofs.Entries.{none-some, Each-left, Each-right, Each-append, Each-imp, distinct-left, distinct-right, distinct-in, distinct-out, few_entries, has_node-apart, has_node-not_apart, without-apart, without-split}
-use Rattle.lists.proofs.Links.{last-in, first-in, same_links, at_place, after_place, OnlyAt, linked_in, taken_out, put_same, put_other, put_elsewhere, put_node, put_link_length, put_end_length}
+use Rattle.lists.proofs.Links.{last_of, last-in, first-in, same_links, at_place, after_place, OnlyAt, linked_in, taken_out, put_same, put_other, put_elsewhere, put_node, put_link_length, put_end_length}
 
 -- a node is among the entries, or apart from them
 pub split_at : (n : ℕ) (xs : List (ℕ × ℕ)) → (Apart (Some n) xs → ⊥) → (fs : List (ℕ × ℕ)) × (w : ℕ) × (bs : List (ℕ × ℕ)) × (xs ≡ fs ++ (n, w) ∷ bs)

@@ -32,11 +32,6 @@ abbrev pub Linked : (Option ℕ → Option ℕ) → (Option ℕ → Option ℕ) 
 Linked next prev a [] = (next a ≡ None) × (prev None ≡ a)
 Linked next prev a (e ∷ xs) = (next a ≡ Some e.0) × (prev (Some e.0) ≡ a) × Linked next prev (Some e.0) xs
 
--- the last entry's node, or `a` where there is none
-abbrev pub last_of : Option ℕ → List (ℕ × ℕ) → Option ℕ
-last_of a [] = a
-last_of a (e ∷ xs) = last_of (Some e.0) xs
-
 -- an entry of list l: its node is in the table, is marked as in that list, and has that value
 pub record InPlace (N : ℕ) (place : List (Option ℕ)) (values : List ℕ) (l : ℕ) (e : ℕ × ℕ) : Type 0 where
   pub known : e.0 < N
@@ -63,11 +58,7 @@ pub record IsTable (L N : ℕ) (next prev place : List (Option ℕ)) (values : L
   pub nodes_fit : N ≤ 4096
   pub spells : Spells L N next prev place values firsts lasts (lists_of N next values firsts)
 
--- the entries before the first of a greater value, and those from it on
-abbrev pub lower : ℕ → List (ℕ × ℕ) → List (ℕ × ℕ)
-lower value [] = []
-lower value (x ∷ xs) = if nat_lt value x.1 then [] else x ∷ lower value xs
-
+-- the entries from the first of a greater value on
 abbrev pub upper : ℕ → List (ℕ × ℕ) → List (ℕ × ℕ)
 upper value [] = []
 upper value (x ∷ xs) = if nat_lt value x.1 then x ∷ xs else upper value xs

@@ -6,7 +6,11 @@ ghost use Rattle.lists.specs.Lists.{entries_of, first_of, has_node, inserted, ne
 use crate::ids::{ListId, NodeId};
 use std::marker::Model;
 
-/// `L` lists over `N` nodes, each at most 4096. A node is in one list at most.
+/// `L` lists over `N` nodes, where `L` and `N` are 4096 at most. A node is in one list at most, and there once. In
+/// every call the list is one below `L`, and the node one below `N`.
+///
+/// These are the lists of FreeRTOS's kernel, whose `vListInsert` puts an entry behind those of the same value too. That
+/// the nodes stand in one table of a fixed size is profile.
 #[derive(Drop)]
 pub struct Table<const L: usize, const N: usize> {
     next: [Option<u16>; N],
@@ -85,7 +89,7 @@ fn list_of(mark: Option<u16>) -> Option<ListId>
 }
 
 impl<const L: usize, const N: usize> Table<L, N> {
-    /// Empty lists.
+    /// `L` empty lists over `N` nodes, none of which is in a list. Each of the two counts is 4096 at most.
     pub fn new() -> Self
         requires lists { L ≤ 4096 }
         requires nodes { N ≤ 4096 }
@@ -102,7 +106,7 @@ impl<const L: usize, const N: usize> Table<L, N> {
         }
     }
 
-    /// The first node of a list.
+    /// The first node of a list below `L`; `None` where the list is empty.
     pub fn first(&self, list: ListId) -> Option<NodeId>
         requires { list.number < L }
         ensures first { option_map (λ node. node.number) result ≡ first_of (entries_of self.now list.number) }
@@ -111,7 +115,7 @@ impl<const L: usize, const N: usize> Table<L, N> {
         node_of(self.firsts[list.number as usize])
     }
 
-    /// Whether a list has no node.
+    /// Whether a list below `L` has no node.
     pub fn is_empty(&self, list: ListId) -> bool
         requires { list.number < L }
         ensures empty { IsTrue result ↔ (entries_of self.now list.number ≡ []) }
@@ -119,7 +123,7 @@ impl<const L: usize, const N: usize> Table<L, N> {
         self.firsts[list.number as usize].is_none()
     }
 
-    /// The list that a node is in.
+    /// The list that a node below `N` is in; `None` where it is in no list.
     pub fn place(&self, node: NodeId) -> Option<ListId>
         requires { node.number < N }
         ensures place { option_map (λ list. list.number) result ≡ place_of self.now node.number }
@@ -128,7 +132,7 @@ impl<const L: usize, const N: usize> Table<L, N> {
         list_of(self.place[node.number as usize])
     }
 
-    /// The value with which a node was put into its list. Of a node in no list, any number.
+    /// The value with which a node below `N` was put into its list, 0 to 4294967295. Of a node in no list, any number.
     pub fn value(&self, node: NodeId) -> u32
         requires { node.number < N }
         ensures value { (list : ℕ) → IsTrue (has_node node.number (entries_of self.now list)) → result ≡ value_of node.number (entries_of self.now list) }
@@ -137,7 +141,7 @@ impl<const L: usize, const N: usize> Table<L, N> {
         self.values[node.number as usize]
     }
 
-    /// The node after this one in its list; `None` after the last, and for a node in no list.
+    /// The node after this one, which is below `N`, in its list; `None` after the last, and for a node in no list.
     pub fn next(&self, node: NodeId) -> Option<NodeId>
         requires { node.number < N }
         ensures next { (list : ℕ) → IsTrue (has_node node.number (entries_of self.now list)) → option_map (λ node. node.number) result ≡ next_of node.number (entries_of self.now list) }
@@ -151,7 +155,7 @@ impl<const L: usize, const N: usize> Table<L, N> {
         }
     }
 
-    /// Takes a node out of its list. One that is in no list stays so.
+    /// Takes a node below `N` out of its list. One that is in no list stays so. The other entries keep their order.
     pub fn remove(&mut self, node: NodeId)
         requires { node.number < N }
         ensures removed { self.new ≡ map (without node.number) self.old }
@@ -166,7 +170,8 @@ impl<const L: usize, const N: usize> Table<L, N> {
         }
     }
 
-    /// Puts a node last, with a value.
+    /// Puts a node below `N`, which is in no list (`place` tells), last into a list below `L`, with a value of 0 to
+    /// 4294967295.
     pub fn push_back(&mut self, list: ListId, node: NodeId, value: u32)
         requires list { list.number < L }
         requires node { node.number < N }
@@ -177,7 +182,8 @@ impl<const L: usize, const N: usize> Table<L, N> {
         self.put_before(list, None, node, value);
     }
 
-    /// Puts a node before the first one of a greater value, or last.
+    /// Puts a node below `N`, which is in no list (`place` tells), into a list below `L`, with a value of 0 to
+    /// 4294967295: before the first one of a greater value, or last where there is none.
     pub fn insert_sorted(&mut self, list: ListId, node: NodeId, value: u32)
         requires list { list.number < L }
         requires node { node.number < N }

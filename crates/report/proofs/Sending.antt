@@ -26,9 +26,6 @@ Sent_none a text = record { front = []; whole = refl; appends = Appends-nil a }
 pub Sent_all : (a b : Option (List ℕ)) (text : List ℕ) → Appends a b text → Sent a b text []
 Sent_all a b text all = record { front = text; whole = sym (append-nil text); appends = all }
 
-pub Appends_all : (a b : Option (List ℕ)) (text : List ℕ) → Sent a b text [] → Appends a b text
-Appends_all a b text sent = rw (sent.whole ∙ append-nil sent.front) sent.appends
-
 -- what is left of a text goes out in part
 pub Sent_then : (a b c : Option (List ℕ)) (text rest kept : List ℕ) → Sent a b text rest → Sent b c rest kept → Sent a c text kept
 Sent_then a b c text rest kept first second = record {
@@ -99,11 +96,6 @@ pub SentFront_item : {A : Type 0} (f : A → List ℕ) (xs : List A) (i : ℕ) (
 SentFront_item f xs i x d a b c text page within is sent more =
     SentFront_then a b c text (page ++ flat_map f (drop i xs)) sent
     (rw (page_and_rest f xs i x d page within is) (SentFront_longer b c (page ++ f x) (flat_map f (drop (i + 1) xs)) more))
-
-pub Sent_items : {A : Type 0} (f : A → List ℕ) (xs : List A) (i : ℕ) (a b : Option (List ℕ)) (text page : List ℕ)
-    → length xs ≤ i → Sent a b text (page ++ flat_map f (drop i xs)) → Sent a b text page
-Sent_items f xs i a b text page past sent =
-    rw (← append-nil page) (rw (drop_of_length-le xs past) at sent)
 
 -- a call that fails before or while it adds a text
 

@@ -1,9 +1,8 @@
 //! The lines of a run, into a page that has room for them.
-ghost use Rattle.std.specs.Prelude.{◌≡◌, ◌≤◌, ◌+◌, ◌++◌, length, codes, decimal};
+ghost use Rattle.std.specs.Prelude.{◌≡◌, ◌≤◌, ◌+◌, ◌++◌, length};
 ghost use Rattle.model.specs.Application.{name_of};
-ghost use Rattle.model.specs.Scripts.{IsWellFormed};
-ghost use Rattle.model.specs.Trace.{told_by, line_of, ending_of, number_of};
-ghost use Rattle.report.specs.Text.{word_at, answer_text, runner_text, what_text, line_text, verdict_text, head_text};
+ghost use Rattle.model.specs.Trace.{told_by, line_of, ending_of};
+ghost use Rattle.report.specs.Text.{word_at, answer_text, what_text, line_text, verdict_text, head_text};
 
 use crate::page::Page;
 use model::{App, End, Event, TaskId, What};

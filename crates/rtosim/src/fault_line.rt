@@ -1,16 +1,14 @@
 //! The line that tells a fault.
 ghost use Rattle.std.specs.Prelude.{◌≡◌, ◌++◌, ◌≤◌, ◌<◌, ◌+◌, codes, false, map, [], option_map};
 ghost use Rattle.std.specs.List.{cons_option};
-ghost use Rattle.std.specs.Result.{is_err};
 ghost use Rattle.arrayvec.specs.ArrayVec.{array_vec_len};
-ghost use Rattle.report.specs.Bytes.{Writes};
-ghost use Rattle.report.specs.Words.{piece_text, words_text};
+ghost use Rattle.report.specs.Words.{piece_text};
 ghost use Rattle.script.specs.Faults.{fault_name, place_words, word_text};
-ghost use Rattle.rtosim.specs.Acting.{line_of_words, fault_words, load_words, Tells, fault_line};
+ghost use Rattle.rtosim.specs.Acting.{fault_words, load_words, Tells, fault_line};
 
 use crate::serve::ServeFault;
 use arrayvec::ArrayVec;
-use report::{Piece, Sink, WriteFault, write_words};
+use report::{Piece, Sink, write_words};
 use script::{LoadFault, Place, PlaceWord};
 
 // The words of a line, of which a fault has seven at most.

@@ -1,5 +1,5 @@
 //! From the bytes of a file to the text of its run.
-ghost use Rattle.std.specs.Prelude.{◌≡◌, false, IfOk, IfErr, IfSome, MatchResult};
+ghost use Rattle.std.specs.Prelude.{◌≡◌, false, IfOk, IfSome, MatchResult};
 ghost use Rattle.model.specs.Run.{IsRun};
 ghost use Rattle.model.specs.Trace.{lines_of, ending_of};
 ghost use Rattle.rtosim.specs.Serving.{IsFileOf, HasFault, is_read_fault, is_write_fault, Serves};

@@ -28,7 +28,7 @@ pub enum LoadFault {
 
 impl LoadFault {
     ghost use Rattle.std.specs.Prelude.{◌≡◌};
-    ghost use Rattle.script.specs.Faults.{fault_code, fault_name, fault_place};
+    ghost use Rattle.script.specs.Faults.{fault_code, fault_place};
 
     /// The number of the fault, 1 to 10.
     pub fn code(self) -> u8
@@ -43,22 +43,6 @@ impl LoadFault {
             LoadFault::BadNesting(_) => 7,
             LoadFault::TooMany(_) => 9,
             LoadFault::Memory => 10,
-        }
-    }
-
-    /// The name of the fault.
-    pub fn name(self) -> &'static str
-        ensures { result.now ≡ fault_name self }
-    {
-        match self {
-            LoadFault::Missing(_) => "Missing",
-            LoadFault::WrongKind(_) => "WrongKind",
-            LoadFault::OutOfRange(_) => "OutOfRange",
-            LoadFault::BadOp(_) => "BadOp",
-            LoadFault::DoubleName(_) => "DoubleName",
-            LoadFault::BadNesting(_) => "BadNesting",
-            LoadFault::TooMany(_) => "TooMany",
-            LoadFault::Memory => "Memory",
         }
     }
 

@@ -1,11 +1,11 @@
 //! Pass two: the ops of the scripts.
-ghost use Rattle.std.specs.Prelude.{◌≡◌, ◌≤◌, ◌<◌, ◌+◌, ◌++◌, ◌∷◌, [], map, length, Some, IfOk, IfSome, OnOk, option_to_list};
+ghost use Rattle.std.specs.Prelude.{◌≡◌, ◌≤◌, ◌<◌, ◌+◌, ◌++◌, map, length, Some, IfOk, IfSome, OnOk, option_to_list};
 ghost use Rattle.std.specs.List.{AllByRecursion};
 ghost use Rattle.toml.specs.View.{view, items_view};
 ghost use Rattle.model.specs.Scripts.{InRange, IsScript, IsDefinition, depth_after};
 ghost use Rattle.script.specs.Faults.{Judges, JudgesBy};
 ghost use Rattle.script.specs.Tasks.{raw_view};
-ghost use Rattle.script.specs.Ops.{op_named, op_spelled, op_fault, ops_fault, ops_named, scripts_fault, with_ops, depth_with};
+ghost use Rattle.script.specs.Ops.{op_named, op_fault, ops_fault, ops_named, scripts_fault, with_ops, depth_with};
 
 use crate::fault::LoadFault;
 use crate::op_text::op_of;

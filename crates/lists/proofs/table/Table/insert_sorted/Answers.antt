@@ -1,7 +1,7 @@
 use Rattle.std.proofs.Common.{rules, sym, ◌∙◌, ap, set, List, ℕ}
 use Rattle.lists.specs.Lists.{entries_of}
-use Rattle.lists.specs.Links.{IsPlace, lower, upper}
-use Rattle.lists.proofs.Search.{lower-upper, inserted-lower-upper}
+use Rattle.lists.specs.Links.{IsPlace, upper}
+use Rattle.lists.proofs.Search.{lower, lower-upper, inserted-lower-upper}
 use Rattle.lists.proofs.table.Table.insert_sorted.Goals as goal
 
 pub put_before-requires : goal.put_before-requires
