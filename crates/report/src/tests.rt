@@ -57,46 +57,19 @@ fn one_task(alloc: Global) -> Option<App> {
     Some(App::new(0, Limits::new(10, 10)?, tasks))
 }
 
-// Lines of each form.
-fn events(alloc: Global) -> Option<Vec<Event>> {
-    let task = TaskId::new(0)?;
-    let mut events = Vec::new(alloc);
-    events
-        .push(Event {
-            step: 0,
-            tick: 4294967295,
-            what: What::Call(task, 0, Some(0)),
-        })
-        .ok()?;
-    events
-        .push(Event {
-            step: 1,
-            tick: 0,
-            what: What::Call(task, 0, None),
-        })
-        .ok()?;
-    events
-        .push(Event {
-            step: 1,
-            tick: 0,
-            what: What::Run(None),
-        })
-        .ok()?;
-    events
-        .push(Event {
-            step: 2,
-            tick: 1,
-            what: What::Run(Some(task)),
-        })
-        .ok()?;
-    events
-        .push(Event {
-            step: 3,
-            tick: 1,
-            what: What::Mark(task, 12),
-        })
-        .ok()?;
-    Some(events)
+fn event(step: u32, tick: u32, what: What) -> Event {
+    Event { step, tick, what }
+}
+
+// Events of each form.
+fn events(task: TaskId) -> [Event; 5] {
+    [
+        event(0, 4294967295, What::Call(task, 0, Some(0))),
+        event(1, 0, What::Call(task, 0, None)),
+        event(1, 0, What::Run(None)),
+        event(2, 1, What::Run(Some(task))),
+        event(3, 1, What::Mark(task, 12)),
+    ]
 }
 
 const REPORT: &[u8] =
@@ -105,18 +78,11 @@ const REPORT: &[u8] =
 #[test]
 fn run_is_written(rt: HostRuntime) {
     let app = one_task(rt.alloc()).expect(&rt, "memory");
-    let events = events(rt.alloc()).expect(&rt, "memory");
     let task = TaskId::new(0).expect(&rt, "below 32");
+    let events = events(task);
     for (room, is_whole) in [(1000, true), (REPORT.len(), true), (100, false), (0, false)] {
         let mut sink = with_room(rt.alloc(), room);
-        let written = write_run(
-            &mut sink,
-            &app,
-            events.as_slice(),
-            4,
-            1,
-            End::Check(task, 1),
-        );
+        let written = write_run(&mut sink, &app, &events, 4, 1, End::Check(task, 1));
         assert_eq!(rt; written.is_ok(), is_whole, "with room for {room}");
         assert_eq!(rt; sink.bytes.as_slice(), &REPORT[..REPORT.len().min(room)]);
     }
