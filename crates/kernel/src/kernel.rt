@@ -1,13 +1,12 @@
 //! The kernel's state, and the parts of which each step is made.
-ghost use Rattle.std.specs.Prelude.{◌≡◌, ◌<◌, ◌≤◌, ◌+◌, ◌^◌, ◌==◌, ◌++◌, ◌∷◌, [], ℕ, IsTrue, false, length};
-ghost use Rattle.model.specs.State.{State, Task, task_at};
+ghost use Rattle.std.specs.Prelude.{◌≡◌, ◌<◌, ◌+◌, ◌++◌, ◌∷◌, [], IsTrue, false, length};
+ghost use Rattle.model.specs.State.{State, task_at};
 ghost use Rattle.model.specs.Run.{is_asleep};
 ghost use Rattle.model.specs.Step.{go_to, complete, write, enter, sleep, is_ready};
 ghost use Rattle.model.specs.Trace.{told_by, lines_of, printed};
 ghost use Rattle.arrayvec.specs.ArrayVec.{array_vec_len};
-ghost use Rattle.sched.specs.Schedule.{blocked, readied};
 ghost use Rattle.kernel.specs.Slots.{moved_slot};
-ghost use Rattle.kernel.specs.Stands.{Stands, At, Does, Moves, slot_in, with_slot, Written};
+ghost use Rattle.kernel.specs.Stands.{At, Does, slot_in, with_slot, Written};
 
 use crate::loops::Loops;
 use crate::slot::Slot;

@@ -1,9 +1,9 @@
 //! What each op does.
-ghost use Rattle.std.specs.Prelude.{◌≡◌, ◌<◌, ◌≤◌, ◌+◌, ◌^◌, ℕ, Some, None, length};
+ghost use Rattle.std.specs.Prelude.{◌≡◌, ◌<◌, ◌≤◌, ◌+◌, ◌^◌, Some, length};
 ghost use Rattle.model.specs.State.{State};
 ghost use Rattle.model.specs.Step.{answer, use_up, behind, sleep, count_from, rest, expect, open_loop, close_turn, act, complete, tick, delay_until};
 ghost use Rattle.arrayvec.specs.ArrayVec.{array_vec_len};
-ghost use Rattle.kernel.specs.Stands.{Stands, At, Does, Moves, slot_in, CanAct, Written};
+ghost use Rattle.kernel.specs.Stands.{At, Does, Moves, slot_in, CanAct, Written};
 
 use crate::kernel::{Kernel, StepLog};
 use model::{App, End, Loop, Op, TaskId, What};

@@ -7,7 +7,7 @@ ghost use Rattle.arrayvec.specs.ArrayVec.{array_vec_len};
 ghost use Rattle.std.specs.List.{fold, AllByRecursion};
 ghost use Rattle.model.specs.Step.{enter};
 ghost use Rattle.sched.specs.Standing.{StandsFor};
-ghost use Rattle.kernel.specs.Stands.{Stands, At, Does, change_line, numbers_of};
+ghost use Rattle.kernel.specs.Stands.{Stands, Does, change_line, numbers_of};
 
 use crate::kernel::{Kernel, StepLog};
 use model::{TaskId, What};

@@ -194,11 +194,13 @@ delay_until app task moment s =
     then anew (count_from task moment (sleep task moment (answer app task (Some 1) s)))
     else count_from task moment (answer app task (Some 0) s)
 
+-- The op is complete if the last answer is this one; else the run ends, and the task stays where it is.
 unfoldable pub expect : Application → ℕ → Option ℕ → State → State
 expect app task a s =
     let t = task_at s task in
     if option_eq nat_eq t.answer a then complete app task t s else record s { stopped = Some (Check task t.place) }
 
+-- A loop of so many turns begins at the next op.
 unfoldable pub open_loop : Application → ℕ → ℕ → State → State
 open_loop app task n s =
     let t = task_at s task in
@@ -212,6 +214,7 @@ turn app task t (l ∷ ls) s =
     then complete app task (record t { loops = ls }) s
     else go_to app task l.start (record t { loops = record l { left = l.left - 1 } ∷ ls }) s
 
+-- That is what `end` does; where no loop is open it is complete.
 unfoldable pub close_turn : Application → ℕ → State → State
 close_turn app task s = turn app task (task_at s task) (task_at s task).loops s
 
@@ -238,6 +241,7 @@ abbrev pub deed : Application → Option ℕ → State → State
 deed app None s = tick s
 deed app (Some task) s = act_if app task (op_at app task (task_at s task).place) s
 
+-- a step: what the running task or idle does, and the choice where that leaves the running task not Ready
 unfoldable pub step : Application → State → State
 step app s =
     let t = settle (deed app s.running (record s { log = [] })) in

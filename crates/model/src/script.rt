@@ -3,7 +3,7 @@ ghost use Rattle.std.specs.Prelude.{◌≡◌, true, false, ◌<◌, ◌↔◌, 
 ghost use Rattle.model.specs.Scripts.{IsScript, InRange, may_stand, depth_past, depth_after};
 
 use crate::op::Op;
-use std::alloc::{AllocError, Global};
+use std::alloc::Global;
 use std::marker::Model;
 
 /// The script of a task: at most 256 ops, each in its range, loops closed and at most four deep.

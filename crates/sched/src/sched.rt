@@ -1,4 +1,4 @@
-ghost use Rattle.std.specs.Prelude.{◌≡◌, ℕ, ◌<◌, ◌||◌, List, [], option_map, None, length, if◌then◌else◌};
+ghost use Rattle.std.specs.Prelude.{◌≡◌, ◌<◌, ◌||◌, [], option_map, None, length};
 ghost use Rattle.std.specs.List.{AllByRecursion};
 ghost use Rattle.model.specs.State.{State};
 ghost use Rattle.model.specs.Step as step;
