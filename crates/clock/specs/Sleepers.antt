@@ -37,7 +37,8 @@ time_of lists start base tick current overflow = record {
   sleepers = moved base (entries_of lists current) ++ moved (base + 2 ^ 32) (entries_of lists overflow);
 }
 
--- what is true of a clock's two lists, before its due sleepers are taken out and after
+-- what is true of a clock between two calls: the moments of the current list are still to come in this turn, both lists
+-- are sorted, and each of their ticks fits 32 bits
 pub record IsClock (lists : List (List (ℕ × ℕ))) (start base tick current overflow : ℕ) : Type 0 where
   pub sound : IsSound 2 32 lists
   pub current_known : current < 2

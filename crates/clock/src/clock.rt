@@ -1,3 +1,4 @@
+//! The clock: its tick, and its two lists of sleepers.
 ghost use Rattle.std.specs.Prelude.{◌≡◌, ◌+◌, ◌-◌, ◌*◌, ◌^◌, ◌<◌, ◌≤◌, ◌%◌, [], map, min, false, length, IsTrue, ◌↔◌};
 ghost use Rattle.lists.specs.Lists.{inserted, without};
 ghost use Rattle.model.specs.State.{State};
@@ -22,7 +23,7 @@ pub struct Mark {
 /// and those until one of the next turn. The lists are swapped when the tick becomes 0.
 ///
 /// These are FreeRTOS's tick count and its two delayed task lists, which are swapped at the wrap
-/// too. That sleepers of one moment wake in the order in which they began to sleep is profile.
+/// too. Sleepers of one moment wake in the order in which they began to sleep, as there.
 #[derive(Drop)]
 pub struct Clock {
     table: Table<2, 32>,
@@ -124,7 +125,7 @@ impl Clock {
     }
 
     /// Puts a task that isn't asleep (`is_asleep` tells) to sleep for 1 to 4294967295 ticks. It wakes
-    /// after those that already sleep until the same moment (profile).
+    /// after those that already sleep until the same moment.
     pub fn sleep(&mut self, task: TaskId, ticks: u32)
         requires some { 0 < ticks }
         requires awake { sleeps self.old task.number ≡ false }
@@ -153,8 +154,7 @@ impl Clock {
     }
 
     /// Lets one tick pass, and ends the sleep of the tasks whose moment has come: they are answered
-    /// in the order in which they began to sleep (profile). Before the call the age is below 2^62
-    /// ticks.
+    /// in the order in which they began to sleep. Before the call the age is below 2^62 ticks.
     pub fn advance(&mut self) -> Due
         requires { self.old.age < 2 ^ 62 }
         ensures advances { Advances self.old self.new (map (λ task. task.number) result.items) }

@@ -1,3 +1,4 @@
+//! The sleepers whose moment has come.
 ghost use Rattle.std.specs.Prelude.{◌≡◌, ◌≢◌, ℕ, ◌<◌, ◌≤◌, ◌++◌, map};
 ghost use Rattle.lists.specs.Lists.{entries_of, Each, IsSorted, IsSound};
 ghost use Rattle.clock.specs.Sleepers.{at_moment};

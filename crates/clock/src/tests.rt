@@ -1,3 +1,4 @@
+//! Sleepers across the wrap of the tick.
 ghost use Rattle.std.specs.Prelude.{◌<◌};
 
 use crate::Clock;

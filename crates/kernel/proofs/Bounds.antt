@@ -20,7 +20,7 @@ use Rattle.model.proofs.Settled.{settled_after}
 use Rattle.kernel.specs.Loops.{open_in, loops_of}
 use Rattle.kernel.specs.Slots.{Bare}
 use Rattle.kernel.specs.declared.kernel.Kernel.{Kernel}
-use Rattle.kernel.specs.Stands.{slot_in, CanAct, CanDo, CanStep, IsUsedLess, HasLoopRoom}
+use Rattle.kernel.specs.Stands.{slot_in, CanAct, CanDo, CanStep, HasLoopRoom}
 
 leb-less : (a b : ℕ) → leb a b ≡ false → b < a
 leb-less a b e = grind (arith, nat_tests)
@@ -36,17 +36,6 @@ pub below_limits : (b : Bounds) (s : State) → end_of b s ≡ None → (s.elaps
 below_limits b s h =
     let u = unended s.stopped (are_all_ended s) (leb b.ticks s.elapsed) (leb b.steps s.steps) (is_stuck s) h in
     (leb-less b.ticks s.elapsed u.0, leb-less b.steps s.steps u.1)
-
-used_less : (does : Op) (used : ℕ) → IsUsedBy used (Some does) → IsUsedLess does used
-used_less (Work n) used h = h
-used_less (Delay n) used h = tt
-used_less (DelayUntil n) used h = tt
-used_less Yield used h = tt
-used_less Time used h = tt
-used_less (Mark n) used h = tt
-used_less (Expect a) used h = tt
-used_less (Repeat n) used h = tt
-used_less End used h = tt
 
 loop_room : (does : Op) (depth : ℕ) → may_stand depth does ≡ true → HasLoopRoom does depth
 loop_room (Work n) depth h = tt
@@ -93,11 +82,12 @@ module _ (app : Application) (formed : IsWellFormed app) (k : Kernel) (c : CanSt
         let w = slice_get_within (script_of app task.number) (slot_in k.slots task.number).place does op_is in
         let n = (script_formed app formed task.number).few in omega arith
 
-    act_used : IsUsedLess does (slot_in k.slots task.number).used
+    act_used : IsUsedBy (slot_in k.slots task.number).used (Some does)
     act_used =
         let used_is : (slot_in k.slots task.number).used ≡ (task_at state task.number).used = ap (λ (b : Bare). b.used) (c.stands.rest.slots task.number) in
         let W : Option Op → Type 0 = λ o. IsUsedBy (task_at state task.number).used o in
-        rw used_is (used_less does (task_at state task.number).used (subst W at_op (reached.places task.number).used))
+        let U : ℕ → Type 0 = λ n. IsUsedBy n (Some does) in
+        subst U (sym used_is) (subst W at_op (reached.places task.number).used)
 
     act_depth : HasLoopRoom does (slot_in k.slots task.number).loops.depth
     act_depth =

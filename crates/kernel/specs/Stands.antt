@@ -11,6 +11,7 @@ use Rattle.model.specs.Trace.{Line, Runs, ending_of, lines_of, printed}
 use Rattle.model.specs.State.{State, Task, task_at}
 use Rattle.model.specs.Step.{is_same}
 use Rattle.model.specs.Run.{end_of, is_asleep, state_after}
+use Rattle.model.specs.Invariant.{IsUsedBy}
 use Rattle.sched.specs.Standing as sched
 use Rattle.clock.specs.Standing as clock
 use Rattle.kernel.specs.Loops.{no_loops}
@@ -44,17 +45,17 @@ pub record Stands (k : Kernel) (s : State) : Type 0 where
   pub rest : Rest k s
 
 -- the same, with the lines that the step has written so far
-pub record At (k : Kernel) (written : ArrayVec Event) (s : State) : Type 0 where
+pub record At (k : Kernel) (written : Written) (s : State) : Type 0 where
   pub stands : Stands k s
   pub log : lines_of written.items ≡ s.log
 
 -- For every state that the old kernel stands for, the new one stands for what the deed makes of it.
-abbrev pub Does : Kernel → ArrayVec Event → Kernel → ArrayVec Event → (State → State) → Type 0
+abbrev pub Does : Kernel → Written → Kernel → Written → (State → State) → Type 0
 Does old old_log new new_log deed = (s : State) → At old old_log s → At new new_log (deed s)
 
 -- the same of a deed that writes no line
 abbrev pub Moves : Kernel → Kernel → (State → State) → Type 0
-Moves old new deed = (log : ArrayVec Event) (s : State) → At old log s → At new log (deed s)
+Moves old new deed = (log : Written) (s : State) → At old log s → At new log (deed s)
 
 -- nobody sleeps
 abbrev pub AllAwake : State → Type 0
@@ -81,11 +82,6 @@ pub record Replaces (slot : Slot) (s : State) (i : ℕ) (t : Task) : Type 0 wher
   pub priority : t.priority ≡ (task_at s i).priority
   pub status : t.status ≡ (task_at s i).status
 
--- Less of a `work` is used up than there is.
-abbrev pub IsUsedLess : Op → ℕ → Type 0
-IsUsedLess (op.Work n) used = used < n
-IsUsedLess _ used = Unit {0}
-
 -- There is room for one more loop.
 abbrev pub HasLoopRoom : Op → ℕ → Type 0
 HasLoopRoom (op.Repeat n) depth = depth < 4
@@ -94,7 +90,7 @@ HasLoopRoom _ depth = Unit {0}
 -- The op of a task can be done within the numbers of the code.
 pub record CanAct (k : Kernel) (i : ℕ) (does : Op) : Type 0 where
   pub place : (slot_in k.slots i).place < 256
-  pub used : IsUsedLess does (slot_in k.slots i).used
+  pub used : IsUsedBy (slot_in k.slots i).used (Some does)
   pub depth : HasLoopRoom does (slot_in k.slots i).loops.depth
   pub previous : (slot_in k.slots i).previous ≤ k.clock.now
   pub time : k.clock.now + 2 ^ 32 < 2 ^ 63

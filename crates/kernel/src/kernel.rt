@@ -66,6 +66,7 @@ impl Kernel {
         ensures runs { self.new.sched.running ≡ self.old.sched.running }
     {
         self.sched.block(task);
+        // It removes nothing, and tells that the task isn't asleep.
         self.clock.wake(task);
         self.clock.sleep(task, ticks);
     }

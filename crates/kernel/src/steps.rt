@@ -70,6 +70,7 @@ impl Kernel {
     }
 }
 
+/// `None` is idle; a call, so that its value has a clause.
 fn is_idle(running: Option<TaskId>) -> bool
     ensures { result ≡ is_none (number_of running) }
 {
@@ -79,6 +80,7 @@ fn is_idle(running: Option<TaskId>) -> bool
     }
 }
 
+/// Both; a call, so that its value has a clause.
 fn both(a: bool, b: bool) -> bool
     ensures { result ≡ (a && b) }
 {
@@ -147,16 +149,17 @@ fn finish(
 pub fn run(
     alloc: Global,
     app: &App,
-    _plan: &Plan,
+    plan: &Plan,
     limits: Limits,
     meter: &mut Meter,
 ) -> Result<Run, Memory>
-    requires plan { _plan.now ≡ [] }
+    requires plan { plan.now ≡ [] }
     requires meter { meter.old < 2 ^ 62 }
     ensures run { IfOk result (λ run. IsRun app.now (bounds_of limits) (lines_of run.events.items) run.steps run.ticks (ending_of run.end)) }
     ensures meter { IfOk result (λ run. meter.new ≡ meter.old + run.steps) }
     ensures refused { OnErr result ((lines : List Line) (steps ticks : ℕ) (end : Ending) → IsRun app.now (bounds_of limits) lines steps ticks end → meter.new ≤ meter.old + steps) }
 {
+    let _ = plan;
     let mut events = Vec::new(alloc);
     let mut kernel = Kernel::boot(app);
     let end = finish(&mut kernel, app, &limits, meter, &mut events)?;

@@ -1,3 +1,4 @@
+//! Typed numbers: which node, which list.
 ghost use Rattle.std.specs.Prelude.{◌≡◌, ◌<◌, ◌↔◌, IsSome, IfSome};
 
 /// The number of a node of a table, 0 to 4095.

@@ -1,3 +1,4 @@
+//! Lists in use.
 ghost use Rattle.std.specs.Prelude.{◌<◌};
 
 use crate::{ListId, NodeId, Table};

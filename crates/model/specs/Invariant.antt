@@ -46,6 +46,7 @@ pub record IsAt (now : ℕ) (script : List Op) (t : Task) : Type 0 where
   pub used : IsUsedBy t.used (slice_get script t.place)
   pub reckoned : IsReckoned now t.previous t.status
 
+-- what every state of a run is
 pub record IsState (app : Application) (s : State) : Type 0 where
   pub table : IsTable s
   pub tasks : length s.tasks ≡ length app.tasks

@@ -6,11 +6,13 @@ use Rattle.std.specs.Prelude.{ℕ, List, Option, None, [], slice_index_or, slice
 use Rattle.model.specs.declared.event.Loop.{Loop}
 use Rattle.model.specs.Trace.{Line, Ending}
 
+-- what a task is doing
 pub data Status : Type 0 where
   Ready : (number : ℕ) → Status
   Asleep : (moment begun : ℕ) → Status
   Ended : Status
 
+-- what the kernel keeps of a task
 pub record Task : Type 0 where
   pub priority : ℕ
   -- the index of the op that the task is at
@@ -25,6 +27,7 @@ pub record Task : Type 0 where
   pub previous : ℕ
   pub status : Status
 
+-- the whole of the kernel, between two steps
 pub record State : Type 0 where
   pub tasks : List Task
   -- the time, without bound

@@ -10,7 +10,7 @@ use Rattle.model.specs.Application.{Application, Definition, op_at, op_count}
 use Rattle.model.specs.State.{State, Task, Status, Ready, Asleep, Ended, task_at, with_task}
 use Rattle.model.specs.Order.{Key, Entry, line, tasks_of, first}
 
--- The lines of tasks
+-- ---- the lines of tasks
 
 abbrev pub key : ℕ → ℕ → Key
 key rank number = record { rank = rank; number = number }
@@ -51,12 +51,13 @@ is_due s e = is_due_status s.time (task_at s e.task).status
 abbrev pub due : State → List Entry
 due s = filter (is_due s) (sleepers s)
 
--- The trace
+-- ---- the trace
 
+-- A line is written, with the step's number and the printed tick.
 abbrev pub write : What → State → State
 write w s = record s { log = s.log ++ record { step = s.steps; tick = printed s.time; what = w } ∷ [] }
 
--- Who runs
+-- ---- who runs
 
 abbrev pub is_ready_status : Status → Bool
 is_ready_status (Ready number) = true
@@ -133,16 +134,17 @@ is_off s (Some task) = not (is_ready s task)
 unfoldable pub settle : State → State
 settle s = if is_off s s.running then anew s else s
 
--- The tick
+-- ---- the tick
 
 -- Each sleeper that is due becomes Ready, in the order in which they began.
 unfoldable pub wake : State → State
 wake s = fold enter s (tasks_of (due s))
 
+-- One tick passes: the time rises by one, those that are due become Ready, and the switch ends it.
 unfoldable pub tick : State → State
 tick s = switch (wake (record s { time = s.time + 1; elapsed = s.elapsed + 1 }))
 
--- The ops
+-- ---- the ops
 
 -- The task goes on at this op, of which nothing is used up; past the last op it is Ended.
 abbrev pub moved_to : ℕ → ℕ → Task → Task
@@ -230,7 +232,7 @@ act app task (Expect a) s = expect app task a s
 act app task (Repeat n) s = open_loop app task n s
 act app task End s = close_turn app task s
 
--- A step
+-- ---- a step
 
 abbrev pub act_if : Application → ℕ → Option Op → State → State
 act_if app task None s = s
@@ -247,7 +249,7 @@ step app s =
     let t = settle (deed app s.running (record s { log = [] })) in
     record t { steps = s.steps + 1 }
 
--- Reset
+-- ---- reset
 
 abbrev pub is_empty : List Op → Bool
 is_empty [] = true

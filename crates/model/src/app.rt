@@ -11,7 +11,7 @@ use crate::op::Op;
 use crate::script::Script;
 use std::marker::Model;
 
-/// A task as the file has it.
+/// A task as the file has it: a name, a priority as FreeRTOS has them, and a script (profile).
 #[derive(Drop)]
 pub struct TaskDefinition {
     name: String,
@@ -66,7 +66,7 @@ impl TaskDefinition {
     }
 }
 
-/// An application: what a run starts from.
+/// An application: what a run starts from. That it has 1 to 32 tasks is profile.
 #[derive(Drop)]
 pub struct App {
     start: u32,
@@ -101,7 +101,7 @@ impl App {
         }
     }
 
-    /// What holds of every application.
+    /// Does nothing: its contract tells callers what holds of every application.
     pub fn well_formed(&self)
         ensures { IsWellFormed self.now }
     {

@@ -32,10 +32,11 @@ pub struct Event {
     pub step: u32,
     /// The tick when the line was written, modulo 2^32.
     pub tick: u32,
+    /// What happened.
     pub what: What,
 }
 
-/// How a run ends.
+/// How a run ends (profile).
 #[derive(Clone, Copy, Debug, PartialEq, Eq)]
 pub enum End {
     /// Every task is Ended.

@@ -21,8 +21,8 @@ impl Limits {
         ensures known { IsSome result ↔ ((1 ≤ ticks) × (ticks ≤ 1000000) × (1 ≤ steps) × (steps ≤ 1000000)) }
         ensures value { IfSome result (λ limits. (limits.ticks ≡ ticks) × (limits.steps ≡ steps)) }
     {
-        let is_known = |n: u32| n >= 1 && n <= 1_000_000;
-        if is_known(ticks) && is_known(steps) {
+        let is_in_range = |n: u32| n >= 1 && n <= Self::MOST;
+        if is_in_range(ticks) && is_in_range(steps) {
             Some(Limits { ticks, steps })
         } else {
             None

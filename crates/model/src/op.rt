@@ -3,17 +3,18 @@
 /// An op of a task's script. The numbers are those of the op's text, in the ranges of docs/FORMATS.md.
 #[derive(Clone, Copy, Debug, PartialEq, Eq)]
 pub enum Op {
-    /// Computes for this many ticks, 1 to 1,000,000.
+    /// Computes for this many ticks, 1 to 1,000,000 (profile).
     Work(u32),
-    /// Sleeps for this many ticks (`vTaskDelay`).
+    /// Sleeps for this many ticks, 0 to 4,294,967,295 (`vTaskDelay`); for 0 it gives way to its equals and doesn't sleep.
     Delay(u32),
-    /// Sleeps until so many ticks after the last such moment, 1 to 4,294,967,295 (`xTaskDelayUntil`).
+    /// Sleeps until so many ticks after the last such moment, 1 to 4,294,967,295 (`xTaskDelayUntil`); goes on at once where
+    /// that moment is not still to come (profile: FreeRTOS gives way to equals then).
     DelayUntil(u32),
     /// Gives way to the tasks of equal priority (`taskYIELD`).
     Yield,
     /// Answers the printed tick (`xTaskGetTickCount`).
     Time,
-    /// Writes a mark line with this number (profile).
+    /// Writes a mark line with this number, 0 to 4,294,967,295 (profile).
     Mark(u32),
     /// Ends the run where the last answer differs; `None` is the answer `none` (profile).
     Expect(Option<u32>),

@@ -16,7 +16,7 @@ pub struct Point {
 pub enum BadPlan {
     /// A step is less than the one before it.
     Falling,
-    /// More than three points are at one step.
+    /// More than three points are at one step (profile).
     Crowded,
 }
 

@@ -6,7 +6,7 @@ use crate::op::Op;
 use std::alloc::Global;
 use std::marker::Model;
 
-/// The script of a task: at most 256 ops, each in its range, loops closed and at most four deep.
+/// The script of a task: at most 256 ops, each in its range, loops closed and at most four deep (profile).
 #[derive(Drop)]
 pub struct Script {
     ops: Vec<Op>,

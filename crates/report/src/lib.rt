@@ -14,12 +14,10 @@ mod tests;
 mod text;
 mod words;
 
-pub use add::flush;
 pub use bytes::{Failed, Sink, Source};
 pub use laws::report_of_delay_one;
-pub use page::Page;
 pub use put::{WriteFault, put_all};
 pub use read::{ReadFault, read_all};
-pub use run::{add_run, write_run};
+pub use run::write_run;
 pub use std_io::{FromReader, ToWriter};
 pub use words::{Piece, write_words};

@@ -36,15 +36,15 @@ bit_of-last (x ∷ xs) e = refl
 no_one : (b c : ℕ) → b ≡ 1 → c ≡ 0 → b ≡ c → ⊥
 no_one b c one none same = omega (arith, one, none, same)
 
-past_empty : {lists : List (List (ℕ × ℕ))} {full : ℕ} → AreLines lists full → (p : ℕ) → 32 ≤ p → entries_of lists p ≡ []
-past_empty {lists} {full} h p past = get_or_past lists p [] (let many = h.sound.as_many in omega (arith, many, past))
+past_empty : {lists : List (List (ℕ × ℕ))} {occupied : ℕ} → AreLines lists occupied → (p : ℕ) → 32 ≤ p → entries_of lists p ≡ []
+past_empty {lists} {occupied} h p past = get_or_past lists p [] (let many = h.sound.as_many in omega (arith, many, past))
 
-pub highest_is : {lists : List (List (ℕ × ℕ))} {full : ℕ} → AreLines lists full → full ≢ 0 → full < 2 ^ 32 → IsHighest lists (Some (31 - leading_zeros w32 full))
-highest_is {lists} {full} h some fits =
-    let top = highest_bit full (omega (arith, some)) fits in
-    let p = 31 - leading_zeros w32 full in (
+pub highest_is : {lists : List (List (ℕ × ℕ))} {occupied : ℕ} → AreLines lists occupied → occupied ≢ 0 → occupied < 2 ^ 32 → IsHighest lists (Some (31 - leading_zeros w32 occupied))
+highest_is {lists} {occupied} h some fits =
+    let top = highest_bit occupied (omega (arith, some)) fits in
+    let p = 31 - leading_zeros w32 occupied in (
       top.0,
-      λ e. no_one (bit_at full p) (bit_of (entries_of lists p)) top.1 (ap bit_of e) (h.bits p top.0),
+      λ e. no_one (bit_at occupied p) (bit_of (entries_of lists p)) top.1 (ap bit_of e) (h.bits p top.0),
       λ q above. elim (cases_lt q 32) [
         | inl below ↦ bit_of-empty (entries_of lists q) (sym (h.bits q below) ∙ top.2 q above)
         | inr past ↦ past_empty h q past
@@ -52,18 +52,18 @@ highest_is {lists} {full} h some fits =
     )
 
 -- a task goes into a list
-pub bit_set : {lists : List (List (ℕ × ℕ))} {full : ℕ} → AreLines lists full → (list : ℕ) (e : ℕ × ℕ) → list < 32 → IsSound 32 32 (set lists list (entries_of lists list ++ e ∷ [])) → AreLines (set lists list (entries_of lists list ++ e ∷ [])) (bit_or full (1 * 2 ^ list % 2 ^ 32))
-bit_set {lists} {full} h list e known sound =
+pub bit_set : {lists : List (List (ℕ × ℕ))} {occupied : ℕ} → AreLines lists occupied → (list : ℕ) (e : ℕ × ℕ) → list < 32 → IsSound 32 32 (set lists list (entries_of lists list ++ e ∷ [])) → AreLines (set lists list (entries_of lists list ++ e ∷ [])) (bit_or occupied (1 * 2 ^ list % 2 ^ 32))
+bit_set {lists} {occupied} h list e known sound =
     let new = entries_of lists list ++ e ∷ [] in
     let below : list < length lists = let many = h.sound.as_many in omega (arith, many, known) in
     record {
       sound = sound;
       bits = λ p hp. elim (cases_eq p list) [
         | inl same ↦
-            ap (bit_at (bit_or full (1 * 2 ^ list % 2 ^ 32))) same ∙ bit_at_set_same w32 full list known
+            ap (bit_at (bit_or occupied (1 * 2 ^ list % 2 ^ 32))) same ∙ bit_at_set_same w32 occupied list known
             ∙ sym (ap (λ (q : ℕ). bit_of (entries_of (set lists list new) q)) same ∙ ap bit_of (entries_of-set_same lists list new below) ∙ bit_of-last (entries_of lists list) e)
         | inr other ↦
-            bit_at_set_other w32 full list known p other ∙ h.bits p hp
+            bit_at_set_other w32 occupied list known p other ∙ h.bits p hp
             ∙ sym (ap bit_of (entries_of-set_other lists list p new other))
       ];
     }
@@ -76,15 +76,15 @@ left_other {lists} sound task list p at other =
       | inr none ↦ without-apart task (entries_of lists p) (apart_from_test task (entries_of lists p) none)
     ]
 
-pub bit_cleared : {lists : List (List (ℕ × ℕ))} {full : ℕ} → AreLines lists full → (task list : ℕ) → list < 32 → place_of lists task ≡ Some list → IsSound 32 32 (map (without task) lists) → entries_of (map (without task) lists) list ≡ [] → AreLines (map (without task) lists) (bit_and full (bit_not w32 (1 * 2 ^ list % 2 ^ 32)))
-bit_cleared {lists} {full} h task list known at sound empty = record {
+pub bit_cleared : {lists : List (List (ℕ × ℕ))} {occupied : ℕ} → AreLines lists occupied → (task list : ℕ) → list < 32 → place_of lists task ≡ Some list → IsSound 32 32 (map (without task) lists) → entries_of (map (without task) lists) list ≡ [] → AreLines (map (without task) lists) (bit_and occupied (bit_not w32 (1 * 2 ^ list % 2 ^ 32)))
+bit_cleared {lists} {occupied} h task list known at sound empty = record {
   sound = sound;
   bits = λ p hp. elim (cases_eq p list) [
     | inl same ↦
-        ap (bit_at (bit_and full (bit_not w32 (1 * 2 ^ list % 2 ^ 32)))) same ∙ bit_at_clear_same w32 full list known
+        ap (bit_at (bit_and occupied (bit_not w32 (1 * 2 ^ list % 2 ^ 32)))) same ∙ bit_at_clear_same w32 occupied list known
         ∙ sym (ap (λ (q : ℕ). bit_of (entries_of (map (without task) lists) q)) same ∙ ap bit_of empty)
     | inr other ↦
-        bit_at_clear_other w32 full list known p hp other ∙ h.bits p hp
+        bit_at_clear_other w32 occupied list known p hp other ∙ h.bits p hp
         ∙ sym (ap bit_of (left_other h.sound task list p at other))
   ];
 }
@@ -97,8 +97,8 @@ was_some : (task : ℕ) (xs ys : List (ℕ × ℕ)) → ys ≡ without task xs �
 was_some task [] ys is some = λ e. some is
 was_some task (x ∷ xs) ys is some = λ e. cc
 
-pub bit_kept : {lists : List (List (ℕ × ℕ))} {full : ℕ} → AreLines lists full → (task list : ℕ) → place_of lists task ≡ Some list → IsSound 32 32 (map (without task) lists) → entries_of (map (without task) lists) list ≢ [] → AreLines (map (without task) lists) full
-bit_kept {lists} {full} h task list at sound some = record {
+pub bit_kept : {lists : List (List (ℕ × ℕ))} {occupied : ℕ} → AreLines lists occupied → (task list : ℕ) → place_of lists task ≡ Some list → IsSound 32 32 (map (without task) lists) → entries_of (map (without task) lists) list ≢ [] → AreLines (map (without task) lists) occupied
+bit_kept {lists} {occupied} h task list at sound some = record {
   sound = sound;
   bits = λ p hp. elim (cases_eq p list) [
     | inl same ↦

@@ -135,9 +135,9 @@ some_first : (es : List (ℕ × ℕ)) → es ≢ [] → is_some (first_of es) �
 some_first [] n = absurd (n refl)
 some_first (e ∷ es) n = refl
 
-pub first_where_full : (ls : List (List (ℕ × ℕ))) (o : Option ListId) → IsHighest ls (option_map (λ l. l.number) o) → is_some o ≡ is_some (first_of (line_of ls))
-first_where_full ls None h = rw (first_of_none ls h) refl
-first_where_full ls (Some list) h = rw (first_of_highest ls list.number h) (sym (some_first (entries_of ls list.number) h.1))
+pub first_where_any : (ls : List (List (ℕ × ℕ))) (o : Option ListId) → IsHighest ls (option_map (λ l. l.number) o) → is_some o ≡ is_some (first_of (line_of ls))
+first_where_any ls None h = rw (first_of_none ls h) refl
+first_where_any ls (Some list) h = rw (first_of_highest ls list.number h) (sym (some_first (entries_of ls list.number) h.1))
 
 -- whether a task of the line is above or beside the running one
 

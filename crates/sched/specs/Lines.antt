@@ -20,9 +20,9 @@ bit_of [] = 0
 bit_of (e ∷ entries) = 1
 
 -- lists, and a word with a bit for each
-pub record AreLines (lists : List (List (ℕ × ℕ))) (full : ℕ) : Type 0 where
+pub record AreLines (lists : List (List (ℕ × ℕ))) (occupied : ℕ) : Type 0 where
   pub sound : IsSound 32 32 lists
-  pub bits : (list : ℕ) → list < 32 → bit_at full list ≡ bit_of (entries_of lists list)
+  pub bits : (list : ℕ) → list < 32 → bit_at occupied list ≡ bit_of (entries_of lists list)
 
 -- each value is the number of its list, where the first list is that of `priority`
 abbrev pub AtHome : ℕ → List (List (ℕ × ℕ)) → Type 0

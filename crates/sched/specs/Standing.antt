@@ -10,6 +10,7 @@ use Rattle.sched.specs.Schedule.{Schedule, priority_in}
 abbrev pub ranked : List Entry → List (ℕ × ℕ)
 ranked es = map (λ (e : Entry). (e.task, e.key.rank)) es
 
+-- The schedule's line is the Ready tasks in order, it runs who runs, and the priorities are the tasks'.
 pub record StandsFor (v : Schedule) (s : State) : Type 0 where
   pub ready : v.ready ≡ ranked (readies s)
   pub running : v.running ≡ s.running

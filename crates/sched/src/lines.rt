@@ -1,3 +1,4 @@
+//! The Ready tasks: a list for each priority.
 ghost use Rattle.std.specs.Prelude.{◌≡◌, ℕ, ◌<◌, ◌==◌, not, List, [], ◌∷◌, ◌++◌, map, option_map, replicate, slice_set, None};
 ghost use Rattle.std.specs.List.{list_any};
 ghost use Rattle.std.specs.Option.{is_some};
@@ -8,12 +9,12 @@ use lists::{ListId, NodeId, Table};
 use model::TaskId;
 use std::marker::Model;
 
-/// A list of tasks for each priority. Bit `p` of `full` says that the list of priority `p` is not
+/// A list of tasks for each priority. Bit `p` of `occupied` says that the list of priority `p` is not
 /// empty.
 #[derive(Drop)]
 pub(crate) struct Lines {
     table: Table<32, 32>,
-    full: u32,
+    occupied: u32,
 }
 
 // Clauses see the lists, each task with its priority as the value.
@@ -25,7 +26,7 @@ impl Model for Lines {
 
     ghost view = { λ l. l.table };
 
-    ghost invariant = { λ l. AreLines l.table l.full };
+    ghost invariant = { λ l. AreLines l.table l.occupied };
 }
 
 /// The node of a task in the table.
@@ -44,7 +45,7 @@ impl Lines {
     {
         Lines {
             table: Table::new(),
-            full: 0,
+            occupied: 0,
         }
     }
 
@@ -52,16 +53,16 @@ impl Lines {
     pub(crate) fn highest(&self) -> Option<ListId>
         ensures highest { IsHighest self.now (option_map (λ list. list.number) result) }
     {
-        if self.full == 0 {
+        if self.occupied == 0 {
             return None;
         }
         Some(ListId {
-            number: 31 - self.full.leading_zeros() as u16,
+            number: 31 - self.occupied.leading_zeros() as u16,
         })
     }
 
-    /// Whether a list is not empty.
-    pub(crate) fn is_any_full(&self) -> bool
+    /// Whether any list has a task.
+    pub(crate) fn has_any(&self) -> bool
         ensures any { result ≡ is_some (first_of (line_of self.now)) }
     {
         self.highest().is_some()
@@ -106,7 +107,7 @@ impl Lines {
     {
         self.table
             .push_back(list, node_of(task), list.number as u32);
-        self.full |= 1 << list.number;
+        self.occupied |= 1 << list.number;
     }
 
     /// Takes a task out of its list, if it is in one.
@@ -118,7 +119,7 @@ impl Lines {
         if let Some(list) = self.table.place(node) {
             self.table.remove(node);
             if self.table.is_empty(list) {
-                self.full &= !(1 << list.number);
+                self.occupied &= !(1 << list.number);
             }
         }
     }

@@ -1,3 +1,4 @@
+//! The scheduler: the Ready tasks, and the running one.
 ghost use Rattle.std.specs.Prelude.{◌≡◌, ◌<◌, ◌||◌, [], option_map, None, length};
 ghost use Rattle.std.specs.List.{AllByRecursion};
 ghost use Rattle.model.specs.State.{State};
@@ -60,7 +61,7 @@ impl Sched {
     pub fn has_ready(&self) -> bool
         ensures ready { result ≡ is_some (first_of self.now.ready) }
     {
-        self.lines.is_any_full()
+        self.lines.has_any()
     }
 
     /// The priority of a task, 0 to 31.

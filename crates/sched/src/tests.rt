@@ -1,3 +1,4 @@
+//! Tasks that take turns and give way.
 use crate::Sched;
 use model::TaskId;
 

@@ -37,6 +37,7 @@ load_fault document = first (
     ∷ scripts_fault 0 (section_named (get_member (codes "task") document))
     ∷ [])
 
+-- the application that a document names in which no check fails
 abbrev pub app_named : Members → Application
 app_named document = record {
   start = optional_named 0 (get_member (codes "start") document);

@@ -8,5 +8,5 @@ pub invariant_of-self : goal.invariant_of-self
 invariant_of-self c =
     let list = c.args.list.number in
     let put = c.push_back.ensures.put in
-    subst (λ (ls : List (List (ℕ × ℕ))). AreLines ls (bit_or c.self.inside.full (1 * 2 ^ list % 2 ^ 32))) (sym put)
+    subst (λ (ls : List (List (ℕ × ℕ))). AreLines ls (bit_or c.self.inside.occupied (1 * 2 ^ list % 2 ^ 32))) (sym put)
     (bit_set c.self.invariant list (c.node_of.result.number, list) c.requires.list (subst (IsSound 32 32) put c.push_back.ensures.sound))

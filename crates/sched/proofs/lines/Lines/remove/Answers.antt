@@ -14,7 +14,7 @@ invariant_of-self c =
     let at : place_of c.self.inside.table n ≡ Some list = sym c.in-Some.ensures.place in
     let known : list < 32 = let many = c.self.invariant.sound.as_many in omega (arith, many, place_of-below n list c.self.inside.table at) in
     let empty = ap (λ (ls : List (List (ℕ × ℕ))). entries_of ls list) (sym removed) ∙ c.is_empty.ensures.empty.0 c.if-is_empty.true in
-    subst (λ (ls : List (List (ℕ × ℕ))). AreLines ls (bit_and c.self.inside.full (bit_not w32 (1 * 2 ^ list % 2 ^ 32)))) (sym removed)
+    subst (λ (ls : List (List (ℕ × ℕ))). AreLines ls (bit_and c.self.inside.occupied (bit_not w32 (1 * 2 ^ list % 2 ^ 32)))) (sym removed)
     (bit_cleared c.self.invariant n list known at (subst (IsSound 32 32) removed c.remove.ensures.sound) empty)
 
 pub invariant_of-self-else-is_empty : goal.invariant_of-self-else-is_empty
@@ -24,7 +24,7 @@ invariant_of-self-else-is_empty c =
     let removed = c.remove.ensures.removed in
     let at : place_of c.self.inside.table n ≡ Some list = sym c.in-Some.ensures.place in
     let some : entries_of (map (without n) c.self.inside.table) list ≢ [] = λ e. let t = c.is_empty.ensures.empty.1 (ap (λ (ls : List (List (ℕ × ℕ))). entries_of ls list) removed ∙ e) in cc (c.if-is_empty.false, t) in
-    subst (λ (ls : List (List (ℕ × ℕ))). AreLines ls c.self.inside.full) (sym removed)
+    subst (λ (ls : List (List (ℕ × ℕ))). AreLines ls c.self.inside.occupied) (sym removed)
     (bit_kept c.self.invariant n list at (subst (IsSound 32 32) removed c.remove.ensures.sound) some)
 
 pub returns-in_default-clause-removed : goal.returns-in_default-clause-removed
