@@ -57,8 +57,8 @@ module _ {ls : List (List (ℕ × ℕ))} {start base tick current overflow : ℕ
       ]
 
   -- a task that sleeps has a place, and no other has
-  asleep_at : (n : ℕ) → is_some (place_of ls n) ≡ has_node n (both ls base current overflow)
-  asleep_at n =
+  pub asleep_is : (n : ℕ) → is_some (place_of ls n) ≡ has_node n (both ls base current overflow)
+  asleep_is n =
       let here = has_node-moved n base (entries_of ls current) in
       let there = has_node-moved n (base + 2 ^ 32) (entries_of ls overflow) in
       elim (has_or_not n (entries_of ls current)) [
@@ -77,11 +77,8 @@ module _ {ls : List (List (ℕ × ℕ))} {start base tick current overflow : ℕ
   none_of None b e f = refl
   none_of (Some l) b e f = absurd cc
 
-  pub asleep_is : (n : ℕ) → is_some (place_of ls n) ≡ has_node n (both ls base current overflow)
-  asleep_is n = asleep_at n
-
   pub no_place : (n : ℕ) → has_node n (both ls base current overflow) ≡ false → place_of ls n ≡ None
-  no_place n awake = none_of (place_of ls n) (has_node n (both ls base current overflow)) (asleep_at n) awake
+  no_place n awake = none_of (place_of ls n) (has_node n (both ls base current overflow)) (asleep_is n) awake
 
   -- a moment of this turn goes into the current list
   pub into_current : (n w : ℕ) → tick < w → w < 2 ^ 32 → IsSound 2 32 (set ls current (inserted (n, w) (entries_of ls current))) → IsClock (set ls current (inserted (n, w) (entries_of ls current))) start base tick current overflow

@@ -141,7 +141,7 @@ due_in-entered ts n i m w u numbers l none is =
 
 -- a task goes to sleep
 
-asleep_none : (u : Status) → is_ready_status u ≡ true → sleep_status_key u ≡ None
+pub asleep_none : (u : Status) → is_ready_status u ≡ true → sleep_status_key u ≡ None
 asleep_none (Ready n) t = refl
 asleep_none (Asleep m b) t = absurd cc
 asleep_none Ended t = refl

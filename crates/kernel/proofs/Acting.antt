@@ -18,7 +18,8 @@ use Rattle.kernel.specs.Slots.{Bare, bare, seen}
 use Rattle.kernel.specs.declared.slot.Slot.{Slot}
 use Rattle.kernel.specs.declared.kernel.Kernel.{Kernel}
 use Rattle.kernel.specs.Stands.{slot_in, At, Written, with_slot, Replaces}
-use Rattle.kernel.proofs.Stands.{stands-with, eqb-true, eqb-false}
+use Rattle.model.proofs.Lines.{eqb-apart}
+use Rattle.kernel.proofs.Stands.{stands-with, eqb-true}
 
 leb-true : (a b : ℕ) → a ≤ b → leb a b ≡ true
 leb-true a b e = grind (arith, nat_tests)
@@ -88,7 +89,7 @@ module _ (app : Application) (k new : Kernel) (w : Written) (s : State) (h : At 
   unfolding use_up
   used_more n l is =
       let t : Task = record (task_at s i) { used = (task_at s i).used + 1 } in
-      rw (eqb-false ((task_at s i).used + 1) n (λ q. l (ap (λ m. m + 1) used_is ∙ q)))
+      rw (eqb-apart ((task_at s i).used + 1) n (λ q. l (ap (λ m. m + 1) used_is ∙ q)))
       (changed app k new new w s h i (within k w s h i r) (record (slot_in k.slots i) { used = v.used + 1 }) t is
       (record { seen = (λ j. record (h.stands.rest.slots i j) { used = used_is j + 1 }); priority = refl; status = refl }))
 

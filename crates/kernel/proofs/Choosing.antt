@@ -12,7 +12,8 @@ use Rattle.sched.specs.Standing as sched
 use Rattle.sched.specs.Schedule.{Schedule}
 use Rattle.kernel.specs.declared.kernel.Kernel.{Kernel}
 use Rattle.kernel.specs.Stands.{Rest, Stands, At, Written, change_line}
-use Rattle.kernel.proofs.Stands.{rest_same, rest-renewed, ready_awake}
+use Rattle.model.proofs.Reached.{ready_awake}
+use Rattle.kernel.proofs.Stands.{rest_same, rest-renewed}
 
 same_self : (r : Option ℕ) → is_same r r ≡ true
 same_self None = refl

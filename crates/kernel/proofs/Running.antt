@@ -1,7 +1,6 @@
 -- A run, step by step.
-use Rattle.std.proofs.Common.{◌≡◌, ◌≢◌, ◌<◌, ◌≤◌, ℕ, zero, suc, true, false, eqb, leb, List, [], ◌∷◌, ◌++◌, None, refl, sym, subst, ◌∙◌, arith}
+use Rattle.std.proofs.Common.{◌≡◌, ◌≢◌, ◌<◌, ◌≤◌, ℕ, zero, suc, true, eqb, List, [], ◌++◌, None, refl, sym, subst, ◌∙◌, arith}
 use Rattle.std.proofs.lemmas.List.{map-append}
-use Rattle.std.proofs.lemmas.Bool.Decides.{nat_tests}
 use Rattle.model.proofs.Sorting.{by_test}
 use Rattle.model.proofs.Lines.{eqb-refl, eqb-same}
 use Rattle.model.specs.declared.event.Event.{Event}
@@ -10,20 +9,16 @@ use Rattle.model.specs.Application.{Application, Bounds}
 use Rattle.model.specs.Scripts.{IsWellFormed}
 use Rattle.model.specs.Trace.{lines_of, line_of, bounds_of}
 use Rattle.model.specs.State.{State}
-use Rattle.std.specs.List.{fold}
-use Rattle.model.specs.Step.{step, reset, entered_at_reset, before_entry, with_ops, enter}
+use Rattle.model.specs.Step.{step, reset, entered_at_reset, before_entry, with_ops}
 use Rattle.model.specs.Run.{end_of, state_after, lines_after}
 use Rattle.model.proofs.Ticking.{elapsed-reset, elapsed-step}
 use Rattle.kernel.specs.declared.kernel.Kernel.{Kernel}
 use Rattle.kernel.specs.Stands.{Stands, CanStep}
 use Rattle.kernel.specs.Runs.{IsUnderWay}
+use Rattle.kernel.proofs.Waking.{steps-fold}
 use Rattle.kernel.proofs.Bounds.{below_limits}
 
 -- the kernel at reset
-steps-fold : (s : State) (is : List ℕ) → (fold enter s is).steps ≡ s.steps
-steps-fold s [] = refl
-steps-fold s (i ∷ is) = steps-fold (enter s i) is
-
 steps-reset : (app : Application) → (reset app).steps ≡ 0
 unfolding reset entered_at_reset before_entry
 steps-reset app = steps-fold (before_entry app) (with_ops 0 app.tasks)
@@ -69,9 +64,6 @@ module _ (app : Application) (formed : IsWellFormed app) (limits : Limits) (k : 
     more_lines events more all e f g = rw (g, steps_more) (map-append line_of events more ∙ rw (e, f) refl)
 
 -- The run that ends here is the run; one that is broken off has done no more steps.
-less : (a b : ℕ) → leb a b ≡ false → b < a
-less a b e = grind (arith, nat_tests)
-
 -- The ticks of a run, as far as it has gone
 ticks_by : (app : Application) (limits : Limits) (n : ℕ) → ((m : ℕ) → m < n → end_of (bounds_of limits) (state_after app m) ≡ None) → (state_after app n).elapsed ≤ 1000000
 ticks_by app limits zero g = let e = elapsed-reset app in omega arith

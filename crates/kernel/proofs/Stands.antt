@@ -10,11 +10,11 @@ use Rattle.model.specs.Trace.{line_of, told_by, printed}
 use Rattle.model.specs.Application.{Application, op_count}
 use Rattle.model.specs.State.{State, Task, Status, Ready, Asleep, Ended, task_at, with_task, no_task}
 use Rattle.model.specs.Order.{Entry, line, tasks_of}
-use Rattle.model.specs.Step.{ready_key, sleep_key, sleep_status_key, is_due_status, enter, sleep, moved_to, write, go_to, is_ready, is_ready_status}
+use Rattle.model.specs.Step.{ready_key, sleep_key, sleep_status_key, is_due_status, enter, sleep, moved_to, write, go_to, is_ready}
 use Rattle.model.specs.Run.{is_asleep}
 use Rattle.model.specs.Invariant.{IsTable, HasNumberBelow}
 use Rattle.model.proofs.Sorting.{by_test}
-use Rattle.model.proofs.Lines.{eqb-refl, eqb-same}
+use Rattle.model.proofs.Lines.{eqb-refl, eqb-same, eqb-apart}
 use Rattle.model.proofs.Tables.{number_at, table-set, table-numbered, table-enter}
 use Rattle.lists.specs.Lists.{has_node, inserted, without}
 use Rattle.lists.proofs.Entries.{has_node-without_it}
@@ -71,16 +71,6 @@ awake_alike (Ready m) n t = record { key = refl; due = λ _. refl }
 awake_alike (Asleep m b) n t = absurd (cc)
 awake_alike Ended n t = record { key = refl; due = λ _. refl }
 
-pub ready_awake : (u : Status) → is_ready_status u ≡ true → is_asleep u ≡ false
-ready_awake (Ready m) t = refl
-ready_awake (Asleep m b) t = absurd (cc)
-ready_awake Ended t = refl
-
-no_sleep : (u : Status) → is_ready_status u ≡ true → sleep_status_key u ≡ None
-no_sleep (Ready m) t = refl
-no_sleep (Asleep m b) t = absurd (cc)
-no_sleep Ended t = absurd (cc)
-
 same_alike : (a b : Status) → a ≡ b → SleepsAlike a b
 same_alike a b e = record { key = ap sleep_status_key e; due = λ m. ap (is_due_status m) e }
 
@@ -127,7 +117,7 @@ module _ (k : Kernel) (s : State) (h : Stands k s) (i : ℕ) (l : i < length s.t
   awake : is_ready s i ≡ true → clock.StandsFor (record k.clock { sleepers = without i k.clock.sleepers }) s
   awake ready =
       let same : s.tasks ≡ set s.tasks i (task_at s i) = sym (set-get_or s.tasks i no_task) in
-      on_clock.stands_woken k.clock s s i (task_at s i) h.rest.clock l same refl refl (no_sleep (task_at s i).status ready) h.sched.table
+      on_clock.stands_woken k.clock s s i (task_at s i) h.rest.clock l same refl refl (on_clock.asleep_none (task_at s i).status ready) h.sched.table
 
   -- a Ready task begins to sleep
   module _ (ticks : ℕ) (some : 0 < ticks) (ready : is_ready s i ≡ true) (v : Schedule) (blocks : v ≡ blocked k.sched i) (woken slept : Time)
@@ -232,9 +222,6 @@ at-written k old new s e h items step tick =
 pub eqb-true : (a b : ℕ) → a ≡ b → eqb a b ≡ true
 eqb-true a b e = grind (arith, nat_tests)
 
-pub eqb-false : (a b : ℕ) → (a ≡ b → ⊥) → eqb a b ≡ false
-eqb-false a b e = grind (arith, nat_tests)
-
 pub sleep_log : (s : State) (i m : ℕ) → is_ready s i ≡ true → (sleep i m s).log ≡ s.log
 unfolding sleep
 sleep_log s i m ready = rw ready refl
@@ -246,7 +233,7 @@ module _ (app : Application) (k moved : Kernel) (w : Written) (s : State) (h : A
 
   pub goes_on : (place ≡ count → ⊥) → At moved w (go_to app i place (task_at s i) s)
   unfolding go_to
-  goes_on off = rw (is, ← many) (record { stands = stands-gone k s h.stands i l (slot_in k.slots i) (task_at s i) alike count place (eqb-false place count off); log = h.log })
+  goes_on off = rw (is, ← many) (record { stands = stands-gone k s h.stands i l (slot_in k.slots i) (task_at s i) alike count place (eqb-apart place count off); log = h.log })
 
   pub ends : place ≡ count → (sched' : Schedule) → sched' ≡ blocked moved.sched i → (clock' : Time) → clock'.now ≡ moved.clock.now → clock'.age ≡ moved.clock.age → clock'.sleepers ≡ without i moved.clock.sleepers
       → At (record moved { sched = sched'; clock = clock' }) w (go_to app i place (task_at s i) s)

@@ -51,7 +51,7 @@ bare-fold : (s : State) (is : List ℕ) (j : ℕ) → AllByRecursion (λ i. i < 
 bare-fold s [] j h = refl
 bare-fold s (i ∷ is) j h = bare-fold (enter s i) is j (within-enter s i is h.1) ∙ bare-enter s i j h.0
 
-steps-fold : (s : State) (is : List ℕ) → (fold enter s is).steps ≡ s.steps
+pub steps-fold : (s : State) (is : List ℕ) → (fold enter s is).steps ≡ s.steps
 steps-fold s [] = refl
 steps-fold s (i ∷ is) = steps-fold (enter s i) is
 

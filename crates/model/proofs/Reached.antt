@@ -83,7 +83,7 @@ reckoned_ended now p (Ready n) h t = absurd (cc)
 reckoned_ended now p (Asleep m b) h t = absurd (cc)
 reckoned_ended now p Ended h t = tt
 
-ready_awake : (u : Status) → is_ready_status u ≡ true → is_asleep u ≡ false
+pub ready_awake : (u : Status) → is_ready_status u ≡ true → is_asleep u ≡ false
 ready_awake (Ready n) t = refl
 ready_awake (Asleep m b) t = absurd (cc)
 ready_awake Ended t = absurd (cc)

@@ -11,9 +11,10 @@ use Rattle.model.specs.Step as step
 use Rattle.model.specs.Step.{anew, choice, dispatch, enter, is_same, key, leave, leave_from, readies, ready_key, ready_status_key, switch, task_of}
 use Rattle.model.specs.Invariant.{IsTable}
 use Rattle.model.proofs.Sorting.{before_false, before_true, by_test}
-use Rattle.model.proofs.Lines.{HasKey, eqb-same, line-entered, line-gone, line-kept, line_below, line_has, line_without, other}
+use Rattle.model.proofs.Lines.{HasKey, line-entered, line-gone, line-kept, line_below, line_has, line_without, other}
 use Rattle.model.proofs.Tables.{below_ready, table-enter}
 use Rattle.model.proofs.Chosen.{switch-once}
+use Rattle.model.proofs.Settled.{same_eq}
 use Rattle.lists.specs.Lists.{first_of, has_node, without}
 use Rattle.sched.specs.Schedule as mine
 use Rattle.sched.specs.Schedule.{Schedule, chosen, lined_up, priority_in, readied, sliced, stepped_back, yielded}
@@ -145,12 +146,6 @@ first_task : (es : List Entry) → first_of (ranked es) ≡ task_of (first es)
 first_task [] = refl
 first_task (e ∷ es) = refl
 
-same_option : (a b : Option ℕ) → is_same a b ≡ true → a ≡ b
-same_option None None t = refl
-same_option None (Some b) t = absurd cc
-same_option (Some a) None t = absurd cc
-same_option (Some a) (Some b) t = ap Some (eqb-same a b t)
-
 chosen_within : (s : State) (es : List Entry) → AllByRecursion (HasKey ready_key s.tasks) es → IfSome (task_of (first es)) (λ task. task < length s.tasks)
 chosen_within s [] h = tt
 chosen_within s (e ∷ es) h = h.0.within
@@ -160,7 +155,7 @@ unfolding anew dispatch
 stands_chosen v s h =
     let is : first_of v.ready ≡ choice s = ap first_of h.ready ∙ first_task (readies s) in
     by_test (is_same (choice s) s.running)
-    (λ t. rw t (record { ready = h.ready; running = is ∙ same_option (choice s) s.running t; priorities = h.priorities; table = h.table }))
+    (λ t. rw t (record { ready = h.ready; running = is ∙ same_eq (choice s) s.running t; priorities = h.priorities; table = h.table }))
     (λ t. rw t (record {
       ready = h.ready;
       running = is;

@@ -1,5 +1,5 @@
 use Rattle.std.proofs.Common.{sym}
-use Rattle.kernel.proofs.Stands.{ready_awake}
+use Rattle.model.proofs.Reached.{ready_awake}
 use Rattle.kernel.proofs.Acting.{within, behind_ready}
 use Rattle.kernel.proofs.kernel.Kernel.behind.Goals as goal
 
