@@ -151,6 +151,7 @@ impl<const L: usize, const N: usize> Table<L, N> {
             → option_map (λ node. node.number) result
             ≡ next_of node.number (entries_of self.now list) }
         ensures outside { place_of self.now node.number ≡ None → IsNone result }
+        ensures known { ForSome (option_map (λ node. node.number) result) (λ node. node < N) }
         ensures sound { IsSound L N self.now }
     {
         if self.place[node.number as usize].is_some() {

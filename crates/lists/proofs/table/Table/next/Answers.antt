@@ -14,8 +14,8 @@ no_list (Some k) b l e t i = absurd cc
 
 pub node_of-requires : goal.node_of-requires
 node_of-requires g c =
-    let at_list = some_list (get_or c.self.inside.place c.args.node.number None) c.is_some.result (sym c.is_some.ensures) c.if-is_some.true in
-    let around = around_below c.self.invariant.spells c.args.node.number at_list.0 at_list.1 in
+    let place = some_list (get_or c.self.inside.place c.args.node.number None) c.is_some.result (sym c.is_some.ensures) c.if-is_some.true in
+    let around = around_below c.self.invariant.spells c.args.node.number place.0 place.1 in
     let nodes = c.self.invariant.nodes_fit in
     λ m e. omega (arith, nodes, around.1 m e)
 
@@ -24,9 +24,15 @@ returns-then-is_some-clause-next g c = λ l has. c.node_of.ensures.node ∙ next
 
 pub returns-then-is_some-clause-outside : goal.returns-then-is_some-clause-outside
 returns-then-is_some-clause-outside g c = λ outside.
-    let at_list = some_list (get_or c.self.inside.place c.args.node.number None) c.is_some.result (sym c.is_some.ensures) c.if-is_some.true in
+    let place = some_list (get_or c.self.inside.place c.args.node.number None) c.is_some.result (sym c.is_some.ensures) c.if-is_some.true in
     let is = place_is (seen c.self.invariant.spells c.self.view_is) c.args.node.number in
-    absurd (none-some at_list.0 (sym outside ∙ sym is ∙ at_list.1))
+    absurd (none-some place.0 (sym outside ∙ sym is ∙ place.1))
+
+pub returns-then-is_some-clause-known : goal.returns-then-is_some-clause-known
+returns-then-is_some-clause-known g c =
+    let place = some_list (get_or c.self.inside.place c.args.node.number None) c.is_some.result (sym c.is_some.ensures) c.if-is_some.true in
+    let around = around_below c.self.invariant.spells c.args.node.number place.0 place.1 in
+    λ m e. around.1 m (sym c.node_of.ensures.node ∙ e)
 
 pub returns-then-is_some-clause-sound : goal.returns-then-is_some-clause-sound
 returns-then-is_some-clause-sound g c = sound (seen c.self.invariant.spells c.self.view_is)
