@@ -1,8 +1,8 @@
 use Rattle.std.proofs.Common.{rules, ℕ, List, ◌<◌, ◌-◌, ◌^◌, subst, Some}
 use Rattle.std.specs.Int.{leading_zeros, w32}
-use Rattle.sched.specs.Lines.{IsHighest}
+use Rattle.sched.specs.ReadyLists.{IsHighest}
 use Rattle.sched.proofs.Bits.{highest_is}
-use Rattle.sched.proofs.lines.Lines.highest.Goals as goal
+use Rattle.sched.proofs.ready_lists.ReadyLists.highest.Goals as goal
 
 pub returns : goal.returns
 returns c =
