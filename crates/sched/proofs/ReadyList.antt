@@ -6,8 +6,8 @@ use Rattle.std.specs.Option.{is_some, option_map}
 use Rattle.std.proofs.lemmas.Bool.{cases_lt, ne_eqb, eq-eqb, le-ltb, lt-ltb}
 use Rattle.std.proofs.lemmas.List.Folds.{list_any-append}
 use Rattle.lists.specs.Lists.{Each, IsSound, entries_of, first_of, has_node, place_of, without}
-use Rattle.lists.proofs.Entries.{Each-append, Each-imp, Each-without, apart_from_test, has_node-append, has_node-left, has_node-without_it, has_or_not, without-append}
-use Rattle.lists.proofs.Laws.{entries_of-without, place_of-None}
+use Rattle.lists.proofs.Entries.{Each-append, Each-imp, Each-without, apart_from_test, has_node-append, has_node-left, has_or_not, without-append}
+use Rattle.lists.proofs.Laws.{place_of-None}
 use Rattle.sched.specs.Schedule.{is_above, is_beside, add_to_ready_list, priority_in}
 use Rattle.lists.specs.declared.ids.ListId.{ListId}
 use Rattle.sched.specs.ReadyLists.{AtHome, IsHighest, ready_list_of}

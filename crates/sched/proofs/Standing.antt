@@ -11,6 +11,7 @@ use Rattle.model.specs.Switching.{choice, choose, dispatch, is_above, is_beside,
 use Rattle.model.specs.Invariant.{IsTable}
 use Rattle.model.proofs.Sorting.{All-filtered, before_false, before_true, by_test}
 use Rattle.model.proofs.Lists.{list-entered, list-gone, list-kept, list_below, list_without, other}
+use Rattle.model.proofs.Members.{has_task, has_task-key, has_task-none}
 use Rattle.model.proofs.Tables.{below_ready, table-make_ready}
 use Rattle.model.proofs.Chosen.{choice_within}
 use Rattle.model.proofs.Settled.{same_eq}
@@ -66,52 +67,22 @@ stands_made_ready v s i h l free = subst (λ (r : List (ℕ × ℕ)). StandsFor 
 
 -- whether a task is Ready
 
-or-swap : (a b c : Bool) → (a || (b || c)) ≡ (b || (a || c))
-or-swap true true c = refl
-or-swap true false c = refl
-or-swap false true c = refl
-or-swap false false c = refl
+has_node-with_priorities : (i : ℕ) (es : List Entry) → has_node i (with_priorities es) ≡ has_task i es
+has_node-with_priorities i [] = refl
+has_node-with_priorities i (e ∷ es) = ap (λ (b : Bool). e.task == i || b) (has_node-with_priorities i es)
 
-has_node-put : (n : ℕ) (e : Entry) (xs : List Entry) → has_node n (with_priorities (put e xs)) ≡ (e.task == n || has_node n (with_priorities xs))
-has_node-put n e [] = refl
-has_node-put n e (x ∷ xs) = by_test (before e.key x.key)
-    (λ t. rw t refl)
-    (λ t. rw t (ap (λ (b : Bool). x.task == n || b) (has_node-put n e xs) ∙ or-swap (x.task == n) (e.task == n) (has_node n (with_priorities xs))))
+ready_key_of : {p q : ℕ} {u w : Status} → p ≡ q → u ≡ w → option_map (key p) (ticket_if_ready u) ≡ option_map (key q) (ticket_if_ready w)
+ready_key_of ep eu = ap₂ (λ (n : ℕ) (v : Status). option_map (key n) (ticket_if_ready v)) ep eu
 
-has_node-in_order : (n : ℕ) (xs : List Entry) → has_node n (with_priorities (in_order xs)) ≡ has_node n (with_priorities xs)
-has_node-in_order n [] = refl
-has_node-in_order n (x ∷ xs) = has_node-put n x (in_order xs) ∙ ap (λ (b : Bool). x.task == n || b) (has_node-in_order n xs)
-
-or-true : (b : Bool) → (b || true) ≡ true
-or-true true = refl
-or-true false = refl
-
--- a task with a key is among those that have one
-has_node-cons : (n o : ℕ) (r : Option Key) (xs : List Entry) → has_node n (with_priorities xs) ≡ true → has_node n (with_priorities (cons_option (option_map (entry o) r) xs)) ≡ true
-has_node-cons n o None xs h = h
-has_node-cons n o (Some k) xs h = ap (λ (b : Bool). o == n || b) h ∙ or-true (o == n)
-
-has_node-first : (n o : ℕ) (r : Option Key) (k : Key) (xs : List Entry) → r ≡ Some k → o ≡ n → has_node n (with_priorities (cons_option (option_map (entry o) r) xs)) ≡ true
-has_node-first n o r k xs is same = rw is (let t : (o == n) ≡ true = eq-eqb o n same in rw t refl)
-
-has_node-keyed : (n o i : ℕ) (k : Key) (ts : List Task) → o + i ≡ n → ready_key (get_or ts i no_task) ≡ Some k → has_node n (with_priorities (keyed ready_key o ts)) ≡ true
-has_node-keyed n o i k [] at is = absurd cc
-has_node-keyed n o zero k (t ∷ ts) at is = has_node-first n o (ready_key t) k (keyed ready_key (o + 1) ts) is (omega (arith, at))
-has_node-keyed n o (suc i) k (t ∷ ts) at is = has_node-cons n o (ready_key t) (keyed ready_key (o + 1) ts) (has_node-keyed n (o + 1) i k ts (omega (arith, at)) is)
-
-has_node-apart : (n : ℕ) (xs : List Entry) → AllByRecursion (λ e. e.task ≡ n → ⊥) xs → has_node n (with_priorities xs) ≡ false
-has_node-apart n [] h = refl
-has_node-apart n (x ∷ xs) h = let t : (x.task == n) ≡ false = ne_eqb x.task n h.0 in rw t (has_node-apart n xs h.1)
-
-ready_at : (s : State) (i p : ℕ) (u : Status) → (task_at s i).priority ≡ p → (task_at s i).status ≡ u → has_node i (with_priorities (ready_list s)) ≡ is_some (ticket_if_ready u)
-ready_at s i p (Ready n) ep eu =
-    let is : ready_key (task_at s i) ≡ Some (key p n) = ap₂ (λ (n : ℕ) (w : Status). option_map (key n) (ticket_if_ready w)) ep eu in
-    has_node-in_order i (keyed ready_key 0 s.tasks) ∙ has_node-keyed i 0 i (key p n) s.tasks (omega arith) is
-ready_at s i p (Asleep m b) ep eu = has_node-apart i (ready_list s) (list_without ready_key i s.tasks (ap₂ (λ (n : ℕ) (w : Status). option_map (key n) (ticket_if_ready w)) ep eu))
-ready_at s i p Ended ep eu = has_node-apart i (ready_list s) (list_without ready_key i s.tasks (ap₂ (λ (n : ℕ) (w : Status). option_map (key n) (ticket_if_ready w)) ep eu))
+ready_at : (s : State) (i p : ℕ) (u : Status) → (task_at s i).priority ≡ p → (task_at s i).status ≡ u → has_task i (ready_list s) ≡ is_some (ticket_if_ready u)
+ready_at s i p (Ready n) ep eu = has_task-key ready_key refl i (key p n) s.tasks (ready_key_of ep eu)
+ready_at s i p (Asleep w n) ep eu = has_task-none ready_key i s.tasks (ready_key_of ep eu)
+ready_at s i p Ended ep eu = has_task-none ready_key i s.tasks (ready_key_of ep eu)
 
 pub ready_same : (v : Schedule) (s : State) (i : ℕ) → StandsFor v s → mine.is_ready v i ≡ is_ready s i
-ready_same v s i h = ap (has_node i) h.ready ∙ ready_at s i (task_at s i).priority (task_at s i).status refl refl
+ready_same v s i h =
+    ap (has_node i) h.ready ∙ has_node-with_priorities i (ready_list s)
+    ∙ ready_at s i (task_at s i).priority (task_at s i).status refl refl
 
 -- whether a Ready task is above the running one, or beside it
 

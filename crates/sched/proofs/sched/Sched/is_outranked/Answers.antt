@@ -2,7 +2,6 @@ use Rattle.std.proofs.Common.{ℕ, Option, sym, ◌∙◌, ap, subst}
 use Rattle.std.specs.Prelude.{nat_lt}
 use Rattle.std.specs.List.{list_any}
 use Rattle.std.specs.Option.{option_map}
-use Rattle.model.specs.declared.ids.TaskId.{TaskId}
 use Rattle.lists.specs.declared.ids.ListId.{ListId}
 use Rattle.sched.specs.Schedule.{Schedule, is_above, is_outranked, priority_in}
 use Rattle.sched.specs.ReadyLists.{IsHighest, ready_list_of}

@@ -1,7 +1,5 @@
 use Rattle.std.proofs.Common.{◌≡◌, ℕ, Option, sym, ◌∙◌, ap, arith}
 use Rattle.std.specs.List.{list_any}
-use Rattle.std.specs.Option.{option_map}
-use Rattle.model.specs.declared.ids.TaskId.{TaskId}
 use Rattle.sched.specs.Schedule.{Schedule, is_beside, is_sharing, priority_in}
 use Rattle.sched.specs.ReadyLists.{ready_list_of}
 use Rattle.sched.proofs.ReadyList.{any_beside, none_beside_idle}
