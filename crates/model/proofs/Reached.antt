@@ -8,7 +8,7 @@ use Rattle.model.specs.declared.op.Op.{Op}
 use Rattle.model.specs.declared.op.Op.TheVariants.{Work, Delay, DelayUntil, Yield, Time, Mark, Expect, Repeat, End}
 use Rattle.model.specs.declared.event.Loop.{Loop}
 use Rattle.model.specs.Application.{Application, Definition, script_of, op_at, op_count}
-use Rattle.model.specs.Scripts.{InRange, may_stand, depth_past, Nests, IsScript, IsDefinition, IsWellFormed}
+use Rattle.model.specs.Scripts.{InRange, may_stand, nesting_past, Nests, IsScript, IsDefinition, IsWellFormed}
 use Rattle.model.specs.Trace.{Line, Ending, Call, Marked}
 use Rattle.model.specs.State.{State, Task, Status, Ready, Asleep, Ended, task_at, with_task, no_task}
 use Rattle.model.specs.Order.{Entry, tasks_of}
@@ -16,6 +16,7 @@ use Rattle.model.specs.Step.{enter, dispatch, anew, choice, is_same, leave, leav
 use Rattle.model.specs.Run.{state_after, is_asleep}
 use Rattle.model.specs.Invariant.{HasNumberBelow, AllNumbered, IsUsedBy, LoopsNest, IsReckoned, IsAt, IsState}
 use Rattle.model.proofs.Sorting.{by_test}
+use Rattle.model.proofs.Nesting.{least_work}
 use Rattle.model.proofs.Lines.{eqb-refl, eqb-same}
 use Rattle.model.proofs.Tables.{number_at, table-set, table-numbered}
 use Rattle.model.proofs.Chosen.{choice_within, line_within, switch-once}
@@ -40,17 +41,17 @@ stands_at d p [] op n e = absurd (cc)
 stands_at d zero (o ∷ ops) op n e = let same : o ≡ op = cc in rw (← same) n.0
 stands_at d (suc p) (o ∷ ops) op n e = stands_at d p ops op n e
 
-past : (d p : ℕ) (ops : List Op) (op : Op) → Nests d (drop p ops) → slice_get ops p ≡ Some op → Nests (depth_past d op) (drop (suc p) ops)
+past : (d p : ℕ) (ops : List Op) (op : Op) → Nests d (drop p ops) → slice_get ops p ≡ Some op → Nests (nesting_past d op) (drop (suc p) ops)
 past d p [] op n e = absurd (cc)
 past d zero (o ∷ ops) op n e = let same : o ≡ op = cc in rw (← same) n.1
 past d (suc p) (o ∷ ops) op n e = past d p ops op n e
 
-pub nests_past : (d p : ℕ) (ops : List Op) (op : Op) → Nests d (drop p ops) → slice_get ops p ≡ Some op → Nests (depth_past d op) (drop (p + 1) ops)
+pub nests_past : (d p : ℕ) (ops : List Op) (op : Op) → Nests d (drop p ops) → slice_get ops p ≡ Some op → Nests (nesting_past d op) (drop (p + 1) ops)
 nests_past d p ops op n e = rw add-one (past d p ops op n e)
 
 used_none : (p : ℕ) (ops : List Op) → AllByRecursion InRange ops → IsUsedBy 0 (slice_get ops p)
 used_none p [] h = tt
-used_none zero ((Work n) ∷ ops) h = let low = h.0.0 in omega arith
+used_none zero ((Work n) ∷ ops) h = let low = least_work n h.0 in omega arith
 used_none zero ((Delay n) ∷ ops) h = tt
 used_none zero ((DelayUntil n) ∷ ops) h = tt
 used_none zero (Yield ∷ ops) h = tt
@@ -204,15 +205,15 @@ module _ (app : Application) (formed : IsWellFormed app) where
         (λ e. rw e (changed s i (record t { place = place; used = 0 }) h l (rw same number_kept) (a t.status kept)))
 
     module _ (op : Op) (is : op_at app i (task_at s i).place ≡ Some op) where
-      past_it : Nests (depth_past (length (task_at s i).loops) op) (drop ((task_at s i).place + 1) (script_of app i))
+      past_it : Nests (nesting_past (length (task_at s i).loops) op) (drop ((task_at s i).place + 1) (script_of app i))
       past_it = nests_past (length (task_at s i).loops) (task_at s i).place (script_of app i) op (h.places i).nests is
 
       -- an op that opens or closes no loop, whatever the answer
-      plain : (a : Option ℕ) → depth_past (length (task_at s i).loops) op ≡ length (task_at s i).loops → IsState app (complete app i (record (task_at s i) { answer = a }) s)
+      plain : (a : Option ℕ) → nesting_past (length (task_at s i).loops) op ≡ length (task_at s i).loops → IsState app (complete app i (record (task_at s i) { answer = a }) s)
       plain a e = gone ((task_at s i).place + 1) (record (task_at s i) { answer = a }) refl refl (rw e at past_it) (h.places i).loops
 
   module _ (s : State) (i : ℕ) (op : Op) (h : IsState app s) (l : i < length s.tasks) (is : op_at app i (task_at s i).place ≡ Some op) where
-    answered : (a : Option ℕ) → depth_past (length (task_at s i).loops) op ≡ length (task_at s i).loops → IsState app (answer app i a s)
+    answered : (a : Option ℕ) → nesting_past (length (task_at s i).loops) op ≡ length (task_at s i).loops → IsState app (answer app i a s)
     unfolding answer
     answered a e = plain (write (Call i (task_at s i).place a) s) i (framed s _ s.steps s.stopped h) l op is a e
 
@@ -254,7 +255,7 @@ module _ (app : Application) (formed : IsWellFormed app) where
     closed_by e (x ∷ xs) same =
         let t : Task = task_at s i in
         let all : LoopsNest (script_of app i) (x ∷ xs) = rw same at (h.places i).loops in
-        let P : List Loop → Type 0 = λ us. Nests (depth_past (length us) op) (drop (t.place + 1) (script_of app i)) in
+        let P : List Loop → Type 0 = λ us. Nests (nesting_past (length us) op) (drop (t.place + 1) (script_of app i)) in
         let outer : Nests (length (x ∷ xs) - 1) (drop (t.place + 1) (script_of app i)) = rw e at (subst P same (past_it s i h l op is)) in
         let rest : Nests (length xs) (drop (t.place + 1) (script_of app i)) = let n : length (x ∷ xs) - 1 ≡ length xs = omega arith in rw n at outer in
         by_test (leb x.left 1)
