@@ -2,45 +2,40 @@
 ghost use Rattle.std.specs.Prelude.{◌≡◌, ◌≤◌, ◌<◌, ◌+◌, ◌++◌, map, length, Some, IfOk, IfSome, OnOk, option_to_list};
 ghost use Rattle.std.specs.List.{AllByRecursion};
 ghost use Rattle.toml.specs.View.{view, items_view};
-ghost use Rattle.model.specs.Scripts.{InRange, IsScript, IsDefinition, depth_after};
+ghost use Rattle.model.specs.Scripts.{InRange, IsScript, IsDefinition, nesting_after};
 ghost use Rattle.script.specs.Faults.{Judges, JudgesBy};
 ghost use Rattle.script.specs.Tasks.{raw_view};
-ghost use Rattle.script.specs.Ops.{op_named, op_fault, ops_fault, ops_named, scripts_fault, with_ops, depth_with};
+ghost use Rattle.script.specs.Ops.{op_named, op_fault, ops_fault, ops_named, scripts_fault, with_ops, nesting_with};
 
 use crate::fault::LoadFault;
 use crate::op_text::op_of;
 use crate::place::{Key, Place, Section};
 use crate::raw_task::RawTask;
-use crate::words::words_of;
 use model::{NestingFault, Op, Script, ScriptBuilder, TaskDefinition};
-use std::alloc::{AllocError, Global};
+use std::alloc::Global;
 use toml::Value;
 
 // The op that a value spells.
-fn op_in(alloc: Global, value: &Value) -> Result<Option<Op>, AllocError>
-    ensures { IfOk result (λ op. (op ≡ op_named (view value.now)) × IfSome op InRange) }
+fn op_in(value: &Value) -> Option<Op>
+    ensures op { result ≡ op_named (view value.now) }
+    ensures range { IfSome result InRange }
 {
-    let Some(text) = value.as_str() else {
-        return Ok(None);
-    };
-    let words = words_of(alloc, text.as_bytes())?;
-    Ok(op_of(words.as_slice()))
+    op_of(value.as_str()?.as_bytes())
 }
 
 // Appends the op that a value spells.
 fn push_op(
-    alloc: Global,
     builder: &mut ScriptBuilder,
     value: &Value,
     place: Place,
 ) -> Result<(), LoadFault>
     requires { length builder.old < 256 }
-    ensures checks { Judges result (op_fault place (depth_after 0 builder.old) (op_named (view value.now))) tt }
+    ensures checks { Judges result (op_fault place (nesting_after 0 builder.old) (op_named (view value.now))) tt }
     ensures pushed { OnOk result (builder.new ≡ builder.old ++ option_to_list (op_named (view value.now))) }
-    ensures depth { OnOk result (depth_after 0 builder.new ≡ depth_with (depth_after 0 builder.old) (op_named (view value.now))) }
+    ensures nesting { OnOk result (nesting_after 0 builder.new ≡ nesting_with (nesting_after 0 builder.old) (op_named (view value.now))) }
     ensures count { OnOk result (length builder.new ≡ length builder.old + 1) }
 {
-    let Some(op) = op_in(alloc, value)? else {
+    let Some(op) = op_in(value) else {
         return Err(LoadFault::BadOp(place));
     };
     match builder.push(op) {
@@ -58,7 +53,7 @@ fn script_of(alloc: Global, texts: &[Value], place: Place) -> Result<Script, Loa
 {
     let mut builder = ScriptBuilder::new(alloc);
     for (index, text) in texts.iter().enumerate() {
-        push_op(alloc, &mut builder, text, place.element(index))?;
+        push_op(&mut builder, text, place.element(index))?;
     }
     match builder.finish() {
         Some(script) => Ok(script),
