@@ -77,6 +77,7 @@ fn answer_of(word: &[u8]) -> Option<Option<u32>>
 }
 
 /// The words of a text that are still to be read.
+#[derive(Drop)]
 pub(crate) struct Words<'a> {
     text: &'a [u8],
 }
