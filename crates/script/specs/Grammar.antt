@@ -1,5 +1,5 @@
 -- The texts of ops: which words spell which op (profile).
-use Rattle.std.specs.Prelude.{◌≡◌, ◌⊎◌, ℕ, Bool, not, ◌&&◌, ◌==◌, nat_lt, nat_le, List, [], ◌∷◌, length, filter, codes, Option, Some, None, option_map, option_and_then, if◌then◌else◌}
+use Rattle.std.specs.Prelude.{◌≡◌, ◌⊎◌, ℕ, Bool, true, false, ◌&&◌, ◌==◌, nat_lt, nat_le, List, [], ◌∷◌, length, filter, codes, Option, Some, None, option_map, option_and_then, if◌then◌else◌}
 use Rattle.std.specs.Char.{is_ascii_digit}
 use Rattle.std.specs.List.{list_all, slice_split}
 use Rattle.std.specs.Str.{bytes_eq}
@@ -14,8 +14,10 @@ use Rattle.model.specs.Scripts.{is_in_range, InRange}
 abbrev pub Word : Type 0
 Word = List ℕ
 
+-- an empty piece is none
 abbrev pub is_word : Word → Bool
-is_word w = not (length w == 0)
+is_word [] = false
+is_word (b ∷ bs) = true
 
 -- the words of a text, which stand between spaces (profile)
 abbrev pub words_of : List ℕ → List Word

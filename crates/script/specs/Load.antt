@@ -1,7 +1,7 @@
 -- All checks of a document in their order, and the application that it names.
 use Rattle.std.specs.Prelude.{[], ◌∷◌, codes, map, Option, Some, None, option_and_then}
 use Rattle.toml.specs.Data.{Data, Members, as_table, get_member}
-use Rattle.model.specs.Application.{Application, Bounds}
+use Rattle.model.specs.Application.{Application, Limits}
 use Rattle.script.specs.declared.fault.LoadFault.{LoadFault}
 use Rattle.script.specs.declared.fault.LoadFault.TheVariants.{WrongKind}
 use Rattle.script.specs.declared.place.Section.TheVariants as section
@@ -22,7 +22,7 @@ abbrev pub limits_fault : Option Data → Option LoadFault
 limits_fault None = None
 limits_fault (Some d) = limits_table_fault (as_table d)
 
-abbrev pub limits_named : Option Data → Bounds
+abbrev pub limits_named : Option Data → Limits
 limits_named d = record {
   ticks = optional_named 1000000 (member_of (codes "ticks") (option_and_then as_table d));
   steps = optional_named 1000000 (member_of (codes "steps") (option_and_then as_table d));

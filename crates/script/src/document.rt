@@ -3,8 +3,7 @@ ghost use Rattle.std.specs.Prelude.{Option};
 ghost use Rattle.toml.specs.Data.{Members};
 ghost use Rattle.toml.specs.View.{table_view};
 ghost use Rattle.script.specs.declared.fault.LoadFault.{LoadFault};
-ghost use Rattle.model.specs.Trace.{bounds_of};
-ghost use Rattle.script.specs.Faults.{Judges, JudgesBy};
+ghost use Rattle.script.specs.Faults.{Judges};
 ghost use Rattle.script.specs.Values.{data_of};
 ghost use Rattle.script.specs.Load.{limits_fault, limits_named, load_fault, app_named};
 
@@ -18,7 +17,7 @@ use std::alloc::Global;
 use toml::{Table, Value};
 
 fn limits(value: Option<&Value>) -> Result<Limits, LoadFault>
-    ensures { JudgesBy bounds_of result (limits_fault (data_of value.entry)) (limits_named (data_of value.entry)) }
+    ensures { Judges result (limits_fault (data_of value.entry)) (limits_named (data_of value.entry)) }
 {
     let Some(value) = value else {
         return Ok(Limits {

@@ -1,5 +1,6 @@
 //! Which text spells which op.
 ghost use Rattle.std.specs.Prelude.{◌≡◌, List, ℕ, None, Some, IfSome, MatchOption, option_and_then};
+ghost use Rattle.std.specs.Str.{bytes_eq};
 ghost use Rattle.model.specs.declared.op.Op.{Op};
 ghost use Rattle.model.specs.Scripts.{InRange};
 ghost use Rattle.script.specs.Grammar.{words_of, Done, forms, read, read_by, if_in_range, op_of, Spells};
@@ -7,22 +8,37 @@ ghost use Rattle.script.specs.Grammar.{words_of, Done, forms, read, read_by, if_
 use crate::words::Words;
 use model::Op;
 
+fn is(word: &[u8], name: &str) -> bool
+    ensures { result ≡ bytes_eq word.now name.now }
+{
+    word == name.as_bytes()
+}
+
 // The op of this word, whose arguments are the next words.
 fn op_after(word: &[u8], words: &mut Words<'_>) -> Option<Op>
     ensures { MatchOption result (option_and_then if_in_range (read_by forms word.now words.old) ≡ None)
         (λ op. read_by forms word.now words.old ≡ read (Done op) words.new) }
 {
-    match word {
-        b"work" => Some(Op::Work(words.number()?)),
-        b"delay" => Some(Op::Delay(words.number()?)),
-        b"delay_until" => Some(Op::DelayUntil(words.number()?)),
-        b"yield" => Some(Op::Yield),
-        b"time" => Some(Op::Time),
-        b"mark" => Some(Op::Mark(words.number()?)),
-        b"expect" => Some(Op::Expect(words.answer()?)),
-        b"repeat" => Some(Op::Repeat(u16::try_from(words.number()?).ok()?)),
-        b"end" => Some(Op::End),
-        _ => None,
+    if is(word, "work") {
+        Some(Op::Work(words.number()?))
+    } else if is(word, "delay") {
+        Some(Op::Delay(words.number()?))
+    } else if is(word, "delay_until") {
+        Some(Op::DelayUntil(words.number()?))
+    } else if is(word, "yield") {
+        Some(Op::Yield)
+    } else if is(word, "time") {
+        Some(Op::Time)
+    } else if is(word, "mark") {
+        Some(Op::Mark(words.number()?))
+    } else if is(word, "expect") {
+        Some(Op::Expect(words.answer()?))
+    } else if is(word, "repeat") {
+        Some(Op::Repeat(u16::try_from(words.number()?).ok()?))
+    } else if is(word, "end") {
+        Some(Op::End)
+    } else {
+        None
     }
 }
 

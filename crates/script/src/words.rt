@@ -21,11 +21,15 @@ fn trim_start(text: &[u8]) -> &[u8]
 
 // Where the first space of a text stands, or the text ends.
 fn word_length(text: &[u8]) -> usize
-    ensures { result ≡ position_or_len (λ b. b == 32) text.now }
+    ensures space { result ≡ position_or_len (λ b. b == 32) text.now }
+    ensures within { result ≤ length text.now }
 {
-    text.iter()
-        .position(|byte| *byte == b' ')
-        .unwrap_or(text.len())
+    for (index, byte) in text.iter().enumerate() {
+        if *byte == b' ' {
+            return index;
+        }
+    }
+    text.len()
 }
 
 fn are_digits(bytes: &[u8]) -> bool
