@@ -5,6 +5,28 @@ use Rattle.model.specs.declared.op.Op.{Op}
 use Rattle.model.specs.declared.op.Op.TheVariants.{Work, DelayUntil, Repeat, End}
 use Rattle.model.specs.Application.{Application, Definition}
 
+-- ---- how many there may be (profile)
+
+-- of tasks of an application, whose number FreeRTOS leaves to memory
+abbrev pub most_tasks : ℕ
+most_tasks = 32
+
+-- of bytes of a name
+abbrev pub most_name_bytes : ℕ
+most_name_bytes = 16
+
+-- of priorities, as `configMAX_PRIORITIES` has them
+abbrev pub priorities : ℕ
+priorities = 32
+
+-- of ops of a script
+abbrev pub most_ops : ℕ
+most_ops = 256
+
+-- of loops that are open at once
+abbrev pub most_loops : ℕ
+most_loops = 4
+
 -- ---- numbers
 
 -- a number from this least to this most
@@ -31,9 +53,9 @@ nesting_past nesting (Repeat n) = nesting + 1
 nesting_past nesting End = nesting - 1
 nesting_past nesting _ = nesting
 
--- An op may stand where so many loops are open: no fifth loop, and no end without a loop (profile).
+-- An op may stand where so many loops are open: no loop past the most, and no end without a loop (profile).
 abbrev pub may_stand : ℕ → Op → Bool
-may_stand nesting (Repeat n) = nat_lt nesting 4
+may_stand nesting (Repeat n) = nat_lt nesting most_loops
 may_stand nesting End = nat_lt 0 nesting
 may_stand nesting _ = true
 
@@ -56,25 +78,25 @@ nesting_after nesting (op ∷ ops) = nesting_after (nesting_past nesting op) ops
 pub record IsScript (ops : List Op) : Type 0 where
   pub ranges : AllByRecursion InRange ops
   pub nests : Nests 0 ops
-  pub few : length ops ≤ 256
+  pub few : length ops ≤ most_ops
 
 -- the beginning of a script
 pub record IsPrefix (ops : List Op) : Type 0 where
   pub ranges : AllByRecursion InRange ops
   pub nests : NestsSoFar 0 ops
-  pub few : length ops ≤ 256
+  pub few : length ops ≤ most_ops
 
 -- ---- the application
 
 -- a task that an application may have (profile: its limits)
 pub record IsDefinition (task : Definition) : Type 0 where
-  pub name : length task.name ≤ 16
-  pub priority : task.priority < 32
+  pub name : length task.name ≤ most_name_bytes
+  pub priority : task.priority < priorities
   pub script : IsScript task.script
 
 -- an application that is not refused (profile: its limits)
 pub record IsWellFormed (app : Application) : Type 0 where
   pub some : 1 ≤ length app.tasks
-  pub few : length app.tasks ≤ 32
+  pub few : length app.tasks ≤ most_tasks
   pub tasks : AllByRecursion IsDefinition app.tasks
   pub start : app.start < 4294967296

@@ -9,7 +9,7 @@ use Rattle.script.specs.declared.fault.LoadFault.TheVariants.{BadOp, BadNesting}
 use Rattle.script.specs.declared.place.Place.{Place}
 use Rattle.script.specs.declared.place.Section.TheVariants as section
 use Rattle.script.specs.declared.place.Key.TheVariants as key
-use Rattle.script.specs.Faults.{first, fails_if, at_field, at_element}
+use Rattle.script.specs.Faults.{first_fault, fails_if, at_field, at_element}
 use Rattle.script.specs.Grammar.{words_of, op_of}
 use Rattle.script.specs.Tasks.{Raw}
 
@@ -17,6 +17,7 @@ use Rattle.script.specs.Tasks.{Raw}
 abbrev pub op_spelled : List ℕ → Option Op
 op_spelled text = op_of (words_of text)
 
+-- the op of a value that is a text
 abbrev pub op_named : Data → Option Op
 op_named d = option_and_then op_spelled (as_str d)
 
@@ -30,22 +31,23 @@ abbrev pub nesting_with : ℕ → Option Op → ℕ
 nesting_with nesting None = nesting
 nesting_with nesting (Some op) = nesting_past nesting op
 
--- each op from the one numbered n on, where so many loops are open, and at the end that none is
+-- Each op from this index on may stand where so many loops are open, and at the end none is.
 abbrev pub ops_fault : Place → ℕ → ℕ → Items → Option LoadFault
 ops_fault p n nesting no_items = fails_if (nat_lt 0 nesting) (BadNesting (at_element p n))
-ops_fault p n nesting (item d ds) = first (
+ops_fault p n nesting (item d ds) = first_fault (
     op_fault (at_element p n) nesting (op_named d)
     ∷ ops_fault p (n + 1) (nesting_with nesting (op_named d)) ds
     ∷ [])
 
+-- the ops that they name
 abbrev pub ops_named : Items → List Op
 ops_named no_items = []
 ops_named (item d ds) = option_to_list (op_named d) ++ ops_named ds
 
--- the scripts of the tasks from the one numbered i on
+-- the scripts of the tasks from this index on
 abbrev pub scripts_fault : ℕ → List Raw → Option LoadFault
 scripts_fault i [] = None
-scripts_fault i (t ∷ ts) = first (
+scripts_fault i (t ∷ ts) = first_fault (
     ops_fault (at_field section.Task i key.Script) 0 0 t.script
     ∷ scripts_fault (i + 1) ts
     ∷ [])
