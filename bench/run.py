@@ -3,9 +3,9 @@
 
     run.py [PROGRAM [OTHER]]
 
-Prints for each file the best and the median wall time of a few runs, the steps a second of the best, and the peak memory. The
-program is crates/rtosim/out/rtosim, as bin/rtosim builds it, or PROGRAM. With OTHER, the runs of the two take turns, and a
-line gives the times of PROGRAM as parts of OTHER's."""
+Prints for each file the best and the median wall time of nine runs, the steps a second of the best, and the peak
+memory. The program is crates/rtosim/out/rtosim, as bin/rtosim builds it, or PROGRAM. With OTHER, the runs of the two
+take turns, and a line gives PROGRAM's times as multiples of OTHER's."""
 import ctypes
 import os
 import re
@@ -53,7 +53,7 @@ def main():
             print(f"{name}: best {best:.3f} s, median {median:.3f} s, {speed} ({os.path.relpath(program)})")
         if len(times) == 2:
             best, median = (ours / theirs for ours, theirs in zip(*times))
-            print(f"{name}: best {best:.3f}, median {median:.3f} of the other's")
+            print(f"{name}: best {best:.3f}, median {median:.3f} times the other's")
 
 
 if __name__ == "__main__":

@@ -14,8 +14,9 @@ def equal(found, wanted):
     if found == wanted:
         return
     if isinstance(found, bytes) and isinstance(wanted, bytes) and len(found) + len(wanted) > 400:
-        at = next((i for i, (one, other) in enumerate(zip(found, wanted)) if one != other), min(len(found), len(wanted)))
-        raise AssertionError(f"from byte {at} of {len(found)} on {found[at : at + 60]!r}, and not {wanted[at : at + 60]!r} of {len(wanted)}")
+        at = len(os.path.commonprefix([found, wanted]))
+        there, wanted_there = found[at : at + 60], wanted[at : at + 60]
+        raise AssertionError(f"{len(found)} bytes and not {len(wanted)}, from byte {at} on {there!r} and not {wanted_there!r}")
     raise AssertionError(f"{found!r}, and not {wanted!r}")
 
 
