@@ -3,14 +3,11 @@ ghost use Rattle.std.specs.Prelude.{◌≡◌, false};
 ghost use Rattle.std.specs.List.{flat_map};
 ghost use Rattle.model.specs.Trace.{lines_of, ending_of};
 ghost use Rattle.std.specs.Result.{is_err};
-ghost use Rattle.report.specs.Bytes.{Writes, Adds};
+ghost use Rattle.byte_io.specs.Bytes.{Writes, Adds};
 ghost use Rattle.report.specs.Text.{event_text, head_text, run_text};
 
-use crate::add::{flush, make_room};
-use crate::bytes::Sink;
-use crate::page::Page;
-use crate::put::WriteFault;
 use crate::text::{LINE, push_head, push_line};
+use byte_io::{Page, Sink, WriteFault, flush, make_room};
 use model::{App, End, Event};
 
 fn add_head<W: Sink>(

@@ -4,10 +4,11 @@ ghost use Rattle.model.specs.Application.{name_of};
 ghost use Rattle.model.specs.Trace.{told_by, line_of, ending_of};
 ghost use Rattle.report.specs.Text.{word_at, answer_text, what_text, line_text, verdict_text, head_text};
 
-use crate::page::Page;
+use byte_io::Page;
 use model::{App, End, Event, TaskId, What};
 
-// The bytes that a line has at most.
+// The bytes that a line has at most. The longest is that of a call: two numbers of 10 digits, two spaces, at most 64 bytes of
+// what happened, and a line feed. A head has its verdict of at most 64 bytes, two numbers, and 26 bytes of words.
 pub(crate) const LINE: usize = 128;
 
 // The name of a task.

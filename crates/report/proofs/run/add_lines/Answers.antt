@@ -1,6 +1,6 @@
 use Rattle.std.specs.List.{flat_map}
 use Rattle.report.specs.Text.{event_text}
-use Rattle.report.proofs.Sending.{Sent_item, SentFront_item, Adds_failed}
+use Rattle.byte_io.proofs.Sending.{Sent_item, SentFront_item, Adds_failed}
 use Rattle.report.proofs.run.add_lines.Goals as goal
 
 pub returns-in_err-add_line-clause-text : goal.returns-in_err-add_line-clause-text

@@ -1,6 +1,6 @@
 use Rattle.std.proofs.Common.{◌≡◌, false, ◌++◌, drop}
 use Rattle.std.specs.List.{flat_map}
-use Rattle.report.specs.Bytes.{Sent}
+use Rattle.byte_io.specs.Bytes.{Sent}
 use Rattle.report.specs.Text.{event_text}
 use Rattle.report.proofs.run.add_lines.Given as goal
 

@@ -1,7 +1,7 @@
 use Rattle.std.proofs.lemmas.List.Folds.{flat_map-map}
 use Rattle.model.specs.Trace.{line_of, ending_of}
 use Rattle.report.specs.Text.{head_text, line_text}
-use Rattle.report.proofs.Sending.{Adds_stopped, Adds_two}
+use Rattle.byte_io.proofs.Sending.{Adds_stopped, Adds_two}
 use Rattle.report.proofs.run.add_run.Goals as goal
 
 pub returns-in_err-add_head-clause-text : goal.returns-in_err-add_head-clause-text
