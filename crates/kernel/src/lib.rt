@@ -9,8 +9,6 @@ mod outcome;
 mod slot;
 mod steps;
 mod switching;
-#[cfg(test)]
-mod tests;
 
 pub use kernel::{Kernel, StepLog};
 pub use outcome::{Memory, Run};

@@ -1,80 +1,79 @@
-//! The kernel as its definitions tell it: one table of tasks, with the numbers of their order. Every question is a search
-//! of the table. It is slow, and says plainly what the kernel over lists has to do.
+//! The kernel as its definitions tell it: one table of tasks, each with its ticket. Every question is a search of the table.
+//! It is slow, and says plainly what the kernel over lists has to do.
 
-use crate::Memory;
 use model::{App, End, Event, Limits, Loop, Op, TaskId, What};
 use std::alloc::Global;
 
 #[derive(Clone, Copy, Debug)]
 enum Status {
-    /// In line since this number of the rising count.
+    /// In the ready list, with this ticket.
     Ready(u64),
-    Asleep { moment: u64, begun: u64 },
+    Asleep { wake_time: u64, ticket: u64 },
     Ended,
 }
 
 #[derive(Clone, Copy, Debug)]
 struct Task {
     priority: u8,
-    place: u16,
+    op_index: u16,
     used: u32,
     loops: [Loop; 4],
-    depth: usize,
+    nesting: usize,
     answer: Option<u32>,
-    previous: u64,
+    previous_wake: u64,
     status: Status,
 }
 
 #[derive(Drop)]
-pub(super) struct SlowKernel {
+pub(crate) struct SlowKernel {
     tasks: [Task; 32],
     time: u64,
-    pub(super) elapsed: u32,
-    running: Option<TaskId>,
-    next: u64,
-    pub(super) steps: u32,
+    pub(crate) elapsed: u32,
+    current: Option<TaskId>,
+    next_ticket: u64,
+    pub(crate) steps: u32,
     stopped: Option<End>,
-    pub(super) events: Vec<Event>,
+    pub(crate) events: Vec<Event>,
     is_out_of_memory: bool,
 }
 
 impl SlowKernel {
     /// The kernel at reset.
-    pub(super) fn boot(alloc: Global, app: &App) -> Self {
+    pub(crate) fn boot(alloc: Global, app: &App) -> Self {
         let no_task = Task {
             priority: 0,
-            place: 0,
+            op_index: 0,
             used: 0,
             loops: [Loop::default(); 4],
-            depth: 0,
+            nesting: 0,
             answer: None,
-            previous: app.start() as u64,
+            previous_wake: app.start() as u64,
             status: Status::Ended,
         };
         let mut kernel = SlowKernel {
             tasks: [no_task; 32],
             time: app.start() as u64,
             elapsed: 0,
-            running: None,
-            next: 0,
+            current: None,
+            next_ticket: 0,
             steps: 0,
             stopped: None,
             events: Vec::new(alloc),
             is_out_of_memory: false,
         };
-        kernel.enter_all(app);
-        kernel.running = kernel.choice();
+        kernel.make_all_ready(app);
+        kernel.current = kernel.choice();
         kernel
     }
 
-    fn enter_all(&mut self, app: &App) {
+    fn make_all_ready(&mut self, app: &App) {
         for number in 0..32 {
             let task = TaskId { number };
             if let Some(definition) = app.tasks().get(number as usize) {
                 self.tasks[number as usize].priority = definition.priority();
             }
             if app.op_count(task) > 0 {
-                self.enter(task);
+                self.make_ready(task);
             }
         }
     }
@@ -87,9 +86,9 @@ impl SlowKernel {
         self.tasks[task.number as usize] = now;
     }
 
-    fn next_number(&mut self) -> u64 {
-        self.next = self.next.wrapping_add(1);
-        self.next
+    fn take_ticket(&mut self) -> u64 {
+        self.next_ticket = self.next_ticket.wrapping_add(1);
+        self.next_ticket
     }
 
     /// The printed tick.
@@ -106,9 +105,9 @@ impl SlowKernel {
         self.is_out_of_memory |= self.events.push(event).is_err();
     }
 
-    /// The task goes to the back of its line.
-    fn enter(&mut self, task: TaskId) {
-        let status = Status::Ready(self.next_number());
+    /// The task is Ready, behind all others of its priority.
+    fn make_ready(&mut self, task: TaskId) {
+        let status = Status::Ready(self.take_ticket());
         self.set(
             task,
             Task {
@@ -122,7 +121,7 @@ impl SlowKernel {
         matches!(self.task(task).status, Status::Ready(_))
     }
 
-    /// Whether the first of two Ready tasks, by priority and number, comes before the other.
+    /// Whether one of two Ready tasks, by priority and ticket, comes before the other.
     fn is_before(one: (u8, u64), other: (u8, u64)) -> bool {
         one.0 > other.0 || (one.0 == other.0 && one.1 < other.1)
     }
@@ -131,10 +130,10 @@ impl SlowKernel {
         let mut best = None;
         for number in 0..32 {
             let task = self.task(TaskId { number });
-            let Status::Ready(entered) = task.status else {
+            let Status::Ready(ticket) = task.status else {
                 continue;
             };
-            let key = (task.priority, entered);
+            let key = (task.priority, ticket);
             if best.is_none_or(|(_, other)| Self::is_before(key, other)) {
                 best = Some((TaskId { number }, key));
             }
@@ -143,22 +142,22 @@ impl SlowKernel {
     }
 
     /// The choice runs.
-    fn anew(&mut self) {
+    fn choose(&mut self) {
         let choice = self.choice();
-        if choice != self.running {
-            self.running = choice;
+        if choice != self.current {
+            self.current = choice;
             self.write(What::Run(choice));
         }
     }
 
     /// Whether a Ready task is above the running one, or another has its priority.
-    fn gives_way(&self) -> bool {
+    fn is_slice_over(&self) -> bool {
         for number in 0..32 {
             let other = TaskId { number };
             if !self.is_ready(other) {
                 continue;
             }
-            let Some(task) = self.running else {
+            let Some(task) = self.current else {
                 return true;
             };
             let (mine, its) = (self.task(task).priority, self.task(other).priority);
@@ -169,54 +168,58 @@ impl SlowKernel {
         false
     }
 
-    /// The end of a tick.
-    fn switch(&mut self) {
-        if !self.gives_way() {
-            return;
+    /// The running task goes behind the others of its priority, and the choice runs.
+    fn yield_now(&mut self) {
+        if let Some(task) = self.current {
+            self.to_back(task);
         }
-        if let Some(task) = self.running {
-            self.behind(task);
-        }
-        self.anew();
+        self.choose();
     }
 
-    /// The sleeper whose moment is now that began first.
+    /// The end of a tick.
+    fn slice(&mut self) {
+        if self.is_slice_over() {
+            self.yield_now();
+        }
+    }
+
+    /// The sleeper whose wake time is now that began first.
     fn first_due(&self) -> Option<TaskId> {
         let mut best = None;
         for number in 0..32 {
-            if let Status::Asleep { moment, begun } = self.task(TaskId { number }).status {
-                if moment == self.time && best.is_none_or(|(_, other)| begun < other) {
-                    best = Some((TaskId { number }, begun));
+            if let Status::Asleep { wake_time, ticket } = self.task(TaskId { number }).status {
+                if wake_time == self.time && best.is_none_or(|(_, other)| ticket < other) {
+                    best = Some((TaskId { number }, ticket));
                 }
             }
         }
         best.map(|(task, _)| task)
     }
 
-    fn wake(&mut self) {
+    fn wake_due(&mut self) {
         for _ in 0..32 {
             let Some(task) = self.first_due() else {
                 return;
             };
-            self.enter(task);
+            self.make_ready(task);
         }
     }
 
     fn tick(&mut self) {
         self.time = self.time.wrapping_add(1);
         self.elapsed = self.elapsed.wrapping_add(1);
-        self.wake();
-        self.switch();
+        self.wake_due();
+        self.slice();
     }
 
     /// The task, which is now as given, goes on at this op.
-    fn go_to(&mut self, app: &App, id: TaskId, place: u16, task: Task) {
-        let is_past = place as usize == app.op_count(id);
+    fn go_to(&mut self, app: &App, id: TaskId, op_index: u16, task: Task) {
+        let is_past = op_index as usize == app.op_count(id);
         let status = if is_past { Status::Ended } else { task.status };
         self.set(
             id,
             Task {
-                place,
+                op_index,
                 used: 0,
                 status,
                 ..task
@@ -225,25 +228,25 @@ impl SlowKernel {
     }
 
     fn complete(&mut self, app: &App, id: TaskId, task: Task) {
-        self.go_to(app, id, task.place.wrapping_add(1), task);
+        self.go_to(app, id, task.op_index.wrapping_add(1), task);
     }
 
     fn answer(&mut self, app: &App, id: TaskId, answer: Option<u32>) {
         let task = self.task(id);
-        self.write(What::Call(id, task.place, answer));
+        self.write(What::Call(id, task.op_index, answer));
         self.complete(app, id, Task { answer, ..task });
     }
 
-    fn behind(&mut self, id: TaskId) {
+    fn to_back(&mut self, id: TaskId) {
         if self.is_ready(id) {
-            self.enter(id);
+            self.make_ready(id);
         }
     }
 
-    fn sleep(&mut self, id: TaskId, moment: u64) {
+    fn sleep(&mut self, id: TaskId, wake_time: u64) {
         if self.is_ready(id) {
-            let begun = self.next_number();
-            let status = Status::Asleep { moment, begun };
+            let ticket = self.take_ticket();
+            let status = Status::Asleep { wake_time, ticket };
             self.set(
                 id,
                 Task {
@@ -268,27 +271,25 @@ impl SlowKernel {
     fn delay(&mut self, app: &App, id: TaskId, ticks: u32) {
         self.answer(app, id, Some(0));
         if ticks == 0 {
-            self.behind(id);
+            self.yield_now();
         } else {
             self.sleep(id, self.time.wrapping_add(ticks as u64));
         }
-        self.anew();
     }
 
     fn delay_until(&mut self, app: &App, id: TaskId, ticks: u32) {
-        let moment = self.task(id).previous.wrapping_add(ticks as u64);
-        let sleeps = moment > self.time;
+        let wake_time = self.task(id).previous_wake.wrapping_add(ticks as u64);
+        let sleeps = wake_time > self.time;
         self.answer(app, id, Some(sleeps as u32));
         self.set(
             id,
             Task {
-                previous: moment,
+                previous_wake: wake_time,
                 ..self.task(id)
             },
         );
         if sleeps {
-            self.sleep(id, moment);
-            self.anew();
+            self.sleep(id, wake_time);
         }
     }
 
@@ -297,24 +298,24 @@ impl SlowKernel {
         if task.answer == wanted {
             self.complete(app, id, task);
         } else {
-            self.stopped = Some(End::Check(id, task.place));
+            self.stopped = Some(End::Check(id, task.op_index));
         }
     }
 
     fn open_loop(&mut self, app: &App, id: TaskId, turns: u16) {
         let mut task = self.task(id);
-        let depth = task.depth;
-        let start = task.place.wrapping_add(1);
-        if let Some(cell) = task.loops.get_mut(depth) {
+        let nesting = task.nesting;
+        let start = task.op_index.wrapping_add(1);
+        if let Some(cell) = task.loops.get_mut(nesting) {
             *cell = Loop { start, left: turns };
         }
-        task.depth = depth.wrapping_add(1);
+        task.nesting = nesting.wrapping_add(1);
         self.complete(app, id, task);
     }
 
     fn close_turn(&mut self, app: &App, id: TaskId) {
         let mut task = self.task(id);
-        let outer = task.depth.wrapping_sub(1);
+        let outer = task.nesting.wrapping_sub(1);
         let innermost = task.loops.get(outer).copied().unwrap_or_default();
         if innermost.left > 1 {
             if let Some(cell) = task.loops.get_mut(outer) {
@@ -322,7 +323,7 @@ impl SlowKernel {
             }
             self.go_to(app, id, innermost.start, task);
         } else {
-            task.depth = outer;
+            task.nesting = outer;
             self.complete(app, id, task);
         }
     }
@@ -334,8 +335,7 @@ impl SlowKernel {
             Op::DelayUntil(ticks) => self.delay_until(app, id, ticks),
             Op::Yield => {
                 self.answer(app, id, Some(0));
-                self.behind(id);
-                self.anew();
+                self.yield_now();
             }
             Op::Time => self.answer(app, id, Some(self.tick_now())),
             Op::Mark(number) => {
@@ -349,16 +349,16 @@ impl SlowKernel {
     }
 
     fn step(&mut self, app: &App) {
-        match self.running {
+        match self.current {
             None => self.tick(),
             Some(id) => {
-                if let Some(op) = app.op(id, self.task(id).place) {
+                if let Some(op) = app.op(id, self.task(id).op_index) {
                     self.act(app, id, op);
                 }
             }
         }
-        if self.running.is_some_and(|id| !self.is_ready(id)) {
-            self.anew();
+        if self.current.is_some_and(|id| !self.is_ready(id)) {
+            self.choose();
         }
         self.steps = self.steps.wrapping_add(1);
     }
@@ -385,24 +385,24 @@ impl SlowKernel {
             Some(End::Ticks)
         } else if self.steps >= limits.steps {
             Some(End::Steps)
-        } else if self.running.is_none() && !self.is_any_asleep() {
+        } else if self.current.is_none() && !self.is_any_asleep() {
             Some(End::Stuck)
         } else {
             None
         }
     }
 
-    /// Goes on to the end of the run.
-    pub(super) fn run(&mut self, app: &App, limits: &Limits) -> Result<End, Memory> {
+    /// Goes on to the end of the run; `None` where no memory is left.
+    pub(crate) fn run(&mut self, app: &App, limits: &Limits) -> Option<End> {
         for _ in 0..limits.steps {
             if let Some(end) = self.end(limits) {
-                return Ok(end);
+                return Some(end);
             }
             self.step(app);
             if self.is_out_of_memory {
-                return Err(Memory);
+                return None;
             }
         }
-        Ok(self.end(limits).unwrap_or(End::Steps))
+        Some(self.end(limits).unwrap_or(End::Steps))
     }
 }

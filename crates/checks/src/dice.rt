@@ -7,8 +7,8 @@ use std::alloc::Global;
 
 /// Numbers that follow from a seed.
 #[derive(Drop)]
-pub(super) struct Dice {
-    pub(super) state: u32,
+pub(crate) struct Dice {
+    pub(crate) state: u32,
 }
 
 impl Dice {
@@ -54,21 +54,23 @@ impl Dice {
         script.finish()
     }
 
-    fn task(&mut self, alloc: Global) -> Option<TaskDefinition>
+    fn task(&mut self, alloc: Global, name: &str) -> Option<TaskDefinition>
+        requires { length name.now ≤ 16 }
         ensures { IfSome result (λ task. IsDefinition task) }
     {
         let priority = self.roll(3) as u8;
         let script = self.script(alloc)?;
-        Some(TaskDefinition::new(String::new(alloc), priority, script))
+        let name = String::from_str(alloc, name).ok()?;
+        Some(TaskDefinition::new(name, priority, script))
     }
 
     /// Four tasks of priorities 0 to 2, shortly before the tick wraps.
-    pub(super) fn app(&mut self, alloc: Global) -> Option<App> {
+    pub(crate) fn app(&mut self, alloc: Global) -> Option<App> {
         let mut tasks = Vec::new(alloc);
-        tasks.push(self.task(alloc)?).ok()?;
-        tasks.push(self.task(alloc)?).ok()?;
-        tasks.push(self.task(alloc)?).ok()?;
-        tasks.push(self.task(alloc)?).ok()?;
+        tasks.push(self.task(alloc, "a")?).ok()?;
+        tasks.push(self.task(alloc, "b")?).ok()?;
+        tasks.push(self.task(alloc, "c")?).ok()?;
+        tasks.push(self.task(alloc, "d")?).ok()?;
         let start = u32::MAX - self.roll(8);
         let limits = Limits::new(10 + self.roll(50), 20 + self.roll(200))?;
         Some(App::new(start, limits, tasks))

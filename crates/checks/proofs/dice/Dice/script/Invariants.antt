@@ -1,5 +1,5 @@
 use Rattle.std.proofs.Common.{◌≤◌, length}
-use Rattle.kernel.proofs.tests.apps.Dice.script.Given as goal
+use Rattle.checks.proofs.dice.Dice.script.Given as goal
 
 abbrev pub invariant-loop : goal.invariant-loop
 invariant-loop l = length l.script ≤ l.counter
