@@ -1,10 +1,9 @@
 pub mod Nesting
 pub mod Sorting
-pub mod Lines
+pub mod Lists
 pub mod Tables
 pub mod Chosen
-pub mod Reached
+pub mod Frames
+pub mod InScripts
 pub mod Settled
-pub mod Ticking
-pub mod Examples
-pub mod Words
+pub mod Reached

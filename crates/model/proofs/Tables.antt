@@ -1,47 +1,65 @@
--- The table stays in order: numbers are below the next one, and so on.
-use Rattle.std.proofs.Common.{◌<◌, ◌+◌, ℕ, zero, suc, List, [], ◌∷◌, arith, get_or, set}
+-- The table stays in order: tickets are below the next one, and so on.
+use Rattle.std.proofs.Common.{◌<◌, ◌+◌, ℕ, zero, suc, List, [], ◌∷◌, Option, Some, None, arith, get_or, set}
 use Rattle.std.specs.List.{AllByRecursion, cons_option}
+use Rattle.std.specs.Option.{IfSome}
 use Rattle.std.proofs.Math.ListN.{length-set}
-use Rattle.model.specs.State.{State, Task, Status, Ready, Asleep, Ended, task_at, with_task, no_task}
+use Rattle.model.specs.State.{State, Task, Status, Ready, Asleep, Ended, ticket_of, task_at, with_task, take_ticket, no_task}
 use Rattle.model.specs.Order.{Key}
-use Rattle.model.specs.Step.{enter, ready_key, ready_status_key, sleep_key, sleep_status_key}
-use Rattle.model.specs.Invariant.{HasNumberBelow, AllNumbered, IsTable}
-use Rattle.model.proofs.Lines.{Below}
+use Rattle.model.specs.Switching.{ready_key, make_ready}
+use Rattle.model.specs.Time.{delayed_key}
+use Rattle.model.specs.Invariant.{HasTicketBelow, AllTicketsBelow, IsTable}
+use Rattle.model.proofs.Lists.{Below}
 
-pub below_ready : (n : ℕ) (ts : List Task) → AllNumbered n ts → Below ready_key n ts
+abbrev KeyBelow : ℕ → Option Key → Type 0
+KeyBelow n key = AllByRecursion (λ (k : Key). k.ticket < n) (cons_option key [])
+
+ready_below : (n : ℕ) (t : Task) (u : Status) → HasTicketBelow n u → KeyBelow n (ready_key (record t { status = u }))
+ready_below n t (Ready m) b = (b, tt)
+ready_below n t (Asleep w m) b = tt
+ready_below n t Ended b = tt
+
+delayed_below : (n : ℕ) (t : Task) (u : Status) → HasTicketBelow n u → KeyBelow n (delayed_key (record t { status = u }))
+delayed_below n t (Ready m) b = tt
+delayed_below n t (Asleep w m) b = (b, tt)
+delayed_below n t Ended b = tt
+
+pub below_ready : (n : ℕ) (ts : List Task) → AllTicketsBelow n ts → Below ready_key n ts
 below_ready n [] h = tt
-below_ready n (t ∷ ts) h = ((elim (t.status) as (λ s. HasNumberBelow n s → AllByRecursion (λ (k : Key). k.number < n) (cons_option (ready_status_key t.priority s) [])) [ Ready m ↦ λ b. (b, tt) | Asleep m b ↦ λ _. tt | Ended ↦ λ _. tt ]) h.0, below_ready n ts h.1)
+below_ready n (t ∷ ts) h = (ready_below n t t.status h.0, below_ready n ts h.1)
 
-pub below_sleep : (n : ℕ) (ts : List Task) → AllNumbered n ts → Below sleep_key n ts
-below_sleep n [] h = tt
-below_sleep n (t ∷ ts) h = ((elim (t.status) as (λ s. HasNumberBelow n s → AllByRecursion (λ (k : Key). k.number < n) (cons_option (sleep_status_key s) [])) [ Ready m ↦ λ _. tt | Asleep m b ↦ λ l. (l, tt) | Ended ↦ λ _. tt ]) h.0, below_sleep n ts h.1)
+pub below_delayed : (n : ℕ) (ts : List Task) → AllTicketsBelow n ts → Below delayed_key n ts
+below_delayed n [] h = tt
+below_delayed n (t ∷ ts) h = (delayed_below n t t.status h.0, below_delayed n ts h.1)
 
-number_more : (n : ℕ) (s : Status) → HasNumberBelow n s → HasNumberBelow (n + 1) s
-number_more n (Ready m) h = omega arith
-number_more n (Asleep m b) h = omega arith
-number_more n Ended h = tt
+later : (n : ℕ) (o : Option ℕ) → IfSome o (λ ticket. ticket < n) → IfSome o (λ ticket. ticket < n + 1)
+later n None h = tt
+later n (Some ticket) h = omega arith
 
-numbers_more : (n : ℕ) (ts : List Task) → AllNumbered n ts → AllNumbered (n + 1) ts
-numbers_more n [] h = tt
-numbers_more n (t ∷ ts) h = (number_more n t.status h.0, numbers_more n ts h.1)
+tickets_more : (n : ℕ) (ts : List Task) → AllTicketsBelow n ts → AllTicketsBelow (n + 1) ts
+tickets_more n [] h = tt
+tickets_more n (t ∷ ts) h = (later n (ticket_of t.status) h.0, tickets_more n ts h.1)
 
-numbers-set : (n i : ℕ) (t : Task) (ts : List Task) → HasNumberBelow n t.status → AllNumbered n ts → AllNumbered n (set ts i t)
-numbers-set n i t [] s h = tt
-numbers-set n zero t (u ∷ us) s h = (s, h.1)
-numbers-set n (suc i) t (u ∷ us) s h = (h.0, numbers-set n i t us s h.1)
+tickets-set : (n i : ℕ) (t : Task) (ts : List Task) → HasTicketBelow n t.status → AllTicketsBelow n ts → AllTicketsBelow n (set ts i t)
+tickets-set n i t [] s h = tt
+tickets-set n zero t (u ∷ us) s h = (s, h.1)
+tickets-set n (suc i) t (u ∷ us) s h = (h.0, tickets-set n i t us s h.1)
 
-pub number_at : (n i : ℕ) (ts : List Task) → AllNumbered n ts → HasNumberBelow n (get_or ts i no_task).status
-number_at n i [] h = tt
-number_at n zero (t ∷ ts) h = h.0
-number_at n (suc i) (t ∷ ts) h = number_at n i ts h.1
+pub ticket_at : (n i : ℕ) (ts : List Task) → AllTicketsBelow n ts → HasTicketBelow n (get_or ts i no_task).status
+ticket_at n i [] h = tt
+ticket_at n zero (t ∷ ts) h = h.0
+ticket_at n (suc i) (t ∷ ts) h = ticket_at n i ts h.1
 
--- a task changes, but takes no number
-pub table-set : (s : State) (i : ℕ) (t : Task) → IsTable s → HasNumberBelow s.next t.status → IsTable (with_task s i t)
-table-set s i t h b = record { numbers = numbers-set s.next i t s.tasks b h.numbers; few = rw length-set h.few; running = rw length-set h.running }
+-- a task changes, but takes no ticket
+pub table-set : (s : State) (i : ℕ) (t : Task) → IsTable s → HasTicketBelow s.next_ticket t.status → IsTable (with_task i t s)
+table-set s i t h b = record { tickets = tickets-set s.next_ticket i t s.tasks b h.tickets; few = rw length-set h.few; current = rw length-set h.current }
 
--- a task takes the next number
-pub table-numbered : (s : State) (i : ℕ) (t : Task) → IsTable s → HasNumberBelow (s.next + 1) t.status → IsTable (record (with_task s i t) { next = s.next + 1 })
-table-numbered s i t h b = record { numbers = numbers-set (s.next + 1) i t s.tasks b (numbers_more s.next s.tasks h.numbers); few = rw length-set h.few; running = rw length-set h.running }
+-- a task takes the next ticket
+pub table-taken : (s : State) (i : ℕ) (f : ℕ → Status) → IsTable s → HasTicketBelow (s.next_ticket + 1) (f s.next_ticket) → IsTable (take_ticket i f s)
+table-taken s i f h b = record {
+  tickets = tickets-set (s.next_ticket + 1) i (record (task_at s i) { status = f s.next_ticket }) s.tasks b (tickets_more s.next_ticket s.tasks h.tickets);
+  few = rw length-set h.few;
+  current = rw length-set h.current;
+}
 
-pub table-enter : (s : State) (i : ℕ) → IsTable s → IsTable (enter s i)
-table-enter s i h = table-numbered s i (record (task_at s i) { status = Ready s.next }) h (omega arith)
+pub table-make_ready : (s : State) (i : ℕ) → IsTable s → IsTable (make_ready i s)
+table-make_ready s i h = table-taken s i Ready h (omega arith)

@@ -1,5 +1,5 @@
 -- An application, as its file has it.
-use Rattle.std.specs.Prelude.{ℕ, List, [], length, Option, slice_get, option_map, unwrap_or, codes}
+use Rattle.std.specs.Prelude.{ℕ, ◌≤◌, List, [], length, Option, slice_get, option_map, unwrap_or, codes}
 use Rattle.model.specs.declared.op.Op.{Op}
 use Rattle.model.specs.declared.op.Op.TheVariants.{Work, Delay, DelayUntil, Yield, Time, Mark, Expect, Repeat, End}
 
@@ -9,17 +9,23 @@ pub record Definition : Type 0 where
   pub priority : ℕ
   pub script : List Op
 
--- where a run ends at the latest
-pub record Bounds : Type 0 where
+-- where a run ends at the latest: elapsed ticks, and steps (profile)
+pub record Limits : Type 0 where
   pub ticks : ℕ
   pub steps : ℕ
 
+-- These may be limits: each is 1 to 1,000,000 (profile).
+abbrev pub AreLimits : ℕ → ℕ → Type 0
+AreLimits ticks steps = (1 ≤ ticks) × (ticks ≤ 1000000) × (1 ≤ steps) × (steps ≤ 1000000)
+
+-- what a run starts from
 pub record Application : Type 0 where
   -- the time at reset
   pub start : ℕ
-  pub limits : Bounds
+  pub limits : Limits
   pub tasks : List Definition
 
+-- the task of this number, as the file has it
 abbrev pub definition_of : Application → ℕ → Option Definition
 definition_of app task = slice_get app.tasks task
 
@@ -27,9 +33,9 @@ definition_of app task = slice_get app.tasks task
 abbrev pub script_of : Application → ℕ → List Op
 script_of app task = unwrap_or (option_map (λ (d : Definition). d.script) (definition_of app task)) []
 
--- the op of a task's script at a place
+-- the op of this index in a task's script
 abbrev pub op_at : Application → ℕ → ℕ → Option Op
-op_at app task place = slice_get (script_of app task) place
+op_at app task op_index = slice_get (script_of app task) op_index
 
 -- how many ops a task's script has
 abbrev pub op_count : Application → ℕ → ℕ

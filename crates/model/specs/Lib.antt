@@ -1,10 +1,10 @@
 pub mod Application
 pub mod Scripts
-pub mod Trace
-pub mod Order
 pub mod State
+pub mod Order
+pub mod Switching
+pub mod Time
+pub mod Ops
 pub mod Step
 pub mod Run
 pub mod Invariant
-pub mod Examples
-pub mod Laws

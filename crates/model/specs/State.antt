@@ -1,56 +1,125 @@
 -- The kernel's state.
 --
--- A number is one of a single rising count: every entry to the Ready tasks and every beginning of a sleep takes the
--- next one. They say who came first; the code has none of them.
-use Rattle.std.specs.Prelude.{ℕ, List, Option, None, [], slice_index_or, slice_set}
-use Rattle.model.specs.declared.event.Loop.{Loop}
-use Rattle.model.specs.Trace.{Line, Ending}
+-- Every entry to the ready list and every beginning of a sleep takes the next ticket. Tickets say who came first; the
+-- code has none.
+use Rattle.std.specs.Prelude.{ℕ, ◌+◌, ◌%◌, List, Option, Some, None, [], slice_index_or, slice_set, fold}
+use Rattle.model.specs.declared.loops.Loop.{Loop}
+use Rattle.model.specs.declared.event.Event.{Event}
+use Rattle.model.specs.declared.event.End.{End}
+
+-- ---- a task's status
 
 -- what a task is doing
 pub data Status : Type 0 where
-  Ready : (number : ℕ) → Status
-  Asleep : (moment begun : ℕ) → Status
+  Ready : (ticket : ℕ) → Status
+  Asleep : (wake_time ticket : ℕ) → Status
   Ended : Status
 
--- what the kernel keeps of a task
-pub record Task : Type 0 where
-  pub priority : ℕ
-  -- the index of the op that the task is at
-  pub place : ℕ
+-- the ticket of a Ready task
+abbrev pub ticket_if_ready : Status → Option ℕ
+ticket_if_ready (Ready ticket) = Some ticket
+ticket_if_ready _ = None
+
+-- the ticket that a task has
+abbrev pub ticket_of : Status → Option ℕ
+ticket_of (Ready ticket) = Some ticket
+ticket_of (Asleep wake_time ticket) = Some ticket
+ticket_of _ = None
+
+-- the time at which a task wakes by itself, if there is one
+abbrev pub wake_time_of : Status → Option ℕ
+wake_time_of (Asleep wake_time ticket) = Some wake_time
+wake_time_of _ = None
+
+-- ---- tasks, and the whole
+
+-- where a task is in its script
+pub record Progress : Type 0 where
+  -- the index of its op
+  pub op_index : ℕ
   -- how much of a `work` is used up
   pub used : ℕ
   -- the open loops, the innermost first
   pub loops : List Loop
   -- the last answer; at first `none`
   pub answer : Option ℕ
-  -- the moment from which `delay_until` counts; at first the time at reset
-  pub previous : ℕ
+  -- the time from which `delay_until` counts (`pxPreviousWakeTime`); at first the time at reset
+  pub previous_wake : ℕ
+
+-- what the kernel keeps of a task
+pub record Task : Type 0 where
+  -- the priority that the file gives it (`uxBasePriority`)
+  pub base_priority : ℕ
+  -- its priority now (`uxPriority`); nothing changes it yet
+  pub priority : ℕ
+  pub progress : Progress
   pub status : Status
 
 -- the whole of the kernel, between two steps
 pub record State : Type 0 where
   pub tasks : List Task
-  -- the time, without bound
+  -- the time, without bound (`xTickCount`)
   pub time : ℕ
   -- the ticks since reset
   pub elapsed : ℕ
-  -- the running task, or idle
-  pub running : Option ℕ
-  -- the next number of the count
-  pub next : ℕ
+  -- the running task, or idle (`pxCurrentTCB`)
+  pub current : Option ℕ
+  pub next_ticket : ℕ
   -- the steps done
   pub steps : ℕ
   -- the end that a step has brought about by itself, as a failed `expect`
-  pub stopped : Option Ending
-  -- the lines that the last step wrote
-  pub log : List Line
+  pub stopped : Option End
+  -- the events of the last step
+  pub log : List Event
+
+-- ---- reading and writing it; a deed takes a state, its last argument, to the next
+
+-- at the first op, of which nothing is done
+abbrev pub no_progress : Progress
+no_progress = record { op_index = 0; used = 0; loops = []; answer = None; previous_wake = 0 }
 
 -- what stands where there is no task
 abbrev pub no_task : Task
-no_task = record { priority = 0; place = 0; used = 0; loops = []; answer = None; previous = 0; status = Ended }
+no_task = record { base_priority = 0; priority = 0; progress = no_progress; status = Ended }
 
+-- what the kernel keeps of this task
 abbrev pub task_at : State → ℕ → Task
 task_at s task = slice_index_or s.tasks task no_task
 
-abbrev pub with_task : State → ℕ → Task → State
-with_task s task t = record s { tasks = slice_set s.tasks task t }
+-- what this task is doing
+abbrev pub status_at : State → ℕ → Status
+status_at s task = (task_at s task).status
+
+-- where this task is in its script
+abbrev pub progress_at : State → ℕ → Progress
+progress_at s task = (task_at s task).progress
+
+-- The task is now as given.
+abbrev pub with_task : ℕ → Task → State → State
+with_task task t s = record s { tasks = slice_set s.tasks task t }
+
+-- The task's status is now this.
+abbrev pub with_status : ℕ → Status → State → State
+with_status task status s = with_task task (record (task_at s task) { status = status }) s
+
+-- The task is now here in its script.
+abbrev pub with_progress : ℕ → Progress → State → State
+with_progress task p s = with_task task (record (task_at s task) { progress = p }) s
+
+-- The task takes the next ticket, and gets the status that this makes of it.
+abbrev pub take_ticket : ℕ → (ℕ → Status) → State → State
+take_ticket task status s =
+    record (with_status task (status s.next_ticket) s) { next_ticket = s.next_ticket + 1 }
+
+-- A deed is done with this one, if there is one.
+abbrev pub for_one : {A : Type 0} → (A → State → State) → Option A → State → State
+for_one deed None s = s
+for_one deed (Some one) s = deed one s
+
+-- A deed is done with each of these, one after another.
+abbrev pub for_each : {A : Type 0} → (A → State → State) → List A → State → State
+for_each deed ones s = fold (λ t one. deed one t) s ones
+
+-- the time as it is printed, in 32 bits (`xTaskGetTickCount`)
+abbrev pub printed : ℕ → ℕ
+printed time = time % 4294967296

@@ -3,7 +3,6 @@ ghost use Rattle.std.specs.Prelude.{◌≡◌, ◌<◌, ◌≤◌, length, strin
 ghost use Rattle.std.specs.List.{AllByRecursion};
 ghost use Rattle.model.specs.Application.{op_at, op_count, name_of};
 ghost use Rattle.model.specs.Scripts.{IsScript, IsDefinition, IsWellFormed};
-ghost use Rattle.model.specs.Trace.{bounds_of};
 
 use crate::ids::TaskId;
 use crate::limits::Limits;
@@ -76,14 +75,13 @@ pub struct App {
 
 impl Model for App {
     ghost use Rattle.model.specs.Application.{Application};
-    ghost use Rattle.model.specs.Trace.{bounds_of};
     ghost use Rattle.model.specs.Scripts.{IsWellFormed};
 
     ghost Value = { Application };
 
-    ghost view = { λ a. record { start = a.start; limits = bounds_of a.limits; tasks = a.tasks.items } };
+    ghost view = { λ a. record { start = a.start; limits = a.limits; tasks = a.tasks.items } };
 
-    ghost invariant = { λ a. IsWellFormed (record { start = a.start; limits = bounds_of a.limits; tasks = a.tasks.items }) };
+    ghost invariant = { λ a. IsWellFormed (record { start = a.start; limits = a.limits; tasks = a.tasks.items }) };
 }
 
 impl App {
@@ -92,7 +90,7 @@ impl App {
         requires some { 1 ≤ length tasks.items }
         requires few { length tasks.items ≤ 32 }
         requires formed { AllByRecursion IsDefinition tasks.items }
-        ensures { result ≡ record { start = start; limits = bounds_of limits; tasks = tasks.items } }
+        ensures { result ≡ record { start = start; limits = limits; tasks = tasks.items } }
     {
         App {
             start,
@@ -117,7 +115,7 @@ impl App {
 
     /// Where a run ends at the latest.
     pub fn limits(&self) -> Limits
-        ensures { bounds_of result ≡ self.now.limits }
+        ensures { result ≡ self.now.limits }
     {
         self.limits
     }
@@ -129,17 +127,17 @@ impl App {
         self.tasks.as_slice()
     }
 
-    /// The op of a task at a place of its script; `None` past its end, or where there is no such task.
-    pub fn op(&self, task: TaskId, place: u16) -> Option<Op>
-        ensures { result ≡ op_at self.now task.number place }
+    /// The op of this index in a task's script; `None` past its end, or where there is no such task.
+    pub fn op(&self, task: TaskId, op_index: u16) -> Option<Op>
+        ensures { result ≡ op_at self.now task op_index }
     {
         let definition = self.tasks.get(task.number as usize)?;
-        definition.ops().get(place as usize).copied()
+        definition.ops().get(op_index as usize).copied()
     }
 
     /// How many ops the script of a task has; 0 where there is no such task.
     pub fn op_count(&self, task: TaskId) -> usize
-        ensures { result ≡ op_count self.now task.number }
+        ensures { result ≡ op_count self.now task }
     {
         match self.tasks.get(task.number as usize) {
             None => 0,
@@ -149,7 +147,7 @@ impl App {
 
     /// The name of a task; empty where there is no such task.
     pub fn name(&self, task: TaskId) -> &str
-        ensures { result.now ≡ name_of self.now task.number }
+        ensures { result.now ≡ name_of self.now task }
     {
         match self.tasks.get(task.number as usize) {
             None => "",

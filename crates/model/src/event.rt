@@ -1,19 +1,12 @@
-//! What a run tells: the lines of its trace, and how it ends.
+//! What a run tells: its events, each a line of the trace, and how it ends.
 use crate::ids::TaskId;
 
-/// A loop that is open: the index of the op at which its turns begin, and how many turns are left, this one included.
-#[derive(Clone, Copy, Debug, Default, PartialEq, Eq)]
-pub struct Loop {
-    pub start: u16,
-    pub left: u16,
-}
-
-/// What a line of the trace tells.
+/// What an event tells.
 #[derive(Clone, Copy, Debug, PartialEq, Eq)]
 pub enum What {
     /// The task's op of this index is complete, with this answer; `None` is the answer `none`.
     Call(TaskId, u16, Option<u32>),
-    /// The task wrote a mark.
+    /// The task wrote this mark.
     Mark(TaskId, u32),
     /// The processor went to the task, or to idle.
     Run(Option<TaskId>),
@@ -30,7 +23,7 @@ impl Default for What {
 pub struct Event {
     /// The number of the step, from 0.
     pub step: u32,
-    /// The tick when the line was written, modulo 2^32.
+    /// The printed tick when the line was written: the time modulo 2^32.
     pub tick: u32,
     /// What happened.
     pub what: What,

@@ -1,18 +1,32 @@
 //! Typed numbers: which task, which handler.
 ghost use Rattle.std.specs.Prelude.{◌≡◌, ◌<◌, ◌↔◌, IsSome, IfSome};
 
+use std::marker::Model;
+
 /// A task, by its index in the file: 0 to 31.
 #[derive(Clone, Copy, Debug, PartialEq, Eq)]
 pub struct TaskId {
     pub number: u8,
-    pub ghost known: { number < 32 },
+}
+
+// Clauses see the number.
+impl Model for TaskId {
+    ghost use Rattle.std.specs.Prelude.{ℕ, ◌<◌};
+
+    ghost Value = { ℕ };
+
+    ghost view = { λ task. task.number };
+
+    ghost invariant = { λ task. task.number < 32 };
+
+    ghost inverse = { λ number. record { number = number } };
 }
 
 impl TaskId {
     /// The task of this index; `None` from 32 on.
     pub fn new(number: u8) -> Option<Self>
         ensures known { IsSome result ↔ (number < 32) }
-        ensures value { IfSome result (λ task. task.number ≡ number) }
+        ensures value { IfSome result (λ task. task ≡ number) }
     {
         if number < 32 {
             Some(TaskId { number })
@@ -32,14 +46,26 @@ impl Default for TaskId {
 #[derive(Clone, Copy, Debug, PartialEq, Eq)]
 pub struct HandlerId {
     pub number: u8,
-    pub ghost known: { number < 16 },
+}
+
+// Clauses see the number.
+impl Model for HandlerId {
+    ghost use Rattle.std.specs.Prelude.{ℕ, ◌<◌};
+
+    ghost Value = { ℕ };
+
+    ghost view = { λ handler. handler.number };
+
+    ghost invariant = { λ handler. handler.number < 16 };
+
+    ghost inverse = { λ number. record { number = number } };
 }
 
 impl HandlerId {
     /// The handler of this index; `None` from 16 on.
     pub fn new(number: u8) -> Option<Self>
         ensures known { IsSome result ↔ (number < 16) }
-        ensures value { IfSome result (λ handler. handler.number ≡ number) }
+        ensures value { IfSome result (λ handler. handler ≡ number) }
     {
         if number < 16 {
             Some(HandlerId { number })

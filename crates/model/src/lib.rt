@@ -7,18 +7,19 @@ mod event;
 mod ids;
 mod laws;
 mod limits;
+mod loops;
 mod op;
 mod plan;
+mod run;
 mod script;
 
 pub use app::{App, TaskDefinition};
-pub use event::{End, Event, Loop, What};
+pub use event::{End, Event, What};
 pub use ids::{HandlerId, TaskId};
-pub use laws::{
-    across_the_wrap_runs, choice_in_words, delay_one_runs, delay_zero_runs, round_robin_runs,
-    states_are_sound,
-};
+pub use laws::states_are_sound;
 pub use limits::{Limits, Meter};
+pub use loops::Loop;
 pub use op::Op;
 pub use plan::{BadPlan, Plan, Point};
+pub use run::{Memory, Run};
 pub use script::{NestingFault, Script, ScriptBuilder};

@@ -1,5 +1,6 @@
 //! Where a run ends at the latest, and how many steps were run.
-ghost use Rattle.std.specs.Prelude.{◌≡◌, ◌≤◌, ◌<◌, ◌+◌, ◌^◌, ◌↔◌, ℕ, IsSome, IfSome};
+ghost use Rattle.std.specs.Prelude.{◌≡◌, ◌<◌, ◌+◌, ◌^◌, ◌↔◌, ℕ, IsSome, IfSome};
+ghost use Rattle.model.specs.Application.{AreLimits};
 
 use std::marker::Model;
 
@@ -8,8 +9,19 @@ use std::marker::Model;
 pub struct Limits {
     pub ticks: u32,
     pub steps: u32,
-    pub ghost ticks_known: { (1 ≤ ticks) × (ticks ≤ 1000000) },
-    pub ghost steps_known: { (1 ≤ steps) × (steps ≤ 1000000) },
+}
+
+// Clauses see the two numbers.
+impl Model for Limits {
+    ghost use Rattle.model.specs.Application as application;
+
+    ghost Value = { application.Limits };
+
+    ghost view = { λ limits. record { ticks = limits.ticks; steps = limits.steps } };
+
+    ghost invariant = { λ limits. application.AreLimits limits.ticks limits.steps };
+
+    ghost inverse = { λ limits. record { ticks = limits.ticks; steps = limits.steps } };
 }
 
 impl Limits {
@@ -18,8 +30,8 @@ impl Limits {
 
     /// The limits; `None` where a number is not 1 to 1,000,000.
     pub fn new(ticks: u32, steps: u32) -> Option<Self>
-        ensures known { IsSome result ↔ ((1 ≤ ticks) × (ticks ≤ 1000000) × (1 ≤ steps) × (steps ≤ 1000000)) }
-        ensures value { IfSome result (λ limits. (limits.ticks ≡ ticks) × (limits.steps ≡ steps)) }
+        ensures known { IsSome result ↔ AreLimits ticks steps }
+        ensures value { IfSome result (λ limits. limits ≡ record { ticks = ticks; steps = steps }) }
     {
         let is_in_range = |n: u32| n >= 1 && n <= Self::MOST;
         if is_in_range(ticks) && is_in_range(steps) {
@@ -36,6 +48,7 @@ pub struct Meter {
     steps: u64,
 }
 
+// Clauses see the number of steps.
 impl Model for Meter {
     ghost Value = { ℕ };
 

@@ -1,10 +1,10 @@
--- What a change of one task does to a line.
+-- What a change of one task does to a list.
 use Rattle.std.proofs.Common.{◌≡◌, ℕ, ◌+◌, ◌<◌, ◌≤◌, zero, suc, Bool, true, false, not, List, [], ◌∷◌, ◌++◌, Option, Some, None, refl, ap, sym, ◌∙◌, arith, eqb, length, get_or, set, append_assoc, length-append}
 use Rattle.std.specs.List.{filter, cons_option, AllByRecursion}
 use Rattle.std.specs.Option.{option_map}
 use Rattle.std.proofs.lemmas.Bool.Decides.{nat_tests}
 use Rattle.model.specs.State.{Task, no_task}
-use Rattle.model.specs.Order.{Key, Entry, put, in_order, entry, keyed, line}
+use Rattle.model.specs.Order.{Key, Entry, put, in_order, entry, keyed, list_by}
 use Rattle.model.proofs.Sorting.{by_before, put-put, All-in_order, All-weaker, Falls, Falls-in_order, filter-put}
 
 abbrev pub other : ℕ → Entry → Bool
@@ -47,23 +47,23 @@ filter-first_other : (o : Option Key) (i k : ℕ) (xs : List Entry) → (i ≡ k
 filter-first_other None i k xs ne r = refl
 filter-first_other (Some n) i k xs ne r = filter-put (other k) (entry i n) xs r ∙ rw (eqb-apart i k ne) refl
 
--- two of different numbers
-put-put_apart : (e m : Entry) (xs : List Entry) → e.key.number < m.key.number → put e (put m xs) ≡ put m (put e xs)
+-- two of different tickets
+put-put_apart : (e m : Entry) (xs : List Entry) → e.key.ticket < m.key.ticket → put e (put m xs) ≡ put m (put e xs)
 put-put_apart e m xs h = by_before e.key m.key
     (λ t b. put-put e m xs b)
     (λ t a. let low = a.low in let late = a.late in
     sym (put-put m e xs (record { high = low; early = λ le. let p = late le in absurd (omega arith) })))
 
-first-put : (o : Option Key) (i : ℕ) (m : Entry) (xs : List Entry) → AllByRecursion (λ (k : Key). k.number < m.key.number) (cons_option o []) → first_in o i (put m xs) ≡ put m (first_in o i xs)
+first-put : (o : Option Key) (i : ℕ) (m : Entry) (xs : List Entry) → AllByRecursion (λ (k : Key). k.ticket < m.key.ticket) (cons_option o []) → first_in o i (put m xs) ≡ put m (first_in o i xs)
 first-put None i m xs h = refl
 first-put (Some k) i m xs h = put-put_apart (entry i k) m xs h.0
 
--- each number that f gives of a task is below n
+-- each ticket that f gives of a task is below n
 abbrev pub Below : (Task → Option Key) → ℕ → List Task → Type 0
-Below f n ts = AllByRecursion (λ (t : Task). AllByRecursion (λ (k : Key). k.number < n) (cons_option (f t) [])) ts
+Below f n ts = AllByRecursion (λ (t : Task). AllByRecursion (λ (k : Key). k.ticket < n) (cons_option (f t) [])) ts
 
--- A task that gets a key with the next number is put in.
-entered : (f : Task → Option Key) (n : Key) (i k o : ℕ) (t : Task) (ts : List Task) → i < length ts → k ≡ o + i → f t ≡ Some n → Below f n.number ts → in_order (keyed f o (set ts i t)) ≡ put (entry k n) (filter (other k) (in_order (keyed f o ts)))
+-- A task that gets a key with the next ticket is put in.
+entered : (f : Task → Option Key) (n : Key) (i k o : ℕ) (t : Task) (ts : List Task) → i < length ts → k ≡ o + i → f t ≡ Some n → Below f n.ticket ts → in_order (keyed f o (set ts i t)) ≡ put (entry k n) (filter (other k) (in_order (keyed f o ts)))
 entered f n i k o t [] l e s h = absurd (omega arith)
 entered f n zero k o t (u ∷ us) l e s h =
     let xs = in_order (keyed f (o + 1) us) in
@@ -97,16 +97,16 @@ kept f i o t [] s = refl
 kept f zero o t (u ∷ us) s = rw s refl
 kept f (suc i) o t (u ∷ us) s = ap (cons_option (option_map (entry o) (f u))) (kept f i (o + 1) t us s)
 
-pub line-entered : (f : Task → Option Key) (n : Key) (i : ℕ) (t : Task) (ts : List Task) → i < length ts → f t ≡ Some n → Below f n.number ts → line f (set ts i t) ≡ put (entry i n) (filter (other i) (line f ts))
-line-entered f n i t ts l s h = entered f n i i 0 t ts l (omega arith) s h
+pub list-entered : (f : Task → Option Key) (n : Key) (i : ℕ) (t : Task) (ts : List Task) → i < length ts → f t ≡ Some n → Below f n.ticket ts → list_by f (set ts i t) ≡ put (entry i n) (filter (other i) (list_by f ts))
+list-entered f n i t ts l s h = entered f n i i 0 t ts l (omega arith) s h
 
-pub line-gone : (f : Task → Option Key) (i : ℕ) (t : Task) (ts : List Task) → i < length ts → f t ≡ None → line f (set ts i t) ≡ filter (other i) (line f ts)
-line-gone f i t ts l s = gone f i i 0 t ts l (omega arith) s
+pub list-gone : (f : Task → Option Key) (i : ℕ) (t : Task) (ts : List Task) → i < length ts → f t ≡ None → list_by f (set ts i t) ≡ filter (other i) (list_by f ts)
+list-gone f i t ts l s = gone f i i 0 t ts l (omega arith) s
 
-pub line-kept : (f : Task → Option Key) (i : ℕ) (t : Task) (ts : List Task) → f t ≡ f (get_or ts i no_task) → line f (set ts i t) ≡ line f ts
-line-kept f i t ts s = ap in_order (kept f i 0 t ts s)
+pub list-kept : (f : Task → Option Key) (i : ℕ) (t : Task) (ts : List Task) → f t ≡ f (get_or ts i no_task) → list_by f (set ts i t) ≡ list_by f ts
+list-kept f i t ts s = ap in_order (kept f i 0 t ts s)
 
--- Each entry of a line is a task with that key.
+-- Each entry of a list is a task with that key.
 pub record HasKey (f : Task → Option Key) (ts : List Task) (e : Entry) : Type 0 where
   pub within : e.task < length ts
   pub key : f (get_or ts e.task no_task) ≡ Some e.key
@@ -127,27 +127,27 @@ keyed_has f o pre (t ∷ ts) e =
     let again : AllByRecursion (HasKey f (pre ++ t ∷ ts)) (keyed f (o + 1) ts) = rw same at later in
     has_first f (pre ++ t ∷ ts) o (f t) (keyed f (o + 1) ts) (omega (arith, length-append pre (t ∷ ts))) (ap (λ (u : Task). f u) (get_or-middle pre t ts o e)) again
 
-pub line_has : (f : Task → Option Key) (ts : List Task) → AllByRecursion (HasKey f ts) (line f ts)
-line_has f ts = All-in_order (HasKey f ts) (keyed f 0 ts) (keyed_has f 0 [] ts refl)
+pub list_has : (f : Task → Option Key) (ts : List Task) → AllByRecursion (HasKey f ts) (list_by f ts)
+list_has f ts = All-in_order (HasKey f ts) (keyed f 0 ts) (keyed_has f 0 [] ts refl)
 
--- One who has no key isn't in the line.
+-- One who has no key isn't in the list.
 apart : (f : Task → Option Key) (i : ℕ) (ts : List Task) → f (get_or ts i no_task) ≡ None → (xs : List Entry) → AllByRecursion (HasKey f ts) xs → AllByRecursion (λ e. e.task ≡ i → ⊥) xs
 apart f i ts n [] h = tt
 apart f i ts n (x ∷ xs) h = ((λ e. let k = h.0.key in let m : f (get_or ts x.task no_task) ≡ None = rw e n in absurd (cc)), apart f i ts n xs h.1)
 
-pub line_without : (f : Task → Option Key) (i : ℕ) (ts : List Task) → f (get_or ts i no_task) ≡ None → AllByRecursion (λ e. e.task ≡ i → ⊥) (line f ts)
-line_without f i ts n = apart f i ts n (line f ts) (line_has f ts)
+pub list_without : (f : Task → Option Key) (i : ℕ) (ts : List Task) → f (get_or ts i no_task) ≡ None → AllByRecursion (λ e. e.task ≡ i → ⊥) (list_by f ts)
+list_without f i ts n = apart f i ts n (list_by f ts) (list_has f ts)
 
 pub filter-without : (i : ℕ) (xs : List Entry) → AllByRecursion (λ e. e.task ≡ i → ⊥) xs → filter (other i) xs ≡ xs
 filter-without i [] h = refl
 filter-without i (x ∷ xs) h = rw (eqb-apart x.task i h.0) (ap (λ l. x ∷ l) (filter-without i xs h.1))
 
--- the numbers of a line
-below_all : (f : Task → Option Key) (n i : ℕ) (ts : List Task) → Below f n ts → AllByRecursion (λ e. e.key.number < n) (keyed f i ts)
+-- the tickets of a list
+below_all : (f : Task → Option Key) (n i : ℕ) (ts : List Task) → Below f n ts → AllByRecursion (λ e. e.key.ticket < n) (keyed f i ts)
 below_all f n i [] h = tt
 below_all f n i (t ∷ ts) h =
     let later = below_all f n (i + 1) ts h.1 in
-    (elim (f t) as (λ r. AllByRecursion (λ (k : Key). k.number < n) (cons_option r []) → AllByRecursion (λ e. e.key.number < n) (cons_option (option_map (entry i) r) (keyed f (i + 1) ts))) [ None ↦ λ _. later | Some m ↦ λ b. (b.0, later) ]) h.0
+    (elim (f t) as (λ r. AllByRecursion (λ (k : Key). k.ticket < n) (cons_option r []) → AllByRecursion (λ e. e.key.ticket < n) (cons_option (option_map (entry i) r) (keyed f (i + 1) ts))) [ None ↦ λ _. later | Some m ↦ λ b. (b.0, later) ]) h.0
 
-pub line_below : (f : Task → Option Key) (n : ℕ) (ts : List Task) → Below f n ts → AllByRecursion (λ e. e.key.number < n) (line f ts)
-line_below f n ts h = All-in_order (λ e. e.key.number < n) (keyed f 0 ts) (below_all f n 0 ts h)
+pub list_below : (f : Task → Option Key) (n : ℕ) (ts : List Task) → Below f n ts → AllByRecursion (λ e. e.key.ticket < n) (list_by f ts)
+list_below f n ts h = All-in_order (λ e. e.key.ticket < n) (keyed f 0 ts) (below_all f n 0 ts h)

@@ -1,0 +1,189 @@
+-- What a deed leaves as it was, as one record for each deed: a field more of the state is a field more here.
+use Rattle.std.proofs.Common.{◌≡◌, ◌≤◌, ◌+◌, ◌-◌, ◌||◌, ℕ, eqb, leb, ltb, List, [], ◌∷◌, Option, Some, None, refl, ◌∙◌, arith, length}
+use Rattle.std.specs.Option.{option_eq}
+use Rattle.std.proofs.Math.ListN.{length-set}
+use Rattle.model.specs.declared.op.Op.{Op}
+use Rattle.model.specs.declared.op.Op.TheVariants.{Work, Delay, DelayUntil, Yield, Time, Mark, Expect, Repeat, End}
+use Rattle.model.specs.declared.loops.Loop.{Loop}
+use Rattle.model.specs.declared.event.What.TheVariants as what
+use Rattle.model.specs.Application.{Application, op_at, op_count}
+use Rattle.model.specs.State.{State, Task, Progress, Status, Ready, Asleep, task_at, progress_at, with_task, take_ticket, for_one, for_each, printed}
+use Rattle.model.specs.Order.{tasks_of}
+use Rattle.model.specs.Switching.{make_ready, to_back, dispatch, choose, choice, is_same, is_ready, yield_now, is_outranked, is_sharing, slice, settle, is_off, write}
+use Rattle.model.specs.Time.{wake_due, due, advance, increment_tick, tick_interrupt, sleep, set_previous_wake}
+use Rattle.model.specs.Ops.{go_to, moved_to, complete, answer, use_up, delay, delay_until, expect, open_loop, turn, close_turn}
+use Rattle.model.specs.Step.{act, act_if, act_current, step, reset, nobody_ready, ready_at_reset, with_ops}
+use Rattle.model.proofs.Sorting.{by_test}
+
+-- No time passes, no step is done, the run is not stopped, and there are as many tasks.
+pub record Keeps (old new : State) : Type 0 where
+  pub time : new.time ≡ old.time
+  pub elapsed : new.elapsed ≡ old.elapsed
+  pub steps : new.steps ≡ old.steps
+  pub stopped : new.stopped ≡ old.stopped
+  pub tasks : length new.tasks ≡ length old.tasks
+
+pub keeps : (s : State) → Keeps s s
+keeps s = record { time = refl; elapsed = refl; steps = refl; stopped = refl; tasks = refl }
+
+-- one deed, and then another
+pub keeps_both : (a b c : State) → Keeps a b → Keeps b c → Keeps a c
+keeps_both a b c h k = record { time = k.time ∙ h.time; elapsed = k.elapsed ∙ h.elapsed; steps = k.steps ∙ h.steps; stopped = k.stopped ∙ h.stopped; tasks = k.tasks ∙ h.tasks }
+
+-- ---- who runs
+
+pub keeps-with_task : (i : ℕ) (t : Task) (s : State) → Keeps s (with_task i t s)
+keeps-with_task i t s = record { time = refl; elapsed = refl; steps = refl; stopped = refl; tasks = length-set s.tasks i t }
+
+pub keeps-take_ticket : (i : ℕ) (f : ℕ → Status) (s : State) → Keeps s (take_ticket i f s)
+keeps-take_ticket i f s = record { time = refl; elapsed = refl; steps = refl; stopped = refl; tasks = length-set s.tasks i (record (task_at s i) { status = f s.next_ticket }) }
+
+pub keeps-to_back : (i : ℕ) (s : State) → Keeps s (to_back i s)
+unfolding to_back
+keeps-to_back i s = by_test (is_ready s i) (λ t. rw t (keeps-take_ticket i Ready s)) (λ t. rw t (keeps s))
+
+keeps-one_back : (o : Option ℕ) (s : State) → Keeps s (for_one to_back o s)
+keeps-one_back None s = keeps s
+keeps-one_back (Some i) s = keeps-to_back i s
+
+pub keeps-choose : (s : State) → Keeps s (choose s)
+unfolding choose dispatch
+keeps-choose s = by_test (is_same (choice s) s.current) (λ t. rw t (keeps s)) (λ t. rw t (record { time = refl; elapsed = refl; steps = refl; stopped = refl; tasks = refl }))
+
+pub keeps-yield_now : (s : State) → Keeps s (yield_now s)
+unfolding yield_now
+keeps-yield_now s = let b : State = for_one to_back s.current s in keeps_both s b (choose b) (keeps-one_back s.current s) (keeps-choose b)
+
+pub keeps-slice : (s : State) → Keeps s (slice s)
+unfolding slice
+keeps-slice s = by_test (is_outranked s || is_sharing s) (λ t. rw t (keeps-yield_now s)) (λ t. rw t (keeps s))
+
+pub keeps-settle : (s : State) → Keeps s (settle s)
+unfolding settle
+keeps-settle s = by_test (is_off s s.current) (λ t. rw t (keeps-choose s)) (λ t. rw t (keeps s))
+
+pub keeps-all_ready : (is : List ℕ) (s : State) → Keeps s (for_each make_ready is s)
+keeps-all_ready [] s = keeps s
+keeps-all_ready (i ∷ is) s = keeps_both s (make_ready i s) (for_each make_ready is (make_ready i s)) (keeps-take_ticket i Ready s) (keeps-all_ready is (make_ready i s))
+
+pub keeps-wake_due : (s : State) → Keeps s (wake_due s)
+unfolding wake_due
+keeps-wake_due s = keeps-all_ready (tasks_of (due s)) s
+
+-- ---- the ops
+
+pub keeps-go_to : (app : Application) (i op_index : ℕ) (p : Progress) (s : State) → Keeps s (go_to app i op_index p s)
+unfolding go_to
+keeps-go_to app i op_index p s = keeps-with_task i (moved_to (op_count app i) op_index p (task_at s i)) s
+
+pub keeps-answer : (app : Application) (i : ℕ) (a : Option ℕ) (s : State) → Keeps s (answer app i a s)
+unfolding answer
+keeps-answer app i a s =
+    let p : Progress = record (progress_at s i) { answer = a } in
+    let k = keeps-go_to app i (p.op_index + 1) p (write (what.Call i p.op_index a) s) in
+    record { time = k.time; elapsed = k.elapsed; steps = k.steps; stopped = k.stopped; tasks = k.tasks }
+
+pub keeps-use_up : (app : Application) (i n : ℕ) (s : State) → Keeps s (use_up app i n s)
+unfolding use_up
+keeps-use_up app i n s = by_test (eqb ((progress_at s i).used + 1) n)
+    (λ t. rw t (keeps-go_to app i ((progress_at s i).op_index + 1) (progress_at s i) s))
+    (λ t. rw t (keeps-with_task i (record (task_at s i) { progress = record (progress_at s i) { used = (progress_at s i).used + 1 } }) s))
+
+pub keeps-sleep : (i wake_time : ℕ) (s : State) → Keeps s (sleep i wake_time s)
+unfolding sleep
+keeps-sleep i wake_time s = by_test (is_ready s i) (λ t. rw t (keeps-take_ticket i (Asleep wake_time) s)) (λ t. rw t (keeps s))
+
+pub keeps-set_previous_wake : (i time : ℕ) (s : State) → Keeps s (set_previous_wake i time s)
+unfolding set_previous_wake
+keeps-set_previous_wake i time s = keeps-with_task i (record (task_at s i) { progress = record (progress_at s i) { previous_wake = time } }) s
+
+pub keeps-delay : (app : Application) (i n : ℕ) (s : State) → Keeps s (delay app i n s)
+unfolding delay
+keeps-delay app i n s =
+    let t : State = answer app i (Some 0) s in
+    let k : Keeps s t = keeps-answer app i (Some 0) s in
+    by_test (eqb n 0)
+    (λ q. rw q (keeps_both s t (yield_now t) k (keeps-yield_now t)))
+    (λ q. rw q (keeps_both s t (sleep i (s.time + n) t) k (keeps-sleep i (s.time + n) t)))
+
+pub keeps-delay_until : (app : Application) (i wake_time : ℕ) (s : State) → Keeps s (delay_until app i wake_time s)
+unfolding delay_until
+keeps-delay_until app i wake_time s =
+    let one : State = answer app i (Some 1) s in
+    let slept : State = sleep i wake_time one in
+    let none : State = answer app i (Some 0) s in
+    by_test (ltb s.time wake_time)
+    (λ t. rw t (keeps_both s one (set_previous_wake i wake_time slept) (keeps-answer app i (Some 1) s)
+    (keeps_both one slept (set_previous_wake i wake_time slept) (keeps-sleep i wake_time one) (keeps-set_previous_wake i wake_time slept))))
+    (λ t. rw t (keeps_both s none (set_previous_wake i wake_time none) (keeps-answer app i (Some 0) s) (keeps-set_previous_wake i wake_time none)))
+
+pub keeps-open_loop : (app : Application) (i n : ℕ) (s : State) → Keeps s (open_loop app i n s)
+unfolding open_loop
+keeps-open_loop app i n s =
+    let p : Progress = progress_at s i in
+    keeps-go_to app i (p.op_index + 1) (record p { loops = record { start = p.op_index + 1; left = n } ∷ p.loops }) s
+
+keeps-turn : (app : Application) (i : ℕ) (p : Progress) (ls : List Loop) (s : State) → Keeps s (turn app i p ls s)
+keeps-turn app i p [] s = keeps-go_to app i (p.op_index + 1) p s
+keeps-turn app i p (l ∷ ls) s = by_test (leb l.left 1)
+    (λ q. rw q (keeps-go_to app i (p.op_index + 1) (record p { loops = ls }) s))
+    (λ q. rw q (keeps-go_to app i l.start (record p { loops = record l { left = l.left - 1 } ∷ ls }) s))
+
+pub keeps-close_turn : (app : Application) (i : ℕ) (s : State) → Keeps s (close_turn app i s)
+unfolding close_turn
+keeps-close_turn app i s = keeps-turn app i (progress_at s i) (progress_at s i).loops s
+
+-- ---- the tick: it alone lets time pass
+
+pub elapsed-tick : (s : State) → (tick_interrupt s).elapsed ≡ s.elapsed + 1
+unfolding tick_interrupt increment_tick advance
+elapsed-tick s =
+    let later : State = record s { time = s.time + 1; elapsed = s.elapsed + 1 } in
+    (keeps-slice (wake_due later)).elapsed ∙ (keeps-wake_due later).elapsed
+
+elapsed-expect : (app : Application) (i : ℕ) (a : Option ℕ) (s : State) → (expect app i a s).elapsed ≡ s.elapsed
+unfolding expect
+elapsed-expect app i a s = by_test (option_eq eqb (progress_at s i).answer a)
+    (λ t. rw t (keeps-go_to app i ((progress_at s i).op_index + 1) (progress_at s i) s).elapsed)
+    (λ t. rw t refl)
+
+elapsed-act : (app : Application) (i : ℕ) (op : Op) (s : State) → (act app i op s).elapsed ≤ s.elapsed + 1
+elapsed-act app i (Work n) s = let e = elapsed-tick (use_up app i n s) in let f = (keeps-use_up app i n s).elapsed in omega arith
+elapsed-act app i (Delay n) s = let e = (keeps-delay app i n s).elapsed in omega arith
+elapsed-act app i (DelayUntil n) s = let e = (keeps-delay_until app i ((progress_at s i).previous_wake + n) s).elapsed in omega arith
+elapsed-act app i Yield s =
+    let t : State = answer app i (Some 0) s in
+    let e = (keeps-yield_now t).elapsed in let f = (keeps-answer app i (Some 0) s).elapsed in omega arith
+elapsed-act app i Time s = let e = (keeps-answer app i (Some (printed s.time)) s).elapsed in omega arith
+elapsed-act app i (Mark n) s =
+    let e : (complete app i (progress_at s i) (write (what.Mark i n) s)).elapsed ≡ s.elapsed = (keeps-go_to app i ((progress_at s i).op_index + 1) (progress_at s i) (write (what.Mark i n) s)).elapsed in
+    omega arith
+elapsed-act app i (Expect a) s = let e = elapsed-expect app i a s in omega arith
+elapsed-act app i (Repeat n) s = let e = (keeps-open_loop app i n s).elapsed in omega arith
+elapsed-act app i End s = let e = (keeps-close_turn app i s).elapsed in omega arith
+
+elapsed-act_if : (app : Application) (i : ℕ) (o : Option Op) (s : State) → (act_if app i o s).elapsed ≤ s.elapsed + 1
+elapsed-act_if app i None s = omega arith
+elapsed-act_if app i (Some op) s = elapsed-act app i op s
+
+elapsed-act_current : (app : Application) (r : Option ℕ) (s : State) → (act_current app r s).elapsed ≤ s.elapsed + 1
+elapsed-act_current app None s = let e = elapsed-tick s in omega arith
+elapsed-act_current app (Some i) s = elapsed-act_if app i (op_at app i (progress_at s i).op_index) s
+
+-- ---- a step, and reset
+
+pub elapsed-step : (app : Application) (s : State) → (step app s).elapsed ≤ s.elapsed + 1
+unfolding step
+elapsed-step app s =
+    let begun : State = record s { log = [] } in
+    let e = (keeps-settle (act_current app s.current begun)).elapsed in
+    let le : (act_current app s.current begun).elapsed ≤ s.elapsed + 1 = elapsed-act_current app s.current begun in
+    omega arith
+
+elapsed-nobody : (app : Application) → (nobody_ready app).elapsed ≡ 0
+unfolding nobody_ready
+elapsed-nobody app = refl
+
+pub elapsed-reset : (app : Application) → (reset app).elapsed ≡ 0
+unfolding reset ready_at_reset
+elapsed-reset app = (keeps-all_ready (with_ops 0 app.tasks) (nobody_ready app)).elapsed ∙ elapsed-nobody app

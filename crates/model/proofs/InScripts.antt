@@ -1,0 +1,47 @@
+-- The op at an index of a well formed script.
+use Rattle.std.proofs.Common.{◌≡◌, ◌+◌, ℕ, zero, suc, true, List, [], ◌∷◌, drop, Some, refl, arith, add-one}
+use Rattle.std.specs.List.{AllByRecursion, slice_get}
+use Rattle.std.specs.Option.{option_map, unwrap_or}
+use Rattle.model.specs.declared.op.Op.{Op}
+use Rattle.model.specs.declared.op.Op.TheVariants.{Work, Delay, DelayUntil, Yield, Time, Mark, Expect, Repeat, End}
+use Rattle.model.specs.Application.{Application, Definition, script_of}
+use Rattle.model.specs.Scripts.{InRange, may_stand, depth_past, Nests, IsScript, IsDefinition, IsWellFormed}
+use Rattle.model.specs.Invariant.{IsUsedBy}
+
+none_formed : IsScript []
+none_formed = record { ranges = tt; nests = refl; few = omega arith }
+
+formed_at : (i : ℕ) (ds : List Definition) → AllByRecursion IsDefinition ds → IsScript (unwrap_or (option_map (λ (d : Definition). d.script) (slice_get ds i)) [])
+formed_at i [] h = none_formed
+formed_at zero (d ∷ ds) h = h.0.script
+formed_at (suc i) (d ∷ ds) h = formed_at i ds h.1
+
+pub script_formed : (app : Application) → IsWellFormed app → (i : ℕ) → IsScript (script_of app i)
+script_formed app h i = formed_at i app.tasks h.tasks
+
+-- the op of an index, where so many loops are open
+pub stands_at : (d p : ℕ) (ops : List Op) (op : Op) → Nests d (drop p ops) → slice_get ops p ≡ Some op → may_stand d op ≡ true
+stands_at d p [] op n e = absurd (cc)
+stands_at d zero (o ∷ ops) op n e = let same : o ≡ op = cc in rw (← same) n.0
+stands_at d (suc p) (o ∷ ops) op n e = stands_at d p ops op n e
+
+past : (d p : ℕ) (ops : List Op) (op : Op) → Nests d (drop p ops) → slice_get ops p ≡ Some op → Nests (depth_past d op) (drop (suc p) ops)
+past d p [] op n e = absurd (cc)
+past d zero (o ∷ ops) op n e = let same : o ≡ op = cc in rw (← same) n.1
+past d (suc p) (o ∷ ops) op n e = past d p ops op n e
+
+pub nests_past : (d p : ℕ) (ops : List Op) (op : Op) → Nests d (drop p ops) → slice_get ops p ≡ Some op → Nests (depth_past d op) (drop (p + 1) ops)
+nests_past d p ops op n e = rw add-one (past d p ops op n e)
+
+pub used_none : (p : ℕ) (ops : List Op) → AllByRecursion InRange ops → IsUsedBy 0 (slice_get ops p)
+used_none p [] h = tt
+used_none zero ((Work n) ∷ ops) h = let low = h.0.0 in omega arith
+used_none zero ((Delay n) ∷ ops) h = tt
+used_none zero ((DelayUntil n) ∷ ops) h = tt
+used_none zero (Yield ∷ ops) h = tt
+used_none zero (Time ∷ ops) h = tt
+used_none zero ((Mark n) ∷ ops) h = tt
+used_none zero ((Expect a) ∷ ops) h = tt
+used_none zero ((Repeat n) ∷ ops) h = tt
+used_none zero (End ∷ ops) h = tt
+used_none (suc p) (o ∷ ops) h = used_none p ops h.1

@@ -1,0 +1,82 @@
+-- Where a task is in its script: an op is complete, a call answers, loops turn.
+use Rattle.std.specs.Prelude.{ℕ, ◌+◌, ◌-◌, ◌==◌, List, [], ◌∷◌, Option, Some, nat_lt, nat_le, nat_eq, if◌then◌else◌}
+use Rattle.std.specs.Option.{option_eq}
+use Rattle.model.specs.declared.loops.Loop.{Loop}
+use Rattle.model.specs.declared.event.What.TheVariants.{Call}
+use Rattle.model.specs.declared.event.End.TheVariants.{Check}
+use Rattle.model.specs.Application.{Application, op_count}
+use Rattle.model.specs.State.{State, Progress, Task, Ended, task_at, progress_at, with_task, with_progress}
+use Rattle.model.specs.Switching.{write, yield_now}
+use Rattle.model.specs.Time.{sleep, set_previous_wake}
+
+-- ---- an op is complete
+
+-- the task at this op, of which nothing is done; past the last op, whatever that was, it is Ended (profile)
+abbrev pub moved_to : ℕ → ℕ → Progress → Task → Task
+moved_to count op_index p t = record t {
+  progress = record p { op_index = op_index; used = 0 };
+  status = if op_index == count then Ended else t.status;
+}
+
+-- The task, whose progress is now as given, goes on at this op.
+unfoldable pub go_to : Application → ℕ → ℕ → Progress → State → State
+go_to app task op_index p s = with_task task (moved_to (op_count app task) op_index p (task_at s task)) s
+
+-- The op of the task, whose progress is now as given, is complete.
+abbrev pub complete : Application → ℕ → Progress → State → State
+complete app task p s = go_to app task (p.op_index + 1) p s
+
+-- The task's call is complete with this answer.
+unfoldable pub answer : Application → ℕ → Option ℕ → State → State
+answer app task a s =
+    let p = progress_at s task in
+    complete app task (record p { answer = a }) (write (Call task p.op_index a) s)
+
+-- ---- ops that let time pass
+
+-- One more of a `work` is used up, the last or another (profile).
+unfoldable pub use_up : Application → ℕ → ℕ → State → State
+use_up app task n s =
+    let p = progress_at s task in
+    if p.used + 1 == n then complete app task p s else with_progress task (record p { used = p.used + 1 }) s
+
+-- The task sleeps for so many ticks, or yields where that is none (`vTaskDelay`); it answers 0 (profile). Of a sleeper
+-- the step's end makes the choice (`settle`).
+unfoldable pub delay : Application → ℕ → ℕ → State → State
+delay app task n s =
+    let t = answer app task (Some 0) s in
+    if n == 0 then yield_now t else sleep task (s.time + n) t
+
+-- The task sleeps until this time if that is still to come, else it goes on (profile: FreeRTOS yields then); the next
+-- one counts from that time (`xTaskDelayUntil`).
+unfoldable pub delay_until : Application → ℕ → ℕ → State → State
+delay_until app task wake_time s =
+    if nat_lt s.time wake_time
+    then set_previous_wake task wake_time (sleep task wake_time (answer app task (Some 1) s))
+    else set_previous_wake task wake_time (answer app task (Some 0) s)
+
+-- ---- ops of the script alone (profile)
+
+-- The op is complete if the last answer is this one; else the run ends, and the task stays where it is.
+unfoldable pub expect : Application → ℕ → Option ℕ → State → State
+expect app task a s =
+    let p = progress_at s task in
+    if option_eq nat_eq p.answer a then complete app task p s else record s { stopped = Some (Check task p.op_index) }
+
+-- A loop of so many turns begins at the next op.
+unfoldable pub open_loop : Application → ℕ → ℕ → State → State
+open_loop app task n s =
+    let p = progress_at s task in
+    complete app task (record p { loops = record { start = p.op_index + 1; left = n } ∷ p.loops }) s
+
+-- The innermost loop has one turn less: the next turn begins, or the loop is left. Where none is open the op is complete.
+abbrev pub turn : Application → ℕ → Progress → List Loop → State → State
+turn app task p [] s = complete app task p s
+turn app task p (l ∷ ls) s =
+    if nat_le l.left 1
+    then complete app task (record p { loops = ls }) s
+    else go_to app task l.start (record p { loops = record l { left = l.left - 1 } ∷ ls }) s
+
+-- That is what `end` does.
+unfoldable pub close_turn : Application → ℕ → State → State
+close_turn app task s = turn app task (progress_at s task) (progress_at s task).loops s

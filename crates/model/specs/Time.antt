@@ -1,0 +1,53 @@
+-- Time passes: who wakes when, and how a task goes to sleep.
+use Rattle.std.specs.Prelude.{ℕ, ◌+◌, Bool, List, Option, Some, None, is_some, option_map, nat_eq, if◌then◌else◌, filter}
+use Rattle.std.specs.Option.{option_eq}
+use Rattle.model.specs.State.{State, Task, Asleep, ticket_of, wake_time_of, status_at, progress_at, take_ticket, with_progress, for_each}
+use Rattle.model.specs.Order.{Key, Entry, key, list_by, tasks_of}
+use Rattle.model.specs.Switching.{is_ready, make_ready, slice}
+
+-- ---- who is due
+
+-- Who wakes by itself is in the delayed list, by its ticket alone.
+abbrev pub delayed_key : Task → Option Key
+delayed_key t = if is_some (wake_time_of t.status) then option_map (key 0) (ticket_of t.status) else None
+
+-- those who sleep, in the order in which they began; FreeRTOS orders its list by wake time (`pxDelayedTaskList`,
+-- `pxOverflowDelayedTaskList`)
+abbrev pub delayed_list : State → List Entry
+delayed_list s = list_by delayed_key s.tasks
+
+-- The task of an entry wakes now.
+abbrev pub is_due : State → Entry → Bool
+is_due s e = option_eq nat_eq (wake_time_of (status_at s e.task)) (Some s.time)
+
+-- those who wake now, in the order in which they began
+abbrev pub due : State → List Entry
+due s = filter (is_due s) (delayed_list s)
+
+-- All who are due are Ready, in the order in which they began.
+unfoldable pub wake_due : State → State
+wake_due s = for_each make_ready (tasks_of (due s)) s
+
+-- ---- ticks
+
+-- The time rises by one, and all who are due are Ready.
+unfoldable pub advance : State → State
+advance s = wake_due (record s { time = s.time + 1 })
+
+-- One tick comes, and time advances (`xTaskIncrementTick`).
+unfoldable pub increment_tick : State → State
+increment_tick s = advance (record s { elapsed = s.elapsed + 1 })
+
+-- The tick interrupt: one tick comes, and then a switch if one is due (a port's `xPortSysTickHandler`).
+unfoldable pub tick_interrupt : State → State
+tick_interrupt s = slice (increment_tick s)
+
+-- ---- sleep
+
+-- The task sleeps until this time, where it is still Ready (`prvAddCurrentTaskToDelayedList`).
+unfoldable pub sleep : ℕ → ℕ → State → State
+sleep task wake_time s = if is_ready s task then take_ticket task (Asleep wake_time) s else s
+
+-- The task's `delay_until` counts from this time on.
+unfoldable pub set_previous_wake : ℕ → ℕ → State → State
+set_previous_wake task time s = with_progress task (record (progress_at s task) { previous_wake = time }) s

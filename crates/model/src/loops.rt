@@ -1,0 +1,10 @@
+//! Loops of a script.
+
+/// A loop that is open (profile).
+#[derive(Clone, Copy, Debug, Default, PartialEq, Eq)]
+pub struct Loop {
+    /// The index of the op at which its turns begin.
+    pub start: u16,
+    /// How many turns are left, this one included.
+    pub left: u16,
+}
