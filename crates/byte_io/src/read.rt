@@ -1,5 +1,5 @@
 //! All bytes of a source.
-ghost use Rattle.std.specs.Prelude.{◌≡◌, false, IfOk, IfSome};
+ghost use Rattle.std.specs.Prelude.{◌≡◌, ◌≢◌, [], false, IfOk, IfSome};
 ghost use Rattle.byte_io.specs.Read.{read_failed};
 ghost use Rattle.byte_io.specs.declared.read.ReadFault.TheVariants.{Memory};
 
@@ -32,6 +32,9 @@ pub fn read_all<R: Source>(alloc: Global, source: &mut R) -> Result<Vec<u8>, Rea
     requires { R.has_failed source.old ≡ false }
     ensures bytes { IfOk result (λ v. IfSome (R.left source.old) (λ bytes. v.items ≡ bytes)) }
     ensures failed { R.has_failed source.new ≡ read_failed result }
+
+    // For no bytes no memory is needed.
+    ensures memory { result ≡ Err ReadFault.Memory → R.left source.old ≢ Some [] }
 {
     let mut bytes = Vec::new(alloc);
     let mut buffer = [0u8; CHUNK];

@@ -1,5 +1,5 @@
 //! Large files and long runs, and the bounds of a file.
-ghost use Rattle.std.specs.Prelude.{◌≡◌, false};
+ghost use Rattle.std.specs.Prelude.{◌<◌};
 
 use crate::sinks::{check_text, serve};
 use byte_io::{Failed, FromReader, Sink, ToWriter};

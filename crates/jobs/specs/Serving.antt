@@ -1,12 +1,11 @@
 -- What serving a file comes to: the report of its run, or the fault that stands in the way.
-use Rattle.std.specs.Prelude.{◌≡◌, ℕ, Bool, true, false, List, Option, Some, None, Result, Ok, Err, IfSome}
+use Rattle.std.specs.Prelude.{◌≡◌, ◌≢◌, ℕ, Bool, true, false, List, [], Option, Some, None, Result, Ok, Err, IfSome}
 use Rattle.std.specs.Str.{IsUtf8}
 use Rattle.std.specs.Io.KnownBytes.{Appends, Keeps}
 use Rattle.toml.specs.Data.{Members}
 use Rattle.toml.specs.Parse.{parse_document}
 use Rattle.model.specs.Application.{Application}
-use Rattle.model.specs.Run.{IsRun}
-use Rattle.model.specs.Trace.{Line, Ending, ending_of}
+use Rattle.model.specs.Run.{Run, IsRun}
 use Rattle.model.specs.declared.event.End.{End}
 use Rattle.byte_io.specs.Bytes.{SentFront}
 use Rattle.report.specs.Text.{run_text}
@@ -29,22 +28,22 @@ IsFileOf bytes app =
     (document : Members) × IsDocument bytes document
     × (load_fault document ≡ None) × (app ≡ app_named document)
 
--- The bytes are a file with this fault. Reading, memory and writing are no matter of the file.
+-- The bytes are a file with this fault. Memory is wanted for some bytes only; reading and writing are no matter of the file.
 abbrev pub HasFault : List ℕ → ServeFault → Type 0
 HasFault bytes NotToml = IsUtf8 bytes → parse_document bytes ≡ None
 HasFault bytes (Load fault) =
     (document : Members) × IsDocument bytes document × (load_fault document ≡ Some fault)
+HasFault bytes Memory = bytes ≢ []
 HasFault bytes fault = Unit {0}
 
 -- the bytes are a file whose run, under the limits of the file itself, has this report and this end
-pub record IsReportOf (bytes report : List ℕ) (end : Ending) : Type 0 where
+pub record IsReportOf (bytes report : List ℕ) (end : End) : Type 0 where
   pub app : Application
   pub file : IsFileOf bytes app
-  pub lines : List Line
-  pub steps : ℕ
-  pub ticks : ℕ
-  pub run : IsRun app app.limits lines steps ticks end
-  pub text : report ≡ run_text app lines steps ticks end
+  pub run : Run
+  pub runs : IsRun app app.limits run
+  pub ends : run.end ≡ end
+  pub text : report ≡ run_text app run
 
 -- ---- serving
 
@@ -69,10 +68,10 @@ Known input bytes = IfSome input (λ known. bytes ≡ known)
 abbrev pub Answers : Option (List ℕ) → (old new : Option (List ℕ)) → Result End ServeFault → Type 0
 Answers input old new (Ok end) =
     (bytes : List ℕ) × Known input bytes
-    × (report : List ℕ) × IsReportOf bytes report (ending_of end) × Appends old new report
+    × (report : List ℕ) × IsReportOf bytes report end × Appends old new report
 Answers input old new (Err Write) =
     (bytes : List ℕ) × Known input bytes
-    × (report : List ℕ) × (end : Ending) × IsReportOf bytes report end × SentFront old new report
+    × (report : List ℕ) × (end : End) × IsReportOf bytes report end × SentFront old new report
 Answers input old new (Err fault) =
     ((bytes : List ℕ) × Known input bytes × HasFault bytes fault) × Keeps old new
 

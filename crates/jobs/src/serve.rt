@@ -1,13 +1,11 @@
 //! From the bytes of a file to the text of its run.
 ghost use Rattle.std.specs.Prelude.{◌≡◌, ℕ, List, false, IfOk, MatchResult};
 ghost use Rattle.model.specs.Run.{IsRun};
-ghost use Rattle.model.specs.Trace.{lines_of, ending_of};
 ghost use Rattle.jobs.specs.Serving.{IsFileOf, HasFault, is_read_fault, is_write_fault, Known, Serves};
 ghost use Rattle.jobs.specs.declared.serve.ServeFault.TheVariants as fault;
 
 use byte_io::{ReadFault, Sink, Source, WriteFault, read_all};
-use kernel::Run;
-use model::{App, End, Meter, Plan};
+use model::{App, End, Memory, Meter, Plan, Run};
 use report::write_run;
 use script::{FromDocument, LoadFault};
 use std::alloc::Global;
@@ -21,7 +19,7 @@ pub enum ServeFault {
     NotToml,
     /// The document has this fault, the first that its checks find.
     Load(LoadFault),
-    /// No memory is left.
+    /// No memory is left, for the bytes, the application or the run. For no bytes none is needed.
     Memory,
     /// The writer failed, or took none of some bytes.
     Write,
@@ -40,10 +38,10 @@ impl From<ReadFault> for ServeFault {
     }
 }
 
-impl From<kernel::Memory> for ServeFault {
+impl From<Memory> for ServeFault {
     ghost from_gives = { λ _ given. given ≡ fault.Memory };
 
-    fn from(_: kernel::Memory) -> ServeFault {
+    fn from(_: Memory) -> ServeFault {
         ServeFault::Memory
     }
 }
@@ -87,9 +85,8 @@ fn app_of<R: Source>(alloc: Global, reader: &mut R) -> Result<App, ServeFault>
 }
 
 // The run of an application under its own limits.
-fn run_of(alloc: Global, app: &App) -> Result<Run, kernel::Memory>
-    ensures { IfOk result (λ run. IsRun app.now app.now.limits (lines_of run.events.items)
-        run.steps run.ticks (ending_of run.end)) }
+fn run_of(alloc: Global, app: &App) -> Result<Run, Memory>
+    ensures { IfOk result (λ run. IsRun app.now app.now.limits run) }
 {
     let Ok(plan) = Plan::new(Vec::new(alloc)) else {
         unreachable!()
@@ -114,13 +111,6 @@ pub fn serve_run<R: Source, W: Sink>(
 {
     let app = app_of(alloc, reader)?;
     let run = run_of(alloc, &app)?;
-    write_run(
-        writer,
-        &app,
-        run.events.as_slice(),
-        run.steps,
-        run.ticks,
-        run.end,
-    )?;
+    write_run(writer, &app, &run)?;
     Ok(run.end)
 }

@@ -5,5 +5,5 @@ mod laws;
 mod run;
 mod text;
 
-pub use laws::report_of_delay_one;
-pub use run::{add_run, write_run};
+pub use laws::{report_of_delay_one, report_of_each_form};
+pub use run::write_run;

@@ -1,8 +1,9 @@
-use Rattle.std.proofs.Common.{rules}
-use Rattle.jobs.proofs.Serving.{some_text}
+use Rattle.std.proofs.Common.{ap, rules, Err}
+use Rattle.jobs.specs.Serving.{HasFault, of_reading}
+use Rattle.jobs.proofs.Serving.{reading_failed}
 use Rattle.jobs.proofs.serve.app_of.Goals as goal
 
 pub returns-in_err-bytes-clause-app : goal.returns-in_err-bytes-clause-app
 returns-in_err-bytes-clause-app g c =
-    let k = some_text (g.R.Source.left c.args.reader.now) in
+    let k = reading_failed (g.R.Source.left c.args.reader.now) _ (λ e. c.in_err-bytes.ensures.memory (ap Err e)) in
     (k.0, k.1, search rules)

@@ -2,7 +2,7 @@ use Rattle.std.proofs.Common.{◌≡◌, false, ◌++◌, drop}
 use Rattle.std.specs.List.{flat_map}
 use Rattle.byte_io.specs.Bytes.{Sent}
 use Rattle.report.specs.Text.{event_text}
-use Rattle.report.proofs.run.add_lines.Given as goal
+use Rattle.report.proofs.run.add_events.Given as goal
 
 abbrev pub invariant-loop-event : goal.invariant-loop-event
 invariant-loop-event g l = record {
