@@ -5,8 +5,9 @@ use Rattle.std.specs.Option.{option_map, unwrap_or}
 use Rattle.model.specs.declared.op.Op.{Op}
 use Rattle.model.specs.declared.op.Op.TheVariants.{Work, Delay, DelayUntil, Yield, Time, Mark, Expect, Repeat, End}
 use Rattle.model.specs.Application.{Application, Definition, script_of}
-use Rattle.model.specs.Scripts.{InRange, may_stand, depth_past, Nests, IsScript, IsDefinition, IsWellFormed}
+use Rattle.model.specs.Scripts.{InRange, may_stand, nesting_past, Nests, IsScript, IsDefinition, IsWellFormed}
 use Rattle.model.specs.Invariant.{IsUsedBy}
+use Rattle.model.proofs.Nesting.{least_work}
 
 none_formed : IsScript []
 none_formed = record { ranges = tt; nests = refl; few = omega arith }
@@ -25,17 +26,17 @@ stands_at d p [] op n e = absurd (cc)
 stands_at d zero (o ∷ ops) op n e = let same : o ≡ op = cc in rw (← same) n.0
 stands_at d (suc p) (o ∷ ops) op n e = stands_at d p ops op n e
 
-past : (d p : ℕ) (ops : List Op) (op : Op) → Nests d (drop p ops) → slice_get ops p ≡ Some op → Nests (depth_past d op) (drop (suc p) ops)
+past : (d p : ℕ) (ops : List Op) (op : Op) → Nests d (drop p ops) → slice_get ops p ≡ Some op → Nests (nesting_past d op) (drop (suc p) ops)
 past d p [] op n e = absurd (cc)
 past d zero (o ∷ ops) op n e = let same : o ≡ op = cc in rw (← same) n.1
 past d (suc p) (o ∷ ops) op n e = past d p ops op n e
 
-pub nests_past : (d p : ℕ) (ops : List Op) (op : Op) → Nests d (drop p ops) → slice_get ops p ≡ Some op → Nests (depth_past d op) (drop (p + 1) ops)
+pub nests_past : (d p : ℕ) (ops : List Op) (op : Op) → Nests d (drop p ops) → slice_get ops p ≡ Some op → Nests (nesting_past d op) (drop (p + 1) ops)
 nests_past d p ops op n e = rw add-one (past d p ops op n e)
 
 pub used_none : (p : ℕ) (ops : List Op) → AllByRecursion InRange ops → IsUsedBy 0 (slice_get ops p)
 used_none p [] h = tt
-used_none zero ((Work n) ∷ ops) h = let low = h.0.0 in omega arith
+used_none zero ((Work n) ∷ ops) h = let low = least_work n h.0 in omega arith
 used_none zero ((Delay n) ∷ ops) h = tt
 used_none zero ((DelayUntil n) ∷ ops) h = tt
 used_none zero (Yield ∷ ops) h = tt

@@ -11,7 +11,7 @@ use Rattle.model.specs.declared.event.Event.{Event}
 use Rattle.model.specs.declared.event.End as ending
 use Rattle.model.specs.declared.event.What.TheVariants as what
 use Rattle.model.specs.Application.{Application, Definition, script_of, op_at, op_count}
-use Rattle.model.specs.Scripts.{may_stand, depth_past, Nests, IsDefinition, IsWellFormed}
+use Rattle.model.specs.Scripts.{may_stand, nesting_past, Nests, IsDefinition, IsWellFormed}
 use Rattle.model.specs.State.{State, Task, Progress, Status, Ready, Asleep, Ended, ticket_if_ready, wake_time_of, task_at, progress_at, status_at, with_task, take_ticket, for_one, for_each, no_task}
 use Rattle.model.specs.Order.{Entry, tasks_of}
 use Rattle.model.specs.Switching.{make_ready, to_back, dispatch, choose, choice, is_same, is_ready, yield_now, is_outranked, is_sharing, slice, settle, is_off, write}
@@ -184,15 +184,15 @@ module _ (app : Application) (formed : IsWellFormed app) where
         (λ e. rw e (changed s i (record (task_at s i) { progress = q }) h l ticket_kept (a (status_at s i) kept)))
 
     module _ (op : Op) (is : op_at app i (progress_at s i).op_index ≡ Some op) where
-      past_it : Nests (depth_past (length (progress_at s i).loops) op) (drop ((progress_at s i).op_index + 1) (script_of app i))
+      past_it : Nests (nesting_past (length (progress_at s i).loops) op) (drop ((progress_at s i).op_index + 1) (script_of app i))
       past_it = nests_past (length (progress_at s i).loops) (progress_at s i).op_index (script_of app i) op (h.progress i).nests is
 
       -- an op that opens or closes no loop, whatever the answer
-      plain : (a : Option ℕ) → depth_past (length (progress_at s i).loops) op ≡ length (progress_at s i).loops → IsState app (complete app i (record (progress_at s i) { answer = a }) s)
+      plain : (a : Option ℕ) → nesting_past (length (progress_at s i).loops) op ≡ length (progress_at s i).loops → IsState app (complete app i (record (progress_at s i) { answer = a }) s)
       plain a e = gone ((progress_at s i).op_index + 1) (record (progress_at s i) { answer = a }) refl (rw e at past_it) (h.progress i).loops
 
   module _ (s : State) (i : ℕ) (op : Op) (h : IsState app s) (l : i < length s.tasks) (is : op_at app i (progress_at s i).op_index ≡ Some op) where
-    answered : (a : Option ℕ) → depth_past (length (progress_at s i).loops) op ≡ length (progress_at s i).loops → IsState app (answer app i a s)
+    answered : (a : Option ℕ) → nesting_past (length (progress_at s i).loops) op ≡ length (progress_at s i).loops → IsState app (answer app i a s)
     unfolding answer
     answered a e = plain (write (what.Call i (progress_at s i).op_index a) s) i (framed s _ s.steps s.stopped h) l op is a e
 
@@ -234,7 +234,7 @@ module _ (app : Application) (formed : IsWellFormed app) where
     closed_by e (x ∷ xs) same =
         let p : Progress = progress_at s i in
         let all : LoopsNest (script_of app i) (x ∷ xs) = rw same at (h.progress i).loops in
-        let P : List Loop → Type 0 = λ us. Nests (depth_past (length us) op) (drop (p.op_index + 1) (script_of app i)) in
+        let P : List Loop → Type 0 = λ us. Nests (nesting_past (length us) op) (drop (p.op_index + 1) (script_of app i)) in
         let outer : Nests (length (x ∷ xs) - 1) (drop (p.op_index + 1) (script_of app i)) = rw e at (subst P same (past_it s i h l op is)) in
         let rest : Nests (length xs) (drop (p.op_index + 1) (script_of app i)) = let n : length (x ∷ xs) - 1 ≡ length xs = omega arith in rw n at outer in
         by_test (leb x.left 1)

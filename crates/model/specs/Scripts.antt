@@ -1,62 +1,102 @@
 -- Which scripts and applications are well formed.
-use Rattle.std.specs.Prelude.{◌≡◌, ◌<◌, ◌≤◌, ℕ, ◌+◌, ◌-◌, nat_lt, Bool, true, List, [], ◌∷◌, length}
+use Rattle.std.specs.Prelude.{◌≡◌, ◌<◌, ◌≤◌, ℕ, ◌+◌, ◌-◌, ◌&&◌, nat_lt, nat_le, Bool, true, List, [], ◌∷◌, length}
 use Rattle.std.specs.List.{AllByRecursion}
 use Rattle.model.specs.declared.op.Op.{Op}
 use Rattle.model.specs.declared.op.Op.TheVariants.{Work, DelayUntil, Repeat, End}
 use Rattle.model.specs.Application.{Application, Definition}
 
--- The numbers of an op are in their ranges.
+-- ---- how many there may be (profile)
+
+-- of tasks of an application, whose number FreeRTOS leaves to memory
+abbrev pub most_tasks : ℕ
+most_tasks = 32
+
+-- of bytes of a name
+abbrev pub most_name_bytes : ℕ
+most_name_bytes = 16
+
+-- of priorities, as `configMAX_PRIORITIES` has them
+abbrev pub priorities : ℕ
+priorities = 32
+
+-- of ops of a script
+abbrev pub most_ops : ℕ
+most_ops = 256
+
+-- of loops that are open at once
+abbrev pub most_loops : ℕ
+most_loops = 4
+
+-- ---- numbers
+
+-- a number from this least to this most
+abbrev pub is_within : ℕ → ℕ → ℕ → Bool
+is_within least most n = nat_le least n && nat_le n most
+
+-- The numbers of an op are in their ranges (profile; of `delay_until` it is that of `xTaskDelayUntil`). A number that is
+-- not named here is any of 32 bits.
+abbrev pub is_in_range : Op → Bool
+is_in_range (Work n) = is_within 1 1000000 n
+is_in_range (DelayUntil n) = is_within 1 4294967295 n
+is_in_range (Repeat n) = is_within 1 1000 n
+is_in_range _ = true
+
+-- the same as a fact
 abbrev pub InRange : Op → Type 0
-InRange (Work n) = (1 ≤ n) × (n ≤ 1000000)
-InRange (DelayUntil n) = (1 ≤ n) × (n ≤ 4294967295)
-InRange (Repeat n) = (1 ≤ n) × (n ≤ 1000)
-InRange _ = Unit {0}
+InRange op = is_in_range op ≡ true
 
--- how many loops are open after an op, where so many are open before it
-abbrev pub depth_past : ℕ → Op → ℕ
-depth_past depth (Repeat n) = depth + 1
-depth_past depth End = depth - 1
-depth_past depth _ = depth
+-- ---- loops
 
--- An op may stand where so many loops are open: no fifth loop, and no end without a loop.
+-- how many loops are open after an op, where so many are open before it (profile)
+abbrev pub nesting_past : ℕ → Op → ℕ
+nesting_past nesting (Repeat n) = nesting + 1
+nesting_past nesting End = nesting - 1
+nesting_past nesting _ = nesting
+
+-- An op may stand where so many loops are open: no loop past the most, and no end without a loop (profile).
 abbrev pub may_stand : ℕ → Op → Bool
-may_stand depth (Repeat n) = nat_lt depth 4
-may_stand depth End = nat_lt 0 depth
-may_stand depth _ = true
+may_stand nesting (Repeat n) = nat_lt nesting most_loops
+may_stand nesting End = nat_lt 0 nesting
+may_stand nesting _ = true
 
 -- Ops that begin where so many loops are open: each may stand where it stands, and at the end every loop is closed.
 abbrev pub Nests : ℕ → List Op → Type 0
-Nests depth [] = depth ≡ 0
-Nests depth (op ∷ ops) = (may_stand depth op ≡ true) × Nests (depth_past depth op) ops
+Nests nesting [] = nesting ≡ 0
+Nests nesting (op ∷ ops) = (may_stand nesting op ≡ true) × Nests (nesting_past nesting op) ops
 
 -- the same, where loops may still be open at the end
 abbrev pub NestsSoFar : ℕ → List Op → Type 0
-NestsSoFar depth [] = Unit {0}
-NestsSoFar depth (op ∷ ops) = (may_stand depth op ≡ true) × NestsSoFar (depth_past depth op) ops
+NestsSoFar nesting [] = Unit {0}
+NestsSoFar nesting (op ∷ ops) = (may_stand nesting op ≡ true) × NestsSoFar (nesting_past nesting op) ops
 
 -- how many loops are open at the end
-abbrev pub depth_after : ℕ → List Op → ℕ
-depth_after depth [] = depth
-depth_after depth (op ∷ ops) = depth_after (depth_past depth op) ops
+abbrev pub nesting_after : ℕ → List Op → ℕ
+nesting_after nesting [] = nesting
+nesting_after nesting (op ∷ ops) = nesting_after (nesting_past nesting op) ops
 
+-- a whole script (profile: its most ops)
 pub record IsScript (ops : List Op) : Type 0 where
   pub ranges : AllByRecursion InRange ops
   pub nests : Nests 0 ops
-  pub few : length ops ≤ 256
+  pub few : length ops ≤ most_ops
 
 -- the beginning of a script
 pub record IsPrefix (ops : List Op) : Type 0 where
   pub ranges : AllByRecursion InRange ops
   pub nests : NestsSoFar 0 ops
-  pub few : length ops ≤ 256
+  pub few : length ops ≤ most_ops
 
+-- ---- the application
+
+-- a task that an application may have (profile: its limits)
 pub record IsDefinition (task : Definition) : Type 0 where
-  pub name : length task.name ≤ 16
-  pub priority : task.priority < 32
+  pub name : length task.name ≤ most_name_bytes
+  pub priority : task.priority < priorities
   pub script : IsScript task.script
 
+-- an application that is not refused (profile: its limits)
 pub record IsWellFormed (app : Application) : Type 0 where
   pub some : 1 ≤ length app.tasks
-  pub few : length app.tasks ≤ 32
+  pub few : length app.tasks ≤ most_tasks
   pub tasks : AllByRecursion IsDefinition app.tasks
   pub start : app.start < 4294967296

@@ -1,6 +1,6 @@
 //! Scripts whose loops are well nested, built op by op.
-ghost use Rattle.std.specs.Prelude.{◌≡◌, true, false, ◌<◌, ◌↔◌, ◌++◌, ◌∷◌, [], length, OnOk, OnErr, IsSome, IsNone, IfSome};
-ghost use Rattle.model.specs.Scripts.{IsScript, InRange, may_stand, depth_past, depth_after};
+ghost use Rattle.std.specs.Prelude.{◌≡◌, true, false, ◌<◌, ◌↔◌, ◌++◌, ◌∷◌, [], length, OnOk, OnErr, IsSome, IfSome};
+ghost use Rattle.model.specs.Scripts.{IsScript, InRange, may_stand, nesting_after};
 
 use crate::op::Op;
 use std::alloc::Global;
@@ -22,6 +22,12 @@ impl Model for Script {
 }
 
 impl Script {
+    /// The most ops of a script (profile).
+    pub const MOST_OPS: usize = 256;
+
+    /// The most loops that are open at once (profile).
+    pub const MOST_LOOPS: u8 = 4;
+
     /// The ops, in order.
     pub fn ops(&self) -> &[Op]
         ensures { result.now ≡ self.now }
@@ -30,17 +36,41 @@ impl Script {
     }
 }
 
-// How many loops are open after the op, where it may stand.
-fn depth_past(depth: u8, op: Op) -> Option<u8>
-    ensures may_stand { IsSome result ↔ (may_stand depth op ≡ true) }
-    ensures refused { IsNone result → may_stand depth op ≡ false }
-    ensures depth { IfSome result (λ past. past ≡ depth_past depth op) }
-{
-    match op {
-        Op::Repeat(_) if depth < 4 => Some(depth + 1),
-        Op::Repeat(_) => None,
-        Op::End => depth.checked_sub(1),
-        _ => Some(depth),
+impl Op {
+    ghost use Rattle.std.specs.Prelude.{◌≡◌, ◌↔◌, true, false, IsSome, IsNone, IfSome};
+    ghost use Rattle.model.specs.Scripts.{is_in_range, may_stand, nesting_past};
+
+    /// The most ticks of a `work` (profile).
+    pub const MOST_WORK: u32 = 1_000_000;
+
+    /// The most turns of a loop (profile).
+    pub const MOST_TURNS: u16 = 1000;
+
+    /// Whether its numbers are in their ranges.
+    pub fn is_in_range(self) -> bool
+        ensures { result ≡ is_in_range self }
+    {
+        match self {
+            Op::Work(ticks) => 1 <= ticks && ticks <= Self::MOST_WORK,
+            Op::DelayUntil(ticks) => 1 <= ticks,
+            Op::Repeat(turns) => 1 <= turns && turns <= Self::MOST_TURNS,
+            _ => true,
+        }
+    }
+
+    /// How many loops are open after it, where so many are open before it; `None` where it may not stand there: it opens a
+    /// loop inside four, or ends one where none is open (profile).
+    pub fn nesting_past(self, nesting: u8) -> Option<u8>
+        ensures stands { IsSome result ↔ (may_stand nesting self ≡ true) }
+        ensures refused { IsNone result ↔ (may_stand nesting self ≡ false) }
+        ensures nesting { IfSome result (λ past. past ≡ nesting_past nesting self) }
+    {
+        match self {
+            Op::Repeat(_) if nesting < Script::MOST_LOOPS => Some(nesting + 1),
+            Op::Repeat(_) => None,
+            Op::End => nesting.checked_sub(1),
+            _ => Some(nesting),
+        }
     }
 }
 
@@ -57,19 +87,19 @@ pub enum NestingFault {
 #[derive(Drop)]
 pub struct ScriptBuilder {
     ops: Vec<Op>,
-    depth: u8,
+    nesting: u8,
 }
 
 impl Model for ScriptBuilder {
     ghost use Rattle.std.specs.Prelude.{◌≡◌, List};
     ghost use Rattle.model.specs.declared.op.Op.{Op};
-    ghost use Rattle.model.specs.Scripts.{IsPrefix, depth_after};
+    ghost use Rattle.model.specs.Scripts.{IsPrefix, nesting_after};
 
     ghost Value = { List Op };
 
     ghost view = { λ b. b.ops.items };
 
-    ghost invariant = { λ b. (b.depth ≡ depth_after 0 b.ops.items) × IsPrefix b.ops.items };
+    ghost invariant = { λ b. (b.nesting ≡ nesting_after 0 b.ops.items) × IsPrefix b.ops.items };
 }
 
 impl ScriptBuilder {
@@ -79,25 +109,27 @@ impl ScriptBuilder {
     {
         ScriptBuilder {
             ops: Vec::new(alloc),
-            depth: 0,
+            nesting: 0,
         }
     }
 
-    /// Appends an op, whose numbers are in their ranges, to fewer than 256. At an `Err` the script is as it was: the op may
-    /// not stand there, or no memory is left.
+    /// Appends an op, whose numbers are in their ranges, to fewer than 256. At an `Err` the script is as it was:
+    /// `BadNesting` where the op may not stand there, whatever memory is left, and `Memory` only where it may.
     pub fn push(&mut self, op: Op) -> Result<(), NestingFault>
         requires range { InRange op }
         requires room { length self.old < 256 }
-        ensures ok { OnOk result ((self.new ≡ self.old ++ op ∷ []) × (may_stand (depth_after 0 self.old) op ≡ true)) }
+        ensures ok { OnOk result (self.new ≡ self.old ++ op ∷ []) }
+        ensures stands { OnOk result (may_stand (nesting_after 0 self.old) op ≡ true) }
         ensures err { OnErr result (self.new ≡ self.old) }
-        ensures nesting { result ≡ Err NestingFault.BadNesting → may_stand (depth_after 0 self.old) op ≡ false }
+        ensures refused { (result ≡ Err NestingFault.BadNesting)
+            ↔ (may_stand (nesting_after 0 self.old) op ≡ false) }
     {
-        let Some(depth) = depth_past(self.depth, op) else {
+        let Some(nesting) = op.nesting_past(self.nesting) else {
             return Err(NestingFault::BadNesting);
         };
         match self.ops.push(op) {
             Ok(()) => {
-                self.depth = depth;
+                self.nesting = nesting;
                 Ok(())
             }
             Err(_) => Err(NestingFault::Memory),
@@ -106,10 +138,10 @@ impl ScriptBuilder {
 
     /// The script, where every loop is closed.
     pub fn finish(self) -> Option<Script>
-        ensures closed { IsSome result ↔ (depth_after 0 self ≡ 0) }
+        ensures closed { IsSome result ↔ (nesting_after 0 self ≡ 0) }
         ensures script { IfSome result (λ script. (script ≡ self) × IsScript script) }
     {
-        if self.depth == 0 {
+        if self.nesting == 0 {
             Some(Script { ops: self.ops })
         } else {
             None

@@ -35,11 +35,13 @@ at_element p n = record p { index = Some n }
 
 -- ---- the words of a place
 
+-- the name of a section in the file
 abbrev pub section_word : Section → List ℕ
 section_word section.Start = codes "start"
 section_word section.Limits = codes "limits"
 section_word section.Task = codes "task"
 
+-- the name of a key in the file
 abbrev pub key_word : Key → List ℕ
 key_word key.Ticks = codes "ticks"
 key_word key.Steps = codes "steps"
@@ -47,9 +49,11 @@ key_word key.Name = codes "name"
 key_word key.Priority = codes "priority"
 key_word key.Script = codes "script"
 
+-- the word of an index that applies
 abbrev pub index_words : Option ℕ → List (List ℕ)
 index_words index = option_to_list (option_map decimal index)
 
+-- the word of a key that applies
 abbrev pub key_words : Option Key → List (List ℕ)
 key_words k = option_to_list (option_map key_word k)
 
@@ -57,12 +61,14 @@ key_words k = option_to_list (option_map key_word k)
 abbrev pub place_words : Place → List (List ℕ)
 place_words p = section_word p.section ∷ (index_words p.entry ++ (key_words p.key ++ index_words p.index))
 
+-- the text of one of these words
 abbrev pub word_text : PlaceWord → List ℕ
 word_text (Name name) = name.now
 word_text (Index index) = decimal index
 
 -- ---- the names and numbers of faults
 
+-- the number of a fault, as its line has it (profile)
 abbrev pub fault_code : LoadFault → ℕ
 fault_code (Missing p) = 1
 fault_code (WrongKind p) = 2
@@ -73,6 +79,7 @@ fault_code (BadNesting p) = 7
 fault_code (TooMany p) = 9
 fault_code Memory = 10
 
+-- the name of a fault, as its line has it (profile)
 abbrev pub fault_name : LoadFault → List ℕ
 fault_name (Missing p) = codes "Missing"
 fault_name (WrongKind p) = codes "WrongKind"
@@ -83,6 +90,7 @@ fault_name (BadNesting p) = codes "BadNesting"
 fault_name (TooMany p) = codes "TooMany"
 fault_name Memory = codes "Memory"
 
+-- where the check failed; want of memory has no place
 abbrev pub fault_place : LoadFault → Option Place
 fault_place (Missing p) = Some p
 fault_place (WrongKind p) = Some p
@@ -95,18 +103,19 @@ fault_place Memory = None
 
 -- ---- checks
 
--- A check is the fault that it finds, or nothing. The first of some checks that fails:
-abbrev pub first : List (Option LoadFault) → Option LoadFault
-first [] = None
-first (None ∷ checks) = first checks
-first ((Some fault) ∷ checks) = Some fault
+-- A check is the fault that it finds, or nothing. The fault of the first of some checks that finds one:
+abbrev pub first_fault : List (Option LoadFault) → Option LoadFault
+first_fault [] = None
+first_fault (None ∷ checks) = first_fault checks
+first_fault ((Some fault) ∷ checks) = Some fault
 
+-- the check that finds this fault where the test is true
 abbrev pub fails_if : Bool → LoadFault → Option LoadFault
 fails_if b fault = if b then Some fault else None
 
--- An error is the fault that the check finds, but for memory, which can run out at any check.
+-- The fault is the one that the check finds; it is never want of memory.
 abbrev pub Refuses : LoadFault → Option LoadFault → Type 0
-Refuses Memory check = Unit {0}
+Refuses Memory check = ⊥
 Refuses fault check = check ≡ Some fault
 
 -- What was read is this value where the check finds nothing, and else the fault that it finds.
@@ -118,3 +127,16 @@ Judges (Err fault) check value = Refuses fault check
 abbrev pub JudgesBy : {X Y : Type 0} → (X → Y) → Result X LoadFault → Option LoadFault → Y → Type 0
 JudgesBy view (Ok x) check value = (check ≡ None) × (view x ≡ value)
 JudgesBy view (Err fault) check value = Refuses fault check
+
+-- What a call that takes memory made is this value where the check finds nothing, unless memory is refused, and else the
+-- fault that the check finds, whatever memory is left.
+abbrev pub Loads : {X : Type 0} → Result X LoadFault → Option LoadFault → X → Type 0
+Loads (Ok x) check value = (check ≡ None) × (x ≡ value)
+Loads (Err Memory) check value = check ≡ None
+Loads (Err fault) check value = check ≡ Some fault
+
+-- the same of what a view shows of it
+abbrev pub LoadsBy : {X Y : Type 0} → (X → Y) → Result X LoadFault → Option LoadFault → Y → Type 0
+LoadsBy view (Ok x) check value = (check ≡ None) × (view x ≡ value)
+LoadsBy view (Err Memory) check value = check ≡ None
+LoadsBy view (Err fault) check value = check ≡ Some fault

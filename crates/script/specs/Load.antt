@@ -1,36 +1,43 @@
 -- All checks of a document in their order, and the application that it names.
-use Rattle.std.specs.Prelude.{[], ◌∷◌, codes, map, Option, Some, None, option_and_then}
+use Rattle.std.specs.Prelude.{ℕ, [], ◌∷◌, codes, map, Option, Some, None, option_and_then}
 use Rattle.toml.specs.Data.{Data, Members, as_table, get_member}
-use Rattle.model.specs.Application.{Application, Bounds}
+use Rattle.model.specs.Application.{Application, Limits}
 use Rattle.script.specs.declared.fault.LoadFault.{LoadFault}
 use Rattle.script.specs.declared.fault.LoadFault.TheVariants.{WrongKind}
 use Rattle.script.specs.declared.place.Section.TheVariants as section
 use Rattle.script.specs.declared.place.Key.TheVariants as key
-use Rattle.script.specs.Faults.{first, at_section, at_key}
+use Rattle.script.specs.Faults.{first_fault, at_section, at_key}
 use Rattle.script.specs.Values.{member_of, optional_fault, optional_named}
 use Rattle.script.specs.Tasks.{section_fault, section_named}
 use Rattle.script.specs.Ops.{scripts_fault, with_ops}
 
+-- the most ticks and steps that a file may ask for, and where it says nothing (profile)
+abbrev pub most_limit : ℕ
+most_limit = 1000000
+
+-- It is a table, and its keys are limits.
 abbrev pub limits_table_fault : Option Members → Option LoadFault
 limits_table_fault None = Some (WrongKind (at_section section.Limits))
-limits_table_fault (Some ms) = first (
-    optional_fault (at_key section.Limits key.Ticks) 1 1000000 (get_member (codes "ticks") ms)
-    ∷ optional_fault (at_key section.Limits key.Steps) 1 1000000 (get_member (codes "steps") ms)
+limits_table_fault (Some ms) = first_fault (
+    optional_fault (at_key section.Limits key.Ticks) 1 most_limit (get_member (codes "ticks") ms)
+    ∷ optional_fault (at_key section.Limits key.Steps) 1 most_limit (get_member (codes "steps") ms)
     ∷ [])
 
+-- The limits may be left out.
 abbrev pub limits_fault : Option Data → Option LoadFault
 limits_fault None = None
 limits_fault (Some d) = limits_table_fault (as_table d)
 
-abbrev pub limits_named : Option Data → Bounds
+-- the limits, where there are any
+abbrev pub limits_named : Option Data → Limits
 limits_named d = record {
-  ticks = optional_named 1000000 (member_of (codes "ticks") (option_and_then as_table d));
-  steps = optional_named 1000000 (member_of (codes "steps") (option_and_then as_table d));
+  ticks = optional_named most_limit (member_of (codes "ticks") (option_and_then as_table d));
+  steps = optional_named most_limit (member_of (codes "steps") (option_and_then as_table d));
 }
 
--- the first check that fails: pass one, and then the scripts of the tasks that it names
+-- the fault of the first check that fails: pass one, and then the scripts of the tasks that it names (profile)
 abbrev pub load_fault : Members → Option LoadFault
-load_fault document = first (
+load_fault document = first_fault (
     optional_fault (at_section section.Start) 0 4294967295 (get_member (codes "start") document)
     ∷ limits_fault (get_member (codes "limits") document)
     ∷ section_fault (get_member (codes "task") document)

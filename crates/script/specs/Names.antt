@@ -3,15 +3,16 @@ use Rattle.std.specs.Prelude.{ℕ, Bool, false, ◌&&◌, ◌||◌, ◌==◌, �
 use Rattle.std.specs.List.{list_all, AllPairs}
 use Rattle.std.specs.Char.{is_ascii_alphabetic, is_ascii_alphanumeric}
 use Rattle.model.specs.Application.{Application, Definition}
+use Rattle.model.specs.Scripts.{most_name_bytes}
 
--- a letter, a digit or an underscore
+-- a letter, a digit or an underscore (profile)
 abbrev pub is_name_byte : ℕ → Bool
 is_name_byte b = is_ascii_alphanumeric b || b == 95
 
--- one to sixteen of these, the first of them a letter
+-- at least one of these and not too many, the first of them a letter (profile)
 abbrev pub is_name : List ℕ → Bool
 is_name [] = false
-is_name (b ∷ bs) = nat_le (length (b ∷ bs)) 16 && (is_ascii_alphabetic b && list_all is_name_byte (b ∷ bs))
+is_name (b ∷ bs) = nat_le (length (b ∷ bs)) most_name_bytes && (is_ascii_alphabetic b && list_all is_name_byte (b ∷ bs))
 
 -- the names of the tasks, in their order
 abbrev pub task_names : Application → List (List ℕ)

@@ -3,13 +3,12 @@ ghost use Rattle.std.specs.Prelude.{Option};
 ghost use Rattle.toml.specs.Data.{Members};
 ghost use Rattle.toml.specs.View.{table_view};
 ghost use Rattle.script.specs.declared.fault.LoadFault.{LoadFault};
-ghost use Rattle.model.specs.Trace.{bounds_of};
-ghost use Rattle.script.specs.Faults.{Judges, JudgesBy};
+ghost use Rattle.script.specs.Faults.{Judges, Loads};
 ghost use Rattle.script.specs.Values.{data_of};
 ghost use Rattle.script.specs.Load.{limits_fault, limits_named, load_fault, app_named};
 
 use crate::fault::LoadFault;
-use crate::ops::with_scripts;
+use crate::ops::{check_scripts, with_scripts};
 use crate::place::{Key, Place, Section};
 use crate::tasks::raw_tasks;
 use crate::values::{member, optional_number};
@@ -18,7 +17,7 @@ use std::alloc::Global;
 use toml::{Table, Value};
 
 fn limits(value: Option<&Value>) -> Result<Limits, LoadFault>
-    ensures { JudgesBy bounds_of result (limits_fault (data_of value.entry)) (limits_named (data_of value.entry)) }
+    ensures { Judges result (limits_fault (data_of value.entry)) (limits_named (data_of value.entry)) }
 {
     let Some(value) = value else {
         return Ok(Limits {
@@ -44,9 +43,10 @@ pub trait FromDocument: Sized {
     // What a document names in which no check fails.
     ghost named_by: { Members → Self };
 
-    /// What the document names, or the fault of the first of its checks that fails, or `Memory`.
+    /// What the document names, or the fault of the first of its checks that fails, whatever memory is left; `Memory` only
+    /// where no check fails.
     fn from_document(alloc: Global, document: &Table) -> Result<Self, LoadFault>
-        ensures { Judges result (fault_in (table_view document.now)) (named_by (table_view document.now)) };
+        ensures { Loads result (fault_in (table_view document.now)) (named_by (table_view document.now)) };
 }
 
 impl FromDocument for App {
@@ -58,8 +58,9 @@ impl FromDocument for App {
         let place = Place::section(Section::Start);
         let start = optional_number(member(document, "start"), place, 0, u32::MAX, 0)?;
         let limits = limits(member(document, "limits"))?;
-        let raw = raw_tasks(alloc, member(document, "task"))?;
-        let tasks = with_scripts(alloc, raw.as_slice())?;
+        let tasks = raw_tasks(member(document, "task"))?;
+        check_scripts(tasks.as_slice())?;
+        let tasks = with_scripts(alloc, tasks.as_slice())?;
         Ok(App::new(start, limits, tasks))
     }
 }

@@ -15,6 +15,9 @@ fn are_name_bytes(bytes: &[u8]) -> bool
     bytes.iter().all(|byte| is_name_byte(*byte))
 }
 
+// The most bytes of a name (profile).
+const MOST_BYTES: usize = 16;
+
 // One to sixteen letters, digits and underscores, the first of them a letter.
 pub(crate) fn is_name(text: &str) -> bool
     ensures { result ≡ is_name text.now }
@@ -22,6 +25,6 @@ pub(crate) fn is_name(text: &str) -> bool
     let bytes = text.as_bytes();
     match bytes {
         [] => false,
-        [first, ..] => bytes.len() <= 16 && first.is_ascii_alphabetic() && are_name_bytes(bytes),
+        [first, ..] => bytes.len() <= MOST_BYTES && first.is_ascii_alphabetic() && are_name_bytes(bytes),
     }
 }

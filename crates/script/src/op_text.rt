@@ -1,11 +1,11 @@
-//! Which words spell which op.
-ghost use Rattle.std.specs.Prelude.{◌≡◌, List, ℕ, Some, IfSome, map};
+//! Which text spells which op.
+ghost use Rattle.std.specs.Prelude.{◌≡◌, List, ℕ, None, Some, IfSome, MatchOption, option_and_then};
 ghost use Rattle.std.specs.Str.{bytes_eq};
 ghost use Rattle.model.specs.declared.op.Op.{Op};
 ghost use Rattle.model.specs.Scripts.{InRange};
-ghost use Rattle.script.specs.Grammar.{answer_from, plain_ops, plain_op, paired_ops, paired_op, op_of, Spells};
+ghost use Rattle.script.specs.Grammar.{words_of, Done, forms, read, read_by, if_in_range, op_of, Spells};
 
-use crate::words::number_from;
+use crate::words::Words;
 use model::Op;
 
 fn is(word: &[u8], name: &str) -> bool
@@ -14,25 +14,27 @@ fn is(word: &[u8], name: &str) -> bool
     word == name.as_bytes()
 }
 
-// A number, or that there is none.
-fn answer_from(word: &[u8]) -> Option<Option<u32>>
-    ensures { result ≡ answer_from word.now }
+// The op of this word, whose arguments are the next words.
+fn op_after(word: &[u8], words: &mut Words<'_>) -> Option<Op>
+    ensures { MatchOption result (option_and_then if_in_range (read_by forms word.now words.old) ≡ None)
+        (λ op. read_by forms word.now words.old ≡ read (Done op) words.new) }
 {
-    if is(word, "none") {
-        return Some(None);
-    }
-    Some(Some(number_from(word, 0, u32::MAX)?))
-}
-
-// The op of a word.
-fn plain_op(word: &[u8]) -> Option<Op>
-    ensures op { result ≡ plain_op plain_ops word.now }
-    ensures range { IfSome result InRange }
-{
-    if is(word, "yield") {
+    if is(word, "work") {
+        Some(Op::Work(words.number()?))
+    } else if is(word, "delay") {
+        Some(Op::Delay(words.number()?))
+    } else if is(word, "delay_until") {
+        Some(Op::DelayUntil(words.number()?))
+    } else if is(word, "yield") {
         Some(Op::Yield)
     } else if is(word, "time") {
         Some(Op::Time)
+    } else if is(word, "mark") {
+        Some(Op::Mark(words.number()?))
+    } else if is(word, "expect") {
+        Some(Op::Expect(words.answer()?))
+    } else if is(word, "repeat") {
+        Some(Op::Repeat(u16::try_from(words.number()?).ok()?))
     } else if is(word, "end") {
         Some(Op::End)
     } else {
@@ -40,37 +42,18 @@ fn plain_op(word: &[u8]) -> Option<Op>
     }
 }
 
-// The op of a word and an argument.
-fn paired_op(word: &[u8], argument: &[u8]) -> Option<Op>
-    ensures op { result ≡ paired_op paired_ops word.now argument.now }
+/// The op that a text spells; `None` where it spells none.
+pub fn op_of(text: &[u8]) -> Option<Op>
+    ensures op { result ≡ op_of (words_of text.now) }
     ensures range { IfSome result InRange }
 {
-    if is(word, "work") {
-        Some(Op::Work(number_from(argument, 1, 1_000_000)?))
-    } else if is(word, "delay") {
-        Some(Op::Delay(number_from(argument, 0, u32::MAX)?))
-    } else if is(word, "delay_until") {
-        Some(Op::DelayUntil(number_from(argument, 1, u32::MAX)?))
-    } else if is(word, "mark") {
-        Some(Op::Mark(number_from(argument, 0, u32::MAX)?))
-    } else if is(word, "expect") {
-        Some(Op::Expect(answer_from(argument)?))
-    } else if is(word, "repeat") {
-        Some(Op::Repeat(number_from(argument, 1, 1000)? as u16))
+    let mut words = Words::new(text);
+    let word = words.next()?;
+    let op = op_after(word, &mut words)?;
+    if words.is_at_end() && op.is_in_range() {
+        Some(op)
     } else {
         None
-    }
-}
-
-/// The op that the words spell; `None` where they spell none.
-pub fn op_of(words: &[&[u8]]) -> Option<Op>
-    ensures op { result ≡ op_of (map (λ w. w.now) words.now) }
-    ensures range { IfSome result InRange }
-{
-    match words {
-        [word] => plain_op(word),
-        [word, argument] => paired_op(word, argument),
-        _ => None,
     }
 }
 

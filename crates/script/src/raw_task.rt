@@ -1,5 +1,6 @@
 //! Tasks between the two passes.
 ghost use Rattle.std.specs.Prelude.{◌≤◌, ◌<◌, length};
+ghost use Rattle.model.specs.Scripts.{most_name_bytes, priorities, most_ops};
 
 use toml::Value;
 
@@ -9,7 +10,18 @@ pub(crate) struct RawTask<'a> {
     pub(crate) name: &'a str,
     pub(crate) priority: u8,
     pub(crate) script: &'a [Value],
-    pub(crate) ghost short: { length name.now ≤ 16 },
-    pub(crate) ghost known: { priority < 32 },
-    pub(crate) ghost few: { length script.now ≤ 256 },
+    pub(crate) ghost short: { length name.now ≤ most_name_bytes },
+    pub(crate) ghost known: { priority < priorities },
+    pub(crate) ghost few: { length script.now ≤ most_ops },
+}
+
+// What stands in an array of tasks where none has been put yet.
+impl Default for RawTask<'_> {
+    fn default() -> Self {
+        RawTask {
+            name: "",
+            priority: 0,
+            script: &[],
+        }
+    }
 }

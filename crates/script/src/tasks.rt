@@ -1,6 +1,7 @@
 //! The tasks of a document in pass one, which leaves the ops of their scripts as they stand.
-ghost use Rattle.std.specs.Prelude.{◌≡◌, ◌≤◌, ◌<◌, [], map, length, IfOk};
+ghost use Rattle.std.specs.Prelude.{◌≡◌, ◌≤◌, [], map, length, IfOk};
 ghost use Rattle.toml.specs.View.{view, items_view};
+ghost use Rattle.model.specs.Scripts.{most_tasks};
 ghost use Rattle.script.specs.Faults.{Judges, JudgesBy};
 ghost use Rattle.script.specs.Values.{data_of};
 ghost use Rattle.script.specs.Tasks.{texts_fault, few_texts_fault, script_fault, items_named, task_fault, task_named, raw_view, tasks_fault, tasks_named, entries_fault, section_fault, section_named};
@@ -9,8 +10,18 @@ use crate::fault::LoadFault;
 use crate::place::{Key, Place, Section};
 use crate::raw_task::RawTask;
 use crate::values::{member, new_name, required_number};
-use std::alloc::Global;
+use arrayvec::ArrayVec;
+use model::Script;
 use toml::Value;
+
+// The most tasks (profile).
+const MOST_TASKS: usize = 32;
+
+// The highest priority (profile).
+const HIGHEST_PRIORITY: u32 = 31;
+
+/// The tasks of a document, whose ops are still texts.
+pub(crate) type RawTasks<'a> = ArrayVec<RawTask<'a>, MOST_TASKS>;
 
 // Each is a text.
 fn are_texts(texts: &[Value], place: Place) -> Result<(), LoadFault>
@@ -38,7 +49,8 @@ fn are_few_texts(texts: &[Value], most: usize, place: Place) -> Result<(), LoadF
 
 // The texts of a script, at most so many.
 fn script(value: Option<&Value>, most: usize, place: Place) -> Result<&[Value], LoadFault>
-    ensures checks { JudgesBy (λ texts. items_view texts.now) result (script_fault most place (data_of value.entry)) (items_named (data_of value.entry)) }
+    ensures checks { JudgesBy (λ texts. items_view texts.now) result
+        (script_fault most place (data_of value.entry)) (items_named (data_of value.entry)) }
     ensures few { IfOk result (λ texts. length texts.now ≤ most) }
 {
     let Some(value) = value else {
@@ -53,7 +65,8 @@ fn script(value: Option<&Value>, most: usize, place: Place) -> Result<&[Value], 
 
 // The task at this index, after tasks of these names.
 fn task<'a>(value: &'a Value, entry: usize, names: &[&str]) -> Result<RawTask<'a>, LoadFault>
-    ensures { JudgesBy raw_view result (task_fault (map (λ n. n.now) names.now) entry (view value.now)) (task_named (view value.now)) }
+    ensures { JudgesBy raw_view result
+        (task_fault (map (λ n. n.now) names.now) entry (view value.now)) (task_named (view value.now)) }
 {
     let Some(table) = value.as_table() else {
         return Err(LoadFault::WrongKind(Place::entry(Section::Task, entry)));
@@ -61,9 +74,9 @@ fn task<'a>(value: &'a Value, entry: usize, names: &[&str]) -> Result<RawTask<'a
     let place = Place::field(Section::Task, entry, Key::Name);
     let name = new_name(member(table, "name"), place, names)?;
     let place = Place::field(Section::Task, entry, Key::Priority);
-    let priority = required_number(member(table, "priority"), place, 0, 31)?;
+    let priority = required_number(member(table, "priority"), place, 0, HIGHEST_PRIORITY)?;
     let place = Place::field(Section::Task, entry, Key::Script);
-    let script = script(member(table, "script"), 256, place)?;
+    let script = script(member(table, "script"), Script::MOST_OPS, place)?;
     Ok(RawTask {
         name,
         priority: priority as u8,
@@ -71,41 +84,46 @@ fn task<'a>(value: &'a Value, entry: usize, names: &[&str]) -> Result<RawTask<'a
     })
 }
 
-fn tasks_of<'a>(alloc: Global, values: &'a [Value]) -> Result<Vec<RawTask<'a>>, LoadFault>
-    ensures checks { JudgesBy (λ v. map raw_view v.items) result (tasks_fault [] 0 (items_view values.now)) (tasks_named (items_view values.now)) }
+// Each of these tasks in order.
+fn tasks_of(values: &[Value]) -> Result<RawTasks<'_>, LoadFault>
+    requires { length values.now ≤ most_tasks }
+    ensures checks { JudgesBy (λ v. map raw_view v.items) result
+        (tasks_fault [] 0 (items_view values.now)) (tasks_named (items_view values.now)) }
     ensures count { IfOk result (λ v. length v.items ≡ length values.now) }
 {
-    let mut names = Vec::new(alloc);
-    let mut tasks = Vec::new(alloc);
+    let mut names = ArrayVec::<&str, MOST_TASKS>::new();
+    let mut tasks = ArrayVec::new();
     for (entry, value) in values.iter().enumerate() {
         let task = task(value, entry, names.as_slice())?;
-        names.push(task.name)?;
-        tasks.push(task)?;
+        names.push(task.name);
+        tasks.push(task);
     }
     Ok(tasks)
 }
 
+// One task to the most that there may be.
 #[tactic(auto, using(crate::proofs::Views::items_len_view))]
-fn some_tasks<'a>(alloc: Global, values: &'a [Value]) -> Result<Vec<RawTask<'a>>, LoadFault>
-    ensures checks { JudgesBy (λ v. map raw_view v.items) result (entries_fault (items_view values.now)) (tasks_named (items_view values.now)) }
-    ensures count { IfOk result (λ v. (1 ≤ length v.items) × (length v.items ≤ 32)) }
+fn some_tasks(values: &[Value]) -> Result<RawTasks<'_>, LoadFault>
+    ensures checks { JudgesBy (λ v. map raw_view v.items) result
+        (entries_fault (items_view values.now)) (tasks_named (items_view values.now)) }
+    ensures some { IfOk result (λ v. 1 ≤ length v.items) }
+    ensures few { IfOk result (λ v. length v.items ≤ most_tasks) }
 {
     if values.is_empty() {
         return Err(LoadFault::Missing(Place::section(Section::Task)));
     }
-    if values.len() > 32 {
+    if values.len() > MOST_TASKS {
         return Err(LoadFault::TooMany(Place::section(Section::Task)));
     }
-    tasks_of(alloc, values)
+    tasks_of(values)
 }
 
-// The tasks of the section, 1 to 32.
-pub(crate) fn raw_tasks<'a>(
-    alloc: Global,
-    value: Option<&'a Value>,
-) -> Result<Vec<RawTask<'a>>, LoadFault>
-    ensures checks { JudgesBy (λ v. map raw_view v.items) result (section_fault (data_of value.entry)) (section_named (data_of value.entry)) }
-    ensures count { IfOk result (λ v. (1 ≤ length v.items) × (length v.items ≤ 32)) }
+/// The tasks of the section, 1 to 32, whose ops are still texts. It takes no memory.
+pub(crate) fn raw_tasks(value: Option<&Value>) -> Result<RawTasks<'_>, LoadFault>
+    ensures checks { JudgesBy (λ v. map raw_view v.items) result
+        (section_fault (data_of value.entry)) (section_named (data_of value.entry)) }
+    ensures some { IfOk result (λ v. 1 ≤ length v.items) }
+    ensures few { IfOk result (λ v. length v.items ≤ most_tasks) }
 {
     let Some(value) = value else {
         return Err(LoadFault::Missing(Place::section(Section::Task)));
@@ -113,5 +131,5 @@ pub(crate) fn raw_tasks<'a>(
     let Some(values) = value.as_array() else {
         return Err(LoadFault::WrongKind(Place::section(Section::Task)));
     };
-    some_tasks(alloc, values.as_slice())
+    some_tasks(values.as_slice())
 }

@@ -4,6 +4,7 @@ ghost use Rattle.std.specs.List.{list_any};
 ghost use Rattle.std.specs.Str.{bytes_eq};
 ghost use Rattle.toml.specs.Data.{get_member};
 ghost use Rattle.toml.specs.View.{view, table_view};
+ghost use Rattle.model.specs.Scripts.{most_name_bytes};
 ghost use Rattle.script.specs.Faults.{Judges, JudgesBy};
 ghost use Rattle.script.specs.Values.{data_of, number_fault, number_named, optional_fault, optional_named, required_fault, required_named, name_fault, name_named};
 
@@ -21,7 +22,8 @@ pub(crate) fn member<'a>(table: &'a Table, key: &str) -> Option<&'a Value>
 
 // A number of this range.
 fn number(value: &Value, place: Place, low: u32, high: u32) -> Result<u32, LoadFault>
-    ensures checks { Judges result (number_fault place low high (view value.now)) (number_named (view value.now)) }
+    ensures checks { Judges result (number_fault place low high (view value.now))
+        (number_named (view value.now)) }
     ensures range { IfOk result (λ n. (low ≤ n) × (n ≤ high)) }
 {
     match value.as_integer() {
@@ -43,7 +45,8 @@ pub(crate) fn optional_number(
 ) -> Result<u32, LoadFault>
     requires low { low ≤ default }
     requires high { default ≤ high }
-    ensures checks { Judges result (optional_fault place low high (data_of value.entry)) (optional_named default (data_of value.entry)) }
+    ensures checks { Judges result (optional_fault place low high (data_of value.entry))
+        (optional_named default (data_of value.entry)) }
     ensures range { IfOk result (λ n. (low ≤ n) × (n ≤ high)) }
 {
     match value {
@@ -59,7 +62,8 @@ pub(crate) fn required_number(
     low: u32,
     high: u32,
 ) -> Result<u32, LoadFault>
-    ensures checks { Judges result (required_fault place low high (data_of value.entry)) (required_named (data_of value.entry)) }
+    ensures checks { Judges result (required_fault place low high (data_of value.entry))
+        (required_named (data_of value.entry)) }
     ensures range { IfOk result (λ n. (low ≤ n) × (n ≤ high)) }
 {
     match value {
@@ -85,8 +89,10 @@ pub(crate) fn new_name<'a>(
     place: Place,
     names: &[&str],
 ) -> Result<&'a str, LoadFault>
-    ensures checks { JudgesBy (λ name. name.now) result (name_fault place (map (λ n. n.now) names.now) (data_of value.entry)) (name_named (data_of value.entry)) }
-    ensures length { IfOk result (λ name. length name.now ≤ 16) }
+    ensures checks { JudgesBy (λ name. name.now) result
+        (name_fault place (map (λ n. n.now) names.now) (data_of value.entry))
+        (name_named (data_of value.entry)) }
+    ensures length { IfOk result (λ name. length name.now ≤ most_name_bytes) }
 {
     let Some(value) = value else {
         return Err(LoadFault::Missing(place));

@@ -1,31 +1,35 @@
-//! The words of an op's text, and the numbers among them.
-ghost use Rattle.std.specs.Prelude.{◌≡◌, ◌≤◌, ◌==◌, IfOk, IfSome, map, length, true};
+//! The words of an op's text, and what they say.
+ghost use Rattle.std.specs.Prelude.{◌≡◌, ◌==◌, ◌↔◌, ◌⊎◌, ◌<◌, ◌≤◌, [], ◌∷◌, None, Some, IsNone, IfSome, IsTrue, MatchOption, length, true};
 ghost use Rattle.std.specs.Char.{is_ascii_digit};
-ghost use Rattle.std.specs.List.{list_all, slice_split};
+ghost use Rattle.std.specs.List.{list_all, position_or_len};
 ghost use Rattle.std.specs.Str.Parse.{digits_value};
-ghost use Rattle.script.specs.Grammar.{words, is_number, number, number_from};
+ghost use Rattle.script.specs.Grammar.{words_of, is_number, number_of, answer_of, take_by};
 
-use std::alloc::{AllocError, Global};
+use std::marker::Model;
 
-// The pieces of a text between which the spaces stand.
-fn pieces_of<'a>(alloc: Global, text: &'a [u8]) -> Result<Vec<&'a [u8]>, AllocError>
-    ensures { IfOk result (λ v. map (λ w. w.now) v.items ≡ slice_split (λ b. b == 32) text.now) }
+// The text from its first word on.
+fn trim_start(text: &[u8]) -> &[u8]
+    ensures words { words_of result.now ≡ words_of text.now }
+    ensures word { (result.now ≡ []) ⊎ (0 < position_or_len (λ b. b == 32) result.now) }
 {
-    text.split(|byte| *byte == b' ').collect(alloc)
+    let mut left = text;
+    while let [b' ', after @ ..] = left {
+        left = after;
+    }
+    left
 }
 
-// The words of a text, which stand between spaces.
-pub(crate) fn words_of<'a>(alloc: Global, text: &'a [u8]) -> Result<Vec<&'a [u8]>, AllocError>
-    ensures { IfOk result (λ v. map (λ w. w.now) v.items ≡ words text.now) }
+// Where the first space of a text stands, or the text ends.
+fn word_length(text: &[u8]) -> usize
+    ensures space { result ≡ position_or_len (λ b. b == 32) text.now }
+    ensures within { result ≤ length text.now }
 {
-    let pieces = pieces_of(alloc, text)?;
-    let mut words = Vec::new(alloc);
-    for piece in &pieces {
-        if !piece.is_empty() {
-            words.push(*piece)?;
+    for (index, byte) in text.iter().enumerate() {
+        if *byte == b' ' {
+            return index;
         }
     }
-    Ok(words)
+    text.len()
 }
 
 fn are_digits(bytes: &[u8]) -> bool
@@ -55,24 +59,84 @@ fn value_of(digits: &[u8]) -> u64
 }
 
 // The number that a word writes.
-fn number(word: &[u8]) -> Option<u64>
-    ensures { result ≡ number word.now }
+fn number_of(word: &[u8]) -> Option<u32>
+    ensures { result ≡ number_of word.now }
 {
     if is_number(word) {
-        Some(value_of(word))
+        u32::try_from(value_of(word)).ok()
     } else {
         None
     }
 }
 
-// A number of this range.
-pub(crate) fn number_from(word: &[u8], low: u32, high: u32) -> Option<u32>
-    ensures number { result ≡ number_from low high word.now }
-    ensures range { IfSome result (λ n. (low ≤ n) × (n ≤ high)) }
+// The answer that a word writes.
+fn answer_of(word: &[u8]) -> Option<Option<u32>>
+    ensures { result ≡ answer_of word.now }
 {
-    let value = number(word)?;
-    if value < u64::from(low) || u64::from(high) < value {
-        return None;
+    if word == b"none".as_slice() {
+        Some(None)
+    } else {
+        number_of(word).map(Some)
     }
-    Some(value as u32)
+}
+
+/// The words of a text that are still to be read.
+#[derive(Drop)]
+pub(crate) struct Words<'a> {
+    text: &'a [u8],
+}
+
+impl<'a> Model for Words<'a> {
+    ghost use Rattle.std.specs.Prelude.{List};
+    ghost use Rattle.script.specs.Grammar.{Word, words_of};
+
+    ghost Value = { List Word };
+
+    ghost view = { λ w. words_of w.text.now };
+}
+
+impl<'a> Words<'a> {
+    /// The words of a text.
+    pub(crate) fn new(text: &'a [u8]) -> Self
+        ensures { result ≡ words_of text.now }
+    {
+        Words { text }
+    }
+
+    /// The next word.
+    pub(crate) fn next(&mut self) -> Option<&'a [u8]>
+        ensures none { IsNone result → self.old ≡ [] }
+        ensures some { IfSome result (λ word. self.old ≡ word.now ∷ self.new) }
+    {
+        let text = trim_start(self.text);
+        if text.is_empty() {
+            return None;
+        }
+        let (word, left) = text.split_at(word_length(text));
+        self.text = left;
+        Some(word)
+    }
+
+    /// The number that the next word writes.
+    pub(crate) fn number(&mut self) -> Option<u32>
+        ensures { MatchOption result (take_by number_of self.old ≡ None)
+            (λ n. take_by number_of self.old ≡ Some (n, self.new)) }
+    {
+        number_of(self.next()?)
+    }
+
+    /// The answer that the next word writes.
+    pub(crate) fn answer(&mut self) -> Option<Option<u32>>
+        ensures { MatchOption result (take_by answer_of self.old ≡ None)
+            (λ a. take_by answer_of self.old ≡ Some (a, self.new)) }
+    {
+        answer_of(self.next()?)
+    }
+
+    /// Whether no word is left.
+    pub(crate) fn is_at_end(&self) -> bool
+        ensures { IsTrue result ↔ (self.now ≡ []) }
+    {
+        trim_start(self.text).is_empty()
+    }
 }

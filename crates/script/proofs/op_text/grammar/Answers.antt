@@ -1,4 +1,4 @@
-use Rattle.script.proofs.OpTexts.{sound, complete}
+use Rattle.script.proofs.Reading.{sound, complete}
 use Rattle.script.proofs.op_text.grammar.Goals as goal
 
 pub returns-clause-sound : goal.returns-clause-sound

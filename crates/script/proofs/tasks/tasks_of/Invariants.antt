@@ -5,7 +5,9 @@ use Rattle.script.proofs.tasks.tasks_of.Given as goal
 
 abbrev pub invariant-loop-entry : goal.invariant-loop-entry
 invariant-loop-entry l = record {
-  checks : tasks_fault [] 0 (items_view l.values) ≡ tasks_fault (map (λ n. n.now) l.names.items) l.entry (items_view (drop l.entry l.values));
+  checks : tasks_fault [] 0 (items_view l.values)
+      ≡ tasks_fault (map (λ n. n.now) l.names.items) l.entry (items_view (drop l.entry l.values));
   named : tasks_named (items_view l.values) ≡ map raw_view l.tasks.items ++ tasks_named (items_view (drop l.entry l.values));
+  named_count : length l.names.items ≡ l.entry;
   count : length l.tasks.items ≡ l.entry;
 }
