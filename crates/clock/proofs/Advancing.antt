@@ -2,11 +2,11 @@
 use Rattle.std.proofs.Common.{◌≡◌, ◌≢◌, ℕ, ◌<◌, ◌≤◌, ◌+◌, ◌-◌, ◌^◌, List, [], ◌∷◌, ◌++◌, sym, ◌∙◌, ap, ap₂, subst, arith, refl, append_assoc, append-nil}
 use Rattle.lists.specs.Lists.{Each, IsSorted, IsSound, entries_of}
 use Rattle.lists.proofs.Entries.{Each-right, Each-imp, Each-append, IsSorted-right}
-use Rattle.clock.specs.Sleepers.{Time, Advances, moved, at_moment, time_of, IsClock}
-use Rattle.clock.proofs.Sleeping.{Each-moved}
+use Rattle.clock.specs.Timeline.{Timeline, Advances, count_from, all_until, timeline_of, IsClock}
+use Rattle.clock.proofs.Sleeping.{Each-count_from}
 
 -- a clock whose tick has gone on, and whose due sleepers are still in the current list
-pub record Turned (ls : List (List (ℕ × ℕ))) (start base tick current overflow : ℕ) (old : Time) : Type 0 where
+pub record Turned (ls : List (List (ℕ × ℕ))) (start base tick current overflow : ℕ) (old : Timeline) : Type 0 where
   pub sound : IsSound 2 32 ls
   pub current_known : current < 2
   pub overflow_known : overflow < 2
@@ -20,18 +20,18 @@ pub record Turned (ls : List (List (ℕ × ℕ))) (start base tick current overf
   pub overflow_sorted : IsSorted (entries_of ls overflow)
   pub now : base + tick ≡ old.now + 1
   pub age : base + tick - start ≡ old.age + 1
-  pub sleepers : old.sleepers ≡ moved base (entries_of ls current) ++ moved (base + 2 ^ 32) (entries_of ls overflow)
+  pub delayed : old.delayed_list ≡ count_from base (entries_of ls current) ++ count_from (base + 2 ^ 32) (entries_of ls overflow)
 
 none_between : (tick : ℕ) (xs : List (ℕ × ℕ)) → tick + 1 ≡ 2 ^ 32 → Each (λ e. tick < e.1) xs → Each (λ e. e.1 < 2 ^ 32) xs → xs ≡ []
 none_between tick [] full a b = refl
 none_between tick (x ∷ xs) full a b = absurd (omega (arith, full, a.0, b.0))
 
-module _ {ls : List (List (ℕ × ℕ))} {start base tick current overflow : ℕ} {old : Time} (h : IsClock ls start base tick current overflow) (is : time_of ls start base tick current overflow ≡ old) where
+module _ {ls : List (List (ℕ × ℕ))} {start base tick current overflow : ℕ} {old : Timeline} (h : IsClock ls start base tick current overflow) (is : timeline_of ls start base tick current overflow ≡ old) where
   now_is : base + tick ≡ old.now
-  now_is = ap (λ (t : Time). t.now) is
+  now_is = ap (λ (t : Timeline). t.now) is
 
   age_is : base + tick - start ≡ old.age
-  age_is = ap (λ (t : Time). t.age) is
+  age_is = ap (λ (t : Timeline). t.age) is
 
   -- the last tick of a turn: the lists are swapped
   pub turned_over : (next : ℕ) → next ≡ base + 2 ^ 32 → tick + 1 ≡ 2 ^ 32 → Turned ls start next 0 overflow current old
@@ -54,12 +54,12 @@ module _ {ls : List (List (ℕ × ℕ))} {start base tick current overflow : ℕ
         overflow_sorted = h.sorted;
         now = omega (arith, full, now, after);
         age = omega (arith, full, age, after, started);
-        sleepers =
-            sym (ap (λ (t : Time). t.sleepers) is)
-            ∙ ap (λ (xs : List (ℕ × ℕ)). moved base xs ++ moved (base + 2 ^ 32) (entries_of ls overflow)) none
-            ∙ ap (λ (b : ℕ). moved b (entries_of ls overflow)) (sym after)
-            ∙ sym (append-nil (moved next (entries_of ls overflow)))
-            ∙ ap (λ (xs : List (ℕ × ℕ)). moved next (entries_of ls overflow) ++ moved (next + 2 ^ 32) xs) (sym none);
+        delayed =
+            sym (ap (λ (t : Timeline). t.delayed_list) is)
+            ∙ ap (λ (xs : List (ℕ × ℕ)). count_from base xs ++ count_from (base + 2 ^ 32) (entries_of ls overflow)) none
+            ∙ ap (λ (b : ℕ). count_from b (entries_of ls overflow)) (sym after)
+            ∙ sym (append-nil (count_from next (entries_of ls overflow)))
+            ∙ ap (λ (xs : List (ℕ × ℕ)). count_from next (entries_of ls overflow) ++ count_from (next + 2 ^ 32) xs) (sym none);
       }
 
   -- any other tick
@@ -82,18 +82,18 @@ module _ {ls : List (List (ℕ × ℕ))} {start base tick current overflow : ℕ
         overflow_sorted = h.overflow_sorted;
         now = omega (arith, now);
         age = omega (arith, age, started);
-        sleepers = sym (ap (λ (t : Time). t.sleepers) is);
+        delayed = sym (ap (λ (t : Timeline). t.delayed_list) is);
       }
 
-moved-append : (b : ℕ) (xs ys : List (ℕ × ℕ)) → moved b (xs ++ ys) ≡ moved b xs ++ moved b ys
-moved-append b [] ys = refl
-moved-append b (x ∷ xs) ys = ap (λ (zs : List (ℕ × ℕ)). (x.0, b + x.1) ∷ zs) (moved-append b xs ys)
+count_from-append : (b : ℕ) (xs ys : List (ℕ × ℕ)) → count_from b (xs ++ ys) ≡ count_from b xs ++ count_from b ys
+count_from-append b [] ys = refl
+count_from-append b (x ∷ xs) ys = ap (λ (zs : List (ℕ × ℕ)). (x.0, b + x.1) ∷ zs) (count_from-append b xs ys)
 
-moved-at_moment : (b tick : ℕ) (due : List ℕ) → moved b (at_moment tick due) ≡ at_moment (b + tick) due
-moved-at_moment b tick [] = refl
-moved-at_moment b tick (x ∷ xs) = ap (λ (zs : List (ℕ × ℕ)). (x, b + tick) ∷ zs) (moved-at_moment b tick xs)
+count_from-all_until : (b tick : ℕ) (due : List ℕ) → count_from b (all_until tick due) ≡ all_until (b + tick) due
+count_from-all_until b tick [] = refl
+count_from-all_until b tick (x ∷ xs) = ap (λ (zs : List (ℕ × ℕ)). (x, b + tick) ∷ zs) (count_from-all_until b tick xs)
 
-module _ {ls : List (List (ℕ × ℕ))} {start base tick current overflow : ℕ} {old : Time} (h : Turned ls start base tick current overflow old) (ls' : List (List (ℕ × ℕ))) (due : List ℕ) (taken : entries_of ls current ≡ at_moment tick due ++ entries_of ls' current) (later : Each (λ e. tick < e.1) (entries_of ls' current)) (others : (k : ℕ) → k ≢ current → entries_of ls' k ≡ entries_of ls k) where
+module _ {ls : List (List (ℕ × ℕ))} {start base tick current overflow : ℕ} {old : Timeline} (h : Turned ls start base tick current overflow old) (ls' : List (List (ℕ × ℕ))) (due : List ℕ) (taken : entries_of ls current ≡ all_until tick due ++ entries_of ls' current) (later : Each (λ e. tick < e.1) (entries_of ls' current)) (others : (k : ℕ) → k ≢ current → entries_of ls' k ≡ entries_of ls k) where
   other_same : entries_of ls' overflow ≡ entries_of ls overflow
   other_same = others overflow (λ e. h.differ (sym e))
 
@@ -105,28 +105,28 @@ module _ {ls : List (List (ℕ × ℕ))} {start base tick current overflow : ℕ
     differ = h.differ;
     started = h.started;
     ahead = later;
-    fits = Each-right (λ e. e.1 < 2 ^ 32) (at_moment tick due) (entries_of ls' current) (subst (Each (λ e. e.1 < 2 ^ 32)) taken h.fits);
+    fits = Each-right (λ e. e.1 < 2 ^ 32) (all_until tick due) (entries_of ls' current) (subst (Each (λ e. e.1 < 2 ^ 32)) taken h.fits);
     overflow_fits = subst (Each (λ e. e.1 < 2 ^ 32)) (sym other_same) h.overflow_fits;
-    sorted = IsSorted-right (at_moment tick due) (entries_of ls' current) (subst IsSorted taken h.sorted);
+    sorted = IsSorted-right (all_until tick due) (entries_of ls' current) (subst IsSorted taken h.sorted);
     overflow_sorted = subst IsSorted (sym other_same) h.overflow_sorted;
   }
 
   -- those left are later than now
-  left_later : Each (λ e. base + tick < e.1) (moved base (entries_of ls' current) ++ moved (base + 2 ^ 32) (entries_of ls' overflow))
+  left_later : Each (λ e. base + tick < e.1) (count_from base (entries_of ls' current) ++ count_from (base + 2 ^ 32) (entries_of ls' overflow))
   left_later =
       let tick_fits = h.tick_fits in
-      Each-append (λ e. base + tick < e.1) (moved base (entries_of ls' current)) (moved (base + 2 ^ 32) (entries_of ls' overflow))
-      (Each-moved (λ e. base + tick < e.1) base (entries_of ls' current) (Each-imp (λ e. tick < e.1) (λ e. base + tick < base + e.1) (entries_of ls' current) (λ e lt. omega (arith, lt)) later))
-      (Each-moved (λ e. base + tick < e.1) (base + 2 ^ 32) (entries_of ls' overflow) (Each-imp (λ e. e.1 < 2 ^ 32) (λ e. base + tick < base + 2 ^ 32 + e.1) (entries_of ls' overflow) (λ e lt. omega (arith, tick_fits)) (subst (Each (λ e. e.1 < 2 ^ 32)) (sym other_same) h.overflow_fits)))
+      Each-append (λ e. base + tick < e.1) (count_from base (entries_of ls' current)) (count_from (base + 2 ^ 32) (entries_of ls' overflow))
+      (Each-count_from (λ e. base + tick < e.1) base (entries_of ls' current) (Each-imp (λ e. tick < e.1) (λ e. base + tick < base + e.1) (entries_of ls' current) (λ e lt. omega (arith, lt)) later))
+      (Each-count_from (λ e. base + tick < e.1) (base + 2 ^ 32) (entries_of ls' overflow) (Each-imp (λ e. e.1 < 2 ^ 32) (λ e. base + tick < base + 2 ^ 32 + e.1) (entries_of ls' overflow) (λ e lt. omega (arith, tick_fits)) (subst (Each (λ e. e.1 < 2 ^ 32)) (sym other_same) h.overflow_fits)))
 
-  pub advances : Advances old (time_of ls' start base tick current overflow) due
+  pub advances : Advances old (timeline_of ls' start base tick current overflow) due
   advances = record {
     now = h.now;
     age = h.age;
-    sleepers =
-        h.sleepers
-        ∙ ap₂ (λ (xs ys : List (ℕ × ℕ)). moved base xs ++ moved (base + 2 ^ 32) ys) taken (sym other_same)
-        ∙ ap (λ (xs : List (ℕ × ℕ)). xs ++ moved (base + 2 ^ 32) (entries_of ls' overflow)) (moved-append base (at_moment tick due) (entries_of ls' current) ∙ ap (λ (xs : List (ℕ × ℕ)). xs ++ moved base (entries_of ls' current)) (moved-at_moment base tick due))
-        ∙ append_assoc (at_moment (base + tick) due) (moved base (entries_of ls' current)) (moved (base + 2 ^ 32) (entries_of ls' overflow));
+    delayed =
+        h.delayed
+        ∙ ap₂ (λ (xs ys : List (ℕ × ℕ)). count_from base xs ++ count_from (base + 2 ^ 32) ys) taken (sym other_same)
+        ∙ ap (λ (xs : List (ℕ × ℕ)). xs ++ count_from (base + 2 ^ 32) (entries_of ls' overflow)) (count_from-append base (all_until tick due) (entries_of ls' current) ∙ ap (λ (xs : List (ℕ × ℕ)). xs ++ count_from base (entries_of ls' current)) (count_from-all_until base tick due))
+        ∙ append_assoc (all_until (base + tick) due) (count_from base (entries_of ls' current)) (count_from (base + 2 ^ 32) (entries_of ls' overflow));
     later = left_later;
   }

@@ -1,22 +1,25 @@
 -- Each change of the sleepers is a deed of the definitions.
-use Rattle.std.proofs.Common.{◌≡◌, ◌≢◌, ℕ, ◌+◌, ◌<◌, ◌≤◌, inl, inr, Bool, true, false, not, cond, None, List, [], ◌∷◌, ◌++◌, get_or, set, length, sym, ◌∙◌, ap, ap₂, subst, arith, refl, eqb, append_assoc, append-nil}
-use Rattle.std.specs.Prelude.{◌==◌}
-use Rattle.std.specs.List.{AllByRecursion, filter, fold}
+use Rattle.std.proofs.Common.{◌≡◌, ◌≢◌, ℕ, ◌+◌, ◌<◌, ◌≤◌, inl, inr, Bool, true, false, not, cond, Option, Some, None, List, [], ◌∷◌, ◌++◌, get_or, set, length, sym, ◌∙◌, ap, ap₂, subst, arith, refl, eqb, append_assoc, append-nil}
+use Rattle.std.specs.Prelude.{◌==◌, ◌||◌, nat_eq, if◌then◌else◌}
+use Rattle.std.specs.List.{AllByRecursion, IsDistinct, filter, list_any}
+use Rattle.std.specs.Option.{is_some, option_eq, option_map}
 use Rattle.std.proofs.lemmas.Bool.{cases_eq, cases_lt, eq-eqb, ne_eqb}
 use Rattle.std.proofs.lemmas.List.{get_or-set_other, get_or-set_same}
-use Rattle.model.specs.State.{State, Status, Task, Ready, Asleep, Ended, no_task, task_at}
-use Rattle.model.specs.Order.{Entry, entry, line, put, tasks_of}
-use Rattle.model.specs.Step.{due, enter, is_due_status, is_ready, is_ready_status, key, sleep, sleep_key, sleep_status_key, wake}
-use Rattle.model.specs.Invariant.{IsTable}
+use Rattle.model.specs.State.{State, Status, Task, Ready, Asleep, Ended, for_each, no_task, status_at, task_at, ticket_if_ready, ticket_of, wake_time_of}
+use Rattle.model.specs.Order.{Entry, Key, entry, key, list_by, put, tasks_of}
+use Rattle.model.specs.Switching.{is_ready, make_ready}
+use Rattle.model.specs.Time.{advance, delayed_key, due, increment_tick, sleep, wake_due}
+use Rattle.model.specs.Invariant.{AllTicketsBelow, IsTable}
 use Rattle.model.proofs.Sorting.{IsAfterEntry, by_test, put_last}
-use Rattle.model.proofs.Lines.{HasKey, eqb-refl, filter-without, line-entered, line-gone, line-kept, line_below, line_has, line_without, other}
-use Rattle.model.proofs.Tables.{below_sleep, table-enter, table-numbered}
-use Rattle.lists.specs.Lists.{Each, EachOnce, IsSorted, has_node, inserted, without}
-use Rattle.lists.proofs.Entries.{EachOnce-inserted, EachOnce-without, IsSorted-inserted, IsSorted-without, Each-imp, apart_from_test, inserted-after, inserted-before, without-apart, without-same}
-use Rattle.clock.specs.Sleepers.{Advances, Time, at_moment}
-use Rattle.clock.specs.Standing.{StandsFor, at_time, passed, tasks_at}
+use Rattle.model.proofs.Lists.{HasKey, eqb-refl, eqb-same, filter-without, list-entered, list-gone, list-kept, list_below, list_has, list_without, other}
+use Rattle.model.proofs.Members.{has_task, has_task-key}
+use Rattle.model.proofs.Tables.{below_delayed, table-make_ready, table-taken}
+use Rattle.lists.specs.Lists.{Each, EachOnce, IsSorted, has_node, insert_sorted, without}
+use Rattle.lists.proofs.Entries.{EachOnce-insert_sorted, EachOnce-without, IsSorted-insert_sorted, IsSorted-without, Each-imp, apart_from_test, has_node-other, has_node-same, has_or_not, insert_sorted-after, insert_sorted-before, without-apart, without-same}
+use Rattle.clock.specs.Timeline.{Advances, Timeline, all_until, is_asleep}
+use Rattle.clock.specs.StandsFor.{StandsFor, at_next_tick, at_time, tasks_at}
 
--- the tasks that sleep until a moment
+-- the tasks that sleep until a time
 
 tasks_at-same : (m : ℕ) (e : ℕ × ℕ) (xs : List (ℕ × ℕ)) → e.1 ≡ m → tasks_at m (e ∷ xs) ≡ e.0 ∷ tasks_at m xs
 tasks_at-same m e xs is = let t : (e.1 == m) ≡ true = eq-eqb e.1 m is in rw t refl
@@ -35,15 +38,15 @@ tasks_at-append m (x ∷ xs) ys = elim (cases_eq x.1 m) [
   | inr apart ↦ tasks_at-other m x (xs ++ ys) apart ∙ tasks_at-append m xs ys ∙ ap (λ (ts : List ℕ). ts ++ tasks_at m ys) (sym (tasks_at-other m x xs apart))
 ]
 
-tasks_at-at_moment : (m : ℕ) (ds : List ℕ) → tasks_at m (at_moment m ds) ≡ ds
-tasks_at-at_moment m [] = refl
-tasks_at-at_moment m (d ∷ ds) = tasks_at-same m (d, m) (at_moment m ds) refl ∙ ap (λ (ts : List ℕ). d ∷ ts) (tasks_at-at_moment m ds)
+tasks_at-all_until : (m : ℕ) (ds : List ℕ) → tasks_at m (all_until m ds) ≡ ds
+tasks_at-all_until m [] = refl
+tasks_at-all_until m (d ∷ ds) = tasks_at-same m (d, m) (all_until m ds) refl ∙ ap (λ (ts : List ℕ). d ∷ ts) (tasks_at-all_until m ds)
 
--- one more comes last of its moment
-tasks_at-inserted : (m i w : ℕ) (xs : List (ℕ × ℕ)) → IsSorted xs → tasks_at m (inserted (i, w) xs) ≡ tasks_at m xs ++ tasks_at m ((i, w) ∷ [])
-tasks_at-inserted m i w [] h = refl
-tasks_at-inserted m i w (x ∷ xs) h = elim (cases_lt w x.1) [
-  | inl less ↦ ap (tasks_at m) (inserted-before i w x xs less) ∙ elim (cases_eq w m) [
+-- one more comes last of its wake time
+tasks_at-insert_sorted : (m i w : ℕ) (xs : List (ℕ × ℕ)) → IsSorted xs → tasks_at m (insert_sorted (i, w) xs) ≡ tasks_at m xs ++ tasks_at m ((i, w) ∷ [])
+tasks_at-insert_sorted m i w [] h = refl
+tasks_at-insert_sorted m i w (x ∷ xs) h = elim (cases_lt w x.1) [
+  | inl less ↦ ap (tasks_at m) (insert_sorted-before i w x xs less) ∙ elim (cases_eq w m) [
     | inl same ↦
         let later : Each (λ e. m < e.1) (x ∷ xs) = (omega (arith, same, less), Each-imp (λ e. x.1 ≤ e.1) (λ e. m < e.1) xs (λ e le. omega (arith, le, same, less)) h.0) in
         let none : tasks_at m (x ∷ xs) ≡ [] = tasks_at-later m (x ∷ xs) later in
@@ -54,8 +57,8 @@ tasks_at-inserted m i w (x ∷ xs) h = elim (cases_lt w x.1) [
         tasks_at-other m (i, w) (x ∷ xs) apart ∙ sym (append-nil (tasks_at m (x ∷ xs))) ∙ ap (λ (ts : List ℕ). tasks_at m (x ∷ xs) ++ ts) (sym none)
   ]
   | inr more ↦
-      ap (tasks_at m) (inserted-after i w x xs more) ∙ tasks_at-append m (x ∷ []) (inserted (i, w) xs)
-      ∙ ap (λ (ts : List ℕ). tasks_at m (x ∷ []) ++ ts) (tasks_at-inserted m i w xs h.1)
+      ap (tasks_at m) (insert_sorted-after i w x xs more) ∙ tasks_at-append m (x ∷ []) (insert_sorted (i, w) xs)
+      ∙ ap (λ (ts : List ℕ). tasks_at m (x ∷ []) ++ ts) (tasks_at-insert_sorted m i w xs h.1)
       ∙ sym (append_assoc (tasks_at m (x ∷ [])) (tasks_at m xs) (tasks_at m ((i, w) ∷ [])))
       ∙ ap (λ (ts : List ℕ). ts ++ tasks_at m ((i, w) ∷ [])) (sym (tasks_at-append m (x ∷ []) xs))
 ]
@@ -74,18 +77,26 @@ tasks_at-without m i (x ∷ xs) = by_test (eqb x.0 i)
     (λ u. rw (t, u, t) (ap (λ (ts : List ℕ). x.0 ∷ ts) (tasks_at-without m i xs)))
     (λ u. rw (t, u) (tasks_at-without m i xs)))
 
--- those that are due at a moment, by the tasks alone
+-- those that are due at a time, by the tasks alone
+
+-- this status ends by itself at this time
+abbrev is_until : ℕ → Status → Bool
+is_until m u = option_eq nat_eq (wake_time_of u) (Some m)
+
+-- the key of a status in the delayed list
+abbrev pub delayed_status_key : Status → Option Key
+delayed_status_key u = if is_some (wake_time_of u) then option_map (key 0) (ticket_of u) else None
 
 abbrev until : List Task → ℕ → Entry → Bool
-until ts m e = is_due_status m (get_or ts e.task no_task).status
+until ts m e = is_until m (get_or ts e.task no_task).status
 
 abbrev due_in : List Task → ℕ → List ℕ
-due_in ts m = tasks_of (filter (until ts m) (line sleep_key ts))
+due_in ts m = tasks_of (filter (until ts m) (list_by delayed_key ts))
 
 filter-until : (ts : List Task) (i m : ℕ) (u : Task) (xs : List Entry) → AllByRecursion (λ e. e.task ≡ i → ⊥) xs → filter (until (set ts i u) m) xs ≡ filter (until ts m) xs
 filter-until ts i m u [] h = refl
 filter-until ts i m u (x ∷ xs) h =
-    let same : until (set ts i u) m x ≡ until ts m x = ap (λ (t : Task). is_due_status m t.status) (get_or-set_other ts i x.task u no_task h.0) in
+    let same : until (set ts i u) m x ≡ until ts m x = ap (λ (t : Task). is_until m t.status) (get_or-set_other ts i x.task u no_task h.0) in
     ap₂ (λ (b : Bool) (es : List Entry). cond b (x ∷ es) es) same (filter-until ts i m u xs h.1)
 
 others_apart : (i : ℕ) (xs : List Entry) → AllByRecursion (λ e. e.task ≡ i → ⊥) (filter (other i) xs)
@@ -104,12 +115,12 @@ tasks_of-others p i (x ∷ xs) = by_test (eqb x.task i)
     (λ u. rw (t, u, t) (ap (λ (ts : List ℕ). x.task ∷ ts) (tasks_of-others p i xs)))
     (λ u. rw (t, u) (tasks_of-others p i xs)))
 
--- a task sleeps no more
-due_in-gone : (ts : List Task) (i m : ℕ) (u : Task) → i < length ts → sleep_key u ≡ None → due_in (set ts i u) m ≡ but i (due_in ts m)
+-- a task is_asleep no more
+due_in-gone : (ts : List Task) (i m : ℕ) (u : Task) → i < length ts → delayed_key u ≡ None → due_in (set ts i u) m ≡ but i (due_in ts m)
 due_in-gone ts i m u l none =
-    ap (λ (es : List Entry). tasks_of (filter (until (set ts i u) m) es)) (line-gone sleep_key i u ts l none)
-    ∙ ap tasks_of (filter-until ts i m u (filter (other i) (line sleep_key ts)) (others_apart i (line sleep_key ts)))
-    ∙ tasks_of-others (until ts m) i (line sleep_key ts)
+    ap (λ (es : List Entry). tasks_of (filter (until (set ts i u) m) es)) (list-gone delayed_key i u ts l none)
+    ∙ ap tasks_of (filter-until ts i m u (filter (other i) (list_by delayed_key ts)) (others_apart i (list_by delayed_key ts)))
+    ∙ tasks_of-others (until ts m) i (list_by delayed_key ts)
 
 filter-last : (p : Entry → Bool) (xs : List Entry) (e : Entry) → tasks_of (filter p (xs ++ e ∷ [])) ≡ tasks_of (filter p xs) ++ tasks_of (filter p (e ∷ []))
 filter-last p [] e = refl
@@ -117,79 +128,79 @@ filter-last p (x ∷ xs) e = by_test (p x)
     (λ t. rw t (ap (λ (ts : List ℕ). x.task ∷ ts) (filter-last p xs e)))
     (λ t. rw t (filter-last p xs e))
 
-all_before : (n : ℕ) (i : ℕ) (xs : List Entry) → AllByRecursion (λ e. e.key.number < n) xs → AllByRecursion (IsAfterEntry (entry i (key 0 n))) xs
+all_before : (n : ℕ) (i : ℕ) (xs : List Entry) → AllByRecursion (λ e. e.key.ticket < n) xs → AllByRecursion (IsAfterEntry (entry i (key 0 n))) xs
 all_before n i [] h = tt
 all_before n i (x ∷ xs) h = (record { low = omega arith; late = λ le. let lt = h.0 in omega (arith, lt) }, all_before n i xs h.1)
 
 -- a task begins to sleep
-due_in-entered : (ts : List Task) (n i m w : ℕ) (u : Task) → Rattle.model.specs.Invariant.AllNumbered n ts → i < length ts → sleep_key (get_or ts i no_task) ≡ None → u.status ≡ Asleep w n → due_in (set ts i u) m ≡ due_in ts m ++ tasks_at m ((i, w) ∷ [])
-due_in-entered ts n i m w u numbers l none is =
-    let b = below_sleep n ts numbers in
-    let here : AllByRecursion (λ e. e.task ≡ i → ⊥) (line sleep_key ts) = line_without sleep_key i ts none in
-    let new : line sleep_key (set ts i u) ≡ line sleep_key ts ++ entry i (key 0 n) ∷ [] =
-    line-entered sleep_key (key 0 n) i u ts l (ap sleep_status_key is) b
-    ∙ ap (put (entry i (key 0 n))) (filter-without i (line sleep_key ts) here)
-    ∙ put_last (entry i (key 0 n)) (line sleep_key ts) (all_before n i (line sleep_key ts) (line_below sleep_key n ts b)) in
-    let until_now : until (set ts i u) m (entry i (key 0 n)) ≡ (w == m) = ap (λ (t : Task). is_due_status m t.status) (get_or-set_same ts i u no_task l) ∙ ap (is_due_status m) is in
+due_in-entered : (ts : List Task) (n i m w : ℕ) (u : Task) → AllTicketsBelow n ts → i < length ts → delayed_key (get_or ts i no_task) ≡ None → u.status ≡ Asleep w n → due_in (set ts i u) m ≡ due_in ts m ++ tasks_at m ((i, w) ∷ [])
+due_in-entered ts n i m w u tickets l none is =
+    let b = below_delayed n ts tickets in
+    let here : AllByRecursion (λ e. e.task ≡ i → ⊥) (list_by delayed_key ts) = list_without delayed_key i ts none in
+    let new : list_by delayed_key (set ts i u) ≡ list_by delayed_key ts ++ entry i (key 0 n) ∷ [] =
+    list-entered delayed_key (key 0 n) i u ts l (ap delayed_status_key is) b
+    ∙ ap (put (entry i (key 0 n))) (filter-without i (list_by delayed_key ts) here)
+    ∙ put_last (entry i (key 0 n)) (list_by delayed_key ts) (all_before n i (list_by delayed_key ts) (list_below delayed_key n ts b)) in
+    let until_now : until (set ts i u) m (entry i (key 0 n)) ≡ (w == m) = ap (λ (t : Task). is_until m t.status) (get_or-set_same ts i u no_task l) ∙ ap (is_until m) is in
     ap (λ (es : List Entry). tasks_of (filter (until (set ts i u) m) es)) new
-    ∙ filter-last (until (set ts i u) m) (line sleep_key ts) (entry i (key 0 n))
+    ∙ filter-last (until (set ts i u) m) (list_by delayed_key ts) (entry i (key 0 n))
     ∙ ap₂ (λ (xs ys : List ℕ). xs ++ ys)
-    (ap tasks_of (filter-until ts i m u (line sleep_key ts) here))
+    (ap tasks_of (filter-until ts i m u (list_by delayed_key ts) here))
     (by_test (w == m)
     (λ t. let v = until_now ∙ t in rw (v, t) refl)
     (λ t. let v = until_now ∙ t in rw (v, t) refl))
 
 -- a task goes to sleep
 
-pub asleep_none : (u : Status) → is_ready_status u ≡ true → sleep_status_key u ≡ None
+pub asleep_none : (u : Status) → is_some (ticket_if_ready u) ≡ true → delayed_status_key u ≡ None
 asleep_none (Ready n) t = refl
 asleep_none (Asleep m b) t = absurd cc
 asleep_none Ended t = refl
 
-stands_asleep : (t : Time) (s : State) (i w : ℕ) → StandsFor t s → has_node i t.sleepers ≡ false → i < length s.tasks → is_ready s i ≡ true → StandsFor (record t { sleepers = inserted (i, w) t.sleepers }) (sleep i w s)
+stands_asleep : (t : Timeline) (s : State) (i w : ℕ) → StandsFor t s → has_node i t.delayed_list ≡ false → i < length s.tasks → is_ready s i ≡ true → StandsFor (record t { delayed_list = insert_sorted (i, w) t.delayed_list }) (sleep i w s)
 unfolding sleep
 stands_asleep t s i w h awake l ready =
-    let u : Task = record (task_at s i) { status = Asleep w s.next } in
-    let none : sleep_key (task_at s i) ≡ None = asleep_none (task_at s i).status ready in
+    let u : Task = record (task_at s i) { status = Asleep w s.next_ticket } in
+    let none : delayed_key (task_at s i) ≡ None = asleep_none (task_at s i).status ready in
     rw ready (record {
       now = h.now;
       age = h.age;
-      sorted = IsSorted-inserted i w t.sleepers h.sorted;
-      once = EachOnce-inserted i w t.sleepers (apart_from_test i t.sleepers awake) h.once;
-      sleepers = λ m.
-          tasks_at-inserted m i w t.sleepers h.sorted ∙ ap (λ (ts : List ℕ). ts ++ tasks_at m ((i, w) ∷ [])) (h.sleepers m)
-          ∙ sym (due_in-entered s.tasks s.next i m w u h.table.numbers l none refl);
-      table = table-numbered s i u h.table (omega arith);
+      sorted = IsSorted-insert_sorted i w t.delayed_list h.sorted;
+      once = EachOnce-insert_sorted i w t.delayed_list (apart_from_test i t.delayed_list awake) h.once;
+      delayed = λ m.
+          tasks_at-insert_sorted m i w t.delayed_list h.sorted ∙ ap (λ (ts : List ℕ). ts ++ tasks_at m ((i, w) ∷ [])) (h.delayed m)
+          ∙ sym (due_in-entered s.tasks s.next_ticket i m w u h.table.tickets l none refl);
+      table = table-taken s i (Asleep w) h.table (omega arith);
     })
 
 -- the same of a time of these parts
-same_parts : (t new : Time) (s : State) → new.now ≡ t.now → new.age ≡ t.age → new.sleepers ≡ t.sleepers → StandsFor t s → StandsFor new s
+same_parts : (t new : Timeline) (s : State) → new.now ≡ t.now → new.age ≡ t.age → new.delayed_list ≡ t.delayed_list → StandsFor t s → StandsFor new s
 same_parts t new s now age sleepers h = record {
   now = now ∙ h.now;
   age = age ∙ h.age;
   sorted = subst IsSorted (sym sleepers) h.sorted;
   once = subst EachOnce (sym sleepers) h.once;
-  sleepers = λ m. ap (tasks_at m) sleepers ∙ h.sleepers m;
+  delayed = λ m. ap (tasks_at m) sleepers ∙ h.delayed m;
   table = h.table;
 }
 
-pub stands_slept : (old new : Time) (s : State) (i ticks : ℕ) → new.now ≡ old.now → new.age ≡ old.age → new.sleepers ≡ inserted (i, old.now + ticks) old.sleepers → has_node i old.sleepers ≡ false → StandsFor old s → i < length s.tasks → is_ready s i ≡ true → StandsFor new (sleep i (s.time + ticks) s)
+pub stands_slept : (old new : Timeline) (s : State) (i ticks : ℕ) → new.now ≡ old.now → new.age ≡ old.age → new.delayed_list ≡ insert_sorted (i, old.now + ticks) old.delayed_list → has_node i old.delayed_list ≡ false → StandsFor old s → i < length s.tasks → is_ready s i ≡ true → StandsFor new (sleep i (s.time + ticks) s)
 stands_slept old new s i ticks now age sleepers awake h l ready =
-    let moment : old.now + ticks ≡ s.time + ticks = ap (λ (n : ℕ). n + ticks) h.now in
-    same_parts (record old { sleepers = inserted (i, s.time + ticks) old.sleepers }) new (sleep i (s.time + ticks) s) now age
-    (sleepers ∙ ap (λ (m : ℕ). inserted (i, m) old.sleepers) moment)
+    let wake_time : old.now + ticks ≡ s.time + ticks = ap (λ (n : ℕ). n + ticks) h.now in
+    same_parts (record old { delayed_list = insert_sorted (i, s.time + ticks) old.delayed_list }) new (sleep i (s.time + ticks) s) now age
+    (sleepers ∙ ap (λ (m : ℕ). insert_sorted (i, m) old.delayed_list) wake_time)
     (stands_asleep old s i (s.time + ticks) h awake l ready)
 
 -- a task is woken
 
-pub stands_woken : (t : Time) (s new : State) (i : ℕ) (u : Task) → StandsFor t s → i < length s.tasks → new.tasks ≡ set s.tasks i u → new.time ≡ s.time → new.elapsed ≡ s.elapsed → sleep_key u ≡ None → IsTable new → StandsFor (record t { sleepers = without i t.sleepers }) new
+pub stands_woken : (t : Timeline) (s new : State) (i : ℕ) (u : Task) → StandsFor t s → i < length s.tasks → new.tasks ≡ set s.tasks i u → new.time ≡ s.time → new.elapsed ≡ s.elapsed → delayed_key u ≡ None → IsTable new → StandsFor (record t { delayed_list = without i t.delayed_list }) new
 stands_woken t s new i u h l is time elapsed none table = record {
   now = h.now ∙ sym time;
   age = h.age ∙ sym elapsed;
-  sorted = IsSorted-without i t.sleepers h.sorted;
-  once = EachOnce-without i t.sleepers h.once;
-  sleepers = λ m.
-      tasks_at-without m i t.sleepers ∙ ap (but i) (h.sleepers m)
+  sorted = IsSorted-without i t.delayed_list h.sorted;
+  once = EachOnce-without i t.delayed_list h.once;
+  delayed = λ m.
+      tasks_at-without m i t.delayed_list ∙ ap (but i) (h.delayed m)
       ∙ sym (ap (λ (ts : List Task). due_in ts m) is ∙ due_in-gone s.tasks i m u l none);
   table = table;
 }
@@ -197,82 +208,204 @@ stands_woken t s new i u h l is time elapsed none table = record {
 -- a task changes and neither falls asleep nor wakes
 
 pub record SleepsAlike (a b : Status) : Type 0 where
-  pub key : sleep_status_key a ≡ sleep_status_key b
-  pub due : (moment : ℕ) → is_due_status moment a ≡ is_due_status moment b
+  pub key : delayed_status_key a ≡ delayed_status_key b
+  pub wake_time : wake_time_of a ≡ wake_time_of b
 
 due_in-kept : (ts : List Task) (i m : ℕ) (u : Task) → i < length ts → SleepsAlike u.status (get_or ts i no_task).status → due_in (set ts i u) m ≡ due_in ts m
 due_in-kept ts i m u l same =
-    ap (λ (es : List Entry). tasks_of (filter (until (set ts i u) m) es)) (line-kept sleep_key i u ts same.key)
-    ∙ ap tasks_of (all_same (line sleep_key ts)) where
+    ap (λ (es : List Entry). tasks_of (filter (until (set ts i u) m) es)) (list-kept delayed_key i u ts same.key)
+    ∙ ap tasks_of (all_same (list_by delayed_key ts)) where
       until_same : (e : Entry) → until (set ts i u) m e ≡ until ts m e
       until_same e = elim (cases_eq e.task i) [
         | inl here ↦
-            ap (λ (k : ℕ). is_due_status m (get_or (set ts i u) k no_task).status) here
-            ∙ ap (λ (t : Task). is_due_status m t.status) (get_or-set_same ts i u no_task l)
-            ∙ same.due m ∙ ap (λ (k : ℕ). is_due_status m (get_or ts k no_task).status) (sym here)
-        | inr apart ↦ ap (λ (t : Task). is_due_status m t.status) (get_or-set_other ts i e.task u no_task apart)
+            ap (λ (k : ℕ). is_until m (get_or (set ts i u) k no_task).status) here
+            ∙ ap (λ (t : Task). is_until m t.status) (get_or-set_same ts i u no_task l)
+            ∙ ap (λ (o : Option ℕ). option_eq nat_eq o (Some m)) same.wake_time ∙ ap (λ (k : ℕ). is_until m (get_or ts k no_task).status) (sym here)
+        | inr apart ↦ ap (λ (t : Task). is_until m t.status) (get_or-set_other ts i e.task u no_task apart)
       ]
 
       all_same : (es : List Entry) → filter (until (set ts i u) m) es ≡ filter (until ts m) es
       all_same [] = refl
       all_same (e ∷ es) = ap₂ (λ (b : Bool) (fs : List Entry). cond b (e ∷ fs) fs) (until_same e) (all_same es)
 
-pub stands_kept : (t : Time) (s new : State) (i : ℕ) (u : Task) → StandsFor t s → i < length s.tasks → new.tasks ≡ set s.tasks i u → new.time ≡ s.time → new.elapsed ≡ s.elapsed → SleepsAlike u.status (task_at s i).status → IsTable new → StandsFor t new
+pub stands_kept : (t : Timeline) (s new : State) (i : ℕ) (u : Task) → StandsFor t s → i < length s.tasks → new.tasks ≡ set s.tasks i u → new.time ≡ s.time → new.elapsed ≡ s.elapsed → SleepsAlike u.status (task_at s i).status → IsTable new → StandsFor t new
 stands_kept t s new i u h l is time elapsed same table = record {
   now = h.now ∙ sym time;
   age = h.age ∙ sym elapsed;
   sorted = h.sorted;
   once = h.once;
-  sleepers = λ m. h.sleepers m ∙ sym (ap (λ (ts : List Task). due_in ts m) is ∙ due_in-kept s.tasks i m u l same);
+  delayed = λ m. h.delayed m ∙ sym (ap (λ (ts : List Task). due_in ts m) is ∙ due_in-kept s.tasks i m u l same);
   table = table;
 }
 
 -- a tick passes
 
-first_due : (ts : List Task) (p : Entry → Bool) (d : ℕ) (ds : List ℕ) (es : List Entry) → AllByRecursion (HasKey sleep_key ts) es → tasks_of (filter p es) ≡ d ∷ ds → d < length ts
+first_due : (ts : List Task) (p : Entry → Bool) (d : ℕ) (ds : List ℕ) (es : List Entry) → AllByRecursion (HasKey delayed_key ts) es → tasks_of (filter p es) ≡ d ∷ ds → d < length ts
 first_due ts p d ds [] h e = absurd cc
 first_due ts p d ds (x ∷ xs) h e = by_test (p x)
     (λ t. let f = rw t at e in let is : x.task ≡ d = cc in subst (λ (k : ℕ). k < length ts) is h.0.within)
     (λ t. let f = rw t at e in first_due ts p d ds xs h.1 f)
 
 -- those that are due wake, one after another
-all_woken : (ds : List ℕ) (t : Time) (rest : List (ℕ × ℕ)) (s : State) → StandsFor t s → t.sleepers ≡ at_moment t.now ds ++ rest → StandsFor (record t { sleepers = rest }) (fold enter s ds)
-all_woken [] t rest s h is = subst (λ (es : List (ℕ × ℕ)). StandsFor (record t { sleepers = es }) s) is h
+all_woken : (ds : List ℕ) (t : Timeline) (rest : List (ℕ × ℕ)) (s : State) → StandsFor t s → t.delayed_list ≡ all_until t.now ds ++ rest → StandsFor (record t { delayed_list = rest }) (for_each make_ready ds s)
+all_woken [] t rest s h is = subst (λ (es : List (ℕ × ℕ)). StandsFor (record t { delayed_list = es }) s) is h
 all_woken (d ∷ ds) t rest s h is =
-    let later = at_moment t.now ds ++ rest in
-    let u : Task = record (task_at s d) { status = Ready s.next } in
+    let later = all_until t.now ds ++ rest in
+    let u : Task = record (task_at s d) { status = Ready s.next_ticket } in
     let now_due : tasks_of (due (at_time s t.now)) ≡ d ∷ tasks_at t.now later =
-    sym (h.sleepers t.now) ∙ ap (tasks_at t.now) is ∙ tasks_at-same t.now (d, t.now) later refl in
-    let l : d < length s.tasks = first_due s.tasks (until s.tasks t.now) d (tasks_at t.now later) (line sleep_key s.tasks) (line_has sleep_key s.tasks) now_due in
+    sym (h.delayed t.now) ∙ ap (tasks_at t.now) is ∙ tasks_at-same t.now (d, t.now) later refl in
+    let l : d < length s.tasks = first_due s.tasks (until s.tasks t.now) d (tasks_at t.now later) (list_by delayed_key s.tasks) (list_has delayed_key s.tasks) now_due in
     let once : EachOnce ((d, t.now) ∷ later) = subst EachOnce is h.once in
-    let left : without d t.sleepers ≡ later = ap (without d) is ∙ without-same d (d, t.now) later refl ∙ without-apart d later once.0 in
-    let one = stands_woken t s (enter s d) d u h l refl refl refl refl (table-enter s d h.table) in
-    let next : StandsFor (record t { sleepers = later }) (enter s d) = subst (λ (es : List (ℕ × ℕ)). StandsFor (record t { sleepers = es }) (enter s d)) left one in
-    all_woken ds (record t { sleepers = later }) rest (enter s d) next refl
+    let left : without d t.delayed_list ≡ later = ap (without d) is ∙ without-same d (d, t.now) later refl ∙ without-apart d later once.0 in
+    let one = stands_woken t s (make_ready d s) d u h l refl refl refl refl (table-make_ready s d h.table) in
+    let next : StandsFor (record t { delayed_list = later }) (make_ready d s) = subst (λ (es : List (ℕ × ℕ)). StandsFor (record t { delayed_list = es }) (make_ready d s)) left one in
+    all_woken ds (record t { delayed_list = later }) rest (make_ready d s) next refl
 
 -- the sleepers when a tick has passed, before anyone wakes
-stands_passed : (old new : Time) (s : State) (ds : List ℕ) → Advances old new ds → StandsFor old s → StandsFor (record new { sleepers = old.sleepers }) (passed s)
-stands_passed old new s ds a h = record {
+stands_next : (old new : Timeline) (s : State) (ds : List ℕ) → Advances old new ds → StandsFor old s → StandsFor (record new { delayed_list = old.delayed_list }) (at_next_tick s)
+stands_next old new s ds a h = record {
   now = a.now ∙ ap (λ (n : ℕ). n + 1) h.now;
   age = a.age ∙ ap (λ (n : ℕ). n + 1) h.age;
   sorted = h.sorted;
   once = h.once;
-  sleepers = h.sleepers;
-  table = record { numbers = h.table.numbers; few = h.table.few; running = h.table.running };
+  delayed = h.delayed;
+  table = record { tickets = h.table.tickets; few = h.table.few; current = h.table.current };
 }
 
-pub due_passed : (old new : Time) (s : State) (ds : List ℕ) → Advances old new ds → StandsFor old s → ds ≡ tasks_of (due (passed s))
-due_passed old new s ds a h =
+pub due_next : (old new : Timeline) (s : State) (ds : List ℕ) → Advances old new ds → StandsFor old s → ds ≡ tasks_of (due (at_next_tick s))
+due_next old new s ds a h =
     let time : new.now ≡ s.time + 1 = a.now ∙ ap (λ (n : ℕ). n + 1) h.now in
     sym (append-nil ds)
-    ∙ ap₂ (λ (xs ys : List ℕ). xs ++ ys) (sym (tasks_at-at_moment new.now ds)) (sym (tasks_at-later new.now new.sleepers a.later))
-    ∙ sym (tasks_at-append new.now (at_moment new.now ds) new.sleepers)
-    ∙ ap (tasks_at new.now) (sym a.sleepers)
-    ∙ h.sleepers new.now
+    ∙ ap₂ (λ (xs ys : List ℕ). xs ++ ys) (sym (tasks_at-all_until new.now ds)) (sym (tasks_at-later new.now new.delayed_list a.later))
+    ∙ sym (tasks_at-append new.now (all_until new.now ds) new.delayed_list)
+    ∙ ap (tasks_at new.now) (sym a.delayed)
+    ∙ h.delayed new.now
     ∙ ap (λ (m : ℕ). due_in s.tasks m) time
 
-pub stands_advanced : (old new : Time) (s : State) (ds : List ℕ) → Advances old new ds → StandsFor old s → StandsFor new (wake (passed s))
-unfolding wake
+pub stands_advanced : (old new : Timeline) (s : State) (ds : List ℕ) → Advances old new ds → StandsFor old s → StandsFor new (increment_tick s)
+unfolding increment_tick advance wake_due
 stands_advanced old new s ds a h =
-    let woken = all_woken ds (record new { sleepers = old.sleepers }) new.sleepers (passed s) (stands_passed old new s ds a h) a.sleepers in
-    subst (λ (es : List ℕ). StandsFor new (fold enter (passed s) es)) (due_passed old new s ds a h) woken
+    let woken = all_woken ds (record new { delayed_list = old.delayed_list }) new.delayed_list (at_next_tick s) (stands_next old new s ds a h) a.delayed in
+    subst (λ (es : List ℕ). StandsFor new (for_each make_ready es (at_next_tick s))) (due_next old new s ds a h) woken
+
+-- who is due is asleep before the tick, and comes once
+
+or-true : (b : Bool) → (b || true) ≡ true
+or-true true = refl
+or-true false = refl
+
+due_asleep-all : (m : ℕ) (ds : List ℕ) (rest : List (ℕ × ℕ)) → Each (λ d. has_node d (all_until m ds ++ rest) ≡ true) ds
+due_asleep-all m [] rest = tt
+due_asleep-all m (d ∷ ds) rest = (
+  has_node-same d (d, m) (all_until m ds ++ rest) refl,
+  Each-weaker d ds (due_asleep-all m ds rest),
+) where
+  Each-weaker : (d : ℕ) (es : List ℕ) → Each (λ e. has_node e (all_until m ds ++ rest) ≡ true) es → Each (λ e. has_node e ((d, m) ∷ all_until m ds ++ rest) ≡ true) es
+  Each-weaker d [] h = tt
+  Each-weaker d (e ∷ es) h = (ap (λ (b : Bool). d == e || b) h.0 ∙ or-true (d == e), Each-weaker d es h.1)
+
+pub due_asleep : (old new : Timeline) (ds : List ℕ) → Advances old new ds → Each (λ d. is_asleep old d ≡ true) ds
+due_asleep old new ds a = subst (λ (es : List (ℕ × ℕ)). Each (λ d. has_node d es ≡ true) ds) (sym a.delayed) (due_asleep-all new.now ds new.delayed_list)
+
+due_once-all : (m : ℕ) (ds : List ℕ) (rest : List (ℕ × ℕ)) → EachOnce (all_until m ds ++ rest) → IsDistinct eqb ds
+unfolding IsDistinct
+due_once-all m [] rest h = tt
+due_once-all m (d ∷ ds) rest h = (each ds h.0, due_once-all m ds rest h.1) where
+  each : (es : List ℕ) → Each (λ e. Some d ≢ Some e.0) (all_until m es ++ rest) → AllByRecursion (λ e. eqb d e ≡ false) es
+  each [] k = tt
+  each (e ∷ es) k = (ne_eqb d e (λ i. k.0 (ap Some i)), each es k.1)
+
+pub due_once : (old new : Timeline) (ds : List ℕ) → Advances old new ds → EachOnce old.delayed_list → IsDistinct eqb ds
+due_once old new ds a once = due_once-all new.now ds new.delayed_list (subst EachOnce a.delayed once)
+
+-- who is asleep has a wake time
+
+abbrev among : ℕ → List ℕ → Bool
+among i ts = list_any (λ t. t == i) ts
+
+-- a sleeper sleeps until some time
+node-at : (i : ℕ) (xs : List (ℕ × ℕ)) → has_node i xs ≡ true → (m : ℕ) × (among i (tasks_at m xs) ≡ true)
+node-at i [] h = absurd cc
+node-at i (x ∷ xs) h = elim (cases_eq x.0 i) [
+  | inl same ↦ (x.1, ap (among i) (tasks_at-same x.1 x xs refl) ∙ (let t : (x.0 == i) ≡ true = eq-eqb x.0 i same in rw t refl))
+  | inr apart ↦
+      let r = node-at i xs (sym (has_node-other i x xs apart) ∙ h) in (
+        r.0,
+        elim (cases_eq x.1 r.0) [
+          | inl now ↦ ap (among i) (tasks_at-same r.0 x xs now) ∙ ap (λ (b : Bool). x.0 == i || b) r.1 ∙ or-true (x.0 == i)
+          | inr other_time ↦ ap (among i) (tasks_at-other r.0 x xs other_time) ∙ r.1
+        ],
+      )
+]
+
+at-node : (i m : ℕ) (xs : List (ℕ × ℕ)) → among i (tasks_at m xs) ≡ true → has_node i xs ≡ true
+at-node i m [] h = absurd cc
+at-node i m (x ∷ xs) h = elim (cases_eq x.0 i) [
+  | inl same ↦ has_node-same i x xs same
+  | inr apart ↦ has_node-other i x xs apart ∙ at-node i m xs (elim (cases_eq x.1 m) [
+    | inl now ↦
+        let t : (x.0 == i) ≡ false = ne_eqb x.0 i apart in
+        let u = sym (ap (among i) (tasks_at-same m x xs now)) ∙ h in
+        rw t at u
+    | inr other_time ↦ sym (ap (among i) (tasks_at-other m x xs other_time)) ∙ h
+  ])
+]
+
+-- who is due at a time has it as wake time, and the other way round
+due-until : (ts : List Task) (i m : ℕ) (es : List Entry) → among i (tasks_of (filter (until ts m) es)) ≡ true → is_until m (get_or ts i no_task).status ≡ true
+due-until ts i m [] h = absurd cc
+due-until ts i m (e ∷ es) h = by_test (until ts m e)
+    (λ t. elim (cases_eq e.task i) [
+      | inl same ↦ subst (λ (k : ℕ). is_until m (get_or ts k no_task).status ≡ true) same t
+      | inr apart ↦
+          let n : (e.task == i) ≡ false = ne_eqb e.task i apart in
+          due-until ts i m es (rw (t, n) at h)
+    ])
+    (λ t. due-until ts i m es (rw t at h))
+
+until-due : (ts : List Task) (i m : ℕ) (es : List Entry) → has_task i es ≡ true → is_until m (get_or ts i no_task).status ≡ true → among i (tasks_of (filter (until ts m) es)) ≡ true
+until-due ts i m [] h u = absurd cc
+until-due ts i m (e ∷ es) h u = elim (cases_eq e.task i) [
+  | inl same ↦
+      let t : until ts m e ≡ true = subst (λ (k : ℕ). is_until m (get_or ts k no_task).status ≡ true) (sym same) u in
+      let n : (e.task == i) ≡ true = eq-eqb e.task i same in
+      rw (t, n) refl
+  | inr apart ↦
+      let n : eqb e.task i ≡ false = ne_eqb e.task i apart in
+      let later = until-due ts i m es (rw n at h) u in
+      by_test (until ts m e)
+      (λ t. rw t (ap (λ (b : Bool). e.task == i || b) later ∙ or-true (e.task == i)))
+      (λ t. rw t later)
+]
+
+some_until : (o : Option ℕ) (m : ℕ) → option_eq nat_eq o (Some m) ≡ true → is_some o ≡ true
+some_until None m t = absurd cc
+some_until (Some w) m t = refl
+
+-- a task that sleeps by its status is in the delayed list
+sleeper_in : (t : Timeline) (s : State) (i : ℕ) (u : Status) → StandsFor t s → status_at s i ≡ u → is_some (wake_time_of u) ≡ true → has_node i t.delayed_list ≡ true
+sleeper_in t s i (Asleep w n) h is some =
+    let has : has_task i (list_by delayed_key s.tasks) ≡ true = has_task-key delayed_key refl i (key 0 n) s.tasks (ap delayed_status_key is) in
+    let now : is_until w (get_or s.tasks i no_task).status ≡ true = ap (is_until w) is ∙ eqb-refl w in
+    at-node i w t.delayed_list (ap (among i) (h.delayed w) ∙ until-due s.tasks i w (list_by delayed_key s.tasks) has now)
+sleeper_in t s i (Ready n) h is some = absurd cc
+sleeper_in t s i Ended h is some = absurd cc
+
+pub asleep_same : (t : Timeline) (s : State) (i : ℕ) → StandsFor t s → is_asleep t i ≡ is_some (wake_time_of (status_at s i))
+asleep_same t s i h = elim (has_or_not i t.delayed_list) [
+  | inl has ↦
+      let r = node-at i t.delayed_list has in
+      has ∙ sym (some_until (wake_time_of (status_at s i)) r.0 (due-until s.tasks i r.0 (list_by delayed_key s.tasks) (sym (ap (among i) (h.delayed r.0)) ∙ r.1)))
+  | inr none ↦ by_test (is_some (wake_time_of (status_at s i)))
+      (λ some. absurd (let has = sleeper_in t s i (status_at s i) h refl some in cc))
+      (λ t. none ∙ sym t)
+]
+
+sleeper_not_ready : (u : Status) → is_some (wake_time_of u) ≡ true → is_some (ticket_if_ready u) ≡ false
+sleeper_not_ready (Ready n) t = absurd cc
+sleeper_not_ready (Asleep w n) t = refl
+sleeper_not_ready Ended t = absurd cc
+
+-- a task that sleeps isn't Ready
+pub asleep_not_ready : (t : Timeline) (s : State) (i : ℕ) → StandsFor t s → is_asleep t i ≡ true → is_ready s i ≡ false
+asleep_not_ready t s i h asleep = sleeper_not_ready (status_at s i) (sym (asleep_same t s i h) ∙ asleep)

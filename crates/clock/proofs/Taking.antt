@@ -5,18 +5,18 @@ use Rattle.std.proofs.lemmas.Option.{same_Some}
 use Rattle.lists.specs.Lists.{Each, IsSorted, IsSound, entries_of, first_of, without, has_node, value_of}
 use Rattle.lists.proofs.Entries.{Each-imp, none-some}
 use Rattle.lists.proofs.Laws.{has_first, value_of-first, without-first, without-others}
-use Rattle.clock.specs.Sleepers.{at_moment}
+use Rattle.clock.specs.Timeline.{all_until}
 
 -- the list `old` is the tasks that are due and what is left
 pub record Taking (old new : List (List (ℕ × ℕ))) (list tick : ℕ) (due : List ℕ) : Type 0 where
-  pub whole : entries_of old list ≡ at_moment tick due ++ entries_of new list
+  pub whole : entries_of old list ≡ all_until tick due ++ entries_of new list
   pub sorted : IsSorted (entries_of new list)
   pub ahead : Each (λ e. tick ≤ e.1) (entries_of new list)
   pub others : (k : ℕ) → k ≢ list → entries_of new k ≡ entries_of old k
 
-at_moment-append : (tick : ℕ) (xs ys : List ℕ) → at_moment tick (xs ++ ys) ≡ at_moment tick xs ++ at_moment tick ys
-at_moment-append tick [] ys = refl
-at_moment-append tick (x ∷ xs) ys = ap (λ (zs : List (ℕ × ℕ)). (x, tick) ∷ zs) (at_moment-append tick xs ys)
+all_until-append : (tick : ℕ) (xs ys : List ℕ) → all_until tick (xs ++ ys) ≡ all_until tick xs ++ all_until tick ys
+all_until-append tick [] ys = refl
+all_until-append tick (x ∷ xs) ys = ap (λ (zs : List (ℕ × ℕ)). (x, tick) ∷ zs) (all_until-append tick xs ys)
 
 -- the first entry of a list, and the rest
 pub record First (list n : ℕ) (lists : List (List (ℕ × ℕ))) : Type 0 where
@@ -37,8 +37,8 @@ head_of list n lists e =
 pub has_room : (old new : List (List (ℕ × ℕ))) (list tick n : ℕ) (due : List ℕ) → IsSound 2 32 old → Taking old new list tick due → First list n new → length due < 32
 has_room old new list tick n due sound t f =
     let few : length (entries_of old list) ≤ 32 = sound.few list in
-    let sum : length (entries_of old list) ≡ length (at_moment tick due) + length (entries_of new list) = ap length t.whole ∙ length-append (at_moment tick due) (entries_of new list) in
-    let same : length (at_moment tick due) ≡ length due = length-map due (λ task. (task, tick)) in
+    let sum : length (entries_of old list) ≡ length (all_until tick due) + length (entries_of new list) = ap length t.whole ∙ length-append (all_until tick due) (entries_of new list) in
+    let same : length (all_until tick due) ≡ length due = length-map due (λ task. (task, tick)) in
     let one : length (entries_of new list) ≡ length ((n, f.value) ∷ f.rest) = ap length f.is in
     omega (arith, few, sum, same, one)
 
@@ -53,10 +53,10 @@ takes_one old new list tick n due sound t f now =
     let ahead : Each (λ e. tick ≤ e.1) ((n, f.value) ∷ f.rest) = subst (Each (λ e. tick ≤ e.1)) f.is t.ahead in
     record {
       whole =
-          t.whole ∙ ap (λ (xs : List (ℕ × ℕ)). at_moment tick due ++ xs) (f.is ∙ ap (λ (v : ℕ). (n, v) ∷ f.rest) now)
-          ∙ sym (append_assoc (at_moment tick due) ((n, tick) ∷ []) f.rest)
-          ∙ ap (λ (xs : List (ℕ × ℕ)). xs ++ f.rest) (sym (at_moment-append tick due (n ∷ [])))
-          ∙ ap (λ (xs : List (ℕ × ℕ)). at_moment tick (due ++ n ∷ []) ++ xs) (sym rest_is);
+          t.whole ∙ ap (λ (xs : List (ℕ × ℕ)). all_until tick due ++ xs) (f.is ∙ ap (λ (v : ℕ). (n, v) ∷ f.rest) now)
+          ∙ sym (append_assoc (all_until tick due) ((n, tick) ∷ []) f.rest)
+          ∙ ap (λ (xs : List (ℕ × ℕ)). xs ++ f.rest) (sym (all_until-append tick due (n ∷ [])))
+          ∙ ap (λ (xs : List (ℕ × ℕ)). all_until tick (due ++ n ∷ []) ++ xs) (sym rest_is);
       sorted = subst IsSorted (sym rest_is) sorted.1;
       ahead = subst (Each (λ e. tick ≤ e.1)) (sym rest_is) ahead.1;
       others = λ k ne. without-others sound n f.value list f.rest f.is k ne ∙ t.others k ne;

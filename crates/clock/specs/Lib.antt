@@ -1,2 +1,2 @@
-pub mod Sleepers
-pub mod Standing
+pub mod Timeline
+pub mod StandsFor

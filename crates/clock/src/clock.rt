@@ -1,17 +1,19 @@
 //! The clock: its tick, and its two lists of sleepers.
-ghost use Rattle.std.specs.Prelude.{◌≡◌, ◌+◌, ◌-◌, ◌*◌, ◌^◌, ◌<◌, ◌≤◌, ◌%◌, [], map, min, false, length, IsTrue, ◌↔◌};
-ghost use Rattle.lists.specs.Lists.{inserted, without};
+ghost use Rattle.std.specs.Prelude.{◌≡◌, ◌+◌, ◌-◌, ◌*◌, ◌^◌, ◌<◌, ◌≤◌, ◌%◌, [], min, false, length, IsTrue, ◌↔◌};
+ghost use Rattle.lists.specs.Lists.{insert_sorted, without};
 ghost use Rattle.model.specs.State.{State};
 ghost use Rattle.model.specs.Order.{tasks_of};
-ghost use Rattle.model.specs.Step as step;
-ghost use Rattle.clock.specs.Sleepers.{sleeps, Advances};
-ghost use Rattle.clock.specs.Standing.{StandsFor, passed};
+ghost use Rattle.model.specs.Switching as switching;
+ghost use Rattle.model.specs.Time as time;
+ghost use Rattle.clock.specs.Timeline.{is_asleep, Advances};
+ghost use Rattle.clock.specs.StandsFor.{StandsFor, at_next_tick};
 
 use crate::due::{Due, take_due};
-use lists::{ListId, NodeId, Table};
+use lists::ListId;
 use model::TaskId;
 use std::marker::Model;
 use std::mem;
+use task_lists::TaskLists;
 
 /// A moment of a clock, in ticks without bound: its tick at the start, and one more for each tick since (profile).
 #[derive(Clone, Copy, Debug, PartialEq, Eq)]
@@ -23,10 +25,10 @@ pub struct Mark {
 /// and those until one of the next turn. The lists are swapped when the tick becomes 0.
 ///
 /// These are FreeRTOS's tick count and its two delayed task lists, which are swapped at the wrap
-/// too. Sleepers of one moment wake in the order in which they began to sleep, as there.
+/// too. Sleepers of one wake time wake in the order in which they began to sleep, as there.
 #[derive(Drop)]
 pub struct Clock {
-    table: Table<2, 32>,
+    lists: TaskLists<2>,
     start: u32,
     overflows: u32,
     tick: u32,
@@ -34,25 +36,18 @@ pub struct Clock {
     overflow: ListId,
 }
 
-// Clauses see time without bound, and each sleeper with its moment.
+// Clauses see time without bound, and each sleeper with its wake time.
 impl Model for Clock {
     ghost use Rattle.std.specs.Prelude.{◌+◌, ◌*◌, ◌^◌};
-    ghost use Rattle.clock.specs.Sleepers.{Time, time_of, IsClock};
+    ghost use Rattle.clock.specs.Timeline.{Timeline, timeline_of, IsClock};
 
-    ghost Value = { Time };
+    ghost Value = { Timeline };
 
-    ghost view = { λ c. time_of c.table c.start (2 ^ 32 * c.overflows) c.tick c.current.number c.overflow.number };
+    ghost view = { λ c. timeline_of c.lists c.start (2 ^ 32 * c.overflows) c.tick
+        c.current.number c.overflow.number };
 
-    ghost invariant = { λ c. IsClock c.table c.start (2 ^ 32 * c.overflows) c.tick c.current.number c.overflow.number };
-}
-
-/// The node of a task in the table.
-fn node_of(task: TaskId) -> NodeId
-    ensures node { result.number ≡ task.number }
-{
-    NodeId {
-        number: task.number as u16,
-    }
+    ghost invariant = { λ c. IsClock c.lists c.start (2 ^ 32 * c.overflows) c.tick
+        c.current.number c.overflow.number };
 }
 
 impl Clock {
@@ -60,10 +55,10 @@ impl Clock {
     pub fn new(start: u32) -> Self
         ensures now { result.now ≡ start }
         ensures age { result.age ≡ 0 }
-        ensures nobody { result.sleepers ≡ [] }
+        ensures nobody { result.delayed_list ≡ [] }
     {
         Clock {
-            table: Table::new(),
+            lists: TaskLists::new(),
             start,
             overflows: 0,
             tick: start,
@@ -84,7 +79,7 @@ impl Clock {
     pub fn age(&self) -> u64
         ensures age { result ≡ self.now.age }
     {
-        self.moment() - self.start as u64
+        self.now() - self.start as u64
     }
 
     /// The moment that is now, to count from.
@@ -92,7 +87,7 @@ impl Clock {
         ensures mark { result.moment ≡ self.now.now }
     {
         Mark {
-            moment: self.moment(),
+            moment: self.now(),
         }
     }
 
@@ -102,7 +97,7 @@ impl Clock {
         requires { mark.moment ≤ self.now.now }
         ensures elapsed { result ≡ min (self.now.now - mark.moment) 4294967295 }
     {
-        let elapsed = self.moment() - mark.moment;
+        let elapsed = self.now() - mark.moment;
         if elapsed < u32::MAX as u64 {
             elapsed as u32
         } else {
@@ -112,34 +107,36 @@ impl Clock {
 
     /// Whether nobody sleeps.
     pub fn is_quiet(&self) -> bool
-        ensures quiet { IsTrue result ↔ (self.now.sleepers ≡ []) }
+        ensures quiet { IsTrue result ↔ (self.now.delayed_list ≡ []) }
     {
-        self.table.is_empty(self.current) && self.table.is_empty(self.overflow)
+        self.lists.is_empty(self.current) && self.lists.is_empty(self.overflow)
     }
 
     /// Whether a task sleeps.
     pub fn is_asleep(&self, task: TaskId) -> bool
-        ensures asleep { result ≡ sleeps self.now task.number }
+        ensures asleep { result ≡ is_asleep self.now task }
     {
-        self.table.place(node_of(task)).is_some()
+        self.lists.contains(task)
     }
 
     /// Puts a task that isn't asleep (`is_asleep` tells) to sleep for 1 to 4294967295 ticks. It wakes
-    /// after those that already sleep until the same moment.
+    /// after those that already sleep until the same time.
     pub fn sleep(&mut self, task: TaskId, ticks: u32)
         requires some { 0 < ticks }
-        requires awake { sleeps self.old task.number ≡ false }
+        requires awake { is_asleep self.old task ≡ false }
         ensures now { self.new.now ≡ self.old.now }
         ensures age { self.new.age ≡ self.old.age }
-        ensures sleepers { self.new.sleepers ≡ inserted (task.number, self.old.now + ticks) self.old.sleepers }
-        ensures asleep { (s : State) → StandsFor self.old s → task.number < length s.tasks → IsTrue (step.is_ready s task.number) → StandsFor self.new (step.sleep task.number (s.time + ticks) s) }
+        ensures delayed { self.new.delayed_list
+            ≡ insert_sorted (task, self.old.now + ticks) self.old.delayed_list }
+        ensures stands { (s : State) → StandsFor self.old s → task < length s.tasks
+            → IsTrue (switching.is_ready s task)
+            → StandsFor self.new (time.sleep task (s.time + ticks) s) }
     {
-        let node = node_of(task);
         match self.tick.checked_add(ticks) {
-            Some(moment) => self.table.insert_sorted(self.current, node, moment),
+            Some(wake_tick) => self.lists.insert_sorted(self.current, task, wake_tick),
             None => {
-                let moment = self.tick.wrapping_add(ticks);
-                self.table.insert_sorted(self.overflow, node, moment);
+                let wake_tick = self.tick.wrapping_add(ticks);
+                self.lists.insert_sorted(self.overflow, task, wake_tick);
             }
         }
     }
@@ -148,18 +145,19 @@ impl Clock {
     pub fn wake(&mut self, task: TaskId)
         ensures now { self.new.now ≡ self.old.now }
         ensures age { self.new.age ≡ self.old.age }
-        ensures sleepers { self.new.sleepers ≡ without task.number self.old.sleepers }
+        ensures delayed { self.new.delayed_list ≡ without task self.old.delayed_list }
     {
-        self.table.remove(node_of(task));
+        self.lists.remove(task);
     }
 
-    /// Lets one tick pass, and ends the sleep of the tasks whose moment has come: they are answered
+    /// Lets one tick pass, and ends the sleep of the tasks whose wake time has come: they are answered
     /// in the order in which they began to sleep. Before the call the age is below 2^62 ticks.
     pub fn advance(&mut self) -> Due
         requires { self.old.age < 2 ^ 62 }
-        ensures advances { Advances self.old self.new (map (λ task. task.number) result.items) }
-        ensures due { (s : State) → StandsFor self.old s → map (λ task. task.number) result.items ≡ tasks_of (step.due (passed s)) }
-        ensures woken { (s : State) → StandsFor self.old s → StandsFor self.new (step.wake (passed s)) }
+        ensures advances { Advances self.old self.new result.items }
+        ensures due { (s : State) → StandsFor self.old s
+            → result.items ≡ tasks_of (time.due (at_next_tick s)) }
+        ensures woken { (s : State) → StandsFor self.old s → StandsFor self.new (time.increment_tick s) }
     {
         if self.tick == u32::MAX {
             self.tick = 0;
@@ -168,12 +166,12 @@ impl Clock {
         } else {
             self.tick += 1;
         }
-        take_due(&mut self.table, self.current, self.tick)
+        take_due(&mut self.lists, self.current, self.tick)
     }
 
     /// The time, without bound.
-    fn moment(&self) -> u64
-        ensures moment { result ≡ self.now.now }
+    fn now(&self) -> u64
+        ensures now { result ≡ self.now.now }
     {
         self.overflows as u64 * (1 << 32) + self.tick as u64
     }

@@ -1,35 +1,35 @@
-//! The sleepers whose moment has come.
-ghost use Rattle.std.specs.Prelude.{◌≡◌, ◌≢◌, ℕ, ◌<◌, ◌≤◌, ◌++◌, map};
+//! The sleepers whose wake time has come.
+ghost use Rattle.std.specs.Prelude.{◌≡◌, ◌≢◌, ℕ, ◌<◌, ◌≤◌, ◌++◌};
 ghost use Rattle.lists.specs.Lists.{entries_of, Each, IsSorted, IsSound};
-ghost use Rattle.clock.specs.Sleepers.{at_moment};
+ghost use Rattle.clock.specs.Timeline.{all_until};
 
 use arrayvec::ArrayVec;
-use lists::{ListId, Table};
+use lists::ListId;
 use model::TaskId;
+use task_lists::TaskLists;
 
-/// The tasks whose moment has come, 32 at most, in the order in which they began to sleep.
+/// The tasks whose wake time has come, 32 at most, in the order in which they began to sleep.
 pub type Due = ArrayVec<TaskId, 32>;
 
 /// Takes the entries of this value, which come first, out of a list.
-pub(crate) fn take_due(table: &mut Table<2, 32>, list: ListId, tick: u32) -> Due
+pub(crate) fn take_due(lists: &mut TaskLists<2>, list: ListId, tick: u32) -> Due
     requires list { list.number < 2 }
-    requires sound { IsSound 2 32 table.old }
-    requires sorted { IsSorted (entries_of table.old list.number) }
-    requires ahead { Each (λ e. tick ≤ e.1) (entries_of table.old list.number) }
-    ensures due { entries_of table.old list.number ≡ at_moment tick (map (λ task. task.number) result.items) ++ entries_of table.new list.number }
-    ensures later { Each (λ e. tick < e.1) (entries_of table.new list.number) }
-    ensures others { (k : ℕ) → k ≢ list.number → entries_of table.new k ≡ entries_of table.old k }
-    ensures sound { IsSound 2 32 table.new }
+    requires sound { IsSound 2 32 lists.old }
+    requires sorted { IsSorted (entries_of lists.old list.number) }
+    requires ahead { Each (λ e. tick ≤ e.1) (entries_of lists.old list.number) }
+    ensures due { entries_of lists.old list.number
+        ≡ all_until tick result.items ++ entries_of lists.new list.number }
+    ensures later { Each (λ e. tick < e.1) (entries_of lists.new list.number) }
+    ensures others { (k : ℕ) → k ≢ list.number → entries_of lists.new k ≡ entries_of lists.old k }
+    ensures sound { IsSound 2 32 lists.new }
 {
     let mut due = ArrayVec::new();
-    while let Some(node) = table.first(list) {
-        if table.value(node) != tick {
+    while let Some(task) = lists.first(list) {
+        if lists.value(task) != tick {
             break;
         }
-        table.remove(node);
-        due.push(TaskId {
-            number: node.number as u8,
-        });
+        lists.remove(task);
+        due.push(task);
     }
     due
 }

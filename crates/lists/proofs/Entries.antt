@@ -6,7 +6,7 @@ use Rattle.std.proofs.lemmas.Option.{same_Some}
 use Rattle.std.proofs.lemmas.Map.Steps.{length-le_from_distinct_below}
 use Rattle.std.specs.List.{IsDistinct, AllByRecursion, list_any}
 use Rattle.std.specs.Prelude.{◌==◌, nat_lt}
-use Rattle.lists.specs.Lists.{Each, EachOnce, Apart, IsSorted, first_of, has_node, inserted, without}
+use Rattle.lists.specs.Lists.{Each, EachOnce, Apart, IsSorted, first_of, has_node, insert_sorted, without}
 
 pub none-some : (n : ℕ) → None ≢ Some n
 none-some n = λ e. cc
@@ -183,46 +183,46 @@ has_node-without_other n m (x ∷ xs) ne = elim (cases_eq x.0 n) [
 
 -- entries with one more
 
-pub inserted-before : (n v : ℕ) (x : ℕ × ℕ) (xs : List (ℕ × ℕ)) → v < x.1 → inserted (n, v) (x ∷ xs) ≡ (n, v) ∷ x ∷ xs
-inserted-before n v x xs h = let t : nat_lt v x.1 ≡ true = lt-ltb v x.1 h in rw t refl
+pub insert_sorted-before : (n v : ℕ) (x : ℕ × ℕ) (xs : List (ℕ × ℕ)) → v < x.1 → insert_sorted (n, v) (x ∷ xs) ≡ (n, v) ∷ x ∷ xs
+insert_sorted-before n v x xs h = let t : nat_lt v x.1 ≡ true = lt-ltb v x.1 h in rw t refl
 
-pub inserted-after : (n v : ℕ) (x : ℕ × ℕ) (xs : List (ℕ × ℕ)) → x.1 ≤ v → inserted (n, v) (x ∷ xs) ≡ x ∷ inserted (n, v) xs
-inserted-after n v x xs h = let t : nat_lt v x.1 ≡ false = le-ltb v x.1 h in rw t refl
+pub insert_sorted-after : (n v : ℕ) (x : ℕ × ℕ) (xs : List (ℕ × ℕ)) → x.1 ≤ v → insert_sorted (n, v) (x ∷ xs) ≡ x ∷ insert_sorted (n, v) xs
+insert_sorted-after n v x xs h = let t : nat_lt v x.1 ≡ false = le-ltb v x.1 h in rw t refl
 
 -- before entries of greater values, and after entries of values that are not
-pub inserted-left : (n v : ℕ) (xs ys : List (ℕ × ℕ)) → Each (λ e. v < e.1) ys → inserted (n, v) (xs ++ ys) ≡ inserted (n, v) xs ++ ys
-inserted-left n v [] [] h = refl
-inserted-left n v [] (y ∷ ys) h = inserted-before n v y ys h.0
-inserted-left n v (x ∷ xs) ys h = elim (cases_lt v x.1) [
-  | inl less ↦ inserted-before n v x (xs ++ ys) less ∙ ap (λ (zs : List (ℕ × ℕ)). zs ++ ys) (sym (inserted-before n v x xs less))
-  | inr more ↦ inserted-after n v x (xs ++ ys) more ∙ ap (λ (zs : List (ℕ × ℕ)). x ∷ zs) (inserted-left n v xs ys h) ∙ ap (λ (zs : List (ℕ × ℕ)). zs ++ ys) (sym (inserted-after n v x xs more))
+pub insert_sorted-left : (n v : ℕ) (xs ys : List (ℕ × ℕ)) → Each (λ e. v < e.1) ys → insert_sorted (n, v) (xs ++ ys) ≡ insert_sorted (n, v) xs ++ ys
+insert_sorted-left n v [] [] h = refl
+insert_sorted-left n v [] (y ∷ ys) h = insert_sorted-before n v y ys h.0
+insert_sorted-left n v (x ∷ xs) ys h = elim (cases_lt v x.1) [
+  | inl less ↦ insert_sorted-before n v x (xs ++ ys) less ∙ ap (λ (zs : List (ℕ × ℕ)). zs ++ ys) (sym (insert_sorted-before n v x xs less))
+  | inr more ↦ insert_sorted-after n v x (xs ++ ys) more ∙ ap (λ (zs : List (ℕ × ℕ)). x ∷ zs) (insert_sorted-left n v xs ys h) ∙ ap (λ (zs : List (ℕ × ℕ)). zs ++ ys) (sym (insert_sorted-after n v x xs more))
 ]
 
-pub inserted-right : (n v : ℕ) (xs ys : List (ℕ × ℕ)) → Each (λ e. e.1 ≤ v) xs → inserted (n, v) (xs ++ ys) ≡ xs ++ inserted (n, v) ys
-inserted-right n v [] ys h = refl
-inserted-right n v (x ∷ xs) ys h = inserted-after n v x (xs ++ ys) h.0 ∙ ap (λ (zs : List (ℕ × ℕ)). x ∷ zs) (inserted-right n v xs ys h.1)
+pub insert_sorted-right : (n v : ℕ) (xs ys : List (ℕ × ℕ)) → Each (λ e. e.1 ≤ v) xs → insert_sorted (n, v) (xs ++ ys) ≡ xs ++ insert_sorted (n, v) ys
+insert_sorted-right n v [] ys h = refl
+insert_sorted-right n v (x ∷ xs) ys h = insert_sorted-after n v x (xs ++ ys) h.0 ∙ ap (λ (zs : List (ℕ × ℕ)). x ∷ zs) (insert_sorted-right n v xs ys h.1)
 
-pub Each-inserted : (P : ℕ × ℕ → Type 0) (n v : ℕ) (xs : List (ℕ × ℕ)) → P (n, v) → Each P xs → Each P (inserted (n, v) xs)
-Each-inserted P n v [] p h = (p, tt)
-Each-inserted P n v (x ∷ xs) p h = elim (cases_lt v x.1) [
-  | inl less ↦ subst (Each P) (sym (inserted-before n v x xs less)) (p, h)
-  | inr more ↦ subst (Each P) (sym (inserted-after n v x xs more)) (h.0, Each-inserted P n v xs p h.1)
+pub Each-insert_sorted : (P : ℕ × ℕ → Type 0) (n v : ℕ) (xs : List (ℕ × ℕ)) → P (n, v) → Each P xs → Each P (insert_sorted (n, v) xs)
+Each-insert_sorted P n v [] p h = (p, tt)
+Each-insert_sorted P n v (x ∷ xs) p h = elim (cases_lt v x.1) [
+  | inl less ↦ subst (Each P) (sym (insert_sorted-before n v x xs less)) (p, h)
+  | inr more ↦ subst (Each P) (sym (insert_sorted-after n v x xs more)) (h.0, Each-insert_sorted P n v xs p h.1)
 ]
 
-pub length-inserted : (n v : ℕ) (xs : List (ℕ × ℕ)) → length (inserted (n, v) xs) ≡ length ((n, v) ∷ xs)
-length-inserted n v [] = refl
-length-inserted n v (x ∷ xs) = elim (cases_lt v x.1) [
-  | inl less ↦ ap length (inserted-before n v x xs less)
-  | inr more ↦ ap length (inserted-after n v x xs more) ∙ let e = length-inserted n v xs in omega (arith, e)
+pub length-insert_sorted : (n v : ℕ) (xs : List (ℕ × ℕ)) → length (insert_sorted (n, v) xs) ≡ length ((n, v) ∷ xs)
+length-insert_sorted n v [] = refl
+length-insert_sorted n v (x ∷ xs) = elim (cases_lt v x.1) [
+  | inl less ↦ ap length (insert_sorted-before n v x xs less)
+  | inr more ↦ ap length (insert_sorted-after n v x xs more) ∙ let e = length-insert_sorted n v xs in omega (arith, e)
 ]
 
 -- sorted entries
 
-pub IsSorted-inserted : (n v : ℕ) (xs : List (ℕ × ℕ)) → IsSorted xs → IsSorted (inserted (n, v) xs)
-IsSorted-inserted n v [] h = (tt, tt)
-IsSorted-inserted n v (x ∷ xs) h = elim (cases_lt v x.1) [
-  | inl less ↦ subst IsSorted (sym (inserted-before n v x xs less)) (((omega (arith, less)), Each-imp (λ e. x.1 ≤ e.1) (λ e. v ≤ e.1) xs (λ e le. omega (arith, le, less)) h.0), h)
-  | inr more ↦ subst IsSorted (sym (inserted-after n v x xs more)) (Each-inserted (λ e. x.1 ≤ e.1) n v xs more h.0, IsSorted-inserted n v xs h.1)
+pub IsSorted-insert_sorted : (n v : ℕ) (xs : List (ℕ × ℕ)) → IsSorted xs → IsSorted (insert_sorted (n, v) xs)
+IsSorted-insert_sorted n v [] h = (tt, tt)
+IsSorted-insert_sorted n v (x ∷ xs) h = elim (cases_lt v x.1) [
+  | inl less ↦ subst IsSorted (sym (insert_sorted-before n v x xs less)) (((omega (arith, less)), Each-imp (λ e. x.1 ≤ e.1) (λ e. v ≤ e.1) xs (λ e le. omega (arith, le, less)) h.0), h)
+  | inr more ↦ subst IsSorted (sym (insert_sorted-after n v x xs more)) (Each-insert_sorted (λ e. x.1 ≤ e.1) n v xs more h.0, IsSorted-insert_sorted n v xs h.1)
 ]
 
 pub IsSorted-without : (n : ℕ) (xs : List (ℕ × ℕ)) → IsSorted xs → IsSorted (without n xs)
@@ -238,11 +238,11 @@ IsSorted-right (x ∷ xs) ys h = IsSorted-right xs ys h.1
 
 -- nodes that come once still do
 
-pub EachOnce-inserted : (n v : ℕ) (xs : List (ℕ × ℕ)) → Apart (Some n) xs → EachOnce xs → EachOnce (inserted (n, v) xs)
-EachOnce-inserted n v [] a h = (tt, tt)
-EachOnce-inserted n v (x ∷ xs) a h = elim (cases_lt v x.1) [
-  | inl less ↦ subst EachOnce (sym (inserted-before n v x xs less)) (a, h)
-  | inr more ↦ subst EachOnce (sym (inserted-after n v x xs more)) (Each-inserted (λ e. Some x.0 ≢ Some e.0) n v xs (λ e. a.0 (sym e)) h.0, EachOnce-inserted n v xs a.1 h.1)
+pub EachOnce-insert_sorted : (n v : ℕ) (xs : List (ℕ × ℕ)) → Apart (Some n) xs → EachOnce xs → EachOnce (insert_sorted (n, v) xs)
+EachOnce-insert_sorted n v [] a h = (tt, tt)
+EachOnce-insert_sorted n v (x ∷ xs) a h = elim (cases_lt v x.1) [
+  | inl less ↦ subst EachOnce (sym (insert_sorted-before n v x xs less)) (a, h)
+  | inr more ↦ subst EachOnce (sym (insert_sorted-after n v x xs more)) (Each-insert_sorted (λ e. Some x.0 ≢ Some e.0) n v xs (λ e. a.0 (sym e)) h.0, EachOnce-insert_sorted n v xs a.1 h.1)
 ]
 
 pub EachOnce-without : (n : ℕ) (xs : List (ℕ × ℕ)) → EachOnce xs → EachOnce (without n xs)

@@ -3,8 +3,8 @@ use Rattle.std.proofs.Common.{◌≡◌, ℕ, ◌<◌, ◌≤◌, true, false, O
 use Rattle.std.specs.Prelude.{nat_lt, if◌then◌else◌}
 use Rattle.std.proofs.lemmas.Bool.{le-ltb, lt-ltb}
 use Rattle.std.proofs.lemmas.Option.{same_Some}
-use Rattle.lists.specs.Lists.{Each, EachOnce, first_of, inserted}
-use Rattle.lists.specs.Links.{walk, at_link, Linked, InPlace, Spells, upper}
+use Rattle.lists.specs.Lists.{Each, EachOnce, first_of, insert_sorted}
+use Rattle.lists.specs.Links.{walk, at_link, Linked, IsStored, Spells, upper}
 use Rattle.lists.proofs.Entries.{none-some, Each-right, Each-imp, distinct-right, few_entries}
 use Rattle.lists.proofs.Links.{last_of, at_place, after_place}
 use Rattle.lists.proofs.Spelled.{walk-linked}
@@ -29,11 +29,11 @@ lower-upper value (x ∷ xs) = elim (nat_lt value x.1) as (λ b. (x ∷ xs) ≡ 
   | false ↦ ap (λ (ys : List (ℕ × ℕ)). x ∷ ys) (lower-upper value xs)
 ]
 
-pub inserted-lower-upper : (n value : ℕ) (xs : List (ℕ × ℕ)) → inserted (n, value) xs ≡ lower value xs ++ (n, value) ∷ upper value xs
-inserted-lower-upper n value [] = refl
-inserted-lower-upper n value (x ∷ xs) = elim (nat_lt value x.1) as (λ b. (if◌then◌else◌ b ((n, value) ∷ x ∷ xs) (x ∷ inserted (n, value) xs)) ≡ (if◌then◌else◌ b [] (x ∷ lower value xs)) ++ (n, value) ∷ (if◌then◌else◌ b (x ∷ xs) (upper value xs))) [
+pub insert_sorted-lower-upper : (n value : ℕ) (xs : List (ℕ × ℕ)) → insert_sorted (n, value) xs ≡ lower value xs ++ (n, value) ∷ upper value xs
+insert_sorted-lower-upper n value [] = refl
+insert_sorted-lower-upper n value (x ∷ xs) = elim (nat_lt value x.1) as (λ b. (if◌then◌else◌ b ((n, value) ∷ x ∷ xs) (x ∷ insert_sorted (n, value) xs)) ≡ (if◌then◌else◌ b [] (x ∷ lower value xs)) ++ (n, value) ∷ (if◌then◌else◌ b (x ∷ xs) (upper value xs))) [
   | true ↦ refl
-  | false ↦ ap (λ (ys : List (ℕ × ℕ)). x ∷ ys) (inserted-lower-upper n value xs)
+  | false ↦ ap (λ (ys : List (ℕ × ℕ)). x ∷ ys) (insert_sorted-lower-upper n value xs)
 ]
 
 module _ {L N : ℕ} {next prev place : List (Option ℕ)} {values : List ℕ} {firsts lasts : List (Option ℕ)} {ls : List (List (ℕ × ℕ))} (h : Spells L N next prev place values firsts lasts ls) (l : ℕ) (hl : l < L) where
@@ -43,11 +43,11 @@ module _ {L N : ℕ} {next prev place : List (Option ℕ)} {values : List ℕ} {
       let nx : Option ℕ → Option ℕ = at_link next (get_or firsts l None) in
       let pv : Option ℕ → Option ℕ = at_link prev (get_or lasts l None) in
       let linked : Linked nx pv None (fs ++ bs) = subst (Linked nx pv None) split (h.linked l hl) in
-      let in_place : Each (InPlace N place values l) bs = Each-right (InPlace N place values l) fs bs (subst (Each (InPlace N place values l)) split (h.in_place l hl)) in
+      let stored : Each (IsStored N place values l) bs = Each-right (IsStored N place values l) fs bs (subst (Each (IsStored N place values l)) split (h.stored l hl)) in
       let distinct : EachOnce bs = distinct-right fs bs (subst EachOnce split (h.distinct l hl)) in
-      let few = few_entries N bs (Each-imp (InPlace N place values l) (λ e. e.0 < N) bs (λ e i. i.known) in_place) distinct in
+      let few = few_entries N bs (Each-imp (IsStored N place values l) (λ e. e.0 < N) bs (λ e i. i.known) stored) distinct in
       ap (walk next values N) (sym (at_place nx pv None fs bs linked).0)
-      ∙ walk-linked next values (get_or firsts l None) pv N (last_of None fs) bs (after_place nx pv None fs bs linked) few (Each-imp (InPlace N place values l) (λ e. get_or values e.0 0 ≡ e.1) bs (λ e i. i.valued) in_place)
+      ∙ walk-linked next values (get_or firsts l None) pv N (last_of None fs) bs (after_place nx pv None fs bs linked) few (Each-imp (IsStored N place values l) (λ e. get_or values e.0 0 ≡ e.1) bs (λ e i. i.valued) stored)
 
   -- what a node of the list shows of its place
   pub record Shows (value n : ℕ) (at : Option ℕ) : Type 0 where
@@ -62,13 +62,13 @@ module _ {L N : ℕ} {next prev place : List (Option ℕ)} {values : List ℕ} {
       let nx : Option ℕ → Option ℕ = at_link next (get_or firsts l None) in
       let pv : Option ℕ → Option ℕ = at_link prev (get_or lasts l None) in
       let linked : Linked nx pv None (before ++ x ∷ rest) = subst (Linked nx pv None) whole (h.linked l hl) in
-      let in_place : Each (InPlace N place values l) (x ∷ rest) = Each-right (InPlace N place values l) before (x ∷ rest) (subst (Each (InPlace N place values l)) whole (h.in_place l hl)) in
+      let stored : Each (IsStored N place values l) (x ∷ rest) = Each-right (IsStored N place values l) before (x ∷ rest) (subst (Each (IsStored N place values l)) whole (h.stored l hl)) in
       let n_is : n ≡ x.0 = same_Some n x.0 (sym e ∙ here) in
-      let value_is : get_or values n 0 ≡ x.1 = ap (λ (k : ℕ). get_or values k 0) n_is ∙ in_place.0.valued in
+      let value_is : get_or values n 0 ≡ x.1 = ap (λ (k : ℕ). get_or values k 0) n_is ∙ stored.0.valued in
       let next_is : get_or next n None ≡ first_of rest = ap (λ (k : ℕ). get_or next k None) n_is ∙ (at_place nx pv (Some x.0) [] rest (after_place nx pv None before (x ∷ rest) linked).2).0 in
       let whole' : get_or ls l [] ≡ (before ++ x ∷ []) ++ rest = whole ∙ sym (append_assoc before (x ∷ []) rest) in
       record {
-        known = subst (λ (k : ℕ). k < N) (sym n_is) in_place.0.known;
+        known = subst (λ (k : ℕ). k < N) (sym n_is) stored.0.known;
         greater = λ lt.
             let test : nat_lt value x.1 ≡ true = lt-ltb value x.1 (omega (arith, lt, value_is)) in
             let found : upper value (x ∷ rest) ≡ x ∷ rest = rw test refl in

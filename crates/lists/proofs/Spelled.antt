@@ -7,7 +7,7 @@ use Rattle.std.specs.List.{position_or_len}
 use Rattle.std.specs.Prelude.{◌==◌, nat_lt}
 use Rattle.std.proofs.lemmas.List.Sums.{position_or_len_is}
 use Rattle.lists.specs.Lists.{Each, EachOnce, Apart, first_of, without, has_node, place_of, value_of, next_of, IsSound}
-use Rattle.lists.specs.Links.{walk, lists_of, at_link, put_link, put_end, Linked, InPlace, Spells, IsTable}
+use Rattle.lists.specs.Links.{walk, lists_of, at_link, put_link, put_end, Linked, IsStored, Spells, IsLinkedTable}
 use Rattle.lists.proofs.Entries.{none-some, Each-left, Each-right, Each-append, Each-imp, distinct-left, distinct-right, distinct-in, distinct-out, few_entries, has_node-apart, has_node-not_apart, without-apart, without-split}
 use Rattle.lists.proofs.Links.{last_of, last-in, first-in, same_links, at_place, after_place, OnlyAt, linked_in, taken_out, put_same, put_other, put_elsewhere, put_node, put_link_length, put_end_length}
 
@@ -40,14 +40,14 @@ lists_of-Spells {L} {N} {next} {prev} {place} {values} {firsts} {lasts} {ls} h =
     same_lists _ _ (len ∙ firsts_length ∙ sym as_many) (λ l d below.
     let within : l < length firsts = omega (arith, len, below) in
     let known : l < L = omega (arith, firsts_length, within) in
-    let few = few_entries N (get_or ls l []) (Each-imp (InPlace N place values l) (λ e. e.0 < N) (get_or ls l []) (λ e i. i.known) (h.in_place l known)) (h.distinct l known) in
+    let few = few_entries N (get_or ls l []) (Each-imp (IsStored N place values l) (λ e. e.0 < N) (get_or ls l []) (λ e i. i.known) (h.stored l known)) (h.distinct l known) in
     get_or-map (walk next values N) firsts l None d within
-    ∙ walk-linked next values (get_or firsts l None) (at_link prev (get_or lasts l None)) N None (get_or ls l []) (h.linked l known) few (Each-imp (InPlace N place values l) (λ e. get_or values e.0 0 ≡ e.1) (get_or ls l []) (λ e i. i.valued) (h.in_place l known))
+    ∙ walk-linked next values (get_or firsts l None) (at_link prev (get_or lasts l None)) N None (get_or ls l []) (h.linked l known) few (Each-imp (IsStored N place values l) (λ e. get_or values e.0 0 ≡ e.1) (get_or ls l []) (λ e i. i.valued) (h.stored l known))
     ∙ get_or_default ls l [] d (omega (arith, as_many, known)))
 
 -- the arrays are those of a table
-pub table_is : {L N : ℕ} {next prev place : List (Option ℕ)} {values : List ℕ} {firsts lasts : List (Option ℕ)} {ls : List (List (ℕ × ℕ))} → L ≤ 4096 → N ≤ 4096 → Spells L N next prev place values firsts lasts ls → IsTable L N next prev place values firsts lasts
-table_is {L} {N} {next} {prev} {place} {values} {firsts} {lasts} lists nodes h = record {
+pub linked_table : {L N : ℕ} {next prev place : List (Option ℕ)} {values : List ℕ} {firsts lasts : List (Option ℕ)} {ls : List (List (ℕ × ℕ))} → L ≤ 4096 → N ≤ 4096 → Spells L N next prev place values firsts lasts ls → IsLinkedTable L N next prev place values firsts lasts
+linked_table {L} {N} {next} {prev} {place} {values} {firsts} {lasts} lists nodes h = record {
   lists_fit = lists;
   nodes_fit = nodes;
   spells = subst (Spells L N next prev place values firsts lasts) (sym (lists_of-Spells h)) h;
@@ -57,37 +57,37 @@ table_is {L} {N} {next} {prev} {place} {values} {firsts} {lasts} lists nodes h =
 pub seen : {L N : ℕ} {next prev place : List (Option ℕ)} {values : List ℕ} {firsts lasts : List (Option ℕ)} {ls : List (List (ℕ × ℕ))} {seen : List (List (ℕ × ℕ))} → Spells L N next prev place values firsts lasts ls → ls ≡ seen → Spells L N next prev place values firsts lasts seen
 seen {L} {N} {next} {prev} {place} {values} {firsts} {lasts} h same = subst (Spells L N next prev place values firsts lasts) same h
 
--- a node that is marked as in no list, or another, is apart from a list's entries
-pub apart-unmarked : (N : ℕ) (place : List (Option ℕ)) (values : List ℕ) (l n : ℕ) (xs : List (ℕ × ℕ)) → get_or place n None ≢ Some l → Each (InPlace N place values l) xs → Apart (Some n) xs
-apart-unmarked N place values l n [] ne h = tt
-apart-unmarked N place values l n (x ∷ xs) ne h = (
+-- a node whose place is no list, or another, is apart from a list's entries
+pub apart-unplaced : (N : ℕ) (place : List (Option ℕ)) (values : List ℕ) (l n : ℕ) (xs : List (ℕ × ℕ)) → get_or place n None ≢ Some l → Each (IsStored N place values l) xs → Apart (Some n) xs
+apart-unplaced N place values l n [] ne h = tt
+apart-unplaced N place values l n (x ∷ xs) ne h = (
   λ e. ne (ap (λ (k : ℕ). get_or place k None) (same_Some n x.0 e) ∙ h.0.placed),
-  apart-unmarked N place values l n xs ne h.1,
+  apart-unplaced N place values l n xs ne h.1,
 )
 
--- the entries other than n's stay in place when n's mark and value change
-keeps-place : (N : ℕ) (place : List (Option ℕ)) (values : List ℕ) (l n v : ℕ) (mark : Option ℕ) (xs : List (ℕ × ℕ)) → Apart (Some n) xs → Each (InPlace N place values l) xs → Each (InPlace N (set place n mark) (set values n v) l) xs
-keeps-place N place values l n v mark [] h k = tt
-keeps-place N place values l n v mark (x ∷ xs) h k =
+-- the entries other than n's stay in place when n's place and value change
+keeps-stored : (N : ℕ) (place : List (Option ℕ)) (values : List ℕ) (l n v : ℕ) (at_list : Option ℕ) (xs : List (ℕ × ℕ)) → Apart (Some n) xs → Each (IsStored N place values l) xs → Each (IsStored N (set place n at_list) (set values n v) l) xs
+keeps-stored N place values l n v at_list [] h k = tt
+keeps-stored N place values l n v at_list (x ∷ xs) h k =
     let ne : x.0 ≢ n = λ e. h.0 (ap Some (sym e)) in (
       record {
         known = k.0.known;
-        placed = get_or-set_other place n x.0 mark None ne ∙ k.0.placed;
+        placed = get_or-set_other place n x.0 at_list None ne ∙ k.0.placed;
         valued = get_or-set_other values n x.0 v 0 ne ∙ k.0.valued;
       },
-      keeps-place N place values l n v mark xs h.1 k.1,
+      keeps-stored N place values l n v at_list xs h.1 k.1,
     )
 
-keeps-mark : (N : ℕ) (place : List (Option ℕ)) (values : List ℕ) (l n : ℕ) (mark : Option ℕ) (xs : List (ℕ × ℕ)) → Apart (Some n) xs → Each (InPlace N place values l) xs → Each (InPlace N (set place n mark) values l) xs
-keeps-mark N place values l n mark [] h k = tt
-keeps-mark N place values l n mark (x ∷ xs) h k =
+keeps-stored_place : (N : ℕ) (place : List (Option ℕ)) (values : List ℕ) (l n : ℕ) (at_list : Option ℕ) (xs : List (ℕ × ℕ)) → Apart (Some n) xs → Each (IsStored N place values l) xs → Each (IsStored N (set place n at_list) values l) xs
+keeps-stored_place N place values l n at_list [] h k = tt
+keeps-stored_place N place values l n at_list (x ∷ xs) h k =
     let ne : x.0 ≢ n = λ e. h.0 (ap Some (sym e)) in (
       record {
         known = k.0.known;
-        placed = get_or-set_other place n x.0 mark None ne ∙ k.0.placed;
+        placed = get_or-set_other place n x.0 at_list None ne ∙ k.0.placed;
         valued = k.0.valued;
       },
-      keeps-mark N place values l n mark xs h.1 k.1,
+      keeps-stored_place N place values l n at_list xs h.1 k.1,
     )
 
 module _ {L N : ℕ} {next prev place : List (Option ℕ)} {values : List ℕ} {firsts lasts : List (Option ℕ)} {ls : List (List (ℕ × ℕ))} (h : Spells L N next prev place values firsts lasts ls) where
@@ -98,11 +98,11 @@ module _ {L N : ℕ} {next prev place : List (Option ℕ)} {values : List ℕ} {
   known_list l hl = subst (λ (k : ℕ). l < k) h.as_many hl
 
   -- what a table knows of the nodes of a list
-  marked_nodes : (l : ℕ) → l < L → Each (λ e. (e.0 < N) × (get_or place e.0 None ≡ Some l)) (get_or ls l [])
-  marked_nodes l hl = Each-imp (InPlace N place values l) (λ e. (e.0 < N) × (get_or place e.0 None ≡ Some l)) (get_or ls l []) (λ e i. (i.known, i.placed)) (h.in_place l hl)
+  placed_nodes : (l : ℕ) → l < L → Each (λ e. (e.0 < N) × (get_or place e.0 None ≡ Some l)) (get_or ls l [])
+  placed_nodes l hl = Each-imp (IsStored N place values l) (λ e. (e.0 < N) × (get_or place e.0 None ≡ Some l)) (get_or ls l []) (λ e i. (i.known, i.placed)) (h.stored l hl)
 
   -- the link of an entry of another list is none of l's nodes
-  not_here : (l j : ℕ) (o : Option ℕ) (e : ℕ × ℕ) → j ≢ l → ((m : ℕ) → o ≡ Some m → (m < N) × (get_or place m None ≡ Some l)) → InPlace N place values j e → Some e.0 ≢ o
+  not_here : (l j : ℕ) (o : Option ℕ) (e : ℕ × ℕ) → j ≢ l → ((m : ℕ) → o ≡ Some m → (m < N) × (get_or place m None ≡ Some l)) → IsStored N place values j e → Some e.0 ≢ o
   not_here l j o e ne ho i = λ same. ne (same_Some j l (sym i.placed ∙ (ho e.0 (sym same)).1))
 
   -- a node goes in between fs and bs
@@ -122,13 +122,13 @@ module _ {L N : ℕ} {next prev place : List (Option ℕ)} {values : List ℕ} {
       let P : ℕ → Type 0 = λ m. (m < N) × (get_or place m None ≡ Some l) in
       let linked : Linked nx pv None (fs ++ bs) = subst (Linked nx pv None) split (h.linked l hl) in
       let distinct : EachOnce (fs ++ bs) = subst EachOnce split (h.distinct l hl) in
-      let in_place : Each (InPlace N place values l) (fs ++ bs) = subst (Each (InPlace N place values l)) split (h.in_place l hl) in
-      let marks : Each (λ e. P e.0) (fs ++ bs) = subst (Each (λ e. P e.0)) split (marked_nodes l hl) in
+      let stored : Each (IsStored N place values l) (fs ++ bs) = subst (Each (IsStored N place values l)) split (h.stored l hl) in
+      let nodes_placed : Each (λ e. P e.0) (fs ++ bs) = subst (Each (λ e. P e.0)) split (placed_nodes l hl) in
       let last : last_of None fs ≡ p = sym (at_place nx pv None fs bs linked).1 ∙ ap pv (sym hq) ∙ sym hp in
-      let p_marked : (m : ℕ) → p ≡ Some m → P m = λ m e. last-in P None fs m (λ i. absurd (none-some m i)) (Each-left (λ e. P e.0) fs bs marks) (last ∙ e) in
-      let q_marked : (m : ℕ) → q ≡ Some m → P m = λ m e. first-in P bs m (Each-right (λ e. P e.0) fs bs marks) (sym hq ∙ e) in
-      let p_other : Some n ≢ p = λ e. none-some l (sym free ∙ (p_marked n (sym e)).1) in
-      let q_other : Some n ≢ q = λ e. none-some l (sym free ∙ (q_marked n (sym e)).1) in
+      let p_placed : (m : ℕ) → p ≡ Some m → P m = λ m e. last-in P None fs m (λ i. absurd (none-some m i)) (Each-left (λ e. P e.0) fs bs nodes_placed) (last ∙ e) in
+      let q_placed : (m : ℕ) → q ≡ Some m → P m = λ m e. first-in P bs m (Each-right (λ e. P e.0) fs bs nodes_placed) (sym hq ∙ e) in
+      let p_other : Some n ≢ p = λ e. none-some l (sym free ∙ (p_placed n (sym e)).1) in
+      let q_other : Some n ≢ q = λ e. none-some l (sym free ∙ (q_placed n (sym e)).1) in
       let l_firsts : l < length firsts = subst (λ (k : ℕ). l < k) (sym h.firsts_length) hl in
       let l_lasts : l < length lasts = subst (λ (k : ℕ). l < k) (sym h.lasts_length) hl in
       let l_lists : l < length ls = listed l hl in
@@ -136,7 +136,7 @@ module _ {L N : ℕ} {next prev place : List (Option ℕ)} {values : List ℕ} {
       let n_prev : n < length prev = subst (λ (k : ℕ). n < k) (sym h.prev_length) hn in
       let n_place : n < length place = subst (λ (k : ℕ). n < k) (sym h.place_length) hn in
       let n_values : n < length values = subst (λ (k : ℕ). n < k) (sym h.values_length) hn in
-      let free_of : (j : ℕ) → j < L → Apart (Some n) (get_or ls j []) = λ j hj. apart-unmarked N place values j n (get_or ls j []) (λ e. none-some j (sym free ∙ e)) (h.in_place j hj) in
+      let free_of : (j : ℕ) → j < L → Apart (Some n) (get_or ls j []) = λ j hj. apart-unplaced N place values j n (get_or ls j []) (λ e. none-some j (sym free ∙ e)) (h.stored j hj) in
       let fresh : Apart (Some n) (fs ++ bs) = subst (Apart (Some n)) split (free_of l hl) in
       let only : OnlyAt nx pv (at_link next' (get_or firsts' l None)) (at_link prev' (get_or lasts' l None)) p q n = record {
         forth = λ o op on. put_other (set next n q) firsts l (Some n) p o op ∙ put_other next firsts l q (Some n) o on;
@@ -144,32 +144,32 @@ module _ {L N : ℕ} {next prev place : List (Option ℕ)} {values : List ℕ} {
       } in
       let here : Linked (at_link next' (get_or firsts' l None)) (at_link prev' (get_or lasts' l None)) None new =
       linked_in nx pv (at_link next' (get_or firsts' l None)) (at_link prev' (get_or lasts' l None)) p q n only v
-      (put_same (set next n q) firsts l (Some n) p l_firsts (λ m e. subst (λ (k : ℕ). m < k) (sym (length-set next n q ∙ h.next_length)) (p_marked m e).0))
+      (put_same (set next n q) firsts l (Some n) p l_firsts (λ m e. subst (λ (k : ℕ). m < k) (sym (length-set next n q ∙ h.next_length)) (p_placed m e).0))
       (put_other (set next n q) firsts l (Some n) p (Some n) p_other ∙ get_or-set_same next n q None n_next)
-      (put_same (set prev n p) lasts l (Some n) q l_lasts (λ m e. subst (λ (k : ℕ). m < k) (sym (length-set prev n p ∙ h.prev_length)) (q_marked m e).0))
+      (put_same (set prev n p) lasts l (Some n) q l_lasts (λ m e. subst (λ (k : ℕ). m < k) (sym (length-set prev n p ∙ h.prev_length)) (q_placed m e).0))
       (put_other (set prev n p) lasts l (Some n) q (Some n) q_other ∙ get_or-set_same prev n p None n_prev)
       None fs bs last (sym hq) (none-some n) fresh (Each-imp (λ e. Some n ≢ Some e.0) (λ e. None ≢ Some e.0) (fs ++ bs) (λ e k. none-some e.0) fresh) distinct linked in
       let elsewhere : (j : ℕ) → j < L → j ≢ l → Linked (at_link next' (get_or firsts' j None)) (at_link prev' (get_or lasts' j None)) None (get_or ls j []) = λ j hj ne.
       same_links (at_link next (get_or firsts j None)) (at_link prev (get_or lasts j None)) (at_link next' (get_or firsts' j None)) (at_link prev' (get_or lasts' j None)) None (get_or ls j [])
       (put_elsewhere (set next n q) firsts l (Some n) p j ne)
       (put_elsewhere (set prev n p) lasts l (Some n) q j ne)
-      (Each-imp (InPlace N place values j) (λ e. (get_or next' e.0 None ≡ get_or next e.0 None) × (get_or prev' e.0 None ≡ get_or prev e.0 None)) (get_or ls j []) (λ e i.
+      (Each-imp (IsStored N place values j) (λ e. (get_or next' e.0 None ≡ get_or next e.0 None) × (get_or prev' e.0 None ≡ get_or prev e.0 None)) (get_or ls j []) (λ e i.
       let e_n : e.0 ≢ n = λ same. none-some j (sym free ∙ ap (λ (k : ℕ). get_or place k None) (sym same) ∙ i.placed) in (
-        put_node (set next n q) firsts l (Some n) p e.0 (not_here l j p e ne p_marked i) ∙ get_or-set_other next n e.0 q None e_n,
-        put_node (set prev n p) lasts l (Some n) q e.0 (not_here l j q e ne q_marked i) ∙ get_or-set_other prev n e.0 p None e_n,
-      )) (h.in_place j hj))
+        put_node (set next n q) firsts l (Some n) p e.0 (not_here l j p e ne p_placed i) ∙ get_or-set_other next n e.0 q None e_n,
+        put_node (set prev n p) lasts l (Some n) q e.0 (not_here l j q e ne q_placed i) ∙ get_or-set_other prev n e.0 p None e_n,
+      )) (h.stored j hj))
       (h.linked j hj) in
       let new_here : get_or ls' l [] ≡ new = get_or-set_same ls l new [] l_lists in
       let same_there : (j : ℕ) → j ≢ l → get_or ls' j [] ≡ get_or ls j [] = λ j ne. get_or-set_other ls l j new [] ne in
-      let in_new : Each (InPlace N place' values' l) new =
-      Each-append (InPlace N place' values' l) fs ((n, v) ∷ bs)
-      (keeps-place N place values l n v (Some l) fs (Each-left (λ e. Some n ≢ Some e.0) fs bs fresh) (Each-left (InPlace N place values l) fs bs in_place)) (
+      let in_new : Each (IsStored N place' values' l) new =
+      Each-append (IsStored N place' values' l) fs ((n, v) ∷ bs)
+      (keeps-stored N place values l n v (Some l) fs (Each-left (λ e. Some n ≢ Some e.0) fs bs fresh) (Each-left (IsStored N place values l) fs bs stored)) (
         record {
           known = hn;
           placed = get_or-set_same place n (Some l) None n_place;
           valued = get_or-set_same values n v 0 n_values;
         },
-        keeps-place N place values l n v (Some l) bs (Each-right (λ e. Some n ≢ Some e.0) fs bs fresh) (Each-right (InPlace N place values l) fs bs in_place),
+        keeps-stored N place values l n v (Some l) bs (Each-right (λ e. Some n ≢ Some e.0) fs bs fresh) (Each-right (IsStored N place values l) fs bs stored),
       ) in
       record {
         next_length = put_link_length (set next n q) p (Some n) ∙ length-set next n q ∙ h.next_length;
@@ -183,24 +183,24 @@ module _ {L N : ℕ} {next prev place : List (Option ℕ)} {values : List ℕ} {
           | inl same ↦ subst (λ (i : ℕ). Linked (at_link next' (get_or firsts' i None)) (at_link prev' (get_or lasts' i None)) None (get_or ls' i [])) (sym same) (subst (Linked (at_link next' (get_or firsts' l None)) (at_link prev' (get_or lasts' l None)) None) (sym new_here) here)
           | inr ne ↦ subst (Linked (at_link next' (get_or firsts' j None)) (at_link prev' (get_or lasts' j None)) None) (sym (same_there j ne)) (elsewhere j hj ne)
         ];
-        in_place = λ j hj. elim (cases_eq j l) [
-          | inl same ↦ subst (λ (i : ℕ). Each (InPlace N place' values' i) (get_or ls' i [])) (sym same) (subst (Each (InPlace N place' values' l)) (sym new_here) in_new)
-          | inr ne ↦ subst (Each (InPlace N place' values' j)) (sym (same_there j ne)) (keeps-place N place values j n v (Some l) (get_or ls j []) (free_of j hj) (h.in_place j hj))
+        stored = λ j hj. elim (cases_eq j l) [
+          | inl same ↦ subst (λ (i : ℕ). Each (IsStored N place' values' i) (get_or ls' i [])) (sym same) (subst (Each (IsStored N place' values' l)) (sym new_here) in_new)
+          | inr ne ↦ subst (Each (IsStored N place' values' j)) (sym (same_there j ne)) (keeps-stored N place values j n v (Some l) (get_or ls j []) (free_of j hj) (h.stored j hj))
         ];
         distinct = λ j hj. elim (cases_eq j l) [
           | inl same ↦ subst (λ (i : ℕ). EachOnce (get_or ls' i [])) (sym same) (subst EachOnce (sym new_here) (distinct-in fs bs n v fresh distinct))
           | inr ne ↦ subst EachOnce (sym (same_there j ne)) (h.distinct j hj)
         ];
-        marked = λ m j mark. elim (cases_eq m n) [
+        listed = λ m j at_list. elim (cases_eq m n) [
           | inl same ↦
-              let j_is : j ≡ l = same_Some j l (sym mark ∙ ap (λ (k : ℕ). get_or place' k None) same ∙ get_or-set_same place n (Some l) None n_place) in (
+              let j_is : j ≡ l = same_Some j l (sym at_list ∙ ap (λ (k : ℕ). get_or place' k None) same ∙ get_or-set_same place n (Some l) None n_place) in (
                 subst (λ (i : ℕ). i < L) (sym j_is) hl,
                 λ apart.
                     let here_apart : Apart (Some m) new = subst (Apart (Some m)) (ap (λ (i : ℕ). get_or ls' i []) j_is ∙ new_here) apart in
                     (Each-right (λ (e : ℕ × ℕ). Some m ≢ Some e.0) fs ((n, v) ∷ bs) here_apart).0 (ap Some same),
               )
           | inr other ↦
-              let old = h.marked m j (sym (get_or-set_other place n m (Some l) None other) ∙ mark) in (
+              let old = h.listed m j (sym (get_or-set_other place n m (Some l) None other) ∙ at_list) in (
                 old.0,
                 λ apart. elim (cases_eq j l) [
                   | inl same ↦
@@ -230,13 +230,13 @@ module _ {L N : ℕ} {next prev place : List (Option ℕ)} {values : List ℕ} {
       let P : ℕ → Type 0 = λ m. (m < N) × (get_or place m None ≡ Some l) in
       let linked : Linked nx pv None old = subst (Linked nx pv None) split (h.linked l hl) in
       let distinct : EachOnce old = subst EachOnce split (h.distinct l hl) in
-      let in_place : Each (InPlace N place values l) old = subst (Each (InPlace N place values l)) split (h.in_place l hl) in
-      let marks : Each (λ e. P e.0) old = subst (Each (λ e. P e.0)) split (marked_nodes l hl) in
+      let stored : Each (IsStored N place values l) old = subst (Each (IsStored N place values l)) split (h.stored l hl) in
+      let nodes_placed : Each (λ e. P e.0) old = subst (Each (λ e. P e.0)) split (placed_nodes l hl) in
       let around = after_place nx pv None fs ((n, v) ∷ bs) linked in
       let last : last_of None fs ≡ p = sym around.1 ∙ sym hp in
       let first : first_of bs ≡ q = sym (at_place nx pv (Some n) [] bs around.2).0 ∙ sym hq in
-      let p_marked : (m : ℕ) → p ≡ Some m → P m = λ m e. last-in P None fs m (λ i. absurd (none-some m i)) (Each-left (λ e. P e.0) fs ((n, v) ∷ bs) marks) (last ∙ e) in
-      let q_marked : (m : ℕ) → q ≡ Some m → P m = λ m e. first-in P bs m (Each-right (λ e. P e.0) fs ((n, v) ∷ bs) marks).1 (first ∙ e) in
+      let p_placed : (m : ℕ) → p ≡ Some m → P m = λ m e. last-in P None fs m (λ i. absurd (none-some m i)) (Each-left (λ e. P e.0) fs ((n, v) ∷ bs) nodes_placed) (last ∙ e) in
+      let q_placed : (m : ℕ) → q ≡ Some m → P m = λ m e. first-in P bs m (Each-right (λ e. P e.0) fs ((n, v) ∷ bs) nodes_placed).1 (first ∙ e) in
       let l_firsts : l < length firsts = subst (λ (k : ℕ). l < k) (sym h.firsts_length) hl in
       let l_lasts : l < length lasts = subst (λ (k : ℕ). l < k) (sym h.lasts_length) hl in
       let l_lists : l < length ls = listed l hl in
@@ -244,32 +244,32 @@ module _ {L N : ℕ} {next prev place : List (Option ℕ)} {values : List ℕ} {
       let left : Apart (Some n) fs = distinct-left fs bs (n, v) distinct in
       let right : Apart (Some n) bs = (distinct-right fs ((n, v) ∷ bs) distinct).0 in
       let gone : Apart (Some n) new = Each-append (λ (e : ℕ × ℕ). Some n ≢ Some e.0) fs bs left right in
-      let here_mark : get_or place n None ≡ Some l = (Each-right (InPlace N place values l) fs ((n, v) ∷ bs) in_place).0.placed in
-      let away_of : (j : ℕ) → j < L → j ≢ l → Apart (Some n) (get_or ls j []) = λ j hj ne. apart-unmarked N place values j n (get_or ls j []) (λ e. ne (same_Some j l (sym e ∙ here_mark))) (h.in_place j hj) in
+      let here_placed : get_or place n None ≡ Some l = (Each-right (IsStored N place values l) fs ((n, v) ∷ bs) stored).0.placed in
+      let away_of : (j : ℕ) → j < L → j ≢ l → Apart (Some n) (get_or ls j []) = λ j hj ne. apart-unplaced N place values j n (get_or ls j []) (λ e. ne (same_Some j l (sym e ∙ here_placed))) (h.stored j hj) in
       let only : OnlyAt nx pv (at_link next' (get_or firsts' l None)) (at_link prev' (get_or lasts' l None)) p q n = record {
         forth = λ o op on. put_other next firsts l q p o op;
         back = λ o oq on. put_other prev lasts l p q o oq;
       } in
       let here : Linked (at_link next' (get_or firsts' l None)) (at_link prev' (get_or lasts' l None)) None new =
       taken_out nx pv (at_link next' (get_or firsts' l None)) (at_link prev' (get_or lasts' l None)) p q n only v
-      (put_same next firsts l q p l_firsts (λ m e. subst (λ (k : ℕ). m < k) (sym h.next_length) (p_marked m e).0))
-      (put_same prev lasts l p q l_lasts (λ m e. subst (λ (k : ℕ). m < k) (sym h.prev_length) (q_marked m e).0))
-      None fs bs last first (none-some n) (Each-imp (λ e. P e.0) (λ e. None ≢ Some e.0) old (λ e k. none-some e.0) marks) distinct linked in
+      (put_same next firsts l q p l_firsts (λ m e. subst (λ (k : ℕ). m < k) (sym h.next_length) (p_placed m e).0))
+      (put_same prev lasts l p q l_lasts (λ m e. subst (λ (k : ℕ). m < k) (sym h.prev_length) (q_placed m e).0))
+      None fs bs last first (none-some n) (Each-imp (λ e. P e.0) (λ e. None ≢ Some e.0) old (λ e k. none-some e.0) nodes_placed) distinct linked in
       let elsewhere : (j : ℕ) → j < L → j ≢ l → Linked (at_link next' (get_or firsts' j None)) (at_link prev' (get_or lasts' j None)) None (get_or ls j []) = λ j hj ne.
       same_links (at_link next (get_or firsts j None)) (at_link prev (get_or lasts j None)) (at_link next' (get_or firsts' j None)) (at_link prev' (get_or lasts' j None)) None (get_or ls j [])
       (put_elsewhere next firsts l q p j ne)
       (put_elsewhere prev lasts l p q j ne)
-      (Each-imp (InPlace N place values j) (λ e. (get_or next' e.0 None ≡ get_or next e.0 None) × (get_or prev' e.0 None ≡ get_or prev e.0 None)) (get_or ls j []) (λ e i. (
-        put_node next firsts l q p e.0 (not_here l j p e ne p_marked i),
-        put_node prev lasts l p q e.0 (not_here l j q e ne q_marked i),
-      )) (h.in_place j hj))
+      (Each-imp (IsStored N place values j) (λ e. (get_or next' e.0 None ≡ get_or next e.0 None) × (get_or prev' e.0 None ≡ get_or prev e.0 None)) (get_or ls j []) (λ e i. (
+        put_node next firsts l q p e.0 (not_here l j p e ne p_placed i),
+        put_node prev lasts l p q e.0 (not_here l j q e ne q_placed i),
+      )) (h.stored j hj))
       (h.linked j hj) in
       let new_here : get_or ls' l [] ≡ new = get_or-set_same ls l new [] l_lists in
       let same_there : (j : ℕ) → j ≢ l → get_or ls' j [] ≡ get_or ls j [] = λ j ne. get_or-set_other ls l j new [] ne in
-      let in_new : Each (InPlace N place' values l) new =
-      Each-append (InPlace N place' values l) fs bs
-      (keeps-mark N place values l n None fs left (Each-left (InPlace N place values l) fs ((n, v) ∷ bs) in_place))
-      (keeps-mark N place values l n None bs right (Each-right (InPlace N place values l) fs ((n, v) ∷ bs) in_place).1) in
+      let in_new : Each (IsStored N place' values l) new =
+      Each-append (IsStored N place' values l) fs bs
+      (keeps-stored_place N place values l n None fs left (Each-left (IsStored N place values l) fs ((n, v) ∷ bs) stored))
+      (keeps-stored_place N place values l n None bs right (Each-right (IsStored N place values l) fs ((n, v) ∷ bs) stored).1) in
       record {
         next_length = put_link_length next p q ∙ h.next_length;
         prev_length = put_link_length prev q p ∙ h.prev_length;
@@ -282,18 +282,18 @@ module _ {L N : ℕ} {next prev place : List (Option ℕ)} {values : List ℕ} {
           | inl same ↦ subst (λ (i : ℕ). Linked (at_link next' (get_or firsts' i None)) (at_link prev' (get_or lasts' i None)) None (get_or ls' i [])) (sym same) (subst (Linked (at_link next' (get_or firsts' l None)) (at_link prev' (get_or lasts' l None)) None) (sym new_here) here)
           | inr ne ↦ subst (Linked (at_link next' (get_or firsts' j None)) (at_link prev' (get_or lasts' j None)) None) (sym (same_there j ne)) (elsewhere j hj ne)
         ];
-        in_place = λ j hj. elim (cases_eq j l) [
-          | inl same ↦ subst (λ (i : ℕ). Each (InPlace N place' values i) (get_or ls' i [])) (sym same) (subst (Each (InPlace N place' values l)) (sym new_here) in_new)
-          | inr ne ↦ subst (Each (InPlace N place' values j)) (sym (same_there j ne)) (keeps-mark N place values j n None (get_or ls j []) (away_of j hj ne) (h.in_place j hj))
+        stored = λ j hj. elim (cases_eq j l) [
+          | inl same ↦ subst (λ (i : ℕ). Each (IsStored N place' values i) (get_or ls' i [])) (sym same) (subst (Each (IsStored N place' values l)) (sym new_here) in_new)
+          | inr ne ↦ subst (Each (IsStored N place' values j)) (sym (same_there j ne)) (keeps-stored_place N place values j n None (get_or ls j []) (away_of j hj ne) (h.stored j hj))
         ];
         distinct = λ j hj. elim (cases_eq j l) [
           | inl same ↦ subst (λ (i : ℕ). EachOnce (get_or ls' i [])) (sym same) (subst EachOnce (sym new_here) (distinct-out fs bs (n, v) distinct))
           | inr ne ↦ subst EachOnce (sym (same_there j ne)) (h.distinct j hj)
         ];
-        marked = λ m j mark. elim (cases_eq m n) [
-          | inl same ↦ absurd (none-some j (sym (get_or-set_same place n None None n_place) ∙ ap (λ (k : ℕ). get_or place' k None) (sym same) ∙ mark))
+        listed = λ m j at_list. elim (cases_eq m n) [
+          | inl same ↦ absurd (none-some j (sym (get_or-set_same place n None None n_place) ∙ ap (λ (k : ℕ). get_or place' k None) (sym same) ∙ at_list))
           | inr other ↦
-              let was = h.marked m j (sym (get_or-set_other place n m None None other) ∙ mark) in (
+              let was = h.listed m j (sym (get_or-set_other place n m None None other) ∙ at_list) in (
                 was.0,
                 λ apart. elim (cases_eq j l) [
                   | inl same ↦
@@ -306,11 +306,11 @@ module _ {L N : ℕ} {next prev place : List (Option ℕ)} {values : List ℕ} {
         ];
       }
 
-  -- the same, said by the mark of the node alone: each list is without the node
-  pub take_marked : (l n : ℕ) (p q : Option ℕ) → n < N → get_or place n None ≡ Some l → p ≡ get_or prev n None → q ≡ get_or next n None
+  -- the same, said by the place of the node alone: each list is without the node
+  pub take_placed : (l n : ℕ) (p q : Option ℕ) → n < N → get_or place n None ≡ Some l → p ≡ get_or prev n None → q ≡ get_or next n None
       → Spells L N (put_link next p q) (put_link prev q p) (set place n None) values (put_end firsts l p q) (put_end lasts l q p) (map (without n) ls)
-  take_marked l n p q hn mark hp hq =
-      let m = h.marked n l mark in
+  take_placed l n p q hn at_list hp hq =
+      let m = h.listed n l at_list in
       let s = split_at n (get_or ls l []) m.1 in
       let distinct : EachOnce (s.0 ++ (n, s.1) ∷ s.2) = subst EachOnce s.3 (h.distinct l m.0) in
       let left : Apart (Some n) s.0 = distinct-left s.0 s.2 (n, s.1) distinct in
@@ -327,31 +327,31 @@ module _ {L N : ℕ} {next prev place : List (Option ℕ)} {values : List ℕ} {
             ∙ sym (without-split n s.1 s.0 s.2 left right) ∙ ap (without n) (sym s.3) ∙ ap (λ (i : ℕ). without n (get_or ls i [])) (sym here) ∙ sym other_side
         | inr there ↦
             get_or-set_other ls l j (s.0 ++ s.2) d there ∙ get_or_default ls j d [] hj'
-            ∙ sym (without-apart n (get_or ls j []) (apart-unmarked N place values j n (get_or ls j []) (λ e. there (same_Some j l (sym e ∙ mark))) (h.in_place j (known_list j hj'))))
+            ∙ sym (without-apart n (get_or ls j []) (apart-unplaced N place values j n (get_or ls j []) (λ e. there (same_Some j l (sym e ∙ at_list))) (h.stored j (known_list j hj'))))
             ∙ sym other_side
       ]) in
       subst (Spells L N (put_link next p q) (put_link prev q p) (set place n None) values (put_end firsts l p q) (put_end lasts l q p)) same spells
 
   -- a node that is in no list is apart from each
-  pub without_unmarked : (n : ℕ) → get_or place n None ≡ None → map (without n) ls ≡ ls
-  without_unmarked n free = same_lists _ _ (length-map ls (without n)) (λ j d hj.
+  pub without_unplaced : (n : ℕ) → get_or place n None ≡ None → map (without n) ls ≡ ls
+  without_unplaced n free = same_lists _ _ (length-map ls (without n)) (λ j d hj.
       let hj' : j < length ls = subst (λ (k : ℕ). j < k) (length-map ls (without n)) hj in
       get_or-map (without n) ls j [] d hj'
-      ∙ without-apart n (get_or ls j []) (apart-unmarked N place values j n (get_or ls j []) (λ e. none-some j (sym free ∙ e)) (h.in_place j (known_list j hj')))
+      ∙ without-apart n (get_or ls j []) (apart-unplaced N place values j n (get_or ls j []) (λ e. none-some j (sym free ∙ e)) (h.stored j (known_list j hj')))
       ∙ get_or_default ls j [] d hj')
 
-  pub mark_below : (n l : ℕ) → get_or place n None ≡ Some l → l < L
-  mark_below n l mark = (h.marked n l mark).0
+  pub list_below : (n l : ℕ) → get_or place n None ≡ Some l → l < L
+  list_below n l at_list = (h.listed n l at_list).0
 
   -- the neighbours of a node in a list are nodes
   pub around_below : (n l : ℕ) → get_or place n None ≡ Some l → ((m : ℕ) → get_or prev n None ≡ Some m → m < N) × ((m : ℕ) → get_or next n None ≡ Some m → m < N)
-  around_below n l mark =
-      let m = h.marked n l mark in
+  around_below n l at_list =
+      let m = h.listed n l at_list in
       let s = split_at n (get_or ls l []) m.1 in
       let nx : Option ℕ → Option ℕ = at_link next (get_or firsts l None) in
       let pv : Option ℕ → Option ℕ = at_link prev (get_or lasts l None) in
       let linked : Linked nx pv None (s.0 ++ (n, s.1) ∷ s.2) = subst (Linked nx pv None) s.3 (h.linked l m.0) in
-      let nodes : Each (λ e. e.0 < N) (s.0 ++ (n, s.1) ∷ s.2) = subst (Each (λ e. e.0 < N)) s.3 (Each-imp (InPlace N place values l) (λ e. e.0 < N) (get_or ls l []) (λ e i. i.known) (h.in_place l m.0)) in
+      let nodes : Each (λ e. e.0 < N) (s.0 ++ (n, s.1) ∷ s.2) = subst (Each (λ e. e.0 < N)) s.3 (Each-imp (IsStored N place values l) (λ e. e.0 < N) (get_or ls l []) (λ e i. i.known) (h.stored l m.0)) in
       let around = after_place nx pv None s.0 ((n, s.1) ∷ s.2) linked in (
         λ k e. last-in (λ (i : ℕ). i < N) None s.0 k (λ i. absurd (none-some k i)) (Each-left (λ e. e.0 < N) s.0 ((n, s.1) ∷ s.2) nodes) (sym around.1 ∙ e),
         λ k e. first-in (λ (i : ℕ). i < N) s.2 k (Each-right (λ e. e.0 < N) s.0 ((n, s.1) ∷ s.2) nodes).1 (sym (at_place nx pv (Some n) [] s.2 around.2).0 ∙ e),
@@ -363,7 +363,7 @@ module _ {L N : ℕ} {next prev place : List (Option ℕ)} {values : List ℕ} {
       let nx : Option ℕ → Option ℕ = at_link next (get_or firsts l None) in
       let pv : Option ℕ → Option ℕ = at_link prev (get_or lasts l None) in
       let linked : Linked nx pv None (fs ++ bs) = subst (Linked nx pv None) split (h.linked l hl) in
-      let nodes : Each (λ e. e.0 < N) (fs ++ bs) = subst (Each (λ e. e.0 < N)) split (Each-imp (InPlace N place values l) (λ e. e.0 < N) (get_or ls l []) (λ e i. i.known) (h.in_place l hl)) in (
+      let nodes : Each (λ e. e.0 < N) (fs ++ bs) = subst (Each (λ e. e.0 < N)) split (Each-imp (IsStored N place values l) (λ e. e.0 < N) (get_or ls l []) (λ e i. i.known) (h.stored l hl)) in (
         λ k e. first-in (λ (i : ℕ). i < N) bs k (Each-right (λ e. e.0 < N) fs bs nodes) (sym hq ∙ e),
         λ k e. last-in (λ (i : ℕ). i < N) None fs k (λ i. absurd (none-some k i)) (Each-left (λ e. e.0 < N) fs bs nodes) (sym (at_place nx pv None fs bs linked).1 ∙ ap pv (sym hq) ∙ e),
       )
@@ -374,33 +374,33 @@ module _ {L N : ℕ} {next prev place : List (Option ℕ)} {values : List ℕ} {
 
   place_is_at : (n : ℕ) (o : Option ℕ) → get_or place n None ≡ o → o ≡ place_of ls n
   place_is_at n None e =
-      let none : (k : ℕ) → k < length ls → has_node n (get_or ls k []) ≡ false = λ k hk. has_node-apart n (get_or ls k []) (apart-unmarked N place values k n (get_or ls k []) (λ i. none-some k (sym e ∙ i)) (h.in_place k (known_list k hk))) in
+      let none : (k : ℕ) → k < length ls → has_node n (get_or ls k []) ≡ false = λ k hk. has_node-apart n (get_or ls k []) (apart-unplaced N place values k n (get_or ls k []) (λ i. none-some k (sym e ∙ i)) (h.stored k (known_list k hk))) in
       let at : position_or_len (has_node n) ls ≡ length ls = position_or_len_is (has_node n) ls (length ls) [] (omega arith) none (λ i. absurd (omega (arith, i))) in
       let not_below : nat_lt (position_or_len (has_node n) ls) (length ls) ≡ false = le-ltb (position_or_len (has_node n) ls) (length ls) (omega (arith, at)) in
       rw not_below refl
   place_is_at n (Some l) e =
-      let m = h.marked n l e in
+      let m = h.listed n l e in
       let others : (k : ℕ) → k < l → has_node n (get_or ls k []) ≡ false = λ k hk.
       let hk' : k < L = omega (arith, hk, m.0) in
-      has_node-apart n (get_or ls k []) (apart-unmarked N place values k n (get_or ls k []) (λ i. (let ne : k ≢ l = omega (arith, hk) in ne) (same_Some k l (sym i ∙ e))) (h.in_place k hk')) in
+      has_node-apart n (get_or ls k []) (apart-unplaced N place values k n (get_or ls k []) (λ i. (let ne : k ≢ l = omega (arith, hk) in ne) (same_Some k l (sym i ∙ e))) (h.stored k hk')) in
       let at : position_or_len (has_node n) ls ≡ l = position_or_len_is (has_node n) ls l [] (let below = listed l m.0 in omega (arith, below)) others (λ i. has_node-not_apart n (get_or ls l []) m.1) in
       let below : nat_lt (position_or_len (has_node n) ls) (length ls) ≡ true = lt-ltb (position_or_len (has_node n) ls) (length ls) (let here = listed l m.0 in omega (arith, at, here)) in
       rw below (ap Some (sym at))
 
-  -- the mark of a node is the list that it is in
+  -- the place of a node is the list that it is in
   pub place_is : (n : ℕ) → get_or place n None ≡ place_of ls n
   place_is n = place_is_at n (get_or place n None) refl
 
 -- the value and the link of a node among entries
-value_of-in_place : (N : ℕ) (place : List (Option ℕ)) (values : List ℕ) (l n : ℕ) (xs : List (ℕ × ℕ)) → has_node n xs ≡ true → Each (InPlace N place values l) xs → get_or values n 0 ≡ value_of n xs
-value_of-in_place N place values l n [] t h = absurd cc
-value_of-in_place N place values l n (x ∷ xs) t h = elim (cases_eq x.0 n) [
+value_of-stored : (N : ℕ) (place : List (Option ℕ)) (values : List ℕ) (l n : ℕ) (xs : List (ℕ × ℕ)) → has_node n xs ≡ true → Each (IsStored N place values l) xs → get_or values n 0 ≡ value_of n xs
+value_of-stored N place values l n [] t h = absurd cc
+value_of-stored N place values l n (x ∷ xs) t h = elim (cases_eq x.0 n) [
   | inl same ↦
       let eq : (x.0 == n) ≡ true = eq-eqb x.0 n same in
       rw eq (ap (λ (k : ℕ). get_or values k 0) (sym same) ∙ h.0.valued)
   | inr other ↦
       let ne : (x.0 == n) ≡ false = ne_eqb x.0 n other in
-      rw ne (value_of-in_place N place values l n xs (rw ne at t) h.1)
+      rw ne (value_of-stored N place values l n xs (rw ne at t) h.1)
 ]
 
 next_of-linked : (next : List (Option ℕ)) (first : Option ℕ) (pv : Option ℕ → Option ℕ) (n : ℕ) (a : Option ℕ) (xs : List (ℕ × ℕ)) → has_node n xs ≡ true → Linked (at_link next first) pv a xs → get_or next n None ≡ next_of n xs
@@ -427,17 +427,17 @@ not_apart-has_node n xs t h = let e = has_node-apart n xs h in cc
 
 module _ {L N : ℕ} {next prev place : List (Option ℕ)} {values : List ℕ} {firsts lasts : List (Option ℕ)} {ls : List (List (ℕ × ℕ))} (h : Spells L N next prev place values firsts lasts ls) where
   pub value_is : (n l : ℕ) → has_node n (get_or ls l []) ≡ true → get_or values n 0 ≡ value_of n (get_or ls l [])
-  value_is n l t = value_of-in_place N place values l n (get_or ls l []) t (h.in_place l (known_list h l (has_node-below n l ls t)))
+  value_is n l t = value_of-stored N place values l n (get_or ls l []) t (h.stored l (known_list h l (has_node-below n l ls t)))
 
   pub next_is : (n l : ℕ) → has_node n (get_or ls l []) ≡ true → get_or next n None ≡ next_of n (get_or ls l [])
   next_is n l t = next_of-linked next (get_or firsts l None) (at_link prev (get_or lasts l None)) n None (get_or ls l []) t (h.linked l (known_list h l (has_node-below n l ls t)))
 
-  -- a node among a list's entries is marked as in that list
-  pub marked_here : (n l : ℕ) (o : Option ℕ) → get_or place n None ≡ o → has_node n (get_or ls l []) ≡ true → o ≡ Some l
-  marked_here n l None e t = absurd (not_apart-has_node n (get_or ls l []) t (apart-unmarked N place values l n (get_or ls l []) (λ i. none-some l (sym e ∙ i)) (h.in_place l (known_list h l (has_node-below n l ls t)))))
-  marked_here n l (Some k) e t = elim (cases_eq k l) [
+  -- a node among a list's entries stands in that list
+  pub placed_here : (n l : ℕ) (o : Option ℕ) → get_or place n None ≡ o → has_node n (get_or ls l []) ≡ true → o ≡ Some l
+  placed_here n l None e t = absurd (not_apart-has_node n (get_or ls l []) t (apart-unplaced N place values l n (get_or ls l []) (λ i. none-some l (sym e ∙ i)) (h.stored l (known_list h l (has_node-below n l ls t)))))
+  placed_here n l (Some k) e t = elim (cases_eq k l) [
     | inl same ↦ ap Some same
-    | inr other ↦ absurd (not_apart-has_node n (get_or ls l []) t (apart-unmarked N place values l n (get_or ls l []) (λ i. other (same_Some k l (sym e ∙ i))) (h.in_place l (known_list h l (has_node-below n l ls t)))))
+    | inr other ↦ absurd (not_apart-has_node n (get_or ls l []) t (apart-unplaced N place values l n (get_or ls l []) (λ i. other (same_Some k l (sym e ∙ i))) (h.stored l (known_list h l (has_node-below n l ls t)))))
   ]
 
   entries_cases : (P : List (ℕ × ℕ) → Type 0) → P [] → ((l : ℕ) → l < L → P (get_or ls l [])) → (l : ℕ) → P (get_or ls l [])
@@ -448,11 +448,11 @@ module _ {L N : ℕ} {next prev place : List (Option ℕ)} {values : List ℕ} {
 
   pub sound : IsSound L N ls
   sound =
-      let nodes : (l : ℕ) → Each (λ e. e.0 < N) (get_or ls l []) = entries_cases (λ xs. Each (λ e. e.0 < N) xs) tt (λ l hl. Each-imp (InPlace N place values l) (λ e. e.0 < N) (get_or ls l []) (λ e i. i.known) (h.in_place l hl)) in
+      let nodes : (l : ℕ) → Each (λ e. e.0 < N) (get_or ls l []) = entries_cases (λ xs. Each (λ e. e.0 < N) xs) tt (λ l hl. Each-imp (IsStored N place values l) (λ e. e.0 < N) (get_or ls l []) (λ e i. i.known) (h.stored l hl)) in
       let distinct : (l : ℕ) → EachOnce (get_or ls l []) = entries_cases EachOnce tt h.distinct in
       record {
         as_many = h.as_many;
-        one_place = λ n l t. sym (place_is h n) ∙ marked_here n l (get_or place n None) refl t;
+        one_place = λ n l t. sym (place_is h n) ∙ placed_here n l (get_or place n None) refl t;
         distinct = distinct;
         nodes = nodes;
         few = λ l. few_entries N (get_or ls l []) (nodes l) (distinct l);
@@ -482,9 +482,9 @@ spells_empty L N =
       lasts_length = length-blank L None;
       as_many = length-blank L [];
       linked = λ l hl. subst (Linked (links (get_or (replicate L None) l None)) (links (get_or (replicate L None) l None)) None) (sym (nil l)) (none l, none l);
-      in_place = λ l hl. subst (Each (InPlace N (replicate N None) (replicate N 0) l)) (sym (nil l)) tt;
+      stored = λ l hl. subst (Each (IsStored N (replicate N None) (replicate N 0) l)) (sym (nil l)) tt;
       distinct = λ l hl. subst EachOnce (sym (nil l)) tt;
-      marked = λ n l mark. absurd (none-some l (sym (get_or-replicate N n None) ∙ mark));
+      listed = λ n l at_list. absurd (none-some l (sym (get_or-replicate N n None) ∙ at_list));
     }
 
 -- the lists that a walk finds are sound

@@ -32,8 +32,8 @@ abbrev pub Linked : (Option ℕ → Option ℕ) → (Option ℕ → Option ℕ) 
 Linked next prev a [] = (next a ≡ None) × (prev None ≡ a)
 Linked next prev a (e ∷ xs) = (next a ≡ Some e.0) × (prev (Some e.0) ≡ a) × Linked next prev (Some e.0) xs
 
--- an entry of list l: its node is in the table, is marked as in that list, and has that value
-pub record InPlace (N : ℕ) (place : List (Option ℕ)) (values : List ℕ) (l : ℕ) (e : ℕ × ℕ) : Type 0 where
+-- an entry of list l: its node is in the table, stands in that list, and has that value
+pub record IsStored (N : ℕ) (place : List (Option ℕ)) (values : List ℕ) (l : ℕ) (e : ℕ × ℕ) : Type 0 where
   pub known : e.0 < N
   pub placed : get_or place e.0 None ≡ Some l
   pub valued : get_or values e.0 0 ≡ e.1
@@ -48,12 +48,12 @@ pub record Spells (L N : ℕ) (next prev place : List (Option ℕ)) (values : Li
   pub lasts_length : length lasts ≡ L
   pub as_many : length ls ≡ L
   pub linked : (l : ℕ) → l < L → Linked (at_link next (get_or firsts l None)) (at_link prev (get_or lasts l None)) None (get_or ls l [])
-  pub in_place : (l : ℕ) → l < L → Each (InPlace N place values l) (get_or ls l [])
+  pub stored : (l : ℕ) → l < L → Each (IsStored N place values l) (get_or ls l [])
   pub distinct : (l : ℕ) → l < L → EachOnce (get_or ls l [])
-  pub marked : (n l : ℕ) → get_or place n None ≡ Some l → (l < L) × (Apart (Some n) (get_or ls l []) → ⊥)
+  pub listed : (n l : ℕ) → get_or place n None ≡ Some l → (l < L) × (Apart (Some n) (get_or ls l []) → ⊥)
 
 -- the arrays of a table of L lists and N nodes
-pub record IsTable (L N : ℕ) (next prev place : List (Option ℕ)) (values : List ℕ) (firsts lasts : List (Option ℕ)) : Type 0 where
+pub record IsLinkedTable (L N : ℕ) (next prev place : List (Option ℕ)) (values : List ℕ) (firsts lasts : List (Option ℕ)) : Type 0 where
   pub lists_fit : L ≤ 4096
   pub nodes_fit : N ≤ 4096
   pub spells : Spells L N next prev place values firsts lasts (lists_of N next values firsts)
@@ -63,8 +63,8 @@ abbrev pub upper : ℕ → List (ℕ × ℕ) → List (ℕ × ℕ)
 upper value [] = []
 upper value (x ∷ xs) = if nat_lt value x.1 then x ∷ xs else upper value xs
 
--- a place among the entries, before some rest of them, of which `after` is the first node
-pub record IsPlace (entries : List (ℕ × ℕ)) (after : Option ℕ) : Type 0 where
+-- the entries are some before `after` and a rest from there on
+pub record SplitsBefore (entries : List (ℕ × ℕ)) (after : Option ℕ) : Type 0 where
   pub before : List (ℕ × ℕ)
   pub rest : List (ℕ × ℕ)
   pub whole : entries ≡ before ++ rest

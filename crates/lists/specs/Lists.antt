@@ -39,9 +39,9 @@ abbrev pub without : ℕ → List (ℕ × ℕ) → List (ℕ × ℕ)
 without node entries = filter (λ e. not (e.0 == node)) entries
 
 -- the entries with one more, put before the first one of a greater value, or last
-abbrev pub inserted : ℕ × ℕ → List (ℕ × ℕ) → List (ℕ × ℕ)
-inserted e [] = e ∷ []
-inserted e (x ∷ xs) = if nat_lt e.1 x.1 then e ∷ x ∷ xs else x ∷ inserted e xs
+abbrev pub insert_sorted : ℕ × ℕ → List (ℕ × ℕ) → List (ℕ × ℕ)
+insert_sorted e [] = e ∷ []
+insert_sorted e (x ∷ xs) = if nat_lt e.1 x.1 then e ∷ x ∷ xs else x ∷ insert_sorted e xs
 
 -- along the entries, values do not fall
 abbrev pub IsSorted : List (ℕ × ℕ) → Type 0

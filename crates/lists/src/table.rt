@@ -1,8 +1,8 @@
 //! The table: its lists, and their links.
 ghost use Rattle.std.specs.Prelude.{◌≡◌, ℕ, ◌+◌, ◌<◌, ◌≤◌, ◌↔◌, List, [], ◌∷◌, ◌++◌, length, replicate, slice_set, slice_index_or, map, option_map, IsTrue, IsNone};
 ghost use Rattle.std.specs.Option.{ForSome};
-ghost use Rattle.lists.specs.Links.{lists_of, IsTable, IsPlace, at_link, put_link, put_end, upper};
-ghost use Rattle.lists.specs.Lists.{entries_of, first_of, has_node, inserted, next_of, place_of, value_of, without, IsSound};
+ghost use Rattle.lists.specs.Links.{lists_of, IsLinkedTable, SplitsBefore, at_link, put_link, put_end, upper};
+ghost use Rattle.lists.specs.Lists.{entries_of, first_of, has_node, insert_sorted, next_of, place_of, value_of, without, IsSound};
 
 use crate::ids::{ListId, NodeId};
 use std::marker::Model;
@@ -28,7 +28,7 @@ impl<const L: usize, const N: usize> Model for Table<L, N> {
 
     ghost view = { λ t. lists_of N t.next t.values t.firsts };
 
-    ghost invariant = { λ t. IsTable L N t.next t.prev t.place t.values t.firsts t.lasts };
+    ghost invariant = { λ t. IsLinkedTable L N t.next t.prev t.place t.values t.firsts t.lasts };
 }
 
 /// Reads a link of a list: that of a node, or that of the list's end.
@@ -78,12 +78,12 @@ fn node_of(link: Option<u16>) -> Option<NodeId>
     }
 }
 
-/// The list that a mark names.
-fn list_of(mark: Option<u16>) -> Option<ListId>
-    requires { ForSome mark (λ list. list < 4096) }
-    ensures list { option_map (λ list. list.number) result ≡ mark }
+/// The list that a node's place names.
+fn list_of(place: Option<u16>) -> Option<ListId>
+    requires { ForSome place (λ list. list < 4096) }
+    ensures list { option_map (λ list. list.number) result ≡ place }
 {
-    match mark {
+    match place {
         None => None,
         Some(number) => Some(ListId { number }),
     }
@@ -110,7 +110,8 @@ impl<const L: usize, const N: usize> Table<L, N> {
     /// The first node of a list below `L`; `None` where the list is empty.
     pub fn first(&self, list: ListId) -> Option<NodeId>
         requires { list.number < L }
-        ensures first { option_map (λ node. node.number) result ≡ first_of (entries_of self.now list.number) }
+        ensures first { option_map (λ node. node.number) result
+            ≡ first_of (entries_of self.now list.number) }
         ensures sound { IsSound L N self.now }
     {
         node_of(self.firsts[list.number as usize])
@@ -136,7 +137,8 @@ impl<const L: usize, const N: usize> Table<L, N> {
     /// The value with which a node below `N` was put into its list, 0 to 4294967295. Of a node in no list, any number.
     pub fn value(&self, node: NodeId) -> u32
         requires { node.number < N }
-        ensures value { (list : ℕ) → IsTrue (has_node node.number (entries_of self.now list)) → result ≡ value_of node.number (entries_of self.now list) }
+        ensures value { (list : ℕ) → IsTrue (has_node node.number (entries_of self.now list))
+            → result ≡ value_of node.number (entries_of self.now list) }
         ensures sound { IsSound L N self.now }
     {
         self.values[node.number as usize]
@@ -145,8 +147,11 @@ impl<const L: usize, const N: usize> Table<L, N> {
     /// The node after this one, which is below `N`, in its list; `None` after the last, and for a node in no list.
     pub fn next(&self, node: NodeId) -> Option<NodeId>
         requires { node.number < N }
-        ensures next { (list : ℕ) → IsTrue (has_node node.number (entries_of self.now list)) → option_map (λ node. node.number) result ≡ next_of node.number (entries_of self.now list) }
+        ensures next { (list : ℕ) → IsTrue (has_node node.number (entries_of self.now list))
+            → option_map (λ node. node.number) result
+            ≡ next_of node.number (entries_of self.now list) }
         ensures outside { place_of self.now node.number ≡ None → IsNone result }
+        ensures known { ForSome (option_map (λ node. node.number) result) (λ node. node < N) }
         ensures sound { IsSound L N self.now }
     {
         if self.place[node.number as usize].is_some() {
@@ -177,7 +182,8 @@ impl<const L: usize, const N: usize> Table<L, N> {
         requires list { list.number < L }
         requires node { node.number < N }
         requires free { place_of self.old node.number ≡ None }
-        ensures put { self.new ≡ slice_set self.old list.number (entries_of self.old list.number ++ (node.number, value) ∷ []) }
+        ensures put { self.new ≡ slice_set self.old list.number
+            (entries_of self.old list.number ++ (node.number, value) ∷ []) }
         ensures sound { IsSound L N self.new }
     {
         self.put_before(list, None, node, value);
@@ -189,7 +195,8 @@ impl<const L: usize, const N: usize> Table<L, N> {
         requires list { list.number < L }
         requires node { node.number < N }
         requires free { place_of self.old node.number ≡ None }
-        ensures put { self.new ≡ slice_set self.old list.number (inserted (node.number, value) (entries_of self.old list.number)) }
+        ensures put { self.new ≡ slice_set self.old list.number
+            (insert_sorted (node.number, value) (entries_of self.old list.number)) }
         ensures sound { IsSound L N self.new }
     {
         let after = self.first_greater(list, value);
@@ -201,8 +208,11 @@ impl<const L: usize, const N: usize> Table<L, N> {
         requires list { list.number < L }
         requires node { node.number < N }
         requires free { place_of self.old node.number ≡ None }
-        requires placed { IsPlace (entries_of self.old list.number) after }
-        ensures put { (before rest : List (ℕ × ℕ)) → entries_of self.old list.number ≡ before ++ rest → after ≡ first_of rest → self.new ≡ slice_set self.old list.number (before ++ (node.number, value) ∷ rest) }
+        requires split { SplitsBefore (entries_of self.old list.number) after }
+        ensures put { (before rest : List (ℕ × ℕ))
+            → entries_of self.old list.number ≡ before ++ rest → after ≡ first_of rest
+            → self.new
+            ≡ slice_set self.old list.number (before ++ (node.number, value) ∷ rest) }
         ensures sound { IsSound L N self.new }
     {
         let before = link_at(&self.lasts, &self.prev, list, after);

@@ -1,6 +1,7 @@
 pub mod Nesting
 pub mod Sorting
 pub mod Lists
+pub mod Members
 pub mod Tables
 pub mod Chosen
 pub mod Frames

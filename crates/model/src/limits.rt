@@ -40,6 +40,13 @@ impl Limits {
             None
         }
     }
+
+    /// Does nothing: its contract tells callers what holds of all limits.
+    pub fn well_formed(&self)
+        ensures { AreLimits self.now.ticks self.now.steps }
+    {
+        let _ = &self.ticks;
+    }
 }
 
 /// Counts the kernel steps of the calls that it is lent to.

@@ -10,7 +10,7 @@ use Rattle.std.proofs.lemmas.Option.{same_Some}
 use Rattle.lists.specs.Lists.{IsSound, entries_of, place_of, without}
 use Rattle.lists.proofs.Entries.{has_or_not, apart_from_test, without-apart}
 use Rattle.lists.proofs.Laws.{entries_of-set_other, entries_of-set_same, entries_of-without}
-use Rattle.sched.specs.Lines.{AreLines, IsHighest, bit_of}
+use Rattle.sched.specs.ReadyLists.{AreReadyLists, IsHighest, bit_of}
 
 -- the place of the highest bit
 highest_bit : (n : ℕ) → 0 < n → n < 2 ^ 32 → (31 - leading_zeros w32 n < 32) × (bit_at n (31 - leading_zeros w32 n) ≡ 1) × ((i : ℕ) → 31 - leading_zeros w32 n < i → bit_at n i ≡ 0)
@@ -36,10 +36,10 @@ bit_of-last (x ∷ xs) e = refl
 no_one : (b c : ℕ) → b ≡ 1 → c ≡ 0 → b ≡ c → ⊥
 no_one b c one none same = omega (arith, one, none, same)
 
-past_empty : {lists : List (List (ℕ × ℕ))} {occupied : ℕ} → AreLines lists occupied → (p : ℕ) → 32 ≤ p → entries_of lists p ≡ []
+past_empty : {lists : List (List (ℕ × ℕ))} {occupied : ℕ} → AreReadyLists lists occupied → (p : ℕ) → 32 ≤ p → entries_of lists p ≡ []
 past_empty {lists} {occupied} h p past = get_or_past lists p [] (let many = h.sound.as_many in omega (arith, many, past))
 
-pub highest_is : {lists : List (List (ℕ × ℕ))} {occupied : ℕ} → AreLines lists occupied → occupied ≢ 0 → occupied < 2 ^ 32 → IsHighest lists (Some (31 - leading_zeros w32 occupied))
+pub highest_is : {lists : List (List (ℕ × ℕ))} {occupied : ℕ} → AreReadyLists lists occupied → occupied ≢ 0 → occupied < 2 ^ 32 → IsHighest lists (Some (31 - leading_zeros w32 occupied))
 highest_is {lists} {occupied} h some fits =
     let top = highest_bit occupied (omega (arith, some)) fits in
     let p = 31 - leading_zeros w32 occupied in (
@@ -52,7 +52,7 @@ highest_is {lists} {occupied} h some fits =
     )
 
 -- a task goes into a list
-pub bit_set : {lists : List (List (ℕ × ℕ))} {occupied : ℕ} → AreLines lists occupied → (list : ℕ) (e : ℕ × ℕ) → list < 32 → IsSound 32 32 (set lists list (entries_of lists list ++ e ∷ [])) → AreLines (set lists list (entries_of lists list ++ e ∷ [])) (bit_or occupied (1 * 2 ^ list % 2 ^ 32))
+pub bit_set : {lists : List (List (ℕ × ℕ))} {occupied : ℕ} → AreReadyLists lists occupied → (list : ℕ) (e : ℕ × ℕ) → list < 32 → IsSound 32 32 (set lists list (entries_of lists list ++ e ∷ [])) → AreReadyLists (set lists list (entries_of lists list ++ e ∷ [])) (bit_or occupied (1 * 2 ^ list % 2 ^ 32))
 bit_set {lists} {occupied} h list e known sound =
     let new = entries_of lists list ++ e ∷ [] in
     let below : list < length lists = let many = h.sound.as_many in omega (arith, many, known) in
@@ -76,7 +76,7 @@ left_other {lists} sound task list p at other =
       | inr none ↦ without-apart task (entries_of lists p) (apart_from_test task (entries_of lists p) none)
     ]
 
-pub bit_cleared : {lists : List (List (ℕ × ℕ))} {occupied : ℕ} → AreLines lists occupied → (task list : ℕ) → list < 32 → place_of lists task ≡ Some list → IsSound 32 32 (map (without task) lists) → entries_of (map (without task) lists) list ≡ [] → AreLines (map (without task) lists) (bit_and occupied (bit_not w32 (1 * 2 ^ list % 2 ^ 32)))
+pub bit_cleared : {lists : List (List (ℕ × ℕ))} {occupied : ℕ} → AreReadyLists lists occupied → (task list : ℕ) → list < 32 → place_of lists task ≡ Some list → IsSound 32 32 (map (without task) lists) → entries_of (map (without task) lists) list ≡ [] → AreReadyLists (map (without task) lists) (bit_and occupied (bit_not w32 (1 * 2 ^ list % 2 ^ 32)))
 bit_cleared {lists} {occupied} h task list known at sound empty = record {
   sound = sound;
   bits = λ p hp. elim (cases_eq p list) [
@@ -97,7 +97,7 @@ was_some : (task : ℕ) (xs ys : List (ℕ × ℕ)) → ys ≡ without task xs �
 was_some task [] ys is some = λ e. some is
 was_some task (x ∷ xs) ys is some = λ e. cc
 
-pub bit_kept : {lists : List (List (ℕ × ℕ))} {occupied : ℕ} → AreLines lists occupied → (task list : ℕ) → place_of lists task ≡ Some list → IsSound 32 32 (map (without task) lists) → entries_of (map (without task) lists) list ≢ [] → AreLines (map (without task) lists) occupied
+pub bit_kept : {lists : List (List (ℕ × ℕ))} {occupied : ℕ} → AreReadyLists lists occupied → (task list : ℕ) → place_of lists task ≡ Some list → IsSound 32 32 (map (without task) lists) → entries_of (map (without task) lists) list ≢ [] → AreReadyLists (map (without task) lists) occupied
 bit_kept {lists} {occupied} h task list at sound some = record {
   sound = sound;
   bits = λ p hp. elim (cases_eq p list) [
@@ -110,7 +110,7 @@ bit_kept {lists} {occupied} h task list at sound some = record {
 }
 
 -- no task in new lists
-pub bits_empty : IsSound 32 32 (replicate 32 []) → AreLines (replicate 32 []) 0
+pub bits_empty : IsSound 32 32 (replicate 32 []) → AreReadyLists (replicate 32 []) 0
 bits_empty sound = record {
   sound = sound;
   bits = λ p hp. bit_at-zero p ∙ sym (ap bit_of (none 32 p));

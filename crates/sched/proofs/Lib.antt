@@ -1,4 +1,4 @@
 pub mod Bits
 pub mod Deeds
-pub mod Line
+pub mod ReadyList
 pub mod Standing

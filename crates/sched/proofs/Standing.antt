@@ -2,191 +2,166 @@
 use Rattle.std.proofs.Common.{◌≡◌, ℕ, zero, suc, ◌+◌, ◌<◌, inl, inr, Bool, true, false, not, Option, Some, None, List, [], ◌∷◌, get_or, set, length, sym, ◌∙◌, ap, ap₂, subst, arith, refl, eqb, ltb}
 use Rattle.std.specs.Prelude.{◌==◌, ◌||◌, ◌&&◌, nat_lt, nat_eq}
 use Rattle.std.specs.List.{AllByRecursion, cons_option, filter, list_any}
-use Rattle.std.specs.Option.{IfSome, option_map}
+use Rattle.std.specs.Option.{IfSome, is_some, option_map}
 use Rattle.std.proofs.lemmas.Bool.{cases_eq, eq-eqb, ltb-false, ltb-true, ne_eqb}
 use Rattle.std.proofs.lemmas.List.{get_or-set_other, get_or-set_same}
-use Rattle.model.specs.State.{State, Status, Task, Ready, Asleep, Ended, no_task, task_at}
-use Rattle.model.specs.Order.{Entry, Key, entry, first, in_order, keyed, line, put}
-use Rattle.model.specs.Step as step
-use Rattle.model.specs.Step.{anew, choice, dispatch, enter, is_same, key, leave, leave_from, readies, ready_key, ready_status_key, switch, task_of}
+use Rattle.model.specs.State.{State, Status, Task, Ready, Asleep, Ended, no_task, task_at, ticket_if_ready, for_one}
+use Rattle.model.specs.Order.{Entry, Key, before, entry, first, in_order, key, keyed, list_by, put, task_of}
+use Rattle.model.specs.Switching.{choice, choose, dispatch, is_above, is_beside, is_outranked, is_ready, is_same, is_sharing, make_ready, preempt, ready_key, ready_list, slice, to_back, yield_now}
 use Rattle.model.specs.Invariant.{IsTable}
-use Rattle.model.proofs.Sorting.{before_false, before_true, by_test}
-use Rattle.model.proofs.Lines.{HasKey, line-entered, line-gone, line-kept, line_below, line_has, line_without, other}
-use Rattle.model.proofs.Tables.{below_ready, table-enter}
-use Rattle.model.proofs.Chosen.{switch-once}
+use Rattle.model.proofs.Sorting.{All-filtered, before_false, before_true, by_test}
+use Rattle.model.proofs.Lists.{list-entered, list-gone, list-kept, list_below, list_without, other}
+use Rattle.model.proofs.Members.{has_task, has_task-key, has_task-none}
+use Rattle.model.proofs.Tables.{below_ready, table-make_ready}
+use Rattle.model.proofs.Chosen.{choice_within}
 use Rattle.model.proofs.Settled.{same_eq}
 use Rattle.lists.specs.Lists.{first_of, has_node, without}
+use Rattle.lists.proofs.Entries.{apart_from_test, without-apart}
 use Rattle.sched.specs.Schedule as mine
-use Rattle.sched.specs.Schedule.{Schedule, chosen, lined_up, priority_in, readied, sliced, stepped_back, yielded}
-use Rattle.sched.specs.Standing.{StandsFor, ranked}
+use Rattle.sched.specs.Schedule.{Schedule, add_to_ready_list, priority_in}
+use Rattle.sched.specs.StandsFor.{StandsFor, with_priorities}
 
--- the line, as tasks with their ranks
+-- the ready list, as tasks with their priorities
 
--- an entry whose number is above all goes behind its equals
-ranked-put : (e : Entry) (xs : List Entry) → AllByRecursion (λ (x : Entry). x.key.number < e.key.number) xs → ranked (put e xs) ≡ lined_up (e.task, e.key.rank) (ranked xs)
-ranked-put e [] h = refl
-ranked-put e (x ∷ xs) h =
+-- an entry whose ticket is above all goes behind its equals
+with_priorities-put : (e : Entry) (xs : List Entry) → AllByRecursion (λ (x : Entry). x.key.ticket < e.key.ticket) xs → with_priorities (put e xs) ≡ add_to_ready_list (e.task, e.key.priority) (with_priorities xs)
+with_priorities-put e [] h = refl
+with_priorities-put e (x ∷ xs) h =
     let n = h.0 in
-    by_test (ltb x.key.rank e.key.rank)
-    (λ t. let lt = ltb-true x.key.rank e.key.rank t in rw (before_true e.key x.key (record { high = omega arith; early = λ le. absurd (omega arith) }), t) refl)
-    (λ t. let le = ltb-false x.key.rank e.key.rank t in rw (before_false e.key x.key (record { low = le; late = λ ge. omega arith }), t) (ap (λ (l : List (ℕ × ℕ)). (x.task, x.key.rank) ∷ l) (ranked-put e xs h.1)))
+    by_test (ltb x.key.priority e.key.priority)
+    (λ t. let lt = ltb-true x.key.priority e.key.priority t in rw (before_true e.key x.key (record { high = omega arith; early = λ le. absurd (omega arith) }), t) refl)
+    (λ t. let le = ltb-false x.key.priority e.key.priority t in rw (before_false e.key x.key (record { low = le; late = λ ge. omega arith }), t) (ap (λ (l : List (ℕ × ℕ)). (x.task, x.key.priority) ∷ l) (with_priorities-put e xs h.1)))
 
-ranked-filter : (i : ℕ) (xs : List Entry) → ranked (filter (other i) xs) ≡ without i (ranked xs)
-ranked-filter i [] = refl
-ranked-filter i (x ∷ xs) = by_test (eqb x.task i) (λ t. rw t (ranked-filter i xs)) (λ t. rw t (ap (λ (l : List (ℕ × ℕ)). (x.task, x.key.rank) ∷ l) (ranked-filter i xs)))
+with_priorities-filter : (i : ℕ) (xs : List Entry) → with_priorities (filter (other i) xs) ≡ without i (with_priorities xs)
+with_priorities-filter i [] = refl
+with_priorities-filter i (x ∷ xs) = by_test (eqb x.task i) (λ t. rw t (with_priorities-filter i xs)) (λ t. rw t (ap (λ (l : List (ℕ × ℕ)). (x.task, x.key.priority) ∷ l) (with_priorities-filter i xs)))
 
-all-filtered : (P : Entry → Type 0) (i : ℕ) (xs : List Entry) → AllByRecursion P xs → AllByRecursion P (filter (other i) xs)
-all-filtered P i [] h = tt
-all-filtered P i (x ∷ xs) h = by_test (eqb x.task i) (λ t. rw t (all-filtered P i xs h.1)) (λ t. rw t (h.0, all-filtered P i xs h.1))
+ready_list-make_ready : (s : State) (i : ℕ) → IsTable s → i < length s.tasks → with_priorities (ready_list (make_ready i s)) ≡ add_to_ready_list (i, (task_at s i).priority) (without i (with_priorities (ready_list s)))
+ready_list-make_ready s i h l =
+    let b = below_ready s.next_ticket s.tasks h.tickets in
+    let k = key (task_at s i).priority s.next_ticket in
+    ap with_priorities (list-entered ready_key k i (record (task_at s i) { status = Ready s.next_ticket }) s.tasks l refl b)
+    ∙ with_priorities-put (entry i k) (filter (other i) (ready_list s)) (All-filtered (λ (x : Entry). x.key.ticket < s.next_ticket) (other i) (ready_list s) (list_below ready_key s.next_ticket s.tasks b))
+    ∙ ap (add_to_ready_list (i, (task_at s i).priority)) (with_priorities-filter i (ready_list s))
 
--- a task that takes the next number
-entered : State → ℕ → Task
-entered s i = record (task_at s i) { status = Ready s.next }
-
-ranked-enter : (s : State) (i : ℕ) → IsTable s → i < length s.tasks → ranked (readies (enter s i)) ≡ lined_up (i, (task_at s i).priority) (without i (ranked (readies s)))
-ranked-enter s i h l =
-    let b = below_ready s.next s.tasks h.numbers in
-    let k = key (task_at s i).priority s.next in
-    ap ranked (line-entered ready_key k i (record (task_at s i) { status = Ready s.next }) s.tasks l refl b)
-    ∙ ranked-put (entry i k) (filter (other i) (readies s)) (all-filtered (λ (x : Entry). x.key.number < s.next) i (readies s) (line_below ready_key s.next s.tasks b))
-    ∙ ap (lined_up (i, (task_at s i).priority)) (ranked-filter i (readies s))
-
-pub stands_readied : (v : Schedule) (s : State) (i : ℕ) → StandsFor v s → i < length s.tasks → StandsFor (readied v i) (enter s i)
-stands_readied v s i h l = record {
+-- a task goes to the back, from wherever it was
+stands_back : (v : Schedule) (s : State) (i : ℕ) → StandsFor v s → i < length s.tasks → StandsFor (mine.make_ready i (mine.block i v)) (make_ready i s)
+stands_back v s i h l = record {
   ready =
-      ap (λ (p : ℕ). lined_up (i, p) (without i v.ready)) (h.priorities i)
-      ∙ ap (λ (r : List (ℕ × ℕ)). lined_up (i, (task_at s i).priority) (without i r)) h.ready
-      ∙ sym (ranked-enter s i h.table l);
-  running = h.running;
+      ap (λ (p : ℕ). add_to_ready_list (i, p) (without i v.ready)) (h.priorities i)
+      ∙ ap (λ (r : List (ℕ × ℕ)). add_to_ready_list (i, (task_at s i).priority) (without i r)) h.ready
+      ∙ sym (ready_list-make_ready s i h.table l);
+  current = h.current;
   priorities = λ j. h.priorities j ∙ elim (cases_eq j i) [
     | inl same ↦
         ap (λ (k : ℕ). (task_at s k).priority) same
-        ∙ sym (ap (λ (k : ℕ). (task_at (enter s i) k).priority) same ∙ ap (λ (t : Task). t.priority) (get_or-set_same s.tasks i (record (task_at s i) { status = Ready s.next }) no_task l))
-    | inr apart ↦ sym (ap (λ (t : Task). t.priority) (get_or-set_other s.tasks i j (record (task_at s i) { status = Ready s.next }) no_task apart))
+        ∙ sym (ap (λ (k : ℕ). (task_at (make_ready i s) k).priority) same ∙ ap (λ (t : Task). t.priority) (get_or-set_same s.tasks i (record (task_at s i) { status = Ready s.next_ticket }) no_task l))
+    | inr apart ↦ sym (ap (λ (t : Task). t.priority) (get_or-set_other s.tasks i j (record (task_at s i) { status = Ready s.next_ticket }) no_task apart))
   ];
-  table = table-enter s i h.table;
+  table = table-make_ready s i h.table;
 }
 
--- whether a task is in the line
+-- a task that isn't Ready becomes so
+pub stands_made_ready : (v : Schedule) (s : State) (i : ℕ) → StandsFor v s → i < length s.tasks → mine.is_ready v i ≡ false → StandsFor (mine.make_ready i v) (make_ready i s)
+stands_made_ready v s i h l free = subst (λ (r : List (ℕ × ℕ)). StandsFor (mine.make_ready i (record v { ready = r })) (make_ready i s)) (without-apart i v.ready (apart_from_test i v.ready free)) (stands_back v s i h l)
 
-or-swap : (a b c : Bool) → (a || (b || c)) ≡ (b || (a || c))
-or-swap true true c = refl
-or-swap true false c = refl
-or-swap false true c = refl
-or-swap false false c = refl
+-- whether a task is Ready
 
-has_node-put : (n : ℕ) (e : Entry) (xs : List Entry) → has_node n (ranked (put e xs)) ≡ (e.task == n || has_node n (ranked xs))
-has_node-put n e [] = refl
-has_node-put n e (x ∷ xs) = by_test (Rattle.model.specs.Order.before e.key x.key)
-    (λ t. rw t refl)
-    (λ t. rw t (ap (λ (b : Bool). x.task == n || b) (has_node-put n e xs) ∙ or-swap (x.task == n) (e.task == n) (has_node n (ranked xs))))
+has_node-with_priorities : (i : ℕ) (es : List Entry) → has_node i (with_priorities es) ≡ has_task i es
+has_node-with_priorities i [] = refl
+has_node-with_priorities i (e ∷ es) = ap (λ (b : Bool). e.task == i || b) (has_node-with_priorities i es)
 
-has_node-in_order : (n : ℕ) (xs : List Entry) → has_node n (ranked (in_order xs)) ≡ has_node n (ranked xs)
-has_node-in_order n [] = refl
-has_node-in_order n (x ∷ xs) = has_node-put n x (in_order xs) ∙ ap (λ (b : Bool). x.task == n || b) (has_node-in_order n xs)
+ready_key_of : {p q : ℕ} {u w : Status} → p ≡ q → u ≡ w → option_map (key p) (ticket_if_ready u) ≡ option_map (key q) (ticket_if_ready w)
+ready_key_of ep eu = ap₂ (λ (n : ℕ) (v : Status). option_map (key n) (ticket_if_ready v)) ep eu
 
-or-true : (b : Bool) → (b || true) ≡ true
-or-true true = refl
-or-true false = refl
+ready_at : (s : State) (i p : ℕ) (u : Status) → (task_at s i).priority ≡ p → (task_at s i).status ≡ u → has_task i (ready_list s) ≡ is_some (ticket_if_ready u)
+ready_at s i p (Ready n) ep eu = has_task-key ready_key refl i (key p n) s.tasks (ready_key_of ep eu)
+ready_at s i p (Asleep w n) ep eu = has_task-none ready_key i s.tasks (ready_key_of ep eu)
+ready_at s i p Ended ep eu = has_task-none ready_key i s.tasks (ready_key_of ep eu)
 
--- a task with a key is among those that have one
-has_node-cons : (n o : ℕ) (r : Option Key) (xs : List Entry) → has_node n (ranked xs) ≡ true → has_node n (ranked (cons_option (option_map (entry o) r) xs)) ≡ true
-has_node-cons n o None xs h = h
-has_node-cons n o (Some k) xs h = ap (λ (b : Bool). o == n || b) h ∙ or-true (o == n)
-
-has_node-first : (n o : ℕ) (r : Option Key) (k : Key) (xs : List Entry) → r ≡ Some k → o ≡ n → has_node n (ranked (cons_option (option_map (entry o) r) xs)) ≡ true
-has_node-first n o r k xs is same = rw is (let t : (o == n) ≡ true = eq-eqb o n same in rw t refl)
-
-has_node-keyed : (n o i : ℕ) (k : Key) (ts : List Task) → o + i ≡ n → ready_key (get_or ts i no_task) ≡ Some k → has_node n (ranked (keyed ready_key o ts)) ≡ true
-has_node-keyed n o i k [] at is = absurd cc
-has_node-keyed n o zero k (t ∷ ts) at is = has_node-first n o (ready_key t) k (keyed ready_key (o + 1) ts) is (omega (arith, at))
-has_node-keyed n o (suc i) k (t ∷ ts) at is = has_node-cons n o (ready_key t) (keyed ready_key (o + 1) ts) (has_node-keyed n (o + 1) i k ts (omega (arith, at)) is)
-
-has_node-apart : (n : ℕ) (xs : List Entry) → AllByRecursion (λ e. e.task ≡ n → ⊥) xs → has_node n (ranked xs) ≡ false
-has_node-apart n [] h = refl
-has_node-apart n (x ∷ xs) h = let t : (x.task == n) ≡ false = ne_eqb x.task n h.0 in rw t (has_node-apart n xs h.1)
-
-ready_at : (s : State) (i p : ℕ) (u : Status) → (task_at s i).priority ≡ p → (task_at s i).status ≡ u → has_node i (ranked (readies s)) ≡ step.is_ready_status u
-ready_at s i p (Ready n) ep eu =
-    let is : ready_key (task_at s i) ≡ Some (key p n) = ap₂ ready_status_key ep eu in
-    has_node-in_order i (keyed ready_key 0 s.tasks) ∙ has_node-keyed i 0 i (key p n) s.tasks (omega arith) is
-ready_at s i p (Asleep m b) ep eu = has_node-apart i (readies s) (line_without ready_key i s.tasks (ap₂ ready_status_key ep eu))
-ready_at s i p Ended ep eu = has_node-apart i (readies s) (line_without ready_key i s.tasks (ap₂ ready_status_key ep eu))
-
-pub ready_same : (v : Schedule) (s : State) (i : ℕ) → StandsFor v s → mine.is_ready v i ≡ step.is_ready s i
-ready_same v s i h = ap (has_node i) h.ready ∙ ready_at s i (task_at s i).priority (task_at s i).status refl refl
+pub ready_same : (v : Schedule) (s : State) (i : ℕ) → StandsFor v s → mine.is_ready v i ≡ is_ready s i
+ready_same v s i h =
+    ap (has_node i) h.ready ∙ has_node-with_priorities i (ready_list s)
+    ∙ ready_at s i (task_at s i).priority (task_at s i).status refl refl
 
 -- whether a Ready task is above the running one, or beside it
 
-any-ranked : (p : ℕ × ℕ → Bool) (q : Entry → Bool) (es : List Entry) → ((e : Entry) → p (e.task, e.key.rank) ≡ q e) → list_any p (ranked es) ≡ list_any q es
-any-ranked p q [] h = refl
-any-ranked p q (e ∷ es) h = ap₂ (λ (a b : Bool). a || b) (h e) (any-ranked p q es h)
+any-with_priorities : (p : ℕ × ℕ → Bool) (q : Entry → Bool) (es : List Entry) → ((e : Entry) → p (e.task, e.key.priority) ≡ q e) → list_any p (with_priorities es) ≡ list_any q es
+any-with_priorities p q [] h = refl
+any-with_priorities p q (e ∷ es) h = ap₂ (λ (a b : Bool). a || b) (h e) (any-with_priorities p q es h)
 
-above_same : (priorities : List ℕ) (s : State) (r : Option ℕ) → ((task : ℕ) → priority_in priorities task ≡ (task_at s task).priority) → (e : Entry) → mine.is_above priorities r (e.task, e.key.rank) ≡ step.is_above s r e
+above_same : (priorities : List ℕ) (s : State) (r : Option ℕ) → ((task : ℕ) → priority_in priorities task ≡ (task_at s task).priority) → (e : Entry) → mine.is_above priorities r (e.task, e.key.priority) ≡ is_above s r e
 above_same priorities s None h e = refl
-above_same priorities s (Some task) h e = ap (λ (p : ℕ). nat_lt p e.key.rank) (h task)
+above_same priorities s (Some task) h e = ap (λ (p : ℕ). nat_lt p e.key.priority) (h task)
 
-beside_same : (priorities : List ℕ) (s : State) (r : Option ℕ) → ((task : ℕ) → priority_in priorities task ≡ (task_at s task).priority) → (e : Entry) → mine.is_beside priorities r (e.task, e.key.rank) ≡ step.is_beside s r e
+beside_same : (priorities : List ℕ) (s : State) (r : Option ℕ) → ((task : ℕ) → priority_in priorities task ≡ (task_at s task).priority) → (e : Entry) → mine.is_beside priorities r (e.task, e.key.priority) ≡ is_beside s r e
 beside_same priorities s None h e = refl
-beside_same priorities s (Some task) h e = ap (λ (p : ℕ). not (nat_eq e.task task) && nat_eq e.key.rank p) (h task)
+beside_same priorities s (Some task) h e = ap (λ (p : ℕ). not (nat_eq e.task task) && nat_eq e.key.priority p) (h task)
 
-pub outranked_same : (v : Schedule) (s : State) → StandsFor v s → mine.is_outranked v ≡ step.is_outranked s
+pub outranked_same : (v : Schedule) (s : State) → StandsFor v s → mine.is_outranked v ≡ is_outranked s
 outranked_same v s h =
-    ap₂ (λ (r : Option ℕ) (es : List (ℕ × ℕ)). list_any (mine.is_above v.priorities r) es) h.running h.ready
-    ∙ any-ranked (mine.is_above v.priorities s.running) (step.is_above s s.running) (readies s) (above_same v.priorities s s.running h.priorities)
+    ap₂ (λ (r : Option ℕ) (es : List (ℕ × ℕ)). list_any (mine.is_above v.priorities r) es) h.current h.ready
+    ∙ any-with_priorities (mine.is_above v.priorities s.current) (is_above s s.current) (ready_list s) (above_same v.priorities s s.current h.priorities)
 
-pub sharing_same : (v : Schedule) (s : State) → StandsFor v s → mine.is_sharing v ≡ step.is_sharing s
+pub sharing_same : (v : Schedule) (s : State) → StandsFor v s → mine.is_sharing v ≡ is_sharing s
 sharing_same v s h =
-    ap₂ (λ (r : Option ℕ) (es : List (ℕ × ℕ)). list_any (mine.is_beside v.priorities r) es) h.running h.ready
-    ∙ any-ranked (mine.is_beside v.priorities s.running) (step.is_beside s s.running) (readies s) (beside_same v.priorities s s.running h.priorities)
+    ap₂ (λ (r : Option ℕ) (es : List (ℕ × ℕ)). list_any (mine.is_beside v.priorities r) es) h.current h.ready
+    ∙ any-with_priorities (mine.is_beside v.priorities s.current) (is_beside s s.current) (ready_list s) (beside_same v.priorities s s.current h.priorities)
 
 -- the choice
 
-first_task : (es : List Entry) → first_of (ranked es) ≡ task_of (first es)
+first_task : (es : List Entry) → first_of (with_priorities es) ≡ task_of (first es)
 first_task [] = refl
 first_task (e ∷ es) = refl
 
-chosen_within : (s : State) (es : List Entry) → AllByRecursion (HasKey ready_key s.tasks) es → IfSome (task_of (first es)) (λ task. task < length s.tasks)
-chosen_within s [] h = tt
-chosen_within s (e ∷ es) h = h.0.within
-
-pub stands_chosen : (v : Schedule) (s : State) → StandsFor v s → StandsFor (chosen v) (anew s)
-unfolding anew dispatch
+pub stands_chosen : (v : Schedule) (s : State) → StandsFor v s → StandsFor (mine.choose v) (choose s)
+unfolding choose dispatch
 stands_chosen v s h =
-    let is : first_of v.ready ≡ choice s = ap first_of h.ready ∙ first_task (readies s) in
-    by_test (is_same (choice s) s.running)
-    (λ t. rw t (record { ready = h.ready; running = is ∙ same_eq (choice s) s.running t; priorities = h.priorities; table = h.table }))
+    let is : first_of v.ready ≡ choice s = ap first_of h.ready ∙ first_task (ready_list s) in
+    by_test (is_same (choice s) s.current)
+    (λ t. rw t (record { ready = h.ready; current = is ∙ same_eq (choice s) s.current t; priorities = h.priorities; table = h.table }))
     (λ t. rw t (record {
       ready = h.ready;
-      running = is;
+      current = is;
       priorities = h.priorities;
-      table = record { numbers = h.table.numbers; few = h.table.few; running = chosen_within s (readies s) (line_has ready_key s.tasks) };
+      table = record { tickets = h.table.tickets; few = h.table.few; current = choice_within s };
     }))
 
--- the running task steps back, and the choice runs
+-- the running task goes to the back, and the choice runs
 
-back_at : (v : Schedule) (s : State) (r : Option ℕ) → StandsFor v s → IfSome r (λ task. task < length s.tasks) → StandsFor (stepped_back v r) (leave_from r s)
-back_at v s None h within = h
-back_at v s (Some task) h within =
+one_back : (v : Schedule) (s : State) (o : Option ℕ) → StandsFor v s → IfSome o (λ task. task < length s.tasks) → StandsFor (mine.for_one mine.to_back o v) (for_one to_back o s)
+unfolding to_back
+one_back v s None h within = h
+one_back v s (Some task) h within =
     let same = ready_same v s task h in
-    by_test (step.is_ready s task)
-    (λ t. let u = same ∙ t in rw (t, u) (stands_readied v s task h within))
+    by_test (is_ready s task)
+    (λ t. let u = same ∙ t in rw (t, u) (stands_back v s task h within))
     (λ t. let u = same ∙ t in rw (t, u) h)
 
-pub stands_yielded : (v : Schedule) (s : State) → StandsFor v s → StandsFor (yielded v) (anew (leave s))
-unfolding leave
+pub stands_yielded : (v : Schedule) (s : State) → StandsFor v s → StandsFor (mine.yield_now v) (yield_now s)
+unfolding yield_now
 stands_yielded v s h =
-    let back : StandsFor (stepped_back v s.running) (leave_from s.running s) = back_at v s s.running h h.table.running in
-    let mine_back : StandsFor (stepped_back v v.running) (leave_from s.running s) = subst (λ (r : Option ℕ). StandsFor (stepped_back v r) (leave_from s.running s)) (sym h.running) back in
-    stands_chosen (stepped_back v v.running) (leave_from s.running s) mine_back
+    let back : StandsFor (mine.for_one mine.to_back s.current v) (for_one to_back s.current s) = one_back v s s.current h h.table.current in
+    let mine_back : StandsFor (mine.for_one mine.to_back v.current v) (for_one to_back s.current s) = subst (λ (o : Option ℕ). StandsFor (mine.for_one mine.to_back o v) (for_one to_back s.current s)) (sym h.current) back in
+    stands_chosen (mine.for_one mine.to_back v.current v) (for_one to_back s.current s) mine_back
 
--- where a Ready task is above the running one, or has its priority
-pub stands_sliced : (v : Schedule) (s : State) → StandsFor v s → StandsFor (sliced v) (switch s)
-stands_sliced v s h =
-    let same : (mine.is_outranked v || mine.is_sharing v) ≡ (step.is_outranked s || step.is_sharing s) = ap₂ (λ (a b : Bool). a || b) (outranked_same v s h) (sharing_same v s h) in
-    rw (switch-once s) (by_test (step.is_outranked s || step.is_sharing s)
+-- where a Ready task is above the running one
+pub stands_preempted : (v : Schedule) (s : State) → StandsFor v s → StandsFor (mine.preempt v) (preempt s)
+unfolding preempt
+stands_preempted v s h =
+    let same = outranked_same v s h in
+    by_test (is_outranked s)
     (λ t. let u = same ∙ t in rw (t, u) (stands_yielded v s h))
-    (λ t. let u = same ∙ t in rw (t, u) h))
+    (λ t. let u = same ∙ t in rw (t, u) h)
+
+-- the same, and where one has its priority
+pub stands_sliced : (v : Schedule) (s : State) → StandsFor v s → StandsFor (mine.slice v) (slice s)
+unfolding slice
+stands_sliced v s h =
+    let same : (mine.is_outranked v || mine.is_sharing v) ≡ (is_outranked s || is_sharing s) = ap₂ (λ (a b : Bool). a || b) (outranked_same v s h) (sharing_same v s h) in
+    by_test (is_outranked s || is_sharing s)
+    (λ t. let u = same ∙ t in rw (t, u) (stands_yielded v s h))
+    (λ t. let u = same ∙ t in rw (t, u) h)
 
 -- a task changes by itself
 
@@ -200,19 +175,19 @@ priorities_set v s new i t h l is same j =
     ])
 
 -- it is Ready no more
-pub stands_blocked : (v : Schedule) (s new : State) (i : ℕ) (t : Task) → StandsFor v s → i < length s.tasks → new.tasks ≡ set s.tasks i t → new.running ≡ s.running → ready_key t ≡ None → t.priority ≡ (task_at s i).priority → IsTable new → StandsFor (mine.blocked v i) new
-stands_blocked v s new i t h l is running none same table = record {
-  ready = ap (without i) h.ready ∙ sym (ranked-filter i (readies s)) ∙ sym (ap ranked (ap (line ready_key) is ∙ line-gone ready_key i t s.tasks l none));
-  running = h.running ∙ sym running;
+pub stands_blocked : (v : Schedule) (s new : State) (i : ℕ) (t : Task) → StandsFor v s → i < length s.tasks → new.tasks ≡ set s.tasks i t → new.current ≡ s.current → ready_key t ≡ None → t.priority ≡ (task_at s i).priority → IsTable new → StandsFor (mine.block i v) new
+stands_blocked v s new i t h l is current none same table = record {
+  ready = ap (without i) h.ready ∙ sym (with_priorities-filter i (ready_list s)) ∙ sym (ap with_priorities (ap (list_by ready_key) is ∙ list-gone ready_key i t s.tasks l none));
+  current = h.current ∙ sym current;
   priorities = priorities_set v s new i t h l is same;
   table = table;
 }
 
--- it keeps its place in line
-pub stands_kept : (v : Schedule) (s new : State) (i : ℕ) (t : Task) → StandsFor v s → i < length s.tasks → new.tasks ≡ set s.tasks i t → new.running ≡ s.running → ready_key t ≡ ready_key (task_at s i) → t.priority ≡ (task_at s i).priority → IsTable new → StandsFor v new
-stands_kept v s new i t h l is running key_same same table = record {
-  ready = h.ready ∙ sym (ap ranked (ap (line ready_key) is ∙ line-kept ready_key i t s.tasks key_same));
-  running = h.running ∙ sym running;
+-- it keeps its key
+pub stands_kept : (v : Schedule) (s new : State) (i : ℕ) (t : Task) → StandsFor v s → i < length s.tasks → new.tasks ≡ set s.tasks i t → new.current ≡ s.current → ready_key t ≡ ready_key (task_at s i) → t.priority ≡ (task_at s i).priority → IsTable new → StandsFor v new
+stands_kept v s new i t h l is current key_same same table = record {
+  ready = h.ready ∙ sym (ap with_priorities (ap (list_by ready_key) is ∙ list-kept ready_key i t s.tasks key_same));
+  current = h.current ∙ sym current;
   priorities = priorities_set v s new i t h l is same;
   table = table;
 }

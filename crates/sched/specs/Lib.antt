@@ -1,3 +1,3 @@
-pub mod Lines
+pub mod ReadyLists
 pub mod Schedule
-pub mod Standing
+pub mod StandsFor

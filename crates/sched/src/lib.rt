@@ -4,7 +4,7 @@
 //! not empty, so that each call takes constant time.
 #![tactic(auto)]
 
-mod lines;
+mod ready_lists;
 mod sched;
 #[cfg(test)]
 mod tests;

@@ -1,14 +1,14 @@
 //! The scheduler: the Ready tasks, and the running one.
-ghost use Rattle.std.specs.Prelude.{◌≡◌, ◌<◌, ◌||◌, [], option_map, None, length};
+ghost use Rattle.std.specs.Prelude.{◌≡◌, ◌<◌, ◌||◌, [], None, false, length};
 ghost use Rattle.std.specs.List.{AllByRecursion};
-ghost use Rattle.model.specs.State.{State};
-ghost use Rattle.model.specs.Step as step;
-ghost use Rattle.sched.specs.Standing.{StandsFor, Does};
-ghost use Rattle.sched.specs.Schedule.{priority_in, is_ready, is_outranked, is_sharing, blocked, readied, chosen, yielded, preempted, sliced};
 ghost use Rattle.std.specs.Option.{is_some};
+ghost use Rattle.model.specs.State.{State};
+ghost use Rattle.model.specs.Switching as switching;
 ghost use Rattle.lists.specs.Lists.{first_of};
+ghost use Rattle.sched.specs.Schedule.{priority_in, is_ready, is_outranked, is_sharing, block, choose, make_ready, preempt, slice, to_back, yield_now};
+ghost use Rattle.sched.specs.StandsFor.{StandsFor, Does};
 
-use crate::lines::Lines;
+use crate::ready_lists::ReadyLists;
 use lists::ListId;
 use model::TaskId;
 use std::marker::Model;
@@ -18,22 +18,21 @@ use std::marker::Model;
 /// Idle is no task here: it runs where no task is Ready, and is below every priority (profile).
 #[derive(Drop)]
 pub struct Sched {
-    lines: Lines,
-    running: Option<TaskId>,
+    ready: ReadyLists,
+    current: Option<TaskId>,
     priorities: [u8; 32],
 }
 
-// Clauses see the Ready tasks in one line, each before those that it would run before.
+// Clauses see the Ready tasks in one list, each before those that it would run before.
 impl Model for Sched {
-    ghost use Rattle.std.specs.Prelude.{option_map};
     ghost use Rattle.sched.specs.Schedule.{Schedule};
-    ghost use Rattle.sched.specs.Lines.{schedule_of, IsSched};
+    ghost use Rattle.sched.specs.ReadyLists.{schedule_of, IsSched};
 
     ghost Value = { Schedule };
 
-    ghost view = { λ s. schedule_of s.lines (option_map (λ task. task.number) s.running) s.priorities };
+    ghost view = { λ s. schedule_of s.ready s.current s.priorities };
 
-    ghost invariant = { λ s. IsSched s.lines s.priorities };
+    ghost invariant = { λ s. IsSched s.ready s.priorities };
 }
 
 impl Sched {
@@ -41,32 +40,32 @@ impl Sched {
     /// a larger number is a higher priority.
     pub fn new(priorities: [u8; 32]) -> Self
         requires { AllByRecursion (λ priority. priority < 32) priorities }
-        ensures new { result ≡ record { ready = []; running = None; priorities = priorities } }
+        ensures new { result ≡ record { ready = []; current = None; priorities = priorities } }
     {
         Sched {
-            lines: Lines::new(),
-            running: None,
+            ready: ReadyLists::new(),
+            current: None,
             priorities,
         }
     }
 
     /// The running task; `None` where idle runs.
     pub fn current(&self) -> Option<TaskId>
-        ensures running { option_map (λ task. task.number) result ≡ self.now.running }
+        ensures current { result ≡ self.now.current }
     {
-        self.running
+        self.current
     }
 
     /// Whether any task is Ready.
     pub fn has_ready(&self) -> bool
         ensures ready { result ≡ is_some (first_of self.now.ready) }
     {
-        self.lines.has_any()
+        self.ready.has_any()
     }
 
     /// The priority of a task, 0 to 31.
     pub fn priority(&self, task: TaskId) -> u8
-        ensures priority { result ≡ priority_in self.now.priorities task.number }
+        ensures priority { result ≡ priority_in self.now.priorities task }
         ensures known { result < 32 }
     {
         self.priorities[task.number as usize]
@@ -74,49 +73,48 @@ impl Sched {
 
     /// Whether a task is Ready.
     pub fn is_ready(&self, task: TaskId) -> bool
-        ensures ready { result ≡ is_ready self.now task.number }
+        ensures ready { result ≡ is_ready self.now task }
     {
-        self.lines.contains(task)
+        self.ready.contains(task)
     }
 
-    /// Makes a task Ready, behind the others of its priority. One that is Ready already goes there too (profile: it
-    /// is how a running task leaves the processor; FreeRTOS moves its list's index instead).
+    /// Makes a task Ready that isn't (`is_ready` tells), behind the others of its priority.
     pub fn make_ready(&mut self, task: TaskId)
-        ensures readied { self.new ≡ readied self.old task.number }
-        ensures enter { (s : State) → StandsFor self.old s → task.number < length s.tasks → StandsFor self.new (step.enter s task.number) }
+        requires free { is_ready self.old task ≡ false }
+        ensures schedule { self.new ≡ make_ready task self.old }
+        ensures stands { (s : State) → StandsFor self.old s → task < length s.tasks
+            → StandsFor self.new (switching.make_ready task s) }
+        ensures current { self.new.current ≡ self.old.current }
     {
-        let list = self.list(task);
-        self.lines.remove(task);
-        self.lines.push_back(list, task);
+        let list = self.list_of(task);
+        self.ready.push_back(list, task);
     }
 
     /// Takes a task from the Ready tasks. It stays the running one, if it is, until the next choice.
     pub fn block(&mut self, task: TaskId)
-        ensures blocked { self.new ≡ blocked self.old task.number }
+        ensures schedule { self.new ≡ block task self.old }
     {
-        self.lines.remove(task);
+        self.ready.remove(task);
     }
 
     /// Lets the choice run: the Ready task of highest priority, and of these the first; else idle.
     pub fn choose(&mut self) -> Option<TaskId>
-        ensures chosen { self.new ≡ chosen self.old }
-        ensures anew { Does self.old self.new step.anew }
-        ensures running { option_map (λ task. task.number) result ≡ self.new.running }
+        ensures schedule { self.new ≡ choose self.old }
+        ensures stands { Does self.old self.new switching.choose }
+        ensures current { result ≡ self.new.current }
     {
-        self.running = self.lines.first();
-        self.running
+        self.current = self.ready.first();
+        self.current
     }
 
     /// Sends the running task behind the others of its priority, if it is Ready, and lets the choice
     /// run (`taskYIELD`).
     pub fn yield_now(&mut self)
-        ensures yielded { self.new ≡ yielded self.old }
-        ensures leave { Does self.old self.new (λ s. step.anew (step.leave s)) }
+        ensures schedule { self.new ≡ yield_now self.old }
+        ensures stands { Does self.old self.new switching.yield_now }
     {
-        if let Some(task) = self.running {
-            if self.is_ready(task) {
-                self.make_ready(task);
-            }
+        if let Some(task) = self.current {
+            self.to_back(task);
         }
         self.choose();
     }
@@ -125,8 +123,8 @@ impl Sched {
     /// yields. Answers whether it did. A Ready task of equal priority changes nothing (profile).
     pub fn preempt(&mut self) -> bool
         ensures outranked { result ≡ is_outranked self.old }
-        ensures preempted { self.new ≡ preempted self.old }
-        ensures higher { Does self.old self.new step.higher }
+        ensures schedule { self.new ≡ preempt self.old }
+        ensures stands { Does self.old self.new switching.preempt }
     {
         let outranked = self.is_outranked();
         if outranked {
@@ -139,8 +137,8 @@ impl Sched {
     /// turn has come, at the end of a tick (`configUSE_TIME_SLICING`). Answers whether it did.
     pub fn slice(&mut self) -> bool
         ensures ended { result ≡ (is_outranked self.old || is_sharing self.old) }
-        ensures sliced { self.new ≡ sliced self.old }
-        ensures switch { Does self.old self.new step.switch }
+        ensures schedule { self.new ≡ slice self.old }
+        ensures stands { Does self.old self.new switching.slice }
     {
         let ended = self.is_outranked() || self.is_sharing();
         if ended {
@@ -149,11 +147,21 @@ impl Sched {
         ended
     }
 
+    /// Sends a task behind the others of its priority, if it is Ready (profile: FreeRTOS moves its list's index instead).
+    fn to_back(&mut self, task: TaskId)
+        ensures schedule { self.new ≡ to_back task self.old }
+    {
+        if self.is_ready(task) {
+            self.block(task);
+            self.make_ready(task);
+        }
+    }
+
     /// Whether a Ready task is above the running one.
     fn is_outranked(&self) -> bool
         ensures outranked { result ≡ is_outranked self.now }
     {
-        match (self.lines.highest(), self.running) {
+        match (self.ready.highest(), self.current) {
             (None, _) => false,
             (Some(_), None) => true,
             (Some(list), Some(task)) => (self.priority(task) as u16) < list.number,
@@ -164,15 +172,15 @@ impl Sched {
     fn is_sharing(&self) -> bool
         ensures sharing { result ≡ is_sharing self.now }
     {
-        match self.running {
+        match self.current {
             None => false,
-            Some(task) => self.lines.has_other(self.list(task), task),
+            Some(task) => self.ready.has_other(self.list_of(task), task),
         }
     }
 
-    /// The list of a task.
-    fn list(&self, task: TaskId) -> ListId
-        ensures list { result.number ≡ priority_in self.now.priorities task.number }
+    /// The list of a task's priority.
+    fn list_of(&self, task: TaskId) -> ListId
+        ensures list { result.number ≡ priority_in self.now.priorities task }
         ensures known { result.number < 32 }
     {
         ListId {

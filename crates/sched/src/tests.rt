@@ -1,6 +1,13 @@
 //! Tasks that take turns and give way.
 use crate::Sched;
 use model::TaskId;
+use std::process::Abort;
+
+/// Makes a task Ready that isn't.
+fn make_ready(rt: &impl Abort, sched: &mut Sched, task: TaskId) {
+    assert!(rt; !sched.is_ready(task), "task {} isn't Ready", task.number);
+    sched.make_ready(task);
+}
 
 #[test]
 fn tasks_take_turns_and_give_way(rt: HostRuntime) {
@@ -12,13 +19,13 @@ fn tasks_take_turns_and_give_way(rt: HostRuntime) {
         0, 0,
     ]);
     assert_eq!(rt; sched.current(), None);
-    sched.make_ready(low);
-    sched.make_ready(other);
+    make_ready(&rt, &mut sched, low);
+    make_ready(&rt, &mut sched, other);
     assert_eq!(rt; sched.choose(), Some(low));
     assert!(rt; !sched.preempt());
     assert!(rt; sched.slice());
     assert_eq!(rt; sched.current(), Some(other));
-    sched.make_ready(high);
+    make_ready(&rt, &mut sched, high);
     assert!(rt; sched.preempt());
     assert_eq!(rt; sched.current(), Some(high));
     sched.block(high);

@@ -1,8 +1,8 @@
-use Rattle.lists.proofs.Spelled.{table_is, lists_of-Spells, spells_empty, sound_view}
+use Rattle.lists.proofs.Spelled.{linked_table, lists_of-Spells, spells_empty, sound_view}
 use Rattle.lists.proofs.table.Table.new.Goals as goal
 
 pub invariant_of-result : goal.invariant_of-result
-invariant_of-result g c = table_is c.requires.lists c.requires.nodes (spells_empty g.row.L g.row.N)
+invariant_of-result g c = linked_table c.requires.lists c.requires.nodes (spells_empty g.row.L g.row.N)
 
 pub returns-clause-empty : goal.returns-clause-empty
 returns-clause-empty g c = lists_of-Spells (spells_empty g.row.L g.row.N)

@@ -1,21 +1,21 @@
 use Rattle.std.proofs.Common.{refl, sym, arith}
-use Rattle.lists.proofs.Spelled.{seen, table_is, lists_of-Spells, mark_below, around_below, take_marked, without_unmarked, sound, sound_view}
+use Rattle.lists.proofs.Spelled.{seen, linked_table, lists_of-Spells, list_below, around_below, take_placed, without_unplaced, sound, sound_view}
 use Rattle.lists.proofs.table.Table.remove.Goals as goal
 
 pub list_of-requires : goal.list_of-requires
 list_of-requires g c =
     let lists = c.self.invariant.lists_fit in
-    λ l e. omega (arith, lists, mark_below c.self.invariant.spells c.args.node.number l e)
+    λ l e. omega (arith, lists, list_below c.self.invariant.spells c.args.node.number l e)
 
 pub set_link-requires-clause-list : goal.set_link-requires-clause-list
 set_link-requires-clause-list g c =
     let ends = c.self.invariant.spells.firsts_length in
-    omega (arith, ends, mark_below c.self.invariant.spells c.args.node.number c.in-Some.list.number (sym c.in-Some.ensures.list))
+    omega (arith, ends, list_below c.self.invariant.spells c.args.node.number c.in-Some.list.number (sym c.in-Some.ensures.list))
 
 pub set_link-requires-in-Some-clause-list : goal.set_link-requires-in-Some-clause-list
 set_link-requires-in-Some-clause-list g c =
     let ends = c.self.invariant.spells.lasts_length in
-    omega (arith, ends, mark_below c.self.invariant.spells c.args.node.number c.in-Some.list.number (sym c.in-Some.ensures.list))
+    omega (arith, ends, list_below c.self.invariant.spells c.args.node.number c.in-Some.list.number (sym c.in-Some.ensures.list))
 
 pub set_link-requires-clause-at : goal.set_link-requires-clause-at
 set_link-requires-clause-at g c =
@@ -32,22 +32,22 @@ set_link-requires-in-Some-clause-at g c =
 pub invariant_of-self : goal.invariant_of-self
 invariant_of-self g c =
     rw (c.set_link.ensures.links, c.set_link.ensures.ends, c.set_link-in-Some.ensures.links, c.set_link-in-Some.ensures.ends)
-    (table_is c.self.invariant.lists_fit c.self.invariant.nodes_fit (take_marked c.self.invariant.spells c.in-Some.list.number c.args.node.number _ _ c.requires (sym c.in-Some.ensures.list) refl refl))
+    (linked_table c.self.invariant.lists_fit c.self.invariant.nodes_fit (take_placed c.self.invariant.spells c.in-Some.list.number c.args.node.number _ _ c.requires (sym c.in-Some.ensures.list) refl refl))
 
 pub returns-in-Some-clause-removed : goal.returns-in-Some-clause-removed
 returns-in-Some-clause-removed g c =
     let h = seen c.self.invariant.spells c.self.view_is in
     rw (c.set_link.ensures.links, c.set_link.ensures.ends)
-    (lists_of-Spells (take_marked h c.in-Some.list.number c.args.node.number _ _ c.requires (sym c.in-Some.ensures.list) refl refl))
+    (lists_of-Spells (take_placed h c.in-Some.list.number c.args.node.number _ _ c.requires (sym c.in-Some.ensures.list) refl refl))
 
 pub returns-in-Some-clause-sound : goal.returns-in-Some-clause-sound
 returns-in-Some-clause-sound g c =
     let h = seen c.self.invariant.spells c.self.view_is in
     rw (c.set_link.ensures.links, c.set_link.ensures.ends)
-    (sound_view (take_marked h c.in-Some.list.number c.args.node.number _ _ c.requires (sym c.in-Some.ensures.list) refl refl))
+    (sound_view (take_placed h c.in-Some.list.number c.args.node.number _ _ c.requires (sym c.in-Some.ensures.list) refl refl))
 
 pub returns-in_default-clause-removed : goal.returns-in_default-clause-removed
-returns-in_default-clause-removed g c = sym (without_unmarked (seen c.self.invariant.spells c.self.view_is) c.args.node.number (sym c.in_default.ensures.list))
+returns-in_default-clause-removed g c = sym (without_unplaced (seen c.self.invariant.spells c.self.view_is) c.args.node.number (sym c.in_default.ensures.list))
 
 pub returns-in_default-clause-sound : goal.returns-in_default-clause-sound
 returns-in_default-clause-sound g c = sound (seen c.self.invariant.spells c.self.view_is)

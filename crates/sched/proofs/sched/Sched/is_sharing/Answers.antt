@@ -1,10 +1,8 @@
-use Rattle.std.proofs.Common.{◌≡◌, Option, sym, ◌∙◌, ap, arith}
+use Rattle.std.proofs.Common.{◌≡◌, ℕ, Option, sym, ◌∙◌, ap, arith}
 use Rattle.std.specs.List.{list_any}
-use Rattle.std.specs.Option.{option_map}
-use Rattle.model.specs.declared.ids.TaskId.{TaskId}
 use Rattle.sched.specs.Schedule.{Schedule, is_beside, is_sharing, priority_in}
-use Rattle.sched.specs.Lines.{line_of}
-use Rattle.sched.proofs.Line.{any_beside, none_beside_idle}
+use Rattle.sched.specs.ReadyLists.{ready_list_of}
+use Rattle.sched.proofs.ReadyList.{any_beside, none_beside_idle}
 use Rattle.sched.proofs.sched.Sched.is_sharing.Goals as goal
 
 pub returns-in-None : goal.returns-in-None
@@ -12,21 +10,21 @@ returns-in-None c =
     let q = c.self.inside in
     record {
       sharing =
-          sym (none_beside_idle q.priorities (line_of q.lines))
-          ∙ ap (λ (o : Option TaskId). list_any (is_beside q.priorities (option_map (λ t. t.number) o)) (line_of q.lines)) (sym c.in-None.is)
+          sym (none_beside_idle q.priorities (ready_list_of q.ready))
+          ∙ ap (λ (o : Option ℕ). list_any (is_beside q.priorities o) (ready_list_of q.ready)) (sym c.in-None.is)
           ∙ ap is_sharing c.self.view_is;
     }
 
 pub returns-in-Some : goal.returns-in-Some
 returns-in-Some c =
     let q = c.self.inside in
-    let task = c.in-Some.task.number in
-    let p = c.list.result.number in
-    let home : priority_in q.priorities task ≡ p = ap (λ (s : Schedule). priority_in s.priorities task) c.self.view_is ∙ sym c.list.ensures.list in
+    let task = c.in-Some.task in
+    let p = c.list_of.result.number in
+    let home : priority_in q.priorities task ≡ p = ap (λ (s : Schedule). priority_in s.priorities task) c.self.view_is ∙ sym c.list_of.ensures.list in
     record {
       sharing =
           c.has_other.ensures.other
-          ∙ sym (any_beside q.priorities task 0 p q.lines c.self.invariant.at_home (omega (arith, home)))
-          ∙ ap (λ (o : Option TaskId). list_any (is_beside q.priorities (option_map (λ t. t.number) o)) (line_of q.lines)) (sym c.in-Some.is)
+          ∙ sym (any_beside q.priorities task 0 p q.ready c.self.invariant.at_home (omega (arith, home)))
+          ∙ ap (λ (o : Option ℕ). list_any (is_beside q.priorities o) (ready_list_of q.ready)) (sym c.in-Some.is)
           ∙ ap is_sharing c.self.view_is;
     }

@@ -1,16 +1,16 @@
-use Rattle.std.proofs.Common.{◌≡◌, sym, ◌∙◌, true, false}
-use Rattle.model.specs.Step.{is_outranked, higher}
-use Rattle.sched.proofs.Standing.{outranked_same}
+use Rattle.std.proofs.Common.{◌≡◌, rules, sym, subst}
+use Rattle.model.specs.Switching as switching
+use Rattle.sched.specs.Schedule.{Schedule, preempt}
+use Rattle.sched.specs.StandsFor.{StandsFor}
+use Rattle.sched.proofs.Standing.{stands_preempted}
 use Rattle.sched.proofs.sched.Sched.preempt.Goals as goal
 
-pub returns-then-outranked-clause-higher : goal.returns-then-outranked-clause-higher
-unfolding higher
-returns-then-outranked-clause-higher c = λ s h.
-    let t : is_outranked s ≡ true = sym (outranked_same c.args.self.now s h) ∙ sym c.is_outranked-outranked.ensures.outranked ∙ c.if-outranked.true in
-    rw t (c.yield_now.ensures.leave s h)
+pub returns-then-outranked-clause-stands : goal.returns-then-outranked-clause-stands
+returns-then-outranked-clause-stands c = λ s h.
+    let is : c.yield_now.new.self ≡ preempt c.args.self.now = search rules in
+    subst (λ (v : Schedule). StandsFor v (switching.preempt s)) (sym is) (stands_preempted c.args.self.now s h)
 
-pub returns-else-outranked-clause-higher : goal.returns-else-outranked-clause-higher
-unfolding higher
-returns-else-outranked-clause-higher c = λ s h.
-    let t : is_outranked s ≡ false = sym (outranked_same c.args.self.now s h) ∙ sym c.is_outranked-outranked.ensures.outranked ∙ c.if-outranked.false in
-    rw t h
+pub returns-else-outranked-clause-stands : goal.returns-else-outranked-clause-stands
+returns-else-outranked-clause-stands c = λ s h.
+    let is : c.args.self.now ≡ preempt c.args.self.now = search rules in
+    subst (λ (v : Schedule). StandsFor v (switching.preempt s)) (sym is) (stands_preempted c.args.self.now s h)

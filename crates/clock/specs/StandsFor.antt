@@ -1,0 +1,30 @@
+-- What a clock's timeline stands for: the time and the sleepers of a state of the definitions, whose tickets it does not
+-- have.
+use Rattle.std.specs.Prelude.{◌≡◌, ℕ, ◌+◌, ◌==◌, List, map, filter}
+use Rattle.model.specs.State.{State}
+use Rattle.model.specs.Order.{tasks_of}
+use Rattle.model.specs.Time.{due}
+use Rattle.model.specs.Invariant.{IsTable}
+use Rattle.lists.specs.Lists.{EachOnce, IsSorted}
+use Rattle.clock.specs.Timeline.{Timeline}
+
+-- the tasks that sleep until this time, in order
+abbrev pub tasks_at : ℕ → List (ℕ × ℕ) → List ℕ
+tasks_at time delayed_list = map (λ e. e.0) (filter (λ e. e.1 == time) delayed_list)
+
+-- the state at another time
+abbrev pub at_time : State → ℕ → State
+at_time s time = record s { time = time }
+
+-- the state when a tick has come, before anyone wakes
+abbrev pub at_next_tick : State → State
+at_next_tick s = record s { time = s.time + 1; elapsed = s.elapsed + 1 }
+
+-- Who sleeps until some time are those that are due when it comes, in the order in which they began.
+pub record StandsFor (t : Timeline) (s : State) : Type 0 where
+  pub now : t.now ≡ s.time
+  pub age : t.age ≡ s.elapsed
+  pub sorted : IsSorted t.delayed_list
+  pub once : EachOnce t.delayed_list
+  pub delayed : (time : ℕ) → tasks_at time t.delayed_list ≡ tasks_of (due (at_time s time))
+  pub table : IsTable s

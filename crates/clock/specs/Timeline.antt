@@ -1,0 +1,56 @@
+-- What callers see of a clock: time without bound, and who sleeps until when.
+use Rattle.std.specs.Prelude.{◌≡◌, ◌≢◌, ℕ, ◌+◌, ◌-◌, ◌^◌, ◌<◌, ◌≤◌, Bool, List, ◌++◌, map}
+use Rattle.lists.specs.Lists.{Each, IsSorted, IsSound, entries_of, has_node}
+
+pub record Timeline : Type 0 where
+  -- the time
+  pub now : ℕ
+  -- the ticks since the clock is new
+  pub age : ℕ
+  -- each sleeper with its wake time: the earliest first, and of one wake time the first to begin
+  pub delayed_list : List (ℕ × ℕ)
+
+-- The task sleeps.
+abbrev pub is_asleep : Timeline → ℕ → Bool
+is_asleep t task = has_node task t.delayed_list
+
+-- these tasks, all until one time
+abbrev pub all_until : ℕ → List ℕ → List (ℕ × ℕ)
+all_until time tasks = map (λ task. (task, time)) tasks
+
+-- One tick passes: the sleepers whose wake time has come are due, and the others sleep on.
+pub record Advances (old new : Timeline) (due : List ℕ) : Type 0 where
+  pub now : new.now ≡ old.now + 1
+  pub age : new.age ≡ old.age + 1
+  pub delayed : old.delayed_list ≡ all_until new.now due ++ new.delayed_list
+  pub later : Each (λ e. new.now < e.1) new.delayed_list
+
+-- the entries of a list, with their ticks counted from `base`
+abbrev pub count_from : ℕ → List (ℕ × ℕ) → List (ℕ × ℕ)
+count_from base entries = map (λ e. (e.0, base + e.1)) entries
+
+-- The sleepers of a clock whose turn of the 32 bits began at `base`: those of the current list wake in this turn, and
+-- those of the overflow list in the next.
+abbrev pub delayed_list_of : List (List (ℕ × ℕ)) → ℕ → ℕ → ℕ → List (ℕ × ℕ)
+delayed_list_of lists base current overflow = count_from base (entries_of lists current) ++ count_from (base + 2 ^ 32) (entries_of lists overflow)
+
+abbrev pub timeline_of : List (List (ℕ × ℕ)) → ℕ → ℕ → ℕ → ℕ → ℕ → Timeline
+timeline_of lists start base tick current overflow = record {
+  now = base + tick;
+  age = base + tick - start;
+  delayed_list = delayed_list_of lists base current overflow;
+}
+
+-- what is true of a clock between two calls: the ticks of the current list are still to come in this turn, both lists are
+-- sorted, and each of their ticks fits 32 bits
+pub record IsClock (lists : List (List (ℕ × ℕ))) (start base tick current overflow : ℕ) : Type 0 where
+  pub sound : IsSound 2 32 lists
+  pub current_known : current < 2
+  pub overflow_known : overflow < 2
+  pub differ : current ≢ overflow
+  pub started : start ≤ base + tick
+  pub ahead : Each (λ e. tick < e.1) (entries_of lists current)
+  pub fits : Each (λ e. e.1 < 2 ^ 32) (entries_of lists current)
+  pub overflow_fits : Each (λ e. e.1 < 2 ^ 32) (entries_of lists overflow)
+  pub sorted : IsSorted (entries_of lists current)
+  pub overflow_sorted : IsSorted (entries_of lists overflow)

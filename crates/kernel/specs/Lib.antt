@@ -1,4 +1,0 @@
-pub mod Loops
-pub mod Slots
-pub mod Stands
-pub mod Runs

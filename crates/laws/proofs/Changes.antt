@@ -1,0 +1,401 @@
+-- What every deed keeps of who sleeps and who has which ticket, and so every step.
+use Rattle.std.proofs.Common.{◌≡◌, ◌≢◌, ◌<◌, ◌≤◌, ◌+◌, ◌||◌, ℕ, zero, suc, true, eqb, leb, ltb, inl, inr, ◌⊎◌, List, [], ◌∷◌, map, get_or, set, Option, Some, None, refl, ap, sym, subst, ◌∙◌, arith}
+use Rattle.std.specs.List.{AllByRecursion, filter}
+use Rattle.std.specs.Option.{IfSome, option_eq}
+use Rattle.std.proofs.lemmas.Bool.{ltb-true}
+use Rattle.model.specs.declared.op.Op.{Op}
+use Rattle.model.specs.declared.op.Op.TheVariants.{Work, Delay, DelayUntil, Yield, Time, Mark, Expect, Repeat, End}
+use Rattle.model.specs.declared.event.What.TheVariants as what
+use Rattle.model.specs.declared.loops.Loop.{Loop}
+use Rattle.model.specs.Application.{Application, Definition, op_at, op_count}
+use Rattle.model.specs.State.{State, Task, Progress, Status, Ready, Asleep, Ended, ticket_of, wake_time_of, task_at, progress_at, status_at, with_task, take_ticket, for_one, for_each, no_task, printed}
+use Rattle.model.specs.Order.{Entry, Key, key, entry, keyed, tasks_of}
+use Rattle.model.specs.Switching.{make_ready, to_back, dispatch, choose, choice, is_same, is_ready, yield_now, is_outranked, is_sharing, slice, settle, is_off, write}
+use Rattle.model.specs.Time.{delayed_key, delayed_list, is_due, due, wake_due, advance, increment_tick, tick_interrupt, sleep, set_previous_wake}
+use Rattle.model.specs.Ops.{go_to, answer, use_up, delay, delay_until, expect, open_loop, turn, close_turn}
+use Rattle.model.specs.Step.{act, act_if, act_current, step, nobody_ready, ready_at_reset, reset, task_at_reset, with_ops}
+use Rattle.model.specs.Run.{state_after}
+use Rattle.model.proofs.Sorting.{by_test}
+use Rattle.model.proofs.Lists.{eqb-refl, eqb-same}
+use Rattle.model.proofs.Frames.{keeps-answer, keeps-all_ready}
+use Rattle.laws.proofs.Choice.{at_index, All-from_in_order}
+
+-- ---- what every step keeps, if five kinds of change keep it
+
+module _ (P : State → Type 0)
+    -- neither the clock's count of ticks, nor who runs, nor the steps and events matter
+    (framed : (s t : State) → t.tasks ≡ s.tasks → t.next_ticket ≡ s.next_ticket → t.time ≡ s.time → P s → P t)
+    -- a task goes on, or is Ended
+    (moved : (s : State) (i : ℕ) (t : Task) → (t.status ≡ status_at s i) ⊎ (t.status ≡ Ended) → P s → P (with_task i t s))
+    (made_ready : (s : State) (i : ℕ) → P s → P (make_ready i s))
+    (slept : (s : State) (i w : ℕ) → s.time < w → P s → P (take_ticket i (Asleep w) s))
+    -- a tick passes, and all who are due are Ready
+    (passed : (s : State) → P s → P (wake_due (record s { time = s.time + 1 }))) where
+  kept-to_back : (i : ℕ) (s : State) → P s → P (to_back i s)
+  unfolding to_back
+  kept-to_back i s h = by_test (is_ready s i) (λ t. rw t (made_ready s i h)) (λ t. rw t h)
+
+  kept-one_back : (o : Option ℕ) (s : State) → P s → P (for_one to_back o s)
+  kept-one_back None s h = h
+  kept-one_back (Some i) s h = kept-to_back i s h
+
+  kept-choose : (s : State) → P s → P (choose s)
+  unfolding choose dispatch
+  kept-choose s h = by_test (is_same (choice s) s.current) (λ t. rw t h) (λ t. rw t (framed s (write (what.Run (choice s)) (record s { current = choice s })) refl refl refl h))
+
+  kept-yield_now : (s : State) → P s → P (yield_now s)
+  unfolding yield_now
+  kept-yield_now s h = kept-choose (for_one to_back s.current s) (kept-one_back s.current s h)
+
+  kept-slice : (s : State) → P s → P (slice s)
+  unfolding slice
+  kept-slice s h = by_test (is_outranked s || is_sharing s) (λ t. rw t (kept-yield_now s h)) (λ t. rw t h)
+
+  kept-settle : (s : State) → P s → P (settle s)
+  unfolding settle
+  kept-settle s h = by_test (is_off s s.current) (λ t. rw t (kept-choose s h)) (λ t. rw t h)
+
+  kept-tick : (s : State) → P s → P (tick_interrupt s)
+  unfolding tick_interrupt increment_tick advance
+  kept-tick s h =
+      let t : State = record s { elapsed = s.elapsed + 1 } in
+      kept-slice (wake_due (record t { time = t.time + 1 })) (passed t (framed s t refl refl refl h))
+
+  kept-go_to : (app : Application) (i op_index : ℕ) (p : Progress) (s : State) → P s → P (go_to app i op_index p s)
+  unfolding go_to
+  kept-go_to app i op_index p s h = by_test (eqb op_index (op_count app i))
+      (λ t. rw t (moved s i (record (task_at s i) { progress = record p { op_index = op_index; used = 0 }; status = Ended }) (inr refl) h))
+      (λ t. rw t (moved s i (record (task_at s i) { progress = record p { op_index = op_index; used = 0 } }) (inl refl) h))
+
+  kept-answer : (app : Application) (i : ℕ) (a : Option ℕ) (s : State) → P s → P (answer app i a s)
+  unfolding answer
+  kept-answer app i a s h =
+      let p : Progress = record (progress_at s i) { answer = a } in
+      let t : State = write (what.Call i p.op_index a) s in
+      kept-go_to app i (p.op_index + 1) p t (framed s t refl refl refl h)
+
+  kept-use_up : (app : Application) (i n : ℕ) (s : State) → P s → P (use_up app i n s)
+  unfolding use_up
+  kept-use_up app i n s h = by_test (eqb ((progress_at s i).used + 1) n)
+      (λ t. rw t (kept-go_to app i ((progress_at s i).op_index + 1) (progress_at s i) s h))
+      (λ t. rw t (moved s i (record (task_at s i) { progress = record (progress_at s i) { used = (progress_at s i).used + 1 } }) (inl refl) h))
+
+  kept-sleep : (i w : ℕ) (s : State) → s.time < w → P s → P (sleep i w s)
+  unfolding sleep
+  kept-sleep i w s l h = by_test (is_ready s i) (λ t. rw t (slept s i w l h)) (λ t. rw t h)
+
+  kept-set_previous_wake : (i time : ℕ) (s : State) → P s → P (set_previous_wake i time s)
+  unfolding set_previous_wake
+  kept-set_previous_wake i time s h = moved s i (record (task_at s i) { progress = record (progress_at s i) { previous_wake = time } }) (inl refl) h
+
+  kept-delay : (app : Application) (i n : ℕ) (s : State) → P s → P (delay app i n s)
+  unfolding delay
+  kept-delay app i n s h =
+      let t : State = answer app i (Some 0) s in
+      let k : P t = kept-answer app i (Some 0) s h in
+      let now : t.time ≡ s.time = (keeps-answer app i (Some 0) s).time in
+      by_test (eqb n 0)
+      (λ q. rw q (kept-yield_now t k))
+      (λ q. let some : n ≢ 0 = (λ e. let f : eqb n 0 ≡ true = rw e refl in absurd (cc)) in rw q (kept-sleep i (s.time + n) t (omega arith) k))
+
+  kept-delay_until : (app : Application) (i w : ℕ) (s : State) → P s → P (delay_until app i w s)
+  unfolding delay_until
+  kept-delay_until app i w s h =
+      let one : State = answer app i (Some 1) s in
+      let now : one.time ≡ s.time = (keeps-answer app i (Some 1) s).time in
+      by_test (ltb s.time w)
+      (λ t. let l = ltb-true s.time w t in rw t (kept-set_previous_wake i w (sleep i w one) (kept-sleep i w one (omega arith) (kept-answer app i (Some 1) s h))))
+      (λ t. rw t (kept-set_previous_wake i w (answer app i (Some 0) s) (kept-answer app i (Some 0) s h)))
+
+  kept-expect : (app : Application) (i : ℕ) (a : Option ℕ) (s : State) → P s → P (expect app i a s)
+  unfolding expect
+  kept-expect app i a s h = by_test (option_eq eqb (progress_at s i).answer a)
+      (λ t. rw t (kept-go_to app i ((progress_at s i).op_index + 1) (progress_at s i) s h))
+      (λ t. rw t (framed s _ refl refl refl h))
+
+  kept-turn : (app : Application) (i : ℕ) (p : Progress) (ls : List Loop) (s : State) → P s → P (turn app i p ls s)
+  kept-turn app i p [] s h = kept-go_to app i (p.op_index + 1) p s h
+  kept-turn app i p (l ∷ ls) s h = by_test (leb l.left 1)
+      (λ q. rw q (kept-go_to app i (p.op_index + 1) (record p { loops = ls }) s h))
+      (λ q. rw q (kept-go_to app i l.start _ s h))
+
+  kept-act : (app : Application) (i : ℕ) (op : Op) (s : State) → P s → P (act app i op s)
+  unfolding open_loop close_turn
+  kept-act app i (Work n) s h = kept-tick (use_up app i n s) (kept-use_up app i n s h)
+  kept-act app i (Delay n) s h = kept-delay app i n s h
+  kept-act app i (DelayUntil n) s h = kept-delay_until app i ((progress_at s i).previous_wake + n) s h
+  kept-act app i Yield s h = kept-yield_now (answer app i (Some 0) s) (kept-answer app i (Some 0) s h)
+  kept-act app i Time s h = kept-answer app i (Some (printed s.time)) s h
+  kept-act app i (Mark n) s h =
+      let t : State = write (what.Mark i n) s in
+      kept-go_to app i ((progress_at s i).op_index + 1) (progress_at s i) t (framed s t refl refl refl h)
+  kept-act app i (Expect a) s h = kept-expect app i a s h
+  kept-act app i (Repeat n) s h = kept-go_to app i ((progress_at s i).op_index + 1) _ s h
+  kept-act app i End s h = kept-turn app i (progress_at s i) (progress_at s i).loops s h
+
+  kept-act_if : (app : Application) (i : ℕ) (o : Option Op) (s : State) → P s → P (act_if app i o s)
+  kept-act_if app i None s h = h
+  kept-act_if app i (Some op) s h = kept-act app i op s h
+
+  kept-act_current : (app : Application) (r : Option ℕ) (s : State) → P s → P (act_current app r s)
+  kept-act_current app None s h = kept-tick s h
+  kept-act_current app (Some i) s h = kept-act_if app i (op_at app i (progress_at s i).op_index) s h
+
+  kept-step : (app : Application) (s : State) → P s → P (step app s)
+  unfolding step
+  kept-step app s h =
+      let begun : State = record s { log = [] } in
+      let acted : State = settle (act_current app s.current begun) in
+      framed acted (record acted { steps = s.steps + 1 }) refl refl refl (kept-settle (act_current app s.current begun) (kept-act_current app s.current begun (framed s begun refl refl refl h)))
+
+  kept-all_ready : (is : List ℕ) (s : State) → P s → P (for_each make_ready is s)
+  kept-all_ready [] s h = h
+  kept-all_ready (i ∷ is) s h = kept-all_ready is (make_ready i s) (made_ready s i h)
+
+  kept-reset : (app : Application) → P (nobody_ready app) → P (reset app)
+  unfolding reset ready_at_reset
+  kept-reset app h =
+      let s : State = for_each make_ready (with_ops 0 app.tasks) (nobody_ready app) in
+      framed s (record s { current = choice s }) refl refl refl (kept-all_ready (with_ops 0 app.tasks) (nobody_ready app) h)
+
+  kept_after : (app : Application) → P (nobody_ready app) → (n : ℕ) → P (state_after app n)
+  kept_after app h zero = kept-reset app h
+  kept_after app h (suc n) = kept-step app (state_after app n) (kept_after app h n)
+
+-- ---- a change of one task
+
+one_task : (ts : List Task) (i : ℕ) (t : Task) (j : ℕ) → ((get_or (set ts i t) j no_task ≡ t) × (j ≡ i)) ⊎ (get_or (set ts i t) j no_task ≡ get_or ts j no_task)
+one_task [] i t j = inr refl
+one_task (u ∷ us) zero t zero = inl (refl, refl)
+one_task (u ∷ us) zero t (suc j) = inr refl
+one_task (u ∷ us) (suc i) t zero = inr refl
+one_task (u ∷ us) (suc i) t (suc j) = elim (one_task us i t j) [ inl e ↦ inl (e.0, ap suc e.1) | inr e ↦ inr e ]
+
+status_same : (a b : Task) → a ≡ b → a.status ≡ b.status
+status_same a b e = ap (λ (t : Task). t.status) e
+
+ended_at_reset : (start : ℕ) (ds : List Definition) (i : ℕ) → (get_or (map (task_at_reset start) ds) i no_task).status ≡ Ended
+ended_at_reset start [] i = refl
+ended_at_reset start (d ∷ ds) zero = refl
+ended_at_reset start (d ∷ ds) (suc i) = ended_at_reset start ds i
+
+-- ---- a sleeper's wake time is after now
+
+abbrev Later : ℕ → Status → Type 0
+Later now u = IfSome (wake_time_of u) (λ w. now < w)
+
+abbrev WakeLater : State → Type 0
+WakeLater s = (i : ℕ) → Later s.time (status_at s i)
+
+later-framed : (s t : State) → t.tasks ≡ s.tasks → t.next_ticket ≡ s.next_ticket → t.time ≡ s.time → WakeLater s → WakeLater t
+later-framed s t e n m h = λ i. let P : List Task → ℕ → Type 0 = λ ts time. Later time (get_or ts i no_task).status in subst (λ ts. P ts t.time) (sym e) (subst (λ time. P s.tasks time) (sym m) (h i))
+
+later-set : (s : State) (i : ℕ) (t : Task) (now : ℕ) → Later now t.status → ((j : ℕ) → Later now (status_at s j)) → (j : ℕ) → Later now (get_or (set s.tasks i t) j no_task).status
+later-set s i t now l h j = elim (one_task s.tasks i t j) [
+  | inl e ↦ subst (Later now) (sym (status_same (get_or (set s.tasks i t) j no_task) t e.0)) l
+  | inr e ↦ subst (Later now) (sym (status_same (get_or (set s.tasks i t) j no_task) (get_or s.tasks j no_task) e)) (h j)
+]
+
+later-moved : (s : State) (i : ℕ) (t : Task) → (t.status ≡ status_at s i) ⊎ (t.status ≡ Ended) → WakeLater s → WakeLater (with_task i t s)
+later-moved s i t u h = later-set s i t s.time (elim u [ inl e ↦ subst (Later s.time) (sym e) (h i) | inr e ↦ subst (Later s.time) (sym e) tt ]) h
+
+later-ready : (s : State) (i : ℕ) → WakeLater s → WakeLater (make_ready i s)
+later-ready s i h = later-set s i (record (task_at s i) { status = Ready s.next_ticket }) s.time tt h
+
+later-slept : (s : State) (i w : ℕ) → s.time < w → WakeLater s → WakeLater (take_ticket i (Asleep w) s)
+later-slept s i w l h = later-set s i (record (task_at s i) { status = Asleep w s.next_ticket }) s.time l h
+
+-- Who still sleeps when some have been made Ready is none of them, and sleeps as before.
+abbrev Spared : State → List ℕ → ℕ → State → Type 0
+Spared s is i t = (wake_time_of (status_at t i) ≡ None) ⊎ ((status_at t i ≡ status_at s i) × AllByRecursion (λ j. i ≢ j) is)
+
+spared-one : (s : State) (j : ℕ) (i : ℕ) → (wake_time_of (status_at (make_ready j s) i) ≡ None) ⊎ (status_at (make_ready j s) i ≡ status_at s i)
+spared-one s j i =
+    let t : Task = record (task_at s j) { status = Ready s.next_ticket } in
+    elim (one_task s.tasks j t i) [
+      | inl e ↦ inl (ap wake_time_of (status_same (get_or (set s.tasks j t) i no_task) t e.0))
+      | inr e ↦ inr (status_same (get_or (set s.tasks j t) i no_task) (get_or s.tasks i no_task) e)
+    ]
+
+spared : (s : State) (is : List ℕ) (i : ℕ) → Spared s is i (for_each make_ready is s)
+spared s [] i = inr (refl, tt)
+spared s (j ∷ is) i = elim (spared (make_ready j s) is i) [
+  | inl gone ↦ inl gone
+  | inr kept ↦ elim (one_task s.tasks j (record (task_at s j) { status = Ready s.next_ticket }) i) [
+    | inl e ↦ inl (ap wake_time_of (kept.0 ∙ status_same (get_or (set s.tasks j (record (task_at s j) { status = Ready s.next_ticket })) i no_task) (record (task_at s j) { status = Ready s.next_ticket }) e.0))
+    | inr e ↦ by_test (eqb i j)
+        (λ t.
+        let same : i ≡ j = eqb-same i j t in
+        elim (ready_or_absent s i) [
+          | inl r ↦ inl (ap wake_time_of kept.0 ∙ rw (← same) r)
+          | inr a ↦ inl (ap wake_time_of (kept.0 ∙ status_same (get_or (set s.tasks j (record (task_at s j) { status = Ready s.next_ticket })) i no_task) (get_or s.tasks i no_task) e) ∙ a)
+        ])
+        (λ t. inr (
+          kept.0 ∙ status_same (get_or (set s.tasks j (record (task_at s j) { status = Ready s.next_ticket })) i no_task) (get_or s.tasks i no_task) e,
+          ((λ q. let f : eqb i j ≡ true = rw q (eqb-refl j) in absurd (cc)), kept.1),
+        ))
+  ]
+] where
+  -- one who is made Ready is Ready, if there is such a task
+  ready_or_absent : (s : State) (i : ℕ) → (wake_time_of (status_at (make_ready i s) i) ≡ None) ⊎ (wake_time_of (status_at s i) ≡ None)
+  ready_or_absent s i = by_index s.tasks i (record (task_at s i) { status = Ready s.next_ticket }) refl where
+    by_index : (ts : List Task) (i : ℕ) (t : Task) → wake_time_of t.status ≡ None → (wake_time_of (get_or (set ts i t) i no_task).status ≡ None) ⊎ (wake_time_of (get_or ts i no_task).status ≡ None)
+    by_index [] i t e = inr refl
+    by_index (u ∷ us) zero t e = inl e
+    by_index (u ∷ us) (suc i) t e = by_index us i t e
+
+delayed_some : (t : Task) (u : Status) (time : ℕ) → t.status ≡ u → wake_time_of u ≡ Some time → (k : Key) × (delayed_key t ≡ Some k)
+delayed_some t (Ready n) time e v = absurd (cc)
+delayed_some t (Asleep w n) time e v = (key 0 n, ap (λ (u : Status). delayed_key (record t { status = u })) e)
+delayed_some t Ended time e v = absurd (cc)
+
+-- One who wakes now is among those who are due.
+is_due_one : (s : State) (i : ℕ) → wake_time_of (status_at s i) ≡ Some s.time → AllByRecursion (λ j. i ≢ j) (tasks_of (due s)) → ⊥
+is_due_one s i w h = let d = delayed_some (task_at s i) (status_at s i) s.time refl w in found d.0 d.1 where
+  not_due : (es : List Entry) → AllByRecursion (λ j. i ≢ j) (tasks_of (filter (is_due s) es)) → AllByRecursion (λ (e : Entry). is_due s e ≡ true → i ≢ e.task) es
+  not_due [] a = tt
+  not_due (e ∷ es) a = by_test (is_due s e)
+      (λ t. let b = rw t at a in ((λ _. b.0), not_due es b.1))
+      (λ t. let b = rw t at a in ((λ u. absurd (cc)), not_due es b))
+
+  found : (k : Key) → delayed_key (task_at s i) ≡ Some k → ⊥
+  found k e =
+      let z : 0 + i ≡ i = omega arith in
+      let all = All-from_in_order (λ (e : Entry). is_due s e ≡ true → i ≢ e.task) (keyed delayed_key 0 s.tasks) (not_due (delayed_list s) h) in
+      let one : is_due s (entry i k) ≡ true → i ≢ i = rw z at (at_index delayed_key (λ (e : Entry). is_due s e ≡ true → i ≢ e.task) 0 i k s.tasks refl e all) in
+      one (rw w (eqb-refl s.time)) refl
+
+later_up : (o : Option ℕ) (now : ℕ) → IfSome o (λ w. now < w) → (o ≡ Some (now + 1) → ⊥) → IfSome o (λ w. now + 1 < w)
+later_up None now h g = tt
+later_up (Some w) now h g = let apart : w ≢ now + 1 = (λ e. g (ap Some e)) in omega arith
+
+later-passed : (s : State) → WakeLater s → WakeLater (wake_due (record s { time = s.time + 1 }))
+unfolding wake_due
+later-passed s h i =
+    let t : State = record s { time = s.time + 1 } in
+    let is : List ℕ = tasks_of (due t) in
+    let woken : State = for_each make_ready is t in
+    let now : woken.time ≡ s.time + 1 = (keeps-all_ready is t).time in
+    let P : Option ℕ → Type 0 = λ o. IfSome o (λ w. woken.time < w) in
+    elim (spared t is i) [
+      | inl gone ↦ subst P (sym gone) tt
+      | inr kept ↦
+          let later = later_up (wake_time_of (status_at s i)) s.time (h i) (λ e. is_due_one t i e kept.1) in
+          let Q : Status → Type 0 = λ u. P (wake_time_of u) in
+          let R : ℕ → Type 0 = λ time. IfSome (wake_time_of (status_at s i)) (λ w. time < w) in
+          subst Q (sym kept.0) (subst R (sym now) later)
+    ]
+
+pub wake_later : (app : Application) (n task : ℕ) → Later (state_after app n).time (status_at (state_after app n) task)
+unfolding nobody_ready
+wake_later app n task = kept_after WakeLater later-framed later-moved later-ready later-slept later-passed app (λ i. subst (Later app.start) (sym (ended_at_reset app.start app.tasks i)) tt) n task
+
+-- ---- two tasks have two tickets
+
+abbrev Below : ℕ → Status → Type 0
+Below next u = IfSome (ticket_of u) (λ ticket. ticket < next)
+
+record TicketsApart (s : State) : Type 0 where
+  pub below : (i : ℕ) → Below s.next_ticket (status_at s i)
+  pub apart : (i j ticket : ℕ) → ticket_of (status_at s i) ≡ Some ticket → ticket_of (status_at s j) ≡ Some ticket → i ≡ j
+
+apart-framed : (s t : State) → t.tasks ≡ s.tasks → t.next_ticket ≡ s.next_ticket → t.time ≡ s.time → TicketsApart s → TicketsApart t
+apart-framed s t e n m h =
+    let at : (i : ℕ) → status_at t i ≡ status_at s i = λ i. ap (λ ts. (get_or ts i no_task).status) e in
+    record {
+      below = λ i. let P : Status → Type 0 = λ u. Below t.next_ticket u in let Q : ℕ → Type 0 = λ next. Below next (status_at s i) in subst P (sym (at i)) (subst Q (sym n) (h.below i));
+      apart = λ i j ticket a b. h.apart i j ticket (ap ticket_of (sym (at i)) ∙ a) (ap ticket_of (sym (at j)) ∙ b);
+    }
+
+below_more : (n : ℕ) (u : Status) → Below n u → Below (n + 1) u
+below_more n u h = by_option (ticket_of u) h where
+  by_option : (o : Option ℕ) → IfSome o (λ ticket. ticket < n) → IfSome o (λ ticket. ticket < n + 1)
+  by_option None h = tt
+  by_option (Some ticket) h = omega arith
+
+-- whose ticket is whose, where a task was set
+module _ (s : State) (k : ℕ) (t : Task) (h : TicketsApart s) where
+  new_at : ℕ → Status
+  new_at i = (get_or (set s.tasks k t) i no_task).status
+
+  -- the task's ticket is one that it had, or above all
+  module _ (fresh : (ticket : ℕ) → ticket_of t.status ≡ Some ticket → (ticket_of (status_at s k) ≡ Some ticket) ⊎ (s.next_ticket ≤ ticket)) where
+    not_old : (j ticket : ℕ) → s.next_ticket ≤ ticket → ticket_of (status_at s j) ≡ Some ticket → ⊥
+    not_old j ticket l e = let P : Option ℕ → Type 0 = λ o. IfSome o (λ n. n < s.next_ticket) in let b = subst P e (h.below j) in omega arith
+
+    one_new : (i j ticket : ℕ) → new_at i ≡ t.status → i ≡ k → new_at j ≡ status_at s j → ticket_of (new_at i) ≡ Some ticket → ticket_of (new_at j) ≡ Some ticket → i ≡ j
+    one_new i j ticket e same f a b =
+        let old : ticket_of (status_at s j) ≡ Some ticket = ap ticket_of (sym f) ∙ b in
+        elim (fresh ticket (ap ticket_of (sym e) ∙ a)) [
+          | inl had ↦ same ∙ h.apart k j ticket had old
+          | inr above ↦ absurd (not_old j ticket above old)
+        ]
+
+    apart-set : (i j ticket : ℕ) → ticket_of (new_at i) ≡ Some ticket → ticket_of (new_at j) ≡ Some ticket → i ≡ j
+    unfolding new_at
+    apart-set i j ticket a b = elim (one_task s.tasks k t i) [
+      | inl e ↦ elim (one_task s.tasks k t j) [
+        | inl f ↦ e.1 ∙ sym f.1
+        | inr f ↦ one_new i j ticket (status_same _ t e.0) e.1 (status_same _ _ f) a b
+      ]
+      | inr e ↦ elim (one_task s.tasks k t j) [
+        | inl f ↦ sym (one_new j i ticket (status_same _ t f.0) f.1 (status_same _ _ e) b a)
+        | inr f ↦ h.apart i j ticket (ap ticket_of (sym (status_same _ _ e)) ∙ a) (ap ticket_of (sym (status_same _ _ f)) ∙ b)
+      ]
+    ]
+
+  below-set : (next : ℕ) → Below next t.status → ((j : ℕ) → Below next (status_at s j)) → (i : ℕ) → Below next (new_at i)
+  unfolding new_at
+  below-set next l g i = elim (one_task s.tasks k t i) [
+    | inl e ↦ subst (Below next) (sym (status_same _ t e.0)) l
+    | inr e ↦ subst (Below next) (sym (status_same _ _ e)) (g i)
+  ]
+
+apart-moved : (s : State) (i : ℕ) (t : Task) → (t.status ≡ status_at s i) ⊎ (t.status ≡ Ended) → TicketsApart s → TicketsApart (with_task i t s)
+unfolding new_at
+apart-moved s i t u h = record {
+  below = below-set s i t h s.next_ticket (elim u [ inl e ↦ subst (Below s.next_ticket) (sym e) (h.below i) | inr e ↦ subst (Below s.next_ticket) (sym e) tt ]) h.below;
+  apart = apart-set s i t h (λ ticket a. elim u [
+    | inl e ↦ inl (ap ticket_of (sym e) ∙ a)
+    | inr e ↦ (let none : None ≡ Some ticket = ap ticket_of (sym e) ∙ a in absurd (cc))
+  ]);
+}
+
+apart-taken : (s : State) (i : ℕ) (f : ℕ → Status) → ticket_of (f s.next_ticket) ≡ Some s.next_ticket → TicketsApart s → TicketsApart (take_ticket i f s)
+unfolding new_at
+apart-taken s i f is h =
+    let t : Task = record (task_at s i) { status = f s.next_ticket } in
+    let P : Option ℕ → Type 0 = λ o. IfSome o (λ ticket. ticket < s.next_ticket + 1) in
+    record {
+      below = below-set s i t h (s.next_ticket + 1) (subst P (sym is) (omega arith)) (λ j. below_more s.next_ticket (status_at s j) (h.below j));
+      apart = apart-set s i t h (λ ticket a. inr (let e : Some s.next_ticket ≡ Some ticket = sym is ∙ a in let q : s.next_ticket ≡ ticket = cc in omega arith));
+    }
+
+apart-ready : (s : State) (i : ℕ) → TicketsApart s → TicketsApart (make_ready i s)
+apart-ready s i h = apart-taken s i Ready refl h
+
+apart-slept : (s : State) (i w : ℕ) → s.time < w → TicketsApart s → TicketsApart (take_ticket i (Asleep w) s)
+apart-slept s i w l h = apart-taken s i (Asleep w) refl h
+
+apart-all_ready : (is : List ℕ) (s : State) → TicketsApart s → TicketsApart (for_each make_ready is s)
+apart-all_ready [] s h = h
+apart-all_ready (i ∷ is) s h = apart-all_ready is (make_ready i s) (apart-ready s i h)
+
+apart-passed : (s : State) → TicketsApart s → TicketsApart (wake_due (record s { time = s.time + 1 }))
+unfolding wake_due
+apart-passed s h =
+    let t : State = record s { time = s.time + 1 } in
+    apart-all_ready (tasks_of (due t)) t (record { below = h.below; apart = h.apart })
+
+apart-nobody : (app : Application) → TicketsApart (nobody_ready app)
+unfolding nobody_ready
+apart-nobody app =
+    let none : (i : ℕ) → ticket_of (get_or (map (task_at_reset app.start) app.tasks) i no_task).status ≡ None = λ i. ap ticket_of (ended_at_reset app.start app.tasks i) in
+    let P : Option ℕ → Type 0 = λ o. IfSome o (λ ticket. ticket < 0) in
+    record {
+      below = λ i. subst P (sym (none i)) tt;
+      apart = λ i j ticket a b. let f = none i in absurd (let g : None ≡ Some ticket = sym f ∙ a in cc);
+    }
+
+pub tickets_apart : (app : Application) (n a b ticket : ℕ) → ticket_of (status_at (state_after app n) a) ≡ Some ticket → ticket_of (status_at (state_after app n) b) ≡ Some ticket → a ≡ b
+tickets_apart app n a b ticket = (kept_after TicketsApart apart-framed apart-moved apart-ready apart-slept apart-passed app (apart-nobody app) n).apart a b ticket

@@ -1,0 +1,161 @@
+-- Idle runs only where no task is Ready, and after a tick nobody outranks the running task.
+use Rattle.std.proofs.Common.{◌≡◌, ◌≤◌, ◌||◌, ◌+◌, ℕ, zero, suc, Bool, true, false, eqb, leb, ltb, List, [], ◌∷◌, Option, Some, None, refl, sym, subst, ◌∙◌, arith}
+use Rattle.std.specs.List.{AllByRecursion, list_any}
+use Rattle.std.specs.Option.{option_eq}
+use Rattle.std.proofs.lemmas.Bool.{le-ltb}
+use Rattle.model.specs.declared.op.Op.{Op}
+use Rattle.model.specs.declared.op.Op.TheVariants.{Work, Delay, DelayUntil, Yield, Time, Mark, Expect, Repeat, End}
+use Rattle.model.specs.declared.loops.Loop.{Loop}
+use Rattle.model.specs.Application.{Application, op_at}
+use Rattle.model.specs.State.{State, Progress, task_at, progress_at, for_one}
+use Rattle.model.specs.Order.{Entry, first, task_of}
+use Rattle.model.specs.Switching.{to_back, dispatch, choose, choice, is_same, is_ready, ready_list, ready_key, yield_now, is_above, is_outranked, is_sharing, slice, settle, is_off}
+use Rattle.model.specs.Time.{increment_tick, tick_interrupt, sleep, set_previous_wake}
+use Rattle.model.specs.Ops.{go_to, answer, use_up, delay, delay_until, expect, open_loop, turn, close_turn}
+use Rattle.model.specs.Step.{act, act_if, act_current, step, ready_at_reset, reset}
+use Rattle.model.specs.Run.{state_after}
+use Rattle.model.proofs.Sorting.{by_test, Falls, Falls-in_order, IsAfter}
+use Rattle.model.proofs.Lists.{HasKey, list_has}
+use Rattle.model.proofs.Settled.{same_eq}
+use Rattle.model.specs.Order.{keyed}
+use Rattle.laws.specs.Choice.{IsChoice}
+use Rattle.laws.proofs.Choice.{choice_is, key_is, none_ready}
+
+abbrev IdleAlone : State → Type 0
+IdleAlone s = s.current ≡ None → (i : ℕ) → is_ready s i ≡ false
+
+chosen_none : (s : State) → choice s ≡ None → (i : ℕ) → is_ready s i ≡ false
+chosen_none s e = subst (IsChoice s) e (choice_is s)
+
+idle-choose : (s : State) → IdleAlone (choose s)
+unfolding choose dispatch
+idle-choose s = by_test (is_same (choice s) s.current)
+    (λ t. rw t (λ e. chosen_none s (same_eq (choice s) s.current t ∙ e)))
+    (λ t. rw t (λ e. chosen_none s e))
+
+idle-yield_now : (s : State) → IdleAlone (yield_now s)
+unfolding yield_now
+idle-yield_now s = idle-choose (for_one to_back s.current s)
+
+any_true : (es : List Entry) → list_any (λ (e : Entry). true) es ≡ false → es ≡ []
+any_true [] t = refl
+any_true (e ∷ es) t = absurd (cc)
+
+or_false : (a b : Bool) → (a || b) ≡ false → a ≡ false
+or_false false b t = refl
+or_false true b t = absurd (cc)
+
+idle_below : (s : State) → is_outranked s ≡ false → IdleAlone s
+idle_below s t e = let P : Option ℕ → Type 0 = λ r. list_any (is_above s r) (ready_list s) ≡ false in none_ready s (any_true (ready_list s) (subst P e t))
+
+idle-slice : (s : State) → IdleAlone (slice s)
+unfolding slice
+idle-slice s = by_test (is_outranked s || is_sharing s)
+    (λ t. rw t (idle-yield_now s))
+    (λ t. rw t (idle_below s (or_false (is_outranked s) (is_sharing s) t)))
+
+idle-tick : (s : State) → IdleAlone (tick_interrupt s)
+unfolding tick_interrupt
+idle-tick s = idle-slice (increment_tick s)
+
+idle-settle : (s : State) → IdleAlone s → IdleAlone (settle s)
+unfolding settle
+idle-settle s h = by_test (is_off s s.current) (λ t. rw t (idle-choose s)) (λ t. rw t h)
+
+-- ---- ops after which the same task runs
+
+current-sleep : (i w : ℕ) (s : State) → (sleep i w s).current ≡ s.current
+unfolding sleep
+current-sleep i w s = by_test (is_ready s i) (λ t. rw t refl) (λ t. rw t refl)
+
+current-delay_until : (app : Application) (i w : ℕ) (s : State) → (delay_until app i w s).current ≡ s.current
+unfolding delay_until set_previous_wake answer go_to
+current-delay_until app i w s = by_test (ltb s.time w) (λ t. rw t (current-sleep i w (answer app i (Some 1) s))) (λ t. rw t refl)
+
+current-expect : (app : Application) (i : ℕ) (a : Option ℕ) (s : State) → (expect app i a s).current ≡ s.current
+unfolding expect go_to
+current-expect app i a s = by_test (option_eq eqb (progress_at s i).answer a) (λ t. rw t refl) (λ t. rw t refl)
+
+current-turn : (app : Application) (i : ℕ) (p : Progress) (ls : List Loop) (s : State) → (turn app i p ls s).current ≡ s.current
+unfolding go_to
+current-turn app i p [] s = refl
+current-turn app i p (l ∷ ls) s = by_test (leb l.left 1) (λ q. rw q refl) (λ q. rw q refl)
+
+still_runs : (i : ℕ) (s t : State) → s.current ≡ Some i → t.current ≡ s.current → IdleAlone t
+still_runs i s t r e = λ n. absurd (let f : Some i ≡ None = sym r ∙ sym e ∙ n in cc)
+
+idle-delay : (app : Application) (i n : ℕ) (s : State) → s.current ≡ Some i → IdleAlone (delay app i n s)
+unfolding delay answer go_to
+idle-delay app i n s r = by_test (eqb n 0)
+    (λ t. rw t (idle-yield_now (answer app i (Some 0) s)))
+    (λ t. rw t (still_runs i s (sleep i (s.time + n) (answer app i (Some 0) s)) r (current-sleep i (s.time + n) (answer app i (Some 0) s))))
+
+idle-act : (app : Application) (i : ℕ) (op : Op) (s : State) → s.current ≡ Some i → IdleAlone (act app i op s)
+unfolding answer go_to open_loop close_turn
+idle-act app i (Work n) s r = idle-tick (use_up app i n s)
+idle-act app i (Delay n) s r = idle-delay app i n s r
+idle-act app i (DelayUntil n) s r = still_runs i s (delay_until app i ((progress_at s i).previous_wake + n) s) r (current-delay_until app i ((progress_at s i).previous_wake + n) s)
+idle-act app i Yield s r = idle-yield_now (answer app i (Some 0) s)
+idle-act app i Time s r = still_runs i s (act app i Time s) r refl
+idle-act app i (Mark n) s r = still_runs i s (act app i (Mark n) s) r refl
+idle-act app i (Expect a) s r = still_runs i s (expect app i a s) r (current-expect app i a s)
+idle-act app i (Repeat n) s r = still_runs i s (open_loop app i n s) r refl
+idle-act app i End s r = still_runs i s (close_turn app i s) r (current-turn app i (progress_at s i) (progress_at s i).loops s)
+
+idle-act_if : (app : Application) (i : ℕ) (o : Option Op) (s : State) → s.current ≡ Some i → IdleAlone (act_if app i o s)
+idle-act_if app i None s r = still_runs i s s r refl
+idle-act_if app i (Some op) s r = idle-act app i op s r
+
+idle-act_current : (app : Application) (r : Option ℕ) (s : State) → s.current ≡ r → IdleAlone (act_current app r s)
+idle-act_current app None s e = idle-tick s
+idle-act_current app (Some i) s e = idle-act_if app i (op_at app i (progress_at s i).op_index) s e
+
+idle-step : (app : Application) (s : State) → IdleAlone (step app s)
+unfolding step
+idle-step app s = idle-settle (act_current app s.current (record s { log = [] })) (idle-act_current app s.current (record s { log = [] }) refl)
+
+idle-reset : (app : Application) → IdleAlone (reset app)
+unfolding reset
+idle-reset app = λ e. chosen_none (ready_at_reset app) e
+
+idle_all : (app : Application) (n : ℕ) → IdleAlone (state_after app n)
+idle_all app zero = idle-reset app
+idle_all app (suc n) = idle-step app (state_after app n)
+
+pub idle_after : (app : Application) (n task : ℕ) → (state_after app n).current ≡ None → is_ready (state_after app n) task ≡ false
+idle_after app n task e = idle_all app n e task
+
+-- ---- after a tick
+
+none_above : (s : State) (c : ℕ) (es : List Entry) → AllByRecursion (λ (e : Entry). e.key.priority ≤ (task_at s c).priority) es → list_any (is_above s (Some c)) es ≡ false
+none_above s c [] h = refl
+none_above s c (e ∷ es) h = rw (le-ltb (task_at s c).priority e.key.priority h.0) (none_above s c es h.1)
+
+after_first : (s : State) (e : Entry) (p : ℕ) → e.key.priority ≡ p → (es : List Entry) → AllByRecursion (λ (f : Entry). IsAfter f.key e.key) es → AllByRecursion (λ (f : Entry). f.key.priority ≤ p) es
+after_first s e p is [] h = tt
+after_first s e p is (f ∷ es) h = (let low = h.0.low in omega arith, after_first s e p is es h.1)
+
+by_list : (s : State) (es : List Entry) → AllByRecursion (HasKey ready_key s.tasks) es → Falls es → list_any (is_above s (task_of (first es))) es ≡ false
+by_list s [] h f = refl
+by_list s (e ∷ es) h f =
+    let is = key_is (task_at s e.task).priority (task_at s e.task).status e.key h.0.key in
+    none_above s e.task (e ∷ es) (let same = is.1 in omega arith, after_first s e (task_at s e.task).priority is.1 es f.0)
+
+chosen_top : (s : State) → list_any (is_above s (choice s)) (ready_list s) ≡ false
+chosen_top s = by_list s (ready_list s) (list_has ready_key s.tasks) (Falls-in_order (keyed ready_key 0 s.tasks))
+
+top-choose : (s : State) → is_outranked (choose s) ≡ false
+unfolding choose dispatch
+top-choose s = by_test (is_same (choice s) s.current)
+    (λ t. let P : Option ℕ → Type 0 = λ r. list_any (is_above s r) (ready_list s) ≡ false in rw t (subst P (same_eq (choice s) s.current t) (chosen_top s)))
+    (λ t. rw t (chosen_top s))
+
+top-slice : (s : State) → is_outranked (slice s) ≡ false
+unfolding slice yield_now
+top-slice s = by_test (is_outranked s || is_sharing s)
+    (λ t. rw t (top-choose (for_one to_back s.current s)))
+    (λ t. rw t (or_false (is_outranked s) (is_sharing s) t))
+
+pub not_outranked-tick : (s : State) → is_outranked (tick_interrupt s) ≡ false
+unfolding tick_interrupt
+not_outranked-tick s = top-slice (increment_tick s)

@@ -1,0 +1,5 @@
+pub mod Choice
+pub mod ExampleRuns
+pub mod OneRun
+pub mod Idle
+pub mod Changes

@@ -1,0 +1,5 @@
+use Rattle.model.proofs.Reached.{reached_after}
+use Rattle.laws.proofs.states.states_are_sound.Goals as goal
+
+pub returns : goal.returns
+returns c = reached_after

@@ -1,0 +1,151 @@
+-- Worked examples: applications, and what their runs come to.
+use Rattle.std.specs.Prelude.{ℕ, List, [], ◌∷◌, Some, None, codes}
+use Rattle.model.specs.declared.op.Op.{Op}
+use Rattle.model.specs.declared.op.Op.TheVariants.{Work, Delay, DelayUntil, Yield, Time, Mark, Expect, Repeat, End as EndLoop}
+use Rattle.model.specs.declared.event.What.{What}
+use Rattle.model.specs.declared.event.What.TheVariants as what
+use Rattle.model.specs.declared.event.Event.{Event}
+use Rattle.model.specs.declared.event.End.TheVariants.{Pass, Check}
+use Rattle.model.specs.Application.{Application, Definition, Limits}
+use Rattle.model.specs.Run.{Run, IsRun}
+
+-- ---- words
+
+-- limits that no example comes to
+abbrev pub wide : Limits
+wide = record { ticks = 1000000; steps = 1000000 }
+
+-- a task of priority 1
+abbrev pub a_task : List ℕ → List Op → Definition
+a_task name script = record { name = name; priority = 1; script = script }
+
+-- an application that starts at this time
+abbrev pub the_application : ℕ → List Definition → Application
+the_application start tasks = record { start = start; limits = wide; tasks = tasks }
+
+-- the first task
+abbrev pub a : ℕ
+a = 0
+
+-- the second task
+abbrev pub b : ℕ
+b = 1
+
+-- an event of this step, at this printed tick
+abbrev pub event_at : ℕ → ℕ → What → Event
+event_at step tick w = record { step = step; tick = tick; what = w }
+
+-- the op of this index is complete, and answered with this number
+abbrev pub call : ℕ → ℕ → ℕ → What
+call task op_index answer = what.Call task op_index (Some answer)
+
+-- the processor goes to this task
+abbrev pub runs : ℕ → What
+runs task = what.Run (Some task)
+
+-- the processor goes to idle
+abbrev pub idles : What
+idles = what.Run None
+
+-- an application, and what its run comes to
+pub record Example : Type 0 where
+  pub app : Application
+  pub run : Run
+
+-- The application's run comes to that.
+abbrev pub Runs : Example → Type 0
+Runs e = IsRun e.app e.app.limits e.run
+
+-- ---- the table
+
+-- two tasks of one priority compute, and take turns tick by tick
+abbrev pub round_robin : Example
+round_robin = record {
+  app = the_application 0 (a_task (codes "a") (Work 3 ∷ []) ∷ a_task (codes "b") (Work 3 ∷ []) ∷ []);
+  run = record {
+    events =
+        event_at 0 1 (runs b) ∷ event_at 1 2 (runs a) ∷ event_at 2 3 (runs b)
+        ∷ event_at 3 4 (runs a) ∷ event_at 4 5 (runs b) ∷ event_at 5 6 idles ∷ [];
+    steps = 6;
+    ticks = 6;
+    end = Pass;
+  };
+}
+
+-- `delay 0` yields to an equal, and doesn't sleep
+abbrev pub delay_zero : Example
+delay_zero = record {
+  app = the_application 0 (a_task (codes "a") (Delay 0 ∷ Mark 1 ∷ []) ∷ a_task (codes "b") (Mark 2 ∷ []) ∷ []);
+  run = record {
+    events =
+        event_at 0 0 (call a 0 0) ∷ event_at 0 0 (runs b) ∷ event_at 1 0 (what.Mark b 2)
+        ∷ event_at 1 0 (runs a) ∷ event_at 2 0 (what.Mark a 1) ∷ event_at 2 0 idles ∷ [];
+    steps = 3;
+    ticks = 0;
+    end = Pass;
+  };
+}
+
+-- `delay 1` sleeps until the next tick
+abbrev pub delay_one : Example
+delay_one = record {
+  app = the_application 0 (a_task (codes "a") (Delay 1 ∷ Mark 1 ∷ []) ∷ a_task (codes "b") (Mark 2 ∷ []) ∷ []);
+  run = record {
+    events =
+        event_at 0 0 (call a 0 0) ∷ event_at 0 0 (runs b) ∷ event_at 1 0 (what.Mark b 2) ∷ event_at 1 0 idles
+        ∷ event_at 2 1 (runs a) ∷ event_at 3 1 (what.Mark a 1) ∷ event_at 3 1 idles ∷ [];
+    steps = 4;
+    ticks = 1;
+    end = Pass;
+  };
+}
+
+-- two who sleep until one time, which lies past the wrap of the tick, wake in the order in which they began
+abbrev pub across_the_wrap : Example
+across_the_wrap = record {
+  app = the_application 4294967294 (
+      a_task (codes "a") (Yield ∷ Work 1 ∷ Delay 2 ∷ Mark 1 ∷ []) ∷ a_task (codes "b") (Delay 3 ∷ Mark 2 ∷ []) ∷ []);
+  run = record {
+    events =
+        event_at 0 4294967294 (call a 0 0) ∷ event_at 0 4294967294 (runs b)
+        ∷ event_at 1 4294967294 (call b 0 0) ∷ event_at 1 4294967294 (runs a)
+        ∷ event_at 3 4294967295 (call a 2 0) ∷ event_at 3 4294967295 idles
+        ∷ event_at 5 1 (runs b) ∷ event_at 6 1 (what.Mark b 2) ∷ event_at 6 1 (runs a)
+        ∷ event_at 7 1 (what.Mark a 1) ∷ event_at 7 1 idles ∷ [];
+    steps = 8;
+    ticks = 3;
+    end = Pass;
+  };
+}
+
+-- `delay_until` goes on where its time has come, and else sleeps; the next one counts from that time
+abbrev pub periodic : Example
+periodic = record {
+  app = the_application 0 (a_task (codes "a") (Work 3 ∷ DelayUntil 2 ∷ DelayUntil 2 ∷ Time ∷ []) ∷ []);
+  run = record {
+    events =
+        event_at 3 3 (call a 1 0) ∷ event_at 4 3 (call a 2 1) ∷ event_at 4 3 idles
+        ∷ event_at 5 4 (runs a) ∷ event_at 6 4 (call a 3 4) ∷ event_at 6 4 idles ∷ [];
+    steps = 7;
+    ticks = 4;
+    end = Pass;
+  };
+}
+
+-- a loop of two turns is three steps
+abbrev pub two_turns : Example
+two_turns = record {
+  app = the_application 0 (a_task (codes "a") (Repeat 2 ∷ EndLoop ∷ []) ∷ []);
+  run = record { events = event_at 2 0 idles ∷ []; steps = 3; ticks = 0; end = Pass };
+}
+
+-- a failed `expect` ends the run
+abbrev pub failed_expect : Example
+failed_expect = record {
+  app = the_application 0 (a_task (codes "a") (Time ∷ Expect (Some 1) ∷ []) ∷ []);
+  run = record { events = event_at 0 0 (call a 0 0) ∷ []; steps = 2; ticks = 0; end = Check a 1 };
+}
+
+-- all of them
+abbrev pub examples : List Example
+examples = round_robin ∷ delay_zero ∷ delay_one ∷ across_the_wrap ∷ periodic ∷ two_turns ∷ failed_expect ∷ []

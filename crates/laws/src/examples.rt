@@ -1,0 +1,9 @@
+//! Worked examples.
+ghost use Rattle.std.specs.List.{AllByRecursion};
+ghost use Rattle.laws.specs.Examples.{examples, Runs};
+
+/// Each application of the table of worked examples runs as the table says: round robin, `delay 0` that yields, `delay 1`
+/// that sleeps, sleepers of one time past the wrap of the tick.
+pub fn examples_run()
+    ensures { AllByRecursion Runs examples }
+{}

@@ -1,6 +1,0 @@
-use Rattle.std.proofs.Common.{◌∙◌}
-use Rattle.sched.proofs.Line.{first_where_any}
-use Rattle.sched.proofs.lines.Lines.has_any.Goals as goal
-
-pub returns : goal.returns
-returns c = record { any = c.is_some.ensures ∙ first_where_any c.args.self.now c.highest.result c.highest.ensures.highest }

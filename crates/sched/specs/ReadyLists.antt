@@ -1,0 +1,39 @@
+-- How lists of tasks, one for each priority (`pxReadyTasksLists`), spell the Ready tasks in order.
+use Rattle.std.specs.Prelude.{◌≡◌, ◌≢◌, ℕ, suc, ◌<◌, List, [], ◌∷◌, ◌++◌, Option, Some, None}
+use Rattle.std.specs.Int.{bit_at}
+use Rattle.lists.specs.Lists.{Each, IsSound, entries_of}
+use Rattle.sched.specs.Schedule.{Schedule, priority_in}
+
+-- the tasks of all lists, those of the last list first
+abbrev pub ready_list_of : List (List (ℕ × ℕ)) → List (ℕ × ℕ)
+ready_list_of [] = []
+ready_list_of (entries ∷ lists) = ready_list_of lists ++ entries
+
+-- the highest list that is not empty, if there is one
+abbrev pub IsHighest : List (List (ℕ × ℕ)) → Option ℕ → Type 0
+IsHighest lists None = (p : ℕ) → entries_of lists p ≡ []
+IsHighest lists (Some list) = (list < 32) × (entries_of lists list ≢ []) × ((p : ℕ) → list < p → entries_of lists p ≡ [])
+
+-- the bit of a list: 1 where it is not empty
+abbrev pub bit_of : List (ℕ × ℕ) → ℕ
+bit_of [] = 0
+bit_of (e ∷ entries) = 1
+
+-- lists, and a word with a bit for each (`uxTopReadyPriority`)
+pub record AreReadyLists (lists : List (List (ℕ × ℕ))) (occupied : ℕ) : Type 0 where
+  pub sound : IsSound 32 32 lists
+  pub bits : (list : ℕ) → list < 32 → bit_at occupied list ≡ bit_of (entries_of lists list)
+
+-- each value is the number of its list, where the first list is that of `priority`
+abbrev pub AtHome : ℕ → List (List (ℕ × ℕ)) → Type 0
+AtHome priority [] = Unit {0}
+AtHome priority (entries ∷ lists) = Each (λ e. e.1 ≡ priority) entries × AtHome (suc priority) lists
+
+-- what is true of a scheduler between two calls
+pub record IsSched (lists : List (List (ℕ × ℕ))) (priorities : List ℕ) : Type 0 where
+  pub sound : IsSound 32 32 lists
+  pub at_home : AtHome 0 lists
+  pub known : (task : ℕ) → priority_in priorities task < 32
+
+abbrev pub schedule_of : List (List (ℕ × ℕ)) → Option ℕ → List ℕ → Schedule
+schedule_of lists current priorities = record { ready = ready_list_of lists; current = current; priorities = priorities }

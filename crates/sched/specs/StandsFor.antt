@@ -1,0 +1,22 @@
+-- What a schedule stands for: a state of the definitions, whose tickets it does not have.
+use Rattle.std.specs.Prelude.{◌≡◌, ℕ, List, map}
+use Rattle.model.specs.State.{State, task_at}
+use Rattle.model.specs.Order.{Entry}
+use Rattle.model.specs.Switching.{ready_list}
+use Rattle.model.specs.Invariant.{IsTable}
+use Rattle.sched.specs.Schedule.{Schedule, priority_in}
+
+-- the tasks of a list with their priorities
+abbrev pub with_priorities : List Entry → List (ℕ × ℕ)
+with_priorities es = map (λ (e : Entry). (e.task, e.key.priority)) es
+
+-- The schedule's Ready tasks are those of the ready list in order, it runs who runs, and the priorities are the tasks'.
+pub record StandsFor (v : Schedule) (s : State) : Type 0 where
+  pub ready : v.ready ≡ with_priorities (ready_list s)
+  pub current : v.current ≡ s.current
+  pub priorities : (task : ℕ) → priority_in v.priorities task ≡ (task_at s task).priority
+  pub table : IsTable s
+
+-- For every state that the old schedule stands for, the new one stands for what the deed makes of it.
+abbrev pub Does : Schedule → Schedule → (State → State) → Type 0
+Does old new deed = (s : State) → StandsFor old s → StandsFor new (deed s)

@@ -1,0 +1,114 @@
+//! The Ready tasks: a list for each priority.
+ghost use Rattle.std.specs.Prelude.{◌≡◌, ℕ, ◌<◌, ◌==◌, not, List, [], ◌∷◌, ◌++◌, map, option_map, replicate, slice_set, None};
+ghost use Rattle.std.specs.List.{list_any};
+ghost use Rattle.std.specs.Option.{is_some};
+ghost use Rattle.lists.specs.Lists.{entries_of, first_of, place_of, without, IsSound};
+ghost use Rattle.sched.specs.ReadyLists.{ready_list_of, IsHighest};
+
+use lists::ListId;
+use model::TaskId;
+use std::marker::Model;
+use task_lists::TaskLists;
+
+/// A list of tasks for each priority. Bit `p` of `occupied` says that the list of priority `p` is not
+/// empty.
+#[derive(Drop)]
+pub(crate) struct ReadyLists {
+    lists: TaskLists<32>,
+    occupied: u32,
+}
+
+// Clauses see the lists, each task with its priority as the value.
+impl Model for ReadyLists {
+    ghost use Rattle.std.specs.Prelude.{ℕ, List};
+    ghost use Rattle.sched.specs.ReadyLists.{AreReadyLists};
+
+    ghost Value = { List (List (ℕ × ℕ)) };
+
+    ghost view = { λ r. r.lists };
+
+    ghost invariant = { λ r. AreReadyLists r.lists r.occupied };
+}
+
+impl ReadyLists {
+    pub(crate) fn new() -> Self
+        ensures empty { result ≡ replicate 32 [] }
+        ensures sound { IsSound 32 32 result }
+    {
+        ReadyLists {
+            lists: TaskLists::new(),
+            occupied: 0,
+        }
+    }
+
+    /// The highest list that is not empty.
+    pub(crate) fn highest(&self) -> Option<ListId>
+        ensures highest { IsHighest self.now (option_map (λ list. list.number) result) }
+    {
+        if self.occupied == 0 {
+            return None;
+        }
+        Some(ListId {
+            number: 31 - self.occupied.leading_zeros() as u16,
+        })
+    }
+
+    /// Whether any list has a task.
+    pub(crate) fn has_any(&self) -> bool
+        ensures any { result ≡ is_some (first_of (ready_list_of self.now)) }
+    {
+        self.highest().is_some()
+    }
+
+    /// The first task of the highest list that is not empty.
+    pub(crate) fn first(&self) -> Option<TaskId>
+        ensures first { result ≡ first_of (ready_list_of self.now) }
+    {
+        let list = self.highest()?;
+        self.lists.first(list)
+    }
+
+    /// Whether a task is in a list.
+    pub(crate) fn contains(&self, task: TaskId) -> bool
+        ensures contains { result ≡ is_some (place_of self.now task) }
+        ensures sound { IsSound 32 32 self.now }
+    {
+        self.lists.contains(task)
+    }
+
+    /// Whether a list has another task than this one.
+    pub(crate) fn has_other(&self, list: ListId, task: TaskId) -> bool
+        requires { list.number < 32 }
+        ensures other { result ≡ list_any (λ e. not (e.0 == task)) (entries_of self.now list.number) }
+    {
+        match self.lists.first(list) {
+            None => false,
+            Some(first) => first != task || self.lists.next(first).is_some(),
+        }
+    }
+
+    /// Puts a task last into the list of its priority.
+    pub(crate) fn push_back(&mut self, list: ListId, task: TaskId)
+        requires list { list.number < 32 }
+        requires free { place_of self.old task ≡ None }
+        ensures put { self.new ≡ slice_set self.old list.number
+            (entries_of self.old list.number ++ (task, list.number) ∷ []) }
+        ensures sound { IsSound 32 32 self.new }
+    {
+        self.lists.push_back(list, task, list.number as u32);
+        self.occupied |= 1 << list.number;
+    }
+
+    /// Takes a task out of its list, if it is in one.
+    pub(crate) fn remove(&mut self, task: TaskId)
+        ensures removed { self.new ≡ map (without task) self.old }
+        ensures sound { IsSound 32 32 self.new }
+    {
+        if let Some(list) = self.lists.list_of(task) {
+            self.lists.remove(task);
+            if self.lists.is_empty(list) {
+                self.occupied &= !(1 << list.number);
+            }
+        }
+    }
+}

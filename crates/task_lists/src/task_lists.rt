@@ -1,0 +1,157 @@
+//! Lists of tasks, by their typed numbers.
+ghost use Rattle.std.specs.Prelude.{◌≡◌, ℕ, ◌<◌, ◌≤◌, ◌↔◌, List, [], ◌∷◌, ◌++◌, replicate, slice_set, map, option_map, IsTrue, IsNone};
+ghost use Rattle.std.specs.Option.{ForSome, is_some};
+ghost use Rattle.lists.specs.Lists.{entries_of, first_of, has_node, insert_sorted, next_of, place_of, value_of, without, IsSound};
+
+use lists::{ListId, NodeId, Table};
+use model::TaskId;
+use std::marker::Model;
+
+/// `L` lists of tasks, where `L` is 4096 at most. A task is in one list at most, and there once, with a value. In every
+/// call the list is one below `L`.
+///
+/// These are the lists of FreeRTOS's kernel, whose entries are of a task and `xItemValue`.
+#[derive(Drop)]
+pub struct TaskLists<const L: usize> {
+    table: Table<L, 32>,
+}
+
+// Clauses see for each list its tasks in order, each with its value.
+impl<const L: usize> Model for TaskLists<L> {
+    ghost use Rattle.std.specs.Prelude.{ℕ, List};
+
+    ghost Value = { List (List (ℕ × ℕ)) };
+
+    ghost view = { λ t. t.table };
+}
+
+/// The node of a task.
+#[inline]
+fn node_of(task: TaskId) -> NodeId
+    ensures node { result.number ≡ task }
+    ensures known { result.number < 32 }
+{
+    NodeId {
+        number: task.number as u16,
+    }
+}
+
+/// The task of a node.
+#[inline]
+fn task_of(node: Option<NodeId>) -> Option<TaskId>
+    requires { ForSome (option_map (λ node. node.number) node) (λ node. node < 32) }
+    ensures task { result ≡ option_map (λ node. node.number) node }
+{
+    match node {
+        None => None,
+        Some(node) => Some(TaskId {
+            number: node.number as u8,
+        }),
+    }
+}
+
+impl<const L: usize> TaskLists<L> {
+    /// `L` empty lists, where `L` is 4096 at most.
+    #[inline]
+    pub fn new() -> Self
+        requires lists { L ≤ 4096 }
+        ensures empty { result ≡ replicate L [] }
+        ensures sound { IsSound L 32 result }
+    {
+        TaskLists {
+            table: Table::new(),
+        }
+    }
+
+    /// The first task of a list; `None` where the list is empty.
+    #[inline]
+    pub fn first(&self, list: ListId) -> Option<TaskId>
+        requires { list.number < L }
+        ensures first { result ≡ first_of (entries_of self.now list.number) }
+        ensures sound { IsSound L 32 self.now }
+    {
+        task_of(self.table.first(list))
+    }
+
+    /// The task after this one in its list; `None` after the last, and for a task in no list.
+    #[inline]
+    pub fn next(&self, task: TaskId) -> Option<TaskId>
+        ensures next { (list : ℕ) → IsTrue (has_node task (entries_of self.now list))
+            → result ≡ next_of task (entries_of self.now list) }
+        ensures outside { place_of self.now task ≡ None → IsNone result }
+        ensures sound { IsSound L 32 self.now }
+    {
+        task_of(self.table.next(node_of(task)))
+    }
+
+    /// The list that a task is in; `None` where it is in no list.
+    #[inline]
+    pub fn list_of(&self, task: TaskId) -> Option<ListId>
+        ensures list { option_map (λ list. list.number) result ≡ place_of self.now task }
+        ensures sound { IsSound L 32 self.now }
+    {
+        self.table.place(node_of(task))
+    }
+
+    /// The value with which a task was put into its list, 0 to 4294967295. Of a task in no list, any number.
+    #[inline]
+    pub fn value(&self, task: TaskId) -> u32
+        ensures value { (list : ℕ) → IsTrue (has_node task (entries_of self.now list))
+            → result ≡ value_of task (entries_of self.now list) }
+        ensures sound { IsSound L 32 self.now }
+    {
+        self.table.value(node_of(task))
+    }
+
+    /// Whether a list has no task.
+    #[inline]
+    pub fn is_empty(&self, list: ListId) -> bool
+        requires { list.number < L }
+        ensures empty { IsTrue result ↔ (entries_of self.now list.number ≡ []) }
+    {
+        self.table.is_empty(list)
+    }
+
+    /// Whether a task is in a list.
+    #[inline]
+    pub fn contains(&self, task: TaskId) -> bool
+        ensures contains { result ≡ is_some (place_of self.now task) }
+        ensures sound { IsSound L 32 self.now }
+    {
+        self.list_of(task).is_some()
+    }
+
+    /// Puts a task that is in no list (`contains` tells) last into a list, with a value of 0 to 4294967295.
+    #[inline]
+    pub fn push_back(&mut self, list: ListId, task: TaskId, value: u32)
+        requires list { list.number < L }
+        requires free { place_of self.old task ≡ None }
+        ensures put { self.new ≡ slice_set self.old list.number
+            (entries_of self.old list.number ++ (task, value) ∷ []) }
+        ensures sound { IsSound L 32 self.new }
+    {
+        self.table.push_back(list, node_of(task), value);
+    }
+
+    /// Puts a task that is in no list (`contains` tells) into a list, with a value of 0 to 4294967295: before the first
+    /// one of a greater value, or last where there is none.
+    #[inline]
+    pub fn insert_sorted(&mut self, list: ListId, task: TaskId, value: u32)
+        requires list { list.number < L }
+        requires free { place_of self.old task ≡ None }
+        ensures put { self.new ≡ slice_set self.old list.number
+            (insert_sorted (task, value) (entries_of self.old list.number)) }
+        ensures sound { IsSound L 32 self.new }
+    {
+        self.table.insert_sorted(list, node_of(task), value);
+    }
+
+    /// Takes a task out of its list. One that is in no list stays so. The other entries keep their order.
+    #[inline]
+    pub fn remove(&mut self, task: TaskId)
+        ensures removed { self.new ≡ map (without task) self.old }
+        ensures sound { IsSound L 32 self.new }
+    {
+        self.table.remove(node_of(task));
+    }
+}
