@@ -1,5 +1,9 @@
 //! What is done for the words of the command line.
 ghost use Rattle.std.specs.Prelude.{◌≡◌, false};
+ghost use Rattle.clap.specs.Words.{kind_of};
+ghost use Rattle.jobs.specs.Acting.{Tells};
+ghost use Rattle.jobs.specs.Obeying.{Answers, Obeys, ShownTells, shown_status};
+ghost use Rattle.jobs.specs.Words.{texts_of};
 
 use crate::acting::{open_and_act, refuse};
 use crate::serve::ServeFault;
@@ -14,11 +18,27 @@ use std::rt::Files;
 fn show<W: Sink, F: Sink>(text: &str, writer: &mut W, faults: &mut F) -> u8
     requires writes { W.has_failed writer.old ≡ false }
     requires tells { F.has_failed faults.old ≡ false }
+    ensures writes { Tells (W.held writer.old) (W.held writer.new) (W.has_failed writer.new)
+        text.now }
+    ensures tells { ShownTells (W.has_failed writer.new)
+        (F.held faults.old) (F.held faults.new) (F.has_failed faults.new) }
+    ensures status { result ≡ shown_status (W.has_failed writer.new) }
 {
     match put_all(writer, text.as_bytes()) {
         Ok(()) => 0,
         Err(WriteFault) => refuse(faults, "", ServeFault::Write),
     }
+}
+
+// Tells why the words are refused. That the text can't be put changes nothing of the status.
+fn refuse_words<F: Sink>(text: &str, faults: &mut F) -> u8
+    requires { F.has_failed faults.old ≡ false }
+    ensures tells { Tells (F.held faults.old) (F.held faults.new) (F.has_failed faults.new)
+        text.now }
+    ensures status { result ≡ 2 }
+{
+    let _ = put_all(faults, text.as_bytes());
+    2
 }
 
 /// Ends a call whose words name no job: help and the version are written, any other text of `clap` is told.
@@ -30,19 +50,20 @@ pub fn conclude_error<W: Sink, F: Sink>(
 ) -> u8
     requires writes { W.has_failed writer.old ≡ false }
     requires tells { F.has_failed faults.old ≡ false }
+    ensures { Answers (kind_of error.now)
+        (W.held writer.old) (W.held writer.new) (W.has_failed writer.new)
+        (F.held faults.old) (F.held faults.new) (F.has_failed faults.new) result }
 {
+    if error.kind() == ErrorKind::OutOfMemory {
+        return refuse(faults, "", ServeFault::Memory);
+    }
     let Ok(text) = error.to_string(alloc) else {
         return refuse(faults, "", ServeFault::Memory);
     };
-    match error.kind() {
-        ErrorKind::OutOfMemory => refuse(faults, "", ServeFault::Memory),
-        ErrorKind::DisplayHelp | ErrorKind::DisplayVersion => {
-            show(text.as_str(), writer, faults)
-        }
-        _ => {
-            let _ = put_all(faults, text.as_bytes());
-            2
-        }
+    if error.use_stderr() {
+        refuse_words(text.as_str(), faults)
+    } else {
+        show(text.as_str(), writer, faults)
     }
 }
 
@@ -56,6 +77,9 @@ pub fn obey<S: Files, W: Sink, F: Sink>(
 ) -> u8
     requires writes { W.has_failed writer.old ≡ false }
     requires tells { F.has_failed faults.old ≡ false }
+    ensures { Obeys (texts_of words.entry.now)
+        (W.held writer.old) (W.held writer.new) (W.has_failed writer.new)
+        (F.held faults.old) (F.held faults.new) (F.has_failed faults.new) result }
 {
     match job_named(alloc, words) {
         Ok(job) => open_and_act(alloc, files, &job, writer, faults),

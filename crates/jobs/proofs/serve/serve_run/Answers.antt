@@ -19,7 +19,7 @@ returns-in_err-write_run g c =
     let app = c.in_ok-app.app in
     let run = c.in_ok-run.run' in
     let is : IsReportOf file.0 (run_text app run) run.end =
-        record { app = app; file = file.2; run = run; runs = c.in_ok-run.ensures; ends = refl; text = refl } in
+    record { app = app; file = file.2; run = run; runs = c.in_ok-run.ensures; ends = refl; text = refl } in
     let told : c.from_residual-in_err-write_run.result ≡ Err Write = search rules in
     rw told
     (serves_front _ _ _ _ _ file.0 _ _ file.1 is c.in_err-write_run.ensures.text c.in_ok-app.ensures.read c.in_err-write_run.ensures.failed)
