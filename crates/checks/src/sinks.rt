@@ -17,12 +17,9 @@ pub(crate) struct Holder {
 }
 
 impl Holder {
-    ghost use Rattle.std.specs.Prelude.{◌≡◌, false};
-    ghost use Rattle.checks.specs.Sinks.{holder_failed};
-
     /// A sink with so much room, which a polite one tells by taking nothing.
     pub(crate) fn new(alloc: Global, at_once: usize, room: usize, is_polite: bool) -> Self
-        ensures { holder_failed result ≡ false }
+        ensures { result.failed ≡ false }
     {
         Holder {
             bytes: Vec::new(alloc),
@@ -35,7 +32,7 @@ impl Holder {
 
     /// A sink with ample room.
     pub(crate) fn wide(alloc: Global, at_once: usize) -> Self
-        ensures { holder_failed result ≡ false }
+        ensures { result.failed ≡ false }
     {
         Holder::new(alloc, at_once, usize::MAX, true)
     }
@@ -48,11 +45,10 @@ impl Holder {
 
 impl Sink for Holder {
     ghost use Rattle.std.specs.Prelude.{Some};
-    ghost use Rattle.checks.specs.Sinks.{holder_failed};
 
     ghost held = { λ s. Some s.bytes.items };
 
-    ghost has_failed = { holder_failed };
+    ghost has_failed = { λ s. s.failed };
 
     fn put(&mut self, bytes: &[u8]) -> Result<usize, Failed> {
         let count = bytes.len().min(self.at_once).min(self.room);
@@ -76,11 +72,8 @@ pub(crate) struct Breaking {
 }
 
 impl Breaking {
-    ghost use Rattle.std.specs.Prelude.{◌≡◌, false};
-    ghost use Rattle.checks.specs.Sinks.{breaking_failed};
-
     pub(crate) fn new(text: &'static [u8], calls: u32) -> Self
-        ensures { breaking_failed result ≡ false }
+        ensures { result.failed ≡ false }
     {
         Breaking {
             text,
@@ -92,11 +85,10 @@ impl Breaking {
 
 impl Source for Breaking {
     ghost use Rattle.std.specs.Prelude.{None};
-    ghost use Rattle.checks.specs.Sinks.{breaking_failed};
 
     ghost left = { λ s. None };
 
-    ghost has_failed = { breaking_failed };
+    ghost has_failed = { λ s. s.failed };
 
     fn pull(&mut self, buffer: &mut [u8]) -> Result<usize, Failed> {
         let count = self.text.len();

@@ -135,10 +135,11 @@ impl SlowKernel {
             };
             let key = (task.priority, ticket);
             if best.is_none_or(|(_, other)| Self::is_before(key, other)) {
-                best = Some((TaskId { number }, key));
+                best = Some((number, key));
             }
         }
-        best.map(|(task, _)| task)
+        let (number, _) = best?;
+        TaskId::new(number)
     }
 
     /// The choice runs.
@@ -187,13 +188,18 @@ impl SlowKernel {
     fn first_due(&self) -> Option<TaskId> {
         let mut best = None;
         for number in 0..32 {
-            if let Status::Asleep { wake_time, ticket } = self.task(TaskId { number }).status {
-                if wake_time == self.time && best.is_none_or(|(_, other)| ticket < other) {
-                    best = Some((TaskId { number }, ticket));
-                }
+            let Status::Asleep { wake_time, ticket } = self.task(TaskId { number }).status else {
+                continue;
+            };
+            if wake_time != self.time {
+                continue;
+            }
+            if best.is_none_or(|(_, other)| ticket < other) {
+                best = Some((number, ticket));
             }
         }
-        best.map(|(task, _)| task)
+        let (number, _) = best?;
+        TaskId::new(number)
     }
 
     fn wake_due(&mut self) {

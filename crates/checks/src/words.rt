@@ -42,8 +42,7 @@ fn words_that_name_a_job(rt: HostRuntime) {
     assert!(rt; answer(rt.alloc(), &["rtosim", "run", "-"]) == Ok("-"));
 }
 
-const HELP: &str = "\
-Simulates the scheduling of a FreeRTOS-style kernel, step by step
+const HELP: &str = r"Simulates the scheduling of a FreeRTOS-style kernel, step by step
 
 Usage: rtosim <COMMAND>
 
@@ -64,8 +63,7 @@ Exit status:
   5  the trace can't be written
 ";
 
-const HELP_OF_RUN: &str = "\
-Runs an application from reset to its end, and writes the trace
+const HELP_OF_RUN: &str = r"Runs an application from reset to its end, and writes the trace
 
 Usage: rtosim run <FILE>
 
@@ -121,8 +119,7 @@ const CASES: [Case; 8] = [
         kind: ErrorKind::MissingSubcommand,
         status: 2,
         written: "",
-        told: "\
-error: 'rtosim' requires a subcommand but one was not provided
+        told: r"error: 'rtosim' requires a subcommand but one was not provided
   [subcommands: run, help]
 
 Usage: rtosim <COMMAND>
@@ -135,8 +132,7 @@ For more information, try '--help'.
         kind: ErrorKind::InvalidSubcommand,
         status: 2,
         written: "",
-        told: "\
-error: unrecognized subcommand 'fly'
+        told: r"error: unrecognized subcommand 'fly'
 
 Usage: rtosim <COMMAND>
 
@@ -148,8 +144,7 @@ For more information, try '--help'.
         kind: ErrorKind::MissingRequiredArgument,
         status: 2,
         written: "",
-        told: "\
-error: the following required arguments were not provided:
+        told: r"error: the following required arguments were not provided:
   <FILE>
 
 Usage: rtosim run <FILE>
@@ -162,8 +157,7 @@ For more information, try '--help'.
         kind: ErrorKind::UnknownArgument,
         status: 2,
         written: "",
-        told: "\
-error: unexpected argument 'b' found
+        told: r"error: unexpected argument 'b' found
 
 Usage: rtosim run <FILE>
 
@@ -175,8 +169,7 @@ For more information, try '--help'.
         kind: ErrorKind::UnknownArgument,
         status: 2,
         written: "",
-        told: "\
-error: unexpected argument '--at' found
+        told: r"error: unexpected argument '--at' found
 
   tip: to pass '--at' as a value, use '-- --at'
 
