@@ -17,7 +17,8 @@ CutAt text n = (others : List Word) × (slice_split is_space text ≡ take n tex
 abbrev Cut : List ℕ → Type 0
 Cut text = CutAt text (position_or_len is_space text)
 
-one_more : (b : ℕ) (bs : List ℕ) → is_space b ≡ false → suc (position_or_len is_space bs) ≡ position_or_len is_space (b ∷ bs)
+one_more : (b : ℕ) (bs : List ℕ) → is_space b ≡ false
+    → suc (position_or_len is_space bs) ≡ position_or_len is_space (b ∷ bs)
 one_more b bs e = rw e (omega arith)
 
 cut-cons : (t : Bool) (b : ℕ) (bs : List ℕ) → is_space b ≡ t → Cut bs → Cut (b ∷ bs)
@@ -26,7 +27,8 @@ cut-cons true b bs e c =
     let same = slice_split-cons_yes is_space b bs e in
     subst (CutAt (b ∷ bs)) none (slice_split is_space bs, same, sym (ap (filter is_word) same))
 cut-cons false b bs e c =
-    let first : slice_split is_space (b ∷ bs) ≡ (b ∷ take (position_or_len is_space bs) bs) ∷ c.0 = rw e (ap (onto_first b) c.1) in
+    let w : Word = b ∷ take (position_or_len is_space bs) bs in
+    let first : slice_split is_space (b ∷ bs) ≡ w ∷ c.0 = rw e (ap (onto_first b) c.1) in
     subst (CutAt (b ∷ bs)) (one_more b bs e) (c.0, first, c.2)
 
 cut : (text : List ℕ) → Cut text
@@ -39,7 +41,8 @@ kept (b ∷ bs) ws some = refl
 
 -- where a word stands first
 pub first_word : (text : List ℕ) → 0 < position_or_len is_space text
-    → words_of text ≡ take (position_or_len is_space text) text ∷ words_of (drop (position_or_len is_space text) text)
+    → words_of text
+    ≡ take (position_or_len is_space text) text ∷ words_of (drop (position_or_len is_space text) text)
 first_word text some =
     let f = cut text in
     let w : Word = take (position_or_len is_space text) text in
@@ -47,6 +50,7 @@ first_word text some =
     ap (filter is_word) f.1 ∙ (kept w f.0 long ∙ ap (λ ws. w ∷ ws) f.2)
 
 -- where a word stands first, or nothing
-pub no_words : (text : List ℕ) → (text ≡ []) ⊎ (0 < position_or_len is_space text) → words_of text ≡ [] → text ≡ []
+pub no_words : (text : List ℕ) → (text ≡ []) ⊎ (0 < position_or_len is_space text)
+    → words_of text ≡ [] → text ≡ []
 no_words text (inl none) e = none
 no_words text (inr some) e = let first = first_word text some in cc

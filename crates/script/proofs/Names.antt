@@ -94,7 +94,8 @@ array_differs : (array : Option Items) → section_array_fault array ≡ None
 array_differs None none = cc
 array_differs (Some ds) none = entries_differ ds none
 
-section_differs : (value : Option Data) → section_fault value ≡ None → Distinct (names_of (section_named value))
+section_differs : (value : Option Data) → section_fault value ≡ None
+    → Distinct (names_of (section_named value))
 section_differs None none = cc
 section_differs (Some d) none = array_differs (as_array d) none
 
@@ -104,7 +105,8 @@ with_ops_names : (tasks : List Raw) → map (λ (d : Definition). d.name) (map w
 with_ops_names [] = refl
 with_ops_names (t ∷ ts) = ap (λ names. t.name ∷ names) (with_ops_names ts)
 
-pub names_differ : (document : Members) → load_fault document ≡ None → HasDistinctNames (app_named document)
+pub names_differ : (document : Members) → load_fault document ≡ None
+    → HasDistinctNames (app_named document)
 names_differ document none =
     let start = optional_fault (at_section section.Start) 0 4294967295 (get_member (codes "start") document) in
     let limits = limits_fault (get_member (codes "limits") document) in

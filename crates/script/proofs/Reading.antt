@@ -10,14 +10,17 @@ use Rattle.model.specs.Application.{word_of}
 use Rattle.model.specs.Scripts.{is_in_range, InRange}
 use Rattle.script.specs.Grammar.{Word, Form, Done, Number, Answer, forms, number_of, answer_of, Writes, WritesBy, Spells, take_by, read, form_word, read_by, if_in_range, op_of}
 
-chosen : {X : Type 0} (b : Bool) (x y z : X) → cond b x y ≡ z → ((b ≡ true) × (x ≡ z)) ⊎ ((b ≡ false) × (y ≡ z))
+-- which branch of a test it was
+chosen : {X : Type 0} (b : Bool) (x y z : X) → cond b x y ≡ z
+    → ((b ≡ true) × (x ≡ z)) ⊎ ((b ≡ false) × (y ≡ z))
 chosen true x y z e = inl (refl, e)
 chosen false x y z e = inr (refl, e)
 
 -- ---- a step of the reading
 
 taken : {X : Type 0} (o : Option X) (ws : List Word) (next : X × List Word → Option Op) (op : Op)
-    → option_and_then next (option_map (λ x. (x, ws)) o) ≡ Some op → (x : X) × (o ≡ Some x) × (next (x, ws) ≡ Some op)
+    → option_and_then next (option_map (λ x. (x, ws)) o) ≡ Some op
+    → (x : X) × (o ≡ Some x) × (next (x, ws) ≡ Some op)
 taken None ws next op e = cc
 taken (Some x) ws next op e = (x, refl, e)
 
@@ -51,7 +54,8 @@ HasWord w (Number next) = (n : ℕ) → HasWord w (next n)
 HasWord w (Answer next) = (a : Option ℕ) → HasWord w (next a)
 
 -- where it makes an op, this is of its word
-word_written : (w : Word) (form : Form) (ws : List Word) (op : Op) → HasWord w form → Writes form ws op → word_of op ≡ w
+word_written : (w : Word) (form : Form) (ws : List Word) (op : Op)
+    → HasWord w form → Writes form ws op → word_of op ≡ w
 word_written w (Done made) [] op has h = subst (λ (o : Op). word_of o ≡ w) h has
 word_written w (Done made) (v ∷ ws) op has h = absurd h
 word_written w (Number next) [] op has h = absurd h
@@ -98,12 +102,12 @@ other_word (form ∷ others) own v ws op differ (inl h) =
 other_word (form ∷ others) own v ws op differ (inr h) =
     other_word others own.1 v ws op (and_parts (differs_from v form) _ differ).1 h
 
-by_complete : (fs : List Form) → AllByRecursion HasOwnWord fs → are_distinct fs ≡ true → (ws : List Word) (op : Op)
-    → WritesBy fs ws op → read_by fs (word_of op) ws ≡ Some op
+by_complete : (fs : List Form) → AllByRecursion HasOwnWord fs → are_distinct fs ≡ true
+    → (ws : List Word) (op : Op) → WritesBy fs ws op → read_by fs (word_of op) ws ≡ Some op
 by_complete [] own distinct ws op h = absurd h
 by_complete (form ∷ others) own distinct ws op (inl h) =
     let named : bytes_eq (word_of op) (form_word form) ≡ true =
-        (bytes_eq-Decides (word_of op) (form_word form)).1 (word_written (form_word form) form ws op own.0 h) in
+    (bytes_eq-Decides (word_of op) (form_word form)).1 (word_written (form_word form) form ws op own.0 h) in
     rw named (read_complete form ws op h)
 by_complete (form ∷ others) own distinct ws op (inr h) =
     let parts = and_parts (list_all (differs_from (form_word form)) others) (are_distinct others) distinct in

@@ -59,7 +59,8 @@ key_words k = option_to_list (option_map key_word k)
 
 -- the section, the index of the entry, the key, and the index inside the key's array, as far as they apply
 abbrev pub place_words : Place → List (List ℕ)
-place_words p = section_word p.section ∷ (index_words p.entry ++ (key_words p.key ++ index_words p.index))
+place_words p =
+    section_word p.section ∷ (index_words p.entry ++ (key_words p.key ++ index_words p.index))
 
 -- the text of one of these words
 abbrev pub word_text : PlaceWord → List ℕ

@@ -31,7 +31,8 @@ is_number w = nat_lt 0 (length w) && (nat_le (length w) 10 && list_all is_ascii_
 
 -- the number that a word writes, where it is one of 32 bits
 abbrev pub number_of : Word → Option ℕ
-number_of w = if is_number w && nat_le (digits_value 10 w) 4294967295 then Some (digits_value 10 w) else None
+number_of w =
+    if is_number w && nat_le (digits_value 10 w) 4294967295 then Some (digits_value 10 w) else None
 
 -- the answer that a word writes: a number, or that there is none
 abbrev pub answer_of : Word → Option (Option ℕ)
@@ -39,7 +40,8 @@ answer_of w = if bytes_eq w (codes "none") then Some None else option_map Some (
 
 -- ---- the grammar
 
--- How an op's text goes on after its own word: it is over, or a word writes a number or an answer, and with this it goes on.
+-- How an op's text goes on after its own word: it is over, or a word writes a number or an answer, and with this it goes
+-- on.
 pub data Form : Type 0 where
   Done : (op : Op) → Form
   Number : (next : ℕ → Form) → Form
@@ -99,7 +101,8 @@ form_word (Answer next) = form_word (next None)
 -- the same by the first of these forms whose word it is
 abbrev pub read_by : List Form → Word → List Word → Option Op
 read_by [] w ws = None
-read_by (form ∷ others) w ws = if bytes_eq w (form_word form) then read form ws else read_by others w ws
+read_by (form ∷ others) w ws =
+    if bytes_eq w (form_word form) then read form ws else read_by others w ws
 
 -- the op, where its numbers are in their ranges
 abbrev pub if_in_range : Op → Option Op

@@ -12,7 +12,8 @@ is_name_byte b = is_ascii_alphanumeric b || b == 95
 -- at least one of these and not too many, the first of them a letter (profile)
 abbrev pub is_name : List ℕ → Bool
 is_name [] = false
-is_name (b ∷ bs) = nat_le (length (b ∷ bs)) most_name_bytes && (is_ascii_alphabetic b && list_all is_name_byte (b ∷ bs))
+is_name (b ∷ bs) =
+    nat_le (length (b ∷ bs)) most_name_bytes && (is_ascii_alphabetic b && list_all is_name_byte (b ∷ bs))
 
 -- the names of the tasks, in their order
 abbrev pub task_names : Application → List (List ℕ)

@@ -17,7 +17,8 @@ use std::alloc::Global;
 use toml::{Table, Value};
 
 fn limits(value: Option<&Value>) -> Result<Limits, LoadFault>
-    ensures { Judges result (limits_fault (data_of value.entry)) (limits_named (data_of value.entry)) }
+    ensures { Judges result
+        (limits_fault (data_of value.entry)) (limits_named (data_of value.entry)) }
 {
     let Some(value) = value else {
         return Ok(Limits {
@@ -43,10 +44,11 @@ pub trait FromDocument: Sized {
     // What a document names in which no check fails.
     ghost named_by: { Members → Self };
 
-    /// What the document names, or the fault of the first of its checks that fails, whatever memory is left; `Memory` only
-    /// where no check fails.
+    /// What the document names, or the fault of the first of its checks that fails, whatever memory is left;
+    /// `Memory` only where no check fails.
     fn from_document(alloc: Global, document: &Table) -> Result<Self, LoadFault>
-        ensures { Loads result (fault_in (table_view document.now)) (named_by (table_view document.now)) };
+        ensures { Loads result
+            (fault_in (table_view document.now)) (named_by (table_view document.now)) };
 }
 
 impl FromDocument for App {

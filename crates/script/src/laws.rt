@@ -6,5 +6,6 @@ ghost use Rattle.script.specs.Names.{HasDistinctNames};
 
 /// In a document that is taken, each task has a name of its own.
 pub fn names_differ()
-    ensures { (document : Members) → load_fault document ≡ None → HasDistinctNames (app_named document) }
+    ensures { (document : Members)
+        → load_fault document ≡ None → HasDistinctNames (app_named document) }
 {}

@@ -25,6 +25,8 @@ pub(crate) fn is_name(text: &str) -> bool
     let bytes = text.as_bytes();
     match bytes {
         [] => false,
-        [first, ..] => bytes.len() <= MOST_BYTES && first.is_ascii_alphabetic() && are_name_bytes(bytes),
+        [first, ..] => bytes.len() <= MOST_BYTES
+            && first.is_ascii_alphabetic()
+            && are_name_bytes(bytes),
     }
 }

@@ -16,7 +16,9 @@ fn is(word: &[u8], name: &str) -> bool
 
 // The op of this word, whose arguments are the next words.
 fn op_after(word: &[u8], words: &mut Words<'_>) -> Option<Op>
-    ensures { MatchOption result (option_and_then if_in_range (read_by forms word.now words.old) ≡ None)
+    // What is still to be read is whether the text ends here; a number past what the code can hold is out of range.
+    ensures { MatchOption result
+        (option_and_then if_in_range (read_by forms word.now words.old) ≡ None)
         (λ op. read_by forms word.now words.old ≡ read (Done op) words.new) }
 {
     if is(word, "work") {

@@ -35,8 +35,7 @@ fn nesting_with(nesting: u8, value: &Value, place: Place) -> Result<u8, LoadFaul
     let Some(op) = op_in(value) else {
         return Err(LoadFault::BadOp(place));
     };
-    op.nesting_past(nesting)
-        .ok_or(LoadFault::BadNesting(place))
+    op.nesting_past(nesting).ok_or(LoadFault::BadNesting(place))
 }
 
 // Checks the ops that these texts spell.
@@ -75,8 +74,10 @@ pub(crate) fn check_scripts(tasks: &[RawTask<'_>]) -> Result<(), LoadFault>
 // Appends the op that a value spells.
 fn push_op(builder: &mut ScriptBuilder, value: &Value, place: Place) -> Result<(), LoadFault>
     requires { length builder.old < most_ops }
-    ensures checks { Loads result (op_fault place (nesting_after 0 builder.old) (op_named (view value.now))) tt }
-    ensures pushed { OnOk result (builder.new ≡ builder.old ++ option_to_list (op_named (view value.now))) }
+    ensures checks { Loads result
+        (op_fault place (nesting_after 0 builder.old) (op_named (view value.now))) tt }
+    ensures pushed { OnOk result
+        (builder.new ≡ builder.old ++ option_to_list (op_named (view value.now))) }
     ensures nesting { OnOk result (nesting_after 0 builder.new
         ≡ nesting_with (nesting_after 0 builder.old) (op_named (view value.now))) }
     ensures count { OnOk result (length builder.new ≡ length builder.old + 1) }
@@ -95,7 +96,8 @@ fn push_op(builder: &mut ScriptBuilder, value: &Value, place: Place) -> Result<(
 fn script_of(alloc: Global, texts: &[Value], place: Place) -> Result<Script, LoadFault>
     requires few { length texts.now ≤ most_ops }
     requires checked { ops_fault place 0 0 (items_view texts.now) ≡ None }
-    ensures checks { Loads result (ops_fault place 0 0 (items_view texts.now)) (ops_named (items_view texts.now)) }
+    ensures checks { Loads result
+        (ops_fault place 0 0 (items_view texts.now)) (ops_named (items_view texts.now)) }
     ensures script { IfOk result IsScript }
 {
     let mut builder = ScriptBuilder::new(alloc);

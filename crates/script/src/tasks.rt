@@ -66,7 +66,8 @@ fn script(value: Option<&Value>, most: usize, place: Place) -> Result<&[Value], 
 // The task at this index, after tasks of these names.
 fn task<'a>(value: &'a Value, entry: usize, names: &[&str]) -> Result<RawTask<'a>, LoadFault>
     ensures { JudgesBy raw_view result
-        (task_fault (map (λ n. n.now) names.now) entry (view value.now)) (task_named (view value.now)) }
+        (task_fault (map (λ n. n.now) names.now) entry (view value.now))
+        (task_named (view value.now)) }
 {
     let Some(table) = value.as_table() else {
         return Err(LoadFault::WrongKind(Place::entry(Section::Task, entry)));

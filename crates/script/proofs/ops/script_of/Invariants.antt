@@ -6,7 +6,8 @@ use Rattle.script.proofs.ops.script_of.Given as goal
 
 abbrev pub invariant-loop-index : goal.invariant-loop-index
 invariant-loop-index l = record {
-  checks : ops_fault l.place 0 0 (items_view l.texts) ≡ ops_fault l.place l.index (nesting_after 0 l.builder) (items_view (drop l.index l.texts));
+  checks : ops_fault l.place 0 0 (items_view l.texts)
+      ≡ ops_fault l.place l.index (nesting_after 0 l.builder) (items_view (drop l.index l.texts));
   named : ops_named (items_view l.texts) ≡ l.builder ++ ops_named (items_view (drop l.index l.texts));
   count : length l.builder ≡ l.index;
 }

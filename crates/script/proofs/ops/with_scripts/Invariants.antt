@@ -7,8 +7,10 @@ use Rattle.script.proofs.ops.with_scripts.Given as goal
 
 abbrev pub invariant-loop-entry : goal.invariant-loop-entry
 invariant-loop-entry l = record {
-  checks : scripts_fault 0 (map raw_view l.tasks) ≡ scripts_fault l.entry (map raw_view (drop l.entry l.tasks));
-  named : map with_ops (map raw_view l.tasks) ≡ l.definitions.items ++ map with_ops (map raw_view (drop l.entry l.tasks));
+  checks : scripts_fault 0 (map raw_view l.tasks)
+      ≡ scripts_fault l.entry (map raw_view (drop l.entry l.tasks));
+  named : map with_ops (map raw_view l.tasks)
+      ≡ l.definitions.items ++ map with_ops (map raw_view (drop l.entry l.tasks));
   formed : AllByRecursion IsDefinition l.definitions.items;
   count : length l.definitions.items ≡ l.entry;
 }
