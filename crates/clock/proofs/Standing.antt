@@ -11,7 +11,7 @@ use Rattle.model.specs.Switching.{is_ready, make_ready}
 use Rattle.model.specs.Time.{advance, delayed_key, due, increment_tick, sleep, wake_due}
 use Rattle.model.specs.Invariant.{AllTicketsBelow, IsTable}
 use Rattle.model.proofs.Sorting.{IsAfterEntry, by_test, put_last}
-use Rattle.model.proofs.Lists.{HasKey, eqb-refl, eqb-same, filter-without, list-entered, list-gone, list-kept, list_below, list_has, list_without, other}
+use Rattle.model.proofs.Lists.{HasKey, eqb-refl, filter-without, list-entered, list-gone, list-kept, list_below, list_has, list_without, other}
 use Rattle.model.proofs.Members.{has_task, has_task-key}
 use Rattle.model.proofs.Tables.{below_delayed, table-make_ready, table-taken}
 use Rattle.lists.specs.Lists.{Each, EachOnce, IsSorted, has_node, insert_sorted, without}

@@ -86,9 +86,7 @@ impl Clock {
     pub fn mark(&self) -> Mark
         ensures mark { result.moment ≡ self.now.now }
     {
-        Mark {
-            moment: self.now(),
-        }
+        Mark { moment: self.now() }
     }
 
     /// The ticks since a mark of this clock, or 4294967295 where there are more (profile). The mark
@@ -128,6 +126,7 @@ impl Clock {
         ensures age { self.new.age ≡ self.old.age }
         ensures delayed { self.new.delayed_list
             ≡ insert_sorted (task, self.old.now + ticks) self.old.delayed_list }
+        // For a task that is Ready, this is the definitions' `sleep`.
         ensures stands { (s : State) → StandsFor self.old s → task < length s.tasks
             → IsTrue (switching.is_ready s task)
             → StandsFor self.new (time.sleep task (s.time + ticks) s) }
@@ -155,9 +154,12 @@ impl Clock {
     pub fn advance(&mut self) -> Due
         requires { self.old.age < 2 ^ 62 }
         ensures advances { Advances self.old self.new result.items }
+        // They are those whom the definitions have due then.
         ensures due { (s : State) → StandsFor self.old s
             → result.items ≡ tasks_of (time.due (at_next_tick s)) }
-        ensures woken { (s : State) → StandsFor self.old s → StandsFor self.new (time.increment_tick s) }
+        // Once they are Ready too, the tick has come.
+        ensures woken { (s : State) → StandsFor self.old s
+            → StandsFor self.new (time.increment_tick s) }
     {
         if self.tick == u32::MAX {
             self.tick = 0;

@@ -17,6 +17,7 @@ pub(crate) fn take_due(lists: &mut TaskLists<2>, list: ListId, tick: u32) -> Due
     requires sound { IsSound 2 32 lists.old }
     requires sorted { IsSorted (entries_of lists.old list.number) }
     requires ahead { Each (λ e. tick ≤ e.1) (entries_of lists.old list.number) }
+    // What is taken and what is left are the list as it was.
     ensures due { entries_of lists.old list.number
         ≡ all_until tick result.items ++ entries_of lists.new list.number }
     ensures later { Each (λ e. tick < e.1) (entries_of lists.new list.number) }

@@ -1,106 +1,99 @@
 //! The kernel at reset.
-ghost use Rattle.std.specs.Prelude.{◌≡◌, ◌<◌, ◌≤◌, if◌then◌else◌, ℕ, length, map, fold, false, slice_index_or};
+ghost use Rattle.std.specs.Prelude.{◌≡◌, ◌<◌, ◌≤◌, if◌then◌else◌, ℕ, length, map, false, slice_index_or};
 ghost use Rattle.std.specs.List.{AllByRecursion};
-ghost use Rattle.model.specs.State.{State, no_task, task_at};
-ghost use Rattle.model.specs.Step.{reset, before_entry, task_at_reset, with_ops, enter};
-ghost use Rattle.model.specs.Run.{is_asleep};
+ghost use Rattle.model.specs.State.{State, no_task, no_progress, status_at, for_each};
+ghost use Rattle.model.specs.Switching.{make_ready};
+ghost use Rattle.model.specs.Step.{reset, nobody_ready, task_at_reset, with_ops};
 ghost use Rattle.model.specs.Scripts.{IsDefinition};
-ghost use Rattle.sched.specs.Schedule.{priority_in};
-ghost use Rattle.kernel.specs.Slots.{seen, bare};
-ghost use Rattle.kernel.specs.Stands.{Stands, At, Written, AllAwake, slot_in, priorities_in};
+ghost use Rattle.sched.specs.Schedule.{priority_in, is_ready};
+ghost use Rattle.sched.specs.StandsFor.{StandsFor as ScheduleStandsFor};
+ghost use Rattle.kernel.specs.StandsFor.{StandsFor, progress_in};
+ghost use Rattle.kernel.specs.Boot.{priorities_in, HasNoneFrom};
 
 use crate::kernel::Kernel;
-use crate::slot::Slot;
+use crate::progress::Progress;
 use clock::Clock;
 use model::{App, TaskDefinition, TaskId};
 use sched::Sched;
+use std::array;
 
-fn blank_slots() -> [Slot; 32]
-    ensures slots { (i : ℕ) → seen (slot_in result i) ≡ bare no_task }
+/// The progress where there are no tasks: a value made for each place, since they are not copied.
+fn without_tasks() -> [Progress; 32]
+    ensures progress { (task : ℕ) → progress_in result task ≡ no_progress }
     ensures full { length result ≡ 32 }
 {
-    [Slot::BLANK; 32]
+    array::from_fn(|_| Progress::new(0))
 }
 
-/// The slots of the tasks at a time of reset.
-fn slots_of(tasks: &[TaskDefinition], start: u32) -> [Slot; 32]
+/// The progress of the tasks at this time of reset.
+fn progress_of(tasks: &[TaskDefinition], start: u32) -> [Progress; 32]
     requires { length tasks.now ≤ 32 }
-    ensures slots { (i : ℕ) → seen (slot_in result i) ≡ bare (slice_index_or (map (task_at_reset start) tasks.now) i no_task) }
+    ensures progress { (task : ℕ) → progress_in result task
+        ≡ (slice_index_or (map (task_at_reset start) tasks.now) task no_task).progress }
     ensures full { length result ≡ 32 }
 {
-    let mut slots = blank_slots();
+    let mut progress = without_tasks();
     for (index, _task) in tasks.iter().enumerate() {
-        slots[index] = Slot::at_start(start as u64);
+        progress[index] = Progress::new(start as u64);
     }
-    slots
-}
-
-fn no_priorities() -> [u8; 32]
-    ensures none { (i : ℕ) → priority_in result i ≡ 0 }
-    ensures known { AllByRecursion (λ priority. priority < 32) result }
-    ensures full { length result ≡ 32 }
-{
-    [0; 32]
+    progress
 }
 
 /// The priorities of the tasks, and 0 in the places after them.
 fn priorities_of(tasks: &[TaskDefinition]) -> [u8; 32]
     requires few { length tasks.now ≤ 32 }
     requires formed { AllByRecursion IsDefinition tasks.now }
-    ensures priorities { (i : ℕ) → priority_in result i ≡ priority_in (priorities_in tasks.now) i }
+    ensures priorities { (task : ℕ) → priority_in result task
+        ≡ priority_in (priorities_in tasks.now) task }
     ensures known { AllByRecursion (λ priority. priority < 32) result }
 {
-    let mut priorities = no_priorities();
+    let mut priorities = [0; 32];
     for (index, task) in tasks.iter().enumerate() {
         priorities[index] = task.priority();
     }
     priorities
 }
 
+/// Each task that has an op is made Ready, in the order of the file.
+fn make_ready_at_reset(sched: &mut Sched, tasks: &[TaskDefinition])
+    requires few { length tasks.now ≤ 32 }
+    requires none { HasNoneFrom 0 sched.old }
+    ensures { (s : State) → ScheduleStandsFor sched.old s → length s.tasks ≡ length tasks.now
+        → ScheduleStandsFor sched.new (for_each make_ready (with_ops 0 tasks.now) s) }
+{
+    for (index, task) in tasks.iter().enumerate() {
+        if !task.ops().is_empty() {
+            let number = index as u8;
+            sched.make_ready(TaskId { number });
+        }
+    }
+}
+
 impl Kernel {
-    /// The kernel at reset: the tasks have entered their lines in the order of the file, and the choice runs (profile:
-    /// FreeRTOS runs the task of highest priority that was created last). A task with an empty script is Ended.
+    /// The kernel at reset: the tasks are Ready in the order of the file, and the choice runs (profile: FreeRTOS runs the
+    /// task of highest priority that was created last). A task with an empty script is Ended.
     pub fn boot(app: &App) -> Self
-        ensures { Stands result (reset app.now) }
+        ensures { StandsFor result (reset app.now) }
     {
         app.well_formed();
-        let mut kernel = Kernel::before_entry(app);
-        kernel.enter_all(app.tasks());
+        let mut kernel = Kernel::nobody_ready(app);
+        make_ready_at_reset(&mut kernel.sched, app.tasks());
         kernel.sched.choose();
         kernel
     }
 
-    /// The kernel before any task has entered its line.
-    fn before_entry(app: &App) -> Self
-        ensures { Stands result (before_entry app.now) }
+    /// The kernel before any task has been Ready.
+    fn nobody_ready(app: &App) -> Self
+        ensures stands { StandsFor result (nobody_ready app.now) }
+        ensures none { HasNoneFrom 0 result.sched }
     {
         app.well_formed();
         Kernel {
-            slots: slots_of(app.tasks(), app.start()),
+            progress: progress_of(app.tasks(), app.start()),
             sched: Sched::new(priorities_of(app.tasks())),
             clock: Clock::new(app.start()),
             steps: 0,
             stopped: None,
-        }
-    }
-
-    /// The task enters its line, unless it has no op.
-    fn enter_unless(&mut self, is_empty: bool, task: TaskId)
-        ensures { (w : Written) (s : State) → At self.old w s → task.number < length s.tasks → is_asleep (task_at s task.number).status ≡ false → At self.new w (if is_empty then s else enter s task.number) }
-    {
-        if !is_empty {
-            self.renew(task);
-        }
-    }
-
-    /// Each task that has an op enters its line, in the order of the file.
-    fn enter_all(&mut self, tasks: &[TaskDefinition])
-        requires { length tasks.now ≤ 32 }
-        ensures { (w : Written) (s : State) → At self.old w s → length s.tasks ≡ length tasks.now → AllAwake s → At self.new w (fold enter s (with_ops 0 tasks.now)) }
-    {
-        for (index, task) in tasks.iter().enumerate() {
-            let number = index as u8;
-            self.enter_unless(task.ops().is_empty(), TaskId { number });
         }
     }
 }

@@ -5,11 +5,9 @@ mod boot;
 mod kernel;
 mod loops;
 mod ops;
-mod outcome;
-mod slot;
+mod progress;
 mod steps;
 mod switching;
 
 pub use kernel::{Kernel, StepLog};
-pub use outcome::{Memory, Run};
 pub use steps::run;

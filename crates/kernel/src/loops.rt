@@ -1,63 +1,69 @@
 //! The open loops of a task.
-ghost use Rattle.std.specs.Prelude.{◌≤◌};
+ghost use Rattle.std.specs.Prelude.{◌≡◌, ◌<◌, ◌∷◌, [], length};
+ghost use Rattle.kernel.specs.Loops.{after_turn, next_turn};
 
 use model::Loop;
+use std::marker::Model;
 
-/// The open loops of a task.
-#[derive(Clone, Copy, Debug)]
+/// The open loops of a task: at most four (profile).
+#[derive(Debug, Drop)]
 pub(crate) struct Loops {
     cells: [Loop; 4],
-    depth: u8,
-    ghost known: { depth ≤ 4 },
+    nesting: u8,
+}
+
+// Clauses see the open loops, the innermost first.
+impl Model for Loops {
+    ghost use Rattle.std.specs.Prelude.{List, ◌≤◌};
+    ghost use Rattle.model.specs.declared.loops.Loop.{Loop};
+    ghost use Rattle.kernel.specs.Loops.{open_in};
+
+    ghost Value = { List Loop };
+
+    ghost view = { λ loops. open_in loops.cells loops.nesting };
+
+    ghost invariant = { λ loops. loops.nesting ≤ 4 };
 }
 
 impl Loops {
-    ghost use Rattle.std.specs.Prelude.{◌≡◌, ◌<◌, ◌∷◌, [], drop, MatchOption};
-    ghost use Rattle.kernel.specs.Loops.{loops_of};
-
     /// No open loop.
-    pub(crate) const NONE: Loops = Loops {
-        cells: [Loop { start: 0, left: 0 }; 4],
-        depth: 0,
-    };
-
-    /// With one more, the innermost.
-    pub(crate) fn opened(self, innermost: Loop) -> Loops
-        requires { self.depth < 4 }
-        ensures { loops_of result ≡ innermost ∷ loops_of self }
+    pub(crate) fn new() -> Loops
+        ensures { result ≡ [] }
     {
-        let mut cells = self.cells;
-        cells[self.depth as usize] = innermost;
         Loops {
-            cells,
-            depth: self.depth + 1,
+            cells: [Loop { start: 0, left: 0 }; 4],
+            nesting: 0,
         }
     }
 
-    /// The innermost one.
-    pub(crate) fn innermost(self) -> Option<Loop>
-        ensures { MatchOption result (loops_of self ≡ []) (λ l. loops_of self ≡ l ∷ drop 1 (loops_of self)) }
+    /// Opens one more, the innermost.
+    pub(crate) fn open(&mut self, innermost: Loop)
+        requires { length self.old < 4 }
+        ensures { self.new ≡ innermost ∷ self.old }
     {
-        if self.depth == 0 {
-            None
-        } else {
-            Some(self.cells[self.depth as usize - 1])
-        }
+        self.cells[self.nesting as usize] = innermost;
+        self.nesting += 1;
     }
 
-    /// Without the innermost one, if there is one.
-    pub(crate) fn closed(self) -> Loops
-        ensures loops { loops_of result ≡ drop 1 (loops_of self) }
-        ensures room { result.depth < 4 }
+    /// Ends a turn of the innermost loop: the answer is the op at which the next turn begins. After the last turn the
+    /// loop is closed, and the answer is `None`, as where no loop is open.
+    pub(crate) fn end_turn(&mut self) -> Option<u16>
+        ensures loops { self.new ≡ after_turn self.old }
+        ensures next { result ≡ next_turn self.old }
     {
-        let cells = self.cells;
-        if self.depth == 0 {
-            Loops { cells, depth: 0 }
-        } else {
-            Loops {
-                cells,
-                depth: self.depth - 1,
-            }
+        if self.nesting == 0 {
+            return None;
         }
+        let innermost = self.nesting - 1;
+        let turn = self.cells[innermost as usize];
+        if turn.left <= 1 {
+            self.nesting = innermost;
+            return None;
+        }
+        self.cells[innermost as usize] = Loop {
+            left: turn.left - 1,
+            ..turn
+        };
+        Some(turn.start)
     }
 }

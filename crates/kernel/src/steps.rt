@@ -1,37 +1,36 @@
 //! Steps, and whole runs.
-ghost use Rattle.std.specs.Prelude.{◌&&◌, ◌≡◌, ◌<◌, ◌≤◌, ◌+◌, ◌^◌, ℕ, List, [], Some, None, if◌then◌else◌, ◌++◌, IfOk, OnOk, OnErr, option_map, is_none};
+ghost use Rattle.std.specs.Prelude.{◌≡◌, ◌<◌, ◌≤◌, ◌+◌, ◌^◌, ◌++◌, [], Some, None, if◌then◌else◌, IfOk, OnOk, OnErr, length};
 ghost use Rattle.model.specs.State.{State};
-ghost use Rattle.model.specs.Step.{deed, step, reset};
-ghost use Rattle.model.specs.Run.{end_of, IsRun, state_after, lines_after, or_else};
-ghost use Rattle.model.specs.Trace.{Line, Ending, Pass, Ticks, Steps, Stuck, lines_of, ending_of, bounds_of, number_of};
+ghost use Rattle.model.specs.Step.{act_current, step, reset};
+ghost use Rattle.model.specs.Run as definition;
+ghost use Rattle.model.specs.Run.{end_of, IsRun, state_after, events_after, or_else};
 ghost use Rattle.arrayvec.specs.ArrayVec.{array_vec_len};
-ghost use Rattle.kernel.specs.Stands.{Stands, At, CanDo, CanStep};
-ghost use Rattle.kernel.specs.Runs.{IsUnderWay};
+ghost use Rattle.kernel.specs.StandsFor.{StandsFor, Does};
+ghost use Rattle.kernel.specs.Can.{CanAct, CanStep, IsUnderWay};
 
 use crate::kernel::{Kernel, StepLog};
-use crate::outcome::{Memory, Run};
-use model::{App, End, Event, HandlerId, Limits, Meter, Plan, TaskId};
+use model::{App, End, Event, HandlerId, Limits, Memory, Meter, Plan, Run};
 use std::alloc::Global;
 
 impl Kernel {
     /// What a step does: the running task's op, or for idle a tick.
-    fn deed(&mut self, app: &App, log: &mut StepLog)
-        requires room { array_vec_len log.old < 127 }
-        requires can { CanDo app.now self.old }
-        ensures at { (s : State) → At self.old log.old s → At self.new log.new (deed app.now s.running s) }
-        ensures few { array_vec_len log.new ≤ array_vec_len log.old + 2 }
+    fn act_current(&mut self, app: &App, log: &mut StepLog)
+        requires room { array_vec_len log.old + 2 ≤ 128 }
+        requires can { CanAct app.now self.old }
+        ensures { Does 2 self.old log.old.items self.new log.new.items
+            (λ s. act_current app.now s.current s) }
     {
         let Some(task) = self.sched.current() else {
-            self.tick(log);
+            self.tick_interrupt(log);
             return;
         };
-        let place = self.slot(task).place;
-        if let Some(op) = app.op(task, place) {
+        let op_index = self.progress(task).op_index;
+        if let Some(op) = app.op(task, op_index) {
             self.act(app, task, op, log);
         }
     }
 
-    /// One step of the run: the running task's op, or a tick of idle (profile). The lines that it writes are then in the
+    /// One step of the run: the running task's op, or a tick of idle (profile). The events that it tells are then in the
     /// log, in order, and nothing else. It takes no memory.
     ///
     /// The kernel is of this application, and its run has not ended under some limits. No application has handlers yet.
@@ -40,15 +39,16 @@ impl Kernel {
         requires handlers { handlers.now ≡ [] }
         requires going { CanStep app.now self.old }
         requires meter { meter.old < 2 ^ 63 }
-        ensures stands { (s : State) → Stands self.old s → Stands self.new (step app.now s) }
-        ensures log { (s : State) → Stands self.old s → lines_of log.new.items ≡ (step app.now s).log }
+        ensures stands { (s : State) → StandsFor self.old s → StandsFor self.new (step app.now s) }
+        ensures log { (s : State) → StandsFor self.old s
+            → log.new.items ≡ (step app.now s).log }
         ensures meter { meter.new ≡ meter.old + 1 }
     {
         let _ = handlers;
         app.well_formed();
         log.clear();
         let steps = self.steps;
-        self.deed(app, log);
+        self.act_current(app, log);
         self.settle(log);
         self.steps = steps + 1;
         meter.count();
@@ -57,53 +57,49 @@ impl Kernel {
     /// The end of the run before its next step, under these limits: the first that holds of a failed `expect`, every task
     /// Ended, the ticks, the steps, stuck (profile). `None` where the run goes on.
     pub fn ended(&self, _app: &App, limits: &Limits) -> Option<End>
-        ensures { (s : State) → Stands self.now s → option_map ending_of result ≡ end_of (bounds_of limits.now) s }
+        ensures { (s : State) → StandsFor self.now s → result ≡ end_of limits.now s }
     {
         let is_quiet = self.clock.is_quiet();
         first_end(
             self.stopped,
-            both(!self.sched.has_ready(), is_quiet),
+            !self.sched.has_ready() && is_quiet,
             limits.ticks as u64 <= self.clock.age(),
             limits.steps <= self.steps,
-            both(is_idle(self.sched.current()), is_quiet),
+            self.sched.current().is_none() && is_quiet,
         )
     }
 }
 
-/// `None` is idle; a call, so that its value has a clause.
-fn is_idle(running: Option<TaskId>) -> bool
-    ensures { result ≡ is_none (number_of running) }
-{
-    match running {
-        None => true,
-        Some(_) => false,
-    }
-}
-
-/// Both; a call, so that its value has a clause.
-fn both(a: bool, b: bool) -> bool
-    ensures { result ≡ (a && b) }
-{
-    a && b
-}
-
 /// The first of these ends that is due.
-fn first_end(stopped: Option<End>, over: bool, ticks: bool, steps: bool, stuck: bool) -> Option<End>
-    ensures { option_map ending_of result ≡ or_else (option_map ending_of stopped) (if over then Some Pass else if ticks then Some Ticks else if steps then Some Steps else if stuck then Some Stuck else None) }
+fn first_end(
+    stopped: Option<End>,
+    are_all_ended: bool,
+    ticks: bool,
+    steps: bool,
+    is_stuck: bool,
+) -> Option<End>
+    ensures { result ≡ or_else stopped
+        (if are_all_ended then Some End.Pass
+        else if ticks then Some End.Ticks
+        else if steps then Some End.Steps
+        else if is_stuck then Some End.Stuck
+        else None) }
 {
     match stopped {
         Some(end) => Some(end),
-        None if over => Some(End::Pass),
+        None if are_all_ended => Some(End::Pass),
         None if ticks => Some(End::Ticks),
         None if steps => Some(End::Steps),
-        None if stuck => Some(End::Stuck),
+        None if is_stuck => Some(End::Stuck),
         None => None,
     }
 }
 
-/// Appends the lines of a step.
+/// Appends the events of a step.
 fn keep(events: &mut Vec<Event>, log: &StepLog) -> Result<(), Memory>
-    ensures { OnOk result (events.new.items ≡ events.old.items ++ log.now.items) }
+    ensures kept { OnOk result (events.new.items ≡ events.old.items ++ log.now.items) }
+    // of memory nothing is asked where there is nothing to keep
+    ensures memory { OnErr result (0 < array_vec_len log.now) }
 {
     for event in log.as_slice() {
         if events.push(*event).is_err() {
@@ -113,7 +109,7 @@ fn keep(events: &mut Vec<Event>, log: &StepLog) -> Result<(), Memory>
     Ok(())
 }
 
-/// Goes on to the end of the run, and keeps the lines.
+/// Goes on to the end of the run, and keeps the events.
 fn finish(
     kernel: &mut Kernel,
     app: &App,
@@ -121,13 +117,16 @@ fn finish(
     meter: &mut Meter,
     events: &mut Vec<Event>,
 ) -> Result<End, Memory>
-    requires stands { Stands kernel.old (reset app.now) }
+    requires stands { StandsFor kernel.old (reset app.now) }
     requires events { events.old.items ≡ [] }
     requires meter { meter.old < 2 ^ 62 }
-    ensures way { IsUnderWay app.now (bounds_of limits.now) kernel.new }
-    ensures lines { OnOk result (lines_of events.new.items ≡ lines_after app.now kernel.new.steps) }
-    ensures ended { IfOk result (λ end. end_of (bounds_of limits.now) (state_after app.now kernel.new.steps) ≡ Some (ending_of end)) }
+    ensures way { IsUnderWay app.now limits.now kernel.new }
+    ensures events { OnOk result (events.new.items ≡ events_after app.now kernel.new.steps) }
+    ensures ended { IfOk result
+        (λ end. end_of limits.now (state_after app.now kernel.new.steps) ≡ Some end) }
     ensures meter { meter.new ≡ meter.old + kernel.new.steps }
+    // memory is asked for events alone
+    ensures memory { OnErr result (0 < length (events_after app.now kernel.new.steps)) }
 {
     app.well_formed();
     let none: [HandlerId; 0] = [];
@@ -145,7 +144,7 @@ fn finish(
 /// is empty.
 ///
 /// The meter, which is below 2^62, rises by the steps of the run. At `Err(Memory)`, answered only where a growth was
-/// refused, it has risen by no more than that.
+/// refused, so never where the run tells nothing, it has risen by no more than that.
 pub fn run(
     alloc: Global,
     app: &App,
@@ -155,9 +154,11 @@ pub fn run(
 ) -> Result<Run, Memory>
     requires plan { plan.now ≡ [] }
     requires meter { meter.old < 2 ^ 62 }
-    ensures run { IfOk result (λ run. IsRun app.now (bounds_of limits) (lines_of run.events.items) run.steps run.ticks (ending_of run.end)) }
+    ensures run { IfOk result (λ run. IsRun app.now limits run) }
     ensures meter { IfOk result (λ run. meter.new ≡ meter.old + run.steps) }
-    ensures refused { OnErr result ((lines : List Line) (steps ticks : ℕ) (end : Ending) → IsRun app.now (bounds_of limits) lines steps ticks end → meter.new ≤ meter.old + steps) }
+    ensures rises { meter.old ≤ meter.new }
+    ensures refused { OnErr result ((run : definition.Run) → IsRun app.now limits run
+        → (meter.new ≤ meter.old + run.steps) × (0 < length run.events)) }
 {
     let _ = plan;
     let mut events = Vec::new(alloc);

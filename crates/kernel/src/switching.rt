@@ -1,32 +1,26 @@
 //! Who runs: each way in which the processor changes.
-ghost use Rattle.std.specs.Prelude.{◌≡◌, ◌<◌, ◌≤◌, ◌+◌, ◌++◌, ◌^◌, length};
-ghost use Rattle.model.specs.State.{State};
-ghost use Rattle.model.specs.Step.{anew, is_ready, switch, settle, is_same, tick};
-ghost use Rattle.model.specs.Trace.{number_of, lines_of};
+ghost use Rattle.std.specs.Prelude.{◌≡◌, ◌<◌, ◌≤◌, ◌+◌, ◌++◌, length};
+ghost use Rattle.std.specs.List.{AllByRecursion};
+ghost use Rattle.model.specs.State.{State, for_each};
+ghost use Rattle.model.specs.Switching.{choose, is_ready, slice, settle, yield_now, make_ready};
+ghost use Rattle.model.specs.Time.{increment_tick, tick_interrupt};
 ghost use Rattle.arrayvec.specs.ArrayVec.{array_vec_len};
-ghost use Rattle.std.specs.List.{fold, AllByRecursion};
-ghost use Rattle.model.specs.Step.{enter};
-ghost use Rattle.sched.specs.Standing.{StandsFor};
-ghost use Rattle.kernel.specs.Stands.{Stands, Does, change_line, numbers_of};
+ghost use Rattle.sched.specs.StandsFor.{StandsFor as ScheduleStandsFor};
+ghost use Rattle.sched.specs.Schedule as schedule;
+ghost use Rattle.kernel.specs.StandsFor.{StandsFor, Does, Moves, change};
+ghost use Rattle.kernel.specs.Can.{CanTick, AreToWake};
 
 use crate::kernel::{Kernel, StepLog};
 use model::{TaskId, What};
 use sched::Sched;
 
-fn is_same(a: Option<TaskId>, b: Option<TaskId>) -> bool
-    ensures { result ≡ is_same (number_of a) (number_of b) }
-{
-    match (a, b) {
-        (None, None) => true,
-        (Some(a), Some(b)) => a.number == b.number,
-        _ => false,
-    }
-}
-
 /// Each of these tasks becomes Ready, one after the other.
 fn make_all_ready(sched: &mut Sched, tasks: &[TaskId])
-    ensures ready { (s : State) → StandsFor sched.old s → AllByRecursion (λ i. i < length s.tasks) (numbers_of tasks.now) → StandsFor sched.new (fold enter s (numbers_of tasks.now)) }
-    ensures runs { sched.new.running ≡ sched.old.running }
+    requires { AreToWake sched.old tasks.now }
+    ensures ready { (s : State) → ScheduleStandsFor sched.old s
+        → AllByRecursion (λ i. i < length s.tasks) tasks.now
+        → ScheduleStandsFor sched.new (for_each make_ready tasks.now s) }
+    ensures current { sched.new.current ≡ sched.old.current }
 {
     for task in tasks {
         sched.make_ready(*task);
@@ -34,68 +28,85 @@ fn make_all_ready(sched: &mut Sched, tasks: &[TaskId])
 }
 
 impl Kernel {
-    /// Writes who runs now, where that is a change.
-    fn tell_change(&self, before: Option<TaskId>, log: &mut StepLog)
+    /// Tells who runs now, where that is a change.
+    fn write_change(&self, before: Option<TaskId>, log: &mut StepLog)
         requires { array_vec_len log.old < 128 }
-        ensures line { lines_of log.new.items ≡ lines_of log.old.items ++ change_line self.now.steps self.now.clock.now (number_of before) self.now.sched.running }
+        ensures event { log.new.items ≡ log.old.items
+            ++ change self.now.steps self.now.clock.now before self.now.sched.current }
         ensures few { array_vec_len log.new ≤ array_vec_len log.old + 1 }
     {
         let now = self.sched.current();
-        if !is_same(now, before) {
+        if now != before {
             self.write(log, What::Run(now));
         }
     }
 
-    /// The choice runs.
-    pub(crate) fn anew(&mut self, log: &mut StepLog)
-        requires { array_vec_len log.old < 128 }
-        ensures at { Does self.old log.old self.new log.new anew }
-        ensures few { array_vec_len log.new ≤ array_vec_len log.old + 1 }
-    {
-        let before = self.sched.current();
-        self.sched.choose();
-        self.tell_change(before, log);
-    }
-
+    /// Whether a task is Ready.
     pub(crate) fn is_ready(&self, task: TaskId) -> bool
-        ensures { (s : State) → Stands self.now s → result ≡ is_ready s task.number }
+        ensures ready { (s : State) → StandsFor self.now s → result ≡ is_ready s task }
+        ensures scheduled { result ≡ schedule.is_ready self.now.sched task }
     {
         self.sched.is_ready(task)
     }
 
-    /// The end of a tick: a task above the running one runs, or else the next of equal priority.
-    fn switch(&mut self, log: &mut StepLog)
+    /// The choice runs.
+    fn choose(&mut self, log: &mut StepLog)
         requires { array_vec_len log.old < 128 }
-        ensures at { Does self.old log.old self.new log.new switch }
-        ensures few { array_vec_len log.new ≤ array_vec_len log.old + 1 }
+        ensures { Does 1 self.old log.old.items self.new log.new.items choose }
+    {
+        let before = self.sched.current();
+        self.sched.choose();
+        self.write_change(before, log);
+    }
+
+    /// The running task goes behind its equals, and the choice runs.
+    pub(crate) fn yield_now(&mut self, log: &mut StepLog)
+        requires { array_vec_len log.old < 128 }
+        ensures { Does 1 self.old log.old.items self.new log.new.items yield_now }
+    {
+        let before = self.sched.current();
+        self.sched.yield_now();
+        self.write_change(before, log);
+    }
+
+    /// The end of a tick: a task above the running one runs, or else the next of equal priority.
+    fn slice(&mut self, log: &mut StepLog)
+        requires { array_vec_len log.old < 128 }
+        ensures { Does 1 self.old log.old.items self.new log.new.items slice }
     {
         let before = self.sched.current();
         self.sched.slice();
-        self.tell_change(before, log);
+        self.write_change(before, log);
     }
 
     /// The end of a step: where the running task isn't Ready any more, the choice runs.
     pub(crate) fn settle(&mut self, log: &mut StepLog)
         requires { array_vec_len log.old < 128 }
-        ensures at { Does self.old log.old self.new log.new settle }
-        ensures few { array_vec_len log.new ≤ array_vec_len log.old + 1 }
+        ensures { Does 1 self.old log.old.items self.new log.new.items settle }
     {
         if let Some(task) = self.sched.current() {
             if !self.is_ready(task) {
-                self.anew(log);
+                self.choose(log);
             }
         }
     }
 
-    /// A tick of the clock: who is due becomes Ready, in the order in which they began to sleep. Then the switch.
-    pub(crate) fn tick(&mut self, log: &mut StepLog)
-        requires room { array_vec_len log.old < 128 }
-        requires age { self.old.clock.age < 2 ^ 62 }
-        ensures at { Does self.old log.old self.new log.new tick }
-        ensures few { array_vec_len log.new ≤ array_vec_len log.old + 1 }
+    /// A tick of the clock: who is due becomes Ready, in the order in which they began to sleep.
+    fn increment_tick(&mut self)
+        requires { CanTick self.old }
+        ensures { Moves self.old self.new increment_tick }
     {
         let due = self.clock.advance();
         make_all_ready(&mut self.sched, due.as_slice());
-        self.switch(log);
+    }
+
+    /// The tick interrupt: one tick, and then a switch if one is due.
+    pub(crate) fn tick_interrupt(&mut self, log: &mut StepLog)
+        requires room { array_vec_len log.old < 128 }
+        requires can { CanTick self.old }
+        ensures { Does 1 self.old log.old.items self.new log.new.items tick_interrupt }
+    {
+        self.increment_tick();
+        self.slice(log);
     }
 }

@@ -137,6 +137,7 @@ impl<const L: usize, const N: usize> Table<L, N> {
     /// The value with which a node below `N` was put into its list, 0 to 4294967295. Of a node in no list, any number.
     pub fn value(&self, node: NodeId) -> u32
         requires { node.number < N }
+        // Of a node in a list, it is the value there.
         ensures value { (list : ℕ) → IsTrue (has_node node.number (entries_of self.now list))
             → result ≡ value_of node.number (entries_of self.now list) }
         ensures sound { IsSound L N self.now }
@@ -147,6 +148,7 @@ impl<const L: usize, const N: usize> Table<L, N> {
     /// The node after this one, which is below `N`, in its list; `None` after the last, and for a node in no list.
     pub fn next(&self, node: NodeId) -> Option<NodeId>
         requires { node.number < N }
+        // Of a node in a list, it is the one behind it there.
         ensures next { (list : ℕ) → IsTrue (has_node node.number (entries_of self.now list))
             → option_map (λ node. node.number) result
             ≡ next_of node.number (entries_of self.now list) }
@@ -209,6 +211,7 @@ impl<const L: usize, const N: usize> Table<L, N> {
         requires node { node.number < N }
         requires free { place_of self.old node.number ≡ None }
         requires split { SplitsBefore (entries_of self.old list.number) after }
+        // Wherever `after` splits the list, the node stands in between.
         ensures put { (before rest : List (ℕ × ℕ))
             → entries_of self.old list.number ≡ before ++ rest → after ≡ first_of rest
             → self.new

@@ -1,16 +1,16 @@
 -- Each change of the schedule is a deed of the definitions.
-use Rattle.std.proofs.Common.{◌≡◌, ℕ, zero, suc, ◌+◌, ◌<◌, inl, inr, Bool, true, false, not, Option, Some, None, List, [], ◌∷◌, get_or, set, length, sym, ◌∙◌, ap, ap₂, subst, arith, refl, eqb, ltb}
-use Rattle.std.specs.Prelude.{◌==◌, ◌||◌, ◌&&◌, nat_lt, nat_eq}
-use Rattle.std.specs.List.{AllByRecursion, cons_option, filter, list_any}
+use Rattle.std.proofs.Common.{◌≡◌, ℕ, ◌<◌, inl, inr, Bool, false, not, Option, Some, None, List, [], ◌∷◌, get_or, set, length, sym, ◌∙◌, ap, ap₂, subst, arith, refl, eqb, ltb}
+use Rattle.std.specs.Prelude.{◌==◌, ◌||◌, ◌&&◌, nat_lt, nat_eq, if◌then◌else◌}
+use Rattle.std.specs.List.{AllByRecursion, filter, list_any}
 use Rattle.std.specs.Option.{IfSome, is_some, option_map}
-use Rattle.std.proofs.lemmas.Bool.{cases_eq, eq-eqb, ltb-false, ltb-true, ne_eqb}
+use Rattle.std.proofs.lemmas.Bool.{cases_eq, ltb-false, ltb-true}
 use Rattle.std.proofs.lemmas.List.{get_or-set_other, get_or-set_same}
 use Rattle.model.specs.State.{State, Status, Task, Ready, Asleep, Ended, no_task, task_at, ticket_if_ready, for_one}
-use Rattle.model.specs.Order.{Entry, Key, before, entry, first, in_order, key, keyed, list_by, put, task_of}
+use Rattle.model.specs.Order.{Entry, entry, first, key, list_by, put, task_of}
 use Rattle.model.specs.Switching.{choice, choose, dispatch, is_above, is_beside, is_outranked, is_ready, is_same, is_sharing, make_ready, preempt, ready_key, ready_list, slice, to_back, yield_now}
 use Rattle.model.specs.Invariant.{IsTable}
 use Rattle.model.proofs.Sorting.{All-filtered, before_false, before_true, by_test}
-use Rattle.model.proofs.Lists.{list-entered, list-gone, list-kept, list_below, list_without, other}
+use Rattle.model.proofs.Lists.{list-entered, list-gone, list-kept, list_below, other}
 use Rattle.model.proofs.Members.{has_task, has_task-key, has_task-none}
 use Rattle.model.proofs.Tables.{below_ready, table-make_ready}
 use Rattle.model.proofs.Chosen.{choice_within}
@@ -19,7 +19,7 @@ use Rattle.lists.specs.Lists.{first_of, has_node, without}
 use Rattle.lists.proofs.Entries.{apart_from_test, without-apart}
 use Rattle.sched.specs.Schedule as mine
 use Rattle.sched.specs.Schedule.{Schedule, add_to_ready_list, priority_in}
-use Rattle.sched.specs.StandsFor.{StandsFor, with_priorities}
+use Rattle.sched.specs.StandsFor.{Does, StandsFor, with_priorities}
 
 -- the ready list, as tasks with their priorities
 
@@ -114,7 +114,7 @@ first_task : (es : List Entry) → first_of (with_priorities es) ≡ task_of (fi
 first_task [] = refl
 first_task (e ∷ es) = refl
 
-pub stands_chosen : (v : Schedule) (s : State) → StandsFor v s → StandsFor (mine.choose v) (choose s)
+stands_chosen : (v : Schedule) (s : State) → StandsFor v s → StandsFor (mine.choose v) (choose s)
 unfolding choose dispatch
 stands_chosen v s h =
     let is : first_of v.ready ≡ choice s = ap first_of h.ready ∙ first_task (ready_list s) in
@@ -138,30 +138,37 @@ one_back v s (Some task) h within =
     (λ t. let u = same ∙ t in rw (t, u) (stands_back v s task h within))
     (λ t. let u = same ∙ t in rw (t, u) h)
 
-pub stands_yielded : (v : Schedule) (s : State) → StandsFor v s → StandsFor (mine.yield_now v) (yield_now s)
+stands_yielded : (v : Schedule) (s : State) → StandsFor v s → StandsFor (mine.yield_now v) (yield_now s)
 unfolding yield_now
 stands_yielded v s h =
     let back : StandsFor (mine.for_one mine.to_back s.current v) (for_one to_back s.current s) = one_back v s s.current h h.table.current in
     let mine_back : StandsFor (mine.for_one mine.to_back v.current v) (for_one to_back s.current s) = subst (λ (o : Option ℕ). StandsFor (mine.for_one mine.to_back o v) (for_one to_back s.current s)) (sym h.current) back in
     stands_chosen (mine.for_one mine.to_back v.current v) (for_one to_back s.current s) mine_back
 
--- where a Ready task is above the running one
-pub stands_preempted : (v : Schedule) (s : State) → StandsFor v s → StandsFor (mine.preempt v) (preempt s)
-unfolding preempt
-stands_preempted v s h =
-    let same = outranked_same v s h in
-    by_test (is_outranked s)
+-- the same where a test says so
+yielded_if : (v : Schedule) (s : State) (b c : Bool) → b ≡ c → StandsFor v s → StandsFor (if b then mine.yield_now v else v) (if c then yield_now s else s)
+yielded_if v s b c same h = by_test c
     (λ t. let u = same ∙ t in rw (t, u) (stands_yielded v s h))
     (λ t. let u = same ∙ t in rw (t, u) h)
 
--- the same, and where one has its priority
-pub stands_sliced : (v : Schedule) (s : State) → StandsFor v s → StandsFor (mine.slice v) (slice s)
+-- the deeds, as the contracts name them
+
+does : {old new : Schedule} {next : Schedule → Schedule} (deed : State → State) → ((v : Schedule) (s : State) → StandsFor v s → StandsFor (next v) (deed s)) → new ≡ next old → Does old new deed
+does {old} {new} {next} deed stands is = λ s h. subst (λ (v : Schedule). StandsFor v (deed s)) (sym is) (stands old s h)
+
+pub does_choose : {old new : Schedule} → new ≡ mine.choose old → Does old new choose
+does_choose is = does choose stands_chosen is
+
+pub does_yield_now : {old new : Schedule} → new ≡ mine.yield_now old → Does old new yield_now
+does_yield_now is = does yield_now stands_yielded is
+
+pub does_preempt : {old new : Schedule} → new ≡ mine.preempt old → Does old new preempt
+unfolding preempt
+does_preempt is = does preempt (λ v s h. yielded_if v s (mine.is_outranked v) (is_outranked s) (outranked_same v s h) h) is
+
+pub does_slice : {old new : Schedule} → new ≡ mine.slice old → Does old new slice
 unfolding slice
-stands_sliced v s h =
-    let same : (mine.is_outranked v || mine.is_sharing v) ≡ (is_outranked s || is_sharing s) = ap₂ (λ (a b : Bool). a || b) (outranked_same v s h) (sharing_same v s h) in
-    by_test (is_outranked s || is_sharing s)
-    (λ t. let u = same ∙ t in rw (t, u) (stands_yielded v s h))
-    (λ t. let u = same ∙ t in rw (t, u) h)
+does_slice is = does slice (λ v s h. yielded_if v s (mine.is_outranked v || mine.is_sharing v) (is_outranked s || is_sharing s) (ap₂ (λ (a b : Bool). a || b) (outranked_same v s h) (sharing_same v s h)) h) is
 
 -- a task changes by itself
 

@@ -79,7 +79,8 @@ impl ReadyLists {
     /// Whether a list has another task than this one.
     pub(crate) fn has_other(&self, list: ListId, task: TaskId) -> bool
         requires { list.number < 32 }
-        ensures other { result ≡ list_any (λ e. not (e.0 == task)) (entries_of self.now list.number) }
+        ensures other { result
+            ≡ list_any (λ e. not (e.0 == task)) (entries_of self.now list.number) }
     {
         match self.lists.first(list) {
             None => false,

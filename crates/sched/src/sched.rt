@@ -82,6 +82,7 @@ impl Sched {
     pub fn make_ready(&mut self, task: TaskId)
         requires free { is_ready self.old task ≡ false }
         ensures schedule { self.new ≡ make_ready task self.old }
+        // In the definitions it takes the next ticket.
         ensures stands { (s : State) → StandsFor self.old s → task < length s.tasks
             → StandsFor self.new (switching.make_ready task s) }
         ensures current { self.new.current ≡ self.old.current }

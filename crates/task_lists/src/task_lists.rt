@@ -76,6 +76,7 @@ impl<const L: usize> TaskLists<L> {
     /// The task after this one in its list; `None` after the last, and for a task in no list.
     #[inline]
     pub fn next(&self, task: TaskId) -> Option<TaskId>
+        // Of a task in a list, it is the one behind it there.
         ensures next { (list : ℕ) → IsTrue (has_node task (entries_of self.now list))
             → result ≡ next_of task (entries_of self.now list) }
         ensures outside { place_of self.now task ≡ None → IsNone result }
@@ -96,6 +97,7 @@ impl<const L: usize> TaskLists<L> {
     /// The value with which a task was put into its list, 0 to 4294967295. Of a task in no list, any number.
     #[inline]
     pub fn value(&self, task: TaskId) -> u32
+        // Of a task in a list, it is the value there.
         ensures value { (list : ℕ) → IsTrue (has_node task (entries_of self.now list))
             → result ≡ value_of task (entries_of self.now list) }
         ensures sound { IsSound L 32 self.now }

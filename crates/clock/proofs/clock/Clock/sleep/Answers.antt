@@ -1,7 +1,7 @@
-use Rattle.std.proofs.Common.{◌≡◌, ℕ, ◌<◌, ◌≤◌, ◌+◌, ◌*◌, ◌^◌, ◌%◌, List, sym, ◌∙◌, ap, subst, arith, rules, false}
+use Rattle.std.proofs.Common.{◌≡◌, ℕ, ◌<◌, ◌≤◌, ◌+◌, ◌*◌, ◌^◌, ◌%◌, List, sym, ◌∙◌, ap, subst, arith, rules}
 use Rattle.lists.specs.Lists.{IsSound, insert_sorted}
 use Rattle.clock.specs.Timeline.{Timeline, IsClock, delayed_list_of, is_asleep}
-use Rattle.clock.proofs.Sleeping.{ no_place, into_current, into_overflow, delayed-current, delayed-overflow}
+use Rattle.clock.proofs.Sleeping.{no_place, into_current, into_overflow, delayed-current, delayed-overflow}
 use Rattle.clock.proofs.Standing.{stands_slept}
 use Rattle.clock.proofs.clock.Clock.sleep.Goals as goal
 

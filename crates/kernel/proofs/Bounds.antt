@@ -1,0 +1,117 @@
+-- A kernel whose run goes on keeps within the numbers of the code.
+use Rattle.std.proofs.Common.{◌≡◌, ◌<◌, ◌≤◌, ◌+◌, ℕ, zero, suc, Bool, true, false, cond, leb, List, length, Option, Some, None, refl, ap, sym, subst, ◌∙◌, arith}
+use Rattle.std.proofs.lemmas.Bool.{ltb-true}
+use Rattle.std.proofs.lemmas.Bool.Decides.{nat_tests}
+use Rattle.std.proofs.lemmas.Option.{slice_get_within}
+use Rattle.std.specs.Option.{IfSome, is_some}
+use Rattle.model.specs.declared.ids.TaskId.{TaskId}
+use Rattle.model.specs.declared.event.End.{End}
+use Rattle.model.specs.declared.event.End.TheVariants as ending
+use Rattle.model.specs.declared.op.Op.{Op}
+use Rattle.model.specs.declared.op.Op.TheVariants.{Work, Delay, DelayUntil, Yield, Time, Mark, Expect, Repeat, End as EndLoop}
+use Rattle.model.specs.Application.{Application, Limits, script_of, op_at}
+use Rattle.model.specs.Scripts.{may_stand, IsWellFormed}
+use Rattle.model.specs.State.{State, Progress, wake_time_of, progress_at, status_at}
+use Rattle.model.specs.Switching.{is_ready}
+use Rattle.model.specs.Run.{end_of, or_else, are_all_ended, is_stuck, state_after}
+use Rattle.model.specs.Invariant.{IsState, IsUsedBy}
+use Rattle.model.proofs.InScripts.{script_formed, stands_at}
+use Rattle.model.proofs.Reached.{ready_reckoned, ready_awake, reached_after}
+use Rattle.model.proofs.Settled.{settled_after}
+use Rattle.clock.specs.Timeline.{is_asleep}
+use Rattle.kernel.specs.declared.kernel.Kernel.{Kernel}
+use Rattle.kernel.specs.StandsFor.{StandsFor, progress_in}
+use Rattle.kernel.specs.Can.{Runs, HasLoopRoom, CanTick, Can, CanAct, CanStep}
+use Rattle.kernel.proofs.Parts.{asleep_is}
+
+leb-less : (a b : ℕ) → leb a b ≡ false → b < a
+leb-less a b e = grind (arith, nat_tests)
+
+unended : (o : Option End) (a t p k : Bool) → or_else o (cond a (Some ending.Pass) (cond t (Some ending.Ticks) (cond p (Some ending.Steps) (cond k (Some ending.Stuck) None)))) ≡ None → (t ≡ false) × (p ≡ false)
+unended (Some e) a t p k h = absurd (cc)
+unended None true t p k h = absurd (cc)
+unended None false true p k h = absurd (cc)
+unended None false false true k h = absurd (cc)
+unended None false false false k h = (refl, refl)
+
+pub below_limits : (limits : Limits) (s : State) → end_of limits s ≡ None → (s.elapsed < limits.ticks) × (s.steps < limits.steps)
+below_limits limits s h =
+    let u = unended s.stopped (are_all_ended s) (leb limits.ticks s.elapsed) (leb limits.steps s.steps) (is_stuck s) h in
+    (leb-less limits.ticks s.elapsed u.0, leb-less limits.steps s.steps u.1)
+
+loop_room : (op : Op) (nesting : ℕ) → may_stand nesting op ≡ true → HasLoopRoom op nesting
+loop_room (Work n) nesting h = tt
+loop_room (Delay n) nesting h = tt
+loop_room (DelayUntil n) nesting h = tt
+loop_room Yield nesting h = tt
+loop_room Time nesting h = tt
+loop_room (Mark n) nesting h = tt
+loop_room (Expect a) nesting h = tt
+loop_room (Repeat n) nesting h = ltb-true nesting 4 h
+loop_room EndLoop nesting h = tt
+
+module _ (app : Application) (formed : IsWellFormed app) (k : Kernel) (c : CanStep app k) where
+  abbrev state : State
+  state = state_after app c.steps
+
+  reached : IsState app state
+  reached = reached_after app formed c.steps
+
+  age_low : k.clock.age < 1000000
+  age_low = let e = c.stands.rest.clock.age in let l = (below_limits c.limits state c.goes_on).0 in let m = c.tick_limit in omega arith
+
+  time_low : k.clock.now < 4294967296 + 1000000
+  time_low = let e = c.stands.rest.clock.now in let f = c.stands.rest.clock.age in let l = age_low in let m = reached.time in let n = formed.start in omega arith
+
+  can_tick : CanTick k
+  can_tick = record { agrees = (state, c.stands); age = let l = age_low in omega arith }
+
+  module _ (task : TaskId) (op : Op) (runs : k.sched.current ≡ Some task) (is : op_at app task (progress_in k.progress task).op_index ≡ Some op) where
+    same : progress_in k.progress task ≡ progress_at state task
+    same = c.stands.rest.progress task
+
+    at_op : op_at app task (progress_at state task).op_index ≡ Some op
+    at_op = let P : Progress → Type 0 = λ p. op_at app task p.op_index ≡ Some op in subst P same is
+
+    -- The running task is Ready.
+    is_on : is_ready state task ≡ true
+    is_on = let L : Option ℕ → Type 0 = λ o. IfSome o (λ i. is_ready state i ≡ true) in subst L (sym c.stands.sched.current ∙ runs) (settled_after app c.steps)
+
+    is_awake : is_asleep k.clock task ≡ false
+    is_awake = asleep_is k.clock state c.stands.rest.clock task ∙ ap (λ (o : Option ℕ). is_some o) (ready_awake (status_at state task) is_on)
+
+    low : (progress_in k.progress task).op_index < 256
+    low =
+        let w = slice_get_within (script_of app task) (progress_in k.progress task).op_index op is in
+        let n = (script_formed app formed task).few in omega arith
+
+    used : IsUsedBy (progress_in k.progress task).used (Some op)
+    used =
+        let W : Option Op → Type 0 = λ o. IsUsedBy (progress_at state task).used o in
+        let U : Progress → Type 0 = λ p. IsUsedBy p.used (Some op) in
+        subst U (sym same) (subst W at_op (reached.progress task).used)
+
+    nesting : HasLoopRoom op (length (progress_in k.progress task).loops)
+    nesting =
+        let may = stands_at (length (progress_at state task).loops) (progress_at state task).op_index (script_of app task) op (reached.progress task).nests at_op in
+        let H : Progress → Type 0 = λ p. HasLoopRoom op (length p.loops) in
+        subst H (sym same) (loop_room op (length (progress_at state task).loops) may)
+
+    previous : (progress_in k.progress task).previous_wake ≤ k.clock.now
+    previous =
+        let lower = ready_reckoned state.time (progress_at state task).previous_wake (status_at state task) (reached.progress task).reckoned is_on in
+        let H : Progress → Type 0 = λ p. p.previous_wake ≤ k.clock.now in
+        subst H (sym same) (rw c.stands.rest.clock.now lower)
+
+    can : Can k task op
+    can = record {
+      runs = record { current = runs; awake = is_awake; op_index = low };
+      tick = can_tick;
+      used = used;
+      nesting = nesting;
+      previous_wake = previous;
+      time = let l = time_low in omega arith;
+    }
+
+  pub can_act : CanAct app k
+  can_act = record { tick = can_tick; op = can }

@@ -1,0 +1,127 @@
+-- When a run ends.
+use Rattle.std.proofs.Common.{◌≡◌, ◌+◌, ℕ, suc, Bool, true, false, not, ◌&&◌, ◌||◌, eqb, List, [], ◌∷◌, length, get_or, Option, Some, None, refl, ap, sym, ◌∙◌, arith}
+use Rattle.std.specs.List.{list_all, list_any, cons_option, filter, AllByRecursion}
+use Rattle.std.specs.Prelude.{IsTrue, ◌↔◌}
+use Rattle.std.specs.Option.{option_map, option_eq, is_none, is_some}
+use Rattle.std.proofs.lemmas.List.{length-map}
+use Rattle.model.specs.declared.event.Event.{Event}
+use Rattle.model.specs.Application.{Application}
+use Rattle.model.specs.State.{State, Task, Status, Ready, Asleep, Ended, wake_time_of, no_task}
+use Rattle.model.specs.Order.{Key, Entry, entry, keyed, list_by, tasks_of}
+use Rattle.model.specs.Switching.{ready_key, settle}
+use Rattle.model.specs.Time.{delayed_key}
+use Rattle.model.specs.Step.{act_current, step}
+use Rattle.model.specs.Run.{is_ended, are_all_ended, is_stuck}
+use Rattle.model.specs.Invariant.{IsTable}
+use Rattle.model.proofs.Sorting.{length-in_order, by_test}
+use Rattle.model.proofs.Lists.{eqb-apart, eqb-refl, HasKey, list_has}
+use Rattle.lists.specs.Lists.{first_of}
+use Rattle.sched.specs.StandsFor.{with_priorities}
+use Rattle.clock.specs.StandsFor as clock
+use Rattle.clock.specs.StandsFor.{tasks_at}
+use Rattle.clock.specs.Timeline.{Timeline}
+use Rattle.kernel.specs.declared.kernel.Kernel.{Kernel}
+use Rattle.kernel.specs.StandsFor.{StandsFor, At}
+use Rattle.kernel.proofs.Parts.{rest_same, clock-same}
+
+some : (n : ℕ) → eqb (suc n) 0 ≡ false
+some n = eqb-apart (suc n) 0 (λ e. omega arith)
+
+length-ready : (ts : List Task) → length (with_priorities (list_by ready_key ts)) ≡ length (keyed ready_key 0 ts)
+length-ready ts = length-map (list_by ready_key ts) (λ (e : Entry). (e.task, e.key.priority)) ∙ length-in_order (keyed ready_key 0 ts)
+
+none_first : (xs : List (ℕ × ℕ)) → not (is_some (first_of xs)) ≡ eqb (length xs) 0
+none_first [] = refl
+none_first (x ∷ xs) = sym (some (length xs))
+
+empty : {X : Type 0} → (xs : List X) → eqb (length xs) 0 ≡ true → xs ≡ []
+empty [] t = refl
+empty (x ∷ xs) t = let f : false ≡ true = sym (some (length xs)) ∙ t in absurd (cc)
+
+-- One who sleeps is due at some time.
+when_due : (t : Task) (u : Status) (k : Key) → delayed_key (record t { status = u }) ≡ Some k → ((m : ℕ) → option_eq eqb (wake_time_of u) (Some m) ≡ true → ⊥) → ⊥
+when_due t (Ready n) k e f = absurd (cc)
+when_due t (Asleep w n) k e f = f w (eqb-refl w)
+when_due t Ended k e f = absurd (cc)
+
+none_due : (ts : List Task) (es : List Entry) → AllByRecursion (HasKey delayed_key ts) es → ((m : ℕ) → tasks_of (filter (λ (e : Entry). option_eq eqb (wake_time_of (get_or ts e.task no_task).status) (Some m)) es) ≡ []) → es ≡ []
+none_due ts [] h d = refl
+none_due ts (e ∷ es) h d = absurd (when_due (get_or ts e.task no_task) (get_or ts e.task no_task).status e.key h.0.key (λ m t. let f = rw t at (d m) in absurd (cc)))
+
+none_asleep : (xs : List (ℕ × ℕ)) → ((m : ℕ) → tasks_at m xs ≡ []) → xs ≡ []
+none_asleep [] d = refl
+none_asleep (x ∷ xs) d = let f = rw (eqb-refl x.1) at (d x.1) in absurd (cc)
+
+-- The clock has no sleeper where the state has none.
+module _ (t : Timeline) (s : State) (h : clock.StandsFor t s) where
+  none_delayed : t.delayed_list ≡ [] → list_by delayed_key s.tasks ≡ []
+  none_delayed none = none_due s.tasks (list_by delayed_key s.tasks) (list_has delayed_key s.tasks) (λ m. sym (h.delayed m) ∙ ap (tasks_at m) none)
+
+  no_sleepers : list_by delayed_key s.tasks ≡ [] → t.delayed_list ≡ []
+  no_sleepers none = none_asleep t.delayed_list (λ m. h.delayed m ∙ rw none refl)
+
+  quiet : (q : Bool) → (IsTrue q ↔ (t.delayed_list ≡ [])) → q ≡ eqb (length (keyed delayed_key 0 s.tasks)) 0
+  quiet q is =
+      let long : length (list_by delayed_key s.tasks) ≡ length (keyed delayed_key 0 s.tasks) = length-in_order (keyed delayed_key 0 s.tasks) in
+      by_test (eqb (length (keyed delayed_key 0 s.tasks)) 0)
+      (λ u. is.1 (no_sleepers (empty (list_by delayed_key s.tasks) (rw long u))) ∙ sym u)
+      (λ u. by_test q
+      (λ v. let none : list_by delayed_key s.tasks ≡ [] = none_delayed (is.0 v) in let w : eqb (length (list_by delayed_key s.tasks)) 0 ≡ false = rw long u in let x = rw none at w in absurd (cc))
+      (λ v. v ∙ sym u))
+
+and_false : (b : Bool) → b && false ≡ false
+and_false true = refl
+and_false false = refl
+
+over : (o : ℕ) (ts : List Task) → eqb (length (keyed ready_key o ts)) 0 && eqb (length (keyed delayed_key o ts)) 0 ≡ list_all (λ (t : Task). is_ended t.status) ts
+over o [] = refl
+over o (t ∷ ts) = by_status t t.status (over (o + 1) ts) where
+  by_status : (t : Task) (u : Status) → eqb (length (keyed ready_key (o + 1) ts)) 0 && eqb (length (keyed delayed_key (o + 1) ts)) 0 ≡ list_all (λ (t : Task). is_ended t.status) ts
+      → eqb (length (keyed ready_key o (record t { status = u } ∷ ts))) 0 && eqb (length (keyed delayed_key o (record t { status = u } ∷ ts))) 0 ≡ is_ended u && list_all (λ (v : Task). is_ended v.status) ts
+  by_status t (Ready n) later = rw (some (length (keyed ready_key (o + 1) ts))) refl
+  by_status t (Asleep w n) later = rw (some (length (keyed delayed_key (o + 1) ts))) (and_false (eqb (length (keyed ready_key (o + 1) ts)) 0))
+  by_status t Ended later = later
+
+asleep : (o : ℕ) (ts : List Task) → eqb (length (keyed delayed_key o ts)) 0 ≡ not (list_any (λ (t : Task). is_some (wake_time_of t.status)) ts)
+asleep o [] = refl
+asleep o (t ∷ ts) = by_status t t.status (asleep (o + 1) ts) where
+  by_status : (t : Task) (u : Status) → eqb (length (keyed delayed_key (o + 1) ts)) 0 ≡ not (list_any (λ (t : Task). is_some (wake_time_of t.status)) ts)
+      → eqb (length (keyed delayed_key o (record t { status = u } ∷ ts))) 0 ≡ not (is_some (wake_time_of u) || list_any (λ (v : Task). is_some (wake_time_of v.status)) ts)
+  by_status t (Ready n) later = later
+  by_status t (Asleep w n) later = some (length (keyed delayed_key (o + 1) ts))
+  by_status t Ended later = later
+
+pub over_is : (k : Kernel) (s : State) (q : Bool) → StandsFor k s → (IsTrue q ↔ (k.clock.delayed_list ≡ [])) → not (is_some (first_of k.sched.ready)) && q ≡ are_all_ended s
+over_is k s q h is = rw (quiet k.clock s h.rest.clock q is, none_first k.sched.ready, h.sched.ready, length-ready s.tasks) (over 0 s.tasks)
+
+pub stuck_is : (k : Kernel) (s : State) (q : Bool) → StandsFor k s → (IsTrue q ↔ (k.clock.delayed_list ≡ [])) → is_none k.sched.current && q ≡ is_stuck s
+stuck_is k s q h is = rw (quiet k.clock s h.rest.clock q is, h.sched.current, asleep 0 s.tasks) refl
+
+-- A step begins with no event told, and ends with one step more.
+pub begun : (k : Kernel) (log : List Event) (s : State) → StandsFor k s → log ≡ [] → At k log (record s { log = [] })
+begun k log s h e =
+    let table : IsTable (record s { log = [] }) = record { tickets = h.sched.table.tickets; few = h.sched.table.few; current = h.sched.table.current } in
+    record {
+      stands = record {
+        sched = record { ready = h.sched.ready; current = h.sched.current; priorities = h.sched.priorities; table = table };
+        rest = rest_same k s (record s { log = [] }) h.rest refl refl refl refl refl table;
+      };
+      log = e;
+    }
+
+pub stepped : (app : Application) (s : State) (k : Kernel) (log : List Event) (n : ℕ) → n ≡ s.steps → At k log (settle (act_current app s.current (record s { log = [] }))) → StandsFor (record k { steps = n + 1 }) (step app s)
+unfolding step
+stepped app s k log n e a =
+    let new : State = settle (act_current app s.current (record s { log = [] })) in
+    let h = a.stands in
+    let table : IsTable (record new { steps = s.steps + 1 }) = record { tickets = h.sched.table.tickets; few = h.sched.table.few; current = h.sched.table.current } in
+    record {
+      sched = record { ready = h.sched.ready; current = h.sched.current; priorities = h.sched.priorities; table = table };
+      rest = record {
+        progress = h.rest.progress;
+        full = h.rest.full;
+        clock = clock-same k.clock new (record new { steps = s.steps + 1 }) h.rest.clock refl refl refl table;
+        steps = ap (λ m. m + 1) e;
+        stopped = h.rest.stopped;
+      };
+    }

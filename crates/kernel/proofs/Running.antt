@@ -1,0 +1,98 @@
+-- A run, step by step.
+use Rattle.std.proofs.Common.{◌≡◌, ◌≢◌, ◌<◌, ◌≤◌, ◌+◌, ℕ, zero, suc, true, false, eqb, leb, List, [], ◌++◌, None, refl, sym, subst, ◌∙◌, ap, arith, length, length-append}
+use Rattle.std.proofs.lemmas.Bool.Decides.{nat_tests}
+use Rattle.model.proofs.Sorting.{by_test}
+use Rattle.model.proofs.Lists.{eqb-refl, eqb-same}
+use Rattle.model.specs.declared.event.Event.{Event}
+use Rattle.model.specs.Application.{Application, Limits, AreLimits}
+use Rattle.model.specs.Scripts.{IsWellFormed}
+use Rattle.model.specs.State.{State}
+use Rattle.model.specs.Step.{step, reset, ready_at_reset, nobody_ready, with_ops}
+use Rattle.model.specs.Run.{Run, IsRun, end_of, state_after, events_after}
+use Rattle.model.proofs.Frames.{elapsed-reset, elapsed-step, keeps-all_ready}
+use Rattle.kernel.specs.declared.kernel.Kernel.{Kernel}
+use Rattle.kernel.specs.StandsFor.{StandsFor}
+use Rattle.kernel.specs.Can.{CanStep, IsUnderWay}
+use Rattle.kernel.proofs.Bounds.{below_limits}
+
+leb-le : (a b : ℕ) → leb a b ≡ true → a ≤ b
+leb-le a b e = grind (arith, nat_tests)
+
+leb-less : (a b : ℕ) → leb a b ≡ false → b < a
+leb-less a b e = grind (arith, nat_tests)
+
+-- the kernel at reset
+steps-reset : (app : Application) → (reset app).steps ≡ 0
+unfolding reset ready_at_reset nobody_ready
+steps-reset app = (keeps-all_ready (with_ops 0 app.tasks) (nobody_ready app)).steps
+
+pub steps_begin : (app : Application) (k : Kernel) → StandsFor k (reset app) → k.steps ≡ 0
+steps_begin app k h = h.rest.steps ∙ steps-reset app
+
+pub begins : (app : Application) (limits : Limits) (k : Kernel) → StandsFor k (reset app) → IsUnderWay app limits k
+begins app limits k h = record {
+  stands = let Q : ℕ → Type 0 = λ n. StandsFor k (state_after app n) in subst Q (sym (steps_begin app k h)) h;
+  goes_on = λ n l. let e = steps_begin app k h in absurd (omega arith);
+}
+
+pub no_events : (app : Application) (k : Kernel) → StandsFor k (reset app) → events_after app k.steps ≡ []
+no_events app k h = rw (steps_begin app k h) refl
+
+module _ (app : Application) (formed : IsWellFormed app) (limits : Limits) (are : AreLimits limits.ticks limits.steps) (k : Kernel) (h : IsUnderWay app limits k) (on : end_of limits (state_after app k.steps) ≡ None) where
+  pub can_step : CanStep app k
+  can_step = record { steps = k.steps; stands = h.stands; limits = limits; tick_limit = are.1; step_limit = are.3; goes_on = on }
+
+  pub steps_below : k.steps < limits.steps
+  steps_below = let e = h.stands.rest.steps in let l = (below_limits limits (state_after app k.steps) on).1 in omega arith
+
+  -- one step more
+  module _ (next : Kernel) (stands : (s : State) → StandsFor k s → StandsFor next (step app s)) where
+    pub steps_more : next.steps ≡ suc k.steps
+    unfolding step
+    steps_more = let e = (stands (state_after app k.steps) h.stands).rest.steps in let f = h.stands.rest.steps in omega arith
+
+    by_last : (n : ℕ) → n < suc k.steps → end_of limits (state_after app n) ≡ None
+    by_last n l = by_test (eqb n k.steps)
+        (λ t. let same : n ≡ k.steps = eqb-same n k.steps t in rw same on)
+        (λ t. h.goes_on n (let apart : n ≢ k.steps = (λ q. let w : eqb n k.steps ≡ true = rw q (eqb-refl k.steps) in absurd (cc)) in omega arith))
+
+    pub goes_on : IsUnderWay app limits next
+    goes_on = record {
+      stands = let Q : ℕ → Type 0 = λ n. StandsFor next (state_after app n) in subst Q (sym steps_more) (stands (state_after app k.steps) h.stands);
+      goes_on = λ n l. let m : n < suc k.steps = rw steps_more at l in by_last n m;
+    }
+
+    -- and its events
+    pub more_events : (events more all : List Event) → events ≡ events_after app k.steps → more ≡ (step app (state_after app k.steps)).log → all ≡ events ++ more → all ≡ events_after app next.steps
+    more_events events more all e f g = rw (g, steps_more, e, f) refl
+
+-- The ticks of a run, as far as it has gone
+ticks_by : (app : Application) (limits : Limits) → AreLimits limits.ticks limits.steps → (n : ℕ) → ((m : ℕ) → m < n → end_of limits (state_after app m) ≡ None) → (state_after app n).elapsed ≤ 1000000
+ticks_by app limits are zero g = let e = elapsed-reset app in omega arith
+ticks_by app limits are (suc n) g =
+    let low = (below_limits limits (state_after app n) (g n (omega arith))).0 in
+    let one = elapsed-step app (state_after app n) in
+    let most = are.1 in
+    omega arith
+
+pub ticks_low : (app : Application) (limits : Limits) → AreLimits limits.ticks limits.steps → (k : Kernel) → IsUnderWay app limits k → k.clock.age ≤ 1000000
+ticks_low app limits are k h = rw h.stands.rest.clock.age (ticks_by app limits are k.steps h.goes_on)
+
+-- ---- a run that is broken off has come no further than the run
+
+module _ (app : Application) (limits : Limits) (k : Kernel) (way : IsUnderWay app limits k) (run : Run) (is : IsRun app limits run) where
+  pub no_further : k.steps ≤ run.steps
+  no_further = by_test (leb k.steps run.steps)
+      (λ t. leb-le k.steps run.steps t)
+      (λ t. let none = way.goes_on run.steps (leb-less k.steps run.steps t) in let end = is.ends in absurd (cc))
+
+  pub told_some : 0 < length (events_after app k.steps) → 0 < length run.events
+  told_some l = rw is.trace (grows k.steps run.steps no_further l) where
+    grows : (n m : ℕ) → n ≤ m → 0 < length (events_after app n) → 0 < length (events_after app m)
+    grows n zero le l = let z : n ≡ 0 = omega arith in rw z at l
+    grows n (suc m) le l = by_test (eqb n (suc m))
+        (λ t. let same : n ≡ suc m = eqb-same n (suc m) t in rw same at l)
+        (λ t.
+        let apart : n ≢ suc m = (λ q. let w : eqb n (suc m) ≡ true = rw q (eqb-refl (suc m)) in absurd (cc)) in
+        let less = grows n m (omega arith) l in
+        omega (arith, length-append (events_after app m) (state_after app (suc m)).log))

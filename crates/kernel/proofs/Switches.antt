@@ -1,0 +1,116 @@
+-- Who runs: what changes of the processor make of the states that the kernel stands for.
+use Rattle.std.proofs.Common.{◌≡◌, ◌<◌, ℕ, true, false, cond, ◌||◌, List, [], ◌∷◌, ◌++◌, length, Option, Some, None, refl, ap, sym, subst, ◌∙◌, append-nil}
+use Rattle.std.specs.Option.{IfSome}
+use Rattle.model.specs.declared.event.Event.{Event}
+use Rattle.model.specs.declared.event.What.TheVariants as what
+use Rattle.model.specs.State.{State, Task, Ready, printed, progress_at, for_one}
+use Rattle.model.specs.Switching.{choice, dispatch, choose, yield_now, to_back, make_ready, is_ready, is_outranked, is_sharing, is_same, slice, settle, is_off, write}
+use Rattle.model.specs.Invariant.{IsTable}
+use Rattle.model.proofs.Sorting.{by_test}
+use Rattle.model.proofs.Lists.{eqb-refl}
+use Rattle.sched.specs.StandsFor as sched
+use Rattle.sched.specs.Schedule.{Schedule}
+use Rattle.kernel.specs.declared.kernel.Kernel.{Kernel}
+use Rattle.kernel.specs.StandsFor.{RestStandsFor, StandsFor, At, change}
+use Rattle.kernel.proofs.Parts.{rest_same, rest-made_ready}
+
+same_self : (r : Option ℕ) → is_same r r ≡ true
+same_self None = refl
+same_self (Some i) = eqb-refl i
+
+same_runs : (s : State) → change s.steps s.time s.current s.current ≡ []
+same_runs s = rw same_self refl
+
+-- What a switch tells: who runs, where that is a change.
+abbrev Tells : State → State → Type 0
+Tells s new = new.log ≡ s.log ++ change s.steps s.time s.current new.current
+
+log-choose : (s : State) → Tells s (choose s)
+unfolding choose dispatch
+log-choose s = by_test (is_same (choice s) s.current)
+    (λ t. rw t (sym (append-nil s.log) ∙ ap (λ l. s.log ++ l) (sym (same_runs s))))
+    (λ t. rw (t, t) refl)
+
+log-yield_now : (s : State) → Tells s (yield_now s)
+unfolding yield_now to_back
+log-yield_now s = by_current s.current refl where
+  by_back : (b : State) → b.log ≡ s.log → b.steps ≡ s.steps → b.time ≡ s.time → b.current ≡ s.current → Tells s (choose b)
+  by_back b l n t c =
+      let T : List Event → ℕ → ℕ → Option ℕ → Type 0 = λ l n t c. (choose b).log ≡ l ++ change n t c (choose b).current in
+      subst (λ c. T s.log s.steps s.time c) c
+      (subst (λ t. T s.log s.steps t b.current) t
+      (subst (λ n. T s.log n b.time b.current) n
+      (subst (λ l. T l b.steps b.time b.current) l (log-choose b))))
+
+  by_current : (o : Option ℕ) → s.current ≡ o → Tells s (choose (for_one to_back o s))
+  by_current None e = log-choose s
+  by_current (Some i) e = by_test (is_ready s i)
+      (λ t. rw t (by_back (make_ready i s) refl refl refl refl))
+      (λ t. rw t (log-choose s))
+
+log-slice : (s : State) → Tells s (slice s)
+unfolding slice
+log-slice s = by_test (is_outranked s || is_sharing s)
+    (λ t. rw t (log-yield_now s))
+    (λ t. rw t (sym (append-nil s.log) ∙ ap (λ l. s.log ++ l) (sym (same_runs s))))
+
+-- all but the scheduler stands as it stood
+
+rest-choose : (k : Kernel) (s : State) → RestStandsFor k s → IsTable (choose s) → RestStandsFor k (choose s)
+unfolding choose dispatch
+rest-choose k s h table = by_test (is_same (choice s) s.current)
+    (λ t. rw t h)
+    (λ t. rw t (rest_same k s (write (what.Run (choice s)) (record s { current = choice s })) h refl refl refl refl refl (rw t at table)))
+
+rest-back : (k : Kernel) (s : State) (r : Option ℕ) → StandsFor k s → IfSome r (λ i. i < length s.tasks) → RestStandsFor k (for_one to_back r s)
+unfolding to_back
+rest-back k s None h l = h.rest
+rest-back k s (Some i) h l = by_test (is_ready s i) (λ t. rw t (rest-made_ready k s h i l t)) (λ t. rw t h.rest)
+
+rest-yield_now : (k : Kernel) (s : State) → StandsFor k s → IsTable (yield_now s) → RestStandsFor k (yield_now s)
+unfolding yield_now
+rest-yield_now k s h table = rest-choose k (for_one to_back s.current s) (rest-back k s s.current h h.sched.table.current) table
+
+rest-slice : (k : Kernel) (s : State) → StandsFor k s → IsTable (slice s) → RestStandsFor k (slice s)
+unfolding slice
+rest-slice k s h table = by_test (is_outranked s || is_sharing s)
+    (λ t. rw t (rest-yield_now k s h (rw t at table)))
+    (λ t. rw t h.rest)
+
+-- The scheduler has changed, and the event that tells of it is written.
+module _ (k : Kernel) (log new_log : List Event) (s : State) (v : Schedule) (before : Option ℕ) (h : At k log s) (b : before ≡ k.sched.current) (told : new_log ≡ log ++ change k.steps k.clock.now before v.current) where
+  changed : (new : State) → sched.StandsFor v new → RestStandsFor k new → Tells s new → At (record k { sched = v }) new_log new
+  changed new on rest tells = record {
+    stands = record { sched = on; rest = record { progress = rest.progress; full = rest.full; clock = rest.clock; steps = rest.steps; stopped = rest.stopped } };
+    log = told ∙ rw (h.log, b, h.stands.sched.current, h.stands.rest.steps, h.stands.rest.clock.now, on.current) (sym tells);
+  }
+
+  pub chose : sched.StandsFor v (choose s) → At (record k { sched = v }) new_log (choose s)
+  chose on = changed (choose s) on (rest-choose k s h.stands.rest on.table) (log-choose s)
+
+  pub yielded : sched.StandsFor v (yield_now s) → At (record k { sched = v }) new_log (yield_now s)
+  yielded on = changed (yield_now s) on (rest-yield_now k s h.stands on.table) (log-yield_now s)
+
+  pub sliced : sched.StandsFor v (slice s) → At (record k { sched = v }) new_log (slice s)
+  sliced on = changed (slice s) on (rest-slice k s h.stands on.table) (log-slice s)
+
+-- The step ends.
+module _ (k : Kernel) (log : List Event) (s : State) (h : At k log s) where
+  pub settled_off : (i : ℕ) (new : Kernel) (new_log : List Event) → s.current ≡ Some i → is_ready s i ≡ false → At new new_log (choose s) → At new new_log (settle s)
+  unfolding settle
+  settled_off i new new_log r t a = let Q : Option ℕ → Type 0 = λ o. At new new_log (cond (is_off s o) (choose s) s) in subst Q (sym r) (rw t a)
+
+  pub settled_on : (i : ℕ) → s.current ≡ Some i → is_ready s i ≡ true → At k log (settle s)
+  unfolding settle
+  settled_on i r t = let Q : Option ℕ → Type 0 = λ o. At k log (cond (is_off s o) (choose s) s) in subst Q (sym r) (rw t h)
+
+  pub settled_idle : s.current ≡ None → At k log (settle s)
+  unfolding settle
+  settled_idle r = let Q : Option ℕ → Type 0 = λ o. At k log (cond (is_off s o) (choose s) s) in subst Q (sym r) h
+
+-- The event that tells who runs is written, or there is no change to tell.
+pub change_told : (n t : ℕ) (before now current : Option ℕ) → now ≡ current → is_same now before ≡ false → record { step = n; tick = printed t; what = what.Run now } ∷ [] ≡ change n t before current
+change_told n t before now current e q = rw (← e, q) refl
+
+pub change_none : (n t : ℕ) (before now current : Option ℕ) → now ≡ current → is_same now before ≡ true → change n t before current ≡ []
+change_none n t before now current e q = rw (← e, q) refl

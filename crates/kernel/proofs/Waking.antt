@@ -1,0 +1,135 @@
+-- Who is due becomes Ready, one after the other.
+use Rattle.std.proofs.Common.{◌≡◌, ◌≢◌, ◌<◌, ◌+◌, ℕ, zero, suc, Bool, true, false, eqb, ltb, List, [], ◌∷◌, ◌++◌, ◌||◌, length, get_or, set, take, drop, refl, ap, sym, subst, ◌∙◌, arith, get_or-set_same, get_or-set_other}
+use Rattle.std.specs.List.{AllByRecursion, IsDistinct}
+use Rattle.std.proofs.lemmas.List.{take_more}
+use Rattle.std.proofs.lemmas.Bool.{ne_eqb}
+use Rattle.std.proofs.Math.ListN.{length-set}
+use Rattle.model.specs.declared.event.Event.{Event}
+use Rattle.model.specs.State.{State, Task, Ready, task_at, progress_at, for_each, no_task}
+use Rattle.model.specs.Order.{tasks_of}
+use Rattle.model.specs.Switching.{make_ready}
+use Rattle.model.specs.Time.{due, wake_due, advance, increment_tick}
+use Rattle.model.proofs.Sorting.{by_test}
+use Rattle.model.proofs.Lists.{eqb-refl, eqb-same}
+use Rattle.model.proofs.Chosen.{each-end, due_within}
+use Rattle.model.proofs.Frames.{keeps-all_ready}
+use Rattle.lists.specs.Lists.{Each, has_node}
+use Rattle.sched.specs.StandsFor as sched
+use Rattle.sched.specs.Schedule as schedule
+use Rattle.sched.specs.Schedule.{Schedule, add_to_ready_list}
+use Rattle.clock.specs.StandsFor as clock
+use Rattle.clock.specs.StandsFor.{at_next_tick}
+use Rattle.clock.specs.Timeline.{Timeline, Advances, is_asleep}
+use Rattle.clock.proofs.Standing.{due_asleep, due_once}
+use Rattle.kernel.specs.declared.kernel.Kernel.{Kernel}
+use Rattle.kernel.specs.StandsFor.{StandsFor, At}
+use Rattle.kernel.specs.Can.{AreToWake}
+use Rattle.kernel.proofs.Parts.{apart_back}
+
+-- ---- the tasks that are to wake
+
+-- Another task becomes Ready.
+pub has_node-added : (n : ℕ) (e : ℕ × ℕ) (es : List (ℕ × ℕ)) → n ≢ e.0 → has_node n (add_to_ready_list e es) ≡ has_node n es
+has_node-added n e [] ne = rw (ne_eqb e.0 n (λ q. ne (sym q))) refl
+has_node-added n e (f ∷ fs) ne = by_test (ltb f.1 e.1)
+    (λ t. rw (t, ne_eqb e.0 n (λ q. ne (sym q))) refl)
+    (λ t. rw t (ap (λ (b : Bool). eqb f.0 n || b) (has_node-added n e fs ne)))
+
+-- Who sleeps isn't Ready, and nobody sleeps twice, so that all who are due can become Ready.
+pub to_wake : (k : Kernel) (s : State) → StandsFor k s → (new : Timeline) (ds : List ℕ) → Advances k.clock new ds → AreToWake k.sched ds
+unfolding IsDistinct
+to_wake k s h new ds a = by_parts ds (due_asleep k.clock new ds a) (due_once k.clock new ds a h.rest.clock.once) where
+  apart_from : (d : ℕ) (es : List ℕ) → AllByRecursion (λ e. eqb d e ≡ false) es → AllByRecursion (λ e. e ≢ d) es
+  apart_from d [] b = tt
+  apart_from d (e ∷ es) b = ((λ q. let f : eqb d e ≡ true = rw q (eqb-refl d) in let g = b.0 in absurd (cc)), apart_from d es b.1)
+
+  by_parts : (es : List ℕ) → Each (λ d. is_asleep k.clock d ≡ true) es → IsDistinct eqb es → AreToWake k.sched es
+  by_parts [] x y = tt
+  by_parts (e ∷ es) x y = (apart_back k s h e x.0, apart_from e es y.0, by_parts es x.1 y.1)
+
+still_to_wake : (v : Schedule) (i : ℕ) (js : List ℕ) → AllByRecursion (λ j. j ≢ i) js → AreToWake v js → AreToWake (schedule.make_ready i v) js
+still_to_wake v i [] a h = tt
+still_to_wake v i (j ∷ js) a h = (has_node-added j (i, schedule.priority_in v.priorities i) v.ready a.0 ∙ h.0, h.1, still_to_wake v i js a.1 h.2)
+
+-- one more of them is Ready
+module _ (v : Schedule) (ts : List ℕ) (j : ℕ) (i : ℕ) (l : j < length ts) (e : i ≡ get_or ts j i) where
+  drop_one : drop j ts ≡ i ∷ drop (j + 1) ts
+  drop_one = by_index ts j l e where
+    by_index : (ts : List ℕ) (j : ℕ) → j < length ts → i ≡ get_or ts j i → drop j ts ≡ i ∷ drop (j + 1) ts
+    by_index [] j l e = absurd (omega arith)
+    by_index (t ∷ ts) zero l e = ap (λ (x : ℕ). x ∷ ts) (sym e)
+    by_index (t ∷ ts) (suc j) l e = let n : suc j + 1 ≡ suc (j + 1) = omega arith in rw n (by_index ts j (omega arith) e)
+
+  pub next_free : AreToWake v (drop j ts) → schedule.is_ready v i ≡ false
+  next_free h = (let w : AreToWake v (i ∷ drop (j + 1) ts) = subst (AreToWake v) drop_one h in w.0)
+
+  pub more_free : AreToWake v (drop j ts) → (new : Schedule) → new ≡ schedule.make_ready i v → AreToWake new (drop (j + 1) ts)
+  more_free h new is =
+      let w : AreToWake v (i ∷ drop (j + 1) ts) = subst (AreToWake v) drop_one h in
+      let P : Schedule → Type 0 = λ x. AreToWake x (drop (j + 1) ts) in
+      subst P (sym is) (still_to_wake v i (drop (j + 1) ts) w.1 w.2)
+
+at_within : (n : ℕ) (ts : List ℕ) (j : ℕ) (d : ℕ) → j < length ts → AllByRecursion (λ i. i < n) ts → get_or ts j d < n
+at_within n [] j d l h = absurd (omega arith)
+at_within n (t ∷ ts) zero d l h = h.0
+at_within n (t ∷ ts) (suc j) d l h = at_within n ts j d (omega arith) h.1
+
+-- The schedule stands for one more of the tasks made Ready.
+pub ready_more : (new : Schedule) (s : State) (ts : List ℕ) (j i : ℕ) → j < length ts → i ≡ get_or ts j i → AllByRecursion (λ n. n < length s.tasks) ts
+    → (i < length (for_each make_ready (take j ts) s).tasks → sched.StandsFor new (make_ready i (for_each make_ready (take j ts) s))) → sched.StandsFor new (for_each make_ready (take (j + 1) ts) s)
+ready_more new s ts j i l e within goes =
+    let so : State = for_each make_ready (take j ts) s in
+    let low : i < length s.tasks = rw e (at_within (length s.tasks) ts j i l within) in
+    let here : i < length so.tasks = rw (keeps-all_ready (take j ts) s).tasks low in
+    let more : take (j + 1) ts ≡ take j ts ++ i ∷ [] = take_more ts j i l ∙ ap (λ (x : ℕ). take j ts ++ x ∷ []) (sym e) in
+    rw (more, each-end make_ready s (take j ts) i) (goes here)
+
+-- ---- a tick
+
+-- A task's progress stays as it becomes Ready.
+progress-ready : (s : State) (i j : ℕ) → progress_at (make_ready i s) j ≡ progress_at s j
+progress-ready s i j = by_index s.tasks i j (record (task_at s i) { status = Ready s.next_ticket }) refl where
+  by_index : (ts : List Task) (i j : ℕ) (t : Task) → t.progress ≡ (get_or ts i no_task).progress → (get_or (set ts i t) j no_task).progress ≡ (get_or ts j no_task).progress
+  by_index [] i j t e = refl
+  by_index (u ∷ us) zero zero t e = e
+  by_index (u ∷ us) zero (suc j) t e = refl
+  by_index (u ∷ us) (suc i) zero t e = refl
+  by_index (u ∷ us) (suc i) (suc j) t e = by_index us i j t e
+
+pub progress-all_ready : (is : List ℕ) (s : State) (j : ℕ) → progress_at (for_each make_ready is s) j ≡ progress_at s j
+progress-all_ready [] s j = refl
+progress-all_ready (i ∷ is) s j = progress-all_ready is (make_ready i s) j ∙ progress-ready s i j
+
+log-all_ready : (is : List ℕ) (s : State) → (for_each make_ready is s).log ≡ s.log
+log-all_ready [] s = refl
+log-all_ready (i ∷ is) s = log-all_ready is (make_ready i s)
+
+-- The scheduler and the clock have done their part.
+module _ (k : Kernel) (log : List Event) (s : State) (h : At k log s) where
+  pub sched-ticked : sched.StandsFor k.sched (at_next_tick s)
+  sched-ticked = record {
+    ready = h.stands.sched.ready;
+    current = h.stands.sched.current;
+    priorities = h.stands.sched.priorities;
+    table = record { tickets = h.stands.sched.table.tickets; few = h.stands.sched.table.few; current = h.stands.sched.table.current };
+  }
+
+  pub woken : (ds : List ℕ) (v : Schedule) (t : Timeline) → ds ≡ tasks_of (due (at_next_tick s)) → sched.StandsFor v (for_each make_ready ds (at_next_tick s)) → clock.StandsFor t (increment_tick s) → At (record k { sched = v; clock = t }) log (increment_tick s)
+  unfolding increment_tick advance wake_due
+  woken ds v t is ready awake =
+      let next : State = at_next_tick s in
+      let due_ones : List ℕ = tasks_of (due next) in
+      let keep = keeps-all_ready due_ones next in
+      record {
+        stands = record {
+          sched = let P : List ℕ → Type 0 = λ ds. sched.StandsFor v (for_each make_ready ds next) in subst P is ready;
+          rest = record {
+            progress = λ i. h.stands.rest.progress i ∙ sym (progress-all_ready due_ones next i);
+            full = h.stands.rest.full;
+            clock = awake;
+            steps = h.stands.rest.steps ∙ sym keep.steps;
+            stopped = h.stands.rest.stopped ∙ sym keep.stopped;
+          };
+        };
+        log = h.log ∙ sym (log-all_ready due_ones next);
+      }

@@ -1,0 +1,15 @@
+use Rattle.std.proofs.Common.{sym, ◌∙◌}
+use Rattle.kernel.proofs.Parts.{apart, ready_within, stands-slept}
+use Rattle.kernel.proofs.kernel.Kernel.sleep.Goals as goal
+
+pub sleep-requires-clause-awake : goal.sleep-requires-clause-awake
+sleep-requires-clause-awake c = apart c.args.self.now c.requires.agrees.0 c.requires.agrees.1 c.args.task (sym c.if-is_ready.ensures.scheduled)
+
+pub returns-then-is_ready : goal.returns-then-is_ready
+returns-then-is_ready c = λ log s h.
+    let on = sym (c.if-is_ready.ensures.ready s h.stands) in
+    let l = ready_within s c.args.task on in
+    record { stands = stands-slept c.args.self.now s h.stands c.args.task l _ on c.block.new.self c.block.ensures.schedule c.sleep.new.self (c.sleep.ensures.stands s h.stands.rest.clock l on); log = ? }
+
+pub returns-else-is_ready : goal.returns-else-is_ready
+returns-else-is_ready c = λ log s h. ?

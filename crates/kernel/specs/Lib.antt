@@ -1,0 +1,4 @@
+pub mod Loops
+pub mod StandsFor
+pub mod Can
+pub mod Boot

@@ -1,0 +1,118 @@
+//! Ops that let time pass, give the processor away, or ask the time.
+ghost use Rattle.std.specs.Prelude.{◌≡◌, ◌<◌, ◌≤◌, ◌+◌, List, length};
+ghost use Rattle.model.specs.declared.event.Event.{Event};
+ghost use Rattle.model.specs.declared.op.Op.TheVariants as op;
+ghost use Rattle.model.specs.State.{State};
+ghost use Rattle.model.specs.Time.{sleep, set_previous_wake};
+ghost use Rattle.model.specs.Ops.{use_up};
+ghost use Rattle.model.specs.Step.{act};
+ghost use Rattle.arrayvec.specs.ArrayVec.{array_vec_len};
+ghost use Rattle.kernel.specs.StandsFor.{At, Does, Moves};
+ghost use Rattle.kernel.specs.Can.{Agrees, Runs, Can};
+
+use crate::kernel::{Kernel, StepLog};
+use model::{App, TaskId};
+
+impl Kernel {
+    /// One more of a `work` is used up.
+    fn use_up(&mut self, app: &App, task: TaskId, ticks: u32)
+        requires { Can self.old task (op.Work ticks) }
+        ensures does { Moves self.old self.new (use_up app.now task ticks) }
+        ensures clock { self.new.clock ≡ self.old.clock }
+    {
+        let used = self.progress(task).used + 1;
+        if used == ticks {
+            self.complete(app, task);
+        } else {
+            self.set_used(task, used);
+        }
+    }
+
+    /// `work`: a tick of it is used up, and the tick passes.
+    pub(crate) fn work(&mut self, app: &App, task: TaskId, ticks: u32, log: &mut StepLog)
+        requires room { array_vec_len log.old + 1 ≤ 128 }
+        requires can { Can self.old task (op.Work ticks) }
+        ensures { Does 1 self.old log.old.items self.new log.new.items
+            (act app.now task (op.Work ticks)) }
+    {
+        self.use_up(app, task, ticks);
+        self.tick_interrupt(log);
+    }
+
+    /// The running task sleeps for some ticks, where it is still Ready.
+    fn sleep(&mut self, task: TaskId, ticks: u32)
+        requires some { 0 < ticks }
+        requires agrees { Agrees self.old }
+        ensures { Moves self.old self.new (λ s. sleep task (s.time + ticks) s) }
+    {
+        if self.is_ready(task) {
+            self.sched.block(task);
+            self.clock.sleep(task, ticks);
+        }
+    }
+
+    /// `delay`: the task sleeps; for 0 ticks it yields.
+    pub(crate) fn delay(&mut self, app: &App, task: TaskId, ticks: u32, log: &mut StepLog)
+        requires room { array_vec_len log.old + 2 ≤ 128 }
+        requires can { Can self.old task (op.Delay ticks) }
+        ensures { Does 2 self.old log.old.items self.new log.new.items
+            (act app.now task (op.Delay ticks)) }
+    {
+        self.answer(app, task, Some(0), log);
+        if ticks == 0 {
+            self.yield_now(log);
+        } else {
+            self.sleep(task, ticks);
+        }
+    }
+
+    /// The task's `delay_until` counts from this time on.
+    fn set_previous_wake(&mut self, task: TaskId, time: u64)
+        ensures { (log : List Event) (s : State) → At self.old log s → task < length s.tasks
+            → At self.new log (set_previous_wake task time s) }
+    {
+        let progress = &mut self.progress[task.number as usize];
+        progress.previous_wake = time;
+    }
+
+    /// `delay_until`: the task sleeps until so many ticks after the time from which it counts, and counts from there; where
+    /// that is not still to come, it goes on.
+    pub(crate) fn delay_until(&mut self, app: &App, task: TaskId, ticks: u32, log: &mut StepLog)
+        requires room { array_vec_len log.old + 1 ≤ 128 }
+        requires can { Can self.old task (op.DelayUntil ticks) }
+        ensures { Does 1 self.old log.old.items self.new log.new.items
+            (act app.now task (op.DelayUntil ticks)) }
+    {
+        let wake_time = self.progress(task).previous_wake + ticks as u64;
+        let now = self.clock.mark().moment;
+        if now < wake_time {
+            self.answer(app, task, Some(1), log);
+            self.sleep(task, (wake_time - now) as u32);
+        } else {
+            self.answer(app, task, Some(0), log);
+        }
+        self.set_previous_wake(task, wake_time);
+    }
+
+    /// `yield`: the task goes behind its equals.
+    pub(crate) fn call_yield(&mut self, app: &App, task: TaskId, log: &mut StepLog)
+        requires room { array_vec_len log.old + 2 ≤ 128 }
+        requires can { Can self.old task op.Yield }
+        ensures { Does 2 self.old log.old.items self.new log.new.items
+            (act app.now task op.Yield) }
+    {
+        self.answer(app, task, Some(0), log);
+        self.yield_now(log);
+    }
+
+    /// `time`: the printed tick is the answer.
+    pub(crate) fn time(&mut self, app: &App, task: TaskId, log: &mut StepLog)
+        requires room { array_vec_len log.old + 1 ≤ 128 }
+        requires can { Can self.old task op.Time }
+        ensures { Does 1 self.old log.old.items self.new log.new.items
+            (act app.now task op.Time) }
+    {
+        let tick = self.clock.tick();
+        self.answer(app, task, Some(tick), log);
+    }
+}

@@ -1,0 +1,44 @@
+//! Where a task is in its script.
+use crate::loops::Loops;
+use std::marker::Model;
+
+/// Where a task is in its script, and what it keeps there.
+#[derive(Debug, Drop)]
+pub(crate) struct Progress {
+    /// The index of the op that the task is at.
+    pub(crate) op_index: u16,
+    /// How much of a `work` is used up.
+    pub(crate) used: u32,
+    pub(crate) loops: Loops,
+    /// The last answer.
+    pub(crate) answer: Option<u32>,
+    /// The time from which `delay_until` counts, in ticks without bound.
+    pub(crate) previous_wake: u64,
+}
+
+// Clauses see the definitions' progress.
+impl Model for Progress {
+    ghost use Rattle.model.specs.State as state;
+
+    ghost Value = { state.Progress };
+
+    ghost view = { λ p. record { op_index = p.op_index; used = p.used; loops = p.loops; answer = p.answer; previous_wake = p.previous_wake } };
+}
+
+impl Progress {
+    ghost use Rattle.std.specs.Prelude.{◌≡◌};
+    ghost use Rattle.model.specs.State.{no_progress};
+
+    /// At the first op, of which nothing is done, and counting from this time.
+    pub(crate) fn new(start: u64) -> Progress
+        ensures { result ≡ record no_progress { previous_wake = start } }
+    {
+        Progress {
+            op_index: 0,
+            used: 0,
+            loops: Loops::new(),
+            answer: None,
+            previous_wake: start,
+        }
+    }
+}
