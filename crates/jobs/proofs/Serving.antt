@@ -8,7 +8,6 @@ use Rattle.toml.specs.Parse.{parse_document}
 use Rattle.toml.proofs.OnLiterals.{toml_on_literals}
 use Rattle.model.specs.Application.{Application}
 use Rattle.model.specs.declared.event.End.{End}
-use Rattle.script.specs.declared.fault.LoadFault.{LoadFault}
 use Rattle.script.specs.Load.{load_fault}
 use Rattle.byte_io.specs.Bytes.{SentFront}
 use Rattle.byte_io.specs.declared.read.ReadFault.{ReadFault}

@@ -1,5 +1,4 @@
 use Rattle.std.proofs.Common.{ap, rules, Err}
-use Rattle.jobs.specs.Serving.{HasFault, of_reading}
 use Rattle.jobs.proofs.Serving.{reading_failed}
 use Rattle.jobs.proofs.serve.app_of.Goals as goal
 
