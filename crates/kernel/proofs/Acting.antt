@@ -2,7 +2,6 @@
 use Rattle.std.proofs.Common.{◌≡◌, ◌<◌, ◌≤◌, ◌+◌, ◌-◌, ℕ, true, false, eqb, leb, ltb, set, List, [], ◌∷◌, length, get_or-set_same, Option, Some, None, refl, ap, sym, subst, ◌∙◌, arith}
 use Rattle.std.specs.Option.{IfSome, option_eq}
 use Rattle.std.proofs.lemmas.Bool.{lt-ltb, le-ltb, eq-eqb, ne_eqb}
-use Rattle.std.proofs.Math.ListN.{length-set}
 use Rattle.std.proofs.lemmas.List.{set-set}
 use Rattle.model.specs.declared.loops.Loop.{Loop}
 use Rattle.model.specs.declared.event.Event.{Event}
@@ -11,11 +10,11 @@ use Rattle.model.specs.declared.event.End.TheVariants as ending
 use Rattle.model.specs.Application.{Application, op_count}
 use Rattle.model.specs.State.{State, Task, Progress, wake_time_of, task_at, status_at, progress_at, with_task, no_task}
 use Rattle.model.specs.State as state
-use Rattle.model.specs.Switching.{write, yield_now}
+use Rattle.model.specs.Switching.{write, yield_now, is_ready}
 use Rattle.model.specs.Time.{sleep, set_previous_wake}
 use Rattle.model.specs.Ops.{go_to, moved_to, complete, answer, use_up, delay, delay_until, expect, open_loop, turn, close_turn}
 use Rattle.model.proofs.Sorting.{by_test}
-use Rattle.model.proofs.Frames.{keeps-answer}
+use Rattle.model.proofs.Frames.{keeps-answer, keeps-sleep}
 use Rattle.kernel.specs.Loops.{after_turn, next_turn}
 use Rattle.kernel.specs.declared.kernel.Kernel.{Kernel}
 use Rattle.sched.specs.Schedule.{Schedule, block}
@@ -225,3 +224,27 @@ module _ (app : Application) (k moved : Kernel) (log : List Event) (s : State) (
       let Q : Kernel → Type 0 = λ m. v ≡ block i m.sched → At (record m { sched = v }) log (with_task i (moved_to (op_count app i) op_index (progress_at s i) (task_at s i)) s) in
       let P : Progress → Type 0 = λ p. At (record k { progress = set k.progress i (record p { op_index = op_index; used = 0 }); sched = v }) log (with_task i (moved_to (op_count app i) op_index (progress_at s i) (task_at s i)) s) in
       subst Q (sym is) (λ b. subst P (sym p_is) (rw (← many) (record { stands = stands-ended k s h.stands i l count op_index (progress_at s i) (eq-eqb op_index count on) awake v b; log = h.log }))) blocks
+
+-- ---- sleep
+
+pub log-sleep : (i wake_time : ℕ) (s : State) → (sleep i wake_time s).log ≡ s.log
+unfolding sleep
+log-sleep i wake_time s = by_test (is_ready s i) (λ t. rw t refl) (λ t. rw t refl)
+
+pub sleep_none : (k : Kernel) (log : List Event) (s : State) → At k log s → (i wake_time : ℕ) → is_ready s i ≡ false → At k log (sleep i wake_time s)
+unfolding sleep
+sleep_none k log s h i wake_time off = rw off h
+
+-- A task's `delay_until` counts from another time.
+pub counts : (k new : Kernel) (log : List Event) (s : State) → At k log s → (i : ℕ) → i < length s.tasks → (time : ℕ) → new ≡ with_progress i (record (progress_in k.progress i) { previous_wake = time }) k → At new log (set_previous_wake i time s)
+unfolding set_previous_wake
+counts k new log s h i l time is =
+    let P : Progress → Type 0 = λ p. At (with_progress i (record p { previous_wake = time }) k) log (state.with_progress i (record (progress_at s i) { previous_wake = time }) s) in
+    rw is (subst P (sym (h.stands.rest.progress i)) (changed k log s h i l (record (progress_at s i) { previous_wake = time })))
+
+-- the running task is a task after it has answered, and when it sleeps
+pub still_task : (app : Application) (k : Kernel) (log : List Event) (s : State) → At k log s → (i : ℕ) → k.sched.current ≡ Some i → (n : ℕ) → i < length (answer app i (Some n) s).tasks
+still_task app k log s h i r n = rw (keeps-answer app i (Some n) s).tasks (within k log s h i r)
+
+pub still_task_asleep : (app : Application) (k : Kernel) (log : List Event) (s : State) → At k log s → (i : ℕ) → k.sched.current ≡ Some i → (n wake_time : ℕ) → i < length (sleep i wake_time (answer app i (Some n) s)).tasks
+still_task_asleep app k log s h i r n wake_time = rw (keeps-sleep i wake_time (answer app i (Some n) s)).tasks (still_task app k log s h i r n)

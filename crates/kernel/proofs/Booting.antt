@@ -4,11 +4,10 @@ use Rattle.std.specs.List.{AllByRecursion}
 use Rattle.std.proofs.lemmas.List.{take_more, map-append, length-map, get_or_past}
 use Rattle.std.proofs.lemmas.Bool.{cases_lt}
 use Rattle.std.proofs.Common.{inl, inr}
-use Rattle.model.specs.declared.event.Event.{Event}
 use Rattle.model.specs.declared.op.Op.{Op}
 use Rattle.model.specs.Application.{Application, Definition}
 use Rattle.model.specs.Scripts.{IsDefinition, IsWellFormed}
-use Rattle.model.specs.State.{State, Task, Progress, Ready, wake_time_of, no_task, no_progress, task_at, status_at, progress_at, for_each}
+use Rattle.model.specs.State.{State, Task, Progress, Ready, wake_time_of, no_task, no_progress, task_at, status_at, for_each}
 use Rattle.model.specs.Order.{keyed, list_by, tasks_of}
 use Rattle.model.specs.Switching.{make_ready, ready_key, choice, choose, dispatch, is_same}
 use Rattle.model.specs.Time.{delayed_key, due}
@@ -31,7 +30,7 @@ use Rattle.std.specs.Prelude.{None}
 use Rattle.model.proofs.Tables.{table-make_ready}
 use Rattle.model.proofs.Reached.{with_ops_within}
 use Rattle.kernel.specs.declared.kernel.Kernel.{Kernel}
-use Rattle.kernel.specs.StandsFor.{progress_in, StandsFor, At}
+use Rattle.kernel.specs.StandsFor.{progress_in, StandsFor}
 use Rattle.kernel.specs.Boot.{priorities_in, HasNoneFrom}
 use Rattle.kernel.proofs.Parts.{clock-same, ready_alike}
 use Rattle.kernel.proofs.Waking.{has_node-added, progress-all_ready}
@@ -143,6 +142,9 @@ empty_is : (ops : List Op) → eqb (length ops) 0 ≡ is_empty ops
 empty_is [] = refl
 empty_is (op ∷ ops) = eqb-apart (suc (length ops)) 0 (λ e. omega arith)
 
+pub empty_of : {ops script : List Op} {b : Bool} → ops ≡ script → eqb (length ops) 0 ≡ b → eqb (length script) 0 ≡ b
+empty_of {ops} {script} {b} e t = ap (λ (xs : List Op). eqb (length xs) 0) (sym e) ∙ t
+
 module _ (s : State) (ds : List Definition) (j : ℕ) (d : Definition) (l : j < length ds) (at : d ≡ get_or ds j d) where
   with_more : with_ops 0 (take (j + 1) ds) ≡ with_ops 0 (take j ds) ++ cond (is_empty d.script) [] (j ∷ [])
   with_more =
@@ -210,9 +212,9 @@ clock-all_ready t (i ∷ is) s h none l =
     let u : Task = record (task_at s i) { status = Ready s.next_ticket } in
     let next : clock.StandsFor t (make_ready i s) = on_clock.stands_kept t s (make_ready i s) i u h l.0 refl refl refl (ready_alike (status_at s i) s.next_ticket (none i)) (table-make_ready s i h.table) in
     clock-all_ready t is (make_ready i s) next (awake-ready s i none) (still_within is l.1) where
-  still_within : (js : List ℕ) → AllByRecursion (λ j. j < length s.tasks) js → AllByRecursion (λ j. j < length (make_ready i s).tasks) js
-  still_within [] a = tt
-  still_within (j ∷ js) a = (rw length-set a.0, still_within js a.1)
+      still_within : (js : List ℕ) → AllByRecursion (λ j. j < length s.tasks) js → AllByRecursion (λ j. j < length (make_ready i s).tasks) js
+      still_within [] a = tt
+      still_within (j ∷ js) a = (rw length-set a.0, still_within js a.1)
 
 pub booted : (app : Application) → IsWellFormed app → (k : Kernel) (v w : Schedule) → StandsFor k (nobody_ready app)
     → sched.StandsFor v (for_each make_ready (with_ops 0 app.tasks) (nobody_ready app))

@@ -1,5 +1,5 @@
 -- A kernel whose run goes on keeps within the numbers of the code.
-use Rattle.std.proofs.Common.{◌≡◌, ◌<◌, ◌≤◌, ◌+◌, ℕ, zero, suc, Bool, true, false, cond, leb, List, length, Option, Some, None, refl, ap, sym, subst, ◌∙◌, arith}
+use Rattle.std.proofs.Common.{◌≡◌, ◌<◌, ◌≤◌, ◌+◌, ℕ, Bool, true, false, cond, leb, length, Option, Some, None, refl, ap, sym, subst, ◌∙◌, arith}
 use Rattle.std.proofs.lemmas.Bool.{ltb-true}
 use Rattle.std.proofs.lemmas.Bool.Decides.{nat_tests}
 use Rattle.std.proofs.lemmas.Option.{slice_get_within}
@@ -11,7 +11,7 @@ use Rattle.model.specs.declared.op.Op.{Op}
 use Rattle.model.specs.declared.op.Op.TheVariants.{Work, Delay, DelayUntil, Yield, Time, Mark, Expect, Repeat, End as EndLoop}
 use Rattle.model.specs.Application.{Application, Limits, script_of, op_at}
 use Rattle.model.specs.Scripts.{may_stand, IsWellFormed}
-use Rattle.model.specs.State.{State, Progress, wake_time_of, progress_at, status_at}
+use Rattle.model.specs.State.{State, Progress, progress_at, status_at}
 use Rattle.model.specs.Switching.{is_ready}
 use Rattle.model.specs.Run.{end_of, or_else, are_all_ended, is_stuck, state_after}
 use Rattle.model.specs.Invariant.{IsState, IsUsedBy}
@@ -20,8 +20,8 @@ use Rattle.model.proofs.Reached.{ready_reckoned, ready_awake, reached_after}
 use Rattle.model.proofs.Settled.{settled_after}
 use Rattle.clock.specs.Timeline.{is_asleep}
 use Rattle.kernel.specs.declared.kernel.Kernel.{Kernel}
-use Rattle.kernel.specs.StandsFor.{StandsFor, progress_in}
-use Rattle.kernel.specs.Can.{Runs, HasLoopRoom, CanTick, Can, CanAct, CanStep}
+use Rattle.kernel.specs.StandsFor.{progress_in}
+use Rattle.kernel.specs.Can.{HasLoopRoom, CanTick, Can, CanAct, CanStep}
 use Rattle.kernel.proofs.Parts.{asleep_is}
 
 leb-less : (a b : ℕ) → leb a b ≡ false → b < a

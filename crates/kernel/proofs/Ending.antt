@@ -1,13 +1,13 @@
 -- When a run ends.
-use Rattle.std.proofs.Common.{◌≡◌, ◌+◌, ℕ, suc, Bool, true, false, not, ◌&&◌, ◌||◌, eqb, List, [], ◌∷◌, length, get_or, Option, Some, None, refl, ap, sym, ◌∙◌, arith}
-use Rattle.std.specs.List.{list_all, list_any, cons_option, filter, AllByRecursion}
+use Rattle.std.proofs.Common.{◌≡◌, ◌+◌, ℕ, suc, Bool, true, false, not, ◌&&◌, ◌||◌, eqb, List, [], ◌∷◌, length, get_or, Some, refl, ap, sym, ◌∙◌, arith}
+use Rattle.std.specs.List.{list_all, list_any, filter, AllByRecursion}
 use Rattle.std.specs.Prelude.{IsTrue, ◌↔◌}
-use Rattle.std.specs.Option.{option_map, option_eq, is_none, is_some}
+use Rattle.std.specs.Option.{option_eq, is_none, is_some}
 use Rattle.std.proofs.lemmas.List.{length-map}
 use Rattle.model.specs.declared.event.Event.{Event}
 use Rattle.model.specs.Application.{Application}
 use Rattle.model.specs.State.{State, Task, Status, Ready, Asleep, Ended, wake_time_of, no_task}
-use Rattle.model.specs.Order.{Key, Entry, entry, keyed, list_by, tasks_of}
+use Rattle.model.specs.Order.{Key, Entry, keyed, list_by, tasks_of}
 use Rattle.model.specs.Switching.{ready_key, settle}
 use Rattle.model.specs.Time.{delayed_key}
 use Rattle.model.specs.Step.{act_current, step}

@@ -1,3 +1,4 @@
+pub mod Looping
 pub mod Parts
 pub mod Waking
 pub mod Switches

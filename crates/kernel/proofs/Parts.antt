@@ -1,14 +1,13 @@
 -- What the parts of the kernel make of the states that it stands for.
-use Rattle.std.proofs.Common.{◌≡◌, ◌≢◌, ◌<◌, ◌+◌, ℕ, zero, suc, Bool, true, false, eqb, List, [], ◌∷◌, ◌++◌, length, get_or, set, Option, Some, None, refl, ap, sym, subst, ◌∙◌, arith, get_or-set_same, get_or-set_other}
+use Rattle.std.proofs.Common.{◌≡◌, ◌≢◌, ◌<◌, ℕ, zero, suc, true, false, eqb, List, [], ◌∷◌, ◌++◌, length, get_or, set, Option, Some, None, refl, ap, sym, subst, ◌∙◌, arith, get_or-set_same, get_or-set_other}
 use Rattle.std.specs.List.{filter}
 use Rattle.std.specs.Option.{option_eq, is_some}
 use Rattle.std.proofs.Math.ListN.{length-set}
 use Rattle.model.specs.declared.event.Event.{Event}
-use Rattle.model.specs.declared.event.What.{What}
 use Rattle.model.specs.State.{State, Task, Progress, Status, Ready, Asleep, Ended, ticket_if_ready, wake_time_of, no_task, no_progress, task_at, status_at, progress_at, with_task, printed}
 use Rattle.model.specs.State as state
 use Rattle.model.specs.Order.{Entry, list_by, tasks_of}
-use Rattle.model.specs.Switching.{ready_key, is_ready, make_ready, write}
+use Rattle.model.specs.Switching.{is_ready, make_ready, write}
 use Rattle.model.specs.Time.{delayed_key, sleep}
 use Rattle.model.specs.Ops.{moved_to}
 use Rattle.model.specs.Invariant.{IsTable}
@@ -16,7 +15,6 @@ use Rattle.model.proofs.Sorting.{by_test}
 use Rattle.model.proofs.Lists.{eqb-refl, eqb-same}
 use Rattle.model.proofs.Tables.{ticket_at, table-set, table-taken, table-make_ready}
 use Rattle.model.proofs.Reached.{ready_awake}
-use Rattle.sched.specs.StandsFor as sched
 use Rattle.sched.specs.Schedule.{Schedule, block}
 use Rattle.sched.specs.Schedule as schedule
 use Rattle.sched.proofs.Standing as on_sched
@@ -190,8 +188,8 @@ at_written k log new_log s e h told step tick =
       };
       log = told ∙ rw h.log (ap (λ (x : Event). s.log ++ x ∷ []) (event_same e s.steps (printed s.time) (step ∙ h.stands.rest.steps) (tick ∙ ap printed h.stands.rest.clock.now)));
     } where
-  event_same : (e : Event) (n m : ℕ) → e.step ≡ n → e.tick ≡ m → e ≡ record { step = n; tick = m; what = e.what }
-  event_same e n m a b = ap (λ (x : ℕ). record e { step = x }) a ∙ ap (λ (x : ℕ). record e { step = n; tick = x }) b
+      event_same : (e : Event) (n m : ℕ) → e.step ≡ n → e.tick ≡ m → e ≡ record { step = n; tick = m; what = e.what }
+      event_same e n m a b = ap (λ (x : ℕ). record e { step = x }) a ∙ ap (λ (x : ℕ). record e { step = n; tick = x }) b
 
 -- What was told doesn't matter to the parts.
 pub stands-told : (k : Kernel) (s : State) → StandsFor k s → (log : List Event) → StandsFor k (record s { log = log })

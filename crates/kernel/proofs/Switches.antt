@@ -1,9 +1,9 @@
 -- Who runs: what changes of the processor make of the states that the kernel stands for.
-use Rattle.std.proofs.Common.{◌≡◌, ◌<◌, ℕ, true, false, cond, ◌||◌, List, [], ◌∷◌, ◌++◌, length, Option, Some, None, refl, ap, sym, subst, ◌∙◌, append-nil}
+use Rattle.std.proofs.Common.{◌≡◌, ◌<◌, ℕ, Bool, true, false, not, cond, ◌||◌, List, [], ◌∷◌, ◌++◌, length, Option, Some, None, refl, ap, sym, subst, ◌∙◌, append-nil}
 use Rattle.std.specs.Option.{IfSome}
 use Rattle.model.specs.declared.event.Event.{Event}
 use Rattle.model.specs.declared.event.What.TheVariants as what
-use Rattle.model.specs.State.{State, Task, Ready, printed, progress_at, for_one}
+use Rattle.model.specs.State.{State, printed, for_one}
 use Rattle.model.specs.Switching.{choice, dispatch, choose, yield_now, to_back, make_ready, is_ready, is_outranked, is_sharing, is_same, slice, settle, is_off, write}
 use Rattle.model.specs.Invariant.{IsTable}
 use Rattle.model.proofs.Sorting.{by_test}
@@ -114,3 +114,11 @@ change_told n t before now current e q = rw (← e, q) refl
 
 pub change_none : (n t : ℕ) (before now current : Option ℕ) → now ≡ current → is_same now before ≡ true → change n t before current ≡ []
 change_none n t before now current e q = rw (← e, q) refl
+
+pub not_true : (b : Bool) → not b ≡ true → b ≡ false
+not_true true t = absurd (cc)
+not_true false t = refl
+
+pub not_false : (b : Bool) → not b ≡ false → b ≡ true
+not_false true t = refl
+not_false false t = absurd (cc)

@@ -1,17 +1,16 @@
 -- Who is due becomes Ready, one after the other.
-use Rattle.std.proofs.Common.{◌≡◌, ◌≢◌, ◌<◌, ◌+◌, ℕ, zero, suc, Bool, true, false, eqb, ltb, List, [], ◌∷◌, ◌++◌, ◌||◌, length, get_or, set, take, drop, refl, ap, sym, subst, ◌∙◌, arith, get_or-set_same, get_or-set_other}
+use Rattle.std.proofs.Common.{◌≡◌, ◌≢◌, ◌<◌, ◌+◌, ℕ, zero, suc, Bool, true, false, eqb, ltb, List, [], ◌∷◌, ◌++◌, ◌||◌, length, get_or, set, take, drop, refl, ap, sym, subst, ◌∙◌, arith}
 use Rattle.std.specs.List.{AllByRecursion, IsDistinct}
 use Rattle.std.proofs.lemmas.List.{take_more}
 use Rattle.std.proofs.lemmas.Bool.{ne_eqb}
-use Rattle.std.proofs.Math.ListN.{length-set}
 use Rattle.model.specs.declared.event.Event.{Event}
 use Rattle.model.specs.State.{State, Task, Ready, task_at, progress_at, for_each, no_task}
 use Rattle.model.specs.Order.{tasks_of}
 use Rattle.model.specs.Switching.{make_ready}
 use Rattle.model.specs.Time.{due, wake_due, advance, increment_tick}
 use Rattle.model.proofs.Sorting.{by_test}
-use Rattle.model.proofs.Lists.{eqb-refl, eqb-same}
-use Rattle.model.proofs.Chosen.{each-end, due_within}
+use Rattle.model.proofs.Lists.{eqb-refl}
+use Rattle.model.proofs.Chosen.{each-end}
 use Rattle.model.proofs.Frames.{keeps-all_ready}
 use Rattle.lists.specs.Lists.{Each, has_node}
 use Rattle.sched.specs.StandsFor as sched

@@ -1,14 +1,15 @@
 //! The kernel's state, and the parts of which each step is made.
-ghost use Rattle.std.specs.Prelude.{◌≡◌, ◌<◌, ◌+◌, ◌++◌, ◌∷◌, []};
+ghost use Rattle.std.specs.Prelude.{◌≡◌, ◌<◌, ◌+◌, ◌++◌, ◌∷◌, [], length};
 ghost use Rattle.model.specs.State.{printed};
 ghost use Rattle.model.specs.Switching.{write};
 ghost use Rattle.arrayvec.specs.ArrayVec.{array_vec_len};
+ghost use Rattle.kernel.specs.Loops.{after_turn, next_turn};
 ghost use Rattle.kernel.specs.StandsFor.{Does, progress_in, with_progress};
 
 use crate::progress::Progress;
 use arrayvec::ArrayVec;
 use clock::Clock;
-use model::{End, Event, TaskId, What};
+use model::{End, Event, Loop, TaskId, What};
 use sched::Sched;
 
 /// The events that one step tells: there is room for 128, and no step tells more.
@@ -71,5 +72,34 @@ impl Kernel {
     {
         let progress = &mut self.progress[task.number as usize];
         progress.answer = answer;
+    }
+    /// A task's `delay_until` counts from this time on.
+    pub(crate) fn set_previous_wake(&mut self, task: TaskId, time: u64)
+        ensures { self.new ≡ with_progress task
+            (record (progress_in self.old.progress task) { previous_wake = time }) self.old }
+    {
+        let progress = &mut self.progress[task.number as usize];
+        progress.previous_wake = time;
+    }
+
+    /// One more loop of a task is open, the innermost.
+    pub(crate) fn push_loop(&mut self, task: TaskId, innermost: Loop)
+        requires { length (progress_in self.old.progress task).loops < 4 }
+        ensures { let p = progress_in self.old.progress task in
+            self.new ≡ with_progress task (record p { loops = innermost ∷ p.loops }) self.old }
+    {
+        let progress = &mut self.progress[task.number as usize];
+        progress.loops.open(innermost);
+    }
+
+    /// A task's innermost loop ends a turn: the answer is the op at which the next turn begins, or `None` where there is
+    /// none.
+    pub(crate) fn end_turn(&mut self, task: TaskId) -> Option<u16>
+        ensures loops { let p = progress_in self.old.progress task in
+            self.new ≡ with_progress task (record p { loops = after_turn p.loops }) self.old }
+        ensures next { result ≡ next_turn (progress_in self.old.progress task).loops }
+    {
+        let progress = &mut self.progress[task.number as usize];
+        progress.loops.end_turn()
     }
 }

@@ -129,6 +129,7 @@ fn finish(
     ensures memory { OnErr result (0 < length (events_after app.now kernel.new.steps)) }
 {
     app.well_formed();
+    limits.well_formed();
     let none: [HandlerId; 0] = [];
     let mut log = StepLog::new();
     'steps: loop {
@@ -161,6 +162,7 @@ pub fn run(
         → (meter.new ≤ meter.old + run.steps) × (0 < length run.events)) }
 {
     let _ = plan;
+    limits.well_formed();
     let mut events = Vec::new(alloc);
     let mut kernel = Kernel::boot(app);
     let end = finish(&mut kernel, app, &limits, meter, &mut events)?;

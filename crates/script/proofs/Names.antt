@@ -16,10 +16,10 @@ use Rattle.script.specs.declared.place.Place.{Place}
 use Rattle.script.specs.declared.place.Section.TheVariants as section
 use Rattle.script.specs.declared.place.Key.TheVariants as key
 use Rattle.script.specs.Faults.{first_fault, fails_if, at_section, at_field}
-use Rattle.script.specs.Values.{optional_fault, required_fault, text_fault, name_fault, name_named}
+use Rattle.script.specs.Values.{optional_fault, text_fault, name_fault, name_named}
 use Rattle.script.specs.Names.{is_name, HasDistinctNames}
-use Rattle.script.specs.Tasks.{Raw, items_len, script_fault, task_table_fault, task_fault, task_named, tasks_fault, tasks_named, entries_fault, section_array_fault, section_fault, section_named}
-use Rattle.script.specs.Ops.{scripts_fault, with_ops}
+use Rattle.script.specs.Tasks.{Raw, items_len, task_table_fault, task_fault, task_named, tasks_fault, tasks_named, entries_fault, section_array_fault, section_fault, section_named}
+use Rattle.script.specs.Ops.{with_ops}
 use Rattle.script.specs.Load.{limits_fault, load_fault, app_named}
 
 -- Where none of some checks finds a fault, the first doesn't, and none of the others.

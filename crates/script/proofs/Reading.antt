@@ -8,7 +8,7 @@ use Rattle.std.proofs.lemmas.Bool.{and_parts, not-true}
 use Rattle.model.specs.declared.op.Op.{Op}
 use Rattle.model.specs.Application.{word_of}
 use Rattle.model.specs.Scripts.{is_in_range, InRange}
-use Rattle.script.specs.Grammar.{Word, Form, Done, Number, Answer, forms, number_of, answer_of, Writes, WritesBy, Spells, take_by, read, form_word, read_by, if_in_range, op_of}
+use Rattle.script.specs.Grammar.{Word, Form, Done, Number, Answer, forms, number_of, answer_of, Writes, WritesBy, Spells, read, form_word, read_by, if_in_range, op_of}
 
 -- which branch of a test it was
 chosen : {X : Type 0} (b : Bool) (x y z : X) → cond b x y ≡ z

@@ -11,6 +11,7 @@ use Rattle.model.specs.Scripts.{is_in_range, InRange}
 
 -- ---- words
 
+-- a word of a text, as its bytes
 abbrev pub Word : Type 0
 Word = List ℕ
 
@@ -40,8 +41,8 @@ answer_of w = if bytes_eq w (codes "none") then Some None else option_map Some (
 
 -- ---- the grammar
 
--- How an op's text goes on after its own word: it is over, or a word writes a number or an answer, and with this it goes
--- on.
+-- How an op's text goes on after its own word (profile): it is over, or a word writes a number or an answer, and with
+-- this it goes on.
 pub data Form : Type 0 where
   Done : (op : Op) → Form
   Number : (next : ℕ → Form) → Form

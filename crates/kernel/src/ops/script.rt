@@ -40,9 +40,8 @@ impl Kernel {
         requires { Can self.old task (op.Repeat turns) }
         ensures { Moves self.old self.new (open_loop app.now task turns) }
     {
-        let progress = &mut self.progress[task.number as usize];
-        let start = progress.op_index + 1;
-        progress.loops.open(Loop { start, left: turns });
+        let start = self.progress(task).op_index + 1;
+        self.push_loop(task, Loop { start, left: turns });
         self.complete(app, task);
     }
 
@@ -51,8 +50,7 @@ impl Kernel {
         requires { Can self.old task op.End }
         ensures { Moves self.old self.new (close_turn app.now task) }
     {
-        let progress = &mut self.progress[task.number as usize];
-        match progress.loops.end_turn() {
+        match self.end_turn(task) {
             Some(start) => self.go_to(app, task, start),
             None => self.complete(app, task),
         }

@@ -66,15 +66,6 @@ impl Kernel {
         }
     }
 
-    /// The task's `delay_until` counts from this time on.
-    fn set_previous_wake(&mut self, task: TaskId, time: u64)
-        ensures { (log : List Event) (s : State) → At self.old log s → task < length s.tasks
-            → At self.new log (set_previous_wake task time s) }
-    {
-        let progress = &mut self.progress[task.number as usize];
-        progress.previous_wake = time;
-    }
-
     /// `delay_until`: the task sleeps until so many ticks after the time from which it counts, and counts from there; where
     /// that is not still to come, it goes on.
     pub(crate) fn delay_until(&mut self, app: &App, task: TaskId, ticks: u32, log: &mut StepLog)
@@ -88,10 +79,11 @@ impl Kernel {
         if now < wake_time {
             self.answer(app, task, Some(1), log);
             self.sleep(task, (wake_time - now) as u32);
+            self.set_previous_wake(task, wake_time);
         } else {
             self.answer(app, task, Some(0), log);
+            self.set_previous_wake(task, wake_time);
         }
-        self.set_previous_wake(task, wake_time);
     }
 
     /// `yield`: the task goes behind its equals.

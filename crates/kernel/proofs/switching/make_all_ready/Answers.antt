@@ -2,8 +2,8 @@ use Rattle.std.proofs.Common.{take_all, ◌∙◌}
 use Rattle.kernel.proofs.Waking.{next_free, more_free, ready_more}
 use Rattle.kernel.proofs.switching.make_all_ready.Goals as goal
 
-pub make_ready-requires-clause-free : goal.make_ready-requires-clause-free
-make_ready-requires-clause-free c = next_free c.loop-task.sched c.args.tasks.now c.loop-task.task-index c.task-item.result c.loop-task-test.true c.task-item.is c.loop-task.invariant.free
+pub make_ready-requires : goal.make_ready-requires
+make_ready-requires c = record { free = next_free c.loop-task.sched c.args.tasks.now c.loop-task.task-index c.task-item.result c.loop-task-test.true c.task-item.is c.loop-task.invariant.free }
 
 pub loop-task-preserved : goal.loop-task-preserved
 loop-task-preserved c = record {

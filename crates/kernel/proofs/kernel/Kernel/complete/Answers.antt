@@ -1,4 +1,4 @@
-use Rattle.std.proofs.Common.{◌+◌, ap, subst, ◌∙◌, ℕ}
+use Rattle.std.proofs.Common.{◌+◌, subst, ◌∙◌}
 use Rattle.model.specs.State.{Progress, progress_at}
 use Rattle.model.specs.Ops.{go_to}
 use Rattle.kernel.specs.StandsFor.{At}
@@ -8,4 +8,4 @@ pub returns-clause-does : goal.returns-clause-does
 returns-clause-does c = λ log s h.
     let task = c.args.task in
     let P : Progress → Type 0 = λ p. At c.go_to.new.self log (go_to c.args.app.now task (p.op_index + 1) (progress_at s task) s) in
-    subst P (c.progress-next.ensures ∙ h.stands.rest.progress task) (c.go_to.ensures.does log s h)
+    subst P (c.behind-self.view_is ∙ c.progress.ensures ∙ h.stands.rest.progress task) (c.go_to.ensures.does log s h)

@@ -1,4 +1,3 @@
-use Rattle.std.proofs.Common.{ap, ◌∙◌, sym}
 use Rattle.kernel.proofs.Acting.{goes_on, ends}
 use Rattle.kernel.proofs.kernel.Kernel.go_to.Goals as goal
 

@@ -1,4 +1,4 @@
-use Rattle.std.proofs.Common.{◌≡◌, ◌∙◌, List, ℕ, sym, subst}
+use Rattle.std.proofs.Common.{◌≡◌, ◌∙◌}
 use Rattle.model.specs.Order.{tasks_of}
 use Rattle.model.specs.Time.{due}
 use Rattle.model.proofs.Chosen.{due_within}
@@ -7,7 +7,7 @@ use Rattle.kernel.proofs.Waking.{to_wake, sched-ticked, woken}
 use Rattle.kernel.proofs.kernel.Kernel.increment_tick.Goals as goal
 
 pub make_all_ready-requires : goal.make_all_ready-requires
-make_all_ready-requires c = ?
+make_all_ready-requires c = rw c.as_slice.ensures.value (to_wake c.args.self.now c.requires.agrees.0 c.requires.agrees.1 c.advance-due.new.self c.advance-due.result.items c.advance-due.ensures.advances)
 
 pub returns : goal.returns
 returns c = λ log s h.

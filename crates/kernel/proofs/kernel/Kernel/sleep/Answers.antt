@@ -1,5 +1,6 @@
 use Rattle.std.proofs.Common.{sym, ◌∙◌}
 use Rattle.kernel.proofs.Parts.{apart, ready_within, stands-slept}
+use Rattle.kernel.proofs.Acting.{log-sleep, sleep_none}
 use Rattle.kernel.proofs.kernel.Kernel.sleep.Goals as goal
 
 pub sleep-requires-clause-awake : goal.sleep-requires-clause-awake
@@ -9,7 +10,7 @@ pub returns-then-is_ready : goal.returns-then-is_ready
 returns-then-is_ready c = λ log s h.
     let on = sym (c.if-is_ready.ensures.ready s h.stands) in
     let l = ready_within s c.args.task on in
-    record { stands = stands-slept c.args.self.now s h.stands c.args.task l _ on c.block.new.self c.block.ensures.schedule c.sleep.new.self (c.sleep.ensures.stands s h.stands.rest.clock l on); log = ? }
+    record { stands = stands-slept c.args.self.now s h.stands c.args.task l _ on c.block.new.self c.block.ensures.schedule c.sleep.new.self (c.sleep.ensures.stands s h.stands.rest.clock l on); log = h.log ∙ sym (log-sleep c.args.task _ s) }
 
 pub returns-else-is_ready : goal.returns-else-is_ready
-returns-else-is_ready c = λ log s h. ?
+returns-else-is_ready c = λ log s h. sleep_none c.args.self.now log s h c.args.task _ (sym (c.if-is_ready.ensures.ready s h.stands))

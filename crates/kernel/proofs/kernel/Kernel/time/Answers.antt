@@ -1,4 +1,4 @@
-use Rattle.std.proofs.Common.{◌≡◌, ℕ, ap, subst, sym, ◌∙◌, Some}
+use Rattle.std.proofs.Common.{ℕ, ap, subst, ◌∙◌, Some}
 use Rattle.model.specs.State.{printed}
 use Rattle.model.specs.Ops.{answer}
 use Rattle.kernel.specs.StandsFor.{At}

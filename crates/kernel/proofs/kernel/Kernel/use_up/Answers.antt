@@ -1,10 +1,12 @@
+use Rattle.std.proofs.Common.{◌∙◌}
+use Rattle.kernel.specs.contracts.progress.Progress.{the_view}
 use Rattle.kernel.proofs.Acting.{used_last, used_more}
 use Rattle.kernel.proofs.kernel.Kernel.use_up.Goals as goal
 
 pub returns-then-used-ticks-clause-does : goal.returns-then-used-ticks-clause-does
 returns-then-used-ticks-clause-does c = λ log s h.
-    used_last c.args.app.now c.args.self.now c.complete.new.self log s h c.args.task c.requires.runs.current c.progress-used.result.now c.progress-used.ensures c.args.ticks c.if-used-ticks.true c.complete.ensures.does
+    used_last c.args.app.now c.args.self.now c.complete.new.self log s h c.args.task c.requires.runs.current (the_view c.behind-self.inside) (c.behind-self.view_is ∙ c.progress.ensures) c.args.ticks c.if-used-ticks.true c.complete.ensures.does
 
 pub returns-else-used-ticks-clause-does : goal.returns-else-used-ticks-clause-does
 returns-else-used-ticks-clause-does c = λ log s h.
-    used_more c.args.app.now c.args.self.now c.set_used.new.self log s h c.args.task c.requires.runs.current c.progress-used.result.now c.progress-used.ensures c.args.ticks c.if-used-ticks.false c.set_used.ensures
+    used_more c.args.app.now c.args.self.now c.set_used.new.self log s h c.args.task c.requires.runs.current (the_view c.behind-self.inside) (c.behind-self.view_is ∙ c.progress.ensures) c.args.ticks c.if-used-ticks.false c.set_used.ensures

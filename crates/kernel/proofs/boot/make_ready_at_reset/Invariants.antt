@@ -1,0 +1,13 @@
+use Rattle.std.proofs.Common.{◌≡◌, length, take}
+use Rattle.model.specs.State.{State, for_each}
+use Rattle.model.specs.Switching.{make_ready}
+use Rattle.model.specs.Step.{with_ops}
+use Rattle.sched.specs.StandsFor.{StandsFor}
+use Rattle.kernel.specs.Boot.{HasNoneFrom}
+use Rattle.kernel.proofs.boot.make_ready_at_reset.Given as goal
+
+abbrev pub invariant-loop-index : goal.invariant-loop-index
+invariant-loop-index l = record {
+  none : HasNoneFrom l.index l.sched;
+  ready : (s : State) → StandsFor l.fn.sched s → length s.tasks ≡ length l.tasks → StandsFor l.sched (for_each make_ready (with_ops 0 (take l.index l.tasks)) s);
+}

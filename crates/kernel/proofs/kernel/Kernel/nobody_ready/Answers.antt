@@ -1,0 +1,34 @@
+use Rattle.std.proofs.Common.{refl, ap, sym, ◌∙◌}
+use Rattle.sched.specs.Schedule.{Schedule}
+use Rattle.clock.specs.StandsFor.{tasks_at}
+use Rattle.model.specs.Step.{nobody_ready}
+use Rattle.model.proofs.Reached.{reached_nobody}
+use Rattle.kernel.proofs.Booting.{none_ready, none_due, priority_at}
+use Rattle.kernel.proofs.kernel.Kernel.nobody_ready.Goals as goal
+
+pub returns-clause-stands : goal.returns-clause-stands
+unfolding nobody_ready
+returns-clause-stands c =
+    let table = (reached_nobody c.args.app.now c.well_formed-2.ensures).table in
+    record {
+      sched = record {
+        ready = ap (λ (v : Schedule). v.ready) c.new.ensures.new ∙ sym (none_ready c.args.app.now.start c.args.app.now.tasks);
+        current = ap (λ (v : Schedule). v.current) c.new.ensures.new;
+        priorities = λ i. rw c.new.ensures.new (c.priorities_of.ensures.priorities i ∙ rw c.tasks-2.ensures (priority_at c.args.app.now.start c.args.app.now.tasks i));
+        table = table;
+      };
+      rest = record {
+        progress = λ i. c.progress_of.ensures.progress i ∙ rw (c.tasks.ensures, c.start.ensures) refl;
+        full = c.progress_of.ensures.full;
+        clock = record {
+          now = c.new-2.ensures.now ∙ c.start-2.ensures;
+          age = c.new-2.ensures.age;
+          sorted = rw c.new-2.ensures.nobody tt;
+          once = rw c.new-2.ensures.nobody tt;
+          delayed = λ m. ap (tasks_at m) c.new-2.ensures.nobody ∙ sym (none_due c.args.app.now m);
+          table = table;
+        };
+        steps = refl;
+        stopped = refl;
+      };
+    }

@@ -1,0 +1,14 @@
+use Rattle.std.proofs.Common.{◌≡◌, ◌+◌, ◌-◌}
+use Rattle.model.specs.Run.{events_after}
+use Rattle.kernel.specs.Can.{IsUnderWay}
+use Rattle.kernel.proofs.steps.finish.Given as goal
+
+abbrev pub invariant-steps : goal.invariant-steps
+invariant-steps l = record {
+  way : IsUnderWay l.app l.limits l.kernel;
+  events : l.events.items ≡ events_after l.app l.kernel.steps;
+  meter : l.meter ≡ l.fn.meter + l.kernel.steps;
+}
+
+abbrev pub decreases-steps : goal.decreases-steps
+decreases-steps l = l.limits.steps - l.kernel.steps
