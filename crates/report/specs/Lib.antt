@@ -1,5 +1,2 @@
-pub mod Bytes
-pub mod Read
-pub mod StdIo
+pub mod Examples
 pub mod Text
-pub mod Words

@@ -1,10 +1,29 @@
 //! Laws of the definitions: each is the contract of a function that does nothing.
-ghost use Rattle.std.specs.Prelude.{◌≡◌, codes};
-ghost use Rattle.model.specs.Examples.{delay_one, delay_one_lines};
-ghost use Rattle.model.specs.Trace.{Pass};
+ghost use Rattle.std.specs.Prelude.{◌≡◌, ◌++◌, codes};
+ghost use Rattle.report.specs.Examples.{delay_one, delay_one_run, each_form, each_form_run};
 ghost use Rattle.report.specs.Text.{run_text};
 
-/// The report of a worked example, letter by letter.
+/// The report of a `delay 1` beside a task that only marks, letter by letter.
 pub fn report_of_delay_one()
-    ensures { run_text delay_one delay_one_lines 4 1 Pass ≡ codes "base: pass in 4 steps, 1 ticks\n0 0 call a 0 delay = 0\n0 0 run b\n1 0 mark b 2\n1 0 run -\n2 1 run a\n3 1 mark a 1\n3 1 run -\n" }
+    ensures { run_text delay_one delay_one_run ≡
+        codes "base: pass in 4 steps, 1 ticks\n"
+        ++ codes "0 0 call a 0 delay = 0\n"
+        ++ codes "0 0 run b\n"
+        ++ codes "1 0 mark b 2\n"
+        ++ codes "1 0 run -\n"
+        ++ codes "2 1 run a\n"
+        ++ codes "3 1 mark a 1\n"
+        ++ codes "3 1 run -\n" }
+{}
+
+/// An event of each form, with the largest numbers, letter by letter.
+pub fn report_of_each_form()
+    ensures { run_text each_form each_form_run ≡
+        codes "base: check abcdefghijklmnop 65535 in 4294967295 steps, 0 ticks\n"
+        ++ codes "4294967295 4294967295 call abcdefghijklmnop 0 delay_until = 4294967295\n"
+        ++ codes "0 0 call abcdefghijklmnop 0 delay_until = none\n"
+        ++ codes "0 0 call abcdefghijklmnop 1  = none\n"
+        ++ codes "1 10 mark abcdefghijklmnop 4294967295\n"
+        ++ codes "1 10 run abcdefghijklmnop\n"
+        ++ codes "1 10 run -\n" }
 {}

@@ -1,4 +1,4 @@
-use Rattle.report.proofs.Sending.{Adds_unable}
+use Rattle.byte_io.proofs.Sending.{Adds_unable}
 use Rattle.report.proofs.run.add_head.Goals as goal
 
 pub returns-in_err-make_room-clause-text : goal.returns-in_err-make_room-clause-text

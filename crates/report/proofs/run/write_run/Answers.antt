@@ -1,4 +1,4 @@
-use Rattle.report.proofs.Sending.{Writes_then}
+use Rattle.byte_io.proofs.Sending.{Writes_then}
 use Rattle.report.proofs.run.write_run.Goals as goal
 
 pub returns-clause-text : goal.returns-clause-text

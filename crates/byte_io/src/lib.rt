@@ -1,0 +1,18 @@
+//! Bytes in and out: where they come from and go to, reading all of them, a page that waits to be put, and lines of text.
+#![tactic(auto)]
+
+mod add;
+mod line;
+mod page;
+mod put;
+mod read;
+mod std_io;
+mod stream;
+
+pub use add::{flush, make_room};
+pub use line::{Piece, write_line};
+pub use page::Page;
+pub use put::{WriteFault, put_all};
+pub use read::{ReadFault, read_all};
+pub use std_io::{FromReader, ToWriter};
+pub use stream::{Failed, Sink, Source};

@@ -1,0 +1,26 @@
+//! Tests of the crates below together: whole answers of the program, the kernel beside a slow one, streams that fail. There is
+//! nothing here but tests.
+#![tactic(auto)]
+
+#[cfg(test)]
+mod bytes;
+#[cfg(test)]
+mod dice;
+#[cfg(test)]
+mod file;
+#[cfg(test)]
+mod random;
+#[cfg(test)]
+mod refused;
+#[cfg(test)]
+mod runs;
+#[cfg(test)]
+mod sinks;
+#[cfg(test)]
+mod sizes;
+#[cfg(test)]
+mod slow;
+#[cfg(test)]
+mod streams;
+#[cfg(test)]
+mod words;

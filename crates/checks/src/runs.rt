@@ -1,0 +1,473 @@
+//! Files and the whole answers of their runs: first the examples, whose texts are those of `examples/` with the reports that
+//! are stored there, since a test reads no file of the repository. The answers are those of an independent program.
+
+use crate::sinks::{check_text, serve};
+
+/// A file, and the status and the report of its run.
+#[derive(Clone, Copy)]
+struct Case {
+    name: &'static str,
+    file: &'static str,
+    status: u8,
+    report: &'static str,
+}
+
+const CASES: [Case; 22] = [
+    Case {
+        name: "loops_and_expect.toml",
+        file: r#"# A loop inside a loop, and an `expect` that holds in the first turn of the outer loop and fails in the second.
+#
+# Look for the two marks in each turn of the outer loop: they are the turns of the inner one. Then `time` answers the tick, 0
+# at first and 1 after the `work`, and `expect 0` compares that answer. The head line says where the run ends: `check a 5` is
+# the op of index 5 of the task `a`, counted from 0. An `expect` writes no line of its own, whether it holds or fails. The
+# program's status is 1, since the run doesn't pass.
+[[task]]
+name = "a"
+priority = 1
+script = ["repeat 2", "repeat 2", "mark 7", "end", "time", "expect 0", "work 1", "end"]
+"#,
+        status: 1,
+        report: r"base: check a 5 in 17 steps, 1 ticks
+2 0 mark a 7
+4 0 mark a 7
+6 0 call a 4 time = 0
+11 1 mark a 7
+13 1 mark a 7
+15 1 call a 4 time = 1
+",
+    },
+    Case {
+        name: "periodic.toml",
+        file: r#"# Two tasks that each compute for one tick in every turn and then sleep, one with `delay_until 5` and one with `delay 5`.
+#
+# Look at the answers of `time`, the ticks at which the turns begin. For `exact` they are 0, 5 and 10: `delay_until` counts
+# from the moment that it came to before, at first from the time at reset, so the computing between makes no difference. For
+# `drifts` they are 1, 7 and 13: `delay` counts from the tick at which it is called, so each turn lasts one tick longer than
+# its sleep. `delay_until` answers 1 each time, since its moment is still to come.
+[[task]]
+name = "exact"
+priority = 2
+script = ["repeat 3", "time", "work 1", "delay_until 5", "end"]
+
+[[task]]
+name = "drifts"
+priority = 1
+script = ["repeat 3", "time", "work 1", "delay 5", "end"]
+"#,
+        status: 0,
+        report: r"base: pass in 39 steps, 19 ticks
+1 0 call exact 1 time = 0
+3 1 call exact 3 delay_until = 1
+3 1 run drifts
+5 1 call drifts 1 time = 1
+7 2 call drifts 3 delay = 0
+7 2 run -
+10 5 run exact
+12 5 call exact 1 time = 5
+14 6 call exact 3 delay_until = 1
+14 6 run -
+15 7 run drifts
+17 7 call drifts 1 time = 7
+19 8 call drifts 3 delay = 0
+19 8 run -
+21 10 run exact
+23 10 call exact 1 time = 10
+25 11 call exact 3 delay_until = 1
+25 11 run -
+27 13 run drifts
+29 13 call drifts 1 time = 13
+31 14 call drifts 3 delay = 0
+31 14 run -
+32 15 run exact
+33 15 run -
+37 19 run drifts
+38 19 run -
+",
+    },
+    Case {
+        name: "round_robin.toml",
+        file: r#"# Two tasks of equal priority that each compute for three ticks.
+#
+# Look for the `run` lines: each tick ends the slice of the task that runs, and the other one gets the processor. The two
+# take turns until both scripts are done; then idle runs (`run -`).
+[[task]]
+name = "a"
+priority = 1
+script = ["work 3"]
+
+[[task]]
+name = "b"
+priority = 1
+script = ["work 3"]
+"#,
+        status: 0,
+        report: r"base: pass in 6 steps, 6 ticks
+0 1 run b
+1 2 run a
+2 3 run b
+3 4 run a
+4 5 run b
+5 6 run -
+",
+    },
+    Case {
+        name: "sleepers_across_the_wrap.toml",
+        file: r#"# Two tasks that sleep while the tick count goes from 4294967295 to 0.
+#
+# Look at the second number of each line, the tick: after 4294967295 comes 1, since the tick 0 passes while idle runs, in a
+# step that writes no line. `b` fell asleep at 4294967294 for three ticks, and `a` at 4294967295 for two, so both wake in the
+# tick that is printed as 1; `b`, whose sleep began first, runs first.
+start = 4294967294
+
+[[task]]
+name = "a"
+priority = 1
+script = ["yield", "work 1", "delay 2", "mark 1"]
+
+[[task]]
+name = "b"
+priority = 1
+script = ["delay 3", "mark 2"]
+"#,
+        status: 0,
+        report: r"base: pass in 8 steps, 3 ticks
+0 4294967294 call a 0 yield = 0
+0 4294967294 run b
+1 4294967294 call b 0 delay = 0
+1 4294967294 run a
+3 4294967295 call a 2 delay = 0
+3 4294967295 run -
+5 1 run b
+6 1 mark b 2
+6 1 run a
+7 1 mark a 1
+7 1 run -
+",
+    },
+    Case {
+        name: "an empty script is done at once",
+        file: r"[[task]]
+name = 'a'
+priority = 1
+script = []
+",
+        status: 0,
+        report: r"base: pass in 0 steps, 0 ticks
+",
+    },
+    Case {
+        name: "the limit of steps comes inside a loop",
+        file: r"limits = { steps = 5 }
+
+[[task]]
+name = 'a'
+priority = 1
+script = ['repeat 1000', 'end']
+",
+        status: 1,
+        report: r"base: steps in 5 steps, 0 ticks
+",
+    },
+    Case {
+        name: "a loop of two turns ends before the limit of steps",
+        file: r"limits = { steps = 5 }
+
+[[task]]
+name = 'a'
+priority = 1
+script = ['repeat 2', 'end']
+",
+        status: 0,
+        report: r"base: pass in 3 steps, 0 ticks
+2 0 run -
+",
+    },
+    Case {
+        name: "the limit of ticks comes before a sleeper wakes",
+        file: r"limits = { ticks = 2 }
+
+[[task]]
+name = 'a'
+priority = 1
+script = ['delay 3']
+
+[[task]]
+name = 'b'
+priority = 1
+script = ['work 5']
+",
+        status: 1,
+        report: r"base: ticks in 3 steps, 2 ticks
+0 0 call a 0 delay = 0
+0 0 run b
+",
+    },
+    Case {
+        name: "an answer that was not expected",
+        file: r"[[task]]
+name = 'a'
+priority = 1
+script = ['time', 'expect 1']
+",
+        status: 1,
+        report: r"base: check a 1 in 2 steps, 0 ticks
+0 0 call a 0 time = 0
+",
+    },
+    Case {
+        name: "a check fails although a loop is open",
+        file: r"[[task]]
+name = 'a'
+priority = 1
+script = ['repeat 3', 'yield', 'expect 0', 'time', 'expect none', 'end']
+",
+        status: 1,
+        report: r"base: check a 4 in 5 steps, 0 ticks
+1 0 call a 1 yield = 0
+3 0 call a 3 time = 0
+",
+    },
+    Case {
+        name: "tasks of one priority take turns",
+        file: r"[[task]]
+name = 'a'
+priority = 1
+script = ['work 3']
+
+[[task]]
+name = 'b'
+priority = 1
+script = ['work 3']
+",
+        status: 0,
+        report: r"base: pass in 6 steps, 6 ticks
+0 1 run b
+1 2 run a
+2 3 run b
+3 4 run a
+4 5 run b
+5 6 run -
+",
+    },
+    Case {
+        name: "of two priorities the higher runs to its end",
+        file: r"[[task]]
+name = 'low'
+priority = 1
+script = ['work 2']
+
+[[task]]
+name = 'high'
+priority = 2
+script = ['work 2']
+",
+        status: 0,
+        report: r"base: pass in 4 steps, 4 ticks
+1 2 run low
+3 4 run -
+",
+    },
+    Case {
+        name: "delay 0 yields",
+        file: r"[[task]]
+name = 'a'
+priority = 1
+script = ['delay 0', 'mark 1']
+
+[[task]]
+name = 'b'
+priority = 1
+script = ['mark 2']
+",
+        status: 0,
+        report: r"base: pass in 3 steps, 0 ticks
+0 0 call a 0 delay = 0
+0 0 run b
+1 0 mark b 2
+1 0 run a
+2 0 mark a 1
+2 0 run -
+",
+    },
+    Case {
+        name: "delay 1 sleeps to the next tick",
+        file: r"[[task]]
+name = 'a'
+priority = 1
+script = ['delay 1', 'mark 1']
+
+[[task]]
+name = 'b'
+priority = 1
+script = ['mark 2']
+",
+        status: 0,
+        report: r"base: pass in 4 steps, 1 ticks
+0 0 call a 0 delay = 0
+0 0 run b
+1 0 mark b 2
+1 0 run -
+2 1 run a
+3 1 mark a 1
+3 1 run -
+",
+    },
+    Case {
+        name: "a delay across the wrap of the tick",
+        file: r"start = 4294967295
+
+[[task]]
+name = 'a'
+priority = 1
+script = ['delay 1', 'time', 'expect 0']
+",
+        status: 0,
+        report: r"base: pass in 4 steps, 1 ticks
+0 4294967295 call a 0 delay = 0
+0 4294967295 run -
+1 0 run a
+2 0 call a 1 time = 0
+3 0 run -
+",
+    },
+    Case {
+        name: "two sleepers wake across the wrap, in the order in which they began",
+        file: r"start = 4294967294
+
+[[task]]
+name = 'a'
+priority = 1
+script = ['yield', 'work 1', 'delay 2', 'mark 1']
+
+[[task]]
+name = 'b'
+priority = 1
+script = ['delay 3', 'mark 2']
+",
+        status: 0,
+        report: r"base: pass in 8 steps, 3 ticks
+0 4294967294 call a 0 yield = 0
+0 4294967294 run b
+1 4294967294 call b 0 delay = 0
+1 4294967294 run a
+3 4294967295 call a 2 delay = 0
+3 4294967295 run -
+5 1 run b
+6 1 mark b 2
+6 1 run a
+7 1 mark a 1
+7 1 run -
+",
+    },
+    Case {
+        name: "four loops inside one another",
+        file: r"[[task]]
+name = 'a'
+priority = 1
+script = ['repeat 1', 'repeat 1', 'repeat 1', 'repeat 1', 'end', 'end', 'end', 'end']
+",
+        status: 0,
+        report: r"base: pass in 8 steps, 0 ticks
+7 0 run -
+",
+    },
+    Case {
+        name: "delay_until counts from its own time",
+        file: r"[[task]]
+name = 'a'
+priority = 1
+script = ['work 3', 'delay_until 2', 'delay_until 2', 'time']
+",
+        status: 0,
+        report: r"base: pass in 7 steps, 4 ticks
+3 3 call a 1 delay_until = 0
+4 3 call a 2 delay_until = 1
+4 3 run -
+5 4 run a
+6 4 call a 3 time = 4
+6 4 run -
+",
+    },
+    Case {
+        name: "a script that ends asleep",
+        file: r"[[task]]
+name = 'a'
+priority = 1
+script = ['delay_until 5']
+",
+        status: 0,
+        report: r"base: pass in 1 steps, 0 ticks
+0 0 call a 0 delay_until = 1
+0 0 run -
+",
+    },
+    Case {
+        name: "delay_until across the wrap of the tick",
+        file: r"start = 4294967295
+
+[[task]]
+name = 'a'
+priority = 1
+script = ['delay_until 1', 'time']
+",
+        status: 0,
+        report: r"base: pass in 3 steps, 1 ticks
+0 4294967295 call a 0 delay_until = 1
+0 4294967295 run -
+1 0 run a
+2 0 call a 1 time = 0
+2 0 run -
+",
+    },
+    Case {
+        name: "a sleeper of higher priority preempts when it wakes",
+        file: r"[[task]]
+name = 'low'
+priority = 1
+script = ['work 3']
+
+[[task]]
+name = 'high'
+priority = 2
+script = ['delay 2', 'mark 9']
+",
+        status: 0,
+        report: r"base: pass in 5 steps, 3 ticks
+0 0 call high 0 delay = 0
+0 0 run low
+2 2 run high
+3 2 mark high 9
+3 2 run low
+4 3 run -
+",
+    },
+    Case {
+        name: "the limit of steps ends a million steps",
+        file: r"[[task]]
+name = 'a'
+priority = 1
+script = ['repeat 1000', 'work 1000', 'end']
+",
+        status: 1,
+        report: r"base: steps in 1000000 steps, 999000 ticks
+",
+    },
+];
+
+#[test]
+fn each_case_has_its_report(rt: HostRuntime) {
+    for case in CASES {
+        for at_once in [1, 4096] {
+            let answer = serve(rt.alloc(), case.file.as_bytes(), at_once);
+            assert_eq!(rt; answer.status, case.status, "{}", case.name);
+            check_text(
+                &rt,
+                rt.alloc(),
+                case.name,
+                answer.written.bytes(),
+                case.report,
+            );
+            check_text(&rt, rt.alloc(), case.name, answer.told.bytes(), "");
+        }
+    }
+}

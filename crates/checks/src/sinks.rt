@@ -1,0 +1,133 @@
+//! Sinks and sources that are narrow, or fail, and the program's answer over them.
+ghost use Rattle.std.specs.Prelude.{◌≡◌, false};
+
+use byte_io::{Failed, FromReader, Sink, Source};
+use jobs::{Job, act};
+use std::alloc::Global;
+use std::process::Abort;
+
+/// Holds what it is given, at most so many bytes a call. Once there is no more room it fails, or takes no more.
+#[derive(Drop)]
+pub(crate) struct Holder {
+    bytes: Vec<u8>,
+    at_once: usize,
+    room: usize,
+    is_polite: bool,
+    failed: bool,
+}
+
+impl Holder {
+    /// A sink with so much room, which a polite one tells by taking nothing.
+    pub(crate) fn new(alloc: Global, at_once: usize, room: usize, is_polite: bool) -> Self
+        ensures { result.failed ≡ false }
+    {
+        Holder {
+            bytes: Vec::new(alloc),
+            at_once,
+            room,
+            is_polite,
+            failed: false,
+        }
+    }
+
+    /// A sink with ample room.
+    pub(crate) fn wide(alloc: Global, at_once: usize) -> Self
+        ensures { result.failed ≡ false }
+    {
+        Holder::new(alloc, at_once, usize::MAX, true)
+    }
+
+    /// What it holds.
+    pub(crate) fn bytes(&self) -> &[u8] {
+        self.bytes.as_slice()
+    }
+}
+
+impl Sink for Holder {
+    ghost use Rattle.std.specs.Prelude.{Some};
+
+    ghost held = { λ s. Some s.bytes.items };
+
+    ghost has_failed = { λ s. s.failed };
+
+    fn put(&mut self, bytes: &[u8]) -> Result<usize, Failed> {
+        let count = bytes.len().min(self.at_once).min(self.room);
+        let is_full = count == 0 && !bytes.is_empty();
+        if (is_full && !self.is_polite) || self.bytes.extend_from_slice(&bytes[..count]).is_err() {
+            self.failed = true;
+            return Err(Failed);
+        }
+        self.room -= count;
+        self.failed = is_full;
+        Ok(count)
+    }
+}
+
+/// Gives the same bytes so many times, and then fails, as a folder that is read does at once.
+#[derive(Drop)]
+pub(crate) struct Breaking {
+    text: &'static [u8],
+    calls: u32,
+    failed: bool,
+}
+
+impl Breaking {
+    pub(crate) fn new(text: &'static [u8], calls: u32) -> Self
+        ensures { result.failed ≡ false }
+    {
+        Breaking {
+            text,
+            calls,
+            failed: false,
+        }
+    }
+}
+
+impl Source for Breaking {
+    ghost use Rattle.std.specs.Prelude.{None};
+
+    ghost left = { λ s. None };
+
+    ghost has_failed = { λ s. s.failed };
+
+    fn pull(&mut self, buffer: &mut [u8]) -> Result<usize, Failed> {
+        let count = self.text.len();
+        if self.calls == 0 || buffer.len() < count {
+            self.failed = true;
+            return Err(Failed);
+        }
+        self.calls -= 1;
+        buffer[..count].copy_from_slice(self.text);
+        Ok(count)
+    }
+}
+
+/// What the program answers.
+#[derive(Drop)]
+pub(crate) struct Answer {
+    pub(crate) status: u8,
+    pub(crate) written: Holder,
+    pub(crate) told: Holder,
+}
+
+/// Runs a file, over sinks that take so many bytes a call.
+pub(crate) fn serve(alloc: Global, file: &[u8], at_once: usize) -> Answer {
+    let mut written = Holder::wide(alloc, at_once);
+    let mut told = Holder::wide(alloc, at_once);
+    let job = Job::Run { file: "app.toml" };
+    let mut reader = FromReader::new(file);
+    let status = act(alloc, &job, &mut reader, &mut written, &mut told);
+    Answer {
+        status,
+        written,
+        told,
+    }
+}
+
+/// Compares a text with the one that is wanted, and shows both where they differ.
+pub(crate) fn check_text(rt: &impl Abort, alloc: Global, name: &str, got: &[u8], wanted: &str) {
+    if got != wanted.as_bytes() {
+        let got = String::from_utf8_lossy(alloc, got).expect(rt, "memory");
+        panic!(rt; "{name}: got\n{got}\nin place of\n{wanted}");
+    }
+}

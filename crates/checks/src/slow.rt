@@ -1,0 +1,414 @@
+//! The kernel as its definitions tell it: one table of tasks, each with its ticket. Every question is a search of the table.
+//! It is slow, and says plainly what the kernel over lists has to do.
+
+use model::{App, End, Event, Limits, Loop, Op, TaskId, What};
+use std::alloc::Global;
+
+#[derive(Clone, Copy, Debug)]
+enum Status {
+    /// In the ready list, with this ticket.
+    Ready(u64),
+    Asleep { wake_time: u64, ticket: u64 },
+    Ended,
+}
+
+#[derive(Clone, Copy, Debug)]
+struct Task {
+    priority: u8,
+    op_index: u16,
+    used: u32,
+    loops: [Loop; 4],
+    nesting: usize,
+    answer: Option<u32>,
+    previous_wake: u64,
+    status: Status,
+}
+
+#[derive(Drop)]
+pub(crate) struct SlowKernel {
+    tasks: [Task; 32],
+    time: u64,
+    pub(crate) elapsed: u32,
+    current: Option<TaskId>,
+    next_ticket: u64,
+    pub(crate) steps: u32,
+    stopped: Option<End>,
+    pub(crate) events: Vec<Event>,
+    is_out_of_memory: bool,
+}
+
+impl SlowKernel {
+    /// The kernel at reset.
+    pub(crate) fn boot(alloc: Global, app: &App) -> Self {
+        let no_task = Task {
+            priority: 0,
+            op_index: 0,
+            used: 0,
+            loops: [Loop::default(); 4],
+            nesting: 0,
+            answer: None,
+            previous_wake: app.start() as u64,
+            status: Status::Ended,
+        };
+        let mut kernel = SlowKernel {
+            tasks: [no_task; 32],
+            time: app.start() as u64,
+            elapsed: 0,
+            current: None,
+            next_ticket: 0,
+            steps: 0,
+            stopped: None,
+            events: Vec::new(alloc),
+            is_out_of_memory: false,
+        };
+        kernel.make_all_ready(app);
+        kernel.current = kernel.choice();
+        kernel
+    }
+
+    fn make_all_ready(&mut self, app: &App) {
+        for number in 0..32 {
+            let task = TaskId { number };
+            if let Some(definition) = app.tasks().get(number as usize) {
+                self.tasks[number as usize].priority = definition.priority();
+            }
+            if app.op_count(task) > 0 {
+                self.make_ready(task);
+            }
+        }
+    }
+
+    fn task(&self, task: TaskId) -> Task {
+        self.tasks[task.number as usize]
+    }
+
+    fn set(&mut self, task: TaskId, now: Task) {
+        self.tasks[task.number as usize] = now;
+    }
+
+    fn take_ticket(&mut self) -> u64 {
+        self.next_ticket = self.next_ticket.wrapping_add(1);
+        self.next_ticket
+    }
+
+    /// The printed tick.
+    fn tick_now(&self) -> u32 {
+        (self.time % 4_294_967_296) as u32
+    }
+
+    fn write(&mut self, what: What) {
+        let event = Event {
+            step: self.steps,
+            tick: self.tick_now(),
+            what,
+        };
+        self.is_out_of_memory |= self.events.push(event).is_err();
+    }
+
+    /// The task is Ready, behind all others of its priority.
+    fn make_ready(&mut self, task: TaskId) {
+        let status = Status::Ready(self.take_ticket());
+        self.set(
+            task,
+            Task {
+                status,
+                ..self.task(task)
+            },
+        );
+    }
+
+    fn is_ready(&self, task: TaskId) -> bool {
+        matches!(self.task(task).status, Status::Ready(_))
+    }
+
+    /// Whether one of two Ready tasks, by priority and ticket, comes before the other.
+    fn is_before(one: (u8, u64), other: (u8, u64)) -> bool {
+        one.0 > other.0 || (one.0 == other.0 && one.1 < other.1)
+    }
+
+    fn choice(&self) -> Option<TaskId> {
+        let mut best = None;
+        for number in 0..32 {
+            let task = self.task(TaskId { number });
+            let Status::Ready(ticket) = task.status else {
+                continue;
+            };
+            let key = (task.priority, ticket);
+            if best.is_none_or(|(_, other)| Self::is_before(key, other)) {
+                best = Some((number, key));
+            }
+        }
+        let (number, _) = best?;
+        TaskId::new(number)
+    }
+
+    /// The choice runs.
+    fn choose(&mut self) {
+        let choice = self.choice();
+        if choice != self.current {
+            self.current = choice;
+            self.write(What::Run(choice));
+        }
+    }
+
+    /// Whether a Ready task is above the running one, or another has its priority.
+    fn is_slice_over(&self) -> bool {
+        for number in 0..32 {
+            let other = TaskId { number };
+            if !self.is_ready(other) {
+                continue;
+            }
+            let Some(task) = self.current else {
+                return true;
+            };
+            let (mine, its) = (self.task(task).priority, self.task(other).priority);
+            if its > mine || (its == mine && other != task) {
+                return true;
+            }
+        }
+        false
+    }
+
+    /// The running task goes behind the others of its priority, and the choice runs.
+    fn yield_now(&mut self) {
+        if let Some(task) = self.current {
+            self.to_back(task);
+        }
+        self.choose();
+    }
+
+    /// The end of a tick.
+    fn slice(&mut self) {
+        if self.is_slice_over() {
+            self.yield_now();
+        }
+    }
+
+    /// The sleeper whose wake time is now that began first.
+    fn first_due(&self) -> Option<TaskId> {
+        let mut best = None;
+        for number in 0..32 {
+            let Status::Asleep { wake_time, ticket } = self.task(TaskId { number }).status else {
+                continue;
+            };
+            if wake_time != self.time {
+                continue;
+            }
+            if best.is_none_or(|(_, other)| ticket < other) {
+                best = Some((number, ticket));
+            }
+        }
+        let (number, _) = best?;
+        TaskId::new(number)
+    }
+
+    fn wake_due(&mut self) {
+        for _ in 0..32 {
+            let Some(task) = self.first_due() else {
+                return;
+            };
+            self.make_ready(task);
+        }
+    }
+
+    fn tick(&mut self) {
+        self.time = self.time.wrapping_add(1);
+        self.elapsed = self.elapsed.wrapping_add(1);
+        self.wake_due();
+        self.slice();
+    }
+
+    /// The task, which is now as given, goes on at this op.
+    fn go_to(&mut self, app: &App, id: TaskId, op_index: u16, task: Task) {
+        let is_past = op_index as usize == app.op_count(id);
+        let status = if is_past { Status::Ended } else { task.status };
+        self.set(
+            id,
+            Task {
+                op_index,
+                used: 0,
+                status,
+                ..task
+            },
+        );
+    }
+
+    fn complete(&mut self, app: &App, id: TaskId, task: Task) {
+        self.go_to(app, id, task.op_index.wrapping_add(1), task);
+    }
+
+    fn answer(&mut self, app: &App, id: TaskId, answer: Option<u32>) {
+        let task = self.task(id);
+        self.write(What::Call(id, task.op_index, answer));
+        self.complete(app, id, Task { answer, ..task });
+    }
+
+    fn to_back(&mut self, id: TaskId) {
+        if self.is_ready(id) {
+            self.make_ready(id);
+        }
+    }
+
+    fn sleep(&mut self, id: TaskId, wake_time: u64) {
+        if self.is_ready(id) {
+            let ticket = self.take_ticket();
+            let status = Status::Asleep { wake_time, ticket };
+            self.set(
+                id,
+                Task {
+                    status,
+                    ..self.task(id)
+                },
+            );
+        }
+    }
+
+    fn work(&mut self, app: &App, id: TaskId, units: u32) {
+        let task = self.task(id);
+        let used = task.used.wrapping_add(1);
+        if used == units {
+            self.complete(app, id, task);
+        } else {
+            self.set(id, Task { used, ..task });
+        }
+        self.tick();
+    }
+
+    fn delay(&mut self, app: &App, id: TaskId, ticks: u32) {
+        self.answer(app, id, Some(0));
+        if ticks == 0 {
+            self.yield_now();
+        } else {
+            self.sleep(id, self.time.wrapping_add(ticks as u64));
+        }
+    }
+
+    fn delay_until(&mut self, app: &App, id: TaskId, ticks: u32) {
+        let wake_time = self.task(id).previous_wake.wrapping_add(ticks as u64);
+        let sleeps = wake_time > self.time;
+        self.answer(app, id, Some(sleeps as u32));
+        self.set(
+            id,
+            Task {
+                previous_wake: wake_time,
+                ..self.task(id)
+            },
+        );
+        if sleeps {
+            self.sleep(id, wake_time);
+        }
+    }
+
+    fn expect(&mut self, app: &App, id: TaskId, wanted: Option<u32>) {
+        let task = self.task(id);
+        if task.answer == wanted {
+            self.complete(app, id, task);
+        } else {
+            self.stopped = Some(End::Check(id, task.op_index));
+        }
+    }
+
+    fn open_loop(&mut self, app: &App, id: TaskId, turns: u16) {
+        let mut task = self.task(id);
+        let nesting = task.nesting;
+        let start = task.op_index.wrapping_add(1);
+        if let Some(cell) = task.loops.get_mut(nesting) {
+            *cell = Loop { start, left: turns };
+        }
+        task.nesting = nesting.wrapping_add(1);
+        self.complete(app, id, task);
+    }
+
+    fn close_turn(&mut self, app: &App, id: TaskId) {
+        let mut task = self.task(id);
+        let outer = task.nesting.wrapping_sub(1);
+        let innermost = task.loops.get(outer).copied().unwrap_or_default();
+        if innermost.left > 1 {
+            if let Some(cell) = task.loops.get_mut(outer) {
+                cell.left = innermost.left - 1;
+            }
+            self.go_to(app, id, innermost.start, task);
+        } else {
+            task.nesting = outer;
+            self.complete(app, id, task);
+        }
+    }
+
+    fn act(&mut self, app: &App, id: TaskId, op: Op) {
+        match op {
+            Op::Work(units) => self.work(app, id, units),
+            Op::Delay(ticks) => self.delay(app, id, ticks),
+            Op::DelayUntil(ticks) => self.delay_until(app, id, ticks),
+            Op::Yield => {
+                self.answer(app, id, Some(0));
+                self.yield_now();
+            }
+            Op::Time => self.answer(app, id, Some(self.tick_now())),
+            Op::Mark(number) => {
+                self.write(What::Mark(id, number));
+                self.complete(app, id, self.task(id));
+            }
+            Op::Expect(wanted) => self.expect(app, id, wanted),
+            Op::Repeat(turns) => self.open_loop(app, id, turns),
+            Op::End => self.close_turn(app, id),
+        }
+    }
+
+    fn step(&mut self, app: &App) {
+        match self.current {
+            None => self.tick(),
+            Some(id) => {
+                if let Some(op) = app.op(id, self.task(id).op_index) {
+                    self.act(app, id, op);
+                }
+            }
+        }
+        if self.current.is_some_and(|id| !self.is_ready(id)) {
+            self.choose();
+        }
+        self.steps = self.steps.wrapping_add(1);
+    }
+
+    fn is_any_asleep(&self) -> bool {
+        self.tasks
+            .iter()
+            .any(|task| matches!(task.status, Status::Asleep { .. }))
+    }
+
+    fn are_all_ended(&self) -> bool {
+        self.tasks
+            .iter()
+            .all(|task| matches!(task.status, Status::Ended))
+    }
+
+    /// The end of the run before its next step; `None` where it goes on.
+    fn end(&self, limits: &Limits) -> Option<End> {
+        if self.stopped.is_some() {
+            self.stopped
+        } else if self.are_all_ended() {
+            Some(End::Pass)
+        } else if self.elapsed >= limits.ticks {
+            Some(End::Ticks)
+        } else if self.steps >= limits.steps {
+            Some(End::Steps)
+        } else if self.current.is_none() && !self.is_any_asleep() {
+            Some(End::Stuck)
+        } else {
+            None
+        }
+    }
+
+    /// Goes on to the end of the run; `None` where no memory is left.
+    pub(crate) fn run(&mut self, app: &App, limits: &Limits) -> Option<End> {
+        for _ in 0..limits.steps {
+            if let Some(end) = self.end(limits) {
+                return Some(end);
+            }
+            self.step(app);
+            if self.is_out_of_memory {
+                return None;
+            }
+        }
+        Some(self.end(limits).unwrap_or(End::Steps))
+    }
+}

@@ -1,0 +1,77 @@
+//! Readers and writers that fail, at once or in mid-stream.
+
+use crate::sinks::{Breaking, Holder, check_text};
+use byte_io::FromReader;
+use jobs::{Job, act};
+use std::alloc::Global;
+use std::process::Abort;
+
+// A sound file, which ends in a comment so that it may be given again and again.
+const ONE_MARK: &str = "task = [{ name = 'a', priority = 1, script = ['mark 5'] }] # ";
+
+const ONE_MARK_REPORT: &str = "base: pass in 1 steps, 0 ticks\n0 0 mark a 5\n0 0 run -\n";
+
+// A file whose report has several pages, and the bytes of that report.
+const MANY_MARKS: &str =
+    "task = [{ name = 'a', priority = 1, script = ['repeat 1000', 'mark 1', 'mark 2', 'end'] }]";
+
+const MANY_MARKS_SIZE: usize = 31_309;
+
+/// Runs a sound file, over a writer that has room for so many bytes of its report. Answers what was written.
+fn check_full_writer(
+    rt: &impl Abort,
+    alloc: Global,
+    file: &str,
+    room: usize,
+    is_polite: bool,
+) -> Holder {
+    let job = Job::Run { file: "app.toml" };
+    let mut reader = FromReader::new(file.as_bytes());
+    let mut written = Holder::new(alloc, 4096, room, is_polite);
+    let mut told = Holder::wide(alloc, 4096);
+    let status = act(alloc, &job, &mut reader, &mut written, &mut told);
+    assert_eq!(rt; status, 5, "with room for {room}");
+    let line = "rtosim: cannot write\n";
+    check_text(rt, alloc, "a full writer", told.bytes(), line);
+    written
+}
+
+#[test]
+fn a_full_writer_has_the_beginning(rt: HostRuntime) {
+    let report = ONE_MARK_REPORT.as_bytes();
+    for room in 0..report.len() {
+        for is_polite in [false, true] {
+            let written = check_full_writer(&rt, rt.alloc(), ONE_MARK, room, is_polite);
+            assert_eq!(rt; written.bytes(), &report[..room]);
+        }
+    }
+}
+
+#[test]
+fn a_writer_is_full_after_some_pages(rt: HostRuntime) {
+    for room in [8191, 8192, 8193, 20_000, MANY_MARKS_SIZE - 1] {
+        let written = check_full_writer(&rt, rt.alloc(), MANY_MARKS, room, false);
+        assert_eq!(rt; written.bytes().len(), room);
+    }
+}
+
+/// Runs a file whose reader fails after so many reads, over a sink of faults with so much room.
+fn check_broken_reader(rt: &impl Abort, alloc: Global, calls: u32, room: usize) {
+    let job = Job::Run { file: "a folder" };
+    let mut reader = Breaking::new(ONE_MARK.as_bytes(), calls);
+    let mut written = Holder::wide(alloc, 4096);
+    let mut told = Holder::new(alloc, 4096, room, false);
+    let status = act(alloc, &job, &mut reader, &mut written, &mut told);
+    let line = b"rtosim: cannot read a folder\n".as_slice();
+    assert_eq!(rt; status, 3);
+    assert_eq!(rt; written.bytes(), b"".as_slice());
+    assert_eq!(rt; told.bytes(), &line[..line.len().min(room)]);
+}
+
+#[test]
+fn a_reader_that_fails_writes_nothing(rt: HostRuntime) {
+    for calls in 0..3 {
+        check_broken_reader(&rt, rt.alloc(), calls, 100);
+        check_broken_reader(&rt, rt.alloc(), calls, 10);
+    }
+}

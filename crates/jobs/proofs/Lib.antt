@@ -1,0 +1,5 @@
+pub mod Lines
+pub mod Commands
+pub mod Matches
+mod Putting
+mod Serving

@@ -1,0 +1,29 @@
+-- What the matches of the words say of the job.
+use Rattle.std.proofs.Common.{◌≡◌, ◌∙◌, ap, refl, subst, true, List, ℕ, Option}
+use Rattle.clap.specs.Words.{App, Row, is_simple, takes, fault_of, is_simple_and_free, Kinds, subcommand_of, subcommand_rows_of, HasMatchesOf}
+use Rattle.clap.specs.declared.parser.matches.ArgMatches.{ArgMatches}
+use Rattle.clap.proofs.OnLiterals.{clap_on_literals}
+use Rattle.jobs.specs.declared.acting.Job.{Job}
+use Rattle.jobs.specs.Words.{IsJobOf, rtosim_app}
+
+pub taken_as : (a b : App) (words : List (List ℕ)) (P : Type 0) → a ≡ b → (takes a words ≡ true → P) → takes b words ≡ true → P
+taken_as a b words P same gives took = gives (rw same took)
+
+is_simple-rtosim : is_simple rtosim_app ≡ true
+unfolding rtosim_app clap_on_literals
+is_simple-rtosim = refl
+
+pub job_as : (a : App) (words : List (List ℕ)) (m : ArgMatches) (job : Job) → a ≡ rtosim_app → HasMatchesOf a words m
+    → IsJobOf (subcommand_rows_of m) job → IsJobOf (subcommand_of rtosim_app words) job
+job_as a words m job same has is =
+    let found : subcommand_rows_of m ≡ subcommand_of rtosim_app words =
+    (has (ap is_simple same ∙ is_simple-rtosim)).1 ∙ ap (λ (x : App). subcommand_of x words) same in
+    subst (λ (s : Option (List ℕ × List Row)). IsJobOf s job) found is
+
+is_free-rtosim : is_simple_and_free rtosim_app ≡ true
+unfolding rtosim_app clap_on_literals
+is_free-rtosim = refl
+
+pub kinds_as : (a : App) (words : List (List ℕ)) (P : Kinds → Type 0) → a ≡ rtosim_app
+    → (is_simple_and_free a ≡ true → P (fault_of a words)) → P (fault_of rtosim_app words)
+kinds_as a words P same gives = subst (λ (x : App). is_simple_and_free x ≡ true → P (fault_of x words)) same gives is_free-rtosim

@@ -1,0 +1,7 @@
+use Rattle.jobs.specs.Words.{rtosim_app}
+use Rattle.jobs.proofs.Commands.{with_command}
+use Rattle.jobs.proofs.words.command.Goals as goal
+
+pub returns : goal.returns
+unfolding rtosim_app
+returns c = with_command _ _ _ _ _ c.program.ensures c.in_ok-run_command.ensures c.subcommand.ensures

@@ -1,0 +1,4 @@
+pub mod Acting
+pub mod Obeying
+pub mod Serving
+pub mod Words

@@ -1,0 +1,92 @@
+-- What the program does for the words of its command line.
+use Rattle.std.specs.Prelude.{◌≡◌, ◌≢◌, ◌⊎◌, ℕ, Bool, true, false, List, [], Option, None, Result}
+use Rattle.std.specs.Io.KnownBytes.{Keeps}
+use Rattle.clap.specs.Words.{IsAmong, fault_of, subcommand_of}
+use Rattle.clap.specs.declared.error.kind.ErrorKind.{ErrorKind}
+use Rattle.clap.specs.declared.error.kind.ErrorKind.TheVariants.{DisplayHelp, DisplayVersion, OutOfMemory}
+use Rattle.model.specs.declared.event.End.{End}
+use Rattle.jobs.specs.declared.acting.Job.{Job}
+use Rattle.jobs.specs.declared.serve.ServeFault.{ServeFault}
+use Rattle.jobs.specs.declared.serve.ServeFault.TheVariants.{Memory, Write}
+use Rattle.jobs.specs.Serving.{Serves}
+use Rattle.jobs.specs.Acting.{Tells, fault_line, file_of, status_of, told}
+use Rattle.jobs.specs.Words.{IsJobOf, rtosim_app}
+
+-- ---- words that name no job
+
+-- Words of this kind are refused: they ask neither for help nor for the version.
+abbrev pub IsRefusal : ErrorKind → Type 0
+IsRefusal kind = (kind ≢ DisplayHelp) × (kind ≢ DisplayVersion)
+
+-- the status where a text was to be written: 5 where the writer failed
+abbrev pub shown_status : (write_failed : Bool) → ℕ
+shown_status false = 0
+shown_status true = 5
+
+-- what is told then: nothing, or that it can't be written
+abbrev pub ShownTells : (write_failed : Bool) → (old new : Option (List ℕ)) → (failed : Bool) → Type 0
+ShownTells false old new failed = Keeps old new × (failed ≡ false)
+ShownTells true old new failed = Tells old new failed (fault_line [] Write)
+
+-- Help or the version was asked for: a text is written.
+pub record Shows (kind : ErrorKind) (old new : Option (List ℕ)) (write_failed : Bool)
+    (faults_old faults_new : Option (List ℕ)) (tell_failed : Bool) (status : ℕ) : Type 0 where
+  pub asked : IsRefusal kind → ⊥
+  pub text : List ℕ
+  pub writes : Tells old new write_failed text
+  pub tells : ShownTells write_failed faults_old faults_new tell_failed
+  pub ends : status ≡ shown_status write_failed
+
+-- The words are refused: a text that says why is told, and nothing is written.
+pub record Refuses (kind : ErrorKind) (old new : Option (List ℕ)) (write_failed : Bool)
+    (faults_old faults_new : Option (List ℕ)) (tell_failed : Bool) (status : ℕ) : Type 0 where
+  pub refused : IsRefusal kind
+  pub text : List ℕ
+  pub tells : Tells faults_old faults_new tell_failed text
+  pub keeps : Keeps old new
+  pub working : write_failed ≡ false
+  pub ends : status ≡ 2
+
+-- No memory is left: this is told, and nothing is written.
+pub record LacksMemory (old new : Option (List ℕ)) (write_failed : Bool)
+    (faults_old faults_new : Option (List ℕ)) (tell_failed : Bool) (status : ℕ) : Type 0 where
+  pub tells : Tells faults_old faults_new tell_failed (fault_line [] Memory)
+  pub keeps : Keeps old new
+  pub working : write_failed ≡ false
+  pub ends : status ≡ 4
+
+-- one of the three, for words of this kind
+abbrev pub Answers : ErrorKind → (old new : Option (List ℕ)) → (write_failed : Bool)
+    → (faults_old faults_new : Option (List ℕ)) → (tell_failed : Bool) → (status : ℕ) → Type 0
+Answers kind old new write_failed faults_old faults_new tell_failed status =
+    Shows kind old new write_failed faults_old faults_new tell_failed status
+    ⊎ (Refuses kind old new write_failed faults_old faults_new tell_failed status
+    ⊎ LacksMemory old new write_failed faults_old faults_new tell_failed status)
+
+-- ---- all words
+
+-- The words name this job, and it ended with this outcome.
+pub record DoesJob (words : List (List ℕ)) (old new : Option (List ℕ)) (write_failed : Bool)
+    (faults_old faults_new : Option (List ℕ)) (tell_failed : Bool) (status : ℕ) : Type 0 where
+  pub job : Job
+  pub named : IsJobOf (subcommand_of rtosim_app words) job
+  pub taken : fault_of rtosim_app words ≡ []
+  pub outcome : Result End ServeFault
+  pub read_failed : Bool
+  pub serves : Serves None read_failed old new write_failed outcome
+  pub tells : Tells faults_old faults_new tell_failed (told (file_of job) outcome)
+  pub ends : status ≡ status_of outcome
+
+-- The words name no job, and are of this kind; or no memory is left.
+pub record DoesNoJob (words : List (List ℕ)) (old new : Option (List ℕ)) (write_failed : Bool)
+    (faults_old faults_new : Option (List ℕ)) (tell_failed : Bool) (status : ℕ) : Type 0 where
+  pub kind : ErrorKind
+  pub due : (kind ≡ OutOfMemory) ⊎ IsAmong kind (fault_of rtosim_app words)
+  pub answers : Answers kind old new write_failed faults_old faults_new tell_failed status
+
+-- one of the two
+abbrev pub Obeys : (words : List (List ℕ)) → (old new : Option (List ℕ)) → (write_failed : Bool)
+    → (faults_old faults_new : Option (List ℕ)) → (tell_failed : Bool) → (status : ℕ) → Type 0
+Obeys words old new write_failed faults_old faults_new tell_failed status =
+    DoesJob words old new write_failed faults_old faults_new tell_failed status
+    ⊎ DoesNoJob words old new write_failed faults_old faults_new tell_failed status

@@ -1,0 +1,107 @@
+//! The line that tells a fault.
+ghost use Rattle.std.specs.Prelude.{◌≡◌, ◌++◌, ◌≤◌, ◌<◌, ◌+◌, codes, false, map, [], option_map};
+ghost use Rattle.std.specs.List.{cons_option};
+ghost use Rattle.arrayvec.specs.ArrayVec.{array_vec_len};
+ghost use Rattle.byte_io.specs.Line.{piece_text};
+ghost use Rattle.script.specs.Faults.{fault_name, place_words, word_text};
+ghost use Rattle.jobs.specs.Acting.{fault_pieces, load_pieces, Tells, fault_line};
+
+use crate::serve::ServeFault;
+use arrayvec::ArrayVec;
+use byte_io::{Piece, Sink, write_line};
+use script::{LoadFault, Place, PlaceWord};
+
+// The pieces of a line, of which a fault has seven at most: three of a load fault itself, and four of its place.
+type Pieces<'a> = ArrayVec<Piece<'a>, 7>;
+
+// The name of a load fault, and a colon.
+fn label(fault: LoadFault) -> &'static str
+    ensures { result.now ≡ fault_name fault ++ codes ":" }
+{
+    match fault {
+        LoadFault::Missing(_) => "Missing:",
+        LoadFault::WrongKind(_) => "WrongKind:",
+        LoadFault::OutOfRange(_) => "OutOfRange:",
+        LoadFault::BadOp(_) => "BadOp:",
+        LoadFault::DoubleName(_) => "DoubleName:",
+        LoadFault::BadNesting(_) => "BadNesting:",
+        LoadFault::TooMany(_) => "TooMany:",
+        LoadFault::Memory => "Memory:",
+    }
+}
+
+fn piece_of<'a>(word: PlaceWord) -> Piece<'a>
+    ensures { piece_text result ≡ word_text word }
+{
+    match word {
+        PlaceWord::Name(name) => Piece::Text(name),
+        PlaceWord::Index(index) => Piece::Number(index as u64),
+    }
+}
+
+// Appends a word of a place, if it applies.
+fn push_word(pieces: &mut Pieces<'_>, word: Option<PlaceWord>)
+    requires { array_vec_len pieces.old < 7 }
+    ensures texts { map piece_text pieces.new.items
+        ≡ map piece_text pieces.old.items ++ cons_option (option_map word_text word) [] }
+    ensures count { array_vec_len pieces.new ≤ array_vec_len pieces.old + 1 }
+{
+    if let Some(word) = word {
+        pieces.push(piece_of(word));
+    }
+}
+
+// Appends the words of a place, four at most.
+#[tactic(auto, using(crate::proofs::Lines::words_left))]
+fn push_place(pieces: &mut Pieces<'_>, place: Place)
+    requires { array_vec_len pieces.old ≤ 3 }
+    ensures { map piece_text pieces.new.items
+        ≡ map piece_text pieces.old.items ++ place_words place }
+{
+    let words = place.words();
+    for word in words {
+        push_word(pieces, word);
+    }
+}
+
+// Appends the pieces of a load fault.
+fn push_load<'a>(pieces: &mut Pieces<'a>, fault: LoadFault)
+    requires { pieces.old.items ≡ [] }
+    ensures { map piece_text pieces.new.items ≡ load_pieces fault }
+{
+    pieces.push(Piece::Text("rtosim:"));
+    pieces.push(Piece::Number(u64::from(fault.code())));
+    pieces.push(Piece::Text(label(fault)));
+    if let Some(place) = fault.place() {
+        push_place(pieces, place);
+    }
+}
+
+// The pieces of a fault's line.
+fn pieces_of<'a>(file: &'a str, fault: ServeFault) -> Pieces<'a>
+    ensures { map piece_text result.items ≡ fault_pieces file.entry.now fault }
+{
+    let mut pieces = Pieces::new();
+    match fault {
+        ServeFault::Read => {
+            pieces.push(Piece::Text("rtosim: cannot read"));
+            pieces.push(Piece::Text(file));
+        }
+        ServeFault::NotToml => pieces.push(Piece::Text("rtosim: not TOML")),
+        ServeFault::Load(fault) => push_load(&mut pieces, fault),
+        ServeFault::Memory => pieces.push(Piece::Text("rtosim: out of memory")),
+        ServeFault::Write => pieces.push(Piece::Text("rtosim: cannot write")),
+    }
+    pieces
+}
+
+/// Puts the line of a fault of this file. Where the sink fails, or takes none of some bytes, it has taken a beginning
+/// of the line.
+pub fn tell<F: Sink>(faults: &mut F, file: &str, fault: ServeFault)
+    requires { F.has_failed faults.old ≡ false }
+    ensures { Tells (F.held faults.old) (F.held faults.new) (F.has_failed faults.new)
+        (fault_line file.now fault) }
+{
+    let pieces = pieces_of(file, fault);
+    let _ = write_line(faults, pieces.as_slice());
+}

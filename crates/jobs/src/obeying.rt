@@ -1,0 +1,88 @@
+//! What is done for the words of the command line.
+ghost use Rattle.std.specs.Prelude.{◌≡◌, false};
+ghost use Rattle.clap.specs.Words.{kind_of};
+ghost use Rattle.jobs.specs.Acting.{Tells};
+ghost use Rattle.jobs.specs.Obeying.{Answers, Obeys, ShownTells, shown_status};
+ghost use Rattle.jobs.specs.Words.{texts_of};
+
+use crate::acting::{open_and_act, refuse};
+use crate::serve::ServeFault;
+use crate::words::job_named;
+use byte_io::{Sink, WriteFault, put_all};
+use clap::Error;
+use clap::error::ErrorKind;
+use std::alloc::Global;
+use std::rt::Files;
+
+// Writes help or the version, as far as the writer takes it.
+fn show<W: Sink, F: Sink>(text: &str, writer: &mut W, faults: &mut F) -> u8
+    requires writes { W.has_failed writer.old ≡ false }
+    requires tells { F.has_failed faults.old ≡ false }
+    ensures writes { Tells (W.held writer.old) (W.held writer.new) (W.has_failed writer.new)
+        text.now }
+    ensures tells { ShownTells (W.has_failed writer.new)
+        (F.held faults.old) (F.held faults.new) (F.has_failed faults.new) }
+    ensures status { result ≡ shown_status (W.has_failed writer.new) }
+{
+    match put_all(writer, text.as_bytes()) {
+        Ok(()) => 0,
+        Err(WriteFault) => refuse(faults, "", ServeFault::Write),
+    }
+}
+
+// Tells why the words are refused. That the text can't be put changes nothing of the status.
+fn refuse_words<F: Sink>(text: &str, faults: &mut F) -> u8
+    requires { F.has_failed faults.old ≡ false }
+    ensures tells { Tells (F.held faults.old) (F.held faults.new) (F.has_failed faults.new)
+        text.now }
+    ensures status { result ≡ 2 }
+{
+    let _ = put_all(faults, text.as_bytes());
+    2
+}
+
+/// Ends a call whose words name no job: help and the version are written, any other text of `clap` is told.
+pub fn conclude_error<W: Sink, F: Sink>(
+    alloc: Global,
+    error: &Error,
+    writer: &mut W,
+    faults: &mut F,
+) -> u8
+    requires writes { W.has_failed writer.old ≡ false }
+    requires tells { F.has_failed faults.old ≡ false }
+    ensures { Answers (kind_of error.now)
+        (W.held writer.old) (W.held writer.new) (W.has_failed writer.new)
+        (F.held faults.old) (F.held faults.new) (F.has_failed faults.new) result }
+{
+    if error.kind() == ErrorKind::OutOfMemory {
+        return refuse(faults, "", ServeFault::Memory);
+    }
+    let Ok(text) = error.to_string(alloc) else {
+        return refuse(faults, "", ServeFault::Memory);
+    };
+    if error.use_stderr() {
+        refuse_words(text.as_str(), faults)
+    } else {
+        show(text.as_str(), writer, faults)
+    }
+}
+
+/// Does what the words ask for: a job over the two sinks, or to show help or the version, or to say why they are refused.
+pub fn obey<S: Files, W: Sink, F: Sink>(
+    alloc: Global,
+    files: &S,
+    words: &[&str],
+    writer: &mut W,
+    faults: &mut F,
+) -> u8
+    requires writes { W.has_failed writer.old ≡ false }
+    requires tells { F.has_failed faults.old ≡ false }
+    ensures { Obeys (texts_of words.entry.now)
+        (W.held writer.old) (W.held writer.new) (W.has_failed writer.new)
+        (F.held faults.old) (F.held faults.new) (F.has_failed faults.new) result }
+{
+    match job_named(alloc, words) {
+        Ok(job) => open_and_act(alloc, files, &job, writer, faults),
+        Err(error) => conclude_error(alloc, &error, writer, faults),
+    }
+}

@@ -1,0 +1,98 @@
+//! The words of the command line.
+ghost use Rattle.std.specs.Prelude.{◌≡◌, IfOk, IfErr, IfSome, IsNone, true, map, option_map};
+ghost use Rattle.clap.specs.Words.{takes, kind_of, subcommand_of, first_of, found_of, rows_of, subcommand_rows_of, fault_of, FailsBy};
+ghost use Rattle.clap.specs.declared.error.kind.ErrorKind.TheVariants.{OutOfMemory};
+ghost use Rattle.jobs.specs.Words.{file_rule, run_app, rtosim_top, rtosim_app, texts_of, IsCommandOf, IsArgOf, IsRunOf, IsJobOf, NamesNoFile, NamesNoJob};
+
+use crate::acting::Job;
+use clap::{Arg, ArgAction, ArgMatches, Command, Error};
+use std::alloc::{AllocError, Global};
+
+const STATUSES: &str = "Exit status:
+  0  the run passes, or help or the version was asked for
+  1  the run ends in another way: its head line says how
+  2  the words of the command line are refused
+  3  the file can't be read, is not TOML, or describes no application
+  4  no memory is left
+  5  the trace can't be written";
+
+fn file_argument<'a>(alloc: Global) -> Arg<'a>
+    ensures { IsArgOf file_rule result }
+{
+    Arg::new(alloc, "FILE")
+        .required(true)
+        .action(ArgAction::Set)
+        .help("The application, a TOML file")
+}
+
+fn run_command<'a>(alloc: Global) -> Result<Command<'a>, AllocError>
+    ensures { IfOk result (λ command. IsCommandOf run_app command) }
+{
+    Command::new(alloc, "run")
+        .about("Runs an application from reset to its end, and writes the trace")
+        .after_help(STATUSES)
+        .arg(file_argument(alloc))
+}
+
+// The program without its commands.
+fn program<'a>(alloc: Global) -> Command<'a>
+    ensures { IsCommandOf rtosim_top result }
+{
+    Command::new(alloc, "rtosim")
+        .version("0.1.0")
+        .about("Simulates the scheduling of a FreeRTOS-style kernel, step by step")
+        .after_help(STATUSES)
+        .subcommand_required(true)
+}
+
+fn command<'a>(alloc: Global) -> Result<Command<'a>, AllocError>
+    ensures { IfOk result (λ command. IsCommandOf rtosim_app command) }
+{
+    program(alloc).subcommand(run_command(alloc)?)
+}
+
+fn text<'a>(matches: &ArgMatches<'a>, id: &str) -> Option<&'a str>
+    ensures { option_map (λ text. text.now) result ≡ first_of id.now (rows_of (found_of matches.now)) }
+{
+    matches.get_str(id)
+}
+
+// The job of the command `run`.
+fn run_job<'a>(matches: &ArgMatches<'a>) -> Option<Job<'a>>
+    ensures job { IfSome result (IsRunOf (rows_of (found_of matches.now))) }
+    ensures none { IsNone result → NamesNoFile (rows_of (found_of matches.now)) }
+{
+    let file = text(matches, "FILE")?;
+    Some(Job::Run { file })
+}
+
+fn job_of<'a>(matches: &ArgMatches<'a>) -> Option<Job<'a>>
+    ensures job { IfSome result (IsJobOf (subcommand_rows_of matches.now)) }
+    ensures none { IsNone result → NamesNoJob (subcommand_rows_of matches.now) }
+{
+    let (name, inner) = matches.subcommand()?;
+    if name == "run" { run_job(inner) } else { None }
+}
+
+/// The job that the words name; the first of them is the name of the program. At `Err` help or the version was asked
+/// for, the words are refused, or no memory is left, as the kind of the error says. Words that the command takes are
+/// refused only for want of memory.
+pub fn job_named<'a>(alloc: Global, words: &'a [&'a str]) -> Result<Job<'a>, Error>
+    ensures job { IfOk result (IsJobOf (subcommand_of rtosim_app (texts_of words.entry.now))) }
+    ensures memory { IfErr result (λ e.
+        takes rtosim_app (texts_of words.entry.now) ≡ true → kind_of e ≡ OutOfMemory) }
+
+    // `Ok` comes only where the command takes the words, and an error is of a kind that they have, or memory.
+    ensures kinds { FailsBy (fault_of rtosim_app (texts_of words.entry.now)) result }
+{
+    let command = command(alloc)?;
+    let matches = match command.try_get_matches_from(words) {
+        Ok(matches) => matches,
+        Err(error) => return Err(error),
+    };
+    match job_of(&matches) {
+        Some(job) => Ok(job),
+        // No matches are without a job.
+        None => Err(Error::from(AllocError)),
+    }
+}

@@ -1,5 +1,0 @@
-use Rattle.report.proofs.Sending.{Writes_then}
-use Rattle.report.proofs.words.write_words.Goals as goal
-
-pub returns-clause-text : goal.returns-clause-text
-returns-clause-text g c = rw c.new-page.ensures at (Writes_then _ _ _ _ _ _ c.in_ok-add_words.ensures.text c.flush.ensures.text)

@@ -1,0 +1,59 @@
+-- Runs whose texts are compared letter by letter.
+use Rattle.std.specs.Prelude.{ℕ, List, [], ◌∷◌, Some, None, codes}
+use Rattle.model.specs.Application.{Application, Definition}
+use Rattle.model.specs.Run.{Run}
+use Rattle.model.specs.declared.op.Op.{Op}
+use Rattle.model.specs.declared.op.Op.TheVariants.{Delay, DelayUntil, Mark}
+use Rattle.model.specs.declared.event.Event.{Event}
+use Rattle.model.specs.declared.event.What.{What}
+use Rattle.model.specs.declared.event.What.TheVariants as what
+use Rattle.model.specs.declared.event.End.TheVariants.{Pass, Check}
+
+-- an application of these tasks, from tick 0 and under no limits but the most
+abbrev pub app_of : List Definition → Application
+app_of tasks = record { start = 0; limits = record { ticks = 1000000; steps = 1000000 }; tasks = tasks }
+
+-- a task of priority 1
+abbrev pub a_task : List ℕ → List Op → Definition
+a_task name script = record { name = name; priority = 1; script = script }
+
+-- the tasks by their numbers
+abbrev pub a : ℕ
+a = 0
+
+abbrev pub b : ℕ
+b = 1
+
+-- an event of this step, with this printed tick
+abbrev pub event_at : ℕ → ℕ → What → Event
+event_at step tick w = record { step = step; tick = tick; what = w }
+
+-- a `delay 1` beside a task that only marks
+abbrev pub delay_one : Application
+delay_one = app_of (a_task (codes "a") (Delay 1 ∷ Mark 1 ∷ []) ∷ a_task (codes "b") (Mark 2 ∷ []) ∷ [])
+
+abbrev pub delay_one_run : Run
+delay_one_run = record {
+  events =
+      event_at 0 0 (what.Call a 0 (Some 0)) ∷ event_at 0 0 (what.Run (Some b)) ∷ event_at 1 0 (what.Mark b 2)
+      ∷ event_at 1 0 (what.Run None) ∷ event_at 2 1 (what.Run (Some a)) ∷ event_at 3 1 (what.Mark a 1)
+      ∷ event_at 3 1 (what.Run None) ∷ [];
+  steps = 4;
+  ticks = 1;
+  end = Pass;
+}
+
+-- one event of each form, with the largest numbers; no run tells these events
+abbrev pub each_form : Application
+each_form = app_of (a_task (codes "abcdefghijklmnop") (DelayUntil 1 ∷ []) ∷ [])
+
+abbrev pub each_form_run : Run
+each_form_run = record {
+  events =
+      event_at 4294967295 4294967295 (what.Call a 0 (Some 4294967295)) ∷ event_at 0 0 (what.Call a 0 None)
+      ∷ event_at 0 0 (what.Call a 1 None) ∷ event_at 1 10 (what.Mark a 4294967295)
+      ∷ event_at 1 10 (what.Run (Some a)) ∷ event_at 1 10 (what.Run None) ∷ [];
+  steps = 4294967295;
+  ticks = 0;
+  end = Check a 65535;
+}

@@ -1,7 +1,0 @@
-use Rattle.rtosim.proofs.Lines.{told_by_writes}
-use Rattle.rtosim.proofs.fault_line.tell.Goals as goal
-
-pub returns : goal.returns
-returns g c =
-    told_by_writes _ _ _ c.write_words.result _ _ _ c.as_slice.ensures.value c.pieces_of-pieces.ensures
-    c.write_words.ensures.failed c.write_words.ensures.text

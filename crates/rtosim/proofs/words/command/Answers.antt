@@ -1,7 +1,0 @@
-use Rattle.rtosim.specs.Words.{rtosim_app}
-use Rattle.rtosim.proofs.Commands.{with_command}
-use Rattle.rtosim.proofs.words.command.Goals as goal
-
-pub returns : goal.returns
-unfolding rtosim_app
-returns c = with_command _ _ _ _ _ c.program.ensures c.in_ok-run_command.ensures c.subcommand.ensures

@@ -1,3 +1,0 @@
-pub mod Serving
-pub mod Acting
-pub mod Words
