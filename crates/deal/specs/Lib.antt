@@ -1,2 +1,3 @@
 pub mod Divisions
+pub mod Marks
 pub mod Totals
