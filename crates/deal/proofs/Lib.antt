@@ -1,2 +1,5 @@
 pub mod Counting
+pub mod LaneMoves
+pub mod LogMoves
+pub mod Once
 pub mod Sums

@@ -16,9 +16,13 @@ abbrev pub Each : {V : Type 0} → (V → Type 0) → List V → Type 0
 Each P [] = Unit {0}
 Each P (v ∷ vs) = P v × Each P vs
 
+-- 1 at x, and 0 elsewhere
+abbrev pub one_at : ℕ → ℕ → ℕ
+one_at x y = if y == x then 1 else 0
+
 -- how often x stands in a list
 abbrev pub times : ℕ → List ℕ → ℕ
-times x xs = total (λ y. if y == x then 1 else 0) xs
+times x xs = total (one_at x) xs
 
 -- each number below n stands in the list once, and no other number does
 abbrev pub HasEachOnce : ℕ → List ℕ → Type 0

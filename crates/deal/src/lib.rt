@@ -2,8 +2,16 @@
 #![tactic(auto)]
 
 mod count;
+mod dealt;
 mod division;
+mod lane;
+mod log;
 mod memory;
+mod next;
+mod reach;
+mod shared;
 
 pub use division::{BadDivision, Division};
+pub use lane::Lane;
 pub use memory::Memory;
+pub use next::Next;
