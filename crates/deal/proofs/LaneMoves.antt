@@ -1,5 +1,5 @@
 -- What a lane knows after it took a block, and where it finds none.
-use Rattle.std.proofs.Common.{◌≡◌, ◌≢◌, ◌≤◌, ◌<◌, ℕ, zero, suc, ◌+◌, List, [], ◌∷◌, ◌++◌, length, length-append, set, refl, sym, ap, ◌∙◌, arith, subst, Option, None, Some, Result, Ok, Err, IfOk, Bool, true, false, nat_lt, ◌==◌, if◌then◌else◌}
+use Rattle.std.proofs.Common.{◌≡◌, ◌≢◌, ◌≤◌, ◌<◌, ◌%◌, ◌^◌, ℕ, zero, suc, ◌+◌, List, [], ◌∷◌, ◌++◌, length, length-append, set, refl, sym, ap, ◌∙◌, arith, subst, Option, None, Some, Result, Ok, Err, IfOk, Bool, true, false, nat_lt, ◌==◌, if◌then◌else◌}
 use Rattle.std.proofs.lemmas.Bool.Decides.{nat_tests}
 use mathlib.Core.Option.{some, some-ne-none, some-injective}
 use lib.ListN.{get_elem?}
@@ -9,15 +9,18 @@ use Rattle.atomic_table.specs.declared.shared.Seat.{Seat}
 use Rattle.deal.specs.declared.count.Mark.{Mark}
 use Rattle.deal.specs.declared.count.Size.{Size}
 use Rattle.deal.specs.declared.count.Ticket.{Ticket}
+use Rattle.deal.specs.declared.hand.Hand.{Hand}
 use Rattle.deal.specs.declared.log.Log.{Log}
+use Rattle.crossbeam_deque.specs.Handles.{worker_view}
 use Rattle.deal.specs.Totals.{total, range, Each}
-use Rattle.deal.specs.Marks.{mark, IsTicketOf, IsShareOf}
+use Rattle.deal.specs.Marks.{mark, lane_mark, IsTicketOf, IsShareOf}
 use Rattle.deal.specs.Logs.{whose, log, numbers, Taking, IsAllTaken}
 use Rattle.deal.specs.Reaches.{Stealing}
-use Rattle.deal.specs.Lanes.{HasTicketsOf, MayTake, taken_by, Took, IsLane}
+use Rattle.deal.specs.Logs.{HasTicketsOf}
+use Rattle.deal.specs.Lanes.{MayTake, taken_by, Took, IsLane, IsDealer, IsSomeHand}
 use Rattle.deal.specs.Divisions.{IsBlock}
 use Rattle.deal.specs.Totals.{times}
-use Rattle.deal.specs.Sharing.{Sight, Goes, IsTheBlock, MatchNext}
+use Rattle.deal.specs.Sharing.{Sight, Goes, IsTheBlock, MatchNext, dealt_to}
 use Rattle.deal.specs.declared.next.Next.{Next}
 use Rattle.deal.specs.declared.next.Next.TheVariants.{Block, Again, Empty}
 use Rattle.deal.proofs.Sums.{total_set, total_append, total_length, length_range}
@@ -133,3 +136,36 @@ answers_block (Block i first len) old new n is goes fresh more =
     subst (λ k. Goes old new × IsBlock new.game.lengths k first len × (times k old.answered ≡ 0) × (new.answered ≡ old.answered ++ k ∷ [])) (sym is.0) (goes, is.1, fresh, more)
 answers_block Again old new n is goes fresh more = absurd is
 answers_block Empty old new n is goes fresh more = absurd is
+
+-- a lane alone is dealt every block
+pub dealt_alone : (n : ℕ) → dealt_to 1 0 n ≡ range 0 n
+dealt_alone zero = refl
+dealt_alone (suc n) =
+    let none : (n % 1 == 0) ≡ true = grind (arith, nat_tests) in
+    ap (λ (b : Bool). dealt_to 1 0 n ++ (if b then n ∷ [] else [])) none ∙ ap (λ l. l ++ n ∷ []) (dealt_alone n) ∙ sym (range_last 0 n n (omega arith))
+  where
+    range_last : (first m y : ℕ) → first + m ≡ y → range first (suc m) ≡ range first m ++ y ∷ []
+    range_last first zero y e = ap (λ k. k ∷ []) (omega (arith, e))
+    range_last first (suc m) y e = ap (λ l. first ∷ l) (range_last (first + 1) m y (omega (arith, e)))
+
+-- a new lane
+pub new_lane : (size : Size) (lengths : List ℕ) (share dealer : Seat (Unit {0}) Mark) (hand : Hand) (got : List ℕ) (z : TableId)
+    → size.blocks ≡ length lengths → length lengths < 2 ^ 64 → got ≡ [] → IsDealer size z dealer.me.0.parts dealer → IsShareOf z share → share.me.0 ≡ lane_mark dealer.me.0
+    → IsSomeHand z size.lanes lengths hand → IsLane size lengths share (worker_view hand.own) hand.others.items got z
+new_lane size lengths share dealer hand got z blocks fits none d of is some_hand =
+    let h = some_hand.2 in
+    let dealt = d.1 in (
+      of,
+      blocks,
+      fits,
+      ap (λ (m : Mark). m.parts) is,
+      ap (λ (m : Mark). m.all) is ∙ ap (λ (m : Mark). m.all) dealt,
+      ap (λ (m : Mark). m.lanes) is ∙ ap (λ (m : Mark). m.lanes) dealt,
+      omega (arith, ap (λ (m : Mark). m.counted) is, ap length none),
+      ap (λ (m : Mark). m.blocks) is ∙ sym none,
+      (omega (arith, h.1), h.4, h.5),
+      (λ f. omega (arith, ap (total f) none, ap (total f) h.3, h.6 f)),
+      (λ lone.
+          let first : some_hand.0 ≡ 0 = omega (arith, some_hand.1, lone) in
+          ((h.7 lone).0, (h.7 lone).1, h.2 ∙ ap (λ w. dealt_to w some_hand.0 (length lengths)) lone ∙ ap (λ k. dealt_to 1 k (length lengths)) first ∙ dealt_alone (length lengths))),
+    )

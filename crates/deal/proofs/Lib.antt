@@ -1,4 +1,5 @@
 pub mod Counting
+pub mod HandMoves
 pub mod LaneMoves
 pub mod LogMoves
 pub mod Once

@@ -14,7 +14,7 @@ elsewhere x y e = grind (arith, nat_tests, e)
 times_one : (x : ℕ) → times x (x ∷ []) ≡ 1
 times_one x = omega (arith, here x x refl)
 
-same_or : (j k : ℕ) → (j ≡ k) ⊎ (j ≢ k)
+pub same_or : (j k : ℕ) → (j ≡ k) ⊎ (j ≢ k)
 same_or zero zero = inl refl
 same_or zero (suc k) = inr (λ e. absurd (omega (arith, e)))
 same_or (suc j) zero = inr (λ e. absurd (omega (arith, e)))

@@ -3,17 +3,15 @@ use Rattle.std.specs.Prelude.{◌≡◌, ℕ, ◌+◌, ◌<◌, ◌≤◌, ◌^�
 use Rattle.atomic_table.specs.Seated.{TableId}
 use Rattle.atomic_table.specs.declared.shared.Seat.{Seat}
 use Rattle.deal.specs.Totals.{total, range, Each}
-use Rattle.deal.specs.Marks.{IsTicketOf, IsShareOf}
-use Rattle.deal.specs.Logs.{whose}
+use Rattle.deal.specs.Marks.{mark, IsAmong, IsTicketOf, IsShareOf}
+use Rattle.deal.specs.Logs.{HasTicketsOf}
+use Rattle.deal.specs.Dealing.{IsHand}
+use Rattle.deal.specs.declared.hand.Hand.{Hand}
 use Rattle.deal.specs.Sharing.{Game, Sight}
 use Rattle.deal.specs.declared.count.Mark.{Mark}
 use Rattle.deal.specs.declared.count.Size.{Size}
 use Rattle.deal.specs.declared.count.Ticket.{Ticket}
 use Rattle.deal.specs.declared.log.Log.{Log}
-
--- what was dealt are tickets of this table
-abbrev pub HasTicketsOf : TableId → Log → Type 0
-HasTicketsOf z v = 0 < length v.dealt → whose v ≡ z
 
 -- a lane may take from these deques
 abbrev pub MayTake : TableId → Log → List Log → Type 0
@@ -50,4 +48,29 @@ IsLane size lengths share own others got z =
     × (share.me.0.counted ≡ length got) × (share.me.0.blocks ≡ got)
     × MayTake z own others
     × ((h : ℕ → ℕ) → total h got ≡ taken_by h own others)
-    × (size.lanes ≡ 1 → (own.parts ≡ 1024) × (others ≡ []) × (own.dealt ≡ range 0 (length lengths)))
+    × (size.lanes ≡ 1 → (own.parts ≡ 8192) × (others ≡ []) × (own.dealt ≡ range 0 (length lengths)))
+
+-- the seat of a deal: it knows how many blocks and lanes there are, and stands for the lanes that are not made yet
+abbrev pub IsDealer : Size → TableId → ℕ → Seat (Unit {0}) Mark → Type 0
+IsDealer size z left share = IsShareOf z share × (share.me.0 ≡ mark size.blocks size.lanes left 0 0 [])
+
+-- The seat takes in a lane's. It then has the blocks that the lane was answered, and has seen as much. With all lanes in, it has counted all
+abbrev pub Collects : Sight → Mark → Mark → Type 0
+Collects lane v w =
+    (w.all ≡ v.all) × (w.lanes ≡ v.lanes) × (w.parts ≡ v.parts + 1)
+    × (w.counted ≡ v.counted + length lane.answered) × (w.blocks ≡ v.blocks ++ lane.answered)
+    × (v.seen ≤ w.seen) × (lane.seen ≤ w.seen)
+    × IsAmong w.all w.blocks × (w.parts ≤ w.lanes)
+    × (w.parts ≡ w.lanes → w.seen ≡ w.counted)
+
+-- what lanes share: the count knows how many blocks there are, and the first point of each is right
+abbrev pub IsShared : Size → List ℕ → List ℕ → Type 0
+IsShared size lengths starts = (size.blocks ≡ length lengths) × (length lengths < 2 ^ 64) × (0 < size.lanes) × AreStarts lengths starts
+
+-- the hand is that of some lane
+abbrev pub IsSomeHand : TableId → ℕ → List ℕ → Hand → Type 0
+IsSomeHand z lanes lengths hand = (k : ℕ) × (k < lanes) × IsHand z lanes (length lengths) 4096 k hand
+
+-- a lane that has not been called, and what was dealt to it
+abbrev pub opened : Game → List ℕ → Sight
+opened g dealt = record { game = g; dealt = dealt; answered = []; seen = 0 }

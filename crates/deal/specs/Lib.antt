@@ -1,3 +1,5 @@
+pub mod Closing
+pub mod Dealing
 pub mod Divisions
 pub mod Lanes
 pub mod Logs

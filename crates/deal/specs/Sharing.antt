@@ -2,9 +2,9 @@
 --
 -- A schedule is the order in which the atomic steps of all threads come: a push, a pop, a steal, and a load or an add of one word. No promise
 -- names one. Each speaks of the values before and after a call of its own thread, and the steps of other threads may come between any two of its own.
-use Rattle.std.specs.Prelude.{◌≡◌, ℕ, zero, suc, ◌+◌, ◌%◌, ◌<◌, ◌≤◌, List, [], ◌∷◌, ◌++◌, length, ◌==◌, if◌then◌else◌}
+use Rattle.std.specs.Prelude.{◌≡◌, ℕ, zero, suc, ◌+◌, ◌%◌, ◌<◌, ◌≤◌, List, [], ◌∷◌, ◌++◌, length, map, ◌==◌, ◌⊎◌, if◌then◌else◌}
 use Rattle.atomic_table.specs.Seated.{TableId}
-use Rattle.deal.specs.Totals.{times}
+use Rattle.deal.specs.Totals.{times, range, Each}
 use Rattle.deal.specs.Divisions.{IsBlock}
 use Rattle.deal.specs.declared.next.Next.{Next}
 use Rattle.deal.specs.declared.next.Next.TheVariants.{Block, Again, Empty}
@@ -51,6 +51,22 @@ dealt_to lanes lane zero = []
 dealt_to lanes lane (suc n) = dealt_to lanes lane n ++ (if n % lanes == lane then n ∷ [] else [])
 
 -- a lane that has not been called
-abbrev pub IsFresh : Game → ℕ → Sight → Type 0
-IsFresh game number lane =
-    (lane.game ≡ game) × (lane.dealt ≡ dealt_to game.lanes number (length game.lengths)) × (lane.answered ≡ []) × (lane.seen ≡ 0)
+abbrev pub fresh : Game → ℕ → Sight
+fresh game number = record { game = game; dealt = dealt_to game.lanes number (length game.lengths); answered = []; seen = 0 }
+
+-- the lanes of a deal that was just made, in order of their numbers
+abbrev pub fresh_lanes : Game → List Sight
+fresh_lanes game = map (fresh game) (range 0 game.lanes)
+
+-- what each lane was answered
+abbrev pub lists_of : List Sight → List (List ℕ)
+lists_of lanes = map (λ (lane : Sight). lane.answered) lanes
+
+-- the lanes are of this deal
+abbrev pub AreLanesOf : Game → List Sight → Type 0
+AreLanesOf game lanes = Each (λ (lane : Sight). lane.game ≡ game) lanes
+
+-- one of the lanes saw that every block has been handed out
+abbrev pub SomeHasSeenAll : List Sight → Type 0
+SomeHasSeenAll [] = ⊥
+SomeHasSeenAll (lane ∷ lanes) = HasSeenAll lane ⊎ SomeHasSeenAll lanes

@@ -8,6 +8,7 @@ use std::alloc::Global;
 use std::collections::LinkedList;
 
 /// What the table is told once: how many blocks there are, and how many lanes.
+#[derive(Clone, Copy)]
 pub struct Size {
     pub blocks: u64,
     pub lanes: u64,

@@ -1,15 +1,19 @@
 //! A lane, which takes blocks from its own deque, and then from the others'.
-ghost use Rattle.std.specs.Prelude.{◌≡◌, ◌<◌, MatchOption, [], ◌∷◌, length};
+ghost use Rattle.std.specs.Prelude.{◌≡◌, ◌<◌, ◌-◌, IfOk, MatchOption, [], ◌∷◌, length};
 ghost use Rattle.crossbeam_deque.specs.Handles.{SameWorker, worker_flavor, worker_view};
 ghost use Rattle.deal.specs.Logs.{Taking, IsAllTaken};
-ghost use Rattle.deal.specs.Lanes.{MayTake, Took};
+ghost use Rattle.deal.specs.Lanes.{MayTake, Took, Collects, IsDealer, IsSomeHand, IsShared, game, opened};
+ghost use Rattle.deal.specs.Marks.{IsShareOf};
 ghost use Rattle.deal.specs.Sharing.{MatchNext};
 
-use crate::count::{Count, Share, Ticket, hand_out, look};
+use crate::count::{Count, Cut, Share, Ticket, hand_out, look, unite};
 use crate::dealt::{Own, Takes};
+use crate::hand::Hand;
+use crate::memory::Memory;
 use crate::next::Next;
 use crate::reach::{Reach, steal_any};
 use crate::shared::Shared;
+use std::alloc::Global;
 use std::marker::Model;
 use std::sync::Arc;
 
@@ -59,6 +63,51 @@ impl Model for Lane {
 }
 
 impl Lane {
+    // The lane of a hand.
+    pub(crate) fn new(
+        alloc: Global,
+        shared: Arc<Shared>,
+        dealer: &mut Share,
+        hand: Hand,
+    ) -> Result<Lane, Memory>
+        requires shared { IsShared shared.value.count.shared.key shared.value.division shared.value.starts.items }
+        requires dealer { IsDealer shared.value.count.shared.key shared.value.count.shared.table_id dealer.old.me.0.parts dealer.old × (0 < dealer.old.me.0.parts) }
+        requires hand { IsSomeHand shared.value.count.shared.table_id shared.value.count.shared.key.lanes shared.value.division hand }
+        ensures lane { IfOk result (λ lane. lane ≡ opened (game shared.value.count.shared.table_id shared.value.count.shared.key.lanes shared.value.division) (worker_view hand.own).dealt) }
+        ensures dealer { IfOk result (λ _. IsDealer shared.value.count.shared.key shared.value.count.shared.table_id (dealer.old.me.0.parts - 1) dealer.new) }
+    {
+        let got = Vec::with_capacity(alloc, shared.division.count())?;
+        let share = shared.count.shared.split_seat::<Cut>(dealer);
+        let Hand { own, others } = hand;
+        Ok(Lane {
+            shared,
+            share,
+            own,
+            others,
+            got,
+        })
+    }
+
+    // The lane's seat joins its deal's. Answers the blocks that the lane was answered, in order.
+    pub(crate) fn hand_back(self, dealer: &mut Share) -> Vec<usize>
+        requires { IsShareOf self.game.table dealer.old × (dealer.old.me.0.all ≡ length self.game.lengths) × (dealer.old.me.0.lanes ≡ self.game.lanes) }
+        ensures list { result.items ≡ self.answered }
+        ensures dealer { IsShareOf self.game.table dealer.new × Collects self dealer.old.me.0 dealer.new.me.0 }
+    {
+        let Lane {
+            shared,
+            share,
+            own,
+            others,
+            got,
+        } = self;
+        drop(own);
+        drop(others);
+        unite(&shared.count, dealer, share);
+        look(&shared.count, dealer);
+        got
+    }
+
     /// The next block: the first of the lane's own deque, or else of the first other lane's that gives one, upwards from its own number
     /// and round, each tried once.
     ///

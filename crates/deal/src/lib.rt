@@ -2,8 +2,11 @@
 #![tactic(auto)]
 
 mod count;
+mod deal;
 mod dealt;
 mod division;
+mod hand;
+mod hands;
 mod lane;
 mod log;
 mod memory;
@@ -11,6 +14,7 @@ mod next;
 mod reach;
 mod shared;
 
+pub use deal::{Closed, Deal};
 pub use division::{BadDivision, Division};
 pub use lane::Lane;
 pub use memory::Memory;
