@@ -100,7 +100,7 @@ looks k slots id v a_part s h homes at _ =
     )
 
 -- the greater of two is the whole where one is
-greater_all : (all a b m n : ℕ) → a ≤ all → b ≤ all → (0 < m → a ≡ all) → (0 < n → b ≡ all) → 0 < m + n → max a b ≡ all
+pub greater_all : (all a b m n : ℕ) → a ≤ all → b ≤ all → (0 < m → a ≡ all) → (0 < n → b ≡ all) → 0 < m + n → max a b ≡ all
 greater_all all a b zero zero x y p q part = absurd (omega (arith, part))
 greater_all all a b zero (suc n) x y p q part = omega (arith, x, q (omega arith))
 greater_all all a b (suc m) n x y p q part = omega (arith, y, p (omega arith))

@@ -144,3 +144,23 @@ empty_more z workers hands new fifo is none h k v e =
         (λ (same : new ≡ v). subst (IsDealtHand z workers 0 k) same
             (fifo, ap (λ (u : Log). u.parts) is, ap (λ (u : Log). u.dealt) is, ap (λ (u : Log). u.got) is, (λ some_dealt. absurd (omega (arith, some_dealt, ap (λ (u : Log). length u.dealt) is))), none))
         (at_snoc hands new v k e)
+
+at_end : {V : Type 0} (xs : List V) (x : V) → get_elem? (xs ++ x ∷ []) (length xs) ≡ some x
+at_end [] x = refl
+at_end (y ∷ ys) x = at_end ys x
+
+at_front : {V : Type 0} (xs ys : List V) (k : ℕ) (v : V) → get_elem? xs k ≡ some v → get_elem? (xs ++ ys) k ≡ some v
+at_front [] ys k v e = absurd (some-ne-none v (sym e))
+at_front (x ∷ xs) ys zero v e = e
+at_front (x ∷ xs) ys (suc k) v e = at_front xs ys k v e
+
+-- the last hand, and those before it
+pub last_hand : (z : TableId) (workers n cut k : ℕ) (hands : List Hand) (hand : Hand) → k ≡ length hands → AreHands z workers n cut (hands ++ hand ∷ []) → IsHand z workers n cut k hand
+last_hand z workers n cut k hands hand is h = subst (λ j. IsHand z workers n cut j hand) (sym is) (h (length hands) hand (at_end hands hand))
+
+pub hands_before : (z : TableId) (workers n cut : ℕ) (hands : List Hand) (hand : Hand) → AreHands z workers n cut (hands ++ hand ∷ []) → AreHands z workers n cut hands
+hands_before z workers n cut hands hand h k v e = h k v (at_front hands (hand ∷ []) k v e)
+
+-- a range that begins one earlier
+pub range_before : (first last : ℕ) → first < last → range first (last - first) ≡ first ∷ range (first + 1) (last - (first + 1))
+range_before first last short = range_next first last short

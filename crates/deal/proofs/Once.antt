@@ -5,13 +5,13 @@ use Rattle.deal.specs.Totals.{total, range, one_at, times}
 use Rattle.deal.specs.Marks.{IsAmong}
 use Rattle.deal.proofs.Sums.{total_append, total_length, length_range}
 
-here : (x y : ℕ) → y ≡ x → one_at x y ≡ 1
+pub here : (x y : ℕ) → y ≡ x → one_at x y ≡ 1
 here x y e = grind (arith, nat_tests, e)
 
-elsewhere : (x y : ℕ) → y ≢ x → one_at x y ≡ 0
+pub elsewhere : (x y : ℕ) → y ≢ x → one_at x y ≡ 0
 elsewhere x y e = grind (arith, nat_tests, e)
 
-times_one : (x : ℕ) → times x (x ∷ []) ≡ 1
+pub times_one : (x : ℕ) → times x (x ∷ []) ≡ 1
 times_one x = omega (arith, here x x refl)
 
 pub same_or : (j k : ℕ) → (j ≡ k) ⊎ (j ≢ k)
@@ -21,7 +21,7 @@ same_or (suc j) zero = inr (λ e. absurd (omega (arith, e)))
 same_or (suc j) (suc k) = ⊎_elim (λ e. inl (ap suc e)) (λ n. inr (λ e. n (omega (arith, e)))) (same_or j k)
 
 -- numbers that are too large stand in no range
-none_above : (x first m : ℕ) → first + m ≤ x → times x (range first m) ≡ 0
+pub none_above : (x first m : ℕ) → first + m ≤ x → times x (range first m) ≡ 0
 none_above x first zero far = refl
 none_above x first (suc m) far =
     let apart : first ≢ x = omega (arith, far) in
@@ -34,7 +34,7 @@ none_below x first (suc m) small =
     omega (arith, elsewhere x first apart, none_below x (first + 1) m (omega (arith, small)))
 
 -- a number of a range stands there once
-once_within : (x first m : ℕ) → first ≤ x → x < first + m → times x (range first m) ≡ 1
+pub once_within : (x first m : ℕ) → first ≤ x → x < first + m → times x (range first m) ≡ 1
 once_within x first zero low high = absurd (omega (arith, low, high))
 once_within x first (suc m) low high =
     ⊎_elim

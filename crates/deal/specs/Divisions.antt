@@ -28,3 +28,7 @@ rest_block (suc n) = suc n ∷ []
 -- blocks of one length, as many as there are, and what is left over
 abbrev pub even_lengths : ℕ → ℕ → List ℕ
 even_lengths total block = replicate (total / block) block ++ rest_block (total % block)
+
+-- the first point of each block
+abbrev pub AreStarts : List ℕ → List ℕ → Type 0
+AreStarts lengths starts = (length starts ≡ length lengths) × ((i : ℕ) → i < length lengths → slice_index starts i ≡ sum (take i lengths))

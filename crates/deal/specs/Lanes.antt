@@ -6,6 +6,7 @@ use Rattle.deal.specs.Totals.{total, range, Each}
 use Rattle.deal.specs.Marks.{mark, IsAmong, IsTicketOf, IsShareOf}
 use Rattle.deal.specs.Logs.{HasTicketsOf}
 use Rattle.deal.specs.Dealing.{IsHand}
+use Rattle.deal.specs.Divisions.{AreStarts}
 use Rattle.deal.specs.declared.hand.Hand.{Hand}
 use Rattle.deal.specs.Sharing.{Game, Sight}
 use Rattle.deal.specs.declared.count.Mark.{Mark}
@@ -28,10 +29,6 @@ Took z own others own' others' t =
     × ((h : ℕ → ℕ) → taken_by h own' others' ≡ taken_by h own others + h t.number)
     × (own'.parts ≡ own.parts) × (own'.dealt ≡ own.dealt) × (length others' ≡ length others)
     × MayTake z own' others'
-
--- the first point of each block
-abbrev pub AreStarts : List ℕ → List ℕ → Type 0
-AreStarts lengths starts = (length starts ≡ length lengths) × ((i : ℕ) → i < length lengths → slice_index starts i ≡ sum (take i lengths))
 
 abbrev pub game : TableId → ℕ → List ℕ → Game
 game table lanes lengths = record { table = table; lanes = lanes; lengths = lengths }

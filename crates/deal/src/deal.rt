@@ -1,21 +1,22 @@
 //! A deal: the blocks of a division, handed out among lanes.
-ghost use Rattle.std.specs.Prelude.{◌≡◌, ◌+◌, ◌<◌, ◌≤◌, ◌++◌, [], ℕ, length, map, vec_len, vec_capacity, IfOk, concat};
-ghost use Rattle.deal.specs.Totals.{HasEachOnce};
-ghost use Rattle.deal.specs.Marks.{IsAmong, IsShareOf};
+ghost use Rattle.std.specs.Prelude.{◌≡◌, ◌+◌, ◌<◌, ◌≤◌, ◌++◌, [], ℕ, false, length, replicate, vec_len, vec_capacity, IfOk};
+ghost use Rattle.std.specs.List.{concat};
+ghost use Rattle.deal.specs.Totals.{HasEachOnce, times};
+ghost use Rattle.deal.specs.Marks.{mark, IsAmong};
 ghost use Rattle.deal.specs.Dealing.{AreHands};
-ghost use Rattle.deal.specs.Lanes.{AreStarts, IsDealer, IsShared, game};
+ghost use Rattle.deal.specs.Lanes.{IsDealer, IsShared, game};
 ghost use Rattle.deal.specs.Sharing.{AreLanesOf, SomeHasSeenAll, fresh_lanes, lists_of};
-ghost use Rattle.deal.specs.Closing.{IsMarked, Marks, unmarked};
+ghost use Rattle.deal.specs.Closing.{AreBackTo, IsMarked, Marks, items_of, unmarked};
 
 use crate::count::{Share, Size};
 use crate::division::Division;
 use crate::hand::Hand;
-use crate::hands::{deal_all, empty_hands, give_all_others};
+use crate::hands::make_hands;
 use crate::lane::Lane;
 use crate::memory::Memory;
 use crate::shared::Shared;
 use atomic_table::Table;
-use std::alloc::{AllocError, Global};
+use std::alloc::Global;
 use std::marker::Model;
 use std::sync::Arc;
 
@@ -59,7 +60,7 @@ impl Deal {
         ensures lanes { IfOk result (λ made. made.1.items ≡ fresh_lanes made.0) }
     {
         let blocks = division.count();
-        let starts = starts_of(alloc, &division)?;
+        let starts = division.starts(alloc)?;
         let lists = Vec::with_capacity(alloc, workers)?;
         let marks = vec![in alloc; false; blocks]?;
         let rest = Vec::with_capacity(alloc, blocks)?;
@@ -68,9 +69,7 @@ impl Deal {
             lanes: workers as u64,
         };
         let (count, mut dealer) = Table::of_words(alloc, &[0], &size)?;
-        let mut hands = empty_hands(alloc, workers, blocks / workers + 1)?;
-        deal_all(&count, &mut dealer, &mut hands, blocks)?;
-        give_all_others(&mut hands)?;
+        let hands = make_hands(alloc, &count, &mut dealer, blocks, workers)?;
         let shared = Arc::new(
             alloc,
             Shared {
@@ -89,19 +88,78 @@ impl Deal {
         };
         Ok((deal, lanes))
     }
+
+    /// The blocks that each lane was answered, in order, and the others. Takes no memory.
+    ///
+    /// A lane may be missing; what it was answered is then among the others. Where all lanes are back, and one of them was answered
+    /// `Empty`, there are no others.
+    pub fn close(self, lanes: Vec<Lane>) -> Closed
+        requires { AreLanesOf self lanes.items }
+        ensures lists { items_of result.lists.items ≡ lists_of lanes.items }
+        ensures once { HasEachOnce (length self.lengths) (concat (lists_of lanes.items) ++ result.rest.items) }
+        ensures all { length lanes.items ≡ self.lanes → SomeHasSeenAll lanes.items → result.rest.items ≡ [] }
+    {
+        let Deal {
+            shared: _shared,
+            mut dealer,
+            mut lists,
+            mut marks,
+            mut rest,
+        } = self;
+        take_back(&mut dealer, lanes, &mut lists);
+        let marks: &mut [bool] = &mut marks;
+        mark_all(&lists, marks);
+        keep_unmarked(marks, &mut rest);
+        Closed { lists, rest }
+    }
 }
 
-// The first point of each block.
-fn starts_of(alloc: Global, division: &Division) -> Result<Vec<usize>, AllocError>
-    ensures { IfOk result (λ starts. AreStarts division.now starts.items) }
+// The lanes come back, and with each the list of its blocks. The deal's seat then has the blocks of all.
+fn take_back(dealer: &mut Share, mut lanes: Vec<Lane>, lists: &mut Vec<Vec<usize>>)
+    requires dealer { (dealer.old.me.0 ≡ mark dealer.old.me.0.all dealer.old.me.0.lanes 0 0 0 []) × (dealer.old.me.1 ≡ []) × (dealer.old.table_id.words ≡ 1) }
+    requires lanes { AreBackTo dealer.old.table_id dealer.old.me.0 lanes.items }
+    requires lists { (lists.old.items ≡ []) × (dealer.old.me.0.lanes ≤ vec_capacity lists.old) }
+    ensures lists { items_of lists.new.items ≡ lists_of lanes.items }
+    ensures among { IsAmong dealer.old.me.0.all (concat (lists_of lanes.items)) }
+    ensures all { length lanes.items ≡ dealer.old.me.0.lanes → SomeHasSeenAll lanes.items → dealer.old.me.0.all ≤ length (concat (lists_of lanes.items)) }
 {
-    let mut starts = Vec::with_capacity(alloc, division.count())?;
-    let mut first = 0;
-    for block in 0..division.count() {
-        starts.push(first)?;
-        first += division.length(block);
+    lanes.reverse();
+    while let Some(lane) = lanes.pop() {
+        let list = lane.hand_back(dealer);
+        lists.push_reserved(list);
     }
-    Ok(starts)
+}
+
+// Marks the numbers of a list.
+fn mark_list(list: &[usize], marks: &mut [bool])
+    requires { (x : ℕ) → 0 < times x list.now → x < length marks.old }
+    ensures { Marks list.now marks.old marks.new }
+{
+    for number in list {
+        marks[*number] = true;
+    }
+}
+
+// Marks the numbers of all lists.
+fn mark_all(lists: &[Vec<usize>], marks: &mut [bool])
+    requires { IsAmong (length marks.old) (concat (items_of lists.now)) × (marks.old ≡ replicate (length marks.old) false) }
+    ensures { (length marks.new ≡ length marks.old) × IsMarked (concat (items_of lists.now)) marks.new }
+{
+    for list in lists {
+        mark_list(list, marks);
+    }
+}
+
+// Keeps the numbers without a mark.
+fn keep_unmarked(marks: &[bool], rest: &mut Vec<usize>)
+    requires { (rest.old.items ≡ []) × (length marks.now ≤ vec_capacity rest.old) }
+    ensures { rest.new.items ≡ unmarked (length marks.now) marks.now }
+{
+    for (number, is_marked) in marks.iter().enumerate() {
+        if !*is_marked {
+            rest.push_reserved(number);
+        }
+    }
 }
 
 // A lane of each hand, the last one first.

@@ -1,10 +1,10 @@
 //! How a number of points is cut into blocks.
-ghost use Rattle.std.specs.Prelude.{◌≡◌, ◌≢◌, ◌+◌, ◌/◌, ◌%◌, ◌<◌, IfOk, IsTrue, ◌↔◌, MatchOption, MatchResult, length, slice_index, sum};
-ghost use Rattle.deal.specs.Divisions.{ArePositive, MatchBad, even_lengths};
+ghost use Rattle.std.specs.Prelude.{◌≡◌, ◌≢◌, ◌+◌, ◌/◌, ◌%◌, ◌^◌, ◌<◌, IfOk, IsTrue, ◌↔◌, MatchOption, MatchResult, length, slice_index, sum};
+ghost use Rattle.deal.specs.Divisions.{ArePositive, AreStarts, MatchBad, even_lengths};
 ghost use Rattle.deal.specs.declared.division.BadDivision.TheVariants.{ZeroLength};
 
 use crate::memory::Memory;
-use std::alloc::Global;
+use std::alloc::{AllocError, Global};
 use std::marker::Model;
 
 /// Why lengths are no division.
@@ -76,6 +76,13 @@ impl Division {
     {
         self.lengths[block]
     }
+
+    // The first point of each block.
+    pub(crate) fn starts(&self, alloc: Global) -> Result<Vec<usize>, AllocError>
+        ensures { IfOk result (λ starts. AreStarts self.now starts.items) }
+    {
+        starts_of(alloc, &self.lengths)
+    }
 }
 
 // The place of the first length of 0.
@@ -102,4 +109,18 @@ fn has_sum(lengths: &[usize], total: usize) -> bool
         left -= *length;
     }
     left == 0
+}
+
+// The sum of the lengths before each.
+fn starts_of(alloc: Global, lengths: &[usize]) -> Result<Vec<usize>, AllocError>
+    requires { sum lengths.now < 2 ^ 64 }
+    ensures { IfOk result (λ starts. AreStarts lengths.now starts.items) }
+{
+    let mut starts = Vec::with_capacity(alloc, lengths.len())?;
+    let mut first = 0;
+    for length in lengths {
+        starts.push(first)?;
+        first += *length;
+    }
+    Ok(starts)
 }

@@ -1,5 +1,5 @@
 //! Dealing, before any lane is handed out.
-ghost use Rattle.std.specs.Prelude.{◌≡◌, ◌+◌, ◌*◌, ◌<◌, ◌≤◌, ◌++◌, ◌∷◌, [], length, vec_len, IfOk};
+ghost use Rattle.std.specs.Prelude.{◌≡◌, ◌+◌, ◌*◌, ◌/◌, ◌<◌, ◌≤◌, ◌++◌, ◌∷◌, [], length, vec_len, IfOk};
 ghost use Rattle.crossbeam_deque.specs.Handles.{SameWorker, worker_view};
 ghost use Rattle.atomic_table.specs.Seated.{TableId};
 ghost use Rattle.deal.specs.Totals.{range};
@@ -16,8 +16,8 @@ use crate::reach::way_to;
 use crossbeam_deque::Worker;
 use std::alloc::Global;
 
-/// An empty deque for each lane, with room for its blocks.
-pub fn empty_hands(alloc: Global, workers: usize, room: usize) -> Result<Vec<Hand>, Memory>
+// An empty deque for each lane, with room for its blocks.
+fn empty_hands(alloc: Global, workers: usize, room: usize) -> Result<Vec<Hand>, Memory>
     ensures { IfOk result (λ hands. (vec_len hands ≡ workers) × ((z : TableId) → AreDealt z workers 0 hands.items)) }
 {
     let mut hands = Vec::with_capacity(alloc, workers)?;
@@ -44,8 +44,8 @@ fn deal_one(count: &Count, dealer: &mut Share, own: &mut Own, number: usize) -> 
     }
 }
 
-/// Deals every block, each to the lane of its number modulo theirs.
-pub fn deal_all(count: &Count, dealer: &mut Share, hands: &mut Vec<Hand>, blocks: usize) -> Result<(), Memory>
+// Deals every block, each to the lane of its number modulo theirs.
+fn deal_all(count: &Count, dealer: &mut Share, hands: &mut Vec<Hand>, blocks: usize) -> Result<(), Memory>
     requires dealer { IsShareOf count.now.shared.table_id dealer.old × (dealer.old.me.0 ≡ mark blocks dealer.old.me.0.lanes dealer.old.me.0.parts 0 0 (range 0 blocks)) }
     requires hands { (0 < vec_len hands.old) × AreDealt count.now.shared.table_id (vec_len hands.old) 0 hands.old.items }
     ensures dealer { IfOk result (λ _. IsShareOf count.now.shared.table_id dealer.new × (dealer.new.me.0 ≡ mark blocks dealer.old.me.0.lanes dealer.old.me.0.parts 0 0 [])) }
@@ -75,8 +75,8 @@ fn give_others(hands: &mut Vec<Hand>, lane: usize) -> Result<(), Memory>
     Ok(())
 }
 
-/// Each lane gets a way to each other's deque.
-pub fn give_all_others(hands: &mut Vec<Hand>) -> Result<(), Memory>
+// Each lane gets a way to each other's deque.
+fn give_all_others(hands: &mut Vec<Hand>) -> Result<(), Memory>
     requires { (vec_len hands.old ≤ 64) × HasHands (vec_len hands.old) 0 hands.old.items }
     ensures { IfOk result (λ _. (vec_len hands.new ≡ vec_len hands.old) × KeepsHands (vec_len hands.old) 0 4096 hands.old.items hands.new.items) }
 {
@@ -84,4 +84,24 @@ pub fn give_all_others(hands: &mut Vec<Hand>) -> Result<(), Memory>
         give_others(hands, lane)?;
     }
     Ok(())
+}
+
+/// Deals the blocks of the dealer's seat, lane by lane in turn.
+pub fn make_hands(
+    alloc: Global,
+    count: &Count,
+    dealer: &mut Share,
+    blocks: usize,
+    workers: usize,
+) -> Result<Vec<Hand>, Memory>
+    requires workers { (0 < workers) × (workers ≤ 64) }
+    requires dealer { IsShareOf count.now.shared.table_id dealer.old × (dealer.old.me.0 ≡ mark blocks dealer.old.me.0.lanes dealer.old.me.0.parts 0 0 (range 0 blocks)) }
+    ensures dealer { IfOk result (λ _. IsShareOf count.now.shared.table_id dealer.new × (dealer.new.me.0 ≡ mark blocks dealer.old.me.0.lanes dealer.old.me.0.parts 0 0 [])) }
+    ensures hands { IfOk result (λ hands. (vec_len hands ≡ workers) × AreHands count.now.shared.table_id workers blocks 4096 hands.items) }
+{
+    let room = blocks.div_ceil(workers);
+    let mut hands = empty_hands(alloc, workers, room)?;
+    deal_all(count, dealer, &mut hands, blocks)?;
+    give_all_others(&mut hands)?;
+    Ok(hands)
 }

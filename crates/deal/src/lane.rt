@@ -53,7 +53,8 @@ impl Model for Lane {
 
     ghost Value = { Sight };
 
-    ghost use Rattle.deal.specs.Lanes.{game, sight, IsLane, AreStarts};
+    ghost use Rattle.deal.specs.Divisions.{AreStarts};
+    ghost use Rattle.deal.specs.Lanes.{game, sight, IsLane};
     ghost use Rattle.crossbeam_deque.specs.Handles.{worker_view, worker_flavor};
     ghost use Rattle.std.specs.Prelude.{◌≡◌, ◌≤◌, vec_capacity, length};
 

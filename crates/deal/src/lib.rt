@@ -11,8 +11,10 @@ mod lane;
 mod log;
 mod memory;
 mod next;
+mod part;
 mod reach;
 mod shared;
+mod words;
 
 pub use deal::{Closed, Deal};
 pub use division::{BadDivision, Division};

@@ -1,6 +1,6 @@
 //! What all lanes of a deal share.
 ghost use Rattle.std.specs.Prelude.{◌≡◌, ◌<◌, length};
-ghost use Rattle.deal.specs.Lanes.{AreStarts};
+ghost use Rattle.deal.specs.Divisions.{AreStarts};
 ghost use Rattle.deal.specs.Sharing.{IsTheBlock};
 
 use crate::count::Count;

@@ -2,7 +2,7 @@ use Rattle.std.proofs.Common.{◌≡◌, ◌<◌, ◌≤◌, ◌+◌, max, ◌++
 use Rattle.crossbeam_deque.specs.Handles.{worker_view}
 use Rattle.deal.specs.declared.count.Mark.{Mark}
 use Rattle.deal.specs.Marks.{IsShareOf, IsAmong}
-use Rattle.deal.specs.Lanes.{AreStarts, IsLane, Took, game, sight}
+use Rattle.deal.specs.Lanes.{IsLane, Took, game, sight}
 use Rattle.deal.specs.Totals.{times}
 use Rattle.deal.specs.Sharing.{Sight, Goes, MatchNext, IsTheBlock}
 use Rattle.deal.specs.declared.next.Next.TheVariants.{Empty, Again}
