@@ -18,10 +18,6 @@ pub reverse_twice : {V : Type 0} (xs : List V) → reverse (reverse xs) ≡ xs
 reverse_twice [] = refl
 reverse_twice (x ∷ xs) = ap reverse (reverse-append (x ∷ []) xs) ∙ reverse-append (reverse xs) (x ∷ []) ∙ ap (λ l. x ∷ l) (reverse_twice xs)
 
-pub each_middle : {V : Type 0} (P : V → Type 0) (xs : List V) (y : V) (ys : List V) → Each P (xs ++ y ∷ ys) → P y
-each_middle P [] y ys h = h.0
-each_middle P (x ∷ xs) y ys h = each_middle P xs y ys h.1
-
 lists_more : (done : List Sight) (lane : Sight) → concat (lists_of (done ++ lane ∷ [])) ≡ concat (lists_of done) ++ lane.answered
 lists_more [] lane = append-nil lane.answered
 lists_more (x ∷ xs) lane = ap (λ l. x.answered ++ l) (lists_more xs lane) ∙ sym (append_assoc x.answered (concat (lists_of xs)) lane.answered)

@@ -19,6 +19,7 @@ use Rattle.deal.specs.declared.dealt.Dealt.{Dealt}
 use Rattle.deal.specs.declared.hand.Hand.{Hand}
 use Rattle.deal.specs.declared.log.Log.{Log}
 use Rattle.deal.specs.declared.reach.Reach.{Reach}
+use Rattle.deal.proofs.Members.{each_last}
 use Rattle.deal.proofs.Sums.{total_append}
 use Rattle.deal.proofs.Once.{same_or}
 
@@ -80,10 +81,6 @@ dealt_hands z workers n hands h k hand e =
 
 pub hands_more : (z : TableId) (workers n cut cut' : ℕ) (hands : List Hand) → cut ≤ cut' → AreHands z workers n cut hands → AreHands z workers n cut' hands
 hands_more z workers n cut cut' hands more h k hand e = let t = h k hand e in (t.0, omega (arith, t.1, more), t.2, t.3, t.4, t.5, t.6, t.7)
-
-each_last : {X : Type 0} (P : X → Type 0) (xs : List X) (y : X) → Each P xs → P y → Each P (xs ++ y ∷ [])
-each_last P [] y h p = (p, tt)
-each_last P (x ∷ xs) y h p = (h.0, each_last P xs y h.1 p)
 
 -- a pass is cut off
 pub cuts_more : (z : TableId) (workers n cut j : ℕ) (hands : List Hand) (hand new : Hand) (way : Log) → get_elem? hands j ≡ some hand → 1 < workers → cut < 8192 → AreHands z workers n cut hands

@@ -1,7 +1,8 @@
 -- What a lane knows after it took a block, and where it finds none.
 use Rattle.std.proofs.Common.{◌≡◌, ◌≢◌, ◌≤◌, ◌<◌, ◌%◌, ◌^◌, ℕ, zero, suc, ◌+◌, List, [], ◌∷◌, ◌++◌, length, length-append, set, refl, sym, ap, ◌∙◌, arith, subst, Option, None, Some, Result, Ok, Err, IfOk, Bool, true, false, nat_lt, ◌==◌, if◌then◌else◌}
 use Rattle.std.proofs.lemmas.Bool.Decides.{nat_tests}
-use mathlib.Core.Option.{some, some-ne-none, some-injective}
+use Rattle.std.proofs.lemmas.List.{length-set}
+use mathlib.Core.Option.{some}
 use lib.ListN.{get_elem?}
 use Rattle.std.specs.Prelude.{MatchOption}
 use Rattle.atomic_table.specs.Seated.{TableId}
@@ -23,22 +24,8 @@ use Rattle.deal.specs.Totals.{times}
 use Rattle.deal.specs.Sharing.{Sight, Goes, IsTheBlock, MatchNext, dealt_to}
 use Rattle.deal.specs.declared.next.Next.{Next}
 use Rattle.deal.specs.declared.next.Next.TheVariants.{Block, Again, Empty}
+use Rattle.deal.proofs.Members.{each_at, each_with}
 use Rattle.deal.proofs.Sums.{total_set, total_append, total_length, length_range}
-
-each_at : {V : Type 0} (P : V → Type 0) (vs : List V) (i : ℕ) (v : V) → Each P vs → get_elem? vs i ≡ some v → P v
-each_at P [] i v h e = absurd (some-ne-none v (sym e))
-each_at P (x ∷ xs) zero v h e = subst P (some-injective x v e) h.0
-each_at P (x ∷ xs) (suc i) v h e = each_at P xs i v h.1 e
-
-each_with : {V : Type 0} (P : V → Type 0) (vs : List V) (i : ℕ) (w : V) → Each P vs → P w → Each P (set vs i w)
-each_with P [] i w h p = h
-each_with P (x ∷ xs) zero w h p = (p, h.1)
-each_with P (x ∷ xs) (suc i) w h p = (h.0, each_with P xs i w h.1 p)
-
-length-with : {V : Type 0} (vs : List V) (i : ℕ) (w : V) → length (set vs i w) ≡ length vs
-length-with [] i w = refl
-length-with (x ∷ xs) zero w = refl
-length-with (x ∷ xs) (suc i) w = ap suc (length-with xs i w)
 
 -- the table of a ticket that was taken
 ticket_of : (z : TableId) (v : Log) (t : Ticket) (w : Log) → HasTicketsOf z v → Taking v (t ∷ []) w → IsTicketOf z t
@@ -63,7 +50,7 @@ took_other z own others others' t may k =
       (λ h. omega (arith, got_more h k.1 t k.2 k.5, total_set (λ (u : Log). total h u.got) others k.0 k.1 k.2 k.3)),
       refl,
       refl,
-      length-with others k.0 k.2,
+      length-set others k.0 k.2,
       (may.0, may.1, each_with (HasTicketsOf z) others k.0 k.2 may.2 (stays z k.1 t k.2 here k.5)),
     )
 

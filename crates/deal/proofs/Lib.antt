@@ -3,6 +3,7 @@ pub mod Gathering
 pub mod HandMoves
 pub mod LaneMoves
 pub mod LogMoves
+pub mod Members
 pub mod Once
 pub mod Places
 pub mod Sums

@@ -98,7 +98,7 @@ sees seats slots id v kind here s h homes at _ =
       ),
     )
 
-nothing : (k : ℕ) → slice_index zeros k ≡ 0
+pub nothing : (k : ℕ) → slice_index zeros k ≡ 0
 nothing zero = refl
 nothing (suc zero) = refl
 nothing (suc (suc zero)) = refl
@@ -153,3 +153,27 @@ splits seats id v a_part fresh s h at =
       each_snoc (FitsTally seats s.words) first r (refl, refl, (λ k. (omega (arith, nothing k), omega (arith, nothing k))), mine.3, λ _. mine.4 a_part)
           (each_set (FitsTally seats s.words) s.views id l (mine.0, mine.1, (λ k. ((mine.2 k).0, omega (arith, fresh k))), mine.3, λ _. mine.4 a_part) (λ j u _ e. h.4 j u e)),
     )
+
+-- one more word was seen
+pub sees_more : (was seen seen' kinds : List ℕ) (kind n : ℕ) → length kinds ≡ 7 → length seen ≡ 7 → kind < 7 → seen' ≡ set seen kind n → slice_index seen kind ≤ n → slice_index seen kind ≡ slice_index was kind
+    → ((k : ℕ) → k < kind → (slice_index was k ≤ slice_index kinds k) × (slice_index seen k ≡ slice_index kinds k))
+    → (k : ℕ) → k < kind + 1 → (slice_index was k ≤ slice_index (set kinds kind n) k) × (slice_index seen' k ≡ slice_index (set kinds kind n) k)
+sees_more was seen seen' kinds kind n wide wide' here is more first before k low =
+    ⊎_elim
+        (λ (e : k ≡ kind). subst (λ i. (slice_index was i ≤ slice_index (set kinds kind n) i) × (slice_index seen' i ≡ slice_index (set kinds kind n) i)) (sym e)
+            (
+              omega (arith, more, first, set_same kinds kind n (omega (arith, wide, here))),
+              ap (λ l. slice_index l kind) is ∙ set_same seen kind n (omega (arith, wide', here)) ∙ sym (set_same kinds kind n (omega (arith, wide, here))),
+            ))
+        (λ (d : k ≢ kind). let b = before k (omega (arith, low, d)) in
+            (omega (arith, b.0, set_other kinds kind k n d), ap (λ l. slice_index l k) is ∙ set_other seen kind k n d ∙ b.1 ∙ sym (set_other kinds kind k n d)))
+        (same_or k kind)
+
+-- and where it is what was added, so are all before it
+pub sums_more : (added kinds : List ℕ) (kind n : ℕ) → length kinds ≡ 7 → kind < 7 → n ≡ slice_index added kind → ((k : ℕ) → k < kind → slice_index kinds k ≡ slice_index added k)
+    → (k : ℕ) → k < kind + 1 → slice_index (set kinds kind n) k ≡ slice_index added k
+sums_more added kinds kind n wide here is before k low =
+    ⊎_elim
+        (λ (e : k ≡ kind). subst (λ i. slice_index (set kinds kind n) i ≡ slice_index added i) (sym e) (set_same kinds kind n (omega (arith, wide, here)) ∙ is))
+        (λ (d : k ≢ kind). set_other kinds kind k n d ∙ before k (omega (arith, low, d)))
+        (same_or k kind)

@@ -12,16 +12,19 @@ pub record Sheet : Type 0 where
 
 -- What a seat holds: its tally, what it added to each kind, and the most that it has seen of each
 pub record Tallied : Type 0 where
-  pub sheet : TableId
+  pub sheet : Sheet
   pub added : List ℕ
   pub seen : List ℕ
 
+abbrev pub sheet : TableId → ℕ → Sheet
+sheet z seats = record { table = z; seats = seats }
+
 abbrev pub tallied : TableId → Part → Tallied
-tallied z v = record { sheet = z; added = v.added; seen = v.seen }
+tallied z v = record { sheet = sheet z v.seats; added = v.added; seen = v.seen }
 
 -- a seat that has added and seen nothing
-abbrev pub fresh_seat : TableId → Tallied
-fresh_seat z = record { sheet = z; added = zeros; seen = zeros }
+abbrev pub fresh_seat : Sheet → Tallied
+fresh_seat tally = record { sheet = tally; added = zeros; seen = zeros }
 
 -- what was seen of this kind rose by n or more, and of no kind fell
 abbrev pub RisesAt : ℕ → ℕ → List ℕ → List ℕ → Type 0
@@ -48,9 +51,27 @@ abbrev pub NoneSawMore : List ℕ → List Tallied → Type 0
 NoneSawMore counts seats = Each (λ (seat : Tallied). AtMost seat.seen counts) seats
 
 -- the seats are of this tally
-abbrev pub AreSeatsOf : TableId → List Tallied → Type 0
-AreSeatsOf z seats = Each (λ (seat : Tallied). seat.sheet ≡ z) seats
+abbrev pub AreSeatsOf : Sheet → List Tallied → Type 0
+AreSeatsOf tally seats = Each (λ (seat : Tallied). seat.sheet ≡ tally) seats
 
 -- the counts are what the seats added, and no seat saw more
 abbrev pub AreCounts : List ℕ → List Tallied → Type 0
 AreCounts counts seats = (length counts ≡ 7) × ((k : ℕ) → k < 7 → slice_index counts k ≡ added_in k seats) × NoneSawMore counts seats
+
+-- the seat of a tally: it knows how many seats there are, stands for none, and has added nothing
+abbrev pub IsRest : ℕ → Part → Type 0
+IsRest seats v = (v.seats ≡ seats) × (v.parts ≡ 0) × ((k : ℕ) → slice_index v.added k ≡ 0)
+
+-- it took in another seat
+abbrev pub HasTaken : Tallied → Part → Part → Type 0
+HasTaken seat v w =
+    (w.seats ≡ v.seats) × (w.parts ≡ v.parts + 1)
+    × ((k : ℕ) → slice_index w.added k ≡ slice_index v.added k + slice_index seat.added k)
+    × ((k : ℕ) → (slice_index v.seen k ≤ slice_index w.seen k) × (slice_index seat.seen k ≤ slice_index w.seen k))
+
+-- it took in these seats, and knows how many there are
+abbrev pub HasAll : List Tallied → ℕ → Part → Type 0
+HasAll seats many v =
+    (v.seats ≡ many) × (v.parts ≡ length seats)
+    × ((k : ℕ) → slice_index v.added k ≡ added_in k seats)
+    × ((counts : List ℕ) → AtMost v.seen counts → NoneSawMore counts seats)

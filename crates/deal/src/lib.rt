@@ -14,6 +14,7 @@ mod next;
 mod part;
 mod reach;
 mod shared;
+mod tally;
 mod words;
 
 pub use deal::{Closed, Deal};
@@ -21,3 +22,4 @@ pub use division::{BadDivision, Division};
 pub use lane::Lane;
 pub use memory::Memory;
 pub use next::Next;
+pub use tally::{Counts, KINDS, SeatsMissing, Tally, TallySeat};

@@ -6,7 +6,8 @@ use Rattle.std.specs.List.{concat}
 use Rattle.deal.specs.Sharing.{Sight, SomeHasSeenAll, lists_of}
 use Rattle.deal.specs.Closing.{HasBack, items_of}
 use Rattle.deal.specs.declared.count.Mark.{Mark}
-use Rattle.deal.proofs.Gathering.{reverse_twice, each_middle, none_back, back_more, all_back, lists_last, items_last, none_left}
+use Rattle.deal.proofs.Gathering.{reverse_twice, none_back, back_more, all_back, lists_last, items_last, none_left}
+use Rattle.deal.proofs.Members.{each_middle}
 use Rattle.deal.proofs.deal.take_back.Goals as goal
 
 pub loop-lane-init : goal.loop-lane-init
