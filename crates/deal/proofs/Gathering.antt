@@ -8,9 +8,10 @@ use Rattle.std.proofs.lemmas.List.{reverse-append, take_more, get_or-replicate, 
 use Rattle.deal.specs.Totals.{total, range, one_at, times, HasEachOnce, Each}
 use Rattle.deal.specs.Marks.{IsAmong}
 use Rattle.deal.specs.Lanes.{Collects}
-use Rattle.deal.specs.Sharing.{Sight, HasSeenAll, SomeHasSeenAll, lists_of}
+use Rattle.deal.specs.Sharing.{Game, Sight, AreLanesOf, HasSeenAll, SomeHasSeenAll, fresh, fresh_lanes, lists_of}
 use Rattle.deal.specs.Closing.{IsMarked, Marks, unmarked, items_of, HasBack}
 use Rattle.deal.specs.declared.count.Mark.{Mark}
+use Rattle.deal.proofs.Members.{all_of_each}
 use Rattle.deal.proofs.Sums.{total_append, total_length, length_range}
 use Rattle.deal.proofs.Once.{same_or, here, elsewhere, times_one, once_within, none_above, among_once, among_below}
 
@@ -243,3 +244,18 @@ marks_all list old marks i all h = (h.0, λ xs m. subst (λ l. IsMarked (xs ++ l
 pub none_left : (lanes done rest : List Sight) → lanes ≡ done ++ reverse rest → length rest ≡ 0 → lanes ≡ done
 none_left lanes done [] is none = is ∙ append-nil done
 none_left lanes done (x ∷ xs) is none = absurd (omega (arith, none))
+
+-- the lanes of a new deal are its own
+pub fresh_are : (g : Game) → AreLanesOf g (fresh_lanes g)
+fresh_are g = all_of_each (λ (lane : Sight). lane.game ≡ g) (fresh_lanes g) (each_fresh (range 0 g.lanes))
+  where
+    each_fresh : (ks : List ℕ) → Each (λ (lane : Sight). lane.game ≡ g) (map (fresh g) ks)
+    each_fresh [] = tt
+    each_fresh (k ∷ ks) = (refl, each_fresh ks)
+
+pub fresh_many : (g : Game) → length (fresh_lanes g) ≡ g.lanes
+fresh_many g = length-map (range 0 g.lanes) ∙ length_range 0 g.lanes
+  where
+    length-map : (ks : List ℕ) → length (map (fresh g) ks) ≡ length ks
+    length-map [] = refl
+    length-map (k ∷ ks) = ap suc (length-map ks)

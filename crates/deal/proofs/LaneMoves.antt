@@ -21,7 +21,7 @@ use Rattle.deal.specs.Logs.{HasTicketsOf}
 use Rattle.deal.specs.Lanes.{MayTake, taken_by, Took, IsLane, IsDealer, IsSomeHand}
 use Rattle.deal.specs.Divisions.{IsBlock}
 use Rattle.deal.specs.Totals.{times}
-use Rattle.deal.specs.Sharing.{Sight, Goes, IsTheBlock, MatchNext, dealt_to}
+use Rattle.deal.specs.Sharing.{Sight, IsTheBlock, MatchNext, dealt_to}
 use Rattle.deal.specs.declared.next.Next.{Next}
 use Rattle.deal.specs.declared.next.Next.TheVariants.{Block, Again, Empty}
 use Rattle.deal.proofs.Members.{each_at, each_with}
@@ -118,11 +118,11 @@ after_look size lengths share own others got z share' seen l of is = (
 
 
 -- the block that was taken is what the lane is answered
-pub answers_block : (r : Next) (old new : Sight) (n : ℕ) → IsTheBlock new.game.lengths n r → Goes old new → times n old.answered ≡ 0 → new.answered ≡ old.answered ++ n ∷ [] → MatchNext r old new
-answers_block (Block i first len) old new n is goes fresh more =
-    subst (λ k. Goes old new × IsBlock new.game.lengths k first len × (times k old.answered ≡ 0) × (new.answered ≡ old.answered ++ k ∷ [])) (sym is.0) (goes, is.1, fresh, more)
-answers_block Again old new n is goes fresh more = absurd is
-answers_block Empty old new n is goes fresh more = absurd is
+pub answers_block : (r : Next) (old new : Sight) (n : ℕ) → IsTheBlock new.game.lengths n r → times n old.answered ≡ 0 → new.answered ≡ old.answered ++ n ∷ [] → MatchNext r old new
+answers_block (Block i first len) old new n is fresh more =
+    subst (λ k. IsBlock new.game.lengths k first len × (times k old.answered ≡ 0) × (new.answered ≡ old.answered ++ k ∷ [])) (sym is.0) (is.1, fresh, more)
+answers_block Again old new n is fresh more = absurd is
+answers_block Empty old new n is fresh more = absurd is
 
 -- a lane alone is dealt every block
 pub dealt_alone : (n : ℕ) → dealt_to 1 0 n ≡ range 0 n

@@ -1,5 +1,6 @@
 -- A fact of each value of a list.
-use Rattle.std.proofs.Common.{◌≡◌, ℕ, zero, suc, List, [], ◌∷◌, ◌++◌, set, sym, subst}
+use Rattle.std.proofs.Common.{◌≡◌, ℕ, zero, suc, List, [], ◌∷◌, ◌++◌, ◌<◌, length, set, sym, subst, arith}
+use Rattle.std.specs.Prelude.{All, slice_index_or}
 use mathlib.Core.Option.{some, some-ne-none, some-injective}
 use lib.ListN.{get_elem?}
 use Rattle.deal.specs.Totals.{Each}
@@ -30,3 +31,12 @@ module _ {V : Type 0} (P : V → Type 0) where
   each_with [] i w h p = h
   each_with (x ∷ xs) zero w h p = (p, h.1)
   each_with (x ∷ xs) (suc i) w h p = (h.0, each_with xs i w h.1 p)
+
+  pub each_of_all : (xs : List V) → All P xs → Each P xs
+  each_of_all [] h = tt
+  each_of_all (x ∷ xs) h = (h 0 x (omega arith), each_of_all xs (λ k d short. h (suc k) d (omega (arith, short))))
+
+  pub all_of_each : (xs : List V) → Each P xs → All P xs
+  all_of_each [] h k d short = absurd (omega (arith, short))
+  all_of_each (x ∷ xs) h zero d short = h.0
+  all_of_each (x ∷ xs) h (suc k) d short = all_of_each xs h.1 k d (omega (arith, short))

@@ -6,8 +6,10 @@ use Rattle.std.proofs.lemmas.List.{length-set}
 use Rattle.atomic_table.specs.Table.{State, Act, Allows, Joins, Splits, opening, step, keeps}
 use Rattle.atomic_table.proofs.Lists.{at_set}
 use Rattle.deal.specs.declared.part.Part.{Part}
-use Rattle.deal.specs.Totals.{total}
+use Rattle.deal.specs.Totals.{total, Each}
+use Rattle.deal.specs.Tallies.{Sheet, Tallied, AreSeatsOf, fresh_seat}
 use Rattle.deal.specs.Parts.{part, no_part, first_part, less_a_seat, seat_part, both_parts, zeros, sums, greater, FitsTally, IsSummed, Adding, Seeing}
+use Rattle.deal.proofs.Members.{all_of_each}
 use Rattle.deal.proofs.Sums.{total_set, total_append, total_at, total_lone, each_set, each_snoc}
 use Rattle.deal.proofs.Once.{same_or}
 use Rattle.deal.proofs.Counting.{greater_all}
@@ -177,3 +179,11 @@ sums_more added kinds kind n wide here is before k low =
         (λ (e : k ≡ kind). subst (λ i. slice_index (set kinds kind n) i ≡ slice_index added i) (sym e) (set_same kinds kind n (omega (arith, wide, here)) ∙ is))
         (λ (d : k ≢ kind). set_other kinds kind k n d ∙ before k (omega (arith, low, d)))
         (same_or k kind)
+
+-- the seats of a new tally are its own
+pub fresh_seats_are : (s : Sheet) (n : ℕ) → AreSeatsOf s (replicate n (fresh_seat s))
+fresh_seats_are s n = all_of_each (λ (seat : Tallied). seat.sheet ≡ s) (replicate n (fresh_seat s)) (each_fresh n)
+  where
+    each_fresh : (m : ℕ) → Each (λ (seat : Tallied). seat.sheet ≡ s) (replicate m (fresh_seat s))
+    each_fresh zero = tt
+    each_fresh (suc m) = (refl, each_fresh m)

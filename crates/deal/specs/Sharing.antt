@@ -2,9 +2,9 @@
 --
 -- A schedule is the order in which the atomic steps of all threads come: a push, a pop, a steal, and a load or an add of one word. No promise
 -- names one. Each speaks of the values before and after a call of its own thread, and the steps of other threads may come between any two of its own.
-use Rattle.std.specs.Prelude.{◌≡◌, ℕ, zero, suc, ◌+◌, ◌%◌, ◌<◌, ◌≤◌, List, [], ◌∷◌, ◌++◌, length, map, ◌==◌, ◌⊎◌, if◌then◌else◌}
+use Rattle.std.specs.Prelude.{◌≡◌, ℕ, zero, suc, ◌+◌, ◌%◌, ◌<◌, ◌≤◌, List, [], ◌∷◌, ◌++◌, length, map, All, ◌==◌, ◌⊎◌, if◌then◌else◌}
 use Rattle.atomic_table.specs.Seated.{TableId}
-use Rattle.deal.specs.Totals.{times, range, Each}
+use Rattle.deal.specs.Totals.{times, range}
 use Rattle.deal.specs.Divisions.{IsBlock}
 use Rattle.deal.specs.declared.next.Next.{Next}
 use Rattle.deal.specs.declared.next.Next.TheVariants.{Block, Again, Empty}
@@ -35,9 +35,9 @@ Goes old new = (new.game ≡ old.game) × (new.dealt ≡ old.dealt) × (old.seen
 -- block has been handed out
 abbrev pub MatchNext : Next → Sight → Sight → Type 0
 MatchNext (Block number first len) old new =
-    Goes old new × IsBlock new.game.lengths number first len × (times number old.answered ≡ 0) × (new.answered ≡ old.answered ++ number ∷ [])
-MatchNext Again old new = Goes old new × (new.answered ≡ old.answered) × (1 < new.game.lanes)
-MatchNext Empty old new = Goes old new × (new.answered ≡ old.answered) × HasSeenAll new
+    IsBlock new.game.lengths number first len × (times number old.answered ≡ 0) × (new.answered ≡ old.answered ++ number ∷ [])
+MatchNext Again old new = (new.answered ≡ old.answered) × (1 < new.game.lanes)
+MatchNext Empty old new = (new.answered ≡ old.answered) × HasSeenAll new
 
 -- the answer is the block of this number
 abbrev pub IsTheBlock : List ℕ → ℕ → Next → Type 0
@@ -64,7 +64,7 @@ lists_of lanes = map (λ (lane : Sight). lane.answered) lanes
 
 -- the lanes are of this deal
 abbrev pub AreLanesOf : Game → List Sight → Type 0
-AreLanesOf game lanes = Each (λ (lane : Sight). lane.game ≡ game) lanes
+AreLanesOf game lanes = All (λ (lane : Sight). lane.game ≡ game) lanes
 
 -- one of the lanes saw that every block has been handed out
 abbrev pub SomeHasSeenAll : List Sight → Type 0

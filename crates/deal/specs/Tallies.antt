@@ -1,5 +1,5 @@
 -- What tallies and their seats stand for, and what their calls promise, whatever other seats do at the same time.
-use Rattle.std.specs.Prelude.{◌≡◌, ℕ, ◌+◌, ◌<◌, ◌≤◌, List, [], ◌∷◌, length, replicate, slice_index, slice_set}
+use Rattle.std.specs.Prelude.{◌≡◌, ℕ, ◌+◌, ◌<◌, ◌≤◌, List, [], ◌∷◌, length, All, slice_index, slice_set}
 use Rattle.atomic_table.specs.Seated.{TableId}
 use Rattle.deal.specs.Totals.{total, Each}
 use Rattle.deal.specs.Parts.{zeros}
@@ -52,7 +52,11 @@ NoneSawMore counts seats = Each (λ (seat : Tallied). AtMost seat.seen counts) s
 
 -- the seats are of this tally
 abbrev pub AreSeatsOf : Sheet → List Tallied → Type 0
-AreSeatsOf tally seats = Each (λ (seat : Tallied). seat.sheet ≡ tally) seats
+AreSeatsOf tally seats = All (λ (seat : Tallied). seat.sheet ≡ tally) seats
+
+-- the same, seat by seat
+abbrev pub AreEachOf : Sheet → List Tallied → Type 0
+AreEachOf tally seats = Each (λ (seat : Tallied). seat.sheet ≡ tally) seats
 
 -- the counts are what the seats added, and no seat saw more
 abbrev pub AreCounts : List ℕ → List Tallied → Type 0

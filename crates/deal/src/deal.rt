@@ -58,6 +58,8 @@ impl Deal {
         requires { (0 < workers) × (workers ≤ 64) }
         ensures deal { IfOk result (λ made. (made.0.lanes ≡ workers) × (made.0.lengths ≡ division)) }
         ensures lanes { IfOk result (λ made. made.1.items ≡ fresh_lanes made.0) }
+        ensures of { IfOk result (λ made. AreLanesOf made.0 made.1.items) }
+        ensures many { IfOk result (λ made. vec_len made.1 ≡ workers) }
     {
         let blocks = division.count();
         let starts = division.starts(alloc)?;

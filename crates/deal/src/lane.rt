@@ -4,7 +4,7 @@ ghost use Rattle.crossbeam_deque.specs.Handles.{SameWorker, worker_flavor, worke
 ghost use Rattle.deal.specs.Logs.{Taking, IsAllTaken};
 ghost use Rattle.deal.specs.Lanes.{MayTake, Took, Collects, IsDealer, IsSomeHand, IsShared, game, opened};
 ghost use Rattle.deal.specs.Marks.{IsShareOf};
-ghost use Rattle.deal.specs.Sharing.{MatchNext};
+ghost use Rattle.deal.specs.Sharing.{Goes, MatchNext};
 
 use crate::count::{Count, Cut, Share, Ticket, hand_out, look, unite};
 use crate::dealt::{Own, Takes};
@@ -114,7 +114,8 @@ impl Lane {
     ///
     /// Waits for nobody and takes no memory. A lane alone is never told to ask again.
     pub fn next(&mut self) -> Next
-        ensures { MatchNext result self.old self.new }
+        ensures goes { Goes self.old self.new }
+        ensures next { MatchNext result self.old self.new }
     {
         let shared: &Shared = &self.shared;
         match take(&mut self.own, &mut self.others, &shared.count) {

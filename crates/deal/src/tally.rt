@@ -1,7 +1,7 @@
 //! Counts that several threads add to, each by a seat of its own.
 ghost use Rattle.std.specs.Prelude.{◌≡◌, ◌+◌, ◌<◌, ◌≤◌, ◌^◌, ℕ, [], length, replicate, slice_index, IfErr, IfOk};
 ghost use Rattle.deal.specs.Parts.{IsSeatOf, both_parts, part, zeros};
-ghost use Rattle.deal.specs.Tallies.{Adds, AreCounts, AreSeatsOf, AtMost, HasAll, HasTaken, IsRest, Reads, fresh_seat, sheet};
+ghost use Rattle.deal.specs.Tallies.{Adds, AreCounts, AreEachOf, AreSeatsOf, AtMost, HasAll, HasTaken, IsRest, Reads, fresh_seat, sheet};
 
 use crate::memory::Memory;
 use crate::words::{PartSeat, Parts, Words, add_to, merge, see};
@@ -94,6 +94,7 @@ impl Tally {
         requires { (0 < seats) × (seats ≤ 65536) }
         ensures tally { IfOk result (λ made. made.0.seats ≡ seats) }
         ensures seats { IfOk result (λ made. made.1.items ≡ replicate seats (fresh_seat made.0)) }
+        ensures of { IfOk result (λ made. AreSeatsOf made.0 made.1.items) }
     {
         let (words, mut rest) = Table::of_words(alloc, &[0, 0, 0, 0, 0, 0, 0], &(seats as u64))?;
         let list = make_seats(alloc, &words, &mut rest, seats)?;
@@ -162,7 +163,7 @@ fn make_seats(
 // The seats go back.
 fn take_seats(words: &Words, rest: &mut PartSeat, mut seats: Vec<TallySeat>)
     requires rest { IsSeatOf words.now.shared.table_id rest.old × IsRest rest.old.me.0.seats rest.old.me.0 }
-    requires seats { AreSeatsOf (sheet words.now.shared.table_id rest.old.me.0.seats) seats.items }
+    requires seats { AreEachOf (sheet words.now.shared.table_id rest.old.me.0.seats) seats.items }
     ensures rest { IsSeatOf words.now.shared.table_id rest.new }
     ensures taken { HasAll seats.items rest.old.me.0.seats rest.new.me.0 }
 {

@@ -1,6 +1,6 @@
 use Rattle.std.proofs.Common.{◌≡◌, ◌∙◌, ◌++◌, ◌∷◌, [], List, length, length-append, sym, ap, subst, arith, slice_index}
 use Rattle.deal.specs.Totals.{Each}
-use Rattle.deal.specs.Tallies.{Tallied, AreSeatsOf, AtMost, NoneSawMore, added_in, sheet}
+use Rattle.deal.specs.Tallies.{Tallied, AreEachOf, AtMost, NoneSawMore, added_in, sheet}
 use Rattle.deal.proofs.Members.{each_left, each_last}
 use Rattle.deal.proofs.Sums.{total_append}
 use Rattle.deal.proofs.tally.take_seats.Goals as goal
@@ -16,7 +16,7 @@ loop-seat-preserved c =
     (
       e.seat,
       e.taken.0 ∙ i.1,
-      each_left (λ (s : Tallied). s.sheet ≡ z) rest (seat ∷ []) (subst (AreSeatsOf z) was i.2),
+      each_left (λ (s : Tallied). s.sheet ≡ z) rest (seat ∷ []) (subst (AreEachOf z) was i.2),
       omega (arith, e.taken.1, i.3, ap length was, length-append rest (seat ∷ [])),
       (λ k. omega (arith, e.taken.2 k, i.4 k, ap (λ (l : List Tallied). added_in k l) was, total_append (λ (s : Tallied). slice_index s.added k) rest (seat ∷ []))),
       λ counts mine others. i.5 counts (λ k low. omega (arith, (e.taken.3 k).0, mine k low))

@@ -2,10 +2,11 @@ use Rattle.std.proofs.Common.{◌≡◌, ◌≤◌, ◌++◌, [], List, ℕ, Boo
 use Rattle.std.specs.List.{concat}
 use Rattle.deal.specs.Totals.{HasEachOnce}
 use Rattle.deal.specs.Marks.{IsAmong}
-use Rattle.deal.specs.Sharing.{Game, lists_of}
+use Rattle.deal.specs.Sharing.{Game, Sight, lists_of}
 use Rattle.deal.specs.Closing.{IsMarked, items_of, unmarked}
 use Rattle.deal.specs.declared.count.Mark.{Mark}
 use Rattle.deal.proofs.Gathering.{each_once, none_unmarked, length_unmarked}
+use Rattle.deal.proofs.Members.{each_of_all}
 use Rattle.deal.proofs.deal.Deal.close.Goals as goal
 use Rattle.deal.proofs.deal.Deal.close.Goals.{After-drop-shared}
 
@@ -41,3 +42,16 @@ returns-clause-all c back seen =
     let lanes : c.self.inside.dealer.me.0.lanes ≡ c.args.self.lanes = ap (λ (m : Mark). m.lanes) c.self.invariant.1.1 ∙ ap (λ (g : Game). g.lanes) c.self.view_is in
     let many = c.take_back.ensures.all (back ∙ sym lanes) seen in
     c.keep_unmarked.ensures ∙ ap (λ k. unmarked k marks) (full c) ∙ none_unmarked (n c) lists marks (full c) (among c) (marked c) (omega (arith, many, all c))
+
+pub take_back-requires-clause-lanes : goal.take_back-requires-clause-lanes
+take_back-requires-clause-lanes c =
+    let s = c.self.inside.shared.value in
+    let v = c.self.view_is in
+    let d = c.self.invariant.1 in
+    let P : Sight → Type 0 = λ lane. (lane.game.table ≡ c.self.inside.dealer.table_id) × (length lane.game.lengths ≡ c.self.inside.dealer.me.0.all) × (lane.game.lanes ≡ c.self.inside.dealer.me.0.lanes) in
+    each_of_all P c.args.lanes.items (λ k e short.
+        let is = c.requires k e short ∙ sym v in (
+          ap (λ (g : Game). g.table) is ∙ sym d.0.0,
+          ap (λ (g : Game). length g.lengths) is ∙ sym (ap (λ (m : Mark). m.all) d.1 ∙ c.self.invariant.0),
+          ap (λ (g : Game). g.lanes) is ∙ sym (ap (λ (m : Mark). m.lanes) d.1),
+        ))

@@ -44,14 +44,16 @@ returns-in-Some c =
     let here = c.deref-shared.ensures in
     let old : c.self.inside.got.items ≡ c.args.self.now.answered = ap (λ (s : Sight). s.answered) v in
     let own = c.in-Some.ensures.taken.3 in
-    answers_block _ _ _ n (subst (λ t. IsTheBlock t.division n c.block.result) here c.block.ensures)
-        (
+    record {
+      goes = (
           ap (λ (s : Sight). s.game) v,
           own ∙ ap (λ (s : Sight). s.dealt) v,
           omega (arith, ap (λ (m : Mark). m.seen) e.counted, e.seen.0, ap (λ (s : Sight). s.seen) v),
-        )
-        (ap (times n) (sym (l.7 ∙ old)) ∙ last_new _ _ n e.among)
-        (c.push_reserved.ensures.items ∙ ap (λ xs. xs ++ n ∷ []) old)
+        );
+      next = answers_block _ _ _ n (subst (λ t. IsTheBlock t.division n c.block.result) here c.block.ensures)
+          (ap (times n) (sym (l.7 ∙ old)) ∙ last_new _ _ n e.among)
+          (c.push_reserved.ensures.items ∙ ap (λ xs. xs ++ n ∷ []) old)
+    }
 
 pub returns-after-look-blocks : goal.returns-after-look-blocks
 returns-after-look-blocks c =
@@ -71,7 +73,8 @@ returns-after-look-blocks c =
           omega (arith, seen, e.seen, ap (λ (s : Sight). s.seen) v),
         ) in
     let same : new.answered ≡ old.answered = ap (λ (s : Sight). s.answered) v in
-    elim c.if-look-blocks.branch [
-      then-look-blocks w ↦ subst (λ r. MatchNext r old new) (sym w.result-is) (goes, same, omega (arith, seen, w.if-look-blocks.true, many))
-    | else-look-blocks w ↦ subst (λ r. MatchNext r old new) (sym w.result-is) (goes, same, omega (arith, e.among.1, l.3, l.5, λ (lone : now.count.shared.key.lanes ≡ 1). w.if-look-blocks.false (e.whole (l.3 ∙ sym lone ∙ sym l.5) ∙ alone now.count.shared.key now.division c.self.inside.share (worker_view c.self.inside.own) c.self.inside.others.items c.self.inside.got.items now.count.shared.table_id l lone none.2 ∙ sym many)))
-    ]
+    let next : MatchNext c.if-look-blocks.result old new = elim c.if-look-blocks.branch [
+      then-look-blocks w ↦ subst (λ r. MatchNext r old new) (sym w.result-is) (same, omega (arith, seen, w.if-look-blocks.true, many))
+    | else-look-blocks w ↦ subst (λ r. MatchNext r old new) (sym w.result-is) (same, omega (arith, e.among.1, l.3, l.5, λ (lone : now.count.shared.key.lanes ≡ 1). w.if-look-blocks.false (e.whole (l.3 ∙ sym lone ∙ sym l.5) ∙ alone now.count.shared.key now.division c.self.inside.share (worker_view c.self.inside.own) c.self.inside.others.items c.self.inside.got.items now.count.shared.table_id l lone none.2 ∙ sym many)))
+    ] in
+    record { goes = goes; next = next }

@@ -1,0 +1,1 @@
+//! A tally of two seats.
