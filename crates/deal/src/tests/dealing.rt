@@ -42,7 +42,7 @@ fn a_lane_steals(rt: HostRuntime) -> Result<(), Fail> {
     assert_eq!(rt; turn(&mut lanes, 1), Next::Empty);
     let closed = deal.close(lanes);
     assert_eq!(rt; closed.lists.len(), 2);
-    assert_eq!(rt; closed.lists[0].as_slice(), &[0, 2, 1]);
+    assert_eq!(rt; closed.lists[0].as_slice(), [0, 2, 1].as_slice());
     assert_eq!(rt; closed.lists[1].len(), 0);
     assert_eq!(rt; closed.rest.len(), 0);
     Ok(())
