@@ -57,7 +57,7 @@ counts k slots id v a_part some_left fits s h homes at _ =
         (λ f. omega (arith, total_set (λ (u : Mark). total f u.blocks) s.views id v w at, h.3 f)),
         subst (λ m. (j : ℕ) (u : Mark) → get_elem? (set s.views id w) j ≡ some u → FitsCount k m u) (sym word)
             (each_set (FitsCount k (n + 1)) s.views id w (omega (arith, some_left), omega arith, (λ none. absurd (omega (arith, none, a_part))), mine.3, mine.4, mine.5)
-                (λ j u _ e. let t = h.4 j u e in (t.0, omega (arith, t.1), t.2, t.3, t.4, t.5))),
+            (λ j u _ e. let t = h.4 j u e in (t.0, omega (arith, t.1), t.2, t.3, t.4, t.5))),
       ),
       (
         refl,
@@ -117,19 +117,18 @@ joins k id v other w s h at apart at' =
       (let x = total_set (λ (u : Mark). u.parts) s.views id v b at in let y = total_set (λ (u : Mark). u.parts) first other w no_mark at' in omega (arith, x, y, h.2)),
       (λ f. let x = total_set (λ (u : Mark). total f u.blocks) s.views id v b at in let y = total_set (λ (u : Mark). total f u.blocks) first other w no_mark at' in omega (arith, x, y, h.3 f, total_append f v.blocks w.blocks)),
       each_set (FitsCount k (slice_index s.words 0)) first other no_mark (omega arith, omega arith, (λ _. refl), omega arith, omega arith, λ some. absurd (omega (arith, some)))
-          (λ j u _ e. each_set (FitsCount k (slice_index s.words 0)) s.views id b
-              (
-                omega (arith, mine.0, theirs.0, length-append v.blocks w.blocks),
-                omega (arith, mine.1, theirs.1),
-                (λ none. omega (arith, mine.2 (omega (arith, none)), theirs.2 (omega (arith, none)))),
-                omega (arith, mine.3, theirs.3),
-                omega (arith, mine.4, theirs.4),
-                λ some. (
-                  greater_all k.blocks v.all w.all v.parts w.parts mine.3 theirs.3 (λ p. (mine.5 p).0) (λ p. (theirs.5 p).0) some,
-                  greater_all k.lanes v.lanes w.lanes v.parts w.parts mine.4 theirs.4 (λ p. (mine.5 p).1) (λ p. (theirs.5 p).1) some,
-                ),
-              )
-              (λ i y _ e'. h.4 i y e') j u e),
+          (λ j u _ e. each_set (FitsCount k (slice_index s.words 0)) s.views id b (
+            omega (arith, mine.0, theirs.0, length-append v.blocks w.blocks),
+            omega (arith, mine.1, theirs.1),
+            (λ none. omega (arith, mine.2 (omega (arith, none)), theirs.2 (omega (arith, none)))),
+            omega (arith, mine.3, theirs.3),
+            omega (arith, mine.4, theirs.4),
+            λ some. (
+              greater_all k.blocks v.all w.all v.parts w.parts mine.3 theirs.3 (λ p. (mine.5 p).0) (λ p. (theirs.5 p).0) some,
+              greater_all k.lanes v.lanes w.lanes v.parts w.parts mine.4 theirs.4 (λ p. (mine.5 p).1) (λ p. (theirs.5 p).1) some,
+            ),
+          )
+          (λ i y _ e'. h.4 i y e') j u e),
     )
 
 -- the first block gets a ticket

@@ -37,15 +37,15 @@ some_last (x ∷ xs) lane h = ⊎_elim (λ t. inl (inl t)) (λ t. ⊎_elim (λ u
 
 pub none_back : (m : Mark) → m.parts ≡ 0 → m.counted ≡ 0 → m.blocks ≡ [] → HasBack m [] m
 none_back m parts counted blocks = (
-      refl,
-      refl,
-      parts,
-      blocks,
-      omega (arith, counted, ap length blocks),
-      (λ f. omega (arith, ap (total f) blocks)),
-      (λ some. absurd (omega arith)),
-      λ none. absurd none,
-    )
+  refl,
+  refl,
+  parts,
+  blocks,
+  omega (arith, counted, ap length blocks),
+  (λ f. omega (arith, ap (total f) blocks)),
+  (λ some. absurd (omega arith)),
+  λ none. absurd none,
+)
 
 length_last : {V : Type 0} (xs : List V) (x : V) → length (xs ++ x ∷ []) ≡ length xs + 1
 length_last xs x = length-append xs (x ∷ [])
@@ -82,13 +82,16 @@ marks_one xs marks n short h x low = ⊎_elim at_n elsewhere_x (same_or x n)
   where
     low' : x < length marks
     low' = omega (arith, low, length-set marks n true)
+
     more : times x (xs ++ n ∷ []) ≡ times x xs + one_at x n
     more = omega (arith, total_append (one_at x) xs (n ∷ []))
+
     at_n : x ≡ n → slice_index_or (set marks n true) x false ≡ nat_lt 0 (times x (xs ++ n ∷ []))
     at_n e =
         let there : 0 < times x (xs ++ n ∷ []) = omega (arith, more, here x n (sym e)) in
         let yes : nat_lt 0 (times x (xs ++ n ∷ [])) ≡ true = grind (arith, nat_tests, there) in
         subst (λ k. slice_index_or (set marks n true) k false ≡ true) (sym e) (get_or-set_same marks n true false short) ∙ sym yes
+
     elsewhere_x : x ≢ n → slice_index_or (set marks n true) x false ≡ nat_lt 0 (times x (xs ++ n ∷ []))
     elsewhere_x apart =
         let same : times x (xs ++ n ∷ []) ≡ times x xs = omega (arith, more, elsewhere x n (λ e. apart (sym e))) in
@@ -103,15 +106,14 @@ times_at (x ∷ xs) (suc i) h = omega (arith, times_at xs i (omega (arith, h)))
 -- one more of a list's numbers is marked
 pub marks_more : (list : List ℕ) (old marks : List Bool) (i : ℕ) → i < length list → slice_index list i < length marks → Marks (take i list) old marks → Marks (take (i + 1) list) old (set marks (slice_index list i) true)
 marks_more list old marks i short low h = (
-      length-set marks (slice_index list i) true ∙ h.0,
-      λ xs m. subst (λ l. IsMarked l (set marks (slice_index list i) true)) (append_assoc xs (take i list) (slice_index list i ∷ []) ∙ ap (λ l. xs ++ l) (sym (take_more list i 0 short)))
-          (marks_one (xs ++ take i list) marks (slice_index list i) low (h.1 xs m)),
-    )
+  length-set marks (slice_index list i) true ∙ h.0,
+  λ xs m. subst (λ l. IsMarked l (set marks (slice_index list i) true)) (append_assoc xs (take i list) (slice_index list i ∷ []) ∙ ap (λ l. xs ++ l) (sym (take_more list i 0 short)))
+      (marks_one (xs ++ take i list) marks (slice_index list i) low (h.1 xs m)),
+)
 
 pub length_unmarked : (n : ℕ) → length (replicate n false) ≡ n
 length_unmarked zero = refl
 length_unmarked (suc n) = ap suc (length_unmarked n)
-
 
 -- the lists that were marked, and one more
 pub concat_more : (vs : List (Vec ℕ Global)) (i : ℕ) (d : Vec ℕ Global) → i < length vs → concat (items_of (take (i + 1) vs)) ≡ concat (items_of (take i vs)) ++ (get_or vs i d).items
@@ -139,16 +141,18 @@ unmarked_at : (x m : ℕ) (marks : List Bool) → x < m → times x (unmarked m 
 unmarked_at x zero marks low = absurd (omega (arith, low))
 unmarked_at x (suc m) marks low =
     ⊎_elim
-        (λ (e : x ≡ m). subst (λ k. times k (unmarked m marks ++ (if slice_index_or marks m false then [] else m ∷ [])) ≡ (if slice_index_or marks k false then 0 else 1)) (sym e) here_m)
-        (λ (apart : x ≢ m). omega (arith, total_append (one_at x) (unmarked m marks) (if slice_index_or marks m false then [] else m ∷ []), unmarked_at x m marks (omega (arith, low, apart)), last apart (slice_index_or marks m false)))
-        (same_or x m)
+    (λ (e : x ≡ m). subst (λ k. times k (unmarked m marks ++ (if slice_index_or marks m false then [] else m ∷ [])) ≡ (if slice_index_or marks k false then 0 else 1)) (sym e) here_m)
+    (λ (apart : x ≢ m). omega (arith, total_append (one_at x) (unmarked m marks) (if slice_index_or marks m false then [] else m ∷ []), unmarked_at x m marks (omega (arith, low, apart)), last apart (slice_index_or marks m false)))
+    (same_or x m)
   where
     last : x ≢ m → (b : Bool) → times x (if b then [] else m ∷ []) ≡ 0
     last apart true = refl
     last apart false = omega (arith, elsewhere x m (λ e. apart (sym e)))
+
     end : (b : Bool) → times m (if b then [] else m ∷ []) ≡ (if b then 0 else 1)
     end true = refl
     end false = times_one m
+
     here_m : times m (unmarked m marks ++ (if slice_index_or marks m false then [] else m ∷ [])) ≡ (if slice_index_or marks m false then 0 else 1)
     here_m = omega (arith, total_append (one_at m) (unmarked m marks) (if slice_index_or marks m false then [] else m ∷ []), unmarked_high m m marks (omega arith), end (slice_index_or marks m false))
 
@@ -180,6 +184,7 @@ each_once n xs marks full among h x = go (nat_lt x n) refl
   where
     both : times x (xs ++ unmarked n marks) ≡ times x xs + times x (unmarked n marks)
     both = total_append (one_at x) xs (unmarked n marks)
+
     low_case : (k : ℕ) → times x xs ≡ k → x < n → times x (xs ++ unmarked n marks) ≡ 1
     low_case zero e low =
         let mark : slice_index_or marks x false ≡ false = h x (omega (arith, low, full)) ∙ ap (nat_lt 0) e in
@@ -188,9 +193,11 @@ each_once n xs marks full among h x = go (nat_lt x n) refl
         let some : nat_lt 0 (suc k) ≡ true = grind (arith, nat_tests) in
         let mark : slice_index_or marks x false ≡ true = h x (omega (arith, low, full)) ∙ ap (nat_lt 0) e ∙ some in
         omega (arith, both, e, among_once n xs among x, unmarked_at x n marks low, mark_none (slice_index_or marks x false) mark)
+
     none_there : (k : ℕ) → times x xs ≡ k → n ≤ x → times x xs ≡ 0
     none_there zero e far = e
     none_there (suc k) e far = absurd (omega (arith, among_below n xs among x (omega (arith, e)), far))
+
     go : (b : Bool) → nat_lt x n ≡ b → times x (xs ++ unmarked n marks) ≡ (if nat_lt x n then 1 else 0)
     go true e = let low : x < n = grind (arith, nat_tests, e) in low_case (times x xs) refl low ∙ sym (below_one (nat_lt x n) e)
     go false e =
@@ -226,6 +233,7 @@ none_unmarked n xs marks full among h many = go n (omega arith)
         let there = all_there n xs among many x low in
         let yes : nat_lt 0 (times x xs) ≡ true = grind (arith, nat_tests, there) in
         h x (omega (arith, low, full)) ∙ yes
+
     go : (m : ℕ) → m ≤ n → unmarked m marks ≡ []
     go zero low = refl
     go (suc m) low = ap (λ (b : Bool). unmarked m marks ++ (if b then [] else m ∷ [])) (marked m (omega (arith, low))) ∙ append-nil (unmarked m marks) ∙ go m (omega (arith, low))

@@ -61,17 +61,16 @@ pub deals_more : (z : TableId) (workers n : ℕ) (hands : List Hand) (hand new :
     → AreDealt z workers (n + 1) (set hands (n % workers) new)
 deals_more z workers n hands hand new at h same is others =
     let mine = h (n % workers) hand at in
-    at_each_change (IsDealtHand z workers n) (IsDealtHand z workers (n + 1)) hands (n % workers) new
-        (
-          same.1 ∙ mine.0,
-          ap (λ (v : Log). v.parts) is,
-          ap (λ (v : Log). v.dealt) is ∙ ap (λ l. l ++ n ∷ []) mine.2 ∙ sym (dealt_here workers n),
-          ap (λ (v : Log). v.got) is ∙ mine.3,
-          (λ _. ap whose is),
-          others ∙ mine.5,
-        )
-        (λ k v apart t. (t.0, t.1, t.2 ∙ sym (dealt_elsewhere workers k n apart), t.3, t.4, t.5))
-        h
+    at_each_change (IsDealtHand z workers n) (IsDealtHand z workers (n + 1)) hands (n % workers) new (
+      same.1 ∙ mine.0,
+      ap (λ (v : Log). v.parts) is,
+      ap (λ (v : Log). v.dealt) is ∙ ap (λ l. l ++ n ∷ []) mine.2 ∙ sym (dealt_here workers n),
+      ap (λ (v : Log). v.got) is ∙ mine.3,
+      (λ _. ap whose is),
+      others ∙ mine.5,
+    )
+    (λ k v apart t. (t.0, t.1, t.2 ∙ sym (dealt_elsewhere workers k n apart), t.3, t.4, t.5))
+    h
 
 -- when all are dealt, no pass is cut off yet
 pub dealt_hands : (z : TableId) (workers n : ℕ) (hands : List Hand) → AreDealt z workers n hands → AreHands z workers n 0 hands
@@ -88,17 +87,16 @@ pub cuts_more : (z : TableId) (workers n cut j : ℕ) (hands : List Hand) (hand 
     → AreHands z workers n (cut + 1) (set hands j new) × HasTicketsOf z way × ((h : ℕ → ℕ) → total h way.got ≡ 0)
 cuts_more z workers n cut j hands hand new way at several few h same is others =
     let mine = h j hand at in (
-      at_each_set (IsHand z workers n (cut + 1)) hands j new
-          (
-            same.1 ∙ mine.0,
-            omega (arith, ap (λ (v : Log). v.parts) is.0, mine.1, few),
-            ap (λ (v : Log). v.dealt) is.0 ∙ mine.2,
-            ap (λ (v : Log). v.got) is.0 ∙ mine.3,
-            (λ some_dealt. ap whose is.0 ∙ mine.4 (omega (arith, some_dealt, ap (λ (v : Log). length v.dealt) is.0))),
-            subst (Each (HasTicketsOf z)) (sym others) mine.5,
-            (λ f. ap (total (λ (v : Log). total f v.got)) others ∙ mine.6 f),
-            λ lone. absurd (omega (arith, lone, several)),
-          )
+      at_each_set (IsHand z workers n (cut + 1)) hands j new (
+        same.1 ∙ mine.0,
+        omega (arith, ap (λ (v : Log). v.parts) is.0, mine.1, few),
+        ap (λ (v : Log). v.dealt) is.0 ∙ mine.2,
+        ap (λ (v : Log). v.got) is.0 ∙ mine.3,
+        (λ some_dealt. ap whose is.0 ∙ mine.4 (omega (arith, some_dealt, ap (λ (v : Log). length v.dealt) is.0))),
+        subst (Each (HasTicketsOf z)) (sym others) mine.5,
+        (λ f. ap (total (λ (v : Log). total f v.got)) others ∙ mine.6 f),
+        λ lone. absurd (omega (arith, lone, several)),
+      )
           (hands_more z workers n cut (cut + 1) hands (omega arith) h),
       (λ some_dealt. ap whose is.1 ∙ mine.4 (omega (arith, some_dealt, ap (λ (v : Log). length v.dealt) is.1))),
       λ f. ap (λ (v : Log). total f v.got) is.1,
@@ -110,18 +108,17 @@ pub keeps_way : (z : TableId) (workers n cut j : ℕ) (hands : List Hand) (hand 
     → AreHands z workers n cut (set hands j new)
 keeps_way z workers n cut j hands hand new way at several h tickets none own others =
     let mine = h j hand at in
-    at_each_set (IsHand z workers n cut) hands j new
-        (
-          ap (λ (w : OwnOf). worker_flavor w) own ∙ mine.0,
-          omega (arith, ap (λ (w : OwnOf). (worker_view w).parts) own, mine.1),
-          ap (λ (w : OwnOf). (worker_view w).dealt) own ∙ mine.2,
-          ap (λ (w : OwnOf). (worker_view w).got) own ∙ mine.3,
-          subst (λ (w : OwnOf). HasTicketsOf z (worker_view w)) (sym own) mine.4,
-          subst (Each (HasTicketsOf z)) (sym others) (each_last (HasTicketsOf z) hand.others.items way mine.5 tickets),
-          (λ f. omega (arith, ap (total (λ (v : Log). total f v.got)) others, total_append (λ (v : Log). total f v.got) hand.others.items (way ∷ []), mine.6 f, none f)),
-          λ lone. absurd (omega (arith, lone, several)),
-        )
-        h
+    at_each_set (IsHand z workers n cut) hands j new (
+      ap (λ (w : OwnOf). worker_flavor w) own ∙ mine.0,
+      omega (arith, ap (λ (w : OwnOf). (worker_view w).parts) own, mine.1),
+      ap (λ (w : OwnOf). (worker_view w).dealt) own ∙ mine.2,
+      ap (λ (w : OwnOf). (worker_view w).got) own ∙ mine.3,
+      subst (λ (w : OwnOf). HasTicketsOf z (worker_view w)) (sym own) mine.4,
+      subst (Each (HasTicketsOf z)) (sym others) (each_last (HasTicketsOf z) hand.others.items way mine.5 tickets),
+      (λ f. omega (arith, ap (total (λ (v : Log). total f v.got)) others, total_append (λ (v : Log). total f v.got) hand.others.items (way ∷ []), mine.6 f, none f)),
+      λ lone. absurd (omega (arith, lone, several)),
+    )
+    h
 
 -- a way to one lane's deque goes to another lane
 pub gives_more : (z : TableId) (workers n cut j lane : ℕ) (hands : List Hand) (hand new hand' new' : Hand) (way : Log)
@@ -138,9 +135,9 @@ pub empty_more : (z : TableId) (workers : ℕ) (hands : List Hand) (new : Hand) 
     → AreDealt z workers 0 hands → AreDealt z workers 0 (hands ++ new ∷ [])
 empty_more z workers hands new fifo is none h k v e =
     ⊎_elim (λ (old : get_elem? hands k ≡ some v). h k v old)
-        (λ (same : new ≡ v). subst (IsDealtHand z workers 0 k) same
-            (fifo, ap (λ (u : Log). u.parts) is, ap (λ (u : Log). u.dealt) is, ap (λ (u : Log). u.got) is, (λ some_dealt. absurd (omega (arith, some_dealt, ap (λ (u : Log). length u.dealt) is))), none))
-        (at_snoc hands new v k e)
+    (λ (same : new ≡ v). subst (IsDealtHand z workers 0 k) same
+    (fifo, ap (λ (u : Log). u.parts) is, ap (λ (u : Log). u.dealt) is, ap (λ (u : Log). u.got) is, (λ some_dealt. absurd (omega (arith, some_dealt, ap (λ (u : Log). length u.dealt) is))), none))
+    (at_snoc hands new v k e)
 
 at_end : {V : Type 0} (xs : List V) (x : V) → get_elem? (xs ++ x ∷ []) (length xs) ≡ some x
 at_end [] x = refl

@@ -80,18 +80,18 @@ pub after_block : (size : Size) (lengths : List ℕ) (share : Seat (Unit {0}) Ma
     → share'.me.0 ≡ mark share.me.0.all share.me.0.lanes share.me.0.parts (share.me.0.counted + 1) seen (share.me.0.blocks ++ t.number ∷ [])
     → IsLane size lengths share' own' others' (got ++ t.number ∷ []) z
 after_block size lengths share own others got z share' own' others' t seen l took of is = (
-      of,
-      l.1,
-      l.2,
-      ap (λ (m : Mark). m.parts) is ∙ l.3,
-      ap (λ (m : Mark). m.all) is ∙ l.4,
-      ap (λ (m : Mark). m.lanes) is ∙ l.5,
-      omega (arith, ap (λ (m : Mark). m.counted) is, l.6, length-append got (t.number ∷ [])),
-      ap (λ (m : Mark). m.blocks) is ∙ ap (λ xs. xs ++ t.number ∷ []) l.7,
-      took.5,
-      (λ h. omega (arith, took.1 h, l.9 h, total_append h got (t.number ∷ []))),
-      (λ lone. let old = l.10 lone in (took.2 ∙ old.0, empty others' (omega (arith, took.4, ap length old.1)), took.3 ∙ old.2)),
-    )
+  of,
+  l.1,
+  l.2,
+  ap (λ (m : Mark). m.parts) is ∙ l.3,
+  ap (λ (m : Mark). m.all) is ∙ l.4,
+  ap (λ (m : Mark). m.lanes) is ∙ l.5,
+  omega (arith, ap (λ (m : Mark). m.counted) is, l.6, length-append got (t.number ∷ [])),
+  ap (λ (m : Mark). m.blocks) is ∙ ap (λ xs. xs ++ t.number ∷ []) l.7,
+  took.5,
+  (λ h. omega (arith, took.1 h, l.9 h, total_append h got (t.number ∷ []))),
+  (λ lone. let old = l.10 lone in (took.2 ∙ old.0, empty others' (omega (arith, took.4, ap length old.1)), took.3 ∙ old.2)),
+)
   where
     empty : (xs : List Log) → length xs ≡ 0 → xs ≡ []
     empty [] e = refl
@@ -103,19 +103,18 @@ pub after_look : (size : Size) (lengths : List ℕ) (share : Seat (Unit {0}) Mar
     → share'.me.0 ≡ mark share.me.0.all share.me.0.lanes share.me.0.parts share.me.0.counted seen share.me.0.blocks
     → IsLane size lengths share' own others got z
 after_look size lengths share own others got z share' seen l of is = (
-      of,
-      l.1,
-      l.2,
-      ap (λ (m : Mark). m.parts) is ∙ l.3,
-      ap (λ (m : Mark). m.all) is ∙ l.4,
-      ap (λ (m : Mark). m.lanes) is ∙ l.5,
-      ap (λ (m : Mark). m.counted) is ∙ l.6,
-      ap (λ (m : Mark). m.blocks) is ∙ l.7,
-      l.8,
-      l.9,
-      l.10,
-    )
-
+  of,
+  l.1,
+  l.2,
+  ap (λ (m : Mark). m.parts) is ∙ l.3,
+  ap (λ (m : Mark). m.all) is ∙ l.4,
+  ap (λ (m : Mark). m.lanes) is ∙ l.5,
+  ap (λ (m : Mark). m.counted) is ∙ l.6,
+  ap (λ (m : Mark). m.blocks) is ∙ l.7,
+  l.8,
+  l.9,
+  l.10,
+)
 
 -- the block that was taken is what the lane is answered
 pub answers_block : (r : Next) (old new : Sight) (n : ℕ) → IsTheBlock new.game.lengths n r → times n old.answered ≡ 0 → new.answered ≡ old.answered ++ n ∷ [] → MatchNext r old new

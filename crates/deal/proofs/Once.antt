@@ -38,9 +38,9 @@ pub once_within : (x first m : ℕ) → first ≤ x → x < first + m → times 
 once_within x first zero low high = absurd (omega (arith, low, high))
 once_within x first (suc m) low high =
     ⊎_elim
-        (λ (same : first ≡ x). omega (arith, here x first same, none_below x (first + 1) m (omega (arith, same))))
-        (λ (apart : first ≢ x). omega (arith, elsewhere x first apart, once_within x (first + 1) m (omega (arith, low, apart)) (omega (arith, high))))
-        (same_or first x)
+    (λ (same : first ≡ x). omega (arith, here x first same, none_below x (first + 1) m (omega (arith, same))))
+    (λ (apart : first ≢ x). omega (arith, elsewhere x first apart, once_within x (first + 1) m (omega (arith, low, apart)) (omega (arith, high))))
+    (same_or first x)
 
 -- what stands among the numbers below n is below n, and stands there once at most
 pub among_once : (n : ℕ) (xs : List ℕ) → IsAmong n xs → (x : ℕ) → times x xs ≤ 1

@@ -39,22 +39,21 @@ adds seats slots id v kind n here a_part room s h homes at _ =
         h.1,
         (λ k. ⊎_elim (λ (e : k ≡ kind). subst (λ i. slice_index now i ≡ total (λ (u : Part). slice_index u.added i) (set s.views id w)) (sym e) (omega (arith, word, added, mine_now, h.2 kind)))
             (λ (d : k ≢ kind).
-                let t = total_set (λ (u : Part). slice_index u.added k) s.views id v w at in
-                omega (arith, t, h.2 k, set_other s.words kind k ((m + n) % 2 ^ 64) d, set_other v.added kind k (slice_index v.added kind + n) d))
+            let t = total_set (λ (u : Part). slice_index u.added k) s.views id v w at in
+            omega (arith, t, h.2 k, set_other s.words kind k ((m + n) % 2 ^ 64) d, set_other v.added kind k (slice_index v.added kind + n) d))
             (same_or k kind)),
         omega (arith, parts, h.3),
-        each_set (FitsTally seats now) s.views id w
-            (
-              length-set v.added kind _ ∙ mine.0,
-              length-set v.seen kind _ ∙ mine.1,
-              (λ k. ⊎_elim
-                  (λ (e : k ≡ kind). subst (λ i. (slice_index (set v.seen kind (m + n)) i ≤ slice_index now i) × (slice_index (set v.added kind (slice_index v.added kind + n)) i ≤ v.parts * 2 ^ 40)) (sym e)
-                      (omega (arith, word, set_same v.seen kind (m + n) (omega (arith, here, mine.1))), omega (arith, mine_now, room)))
-                  (λ (d : k ≢ kind). let b = mine.2 k in (omega (arith, b.0, rises k, set_other v.seen kind k (m + n) d), omega (arith, b.1, set_other v.added kind k (slice_index v.added kind + n) d)))
-                  (same_or k kind)),
-              mine.3,
-              mine.4,
-            )
+        each_set (FitsTally seats now) s.views id w (
+          length-set v.added kind _ ∙ mine.0,
+          length-set v.seen kind _ ∙ mine.1,
+          (λ k. ⊎_elim
+              (λ (e : k ≡ kind). subst (λ i. (slice_index (set v.seen kind (m + n)) i ≤ slice_index now i) × (slice_index (set v.added kind (slice_index v.added kind + n)) i ≤ v.parts * 2 ^ 40)) (sym e)
+              (omega (arith, word, set_same v.seen kind (m + n) (omega (arith, here, mine.1))), omega (arith, mine_now, room)))
+              (λ (d : k ≢ kind). let b = mine.2 k in (omega (arith, b.0, rises k, set_other v.seen kind k (m + n) d), omega (arith, b.1, set_other v.added kind k (slice_index v.added kind + n) d)))
+              (same_or k kind)),
+          mine.3,
+          mine.4,
+        )
             (λ j u _ e. let t = h.4 j u e in (t.0, t.1, (λ k. (omega (arith, (t.2 k).0, rises k), (t.2 k).1)), t.3, t.4)),
       ),
       (refl, refl, (mine.2 kind).0, mine.1),
@@ -76,18 +75,17 @@ sees seats slots id v kind here s h homes at _ =
         h.1,
         (λ k. omega (arith, same k, total_set (λ (u : Part). slice_index u.added k) s.views id v w at, h.2 k)),
         omega (arith, parts, h.3),
-        each_set (FitsTally seats now) s.views id w
-            (
-              mine.0,
-              length-set v.seen kind _ ∙ mine.1,
-              (λ k. ⊎_elim
-                  (λ (e : k ≡ kind). subst (λ i. (slice_index (set v.seen kind m) i ≤ slice_index now i) × (slice_index v.added i ≤ v.parts * 2 ^ 40)) (sym e)
-                      (omega (arith, same kind, set_same v.seen kind m (omega (arith, here, mine.1))), (mine.2 kind).1))
-                  (λ (d : k ≢ kind). let b = mine.2 k in (omega (arith, b.0, same k, set_other v.seen kind k m d), b.1))
-                  (same_or k kind)),
-              mine.3,
-              mine.4,
-            )
+        each_set (FitsTally seats now) s.views id w (
+          mine.0,
+          length-set v.seen kind _ ∙ mine.1,
+          (λ k. ⊎_elim
+              (λ (e : k ≡ kind). subst (λ i. (slice_index (set v.seen kind m) i ≤ slice_index now i) × (slice_index v.added i ≤ v.parts * 2 ^ 40)) (sym e)
+              (omega (arith, same kind, set_same v.seen kind m (omega (arith, here, mine.1))), (mine.2 kind).1))
+              (λ (d : k ≢ kind). let b = mine.2 k in (omega (arith, b.0, same k, set_other v.seen kind k m d), b.1))
+              (same_or k kind)),
+          mine.3,
+          mine.4,
+        )
             (λ j u _ e. let t = h.4 j u e in (t.0, t.1, (λ k. (omega (arith, (t.2 k).0, same k), (t.2 k).1)), t.3, t.4)),
       ),
       (
@@ -130,15 +128,14 @@ joins seats id v other w s h at apart at' =
       (λ k. let x = total_set (λ (u : Part). slice_index u.added k) s.views id v b at in let y = total_set (λ (u : Part). slice_index u.added k) first other w no_part at' in omega (arith, x, y, h.2 k, nothing k, sums_at v.added w.added k)),
       (let x = total_set (λ (u : Part). u.parts) s.views id v b at in let y = total_set (λ (u : Part). u.parts) first other w no_part at' in omega (arith, x, y, h.3)),
       each_set (FitsTally seats s.words) first other no_part (refl, refl, (λ k. (omega (arith, nothing k), omega (arith, nothing k))), omega arith, λ p. absurd (omega (arith, p)))
-          (λ j u _ e. each_set (FitsTally seats s.words) s.views id b
-              (
-                length-sums v.added w.added (mine.0 ∙ sym theirs.0) ∙ mine.0,
-                length-greater v.seen w.seen (mine.1 ∙ sym theirs.1) ∙ mine.1,
-                (λ k. (omega (arith, greater_at v.seen w.seen k, (mine.2 k).0, (theirs.2 k).0), omega (arith, sums_at v.added w.added k, (mine.2 k).1, (theirs.2 k).1))),
-                omega (arith, mine.3, theirs.3),
-                λ some. greater_all seats v.seats w.seats v.parts w.parts mine.3 theirs.3 mine.4 theirs.4 some,
-              )
-              (λ i y _ e'. h.4 i y e') j u e),
+          (λ j u _ e. each_set (FitsTally seats s.words) s.views id b (
+            length-sums v.added w.added (mine.0 ∙ sym theirs.0) ∙ mine.0,
+            length-greater v.seen w.seen (mine.1 ∙ sym theirs.1) ∙ mine.1,
+            (λ k. (omega (arith, greater_at v.seen w.seen k, (mine.2 k).0, (theirs.2 k).0), omega (arith, sums_at v.added w.added k, (mine.2 k).1, (theirs.2 k).1))),
+            omega (arith, mine.3, theirs.3),
+            λ some. greater_all seats v.seats w.seats v.parts w.parts mine.3 theirs.3 mine.4 theirs.4 some,
+          )
+          (λ i y _ e'. h.4 i y e') j u e),
     )
 
 -- a seat is cut off
@@ -162,23 +159,22 @@ pub sees_more : (was seen seen' kinds : List ℕ) (kind n : ℕ) → length kind
     → (k : ℕ) → k < kind + 1 → (slice_index was k ≤ slice_index (set kinds kind n) k) × (slice_index seen' k ≡ slice_index (set kinds kind n) k)
 sees_more was seen seen' kinds kind n wide wide' here is more first before k low =
     ⊎_elim
-        (λ (e : k ≡ kind). subst (λ i. (slice_index was i ≤ slice_index (set kinds kind n) i) × (slice_index seen' i ≡ slice_index (set kinds kind n) i)) (sym e)
-            (
-              omega (arith, more, first, set_same kinds kind n (omega (arith, wide, here))),
-              ap (λ l. slice_index l kind) is ∙ set_same seen kind n (omega (arith, wide', here)) ∙ sym (set_same kinds kind n (omega (arith, wide, here))),
-            ))
-        (λ (d : k ≢ kind). let b = before k (omega (arith, low, d)) in
-            (omega (arith, b.0, set_other kinds kind k n d), ap (λ l. slice_index l k) is ∙ set_other seen kind k n d ∙ b.1 ∙ sym (set_other kinds kind k n d)))
-        (same_or k kind)
+    (λ (e : k ≡ kind). subst (λ i. (slice_index was i ≤ slice_index (set kinds kind n) i) × (slice_index seen' i ≡ slice_index (set kinds kind n) i)) (sym e) (
+      omega (arith, more, first, set_same kinds kind n (omega (arith, wide, here))),
+      ap (λ l. slice_index l kind) is ∙ set_same seen kind n (omega (arith, wide', here)) ∙ sym (set_same kinds kind n (omega (arith, wide, here))),
+    ))
+    (λ (d : k ≢ kind). let b = before k (omega (arith, low, d)) in
+    (omega (arith, b.0, set_other kinds kind k n d), ap (λ l. slice_index l k) is ∙ set_other seen kind k n d ∙ b.1 ∙ sym (set_other kinds kind k n d)))
+    (same_or k kind)
 
 -- and where it is what was added, so are all before it
 pub sums_more : (added kinds : List ℕ) (kind n : ℕ) → length kinds ≡ 7 → kind < 7 → n ≡ slice_index added kind → ((k : ℕ) → k < kind → slice_index kinds k ≡ slice_index added k)
     → (k : ℕ) → k < kind + 1 → slice_index (set kinds kind n) k ≡ slice_index added k
 sums_more added kinds kind n wide here is before k low =
     ⊎_elim
-        (λ (e : k ≡ kind). subst (λ i. slice_index (set kinds kind n) i ≡ slice_index added i) (sym e) (set_same kinds kind n (omega (arith, wide, here)) ∙ is))
-        (λ (d : k ≢ kind). set_other kinds kind k n d ∙ before k (omega (arith, low, d)))
-        (same_or k kind)
+    (λ (e : k ≡ kind). subst (λ i. slice_index (set kinds kind n) i ≡ slice_index added i) (sym e) (set_same kinds kind n (omega (arith, wide, here)) ∙ is))
+    (λ (d : k ≢ kind). set_other kinds kind k n d ∙ before k (omega (arith, low, d)))
+    (same_or k kind)
 
 -- the seats of a new tally are its own
 pub fresh_seats_are : (s : Sheet) (n : ℕ) → AreSeatsOf s (replicate n (fresh_seat s))

@@ -1,4 +1,5 @@
-//! The word that counts the blocks handed out, and the tickets of its table, each of which stands for a block.
+//! The word that counts the blocks handed out, and the tickets of its table, each of which stands
+//! for a block.
 ghost use Rattle.std.specs.Prelude.{◌≡◌, ◌+◌, ◌<◌, ◌≤◌, ◌^◌, ◌∷◌, [], ◌++◌, length, ℕ};
 ghost use Rattle.deal.specs.Totals.{total, range};
 ghost use Rattle.deal.specs.Marks.{mark, both_marks, IsShareOf, IsTicketOf, IsAmong};
@@ -14,7 +15,8 @@ pub struct Size {
     pub lanes: u64,
 }
 
-// What a seat knows: the number of blocks and of lanes, how many lanes it stands for, how many blocks it counted, the most it has
+// What a seat knows: the number of blocks and of lanes, how many lanes it stands for, how many
+// blocks it counted, the most it has
 // seen of the count, and the blocks whose tickets it has. No value of it is made.
 pub struct Mark {
     pub all: u64,
@@ -102,8 +104,10 @@ pub fn hand_out(count: &Count, share: &mut Share, ticket: Ticket) -> u64
     requires lane { (0 < share.old.me.0.parts) × (share.old.me.0.counted ≤ length share.old.me.0.blocks) }
     requires size { count.now.shared.key.blocks < 2 ^ 64 }
     ensures share { IsShareOf count.now.shared.table_id share.new }
-    ensures counted { share.new.me.0 ≡ mark share.old.me.0.all share.old.me.0.lanes share.old.me.0.parts (share.old.me.0.counted + 1) (result + 1) (share.old.me.0.blocks ++ ticket.number ∷ []) }
-    ensures seen { (share.old.me.0.seen ≤ result) × (result < share.old.me.0.all) × (share.old.me.0.counted ≤ result) }
+    ensures counted { share.new.me.0 ≡ mark share.old.me.0.all share.old.me.0.lanes share.old.me.0.parts
+        (share.old.me.0.counted + 1) (result + 1) (share.old.me.0.blocks ++ ticket.number ∷ []) }
+    ensures seen { (share.old.me.0.seen ≤ result) × (result < share.old.me.0.all)
+        × (share.old.me.0.counted ≤ result) }
     ensures among { IsAmong share.old.me.0.all (share.old.me.0.blocks ++ ticket.number ∷ []) }
 {
     let Ticket { number: _, badge } = ticket;
@@ -116,10 +120,13 @@ pub fn hand_out(count: &Count, share: &mut Share, ticket: Ticket) -> u64
 pub fn look(count: &Count, share: &mut Share) -> u64
     requires { IsShareOf count.now.shared.table_id share.old × (0 < share.old.me.0.parts) }
     ensures share { IsShareOf count.now.shared.table_id share.new }
-    ensures view { share.new.me.0 ≡ mark share.old.me.0.all share.old.me.0.lanes share.old.me.0.parts share.old.me.0.counted result share.old.me.0.blocks }
+    ensures view { share.new.me.0
+        ≡ mark share.old.me.0.all share.old.me.0.lanes share.old.me.0.parts
+        share.old.me.0.counted result share.old.me.0.blocks }
     ensures seen { share.old.me.0.seen ≤ result }
     ensures whole { share.old.me.0.parts ≡ share.old.me.0.lanes → result ≡ share.old.me.0.counted }
-    ensures among { IsAmong share.old.me.0.all share.old.me.0.blocks × (share.old.me.0.parts ≤ share.old.me.0.lanes) }
+    ensures among { IsAmong share.old.me.0.all share.old.me.0.blocks
+        × (share.old.me.0.parts ≤ share.old.me.0.lanes) }
 {
     count.shared.load::<Looks>(share, 0)
 }
@@ -127,7 +134,8 @@ pub fn look(count: &Count, share: &mut Share) -> u64
 /// One seat stands for the lanes of both, and has their blocks.
 pub fn unite(count: &Count, share: &mut Share, other: Share)
     requires { IsShareOf count.now.shared.table_id share.old × IsShareOf count.now.shared.table_id other }
-    ensures { IsShareOf count.now.shared.table_id share.new × (share.new.me.0 ≡ both_marks share.old.me.0 other.me.0) }
+    ensures { IsShareOf count.now.shared.table_id share.new
+        × (share.new.me.0 ≡ both_marks share.old.me.0 other.me.0) }
 {
     count.shared.join_seat::<Both>(share, other);
 }

@@ -23,7 +23,8 @@ use std::sync::Arc;
 /// The blocks of a closed deal.
 #[derive(Drop)]
 pub struct Closed {
-    /// The numbers of the blocks that each lane was answered, in order, for the lanes as they were handed back.
+    /// The numbers of the blocks that each lane was answered, in order, for the lanes as they were
+    /// handed back.
     pub lists: Vec<Vec<usize>>,
     /// The other blocks' numbers, rising.
     pub rest: Vec<usize>,
@@ -47,14 +48,24 @@ impl Model for Deal {
     ghost use Rattle.deal.specs.Lanes.{game, IsDealer};
     ghost use Rattle.std.specs.Prelude.{◌≡◌, ◌≤◌, [], false, length, replicate, vec_capacity};
 
-    ghost view = { λ d. game d.shared.value.count.shared.table_id d.shared.value.count.shared.key.lanes d.shared.value.division };
+    ghost view = { λ d. game d.shared.value.count.shared.table_id d.shared.value.count.shared.key.lanes
+        d.shared.value.division };
 
-    ghost invariant = { λ d. (d.shared.value.count.shared.key.blocks ≡ length d.shared.value.division) × IsDealer d.shared.value.count.shared.key d.shared.value.count.shared.table_id 0 d.dealer × (d.lists.items ≡ []) × (d.shared.value.count.shared.key.lanes ≤ vec_capacity d.lists) × (d.marks.items ≡ replicate (length d.shared.value.division) false) × (d.rest.items ≡ []) × (length d.shared.value.division ≤ vec_capacity d.rest) };
+    ghost invariant = { λ d. (d.shared.value.count.shared.key.blocks ≡ length d.shared.value.division)
+        × IsDealer d.shared.value.count.shared.key d.shared.value.count.shared.table_id 0 d.dealer
+        × (d.lists.items ≡ []) × (d.shared.value.count.shared.key.lanes ≤ vec_capacity d.lists)
+        × (d.marks.items ≡ replicate (length d.shared.value.division) false) × (d.rest.items ≡ [])
+        × (length d.shared.value.division ≤ vec_capacity d.rest) };
 }
 
 impl Deal {
-    /// Deals the blocks of a division among so many lanes, 1 to 64: block i to lane i modulo their number. All room is made here.
-    pub fn new(alloc: Global, division: Division, workers: usize) -> Result<(Deal, Vec<Lane>), Memory>
+    /// Deals the blocks of a division among so many lanes, 1 to 64: block i to lane i modulo their
+    /// number. All room is made here.
+    pub fn new(
+        alloc: Global,
+        division: Division,
+        workers: usize,
+    ) -> Result<(Deal, Vec<Lane>), Memory>
         requires { (0 < workers) × (workers ≤ 64) }
         ensures deal { IfOk result (λ made. (made.0.lanes ≡ workers) × (made.0.lengths ≡ division)) }
         ensures lanes { IfOk result (λ made. made.1.items ≡ fresh_lanes made.0) }
@@ -93,7 +104,8 @@ impl Deal {
 
     /// The blocks that each lane was answered, in order, and the others. Takes no memory.
     ///
-    /// A lane may be missing; what it was answered is then among the others. Where all lanes are back, and one of them was answered
+    /// A lane may be missing; what it was answered is then among the others. Where all lanes are
+    /// back, and one of them was answered
     /// `Empty`, there are no others.
     pub fn close(self, lanes: Vec<Lane>) -> Closed
         requires { AreLanesOf self lanes.items }
@@ -116,14 +128,17 @@ impl Deal {
     }
 }
 
-// The lanes come back, and with each the list of its blocks. The deal's seat then has the blocks of all.
+// The lanes come back, and with each the list of its blocks. The deal's seat then has the blocks of
+// all.
 fn take_back(dealer: &mut Share, mut lanes: Vec<Lane>, lists: &mut Vec<Vec<usize>>)
-    requires dealer { (dealer.old.me.0 ≡ mark dealer.old.me.0.all dealer.old.me.0.lanes 0 0 0 []) × (dealer.old.me.1 ≡ []) × (dealer.old.table_id.words ≡ 1) }
+    requires dealer { (dealer.old.me.0 ≡ mark dealer.old.me.0.all dealer.old.me.0.lanes 0 0 0 [])
+        × (dealer.old.me.1 ≡ []) × (dealer.old.table_id.words ≡ 1) }
     requires lanes { AreBackTo dealer.old.table_id dealer.old.me.0 lanes.items }
     requires lists { (lists.old.items ≡ []) × (dealer.old.me.0.lanes ≤ vec_capacity lists.old) }
     ensures lists { items_of lists.new.items ≡ lists_of lanes.items }
     ensures among { IsAmong dealer.old.me.0.all (concat (lists_of lanes.items)) }
-    ensures all { length lanes.items ≡ dealer.old.me.0.lanes → SomeHasSeenAll lanes.items → dealer.old.me.0.all ≤ length (concat (lists_of lanes.items)) }
+    ensures all { length lanes.items ≡ dealer.old.me.0.lanes → SomeHasSeenAll lanes.items
+        → dealer.old.me.0.all ≤ length (concat (lists_of lanes.items)) }
 {
     lanes.reverse();
     while let Some(lane) = lanes.pop() {
@@ -144,7 +159,8 @@ fn mark_list(list: &[usize], marks: &mut [bool])
 
 // Marks the numbers of all lists.
 fn mark_all(lists: &[Vec<usize>], marks: &mut [bool])
-    requires { IsAmong (length marks.old) (concat (items_of lists.now)) × (marks.old ≡ replicate (length marks.old) false) }
+    requires { IsAmong (length marks.old) (concat (items_of lists.now))
+        × (marks.old ≡ replicate (length marks.old) false) }
     ensures { (length marks.new ≡ length marks.old) × IsMarked (concat (items_of lists.now)) marks.new }
 {
     for list in lists {
@@ -171,11 +187,19 @@ fn lanes_of(
     dealer: &mut Share,
     mut hands: Vec<Hand>,
 ) -> Result<Vec<Lane>, Memory>
-    requires shared { IsShared shared.now.value.count.shared.key shared.now.value.division shared.now.value.starts.items }
-    requires dealer { IsDealer shared.now.value.count.shared.key shared.now.value.count.shared.table_id shared.now.value.count.shared.key.lanes dealer.old }
-    requires hands { (vec_len hands ≡ shared.now.value.count.shared.key.lanes) × AreHands shared.now.value.count.shared.table_id shared.now.value.count.shared.key.lanes (length shared.now.value.division) 4096 hands.items }
-    ensures lanes { IfOk result (λ lanes. lanes.items ≡ fresh_lanes (game shared.now.value.count.shared.table_id shared.now.value.count.shared.key.lanes shared.now.value.division)) }
-    ensures dealer { IfOk result (λ _. IsDealer shared.now.value.count.shared.key shared.now.value.count.shared.table_id 0 dealer.new) }
+    requires shared { IsShared shared.now.value.count.shared.key shared.now.value.division
+        shared.now.value.starts.items }
+    requires dealer { IsDealer shared.now.value.count.shared.key shared.now.value.count.shared.table_id
+        shared.now.value.count.shared.key.lanes dealer.old }
+    requires hands { (vec_len hands ≡ shared.now.value.count.shared.key.lanes)
+        × AreHands shared.now.value.count.shared.table_id shared.now.value.count.shared.key.lanes
+        (length shared.now.value.division) 4096 hands.items }
+    ensures lanes { IfOk result (λ lanes. lanes.items ≡ fresh_lanes
+        (game shared.now.value.count.shared.table_id shared.now.value.count.shared.key.lanes
+        shared.now.value.division)) }
+    ensures dealer { IfOk result
+        (λ _. IsDealer shared.now.value.count.shared.key shared.now.value.count.shared.table_id
+        0 dealer.new) }
 {
     let mut lanes = Vec::with_capacity(alloc, hands.len())?;
     while let Some(hand) = hands.pop() {

@@ -16,7 +16,8 @@ pub enum BadDivision {
     WrongSum,
 }
 
-/// A number of points cut into blocks of at least one point each. Contracts see the list of their lengths.
+/// A number of points cut into blocks of at least one point each. Contracts see the list of their
+/// lengths.
 #[derive(Drop)]
 pub struct Division {
     lengths: Vec<usize>,
@@ -34,11 +35,13 @@ impl Model for Division {
 }
 
 impl Division {
-    /// The division with these lengths, if each is at least 1 and their sum is `total`. For 0 points there are no lengths.
+    /// The division with these lengths, if each is at least 1 and their sum is `total`. For 0
+    /// points there are no lengths.
     ///
     /// Takes no memory. A refusal names the first length of 0, and only then a wrong sum.
     pub fn new(total: usize, lengths: Vec<usize>) -> Result<Division, BadDivision>
-        ensures { MatchResult result (λ d. (d ≡ lengths.items) × ArePositive d × (sum d ≡ total)) (λ e. MatchBad e total lengths.items) }
+        ensures { MatchResult result (λ d. (d ≡ lengths.items) × ArePositive d × (sum d ≡ total))
+            (λ e. MatchBad e total lengths.items) }
     {
         if let Some(place) = first_zero(&lengths) {
             return Err(BadDivision::ZeroLength(place));

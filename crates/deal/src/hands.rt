@@ -18,7 +18,8 @@ use std::alloc::Global;
 
 // An empty deque for each lane, with room for its blocks.
 fn empty_hands(alloc: Global, workers: usize, room: usize) -> Result<Vec<Hand>, Memory>
-    ensures { IfOk result (λ hands. (vec_len hands ≡ workers) × ((z : TableId) → AreDealt z workers 0 hands.items)) }
+    ensures { IfOk result (λ hands. (vec_len hands ≡ workers)
+        × ((z : TableId) → AreDealt z workers 0 hands.items)) }
 {
     let mut hands = Vec::with_capacity(alloc, workers)?;
     for _ in 0..workers {
@@ -32,10 +33,15 @@ fn empty_hands(alloc: Global, workers: usize, room: usize) -> Result<Vec<Hand>, 
 
 // Deals the first block of the dealer's seat.
 fn deal_one(count: &Count, dealer: &mut Share, own: &mut Own, number: usize) -> Result<(), Memory>
-    requires dealer { IsShareOf count.now.shared.table_id dealer.old × (dealer.old.me.0.counted ≡ 0) × (dealer.old.me.0.blocks ≡ number ∷ others_of dealer.old.me.0.blocks) }
-    requires own { ((worker_view own.old).parts ≡ 8192) × HasTicketsOf count.now.shared.table_id (worker_view own.old) }
-    ensures dealer { IfOk result (λ _. IsShareOf count.now.shared.table_id dealer.new × (dealer.new.me.0 ≡ without_first dealer.old.me.0)) }
-    ensures own { IfOk result (λ _. SameWorker own.old own.new × (worker_view own.new ≡ log 8192 ((worker_view own.old).dealt ++ number ∷ []) (worker_view own.old).got count.now.shared.table_id)) }
+    requires dealer { IsShareOf count.now.shared.table_id dealer.old × (dealer.old.me.0.counted ≡ 0)
+        × (dealer.old.me.0.blocks ≡ number ∷ others_of dealer.old.me.0.blocks) }
+    requires own { ((worker_view own.old).parts ≡ 8192)
+        × HasTicketsOf count.now.shared.table_id (worker_view own.old) }
+    ensures dealer { IfOk result (λ _. IsShareOf count.now.shared.table_id dealer.new
+        × (dealer.new.me.0 ≡ without_first dealer.old.me.0)) }
+    ensures own { IfOk result (λ _. SameWorker own.old own.new
+        × (worker_view own.new ≡ log 8192 ((worker_view own.old).dealt ++ number ∷ [])
+        (worker_view own.old).got count.now.shared.table_id)) }
 {
     let badge = count.shared.split_seat::<Deals>(dealer).into_badge();
     match own.push_as::<Puts>(Ticket { number, badge }) {
@@ -45,11 +51,21 @@ fn deal_one(count: &Count, dealer: &mut Share, own: &mut Own, number: usize) -> 
 }
 
 // Deals every block, each to the lane of its number modulo theirs.
-fn deal_all(count: &Count, dealer: &mut Share, hands: &mut Vec<Hand>, blocks: usize) -> Result<(), Memory>
-    requires dealer { IsShareOf count.now.shared.table_id dealer.old × (dealer.old.me.0 ≡ mark blocks dealer.old.me.0.lanes dealer.old.me.0.parts 0 0 (range 0 blocks)) }
-    requires hands { (0 < vec_len hands.old) × AreDealt count.now.shared.table_id (vec_len hands.old) 0 hands.old.items }
-    ensures dealer { IfOk result (λ _. IsShareOf count.now.shared.table_id dealer.new × (dealer.new.me.0 ≡ mark blocks dealer.old.me.0.lanes dealer.old.me.0.parts 0 0 [])) }
-    ensures hands { IfOk result (λ _. (vec_len hands.new ≡ vec_len hands.old) × AreDealt count.now.shared.table_id (vec_len hands.old) blocks hands.new.items) }
+fn deal_all(
+    count: &Count,
+    dealer: &mut Share,
+    hands: &mut Vec<Hand>,
+    blocks: usize,
+) -> Result<(), Memory>
+    requires dealer { IsShareOf count.now.shared.table_id dealer.old
+        × (dealer.old.me.0 ≡ mark blocks dealer.old.me.0.lanes dealer.old.me.0.parts 0 0
+        (range 0 blocks)) }
+    requires hands { (0 < vec_len hands.old)
+        × AreDealt count.now.shared.table_id (vec_len hands.old) 0 hands.old.items }
+    ensures dealer { IfOk result (λ _. IsShareOf count.now.shared.table_id dealer.new
+        × (dealer.new.me.0 ≡ mark blocks dealer.old.me.0.lanes dealer.old.me.0.parts 0 0 [])) }
+    ensures hands { IfOk result (λ _. (vec_len hands.new ≡ vec_len hands.old)
+        × AreDealt count.now.shared.table_id (vec_len hands.old) blocks hands.new.items) }
 {
     let workers = hands.len();
     for number in 0..blocks {
@@ -63,7 +79,9 @@ fn deal_all(count: &Count, dealer: &mut Share, hands: &mut Vec<Hand>, blocks: us
 fn give_others(hands: &mut Vec<Hand>, lane: usize) -> Result<(), Memory>
     requires lane { (lane < vec_len hands.old) × (vec_len hands.old ≤ 64) }
     requires hands { HasHands (vec_len hands.old) (64 * lane) hands.old.items }
-    ensures { IfOk result (λ _. (vec_len hands.new ≡ vec_len hands.old) × KeepsHands (vec_len hands.old) (64 * lane) (64 * lane + 64) hands.old.items hands.new.items) }
+    ensures { IfOk result (λ _. (vec_len hands.new ≡ vec_len hands.old)
+        × KeepsHands (vec_len hands.old) (64 * lane)
+        (64 * lane + 64) hands.old.items hands.new.items) }
 {
     let workers = hands.len();
     for step in 1..workers {
@@ -78,7 +96,8 @@ fn give_others(hands: &mut Vec<Hand>, lane: usize) -> Result<(), Memory>
 // Each lane gets a way to each other's deque.
 fn give_all_others(hands: &mut Vec<Hand>) -> Result<(), Memory>
     requires { (vec_len hands.old ≤ 64) × HasHands (vec_len hands.old) 0 hands.old.items }
-    ensures { IfOk result (λ _. (vec_len hands.new ≡ vec_len hands.old) × KeepsHands (vec_len hands.old) 0 4096 hands.old.items hands.new.items) }
+    ensures { IfOk result (λ _. (vec_len hands.new ≡ vec_len hands.old)
+        × KeepsHands (vec_len hands.old) 0 4096 hands.old.items hands.new.items) }
 {
     for lane in 0..hands.len() {
         give_others(hands, lane)?;
@@ -95,9 +114,13 @@ pub fn make_hands(
     workers: usize,
 ) -> Result<Vec<Hand>, Memory>
     requires workers { (0 < workers) × (workers ≤ 64) }
-    requires dealer { IsShareOf count.now.shared.table_id dealer.old × (dealer.old.me.0 ≡ mark blocks dealer.old.me.0.lanes dealer.old.me.0.parts 0 0 (range 0 blocks)) }
-    ensures dealer { IfOk result (λ _. IsShareOf count.now.shared.table_id dealer.new × (dealer.new.me.0 ≡ mark blocks dealer.old.me.0.lanes dealer.old.me.0.parts 0 0 [])) }
-    ensures hands { IfOk result (λ hands. (vec_len hands ≡ workers) × AreHands count.now.shared.table_id workers blocks 4096 hands.items) }
+    requires dealer { IsShareOf count.now.shared.table_id dealer.old
+        × (dealer.old.me.0 ≡ mark blocks dealer.old.me.0.lanes dealer.old.me.0.parts 0 0
+        (range 0 blocks)) }
+    ensures dealer { IfOk result (λ _. IsShareOf count.now.shared.table_id dealer.new
+        × (dealer.new.me.0 ≡ mark blocks dealer.old.me.0.lanes dealer.old.me.0.parts 0 0 [])) }
+    ensures hands { IfOk result (λ hands. (vec_len hands ≡ workers)
+        × AreHands count.now.shared.table_id workers blocks 4096 hands.items) }
 {
     let room = blocks.div_ceil(workers);
     let mut hands = empty_hands(alloc, workers, room)?;

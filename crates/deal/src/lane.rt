@@ -21,16 +21,22 @@ use std::sync::Arc;
 fn pop(own: &mut Own) -> Option<Ticket>
     requires { (worker_flavor own.old ≡ 0) × (0 < (worker_view own.old).parts) }
     ensures same { SameWorker own.old own.new }
-    ensures taken { MatchOption result ((worker_view own.new ≡ worker_view own.old) × IsAllTaken (worker_view own.old)) (λ t. Taking (worker_view own.old) (t ∷ []) (worker_view own.new)) }
+    ensures taken { MatchOption result ((worker_view own.new ≡ worker_view own.old) × IsAllTaken
+        (worker_view own.old)) (λ t. Taking (worker_view own.old) (t ∷ [])
+        (worker_view own.new)) }
 {
     own.pop_as::<Takes>()
 }
 
 // Takes the first block of a lane's own deque, or of another. The count names the tickets' table.
 fn take(own: &mut Own, others: &mut Vec<Reach>, count: &Count) -> Option<Ticket>
-    requires { (worker_flavor own.old ≡ 0) × MayTake count.now.shared.table_id (worker_view own.old) others.old.items }
+    requires { (worker_flavor own.old ≡ 0)
+        × MayTake count.now.shared.table_id (worker_view own.old) others.old.items }
     ensures same { SameWorker own.old own.new }
-    ensures taken { MatchOption result ((worker_view own.new ≡ worker_view own.old) × (others.new.items ≡ others.old.items) × IsAllTaken (worker_view own.old)) (Took count.now.shared.table_id (worker_view own.old) others.old.items (worker_view own.new) others.new.items) }
+    ensures taken { MatchOption result ((worker_view own.new ≡ worker_view own.old) × (others.new.items
+        ≡ others.old.items) × IsAllTaken (worker_view own.old))
+        (Took count.now.shared.table_id (worker_view own.old) others.old.items
+        (worker_view own.new) others.new.items) }
 {
     match pop(own) {
         Some(ticket) => Some(ticket),
@@ -58,9 +64,14 @@ impl Model for Lane {
     ghost use Rattle.crossbeam_deque.specs.Handles.{worker_view, worker_flavor};
     ghost use Rattle.std.specs.Prelude.{◌≡◌, ◌≤◌, vec_capacity, length};
 
-    ghost view = { λ s. sight (game s.shared.value.count.shared.table_id s.shared.value.count.shared.key.lanes s.shared.value.division) s.share.me.0 (worker_view s.own) s.got.items };
+    ghost view = { λ s. sight
+        (game s.shared.value.count.shared.table_id s.shared.value.count.shared.key.lanes
+        s.shared.value.division) s.share.me.0 (worker_view s.own) s.got.items };
 
-    ghost invariant = { λ s. (worker_flavor s.own ≡ 0) × (length s.shared.value.division ≤ vec_capacity s.got) × AreStarts s.shared.value.division s.shared.value.starts.items × IsLane s.shared.value.count.shared.key s.shared.value.division s.share (worker_view s.own) s.others.items s.got.items s.shared.value.count.shared.table_id };
+    ghost invariant = { λ s. (worker_flavor s.own ≡ 0) × (length s.shared.value.division ≤ vec_capacity s.got)
+        × AreStarts s.shared.value.division s.shared.value.starts.items
+        × IsLane s.shared.value.count.shared.key s.shared.value.division s.share
+        (worker_view s.own) s.others.items s.got.items s.shared.value.count.shared.table_id };
 }
 
 impl Lane {
@@ -72,10 +83,16 @@ impl Lane {
         hand: Hand,
     ) -> Result<Lane, Memory>
         requires shared { IsShared shared.value.count.shared.key shared.value.division shared.value.starts.items }
-        requires dealer { IsDealer shared.value.count.shared.key shared.value.count.shared.table_id dealer.old.me.0.parts dealer.old × (0 < dealer.old.me.0.parts) }
-        requires hand { IsSomeHand shared.value.count.shared.table_id shared.value.count.shared.key.lanes shared.value.division hand }
-        ensures lane { IfOk result (λ lane. lane ≡ opened (game shared.value.count.shared.table_id shared.value.count.shared.key.lanes shared.value.division) (worker_view hand.own).dealt) }
-        ensures dealer { IfOk result (λ _. IsDealer shared.value.count.shared.key shared.value.count.shared.table_id (dealer.old.me.0.parts - 1) dealer.new) }
+        requires dealer { IsDealer shared.value.count.shared.key shared.value.count.shared.table_id
+            dealer.old.me.0.parts dealer.old × (0 < dealer.old.me.0.parts) }
+        requires hand { IsSomeHand shared.value.count.shared.table_id shared.value.count.shared.key.lanes
+            shared.value.division hand }
+        ensures lane { IfOk result (λ lane. lane ≡ opened
+            (game shared.value.count.shared.table_id shared.value.count.shared.key.lanes
+            shared.value.division) (worker_view hand.own).dealt) }
+        ensures dealer { IfOk result
+            (λ _. IsDealer shared.value.count.shared.key shared.value.count.shared.table_id
+            (dealer.old.me.0.parts - 1) dealer.new) }
     {
         let got = Vec::with_capacity(alloc, shared.division.count())?;
         let share = shared.count.shared.split_seat::<Cut>(dealer);
@@ -91,7 +108,8 @@ impl Lane {
 
     // The lane's seat joins its deal's. Answers the blocks that the lane was answered, in order.
     pub(crate) fn hand_back(self, dealer: &mut Share) -> Vec<usize>
-        requires { IsShareOf self.game.table dealer.old × (dealer.old.me.0.all ≡ length self.game.lengths) × (dealer.old.me.0.lanes ≡ self.game.lanes) }
+        requires { IsShareOf self.game.table dealer.old × (dealer.old.me.0.all ≡ length self.game.lengths)
+            × (dealer.old.me.0.lanes ≡ self.game.lanes) }
         ensures list { result.items ≡ self.answered }
         ensures dealer { IsShareOf self.game.table dealer.new × Collects self dealer.old.me.0 dealer.new.me.0 }
     {
@@ -109,7 +127,8 @@ impl Lane {
         got
     }
 
-    /// The next block: the first of the lane's own deque, or else of the first other lane's that gives one, upwards from its own number
+    /// The next block: the first of the lane's own deque, or else of the first other lane's that
+    /// gives one, upwards from its own number
     /// and round, each tried once.
     ///
     /// Waits for nobody and takes no memory. A lane alone is never told to ask again.

@@ -19,7 +19,8 @@ pub struct Counts {
     pub kinds: [u64; 7],
 }
 
-/// The right to add to a tally, for one thread. Contracts see what it added, and the most that it has seen.
+/// The right to add to a tally, for one thread. Contracts see what it added, and the most that it
+/// has seen.
 #[derive(Drop)]
 pub struct TallySeat {
     seat: PartSeat,
@@ -37,7 +38,8 @@ impl Model for TallySeat {
 
     ghost view = { λ s. tallied s.seat.table_id s.seat.me.0 };
 
-    ghost invariant = { λ s. IsSeatOf s.seat.table_id s.seat × (s.seat.me.0.parts ≡ 1) × (s.seat.me.0.added ≡ s.added) × ((k : ℕ) → slice_index s.added k ≤ 2 ^ 40) };
+    ghost invariant = { λ s. IsSeatOf s.seat.table_id s.seat × (s.seat.me.0.parts ≡ 1)
+        × (s.seat.me.0.added ≡ s.added) × ((k : ℕ) → slice_index s.added k ≤ 2 ^ 40) };
 }
 
 impl TallySeat {
@@ -51,7 +53,8 @@ impl TallySeat {
 
     // The seat goes back to its tally.
     fn give_back(self, words: &Words, rest: &mut PartSeat)
-        requires { (self.sheet ≡ sheet words.now.shared.table_id rest.old.me.0.seats) × IsSeatOf words.now.shared.table_id rest.old }
+        requires { (self.sheet ≡ sheet words.now.shared.table_id rest.old.me.0.seats)
+            × IsSeatOf words.now.shared.table_id rest.old }
         ensures seat { IsSeatOf words.now.shared.table_id rest.new }
         ensures taken { HasTaken self rest.old.me.0 rest.new.me.0 }
     {
@@ -125,13 +128,16 @@ impl Tally {
     pub fn close(self, mut seats: Vec<TallySeat>) -> Result<Counts, SeatsMissing>
         requires { AreSeatsOf self seats.items }
         ensures ok { IfOk result (λ counts. AreCounts counts.kinds seats.items) }
-        ensures missing { IfErr result (λ e. (length seats.items < self.seats) × (e.tally ≡ self) × (e.seats.items ≡ seats.items)) }
+        ensures missing { IfErr result (λ e. (length seats.items < self.seats) × (e.tally ≡ self)
+            × (e.seats.items ≡ seats.items)) }
     {
         if seats.len() < self.seats {
             return Err(SeatsMissing { tally: self, seats });
         }
         let Tally {
-            words, mut rest, ..
+            words,
+            mut rest,
+            ..
         } = self;
         take_seats(&words, &mut rest, seats);
         Ok(see_all(&words, &mut rest))
@@ -146,8 +152,10 @@ fn make_seats(
     seats: usize,
 ) -> Result<Vec<TallySeat>, Memory>
     requires { IsSeatOf words.now.shared.table_id rest.old × (rest.old.me.0 ≡ part seats seats zeros zeros) }
-    ensures rest { IfOk result (λ _. IsSeatOf words.now.shared.table_id rest.new × (rest.new.me.0 ≡ part seats 0 zeros zeros)) }
-    ensures seats { IfOk result (λ list. list.items ≡ replicate seats (fresh_seat (sheet words.now.shared.table_id seats))) }
+    ensures rest { IfOk result (λ _. IsSeatOf words.now.shared.table_id rest.new
+        × (rest.new.me.0 ≡ part seats 0 zeros zeros)) }
+    ensures seats { IfOk result (λ list. list.items ≡ replicate seats (fresh_seat
+        (sheet words.now.shared.table_id seats))) }
 {
     let mut list = Vec::with_capacity(alloc, seats)?;
     for _ in 0..seats {
@@ -175,9 +183,12 @@ fn take_seats(words: &Words, rest: &mut PartSeat, mut seats: Vec<TallySeat>)
 // Each word, one after the other.
 fn see_all(words: &Words, seat: &mut PartSeat) -> Counts
     requires { IsSeatOf words.now.shared.table_id seat.old }
-    ensures seat { IsSeatOf words.now.shared.table_id seat.new × (seat.new.me.0.added ≡ seat.old.me.0.added) × (seat.new.me.0.parts ≡ seat.old.me.0.parts) × (seat.new.me.0.seats ≡ seat.old.me.0.seats) }
-    ensures seen { AtMost seat.old.me.0.seen result.kinds × ((k : ℕ) → k < 7 → slice_index seat.new.me.0.seen k ≡ slice_index result.kinds k) }
-    ensures whole { 0 < seat.old.me.0.parts → seat.old.me.0.seats ≤ seat.old.me.0.parts → (k : ℕ) → k < 7 → slice_index result.kinds k ≡ slice_index seat.old.me.0.added k }
+    ensures seat { IsSeatOf words.now.shared.table_id seat.new × (seat.new.me.0.added ≡ seat.old.me.0.added)
+        × (seat.new.me.0.parts ≡ seat.old.me.0.parts) × (seat.new.me.0.seats ≡ seat.old.me.0.seats) }
+    ensures seen { AtMost seat.old.me.0.seen result.kinds
+        × ((k : ℕ) → k < 7 → slice_index seat.new.me.0.seen k ≡ slice_index result.kinds k) }
+    ensures whole { 0 < seat.old.me.0.parts → seat.old.me.0.seats ≤ seat.old.me.0.parts → (k : ℕ) → k < 7
+        → slice_index result.kinds k ≡ slice_index seat.old.me.0.added k }
 {
     let mut kinds = [0; 7];
     for kind in 0..KINDS {

@@ -1,5 +1,5 @@
 //! Divisions, lanes and seats, on one thread and on several.
-mod divisions;
 mod dealing;
+mod divisions;
 mod tallying;
 mod threads;

@@ -64,21 +64,27 @@ pub fn add_to(words: &Words, seat: &mut PartSeat, kind: usize, n: u64)
     requires seat { IsSeatOf words.now.shared.table_id seat.old × (seat.old.me.0.parts ≡ 1) }
     requires kind { kind < 7 }
     requires room { slice_index seat.old.me.0.added kind + n ≤ 2 ^ 40 }
-    ensures seat { IsSeatOf words.now.shared.table_id seat.new × (seat.new.me.0.parts ≡ seat.old.me.0.parts) × (seat.new.me.0.seats ≡ seat.old.me.0.seats) }
-    ensures added { seat.new.me.0.added ≡ slice_set seat.old.me.0.added kind (slice_index seat.old.me.0.added kind + n) }
+    ensures seat { IsSeatOf words.now.shared.table_id seat.new × (seat.new.me.0.parts ≡ seat.old.me.0.parts)
+        × (seat.new.me.0.seats ≡ seat.old.me.0.seats) }
+    ensures added { seat.new.me.0.added ≡ slice_set seat.old.me.0.added kind
+        (slice_index seat.old.me.0.added kind + n) }
     ensures seen { RisesAt kind n seat.old.me.0.seen seat.new.me.0.seen }
 {
     words.shared.fetch_add::<Adds>(seat, kind, n);
 }
 
-/// The count of a kind, at least what the seat had seen. Where the seat stands for all, it is what was added.
+/// The count of a kind, at least what the seat had seen. Where the seat stands for all, it is what
+/// was added.
 pub fn see(words: &Words, seat: &mut PartSeat, kind: usize) -> u64
     requires { IsSeatOf words.now.shared.table_id seat.old × (kind < 7) }
     ensures seat { IsSeatOf words.now.shared.table_id seat.new }
-    ensures same { (seat.new.me.0.added ≡ seat.old.me.0.added) × (seat.new.me.0.parts ≡ seat.old.me.0.parts) × (seat.new.me.0.seats ≡ seat.old.me.0.seats) }
-    ensures seen { (seat.new.me.0.seen ≡ slice_set seat.old.me.0.seen kind result) × (slice_index seat.old.me.0.seen kind ≤ result) × (length seat.old.me.0.seen ≡ 7) }
+    ensures same { (seat.new.me.0.added ≡ seat.old.me.0.added) × (seat.new.me.0.parts ≡ seat.old.me.0.parts)
+        × (seat.new.me.0.seats ≡ seat.old.me.0.seats) }
+    ensures seen { (seat.new.me.0.seen ≡ slice_set seat.old.me.0.seen kind result)
+        × (slice_index seat.old.me.0.seen kind ≤ result) × (length seat.old.me.0.seen ≡ 7) }
     ensures parts { 0 < seat.old.me.0.parts → seat.old.me.0.parts ≤ seat.old.me.0.seats }
-    ensures whole { 0 < seat.old.me.0.parts → seat.old.me.0.parts ≡ seat.old.me.0.seats → result ≡ slice_index seat.old.me.0.added kind }
+    ensures whole { 0 < seat.old.me.0.parts → seat.old.me.0.parts ≡ seat.old.me.0.seats → result
+        ≡ slice_index seat.old.me.0.added kind }
 {
     words.shared.load::<Sees>(seat, kind)
 }
@@ -86,7 +92,8 @@ pub fn see(words: &Words, seat: &mut PartSeat, kind: usize) -> u64
 /// One seat stands for the seats of both.
 pub fn merge(words: &Words, seat: &mut PartSeat, other: PartSeat)
     requires { IsSeatOf words.now.shared.table_id seat.old × IsSeatOf words.now.shared.table_id other }
-    ensures { IsSeatOf words.now.shared.table_id seat.new × (seat.new.me.0 ≡ both_parts seat.old.me.0 other.me.0) }
+    ensures { IsSeatOf words.now.shared.table_id seat.new
+        × (seat.new.me.0 ≡ both_parts seat.old.me.0 other.me.0) }
 {
     words.shared.join_seat::<Sums>(seat, other);
 }

@@ -27,9 +27,13 @@ fn run<R: Wait>(rt: &R, mut lane: Lane) -> Lane
 fn run_all<R: Threads + Wait + Sync>(rt: &R, lanes: Vec<Lane>) -> Result<Vec<Lane>, AllocError>
     ensures { IfOk result (λ back. (g : Game) → AreLanesOf g lanes.items → AreLanesOf g back.items) }
 {
-    thread::map_vec(rt, lanes, &|lane: Lane| -> Lane
-        ensures { (result.game ≡ lane.game) × HasSeenAll result }
-    { run(rt, lane) })
+    thread::map_vec(
+        rt,
+        lanes,
+        &|lane: Lane| -> Lane
+            ensures { (result.game ≡ lane.game) × HasSeenAll result }
+        { run(rt, lane) },
+    )
 }
 
 // Deals blocks of one point among lanes in threads, and closes the deal.
@@ -47,7 +51,8 @@ fn share<R: Threads + Wait + Sync>(
     Ok(deal.close(lanes))
 }
 
-// Whether each number below the length stands in the lists, and nothing else does. No number is marked twice.
+// Whether each number below the length stands in the lists, and nothing else does. No number is
+// marked twice.
 fn are_each_once(alloc: Global, closed: &Closed, blocks: usize) -> Result<bool, AllocError> {
     let mut marks = vec![in alloc; false; blocks]?;
     for list in &closed.lists {

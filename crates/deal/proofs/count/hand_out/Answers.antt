@@ -9,8 +9,7 @@ use Rattle.deal.proofs.count.hand_out.Goals as goal
 
 pub join_seat-requires : goal.join_seat-requires
 join_seat-requires c =
-    let z = c.args.count.now.shared in
-    (
+    let z = c.args.count.now.shared in (
       c.requires.share.0,
       c.into_seat-seat.ensures.0 ∙ c.requires.ticket.0,
       c.into_seat-seat.ensures.3,
@@ -36,7 +35,7 @@ fetch_add-requires c =
       omega (arith, c.requires.share.2),
       subst (λ m. Allows (IsCounted z.key) z.table_id.slots p.id m 0 (λ n. (n + 1) % 2 ^ 64) (Counting (step z.table_id.slots 0 1 0 none) m)) me
           (counts z.key z.table_id.slots p.id p.me.0 (omega (arith, parts, c.requires.lane.0))
-              (omega (arith, counted, blocks, length-append old.me.0.blocks (c.args.ticket.number ∷ []), c.requires.lane.1)) c.requires.size),
+          (omega (arith, counted, blocks, length-append old.me.0.blocks (c.args.ticket.number ∷ []), c.requires.lane.1)) c.requires.size),
     )
 
 pub returns : goal.returns
@@ -57,10 +56,10 @@ returns c =
     let all : p.me.0.all ≡ old.me.0.all = omega (arith, ap (λ (m : Mark). m.all) is) in
     let lanes : p.me.0.lanes ≡ old.me.0.lanes = omega (arith, ap (λ (m : Mark). m.lanes) is) in
     let now : mark p.me.0.all p.me.0.lanes p.me.0.parts (p.me.0.counted + 1) (n + 1) p.me.0.blocks ≡ mark old.me.0.all old.me.0.lanes old.me.0.parts (old.me.0.counted + 1) (n + 1) (old.me.0.blocks ++ c.args.ticket.number ∷ []) =
-        λ i. mark (all i) (lanes i) (parts i) (counted i) (n + 1) (blocks i) in
+    λ i. mark (all i) (lanes i) (parts i) (counted i) (n + 1) (blocks i) in
     record {
       share = (f.0 ∙ e.0 ∙ c.requires.share.0, f.2.1 ∙ held, c.requires.share.2);
       counted = f.2.0 ∙ now;
       seen = (omega (arith, seen, f.2.2), omega (arith, all, f.2.3), omega (arith, counted, f.2.4));
-      among = subst (λ a. IsAmong a (old.me.0.blocks ++ c.args.ticket.number ∷ [])) all (subst (IsAmong p.me.0.all) blocks f.2.5)
+      among = subst (λ a. IsAmong a (old.me.0.blocks ++ c.args.ticket.number ∷ [])) all (subst (IsAmong p.me.0.all) blocks f.2.5);
     }

@@ -6,8 +6,7 @@ use Rattle.deal.proofs.count.unite.Goals as goal
 
 pub join_seat-requires : goal.join_seat-requires
 join_seat-requires c =
-    let z = c.args.count.now.shared in
-    (
+    let z = c.args.count.now.shared in (
       c.requires.0.0,
       c.requires.1.0,
       c.requires.1.1,

@@ -37,9 +37,8 @@ loop-hand-preserved c =
     let mine = last_hand z lanes (length s.division) 4096 k rest.items c.in-Some.hand (omega (arith, rest.ok)) hands in
     let e = c.in_ok-lane.ensures in
     let made : c.in_ok-lane.lane ≡ fresh g k =
-        e.lane ∙ ap (λ (t : Shared). opened (game t.count.shared.table_id t.count.shared.key.lanes t.division) (worker_view c.in-Some.hand.own).dealt) c.in_ok-own.ensures ∙ ap (opened g) mine.2 in
-    let left : c.loop-hand.dealer.me.0.parts - 1 ≡ k = omega (arith, ap (λ (m : Mark). m.parts) i.1.1, one_less) in
-    (
+    e.lane ∙ ap (λ (t : Shared). opened (game t.count.shared.table_id t.count.shared.key.lanes t.division) (worker_view c.in-Some.hand.own).dealt) c.in_ok-own.ensures ∙ ap (opened g) mine.2 in
+    let left : c.loop-hand.dealer.me.0.parts - 1 ≡ k = omega (arith, ap (λ (m : Mark). m.parts) i.1.1, one_less) in (
       omega (arith, one_less, i.0),
       subst (λ m. IsDealer key z m c.new.new.dealer) left
           (subst (λ (t : Shared). IsDealer t.count.shared.key t.count.shared.table_id (c.loop-hand.dealer.me.0.parts - 1) c.new.new.dealer) c.in_ok-own.ensures e.dealer),

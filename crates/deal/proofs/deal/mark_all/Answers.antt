@@ -23,8 +23,7 @@ loop-list-preserved c =
     let v = c.list-item.result in
     let more = concat_more lists i v c.loop-list-test.true in
     let same = c.deref.ensures.value ∙ ap (λ (u : Vec ℕ Global). u.items) c.list-item.is in
-    let e = c.mark_list.ensures in
-    (
+    let e = c.mark_list.ensures in (
       e.0 ∙ c.loop-list.invariant.0,
       subst (λ l. IsMarked l c.mark_list.new.marks) (ap (λ l. concat (items_of (take i lists)) ++ l) same ∙ sym more) (e.1 (concat (items_of (take i lists))) c.loop-list.invariant.1),
     )

@@ -14,8 +14,7 @@ pub loop-lane-init : goal.loop-lane-init
 loop-lane-init c =
     let m = c.args.dealer.now.me.0 in
     let is = c.requires.dealer.0 in
-    let none : c.args.lists.now.items ≡ [] = c.requires.lists.0 in
-    (
+    let none : c.args.lists.now.items ≡ [] = c.requires.lists.0 in (
       [],
       sym (reverse_twice c.args.lanes.items) ∙ ap (λ (l : List Sight). reverse l) (sym c.reverse.ensures.items),
       ap items_of none,
@@ -33,8 +32,7 @@ hand_back-list-requires c =
     let lane = c.in-Some.lane in
     let b = i.7 in
     let split : c.args.lanes.items ≡ i.0 ++ lane ∷ reverse rest = i.1 ∙ ap (λ l. i.0 ++ l) (ap (λ (l : List Sight). reverse l) c.in-Some.ensures.items ∙ reverse-append rest (lane ∷ [])) in
-    let mine = each_middle _ i.0 lane (reverse rest) (subst (Each _) split c.requires.lanes) in
-    (
+    let mine = each_middle _ i.0 lane (reverse rest) (subst (Each _) split c.requires.lanes) in (
       (i.5 ∙ sym mine.0, i.6, omega (arith, ap (λ z. z.words) (sym mine.0), c.requires.dealer.2)),
       b.0 ∙ sym mine.1,
       b.1 ∙ sym mine.2,
@@ -54,8 +52,7 @@ loop-lane-preserved c =
     let e = c.hand_back-list.ensures in
     let p = c.push_reserved.ensures in
     let split : c.args.lanes.items ≡ i.0 ++ lane ∷ reverse rest = i.1 ∙ ap (λ l. i.0 ++ l) (ap (λ (l : List Sight). reverse l) c.in-Some.ensures.items ∙ reverse-append rest (lane ∷ [])) in
-    let mine = each_middle _ i.0 lane (reverse rest) (subst (Each _) split c.requires.lanes) in
-    (
+    let mine = each_middle _ i.0 lane (reverse rest) (subst (Each _) split c.requires.lanes) in (
       i.0 ++ lane ∷ [],
       split ∙ sym (append_assoc i.0 (lane ∷ []) (reverse rest)),
       ap items_of p.items ∙ items_last c.loop-lane.lists.items c.hand_back-list.result ∙ ap (λ l. l ++ c.hand_back-list.result.items ∷ []) i.2 ∙ ap (λ l. lists_of i.0 ++ l ∷ []) e.list ∙ sym (lists_last i.0 lane),
@@ -74,5 +71,5 @@ returns c =
     record {
       lists = i.2 ∙ ap lists_of (sym whole);
       among = subst (λ (l : List Sight). IsAmong m.all (concat (lists_of l))) (sym whole) (subst (IsAmong m.all) i.7.3 i.7.5);
-      all = subst (λ (l : List Sight). length l ≡ m.lanes → SomeHasSeenAll l → m.all ≤ length (concat (lists_of l))) (sym whole) (all_back m i.0 c.loop-lane.dealer.me.0 i.7)
+      all = subst (λ (l : List Sight). length l ≡ m.lanes → SomeHasSeenAll l → m.all ≤ length (concat (lists_of l))) (sym whole) (all_back m i.0 c.loop-lane.dealer.me.0 i.7);
     }

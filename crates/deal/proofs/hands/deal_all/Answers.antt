@@ -33,8 +33,7 @@ loop-number-preserved c =
     let here : get_elem? hands at ≡ some hand = at_index hands at hand (omega (arith, c.loop-number.hands.ok, i.0, i.1, mod-lt n {m = workers} (omega (arith, i.0, c.requires.hands.0)))) c.index_mut-hand.ensures.value in
     let new : Hand = record { own = c.deal_one.new.own; others = hand.others } in
     let e = c.in_ok-deal_one.ensures in
-    let old = c.args.dealer.now.me.0 in
-    (
+    let old = c.args.dealer.now.me.0 in (
       i.0,
       i.1,
       e.dealer.0,

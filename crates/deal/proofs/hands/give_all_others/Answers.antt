@@ -13,8 +13,7 @@ loop-lane-preserved c =
     let lane = c.loop-lane.lane in
     let e = c.in_ok-give_others.ensures in
     let new = c.give_others.new.hands.items in
-    let more = subst (λ u. KeepsHands u (64 * lane) (64 * lane + 64) c.loop-lane.hands.items new) i.0 e.1 in
-    (
+    let more = subst (λ u. KeepsHands u (64 * lane) (64 * lane + 64) c.loop-lane.hands.items new) i.0 e.1 in (
       e.0 ∙ i.0,
       (i.1.0, i.1.1, hands_more i.1.0 w i.1.1 (64 * lane + 64) (64 * (lane + 1)) new (omega arith) (more i.1.0 i.1.1 i.1.2)),
       λ z n old. hands_more z w n (64 * lane + 64) (64 * (lane + 1)) new (omega arith) (more z n (i.2 z n old)),

@@ -15,8 +15,7 @@ loop-step-init c =
     let h = c.requires.hands in
     let cut = 64 * c.args.lane in
     let hands = c.args.hands.now.items in
-    let workers = vec_len c.args.hands.now in
-    (
+    let workers = vec_len c.args.hands.now in (
       c.len-workers.ensures,
       refl,
       (h.0, h.1, hands_more h.0 workers h.1 cut (cut + 1) hands (omega arith) h.2),
@@ -54,11 +53,11 @@ loop-step-preserved c =
     let w = vec_len c.args.hands.now in
     let cut = 64 * lane + step in
     let more : (z : TableId) (n : ℕ) → AreHands z w n cut hands → AreHands z w n (64 * lane + (step + 1)) (set hands' lane new') = λ z n old.
-        hands_more z w n (cut + 1) (64 * lane + (step + 1)) (set hands' lane new') (omega arith)
-            (gives_more z w n cut at lane hands hand new hand' new' c.in_ok-other.other here here'
-                (omega (arith, c.loop-step.auto.step, c.loop-step-test.true, i.0))
-                (omega (arith, c.requires.lane.0, c.requires.lane.1, c.loop-step-test.true, i.0))
-                e.1 e.0 refl refl c.in_ok-push.ensures.items old) in
+    hands_more z w n (cut + 1) (64 * lane + (step + 1)) (set hands' lane new') (omega arith)
+    (gives_more z w n cut at lane hands hand new hand' new' c.in_ok-other.other here here'
+    (omega (arith, c.loop-step.auto.step, c.loop-step-test.true, i.0))
+    (omega (arith, c.requires.lane.0, c.requires.lane.1, c.loop-step-test.true, i.0))
+    e.1 e.0 refl refl c.in_ok-push.ensures.items old) in
     (i.0, i.1, (i.2.0, i.2.1, more i.2.0 i.2.1 i.2.2), λ z n old. more z n (i.3 z n old))
 
 pub returns : goal.returns

@@ -14,8 +14,7 @@ give_all_others-requires c =
     let d = c.in_ok-deal_all.ensures.hands in
     let z = c.args.count.now.shared.table_id in
     let n = c.args.blocks in
-    let hands = c.deal_all.new.hands.items in
-    (
+    let hands = c.deal_all.new.hands.items in (
       omega (arith, e.0, d.0, c.requires.workers.1),
       (z, n, subst (λ w. AreHands z w n 0 hands) (sym d.0) (dealt_hands z (vec_len c.in_ok-hands.hands) n hands d.1)),
     )
@@ -28,8 +27,7 @@ returns-clause-hands c =
     let z = c.args.count.now.shared.table_id in
     let n = c.args.blocks in
     let hands = c.deal_all.new.hands.items in
-    let many : vec_len c.deal_all.new.hands ≡ c.args.workers = d.0 ∙ e.0 in
-    (
+    let many : vec_len c.deal_all.new.hands ≡ c.args.workers = d.0 ∙ e.0 in (
       g.0 ∙ many,
       subst (λ w. AreHands z w n 4096 c.give_all_others.new.hands.items) many
           (g.1 z n (subst (λ w. AreHands z w n 0 hands) (sym d.0) (dealt_hands z (vec_len c.in_ok-hands.hands) n hands d.1))),

@@ -5,8 +5,7 @@ use Rattle.deal.proofs.tally.make_seats.Goals as goal
 
 pub split_seat-seat-requires : goal.split_seat-seat-requires
 split_seat-seat-requires c =
-    let i = c.loop.invariant in
-    (
+    let i = c.loop.invariant in (
       i.0.0,
       omega (arith, i.0.2),
       splits c.args.words.now.shared.key c.loop.rest.id c.loop.rest.me.0 (omega (arith, ap (λ (p : Part). p.parts) i.1, c.loop-test.true))

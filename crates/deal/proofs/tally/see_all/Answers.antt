@@ -13,8 +13,7 @@ loop-kind-preserved c =
     let n = c.see.result in
     let was = c.args.seat.now.me.0 in
     let seen = c.loop-kind.seat.me.0.seen in
-    let here : kind < 7 = c.loop-kind-test.true in
-    (
+    let here : kind < 7 = c.loop-kind-test.true in (
       e.seat,
       length-set kinds kind n ∙ i.1,
       e.same.0 ∙ i.2,

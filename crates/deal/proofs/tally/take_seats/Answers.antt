@@ -12,8 +12,7 @@ loop-seat-preserved c =
     let seat = c.in-Some.seat in
     let was : c.loop-seat.seats.items ≡ rest ++ seat ∷ [] = c.in-Some.ensures.items in
     let e = c.give_back.ensures in
-    let z = sheet c.args.words.now.shared.table_id c.args.rest.now.me.0.seats in
-    (
+    let z = sheet c.args.words.now.shared.table_id c.args.rest.now.me.0.seats in (
       e.seat,
       e.taken.0 ∙ i.1,
       each_left (λ (s : Tallied). s.sheet ≡ z) rest (seat ∷ []) (subst (AreEachOf z) was i.2),

@@ -11,8 +11,7 @@ fetch_add-requires c =
     let p = c.args.seat.now in
     let k = c.args.kind in
     let n = c.args.n in
-    let me : (p.me.0, []) ≡ p.me = λ i. (p.me.0, sym c.requires.seat.0.1 i) in
-    (
+    let me : (p.me.0, []) ≡ p.me = λ i. (p.me.0, sym c.requires.seat.0.1 i) in (
       c.requires.seat.0.0,
       omega (arith, c.requires.seat.0.2, c.requires.kind),
       subst (λ m. Allows (IsSummed z.key) z.table_id.slots p.id m k (λ w. (w + n) % 2 ^ 64) (Adding (step z.table_id.slots k n 0 none) m)) me

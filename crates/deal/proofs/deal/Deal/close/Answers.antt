@@ -50,8 +50,8 @@ take_back-requires-clause-lanes c =
     let d = c.self.invariant.1 in
     let P : Sight → Type 0 = λ lane. (lane.game.table ≡ c.self.inside.dealer.table_id) × (length lane.game.lengths ≡ c.self.inside.dealer.me.0.all) × (lane.game.lanes ≡ c.self.inside.dealer.me.0.lanes) in
     each_of_all P c.args.lanes.items (λ k e short.
-        let is = c.requires k e short ∙ sym v in (
-          ap (λ (g : Game). g.table) is ∙ sym d.0.0,
-          ap (λ (g : Game). length g.lengths) is ∙ sym (ap (λ (m : Mark). m.all) d.1 ∙ c.self.invariant.0),
-          ap (λ (g : Game). g.lanes) is ∙ sym (ap (λ (m : Mark). m.lanes) d.1),
-        ))
+    let is = c.requires k e short ∙ sym v in (
+      ap (λ (g : Game). g.table) is ∙ sym d.0.0,
+      ap (λ (g : Game). length g.lengths) is ∙ sym (ap (λ (m : Mark). m.all) d.1 ∙ c.self.invariant.0),
+      ap (λ (g : Game). g.lanes) is ∙ sym (ap (λ (m : Mark). m.lanes) d.1),
+    ))

@@ -15,10 +15,10 @@ lanes_of-requires-clause-hands c =
     let key = c.in_ok-count.ensures.5 in
     let many : c.args.workers ≡ table.key.lanes = sym (ap (λ (k : Size). k.lanes) key) in
     let of : AreHands table.table_id table.key.lanes (length c.args.division) 4096 hands.items =
-        subst (λ n. AreHands table.table_id table.key.lanes n 4096 hands.items) c.count-blocks.ensures
-            (subst (λ w. AreHands table.table_id w c.count-blocks.result 4096 hands.items) many e.1) in
+    subst (λ n. AreHands table.table_id table.key.lanes n 4096 hands.items) c.count-blocks.ensures
+    (subst (λ w. AreHands table.table_id w c.count-blocks.result 4096 hands.items) many e.1) in
     subst (λ (t : Shared). (vec_len hands ≡ t.count.shared.key.lanes) × AreHands t.count.shared.table_id t.count.shared.key.lanes (length t.division) 4096 hands.items)
-        (sym c.in_ok-shared.ensures.ok) (e.0 ∙ many, of)
+    (sym c.in_ok-shared.ensures.ok) (e.0 ∙ many, of)
 
 pub returns-clause-of : goal.returns-clause-of
 returns-clause-of c =

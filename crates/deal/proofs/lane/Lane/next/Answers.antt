@@ -26,8 +26,7 @@ invariant_of-self c =
     let now = c.self.inside.shared.value in
     let z = now.count.shared.table_id in
     let of : IsShareOf z c.hand_out.new.share = subst (λ t. IsShareOf t.count.shared.table_id c.hand_out.new.share) here e.share in
-    let took = subst (λ t. Took t.count.shared.table_id (worker_view c.self.inside.own) c.self.inside.others.items (worker_view c.take.new.own) c.take.new.others.items c.in-Some.ticket) here c.in-Some.ensures.taken in
-    (
+    let took = subst (λ t. Took t.count.shared.table_id (worker_view c.self.inside.own) c.self.inside.others.items (worker_view c.take.new.own) c.take.new.others.items c.in-Some.ticket) here c.in-Some.ensures.taken in (
       c.take.ensures.same.1 ∙ c.self.invariant.0,
       omega (arith, p.capacity, c.self.invariant.1),
       c.self.invariant.2,
@@ -46,13 +45,13 @@ returns-in-Some c =
     let own = c.in-Some.ensures.taken.3 in
     record {
       goes = (
-          ap (λ (s : Sight). s.game) v,
-          own ∙ ap (λ (s : Sight). s.dealt) v,
-          omega (arith, ap (λ (m : Mark). m.seen) e.counted, e.seen.0, ap (λ (s : Sight). s.seen) v),
-        );
+        ap (λ (s : Sight). s.game) v,
+        own ∙ ap (λ (s : Sight). s.dealt) v,
+        omega (arith, ap (λ (m : Mark). m.seen) e.counted, e.seen.0, ap (λ (s : Sight). s.seen) v),
+      );
       next = answers_block _ _ _ n (subst (λ t. IsTheBlock t.division n c.block.result) here c.block.ensures)
           (ap (times n) (sym (l.7 ∙ old)) ∙ last_new _ _ n e.among)
-          (c.push_reserved.ensures.items ∙ ap (λ xs. xs ++ n ∷ []) old)
+          (c.push_reserved.ensures.items ∙ ap (λ xs. xs ++ n ∷ []) old);
     }
 
 pub returns-after-look-blocks : goal.returns-after-look-blocks
@@ -68,13 +67,13 @@ returns-after-look-blocks c =
     let old = c.args.self.now in
     let new : Sight = sight (game now.count.shared.table_id now.count.shared.key.lanes now.division) c.look.new.share.me.0 (worker_view c.take.new.own) c.self.inside.got.items in
     let goes : Goes old new = (
-          ap (λ (s : Sight). s.game) v,
-          ap (λ w. w.dealt) none.0 ∙ ap (λ (s : Sight). s.dealt) v,
-          omega (arith, seen, e.seen, ap (λ (s : Sight). s.seen) v),
-        ) in
+      ap (λ (s : Sight). s.game) v,
+      ap (λ w. w.dealt) none.0 ∙ ap (λ (s : Sight). s.dealt) v,
+      omega (arith, seen, e.seen, ap (λ (s : Sight). s.seen) v),
+    ) in
     let same : new.answered ≡ old.answered = ap (λ (s : Sight). s.answered) v in
     let next : MatchNext c.if-look-blocks.result old new = elim c.if-look-blocks.branch [
-      then-look-blocks w ↦ subst (λ r. MatchNext r old new) (sym w.result-is) (same, omega (arith, seen, w.if-look-blocks.true, many))
-    | else-look-blocks w ↦ subst (λ r. MatchNext r old new) (sym w.result-is) (same, omega (arith, e.among.1, l.3, l.5, λ (lone : now.count.shared.key.lanes ≡ 1). w.if-look-blocks.false (e.whole (l.3 ∙ sym lone ∙ sym l.5) ∙ alone now.count.shared.key now.division c.self.inside.share (worker_view c.self.inside.own) c.self.inside.others.items c.self.inside.got.items now.count.shared.table_id l lone none.2 ∙ sym many)))
+      | then-look-blocks w ↦ subst (λ r. MatchNext r old new) (sym w.result-is) (same, omega (arith, seen, w.if-look-blocks.true, many))
+      | else-look-blocks w ↦ subst (λ r. MatchNext r old new) (sym w.result-is) (same, omega (arith, e.among.1, l.3, l.5, λ (lone : now.count.shared.key.lanes ≡ 1). w.if-look-blocks.false (e.whole (l.3 ∙ sym lone ∙ sym l.5) ∙ alone now.count.shared.key now.division c.self.inside.share (worker_view c.self.inside.own) c.self.inside.others.items c.self.inside.got.items now.count.shared.table_id l lone none.2 ∙ sym many)))
     ] in
     record { goes = goes; next = next }

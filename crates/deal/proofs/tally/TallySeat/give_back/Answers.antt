@@ -10,8 +10,7 @@ returns-clause-taken c =
     let w = c.self.inside.seat.me.0 in
     let is = c.merge.ensures.1 in
     let view = c.self.view_is in
-    let same : w.seats ≡ v.seats = ap (λ (t : Tallied). t.sheet.seats) view ∙ ap (λ (s : Sheet). s.seats) c.requires.0 in
-    (
+    let same : w.seats ≡ v.seats = ap (λ (t : Tallied). t.sheet.seats) view ∙ ap (λ (s : Sheet). s.seats) c.requires.0 in (
       omega (arith, ap (λ (p : Part). p.seats) is, same),
       omega (arith, ap (λ (p : Part). p.parts) is, c.self.invariant.1),
       (λ k. omega (arith, ap (λ (p : Part). slice_index p.added k) is, sums_at v.added w.added k, ap (λ (t : Tallied). slice_index t.added k) view)),
