@@ -4,7 +4,7 @@ use Rattle.std.specs.Prelude.{slice_index, slice_index_or}
 use Rattle.std.specs.List.{concat}
 use Rattle.std.specs.declared.alloc.Global.{Global}
 use Rattle.std.proofs.lemmas.Bool.Decides.{nat_tests}
-use Rattle.std.proofs.lemmas.List.{reverse-append, take_more, get_or-replicate, length-set}
+use Rattle.std.proofs.lemmas.List.{reverse-append, take_more, length-set}
 use Rattle.deal.specs.Totals.{total, range, one_at, times, HasEachOnce, Each}
 use Rattle.deal.specs.Marks.{IsAmong}
 use Rattle.deal.specs.Lanes.{Collects}
@@ -12,8 +12,8 @@ use Rattle.deal.specs.Sharing.{Game, Sight, AreLanesOf, HasSeenAll, SomeHasSeenA
 use Rattle.deal.specs.Closing.{IsMarked, Marks, unmarked, items_of, HasBack}
 use Rattle.deal.specs.declared.count.Mark.{Mark}
 use Rattle.deal.proofs.Members.{all_of_each}
-use Rattle.deal.proofs.Sums.{total_append, total_length, length_range}
-use Rattle.deal.proofs.Once.{same_or, here, elsewhere, times_one, once_within, none_above, among_once, among_below}
+use Rattle.deal.proofs.Sums.{total_append, length_range}
+use Rattle.deal.proofs.Once.{same_or, here, elsewhere, times_one, once_within, among_once, among_below}
 
 pub reverse_twice : {V : Type 0} (xs : List V) → reverse (reverse xs) ≡ xs
 reverse_twice [] = refl

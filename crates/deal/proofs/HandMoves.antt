@@ -1,7 +1,7 @@
 -- The deques as they are dealt, and as the lanes get their ways to the others'.
 use Rattle.std.proofs.Common.{◌≡◌, ◌≢◌, ◌≤◌, ◌<◌, ◌%◌, ℕ, zero, suc, ◌+◌, ◌-◌, List, [], ◌∷◌, ◌++◌, length, set, refl, sym, ap, ◌∙◌, arith, subst, ⊎_elim, add-one, Bool, true, false, if◌then◌else◌, append-nil, ◌==◌}
 use Rattle.std.proofs.lemmas.Bool.Decides.{nat_tests}
-use mathlib.Core.Option.{some, some-ne-none, some-injective}
+use mathlib.Core.Option.{some, some-ne-none}
 use lib.ListN.{get_elem?}
 use Rattle.atomic_table.specs.Seated.{TableId}
 use Rattle.atomic_table.proofs.Lists.{at_set, at_snoc}
@@ -18,10 +18,8 @@ use Rattle.deal.specs.declared.count.Ticket.{Ticket}
 use Rattle.deal.specs.declared.dealt.Dealt.{Dealt}
 use Rattle.deal.specs.declared.hand.Hand.{Hand}
 use Rattle.deal.specs.declared.log.Log.{Log}
-use Rattle.deal.specs.declared.reach.Reach.{Reach}
 use Rattle.deal.proofs.Members.{each_last}
 use Rattle.deal.proofs.Sums.{total_append}
-use Rattle.deal.proofs.Once.{same_or}
 
 abbrev OwnOf : Type 0
 OwnOf = Worker Ticket Global Log Dealt

@@ -1,9 +1,7 @@
 -- What a lane knows after it took a block, and where it finds none.
-use Rattle.std.proofs.Common.{◌≡◌, ◌≢◌, ◌≤◌, ◌<◌, ◌%◌, ◌^◌, ℕ, zero, suc, ◌+◌, List, [], ◌∷◌, ◌++◌, length, length-append, set, refl, sym, ap, ◌∙◌, arith, subst, Option, None, Some, Result, Ok, Err, IfOk, Bool, true, false, nat_lt, ◌==◌, if◌then◌else◌}
+use Rattle.std.proofs.Common.{◌≡◌, ◌<◌, ◌%◌, ◌^◌, ℕ, zero, suc, ◌+◌, List, [], ◌∷◌, ◌++◌, length, length-append, refl, sym, ap, ◌∙◌, arith, subst, Option, None, Some, Bool, true, ◌==◌, if◌then◌else◌}
 use Rattle.std.proofs.lemmas.Bool.Decides.{nat_tests}
 use Rattle.std.proofs.lemmas.List.{length-set}
-use mathlib.Core.Option.{some}
-use lib.ListN.{get_elem?}
 use Rattle.std.specs.Prelude.{MatchOption}
 use Rattle.atomic_table.specs.Seated.{TableId}
 use Rattle.atomic_table.specs.declared.shared.Seat.{Seat}
@@ -13,12 +11,12 @@ use Rattle.deal.specs.declared.count.Ticket.{Ticket}
 use Rattle.deal.specs.declared.hand.Hand.{Hand}
 use Rattle.deal.specs.declared.log.Log.{Log}
 use Rattle.crossbeam_deque.specs.Handles.{worker_view}
-use Rattle.deal.specs.Totals.{total, range, Each}
+use Rattle.deal.specs.Totals.{total, range}
 use Rattle.deal.specs.Marks.{mark, lane_mark, IsTicketOf, IsShareOf}
-use Rattle.deal.specs.Logs.{whose, log, numbers, Taking, IsAllTaken}
+use Rattle.deal.specs.Logs.{Taking, IsAllTaken}
 use Rattle.deal.specs.Reaches.{Stealing}
 use Rattle.deal.specs.Logs.{HasTicketsOf}
-use Rattle.deal.specs.Lanes.{MayTake, taken_by, Took, IsLane, IsDealer, IsSomeHand}
+use Rattle.deal.specs.Lanes.{MayTake, Took, IsLane, IsDealer, IsSomeHand}
 use Rattle.deal.specs.Divisions.{IsBlock}
 use Rattle.deal.specs.Totals.{times}
 use Rattle.deal.specs.Sharing.{Sight, IsTheBlock, MatchNext, dealt_to}

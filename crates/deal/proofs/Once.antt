@@ -1,9 +1,9 @@
 -- How often a number stands in a list.
-use Rattle.std.proofs.Common.{◌≡◌, ◌≢◌, ◌≤◌, ◌<◌, ℕ, zero, suc, ◌+◌, List, [], ◌∷◌, ◌++◌, length, refl, sym, ap, ◌∙◌, arith, Bool, true, false, nat_lt, ◌⊎◌, inl, inr, ⊎_elim}
+use Rattle.std.proofs.Common.{◌≡◌, ◌≢◌, ◌≤◌, ◌<◌, ℕ, zero, suc, ◌+◌, List, [], ◌∷◌, ◌++◌, refl, ap, arith, Bool, true, false, nat_lt, ◌⊎◌, inl, inr, ⊎_elim}
 use Rattle.std.proofs.lemmas.Bool.Decides.{nat_tests}
-use Rattle.deal.specs.Totals.{total, range, one_at, times}
+use Rattle.deal.specs.Totals.{range, one_at, times}
 use Rattle.deal.specs.Marks.{IsAmong}
-use Rattle.deal.proofs.Sums.{total_append, total_length, length_range}
+use Rattle.deal.proofs.Sums.{total_append}
 
 pub here : (x y : ℕ) → y ≡ x → one_at x y ≡ 1
 here x y e = grind (arith, nat_tests, e)

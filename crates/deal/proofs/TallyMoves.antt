@@ -1,14 +1,14 @@
 -- Each step keeps the tally.
-use Rattle.std.proofs.Common.{◌≡◌, ◌≢◌, ◌⊎◌, inl, inr, ◌≤◌, ◌<◌, ◌%◌, ◌^◌, ◌*◌, ℕ, zero, suc, ◌+◌, max, List, [], ◌∷◌, ◌++◌, length, set, slice_index, replicate, refl, sym, ap, ◌∙◌, arith, subst, ⊎_elim}
+use Rattle.std.proofs.Common.{◌≡◌, ◌≢◌, ◌≤◌, ◌<◌, ◌%◌, ◌^◌, ◌*◌, ℕ, zero, suc, ◌+◌, List, [], ◌∷◌, length, set, slice_index, replicate, refl, sym, ap, ◌∙◌, arith, subst, ⊎_elim}
 use mathlib.Core.Option.{none, some, some-ne-none, some-injective}
 use lib.ListN.{get_elem?}
 use Rattle.std.proofs.lemmas.List.{length-set}
-use Rattle.atomic_table.specs.Table.{State, Act, Allows, Joins, Splits, opening, step, keeps}
+use Rattle.atomic_table.specs.Table.{Allows, Joins, Splits, opening, step, keeps}
 use Rattle.atomic_table.proofs.Lists.{at_set}
 use Rattle.deal.specs.declared.part.Part.{Part}
 use Rattle.deal.specs.Totals.{total, Each}
 use Rattle.deal.specs.Tallies.{Sheet, Tallied, AreSeatsOf, fresh_seat}
-use Rattle.deal.specs.Parts.{part, no_part, first_part, less_a_seat, seat_part, both_parts, zeros, sums, greater, FitsTally, IsSummed, Adding, Seeing}
+use Rattle.deal.specs.Parts.{part, no_part, first_part, less_a_seat, seat_part, both_parts, zeros, FitsTally, IsSummed, Adding, Seeing}
 use Rattle.deal.proofs.Members.{all_of_each}
 use Rattle.deal.proofs.Sums.{total_set, total_append, total_at, total_lone, each_set, each_snoc}
 use Rattle.deal.proofs.Once.{same_or}

@@ -1,5 +1,5 @@
 -- How a number of points is cut into blocks.
-use Rattle.std.specs.Prelude.{◌≡◌, ◌≢◌, ℕ, zero, suc, ◌+◌, ◌/◌, ◌%◌, ◌<◌, ◌^◌, List, [], ◌∷◌, ◌++◌, length, slice_index, sum, take, replicate}
+use Rattle.std.specs.Prelude.{◌≡◌, ◌≢◌, ℕ, zero, suc, ◌/◌, ◌%◌, ◌<◌, ◌^◌, List, [], ◌∷◌, ◌++◌, length, slice_index, sum, take, replicate}
 use Rattle.deal.specs.declared.division.BadDivision.{BadDivision}
 use Rattle.deal.specs.declared.division.BadDivision.TheVariants.{ZeroLength, WrongSum}
 

@@ -2,7 +2,7 @@
 --
 -- A schedule is the order in which the atomic steps of all threads come: a push, a pop, a steal, and a load or an add of one word. No promise
 -- names one. Each speaks of the values before and after a call of its own thread, and the steps of other threads may come between any two of its own.
-use Rattle.std.specs.Prelude.{◌≡◌, ℕ, zero, suc, ◌+◌, ◌%◌, ◌<◌, ◌≤◌, List, [], ◌∷◌, ◌++◌, length, map, All, ◌==◌, ◌⊎◌, if◌then◌else◌}
+use Rattle.std.specs.Prelude.{◌≡◌, ℕ, zero, suc, ◌%◌, ◌<◌, ◌≤◌, List, [], ◌∷◌, ◌++◌, length, map, All, ◌==◌, ◌⊎◌, if◌then◌else◌}
 use Rattle.atomic_table.specs.Seated.{TableId}
 use Rattle.deal.specs.Totals.{times, range}
 use Rattle.deal.specs.Divisions.{IsBlock}

@@ -1,5 +1,5 @@
 -- What tallies and their seats stand for, and what their calls promise, whatever other seats do at the same time.
-use Rattle.std.specs.Prelude.{◌≡◌, ℕ, ◌+◌, ◌<◌, ◌≤◌, List, [], ◌∷◌, length, All, slice_index, slice_set}
+use Rattle.std.specs.Prelude.{◌≡◌, ℕ, ◌+◌, ◌<◌, ◌≤◌, List, length, All, slice_index, slice_set}
 use Rattle.atomic_table.specs.Seated.{TableId}
 use Rattle.deal.specs.Totals.{total, Each}
 use Rattle.deal.specs.Parts.{zeros}

@@ -1,8 +1,8 @@
-use Rattle.std.proofs.Common.{◌≡◌, ◌<◌, ◌+◌, ◌-◌, ◌++◌, [], ◌∷◌, List, ℕ, length, map, vec_len, refl, sym, ap, ◌∙◌, subst, arith}
+use Rattle.std.proofs.Common.{◌≡◌, ◌+◌, ◌-◌, ◌∷◌, length, map, vec_len, sym, ap, ◌∙◌, subst, arith}
 use Rattle.deal.specs.Totals.{range}
-use Rattle.deal.specs.Dealing.{AreHands, IsHand}
+use Rattle.deal.specs.Dealing.{AreHands}
 use Rattle.deal.specs.Lanes.{IsDealer, IsSomeHand, game, opened}
-use Rattle.deal.specs.Sharing.{Sight, Game, fresh}
+use Rattle.deal.specs.Sharing.{Sight, fresh}
 use Rattle.crossbeam_deque.specs.Handles.{worker_view}
 use Rattle.deal.specs.declared.count.Mark.{Mark}
 use Rattle.deal.specs.declared.shared.Shared.{Shared}

@@ -1,6 +1,5 @@
-use Rattle.std.proofs.Common.{append-nil, sym, refl, subst, arith, List, ℕ, ◌++◌, [], take, length}
+use Rattle.std.proofs.Common.{arith}
 use Rattle.std.specs.Prelude.{slice_index}
-use Rattle.deal.specs.Closing.{IsMarked, Marks}
 use Rattle.deal.proofs.Gathering.{times_at, marks_more, marks_all}
 use Rattle.deal.proofs.deal.mark_list.Goals as goal
 

@@ -1,10 +1,10 @@
-use Rattle.std.proofs.Common.{◌≡◌, ◌≤◌, ◌+◌, ◌++◌, ◌∷◌, [], List, append_assoc, append-nil, length, length-append, reverse, vec_len, sym, refl, ap, ◌∙◌, subst, arith}
+use Rattle.std.proofs.Common.{◌≡◌, ◌≤◌, ◌++◌, ◌∷◌, [], List, append_assoc, length, length-append, reverse, sym, refl, ap, ◌∙◌, subst, arith}
 use Rattle.std.proofs.lemmas.List.{reverse-append}
 use Rattle.deal.specs.Totals.{Each}
-use Rattle.deal.specs.Marks.{IsAmong, mark}
+use Rattle.deal.specs.Marks.{IsAmong}
 use Rattle.std.specs.List.{concat}
 use Rattle.deal.specs.Sharing.{Sight, SomeHasSeenAll, lists_of}
-use Rattle.deal.specs.Closing.{HasBack, items_of}
+use Rattle.deal.specs.Closing.{items_of}
 use Rattle.deal.specs.declared.count.Mark.{Mark}
 use Rattle.deal.proofs.Gathering.{reverse_twice, none_back, back_more, all_back, lists_last, items_last, none_left}
 use Rattle.deal.proofs.Members.{each_middle}

@@ -1,9 +1,8 @@
-use Rattle.std.proofs.Common.{◌≡◌, ◌<◌, ◌%◌, ◌-◌, ◌+◌, length, set, vec_len, refl, sym, ap, ◌∙◌, subst, arith}
+use Rattle.std.proofs.Common.{◌≡◌, ◌%◌, ◌+◌, set, vec_len, refl, sym, ap, ◌∙◌, subst, arith}
 use Rattle.std.proofs.Math.Nat.{mod-lt}
 use mathlib.Core.Option.{some}
 use lib.ListN.{get_elem?}
 use Rattle.atomic_table.proofs.Lists.{at_index}
-use Rattle.deal.specs.Totals.{range}
 use Rattle.deal.specs.Marks.{mark, without_first, others_of}
 use Rattle.deal.specs.Dealing.{AreDealt}
 use Rattle.deal.specs.declared.hand.Hand.{Hand}

@@ -1,4 +1,4 @@
-use Rattle.std.proofs.Common.{sym, ap, ◌∙◌, subst, arith}
+use Rattle.std.proofs.Common.{sym, subst, arith}
 use Rattle.deal.specs.Dealing.{AreDealt}
 use Rattle.deal.specs.declared.hand.Hand.{Hand}
 use Rattle.deal.proofs.LogMoves.{begins}

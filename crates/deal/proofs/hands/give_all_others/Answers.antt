@@ -1,5 +1,5 @@
-use Rattle.std.proofs.Common.{◌≡◌, ◌+◌, ◌*◌, vec_len, refl, sym, ap, ◌∙◌, subst, arith}
-use Rattle.deal.specs.Dealing.{AreHands, HasHands, KeepsHands}
+use Rattle.std.proofs.Common.{◌+◌, ◌*◌, vec_len, sym, ◌∙◌, subst, arith}
+use Rattle.deal.specs.Dealing.{HasHands, KeepsHands}
 use Rattle.deal.proofs.HandMoves.{hands_more}
 use Rattle.deal.proofs.hands.give_all_others.Goals as goal
 

@@ -1,4 +1,4 @@
-use Rattle.std.proofs.Common.{◌≡◌, vec_len, sym, ap, ◌∙◌, subst, arith}
+use Rattle.std.proofs.Common.{◌≡◌, vec_len, sym, ◌∙◌, subst, arith}
 use Rattle.deal.specs.Dealing.{AreDealt, AreHands}
 use Rattle.deal.proofs.HandMoves.{dealt_hands}
 use Rattle.deal.proofs.hands.make_hands.Goals as goal

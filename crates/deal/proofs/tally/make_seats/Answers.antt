@@ -1,4 +1,4 @@
-use Rattle.std.proofs.Common.{◌≡◌, ◌∙◌, ap, arith, slice_index}
+use Rattle.std.proofs.Common.{◌∙◌, ap, arith, slice_index}
 use Rattle.deal.specs.declared.part.Part.{Part}
 use Rattle.deal.proofs.TallyMoves.{nothing, splits}
 use Rattle.deal.proofs.tally.make_seats.Goals as goal

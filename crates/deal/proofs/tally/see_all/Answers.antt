@@ -1,4 +1,4 @@
-use Rattle.std.proofs.Common.{◌≡◌, ◌∙◌, ◌<◌, sym, ap, subst, arith, slice_index}
+use Rattle.std.proofs.Common.{◌∙◌, ◌<◌, ap, arith, slice_index}
 use Rattle.std.proofs.lemmas.List.{length-set}
 use Rattle.deal.proofs.Places.{set_other}
 use Rattle.deal.proofs.TallyMoves.{sees_more, sums_more}

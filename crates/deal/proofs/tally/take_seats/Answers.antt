@@ -1,5 +1,4 @@
 use Rattle.std.proofs.Common.{◌≡◌, ◌∙◌, ◌++◌, ◌∷◌, [], List, length, length-append, sym, ap, subst, arith, slice_index}
-use Rattle.deal.specs.Totals.{Each}
 use Rattle.deal.specs.Tallies.{Tallied, AreEachOf, AtMost, NoneSawMore, added_in, sheet}
 use Rattle.deal.proofs.Members.{each_left, each_last}
 use Rattle.deal.proofs.Sums.{total_append}

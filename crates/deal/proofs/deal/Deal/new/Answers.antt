@@ -1,4 +1,4 @@
-use Rattle.std.proofs.Common.{◌≡◌, ◌<◌, List, length, vec_len, sym, ap, ◌∙◌, subst, arith}
+use Rattle.std.proofs.Common.{◌≡◌, List, length, vec_len, sym, ap, ◌∙◌, subst, arith}
 use Rattle.deal.specs.Dealing.{AreHands}
 use Rattle.deal.specs.declared.count.Size.{Size}
 use Rattle.deal.specs.declared.shared.Shared.{Shared}

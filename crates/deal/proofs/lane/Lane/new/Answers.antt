@@ -1,5 +1,5 @@
-use Rattle.std.proofs.Common.{◌≡◌, length, sym, ap, ◌∙◌, arith}
-use Rattle.deal.specs.Marks.{IsShareOf, lane_mark}
+use Rattle.std.proofs.Common.{length, sym, ap, ◌∙◌, arith}
+use Rattle.deal.specs.Marks.{IsShareOf}
 use Rattle.deal.specs.declared.count.Mark.{Mark}
 use Rattle.deal.specs.declared.shared.Shared.{Shared}
 use Rattle.atomic_table.specs.Table.{Me}

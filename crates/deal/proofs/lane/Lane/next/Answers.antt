@@ -1,11 +1,10 @@
-use Rattle.std.proofs.Common.{◌≡◌, ◌<◌, ◌≤◌, ◌+◌, max, ◌++◌, [], ◌∷◌, List, ℕ, length, sym, refl, ap, ◌∙◌, arith, subst}
+use Rattle.std.proofs.Common.{◌≡◌, ◌++◌, [], ◌∷◌, length, sym, ap, ◌∙◌, arith, subst}
 use Rattle.crossbeam_deque.specs.Handles.{worker_view}
 use Rattle.deal.specs.declared.count.Mark.{Mark}
-use Rattle.deal.specs.Marks.{IsShareOf, IsAmong}
+use Rattle.deal.specs.Marks.{IsShareOf}
 use Rattle.deal.specs.Lanes.{IsLane, Took, game, sight}
 use Rattle.deal.specs.Totals.{times}
 use Rattle.deal.specs.Sharing.{Sight, Goes, MatchNext, IsTheBlock}
-use Rattle.deal.specs.declared.next.Next.TheVariants.{Empty, Again}
 use Rattle.deal.proofs.LaneMoves.{after_block, alone, answers_block}
 use Rattle.deal.proofs.Once.{last_below, last_new}
 use Rattle.deal.proofs.lane.Lane.next.Goals as goal

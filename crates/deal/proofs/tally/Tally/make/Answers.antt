@@ -1,5 +1,5 @@
-use Rattle.std.proofs.Common.{◌≡◌, List, replicate, sym, subst}
-use Rattle.deal.specs.Tallies.{Sheet, Tallied, AreSeatsOf, fresh_seat, sheet}
+use Rattle.std.proofs.Common.{List, sym, subst}
+use Rattle.deal.specs.Tallies.{Sheet, Tallied, AreSeatsOf, sheet}
 use Rattle.deal.proofs.TallyMoves.{fresh_seats_are}
 use Rattle.deal.proofs.tally.Tally.make.Goals as goal
 

@@ -1,4 +1,4 @@
-use Rattle.std.proofs.Common.{◌≡◌, ◌∙◌, sym, ap, arith, slice_index}
+use Rattle.std.proofs.Common.{◌≡◌, ◌∙◌, ap, arith, slice_index}
 use Rattle.deal.specs.declared.part.Part.{Part}
 use Rattle.deal.specs.Tallies.{Sheet, Tallied}
 use Rattle.deal.proofs.Places.{sums_at, greater_at}
