@@ -11,6 +11,6 @@ mkdir "$copy/crates"
 cp -r "$root/crates/deal" "$copy/crates/deal"
 cp -r "$root/bench/deal" "$copy/crates/deal_bench"
 cp "$root/HANDLES" "$copy/"
-grep '^deal:' "$root/crates.txt" >"$copy/crates.txt"
+grep '^deal ' "$root/crates.txt" >"$copy/crates.txt"
 echo 'deal_bench: deal' >>"$copy/crates.txt"
 cd "$copy/crates/deal_bench" && rt run
