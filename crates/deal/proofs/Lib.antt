@@ -1,0 +1,10 @@
+pub mod Counting
+pub mod Gathering
+pub mod HandMoves
+pub mod LaneMoves
+pub mod LogMoves
+pub mod Members
+pub mod Once
+pub mod Places
+pub mod Sums
+pub mod TallyMoves

@@ -1,0 +1,11 @@
+pub mod Closing
+pub mod Dealing
+pub mod Divisions
+pub mod Lanes
+pub mod Logs
+pub mod Marks
+pub mod Parts
+pub mod Reaches
+pub mod Sharing
+pub mod Tallies
+pub mod Totals

@@ -1,0 +1,29 @@
+-- Sums over lists, and how often a number stands in one.
+use Rattle.std.specs.Prelude.{ℕ, zero, suc, ◌+◌, ◌≡◌, List, [], ◌∷◌, ◌==◌, nat_lt, if◌then◌else◌}
+
+-- f of each, added up
+abbrev pub total : {V : Type 0} → (V → ℕ) → List V → ℕ
+total f [] = 0
+total f (v ∷ vs) = f v + total f vs
+
+-- n numbers, from the first on
+abbrev pub range : ℕ → ℕ → List ℕ
+range first zero = []
+range first (suc n) = first ∷ range (first + 1) n
+
+-- P of each
+abbrev pub Each : {V : Type 0} → (V → Type 0) → List V → Type 0
+Each P [] = Unit {0}
+Each P (v ∷ vs) = P v × Each P vs
+
+-- 1 at x, and 0 elsewhere
+abbrev pub one_at : ℕ → ℕ → ℕ
+one_at x y = if y == x then 1 else 0
+
+-- how often x stands in a list
+abbrev pub times : ℕ → List ℕ → ℕ
+times x xs = total (one_at x) xs
+
+-- each number below n stands in the list once, and no other number does
+abbrev pub HasEachOnce : ℕ → List ℕ → Type 0
+HasEachOnce n xs = (x : ℕ) → times x xs ≡ (if nat_lt x n then 1 else 0)

@@ -1,0 +1,28 @@
+//! Blocks of work that several lanes take, each in a thread of its own, and counts that they all
+//! add to.
+#![tactic(auto)]
+
+mod count;
+mod deal;
+mod dealt;
+mod division;
+mod hand;
+mod hands;
+mod lane;
+mod log;
+mod memory;
+mod next;
+mod part;
+mod reach;
+mod shared;
+mod tally;
+#[cfg(test)]
+mod tests;
+mod words;
+
+pub use deal::{Closed, Deal};
+pub use division::{BadDivision, Division};
+pub use lane::Lane;
+pub use memory::Memory;
+pub use next::Next;
+pub use tally::{Counts, KINDS, SeatsMissing, Tally, TallySeat};
