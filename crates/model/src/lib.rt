@@ -5,7 +5,6 @@
 mod app;
 mod event;
 mod ids;
-mod laws;
 mod limits;
 mod loops;
 mod op;
@@ -16,7 +15,6 @@ mod script;
 pub use app::{App, TaskDefinition};
 pub use event::{End, Event, What};
 pub use ids::{HandlerId, TaskId};
-pub use laws::states_are_sound;
 pub use limits::{Limits, Meter};
 pub use loops::Loop;
 pub use op::Op;

@@ -7,8 +7,8 @@ pub enum Op {
     Work(u32),
     /// Sleeps for this many ticks, 0 to 4,294,967,295 (`vTaskDelay`); for 0 it gives way to its equals and doesn't sleep.
     Delay(u32),
-    /// Sleeps until so many ticks after the last such moment, 1 to 4,294,967,295 (`xTaskDelayUntil`); goes on at once where
-    /// that moment is not still to come (profile: FreeRTOS gives way to equals then).
+    /// Sleeps until so many ticks after the time from which it counts, 1 to 4,294,967,295 (`xTaskDelayUntil`); goes on at
+    /// once where that is not still to come (profile: FreeRTOS gives way to equals then).
     DelayUntil(u32),
     /// Gives way to the tasks of equal priority (`taskYIELD`).
     Yield,
