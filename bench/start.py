@@ -1,0 +1,30 @@
+#!/usr/bin/env python3
+"""Times a start of bin/rtosim that finds the program to be the one that the sources make: start.py
+
+Prints the best and the median wall time of twenty starts for --version, and what the program takes alone."""
+import os
+import statistics
+import subprocess
+import time
+
+ROOT = os.path.dirname(os.path.dirname(os.path.realpath(__file__)))
+STARTS = 20
+
+
+def seconds_of(program):
+    """The wall time of one start."""
+    before = time.perf_counter()
+    subprocess.run([program, "--version"], stdout=subprocess.DEVNULL, check=True)
+    return time.perf_counter() - before
+
+
+def main():
+    for name in ("bin/rtosim", "crates/rtosim/out/rtosim"):
+        program = f"{ROOT}/{name}"
+        seconds_of(program)
+        taken = [1000 * seconds_of(program) for _ in range(STARTS)]
+        print(f"{name:<26} best {min(taken):6.1f} ms  median {statistics.median(taken):6.1f} ms")
+
+
+if __name__ == "__main__":
+    main()
