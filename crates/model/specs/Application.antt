@@ -1,7 +1,10 @@
 -- An application, as its file has it.
 use Rattle.std.specs.Prelude.{ℕ, ◌≤◌, List, [], length, Option, slice_get, option_map, unwrap_or, codes}
+use Rattle.model.specs.declared.object.ObjectKind.{ObjectKind}
+use Rattle.model.specs.declared.op.Access.{Access}
+use Rattle.model.specs.declared.op.Access.TheVariants.{Send, SendFront, Overwrite, Receive, Peek}
 use Rattle.model.specs.declared.op.Op.{Op}
-use Rattle.model.specs.declared.op.Op.TheVariants.{Work, Delay, DelayUntil, Yield, Time, Mark, Expect, Repeat, End}
+use Rattle.model.specs.declared.op.Op.TheVariants.{Work, Delay, DelayUntil, Yield, Time, Mark, Expect, Repeat, End, Await, Do, MessagesWaiting, SpacesAvailable}
 
 -- a task of the file
 pub record Definition : Type 0 where
@@ -23,6 +26,7 @@ pub record Application : Type 0 where
   -- the time at reset
   pub start : ℕ
   pub limits : Limits
+  pub objects : List ObjectKind
   pub tasks : List Definition
 
 -- the task of this number, as the file has it
@@ -45,6 +49,14 @@ op_count app task = length (script_of app task)
 abbrev pub name_of : Application → ℕ → List ℕ
 name_of app task = unwrap_or (option_map (λ (d : Definition). d.name) (definition_of app task)) []
 
+-- the first word of a call's text
+abbrev pub word_of_access : Access → List ℕ
+word_of_access (Send item) = codes "send"
+word_of_access (SendFront item) = codes "send_front"
+word_of_access (Overwrite item) = codes "overwrite"
+word_of_access Receive = codes "receive"
+word_of_access Peek = codes "peek"
+
 -- the first word of an op's text
 abbrev pub word_of : Op → List ℕ
 word_of (Work n) = codes "work"
@@ -56,3 +68,7 @@ word_of (Mark n) = codes "mark"
 word_of (Expect a) = codes "expect"
 word_of (Repeat n) = codes "repeat"
 word_of End = codes "end"
+word_of (Await object access ticks) = word_of_access access
+word_of (Do object access) = word_of_access access
+word_of (MessagesWaiting object) = codes "waiting"
+word_of (SpacesAvailable object) = codes "spaces"

@@ -1,12 +1,19 @@
 -- What is true of every state that a run comes to, by the definitions alone.
-use Rattle.std.specs.Prelude.{◌≡◌, ◌<◌, ◌≤◌, ℕ, ◌+◌, List, [], ◌∷◌, Option, Some, length, drop, slice_get, IfSome}
+use Rattle.std.specs.Prelude.{◌≡◌, ◌<◌, ◌≤◌, ℕ, ◌+◌, Bool, true, false, List, [], ◌∷◌, Option, Some, None, length, drop, slice_get, IfSome}
 use Rattle.std.specs.List.{AllByRecursion}
 use Rattle.model.specs.declared.op.Op.{Op}
-use Rattle.model.specs.declared.op.Op.TheVariants.{Work}
+use Rattle.model.specs.declared.op.Op.TheVariants.{Work, Await}
+use Rattle.model.specs.declared.call.CallProgress.{CallProgress}
+use Rattle.model.specs.declared.call.Phase.{Phase}
+use Rattle.model.specs.declared.call.Phase.TheVariants.{Start, Try, Decide, Place, Unlock, Leave}
+use Rattle.model.specs.declared.call.WaitList.{WaitList}
 use Rattle.model.specs.declared.loops.Loop.{Loop}
-use Rattle.model.specs.Application.{Application, script_of}
+use Rattle.model.specs.Application.{Application, script_of, op_at}
 use Rattle.model.specs.Scripts.{Nests}
-use Rattle.model.specs.State.{State, Task, Progress, Status, Ready, Asleep, Ended, ticket_of, status_at, progress_at}
+use Rattle.model.specs.State.{State, Task, Progress, Object, Status, Wait, Asleep, Ended, wait_of, wait_if_awake, ticket_of, task_at, status_at, progress_at, call_at, object_at}
+use Rattle.model.specs.Switching.{is_ready}
+use Rattle.model.specs.Waiting.{is_locked}
+use Rattle.model.specs.Objects.{list_for}
 
 -- The task's ticket, if it has one, is below the next.
 abbrev pub HasTicketBelow : ℕ → Status → Type 0
@@ -32,12 +39,11 @@ abbrev pub LoopsNest : List Op → List Loop → Type 0
 LoopsNest script [] = Unit {0}
 LoopsNest script (l ∷ ls) = Nests (length (l ∷ ls)) (drop l.start script) × LoopsNest script ls
 
--- The time from which a Ready task's `delay_until` counts is not after now, and that of a sleeper not after the end of its
--- sleep.
+-- The time from which a task's `delay_until` counts is not after now, and that of a sleeper not after the end of its sleep.
 abbrev pub IsReckoned : ℕ → ℕ → Status → Type 0
-IsReckoned now previous_wake (Ready ticket) = previous_wake ≤ now
 IsReckoned now previous_wake (Asleep wake_time ticket) = previous_wake ≤ wake_time
 IsReckoned now previous_wake Ended = Unit {0}
+IsReckoned now previous_wake _ = previous_wake ≤ now
 
 -- A task is somewhere in its script, at a time.
 pub record IsAt (now : ℕ) (script : List Op) (p : Progress) (status : Status) : Type 0 where
@@ -46,10 +52,91 @@ pub record IsAt (now : ℕ) (script : List Op) (p : Progress) (status : Status) 
   pub used : IsUsedBy p.used (slice_get script p.op_index)
   pub reckoned : IsReckoned now p.previous_wake status
 
--- what every state of a run is
-pub record IsState (app : Application) (s : State) : Type 0 where
+-- ---- calls
+
+-- whether a call holds the scheduler, and which object it has locked
+pub record Hold : Type 0 where
+  pub held : Bool
+  pub locked : Option ℕ
+
+-- that of a state
+abbrev pub hold_of : State → Hold
+hold_of s = record { held = s.call_hold; locked = s.locked }
+
+-- A task may be in this phase of this op: in Place and Unlock its object is locked, and in Leave none is.
+abbrev pub IsPhaseOf : Hold → Option Op → Phase → Type 0
+IsPhaseOf hold op Start = Unit {0}
+IsPhaseOf hold (Some (Await object access ticks)) Try = Unit {0}
+IsPhaseOf hold (Some (Await object access ticks)) Decide = Unit {0}
+IsPhaseOf hold (Some (Await object access ticks)) Place = (hold.held ≡ true) × (hold.locked ≡ Some object)
+IsPhaseOf hold (Some (Await object access ticks)) Unlock = (hold.held ≡ true) × (hold.locked ≡ Some object)
+IsPhaseOf hold (Some (Await object access ticks)) Leave = (hold.held ≡ true) × (hold.locked ≡ None)
+IsPhaseOf hold op phase = ⊥
+
+-- the list in which a task waits in this op
+abbrev pub list_of_op : Option Op → Option WaitList
+list_of_op (Some (Await object access ticks)) = Some (list_for object access)
+list_of_op _ = None
+
+-- A wait is that of this op, and of the call that has this deadline.
+pub record IsWaitOf (op : Option Op) (until : Option ℕ) (wait : Wait) : Type 0 where
+  pub list : list_of_op op ≡ Some wait.list
+  pub deadline : wait.deadline ≡ until
+
+-- A task's status, its call and its op fit, at a time.
+pub record IsCall (hold : Hold) (now : ℕ) (op : Option Op) (t : Task) : Type 0 where
+  pub phase : IsPhaseOf hold op t.progress.call.phase
+  pub wait : IfSome (wait_of t.status) (λ w. IsWaitOf op t.progress.call.deadline w)
+  -- it was woken through the locked object
+  pub awake : IfSome (wait_if_awake t.status) (λ w. is_locked hold.locked w.list ≡ true)
+  -- a deadline is less than 2^32 ticks away
+  pub near : IfSome t.progress.call.deadline (λ deadline. deadline < now + 4294967296)
+
+-- ---- the whole
+
+-- An object holds no more than it has room for.
+abbrev pub IsObject : Object → Type 0
+IsObject o = length o.items ≤ o.size
+
+-- what every deed keeps, while this is held and locked
+pub record IsSound (app : Application) (hold : Hold) (s : State) : Type 0 where
   pub table : IsTable s
   pub tasks : length s.tasks ≡ length app.tasks
+  pub objects : length s.objects ≡ length app.objects
   pub progress : (task : ℕ) → IsAt s.time (script_of app task) (progress_at s task) (status_at s task)
+  pub calls : (task : ℕ) → IsCall hold s.time (op_at app task (progress_at s task).op_index) (task_at s task)
+  pub contents : (object : ℕ) → IsObject (object_at s object)
   -- the time is the start and the elapsed ticks
   pub time : s.time ≡ app.start + s.elapsed
+
+-- In these phases a call holds the scheduler.
+abbrev pub holds : Phase → Bool
+holds Place = true
+holds Unlock = true
+holds Leave = true
+holds _ = false
+
+-- A task that is to be placed has begun to wait, with the priority that it has, and its deadline is still to come.
+abbrev pub IsPlacing : ℕ → Task → Option Wait → Type 0
+IsPlacing now t None = ⊥
+IsPlacing now t (Some w) = (t.progress.call.list ≡ Some w.list) × (w.priority ≡ t.priority) × IfSome w.deadline (λ deadline. now < deadline)
+
+-- A task runs: it holds the scheduler where a call does, and else it is Ready.
+pub record IsRunning (s : State) (task : ℕ) : Type 0 where
+  pub holding : holds (call_at s task).phase ≡ s.call_hold
+  pub ready : s.call_hold ≡ false → is_ready s task ≡ true
+  pub placing : (call_at s task).phase ≡ Place → IsPlacing s.time (task_at s task) (wait_of (status_at s task))
+
+-- Who runs, and what is held, fit: idle holds nothing.
+abbrev pub Runs : State → Option ℕ → Type 0
+Runs s None = s.call_hold ≡ false
+Runs s (Some task) = IsRunning s task
+
+-- what every state of a run is
+pub record IsState (app : Application) (s : State) : Type 0 where
+  pub sound : IsSound app (hold_of s) s
+  pub runs : Runs s s.current
+  -- nobody else is in a phase that holds the scheduler
+  pub alone : (task : ℕ) → holds (call_at s task).phase ≡ true → s.current ≡ Some task
+  -- what is locked is locked by a call that holds the scheduler
+  pub locked : s.call_hold ≡ false → s.locked ≡ None

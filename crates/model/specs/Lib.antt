@@ -3,8 +3,11 @@ pub mod Scripts
 pub mod State
 pub mod Order
 pub mod Switching
+pub mod Waiting
 pub mod Time
 pub mod Ops
+pub mod Objects
+pub mod Calls
 pub mod Step
 pub mod Run
 pub mod Invariant

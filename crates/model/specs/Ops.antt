@@ -1,11 +1,11 @@
 -- Where a task is in its script: an op is complete, a call answers, loops turn.
-use Rattle.std.specs.Prelude.{ℕ, ◌+◌, ◌-◌, ◌==◌, List, [], ◌∷◌, Option, Some, nat_lt, nat_le, nat_eq, if◌then◌else◌}
+use Rattle.std.specs.Prelude.{ℕ, ◌+◌, ◌-◌, ◌==◌, Bool, List, [], ◌∷◌, Option, Some, nat_lt, nat_le, nat_eq, if◌then◌else◌}
 use Rattle.std.specs.Option.{option_eq}
 use Rattle.model.specs.declared.loops.Loop.{Loop}
 use Rattle.model.specs.declared.event.What.TheVariants.{Call}
 use Rattle.model.specs.declared.event.End.TheVariants.{Check}
 use Rattle.model.specs.Application.{Application, op_count}
-use Rattle.model.specs.State.{State, Progress, Task, Ended, task_at, progress_at, with_task, with_progress}
+use Rattle.model.specs.State.{State, Progress, Task, Ended, no_call, task_at, progress_at, with_task, with_progress}
 use Rattle.model.specs.Switching.{write, yield_now}
 use Rattle.model.specs.Time.{sleep, set_previous_wake}
 
@@ -14,7 +14,7 @@ use Rattle.model.specs.Time.{sleep, set_previous_wake}
 -- the task at this op, of which nothing is done; past the last op, whatever that was, it is Ended (profile)
 abbrev pub moved_to : ℕ → ℕ → Progress → Task → Task
 moved_to count op_index p t = record t {
-  progress = record p { op_index = op_index; used = 0 };
+  progress = record p { op_index = op_index; used = 0; call = no_call };
   status = if op_index == count then Ended else t.status;
 }
 
@@ -31,6 +31,10 @@ unfoldable pub answer : Application → ℕ → Option ℕ → State → State
 answer app task a s =
     let p = progress_at s task in
     complete app task (record p { answer = a }) (write (Call task p.op_index a) s)
+
+-- the answer of a call that did something, or did nothing
+abbrev pub one_if : Bool → Option ℕ
+one_if did = Some (if did then 1 else 0)
 
 -- ---- ops that let time pass
 

@@ -1,8 +1,12 @@
 -- Which scripts and applications are well formed.
-use Rattle.std.specs.Prelude.{◌≡◌, ◌<◌, ◌≤◌, ℕ, ◌+◌, ◌-◌, ◌&&◌, nat_lt, nat_le, Bool, true, List, [], ◌∷◌, length}
+use Rattle.std.specs.Prelude.{◌≡◌, ◌<◌, ◌≤◌, ℕ, ◌+◌, ◌-◌, ◌&&◌, ◌==◌, nat_lt, nat_le, Bool, true, false, not, List, [], ◌∷◌, length, Option, Some, None, slice_get, option_map, unwrap_or}
 use Rattle.std.specs.List.{AllByRecursion}
+use Rattle.model.specs.declared.object.ObjectKind.{ObjectKind}
+use Rattle.model.specs.declared.object.ObjectKind.TheVariants.{Queue}
+use Rattle.model.specs.declared.op.Access.{Access}
+use Rattle.model.specs.declared.op.Access.TheVariants.{Send, SendFront, Overwrite, Receive, Peek}
 use Rattle.model.specs.declared.op.Op.{Op}
-use Rattle.model.specs.declared.op.Op.TheVariants.{Work, DelayUntil, Repeat, End}
+use Rattle.model.specs.declared.op.Op.TheVariants.{Work, DelayUntil, Repeat, End, Await, Do, MessagesWaiting, SpacesAvailable}
 use Rattle.model.specs.Application.{Application, Definition}
 
 -- ---- how many there may be (profile)
@@ -19,6 +23,14 @@ most_name_bytes = 16
 abbrev pub priorities : ℕ
 priorities = 32
 
+-- of objects of an application, of all kinds together
+abbrev pub most_objects : ℕ
+most_objects = 32
+
+-- of items of a queue
+abbrev pub most_items : ℕ
+most_items = 256
+
 -- of ops of a script
 abbrev pub most_ops : ℕ
 most_ops = 256
@@ -33,12 +45,18 @@ most_loops = 4
 abbrev pub is_within : ℕ → ℕ → ℕ → Bool
 is_within least most n = nat_le least n && nat_le n most
 
+-- The longest wait that isn't for ever is one tick less than `portMAX_DELAY`.
+abbrev pub is_wait : Option ℕ → Bool
+is_wait None = true
+is_wait (Some ticks) = nat_lt ticks 4294967295
+
 -- The numbers of an op are in their ranges (profile; of `delay_until` it is that of `xTaskDelayUntil`). A number that is
 -- not named here is any of 32 bits.
 abbrev pub is_in_range : Op → Bool
 is_in_range (Work n) = is_within 1 1000000 n
 is_in_range (DelayUntil n) = is_within 1 4294967295 n
 is_in_range (Repeat n) = is_within 1 1000 n
+is_in_range (Await object access ticks) = is_wait ticks
 is_in_range _ = true
 
 -- the same as a fact
@@ -86,7 +104,39 @@ pub record IsPrefix (ops : List Op) : Type 0 where
   pub nests : NestsSoFar 0 ops
   pub few : length ops ≤ most_ops
 
+-- ---- what an op speaks of
+
+-- A call may be made on an object of this kind; `overwrite` is for queues of length 1 (in `xQueueOverwrite`).
+abbrev pub fits : ObjectKind → Access → Bool
+fits (Queue size) (Overwrite item) = size == 1
+fits (Queue size) _ = true
+
+-- The application has the object, and it fits.
+abbrev pub fits_object : Application → ℕ → Access → Bool
+fits_object app object access = unwrap_or (option_map (λ kind. fits kind access) (slice_get app.objects object)) false
+
+-- It is a call that may wait.
+abbrev pub may_wait : Access → Bool
+may_wait (Overwrite item) = false
+may_wait _ = true
+
+-- The application has what the op speaks of.
+abbrev pub knows : Application → Op → Bool
+knows app (Await object access ticks) = fits_object app object access && may_wait access
+knows app (Do object access) = fits_object app object access && not (may_wait access)
+knows app (MessagesWaiting object) = fits_object app object Receive
+knows app (SpacesAvailable object) = fits_object app object Receive
+knows app _ = true
+
+-- the same as a fact, of all ops of a task
+abbrev pub KnowsAll : Application → Definition → Type 0
+KnowsAll app task = AllByRecursion (λ op. knows app op ≡ true) task.script
+
 -- ---- the application
+
+-- an object that an application may have (profile: its limits)
+abbrev pub IsObjectKind : ObjectKind → Type 0
+IsObjectKind (Queue size) = (1 ≤ size) × (size ≤ most_items)
 
 -- a task that an application may have (profile: its limits)
 pub record IsDefinition (task : Definition) : Type 0 where
@@ -99,4 +149,8 @@ pub record IsWellFormed (app : Application) : Type 0 where
   pub some : 1 ≤ length app.tasks
   pub few : length app.tasks ≤ most_tasks
   pub tasks : AllByRecursion IsDefinition app.tasks
+  pub objects : AllByRecursion IsObjectKind app.objects
+  pub few_objects : length app.objects ≤ most_objects
+  -- each op speaks of what there is
+  pub known : AllByRecursion (KnowsAll app) app.tasks
   pub start : app.start < 4294967296

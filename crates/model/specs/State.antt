@@ -1,17 +1,32 @@
 -- The kernel's state.
 --
--- Every entry to the ready list and every beginning of a sleep takes the next ticket. Tickets say who came first; the
--- code has none.
-use Rattle.std.specs.Prelude.{ℕ, ◌+◌, ◌%◌, List, Option, Some, None, [], slice_index_or, slice_set, fold}
+-- Every entry to the ready list and every beginning of a sleep or a wait takes the next ticket. Tickets say who came
+-- first; the code has none.
+use Rattle.std.specs.Prelude.{ℕ, ◌+◌, ◌%◌, Bool, List, Option, Some, None, [], slice_index_or, slice_set, fold}
+use Rattle.model.specs.declared.call.CallProgress.{CallProgress}
+use Rattle.model.specs.declared.call.Phase.{Phase}
+use Rattle.model.specs.declared.call.Phase.TheVariants.{Start}
+use Rattle.model.specs.declared.call.WaitList.{WaitList}
 use Rattle.model.specs.declared.loops.Loop.{Loop}
 use Rattle.model.specs.declared.event.Event.{Event}
 use Rattle.model.specs.declared.event.End.{End}
 
 -- ---- a task's status
 
+-- a wait: in which list, what orders the task there, and until when at most
+pub record Wait : Type 0 where
+  pub list : WaitList
+  -- the task's priority when the wait began
+  pub priority : ℕ
+  pub ticket : ℕ
+  pub deadline : Option ℕ
+
 -- what a task is doing
 pub data Status : Type 0 where
   Ready : (ticket : ℕ) → Status
+  -- woken through the locked queue, and Ready as soon as that is unlocked
+  Awake : (wait : Wait) → Status
+  Waiting : (wait : Wait) → Status
   Asleep : (wake_time ticket : ℕ) → Status
   Ended : Status
 
@@ -20,18 +35,38 @@ abbrev pub ticket_if_ready : Status → Option ℕ
 ticket_if_ready (Ready ticket) = Some ticket
 ticket_if_ready _ = None
 
+-- the wait of a Waiting task
+abbrev pub wait_if_waiting : Status → Option Wait
+wait_if_waiting (Waiting wait) = Some wait
+wait_if_waiting _ = None
+
+-- the wait that was an Awake task's
+abbrev pub wait_if_awake : Status → Option Wait
+wait_if_awake (Awake wait) = Some wait
+wait_if_awake _ = None
+
+-- the wait of a task that is Waiting or Awake
+abbrev pub wait_of : Status → Option Wait
+wait_of (Waiting wait) = Some wait
+wait_of (Awake wait) = Some wait
+wait_of _ = None
+
 -- the ticket that a task has
 abbrev pub ticket_of : Status → Option ℕ
 ticket_of (Ready ticket) = Some ticket
+ticket_of (Awake wait) = Some wait.ticket
+ticket_of (Waiting wait) = Some wait.ticket
 ticket_of (Asleep wake_time ticket) = Some ticket
 ticket_of _ = None
 
 -- the time at which a task wakes by itself, if there is one
 abbrev pub wake_time_of : Status → Option ℕ
 wake_time_of (Asleep wake_time ticket) = Some wake_time
+wake_time_of (Waiting wait) = wait.deadline
+wake_time_of (Awake wait) = wait.deadline
 wake_time_of _ = None
 
--- ---- tasks, and the whole
+-- ---- tasks, objects, and the whole
 
 -- where a task is in its script
 pub record Progress : Type 0 where
@@ -45,6 +80,7 @@ pub record Progress : Type 0 where
   pub answer : Option ℕ
   -- the time from which `delay_until` counts (`pxPreviousWakeTime`); at first the time at reset
   pub previous_wake : ℕ
+  pub call : CallProgress
 
 -- what the kernel keeps of a task
 pub record Task : Type 0 where
@@ -55,9 +91,17 @@ pub record Task : Type 0 where
   pub progress : Progress
   pub status : Status
 
+-- what the kernel keeps of a queue
+pub record Object : Type 0 where
+  -- how many items it holds at most (`uxLength`)
+  pub size : ℕ
+  -- the items, the first to leave first
+  pub items : List ℕ
+
 -- the whole of the kernel, between two steps
 pub record State : Type 0 where
   pub tasks : List Task
+  pub objects : List Object
   -- the time, without bound (`xTickCount`)
   pub time : ℕ
   -- the ticks since reset
@@ -65,6 +109,10 @@ pub record State : Type 0 where
   -- the running task, or idle (`pxCurrentTCB`)
   pub current : Option ℕ
   pub next_ticket : ℕ
+  -- the object that a call has locked
+  pub locked : Option ℕ
+  -- whether a call holds the scheduler (`uxSchedulerSuspended`)
+  pub call_hold : Bool
   -- the steps done
   pub steps : ℕ
   -- the end that a step has brought about by itself, as a failed `expect`
@@ -74,9 +122,13 @@ pub record State : Type 0 where
 
 -- ---- reading and writing it; a deed takes a state, its last argument, to the next
 
+-- a call that has not begun
+abbrev pub no_call : CallProgress
+no_call = record { phase = Start; deadline = None; list = None }
+
 -- at the first op, of which nothing is done
 abbrev pub no_progress : Progress
-no_progress = record { op_index = 0; used = 0; loops = []; answer = None; previous_wake = 0 }
+no_progress = record { op_index = 0; used = 0; loops = []; answer = None; previous_wake = 0; call = no_call }
 
 -- what stands where there is no task
 abbrev pub no_task : Task
@@ -94,6 +146,10 @@ status_at s task = (task_at s task).status
 abbrev pub progress_at : State → ℕ → Progress
 progress_at s task = (task_at s task).progress
 
+-- how far this task's call has come
+abbrev pub call_at : State → ℕ → CallProgress
+call_at s task = (progress_at s task).call
+
 -- The task is now as given.
 abbrev pub with_task : ℕ → Task → State → State
 with_task task t s = record s { tasks = slice_set s.tasks task t }
@@ -106,10 +162,30 @@ with_status task status s = with_task task (record (task_at s task) { status = s
 abbrev pub with_progress : ℕ → Progress → State → State
 with_progress task p s = with_task task (record (task_at s task) { progress = p }) s
 
+-- The task's call is now so far.
+abbrev pub with_call : ℕ → CallProgress → State → State
+with_call task call s = with_progress task (record (progress_at s task) { call = call }) s
+
+-- The task's call goes on with this phase.
+abbrev pub go_on : ℕ → Phase → State → State
+go_on task phase s = with_call task (record (call_at s task) { phase = phase }) s
+
 -- The task takes the next ticket, and gets the status that this makes of it.
 abbrev pub take_ticket : ℕ → (ℕ → Status) → State → State
 take_ticket task status s =
     record (with_status task (status s.next_ticket) s) { next_ticket = s.next_ticket + 1 }
+
+-- what stands where there is no object
+abbrev pub no_object : Object
+no_object = record { size = 0; items = [] }
+
+-- what the kernel keeps of this object
+abbrev pub object_at : State → ℕ → Object
+object_at s object = slice_index_or s.objects object no_object
+
+-- The object is now as given.
+abbrev pub with_object : ℕ → Object → State → State
+with_object object o s = record s { objects = slice_set s.objects object o }
 
 -- A deed is done with this one, if there is one.
 abbrev pub for_one : {A : Type 0} → (A → State → State) → Option A → State → State

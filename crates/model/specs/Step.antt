@@ -1,13 +1,16 @@
 -- One step of the kernel: what the running task's op does, or idle.
-use Rattle.std.specs.Prelude.{ℕ, ◌+◌, Bool, true, false, List, [], ◌∷◌, Option, Some, None, if◌then◌else◌, map}
+use Rattle.std.specs.Prelude.{ℕ, ◌+◌, ◌-◌, Bool, true, false, List, [], ◌∷◌, Option, Some, None, if◌then◌else◌, map, length}
+use Rattle.model.specs.declared.object.ObjectKind.{ObjectKind}
+use Rattle.model.specs.declared.object.ObjectKind.TheVariants.{Queue}
 use Rattle.model.specs.declared.op.Op.{Op}
-use Rattle.model.specs.declared.op.Op.TheVariants.{Work, Delay, DelayUntil, Yield, Time, Mark, Expect, Repeat, End}
+use Rattle.model.specs.declared.op.Op.TheVariants.{Work, Delay, DelayUntil, Yield, Time, Mark, Expect, Repeat, End, Await, Do, MessagesWaiting, SpacesAvailable}
 use Rattle.model.specs.declared.event.What.TheVariants as what
 use Rattle.model.specs.Application.{Application, Definition, op_at}
-use Rattle.model.specs.State.{State, Task, Ended, no_progress, progress_at, for_each, printed}
-use Rattle.model.specs.Switching.{write, make_ready, choice, yield_now, settle}
+use Rattle.model.specs.State.{State, Task, Object, Ended, no_progress, no_object, progress_at, call_at, object_at, for_each, printed}
+use Rattle.model.specs.Switching.{write, make_ready, choice, yield_now, settle, unless_held}
 use Rattle.model.specs.Time.{tick_interrupt}
 use Rattle.model.specs.Ops.{complete, answer, use_up, delay, delay_until, expect, open_loop, close_turn}
+use Rattle.model.specs.Calls.{await, do_now}
 
 -- what each op does; that yield answers 0, and all of mark, is profile
 abbrev pub act : Application → ℕ → Op → State → State
@@ -20,6 +23,11 @@ act app task (Mark n) s = complete app task (progress_at s task) (write (what.Ma
 act app task (Expect a) s = expect app task a s
 act app task (Repeat n) s = open_loop app task n s
 act app task End s = close_turn app task s
+act app task (Await object access ticks) s = await app task object access ticks (call_at s task).phase s
+act app task (Do object access) s = do_now app task object access s
+act app task (MessagesWaiting object) s = answer app task (Some (length (object_at s object).items)) s
+act app task (SpacesAvailable object) s =
+    let queue = object_at s object in answer app task (Some (queue.size - length queue.items)) s
 
 -- ---- a step
 
@@ -33,10 +41,11 @@ abbrev pub act_current : Application → Option ℕ → State → State
 act_current app None s = tick_interrupt s
 act_current app (Some task) s = act_if app task (op_at app task (progress_at s task).op_index) s
 
--- A step: the running task or idle acts, and where that leaves the running task not Ready, the choice runs.
+-- A step: the running task or idle acts, and where that leaves the running task not Ready, the choice runs, unless the
+-- scheduler is held.
 unfoldable pub step : Application → State → State
 step app s =
-    let t = settle (act_current app s.current (record s { log = [] })) in
+    let t = unless_held settle (act_current app s.current (record s { log = [] })) in
     record t { steps = s.steps + 1 }
 
 -- ---- reset
@@ -55,14 +64,21 @@ task_at_reset start d = record {
   status = Ended;
 }
 
+-- an object at reset: a queue is empty
+abbrev pub object_at_reset : ObjectKind → Object
+object_at_reset (Queue size) = record no_object { size = size }
+
 -- the kernel when no task has been Ready yet, and idle runs
 unfoldable pub nobody_ready : Application → State
 nobody_ready app = record {
   tasks = map (task_at_reset app.start) app.tasks;
+  objects = map object_at_reset app.objects;
   time = app.start;
   elapsed = 0;
   current = None;
   next_ticket = 0;
+  locked = None;
+  call_hold = false;
   steps = 0;
   stopped = None;
   log = [];

@@ -94,3 +94,13 @@ is_off s (Some task) = not (is_ready s task)
 -- A step that leaves the running task not Ready ends with the choice.
 unfoldable pub settle : State → State
 settle s = if is_off s s.current then choose s else s
+
+-- ---- the scheduler held
+
+-- The scheduler is held (`uxSchedulerSuspended` above 0).
+abbrev pub is_held : State → Bool
+is_held s = s.call_hold
+
+-- While the scheduler is held nothing switches (`vTaskSwitchContext` sets `xYieldPending` then).
+abbrev pub unless_held : (State → State) → State → State
+unless_held deed s = if is_held s then s else deed s

@@ -11,7 +11,7 @@ use Rattle.model.specs.Switching.{is_ready, make_ready, slice}
 abbrev pub delayed_key : Task → Option Key
 delayed_key t = if is_some (wake_time_of t.status) then option_map (key 0) (ticket_of t.status) else None
 
--- those who sleep, in the order in which they began; FreeRTOS orders its list by wake time (`pxDelayedTaskList`,
+-- those who sleep, or wait until a deadline, in the order in which they began; FreeRTOS orders its list by wake time (`pxDelayedTaskList`,
 -- `pxOverflowDelayedTaskList`)
 abbrev pub delayed_list : State → List Entry
 delayed_list s = list_by delayed_key s.tasks

@@ -1,8 +1,8 @@
 //! An application: its tasks, its limits, the time at reset.
-ghost use Rattle.std.specs.Prelude.{◌≡◌, ◌<◌, ◌≤◌, length, string_bytes};
+ghost use Rattle.std.specs.Prelude.{◌≡◌, ◌<◌, ◌≤◌, [], length, string_bytes};
 ghost use Rattle.std.specs.List.{AllByRecursion};
 ghost use Rattle.model.specs.Application.{op_at, op_count, name_of};
-ghost use Rattle.model.specs.Scripts.{IsScript, IsDefinition, IsWellFormed};
+ghost use Rattle.model.specs.Scripts.{IsScript, IsDefinition, IsWellFormed, KnowsAll};
 
 use crate::ids::TaskId;
 use crate::limits::Limits;
@@ -65,7 +65,7 @@ impl TaskDefinition {
     }
 }
 
-/// An application: what a run starts from. That it has 1 to 32 tasks is profile.
+/// An application: what a run starts from. That it has 1 to 32 tasks is profile. It has no objects yet.
 #[derive(Drop)]
 pub struct App {
     start: u32,
@@ -74,14 +74,15 @@ pub struct App {
 }
 
 impl Model for App {
+    ghost use Rattle.std.specs.Prelude.{[]};
     ghost use Rattle.model.specs.Application.{Application};
     ghost use Rattle.model.specs.Scripts.{IsWellFormed};
 
     ghost Value = { Application };
 
-    ghost view = { λ a. record { start = a.start; limits = a.limits; tasks = a.tasks.items } };
+    ghost view = { λ a. record { start = a.start; limits = a.limits; objects = []; tasks = a.tasks.items } };
 
-    ghost invariant = { λ a. IsWellFormed (record { start = a.start; limits = a.limits; tasks = a.tasks.items }) };
+    ghost invariant = { λ a. IsWellFormed (record { start = a.start; limits = a.limits; objects = []; tasks = a.tasks.items }) };
 }
 
 impl App {
@@ -90,7 +91,9 @@ impl App {
         requires some { 1 ≤ length tasks.items }
         requires few { length tasks.items ≤ 32 }
         requires formed { AllByRecursion IsDefinition tasks.items }
-        ensures { result ≡ record { start = start; limits = limits; tasks = tasks.items } }
+        requires known { AllByRecursion (KnowsAll (record { start = start; limits = limits; objects = []; tasks = tasks.items }))
+            tasks.items }
+        ensures { result ≡ record { start = start; limits = limits; objects = []; tasks = tasks.items } }
     {
         App {
             start,
@@ -101,7 +104,8 @@ impl App {
 
     /// Does nothing: its contract tells callers what holds of every application.
     pub fn well_formed(&self)
-        ensures { IsWellFormed self.now }
+        ensures formed { IsWellFormed self.now }
+        ensures none { self.now.objects ≡ [] }
     {
         let _ = &self.start;
     }

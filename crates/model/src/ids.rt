@@ -1,4 +1,4 @@
-//! Typed numbers: which task, which handler.
+//! Typed numbers: which task, which handler, which object.
 ghost use Rattle.std.specs.Prelude.{◌≡◌, ◌<◌, ◌↔◌, IsSome, IfSome};
 
 use std::marker::Model;
@@ -69,6 +69,39 @@ impl HandlerId {
     {
         if number < 16 {
             Some(HandlerId { number })
+        } else {
+            None
+        }
+    }
+}
+
+/// An object that tasks share, by its index among all of them: 0 to 31. Those of the file's first section come first.
+#[derive(Clone, Copy, Debug, PartialEq, Eq)]
+pub struct ObjectId {
+    pub number: u8,
+}
+
+// Clauses see the number.
+impl Model for ObjectId {
+    ghost use Rattle.std.specs.Prelude.{ℕ, ◌<◌};
+
+    ghost Value = { ℕ };
+
+    ghost view = { λ object. object.number };
+
+    ghost invariant = { λ object. object.number < 32 };
+
+    ghost inverse = { λ number. record { number = number } };
+}
+
+impl ObjectId {
+    /// The object of this index; `None` from 32 on.
+    pub fn new(number: u8) -> Option<Self>
+        ensures known { IsSome result ↔ (number < 32) }
+        ensures value { IfSome result (λ object. object ≡ number) }
+    {
+        if number < 32 {
+            Some(ObjectId { number })
         } else {
             None
         }

@@ -3,21 +3,25 @@
 #![tactic(auto)]
 
 mod app;
+mod call;
 mod event;
 mod ids;
 mod limits;
 mod loops;
+mod object;
 mod op;
 mod plan;
 mod run;
 mod script;
 
 pub use app::{App, TaskDefinition};
+pub use call::{CallProgress, Phase, WaitList};
 pub use event::{End, Event, What};
-pub use ids::{HandlerId, TaskId};
+pub use ids::{HandlerId, ObjectId, TaskId};
 pub use limits::{Limits, Meter};
 pub use loops::Loop;
-pub use op::Op;
+pub use object::ObjectKind;
+pub use op::{Access, Op};
 pub use plan::{BadPlan, Plan, Point};
 pub use run::{Memory, Run};
 pub use script::{NestingFault, Script, ScriptBuilder};

@@ -1,4 +1,38 @@
 //! The ops of a task's script.
+use crate::ids::ObjectId;
+
+/// What a call asks of an object.
+#[derive(Clone, Copy, Debug, PartialEq, Eq)]
+pub enum Access {
+    /// Puts an item last (`xQueueSend`).
+    Send(u32),
+    /// Puts an item first (`xQueueSendToFront`).
+    SendFront(u32),
+    /// Puts an item in place of the one of a queue of length 1 (`xQueueOverwrite`).
+    Overwrite(u32),
+    /// Takes the first item (`xQueueReceive`).
+    Receive,
+    /// Answers the first item and leaves it (`xQueuePeek`).
+    Peek,
+}
+
+impl Access {
+    ghost use Rattle.std.specs.Prelude.{◌≡◌};
+    ghost use Rattle.model.specs.Application.{word_of_access};
+
+    /// The first word of the call's text.
+    pub fn word(self) -> &'static str
+        ensures { result.now ≡ word_of_access self }
+    {
+        match self {
+            Access::Send(_) => "send",
+            Access::SendFront(_) => "send_front",
+            Access::Overwrite(_) => "overwrite",
+            Access::Receive => "receive",
+            Access::Peek => "peek",
+        }
+    }
+}
 
 /// An op of a task's script. The numbers are those of the op's text, in the ranges of docs/FORMATS.md.
 #[derive(Clone, Copy, Debug, PartialEq, Eq)]
@@ -22,6 +56,15 @@ pub enum Op {
     Repeat(u16),
     /// Ends a turn of the innermost loop (profile).
     End,
+    /// A call that waits until the object allows it, at most for so many ticks, 0 to 4,294,967,294; `None` is for ever
+    /// (`portMAX_DELAY`). It is one of send, send_front, receive and peek.
+    Await(ObjectId, Access, Option<u32>),
+    /// A call that doesn't wait: overwrite.
+    Do(ObjectId, Access),
+    /// Answers how many items are in a queue (`uxQueueMessagesWaiting`).
+    MessagesWaiting(ObjectId),
+    /// Answers for how many more items a queue has room (`uxQueueSpacesAvailable`).
+    SpacesAvailable(ObjectId),
 }
 
 impl Op {
@@ -42,6 +85,9 @@ impl Op {
             Op::Expect(_) => "expect",
             Op::Repeat(_) => "repeat",
             Op::End => "end",
+            Op::Await(_, access, _) | Op::Do(_, access) => access.word(),
+            Op::MessagesWaiting(_) => "waiting",
+            Op::SpacesAvailable(_) => "spaces",
         }
     }
 }

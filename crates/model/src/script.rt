@@ -46,6 +46,9 @@ impl Op {
     /// The most turns of a loop (profile).
     pub const MOST_TURNS: u16 = 1000;
 
+    /// The most ticks of a wait that isn't for ever: one less than `portMAX_DELAY`.
+    pub const MOST_WAIT: u32 = u32::MAX - 1;
+
     /// Whether its numbers are in their ranges.
     pub fn is_in_range(self) -> bool
         ensures { result ≡ is_in_range self }
@@ -54,16 +57,17 @@ impl Op {
             Op::Work(ticks) => 1 <= ticks && ticks <= Self::MOST_WORK,
             Op::DelayUntil(ticks) => 1 <= ticks,
             Op::Repeat(turns) => 1 <= turns && turns <= Self::MOST_TURNS,
+            Op::Await(_, _, Some(ticks)) => ticks <= Self::MOST_WAIT,
             _ => true,
         }
     }
 
     /// How many loops are open after it, where so many are open before it; `None` where it may not stand there: it opens a
     /// loop inside four, or ends one where none is open (profile).
-    pub fn nesting_past(self, nesting: u8) -> Option<u8>
-        ensures stands { IsSome result ↔ (may_stand nesting self ≡ true) }
-        ensures refused { IsNone result ↔ (may_stand nesting self ≡ false) }
-        ensures nesting { IfSome result (λ past. past ≡ nesting_past nesting self) }
+    pub fn nesting_past(&self, nesting: u8) -> Option<u8>
+        ensures stands { IsSome result ↔ (may_stand nesting self.now ≡ true) }
+        ensures refused { IsNone result ↔ (may_stand nesting self.now ≡ false) }
+        ensures nesting { IfSome result (λ past. past ≡ nesting_past nesting self.now) }
     {
         match self {
             Op::Repeat(_) if nesting < Script::MOST_LOOPS => Some(nesting + 1),

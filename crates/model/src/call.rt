@@ -1,0 +1,41 @@
+//! A call that may wait, and how far it has come.
+use crate::ids::ObjectId;
+
+/// The phases of a call that may wait. Each is one step of the kernel, so that an interrupt may come between any two
+/// (profile: FreeRTOS is interrupted between any two instructions outside its critical sections, which are these).
+#[derive(Clone, Copy, Debug, Default, PartialEq, Eq)]
+pub enum Phase {
+    /// The first try, from which the timeout counts.
+    #[default]
+    Start,
+    /// A later try.
+    Try,
+    /// The scheduler is held and the queue locked; the task begins to wait, if that is still due.
+    Decide,
+    /// The task is put into its waiting list.
+    Place,
+    /// The queue is unlocked.
+    Unlock,
+    /// The scheduler is held no more.
+    Leave,
+}
+
+/// A list in which tasks wait.
+#[derive(Clone, Copy, Debug, PartialEq, Eq)]
+pub enum WaitList {
+    /// For an item (`xTasksWaitingToReceive`).
+    ToReceive(ObjectId),
+    /// For room (`xTasksWaitingToSend`).
+    ToSend(ObjectId),
+}
+
+/// How far the call that a task is in has come.
+#[derive(Clone, Copy, Debug, Default, PartialEq, Eq)]
+pub struct CallProgress {
+    /// The phase that is next.
+    pub phase: Phase,
+    /// Until when it may wait, in ticks without bound; `None`: for ever.
+    pub deadline: Option<u64>,
+    /// The list in which it has begun to wait, until its hold of the scheduler ends.
+    pub list: Option<WaitList>,
+}
