@@ -1,42 +1,54 @@
 -- What a deed leaves as it was, as one record for each deed: a field more of the state is a field more here.
-use Rattle.std.proofs.Common.{◌≡◌, ◌≤◌, ◌+◌, ◌-◌, ◌||◌, ℕ, eqb, leb, ltb, List, [], ◌∷◌, Option, Some, None, refl, ◌∙◌, arith, length}
-use Rattle.std.specs.Option.{option_eq}
+use Rattle.std.proofs.Common.{◌≡◌, ◌≤◌, ◌+◌, ◌-◌, ◌||◌, ℕ, eqb, leb, ltb, List, [], ◌∷◌, ◌++◌, Option, Some, None, refl, sym, subst, ◌∙◌, arith, length}
+use Rattle.std.specs.Option.{option_eq, option_map, is_some}
 use Rattle.std.proofs.Math.ListN.{length-set}
 use Rattle.model.specs.declared.op.Op.{Op}
-use Rattle.model.specs.declared.op.Op.TheVariants.{Work, Delay, DelayUntil, Yield, Time, Mark, Expect, Repeat, End}
+use Rattle.model.specs.declared.op.Op.TheVariants.{Work, Delay, DelayUntil, Yield, Time, Mark, Expect, Repeat, End, Await, Do, MessagesWaiting, SpacesAvailable}
+use Rattle.model.specs.declared.op.Access.{Access}
+use Rattle.model.specs.declared.call.CallProgress.{CallProgress}
+use Rattle.model.specs.declared.call.Phase.{Phase}
+use Rattle.model.specs.declared.call.Phase.TheVariants.{Start, Try, Decide, Place, Unlock, Leave}
+use Rattle.model.specs.declared.call.WaitList.{WaitList}
+use Rattle.model.specs.declared.call.WaitList.TheVariants.{ToReceive, ToSend}
 use Rattle.model.specs.declared.loops.Loop.{Loop}
 use Rattle.model.specs.declared.event.What.TheVariants as what
 use Rattle.model.specs.Application.{Application, op_at, op_count}
-use Rattle.model.specs.State.{State, Task, Progress, Status, Ready, Asleep, task_at, progress_at, with_task, take_ticket, for_one, for_each, printed}
-use Rattle.model.specs.Order.{tasks_of}
-use Rattle.model.specs.Switching.{make_ready, to_back, dispatch, choose, choice, is_same, is_ready, yield_now, is_outranked, is_sharing, slice, settle, is_off, write}
+use Rattle.model.specs.State.{State, Task, Progress, Status, Ready, Asleep, task_at, status_at, progress_at, call_at, object_at, with_task, with_call, with_object, take_ticket, for_one, for_each, printed}
+use Rattle.model.specs.Order.{tasks_of, task_of, first}
+use Rattle.model.specs.Switching.{make_ready, to_back, dispatch, choose, choice, is_same, is_ready, yield_now, is_outranked, is_sharing, preempt, slice, settle, unless_held, is_off, write}
 use Rattle.model.specs.Time.{wake_due, due, advance, increment_tick, tick_interrupt, sleep, set_previous_wake}
+use Rattle.model.specs.Waiting.{waiters, awakened, awake_status, is_locked, wake_one, wake_best, wait_in, set_deadline, is_expired, end_hold, unlock_object, unlock}
+use Rattle.model.specs.Objects.{possible, answer_to, object_after, list_woken, fulfil, attempt}
+use Rattle.model.specs.Calls.{try, decide, leave_call, await, do_now}
 use Rattle.model.specs.Ops.{go_to, moved_to, complete, answer, use_up, delay, delay_until, expect, open_loop, turn, close_turn}
+use Rattle.model.specs.Invariant.{hold_of}
 use Rattle.model.specs.Step.{act, act_if, act_current, step, reset, nobody_ready, ready_at_reset, with_ops}
 use Rattle.model.proofs.Sorting.{by_test}
+use Rattle.model.proofs.Settled.{when_held, when_free}
 
--- No time passes, no step is done, the run is not stopped, and there are as many tasks.
+-- No time passes, no step is done, the run is not stopped, there are as many tasks, and the same is held and locked.
 pub record Keeps (old new : State) : Type 0 where
   pub time : new.time ≡ old.time
   pub elapsed : new.elapsed ≡ old.elapsed
   pub steps : new.steps ≡ old.steps
   pub stopped : new.stopped ≡ old.stopped
   pub tasks : length new.tasks ≡ length old.tasks
+  pub hold : hold_of new ≡ hold_of old
 
 pub keeps : (s : State) → Keeps s s
-keeps s = record { time = refl; elapsed = refl; steps = refl; stopped = refl; tasks = refl }
+keeps s = record { time = refl; elapsed = refl; steps = refl; stopped = refl; tasks = refl; hold = refl }
 
 -- one deed, and then another
 pub keeps_both : (a b c : State) → Keeps a b → Keeps b c → Keeps a c
-keeps_both a b c h k = record { time = k.time ∙ h.time; elapsed = k.elapsed ∙ h.elapsed; steps = k.steps ∙ h.steps; stopped = k.stopped ∙ h.stopped; tasks = k.tasks ∙ h.tasks }
+keeps_both a b c h k = record { time = k.time ∙ h.time; elapsed = k.elapsed ∙ h.elapsed; steps = k.steps ∙ h.steps; stopped = k.stopped ∙ h.stopped; tasks = k.tasks ∙ h.tasks; hold = k.hold ∙ h.hold }
 
 -- ---- who runs
 
 pub keeps-with_task : (i : ℕ) (t : Task) (s : State) → Keeps s (with_task i t s)
-keeps-with_task i t s = record { time = refl; elapsed = refl; steps = refl; stopped = refl; tasks = length-set s.tasks i t }
+keeps-with_task i t s = record { time = refl; elapsed = refl; steps = refl; stopped = refl; tasks = length-set s.tasks i t; hold = refl }
 
 pub keeps-take_ticket : (i : ℕ) (f : ℕ → Status) (s : State) → Keeps s (take_ticket i f s)
-keeps-take_ticket i f s = record { time = refl; elapsed = refl; steps = refl; stopped = refl; tasks = length-set s.tasks i (record (task_at s i) { status = f s.next_ticket }) }
+keeps-take_ticket i f s = record { time = refl; elapsed = refl; steps = refl; stopped = refl; tasks = length-set s.tasks i (record (task_at s i) { status = f s.next_ticket }); hold = refl }
 
 pub keeps-to_back : (i : ℕ) (s : State) → Keeps s (to_back i s)
 unfolding to_back
@@ -48,11 +60,15 @@ keeps-one_back (Some i) s = keeps-to_back i s
 
 pub keeps-choose : (s : State) → Keeps s (choose s)
 unfolding choose dispatch
-keeps-choose s = by_test (is_same (choice s) s.current) (λ t. rw t (keeps s)) (λ t. rw t (record { time = refl; elapsed = refl; steps = refl; stopped = refl; tasks = refl }))
+keeps-choose s = by_test (is_same (choice s) s.current) (λ t. rw t (keeps s)) (λ t. rw t (record { time = refl; elapsed = refl; steps = refl; stopped = refl; tasks = refl; hold = refl }))
 
 pub keeps-yield_now : (s : State) → Keeps s (yield_now s)
 unfolding yield_now
 keeps-yield_now s = let b : State = for_one to_back s.current s in keeps_both s b (choose b) (keeps-one_back s.current s) (keeps-choose b)
+
+pub keeps-preempt : (s : State) → Keeps s (preempt s)
+unfolding preempt
+keeps-preempt s = by_test (is_outranked s) (λ t. rw t (keeps-yield_now s)) (λ t. rw t (keeps s))
 
 pub keeps-slice : (s : State) → Keeps s (slice s)
 unfolding slice
@@ -61,6 +77,11 @@ keeps-slice s = by_test (is_outranked s || is_sharing s) (λ t. rw t (keeps-yiel
 pub keeps-settle : (s : State) → Keeps s (settle s)
 unfolding settle
 keeps-settle s = by_test (is_off s s.current) (λ t. rw t (keeps-choose s)) (λ t. rw t (keeps s))
+
+pub keeps-unless_held : (deed : State → State) (s : State) → ((t : State) → Keeps t (deed t)) → Keeps s (unless_held deed s)
+keeps-unless_held deed s k = by_test s.call_hold
+    (λ t. subst (Keeps s) (sym (when_held deed s t)) (keeps s))
+    (λ t. subst (Keeps s) (sym (when_free deed s t)) (k s))
 
 pub keeps-all_ready : (is : List ℕ) (s : State) → Keeps s (for_each make_ready is s)
 keeps-all_ready [] s = keeps s
@@ -81,7 +102,7 @@ unfolding answer
 keeps-answer app i a s =
     let p : Progress = record (progress_at s i) { answer = a } in
     let k = keeps-go_to app i (p.op_index + 1) p (write (what.Call i p.op_index a) s) in
-    record { time = k.time; elapsed = k.elapsed; steps = k.steps; stopped = k.stopped; tasks = k.tasks }
+    record { time = k.time; elapsed = k.elapsed; steps = k.steps; stopped = k.stopped; tasks = k.tasks; hold = k.hold }
 
 pub keeps-use_up : (app : Application) (i n : ℕ) (s : State) → Keeps s (use_up app i n s)
 unfolding use_up
@@ -133,6 +154,84 @@ pub keeps-close_turn : (app : Application) (i : ℕ) (s : State) → Keeps s (cl
 unfolding close_turn
 keeps-close_turn app i s = keeps-turn app i (progress_at s i) (progress_at s i).loops s
 
+-- ---- calls on objects
+
+pub keeps-for_one : {A : Type 0} (deed : A → State → State) (o : Option A) (s : State) → ((a : A) → Keeps s (deed a s)) → Keeps s (for_one deed o s)
+keeps-for_one deed None s k = keeps s
+keeps-for_one deed (Some a) s k = k a
+
+pub keeps-wake_one : (i : ℕ) (list : WaitList) (s : State) → Keeps s (wake_one i list s)
+keeps-wake_one i list s = by_test (is_locked s.locked list)
+    (λ t. rw t (keeps-with_task i (record (task_at s i) { status = awake_status (status_at s i) }) s))
+    (λ t. rw t (keeps-take_ticket i Ready s))
+
+pub keeps-wake_best : (list : WaitList) (s : State) → Keeps s (wake_best list s)
+unfolding wake_best
+keeps-wake_best list s = keeps-for_one (λ i. wake_one i list) (task_of (first (waiters s list))) s (λ i. keeps-wake_one i list s)
+
+pub keeps-fulfil : (caller : Option ℕ) (o : ℕ) (a : Access) (s : State) → Keeps s (fulfil caller o a s)
+unfolding fulfil
+keeps-fulfil caller o a s =
+    let t : State = with_object o (object_after caller a (object_at s o)) s in
+    let k : Keeps t (for_one wake_best (list_woken caller o a) t) = keeps-for_one wake_best (list_woken caller o a) t (λ list. keeps-wake_best list t) in
+    record { time = k.time; elapsed = k.elapsed; steps = k.steps; stopped = k.stopped; tasks = k.tasks; hold = k.hold }
+
+pub keeps-attempt : (caller : Option ℕ) (o : ℕ) (a : Access) (s : State) → Keeps s (attempt caller o a s)
+unfolding attempt
+keeps-attempt caller o a s = by_test (possible s o a) (λ t. rw t (keeps-fulfil caller o a s)) (λ t. rw t (keeps s))
+
+pub keeps-with_call : (i : ℕ) (call : CallProgress) (s : State) → Keeps s (with_call i call s)
+keeps-with_call i call s = keeps-with_task i (record (task_at s i) { progress = record (progress_at s i) { call = call } }) s
+
+pub keeps-set_deadline : (i : ℕ) (ticks : Option ℕ) (s : State) → Keeps s (set_deadline i ticks s)
+unfolding set_deadline
+keeps-set_deadline i ticks s = keeps-with_call i (record (call_at s i) { deadline = option_map (λ n. s.time + n) ticks }) s
+
+pub keeps-try : (app : Application) (i o : ℕ) (a : Access) (s : State) → Keeps s (try app i o a s)
+unfolding try
+keeps-try app i o a s =
+    let t : State = fulfil (Some i) o a s in
+    let u : State = answer app i (answer_to s o a) t in
+    by_test (possible s o a)
+    (λ p. rw p (keeps_both s t (preempt u) (keeps-fulfil (Some i) o a s) (keeps_both t u (preempt u) (keeps-answer app i (answer_to s o a) t) (keeps-preempt u))))
+    (λ p. rw p (by_test (is_expired s i)
+    (λ q. rw q (keeps-answer app i (answer_to s o a) s))
+    (λ q. rw q (keeps-with_call i (record (call_at s i) { phase = Decide }) s))))
+
+pub keeps-do_now : (app : Application) (i o : ℕ) (a : Access) (s : State) → Keeps s (do_now app i o a s)
+unfolding do_now
+keeps-do_now app i o a s =
+    let t : State = attempt (Some i) o a s in
+    let u : State = answer app i (answer_to s o a) t in
+    keeps_both s t (preempt u) (keeps-attempt (Some i) o a s) (keeps_both t u (preempt u) (keeps-answer app i (answer_to s o a) t) (keeps-preempt u))
+
+elapsed-unlock : (s : State) → (unlock s).elapsed ≡ s.elapsed
+unfolding unlock
+elapsed-unlock s = by_locked s.locked where
+  by_locked : (o : Option ℕ) → (for_one unlock_object o s).elapsed ≡ s.elapsed
+  by_locked None = refl
+  by_locked (Some o) = (keeps-all_ready (tasks_of (awakened s (ToReceive o)) ++ tasks_of (awakened s (ToSend o))) (record s { locked = None })).elapsed
+
+elapsed-decide : (i o : ℕ) (a : Access) (s : State) → (decide i o a s).elapsed ≡ s.elapsed
+unfolding decide wait_in
+elapsed-decide i o a s = by_test (possible s o a || is_expired s i) (λ t. rw t refl) (λ t. rw t refl)
+
+elapsed-leave_call : (i : ℕ) (s : State) → (leave_call i s).elapsed ≡ s.elapsed
+unfolding leave_call
+elapsed-leave_call i s =
+    let free : State = end_hold i Try s in
+    by_test (is_some (call_at s i).list)
+    (λ t. rw t (keeps-choose free).elapsed)
+    (λ t. rw t (keeps-preempt free).elapsed)
+
+elapsed-await : (app : Application) (i o : ℕ) (a : Access) (ticks : Option ℕ) (phase : Phase) (s : State) → (await app i o a ticks phase s).elapsed ≡ s.elapsed
+elapsed-await app i o a ticks Start s = (keeps-try app i o a (set_deadline i ticks s)).elapsed ∙ (keeps-set_deadline i ticks s).elapsed
+elapsed-await app i o a ticks Try s = (keeps-try app i o a s).elapsed
+elapsed-await app i o a ticks Decide s = elapsed-decide i o a s
+elapsed-await app i o a ticks Place s = refl
+elapsed-await app i o a ticks Unlock s = elapsed-unlock s
+elapsed-await app i o a ticks Leave s = elapsed-leave_call i s
+
 -- ---- the tick: it alone lets time pass
 
 pub elapsed-tick : (s : State) → (tick_interrupt s).elapsed ≡ s.elapsed + 1
@@ -161,6 +260,10 @@ elapsed-act app i (Mark n) s =
 elapsed-act app i (Expect a) s = let e = elapsed-expect app i a s in omega arith
 elapsed-act app i (Repeat n) s = let e = (keeps-open_loop app i n s).elapsed in omega arith
 elapsed-act app i End s = let e = (keeps-close_turn app i s).elapsed in omega arith
+elapsed-act app i (Await o a ticks) s = let e = elapsed-await app i o a ticks (call_at s i).phase s in omega arith
+elapsed-act app i (Do o a) s = let e = (keeps-do_now app i o a s).elapsed in omega arith
+elapsed-act app i (MessagesWaiting o) s = let e = (keeps-answer app i (Some (length (object_at s o).items)) s).elapsed in omega arith
+elapsed-act app i (SpacesAvailable o) s = let e = (keeps-answer app i (Some ((object_at s o).size - length (object_at s o).items)) s).elapsed in omega arith
 
 elapsed-act_if : (app : Application) (i : ℕ) (o : Option Op) (s : State) → (act_if app i o s).elapsed ≤ s.elapsed + 1
 elapsed-act_if app i None s = omega arith
@@ -176,7 +279,7 @@ pub elapsed-step : (app : Application) (s : State) → (step app s).elapsed ≤ 
 unfolding step
 elapsed-step app s =
     let begun : State = record s { log = [] } in
-    let e = (keeps-settle (act_current app s.current begun)).elapsed in
+    let e : (unless_held settle (act_current app s.current begun)).elapsed ≡ (act_current app s.current begun).elapsed = (keeps-unless_held settle (act_current app s.current begun) keeps-settle).elapsed in
     let le : (act_current app s.current begun).elapsed ≤ s.elapsed + 1 = elapsed-act_current app s.current begun in
     omega arith
 

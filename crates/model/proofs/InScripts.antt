@@ -3,9 +3,9 @@ use Rattle.std.proofs.Common.{◌≡◌, ◌+◌, ℕ, zero, suc, true, List, []
 use Rattle.std.specs.List.{AllByRecursion, slice_get}
 use Rattle.std.specs.Option.{option_map, unwrap_or}
 use Rattle.model.specs.declared.op.Op.{Op}
-use Rattle.model.specs.declared.op.Op.TheVariants.{Work, Delay, DelayUntil, Yield, Time, Mark, Expect, Repeat, End}
-use Rattle.model.specs.Application.{Application, Definition, script_of}
-use Rattle.model.specs.Scripts.{InRange, may_stand, nesting_past, Nests, IsScript, IsDefinition, IsWellFormed}
+use Rattle.model.specs.declared.op.Op.TheVariants.{Work, Delay, DelayUntil, Yield, Time, Mark, Expect, Repeat, End, Await, Do, MessagesWaiting, SpacesAvailable}
+use Rattle.model.specs.Application.{Application, Definition, script_of, op_at}
+use Rattle.model.specs.Scripts.{InRange, may_stand, nesting_past, Nests, IsScript, IsDefinition, IsWellFormed, knows, KnowsAll}
 use Rattle.model.specs.Invariant.{IsUsedBy}
 use Rattle.model.proofs.Nesting.{least_work}
 
@@ -45,4 +45,28 @@ used_none zero ((Mark n) ∷ ops) h = tt
 used_none zero ((Expect a) ∷ ops) h = tt
 used_none zero ((Repeat n) ∷ ops) h = tt
 used_none zero (End ∷ ops) h = tt
+used_none zero ((Await o a w) ∷ ops) h = tt
+used_none zero ((Do o a) ∷ ops) h = tt
+used_none zero ((MessagesWaiting o) ∷ ops) h = tt
+used_none zero ((SpacesAvailable o) ∷ ops) h = tt
 used_none (suc p) (o ∷ ops) h = used_none p ops h.1
+
+-- its numbers are in their ranges
+pub range_at : (p : ℕ) (ops : List Op) (op : Op) → AllByRecursion InRange ops → slice_get ops p ≡ Some op → InRange op
+range_at p [] op h e = absurd (cc)
+range_at zero (o ∷ ops) op h e = let same : o ≡ op = cc in rw (← same) h.0
+range_at (suc p) (o ∷ ops) op h e = range_at p ops op h.1 e
+
+known_in : (app : Application) (p : ℕ) (ops : List Op) (op : Op) → AllByRecursion (λ o. knows app o ≡ true) ops → slice_get ops p ≡ Some op → knows app op ≡ true
+known_in app p [] op h e = absurd (cc)
+known_in app zero (o ∷ ops) op h e = let same : o ≡ op = cc in rw (← same) h.0
+known_in app (suc p) (o ∷ ops) op h e = known_in app p ops op h.1 e
+
+known_of : (app : Application) (i p : ℕ) (ds : List Definition) (op : Op) → AllByRecursion (KnowsAll app) ds → slice_get (unwrap_or (option_map (λ (d : Definition). d.script) (slice_get ds i)) []) p ≡ Some op → knows app op ≡ true
+known_of app i p [] op h e = absurd (cc)
+known_of app zero p (d ∷ ds) op h e = known_in app p d.script op h.0 e
+known_of app (suc i) p (d ∷ ds) op h e = known_of app i p ds op h.1 e
+
+-- the application has what it speaks of
+pub known_at : (app : Application) → IsWellFormed app → (i p : ℕ) (op : Op) → op_at app i p ≡ Some op → knows app op ≡ true
+known_at app formed i p op e = known_of app i p app.tasks op formed.known e

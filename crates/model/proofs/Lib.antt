@@ -7,4 +7,5 @@ pub mod Chosen
 pub mod Frames
 pub mod InScripts
 pub mod Settled
+pub mod Sound
 pub mod Reached

@@ -1,13 +1,13 @@
 -- Between two steps the running task is Ready, and idle runs only where no task is.
-use Rattle.std.proofs.Common.{◌≡◌, ℕ, zero, suc, true, false, not, List, [], ◌∷◌, Option, Some, None, refl, ap, subst}
+use Rattle.std.proofs.Common.{◌≡◌, ℕ, true, false, not, List, [], ◌∷◌, Option, Some, None, refl, ap, sym, subst}
 use Rattle.std.specs.List.{AllByRecursion}
+use Rattle.std.specs.Prelude.{Bool, if◌then◌else◌}
 use Rattle.std.specs.Option.{IfSome, is_some, option_map}
 use Rattle.model.specs.Application.{Application}
-use Rattle.model.specs.State.{State, Status, Ready, Asleep, Ended, ticket_if_ready, task_at}
+use Rattle.model.specs.State.{State, Status, Ready, Awake, Waiting, Asleep, Ended, ticket_if_ready, task_at}
 use Rattle.model.specs.Order.{Key, Entry, key, first, task_of}
-use Rattle.model.specs.Switching.{ready_key, ready_list, is_ready, choice, is_same, choose, dispatch, is_off, settle}
+use Rattle.model.specs.Switching.{ready_key, ready_list, is_ready, choice, is_same, choose, dispatch, is_off, settle, unless_held}
 use Rattle.model.specs.Step.{act_current, step, ready_at_reset, reset}
-use Rattle.model.specs.Run.{state_after}
 use Rattle.model.proofs.Sorting.{by_test}
 use Rattle.model.proofs.Lists.{HasKey, eqb-same, list_has}
 
@@ -22,6 +22,8 @@ same_eq (Some i) (Some j) t = ap Some (eqb-same i j t)
 
 keyed_ready : (priority : ℕ) (u : Status) (k : Key) → option_map (key priority) (ticket_if_ready u) ≡ Some k → is_some (ticket_if_ready u) ≡ true
 keyed_ready priority (Ready n) k e = refl
+keyed_ready priority (Awake w) k e = absurd (cc)
+keyed_ready priority (Waiting w) k e = absurd (cc)
 keyed_ready priority (Asleep w n) k e = absurd (cc)
 keyed_ready priority Ended k e = absurd (cc)
 
@@ -49,14 +51,29 @@ settled-settle s = by_test (is_off s s.current)
     (λ t. rw t (settled-choose s))
     (λ t. rw t (still_on s s.current t))
 
-settled-step : (app : Application) (s : State) → IsSettled (step app s)
-unfolding step
-settled-step app s = settled-settle (act_current app s.current (record s { log = [] }))
+-- ---- whether the scheduler is held
 
-settled-reset : (app : Application) → IsSettled (reset app)
+if_true : {A : Type 0} (b : Bool) (x y : A) → b ≡ true → (if b then x else y) ≡ x
+if_true b x y e = rw e refl
+
+if_false : {A : Type 0} (b : Bool) (x y : A) → b ≡ false → (if b then x else y) ≡ y
+if_false b x y e = rw e refl
+
+pub when_held : (deed : State → State) (s : State) → s.call_hold ≡ true → unless_held deed s ≡ s
+when_held deed s held = if_true s.call_hold s (deed s) held
+
+pub when_free : (deed : State → State) (s : State) → s.call_hold ≡ false → unless_held deed s ≡ deed s
+when_free deed s free = if_false s.call_hold s (deed s) free
+
+-- where it isn't held
+pub settled-step : (app : Application) (s : State) → (step app s).call_hold ≡ false → IsSettled (step app s)
+unfolding step
+settled-step app s free = by_test t.call_hold
+    (λ held. let same : (unless_held settle t).call_hold ≡ t.call_hold = ap (λ (u : State). u.call_hold) (when_held settle t held) in absurd (cc))
+    (λ none. subst IsSettled (sym (when_free settle t none)) (settled-settle t)) where
+  t : State
+  t = act_current app s.current (record s { log = [] })
+
+pub settled-reset : (app : Application) → IsSettled (reset app)
 unfolding reset
 settled-reset app = choice_ready (ready_at_reset app)
-
-pub settled_after : (app : Application) (n : ℕ) → IsSettled (state_after app n)
-settled_after app zero = settled-reset app
-settled_after app (suc n) = settled-step app (state_after app n)

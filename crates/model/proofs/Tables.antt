@@ -1,10 +1,11 @@
 -- The table stays in order: tickets are below the next one, and so on.
 use Rattle.std.proofs.Common.{◌<◌, ◌+◌, ℕ, zero, suc, List, [], ◌∷◌, Option, Some, None, arith, get_or, set}
 use Rattle.std.specs.List.{AllByRecursion, cons_option}
-use Rattle.std.specs.Option.{IfSome}
+use Rattle.std.specs.Option.{IfSome, is_some}
+use Rattle.std.specs.Prelude.{if◌then◌else◌}
 use Rattle.std.proofs.Math.ListN.{length-set}
-use Rattle.model.specs.State.{State, Task, Status, Ready, Asleep, Ended, ticket_of, task_at, with_task, take_ticket, no_task}
-use Rattle.model.specs.Order.{Key}
+use Rattle.model.specs.State.{State, Task, Status, Ready, Awake, Waiting, Asleep, Ended, ticket_of, task_at, with_task, take_ticket, no_task}
+use Rattle.model.specs.Order.{Key, key}
 use Rattle.model.specs.Switching.{ready_key, make_ready}
 use Rattle.model.specs.Time.{delayed_key}
 use Rattle.model.specs.Invariant.{HasTicketBelow, AllTicketsBelow, IsTable}
@@ -15,11 +16,19 @@ KeyBelow n key = AllByRecursion (λ (k : Key). k.ticket < n) (cons_option key []
 
 ready_below : (n : ℕ) (t : Task) (u : Status) → HasTicketBelow n u → KeyBelow n (ready_key (record t { status = u }))
 ready_below n t (Ready m) b = (b, tt)
+ready_below n t (Awake w) b = tt
+ready_below n t (Waiting w) b = tt
 ready_below n t (Asleep w m) b = tt
 ready_below n t Ended b = tt
 
+until_below : (n : ℕ) (deadline : Option ℕ) (ticket : ℕ) → ticket < n → KeyBelow n (if is_some deadline then Some (key 0 ticket) else None)
+until_below n None ticket b = tt
+until_below n (Some deadline) ticket b = (b, tt)
+
 delayed_below : (n : ℕ) (t : Task) (u : Status) → HasTicketBelow n u → KeyBelow n (delayed_key (record t { status = u }))
 delayed_below n t (Ready m) b = tt
+delayed_below n t (Awake w) b = until_below n w.deadline w.ticket b
+delayed_below n t (Waiting w) b = until_below n w.deadline w.ticket b
 delayed_below n t (Asleep w m) b = (b, tt)
 delayed_below n t Ended b = tt
 

@@ -1,6 +1,8 @@
 -- What is true of every state that a run comes to, by the definitions alone.
 use Rattle.std.specs.Prelude.{◌≡◌, ◌<◌, ◌≤◌, ℕ, ◌+◌, Bool, true, false, List, [], ◌∷◌, Option, Some, None, length, drop, slice_get, IfSome}
 use Rattle.std.specs.List.{AllByRecursion}
+use Rattle.model.specs.declared.object.ObjectKind.{ObjectKind}
+use Rattle.model.specs.declared.object.ObjectKind.TheVariants.{Queue}
 use Rattle.model.specs.declared.op.Op.{Op}
 use Rattle.model.specs.declared.op.Op.TheVariants.{Work, Await}
 use Rattle.model.specs.declared.call.CallProgress.{CallProgress}
@@ -63,15 +65,21 @@ pub record Hold : Type 0 where
 abbrev pub hold_of : State → Hold
 hold_of s = record { held = s.call_hold; locked = s.locked }
 
--- A task may be in this phase of this op: in Place and Unlock its object is locked, and in Leave none is.
-abbrev pub IsPhaseOf : Hold → Option Op → Phase → Type 0
-IsPhaseOf hold op Start = Unit {0}
-IsPhaseOf hold (Some (Await object access ticks)) Try = Unit {0}
-IsPhaseOf hold (Some (Await object access ticks)) Decide = Unit {0}
-IsPhaseOf hold (Some (Await object access ticks)) Place = (hold.held ≡ true) × (hold.locked ≡ Some object)
-IsPhaseOf hold (Some (Await object access ticks)) Unlock = (hold.held ≡ true) × (hold.locked ≡ Some object)
-IsPhaseOf hold (Some (Await object access ticks)) Leave = (hold.held ≡ true) × (hold.locked ≡ None)
-IsPhaseOf hold op phase = ⊥
+-- the object on which an op makes a call that may wait
+abbrev pub awaited : Option Op → Option ℕ
+awaited (Some (Await object access ticks)) = Some object
+awaited _ = None
+
+-- A task whose op waits for this object, or for none, may be in this phase: in Place and Unlock the object is locked, and
+-- in Leave none is.
+abbrev pub IsPhaseOf : Hold → Option ℕ → Phase → Type 0
+IsPhaseOf hold object Start = Unit {0}
+IsPhaseOf hold None phase = ⊥
+IsPhaseOf hold (Some object) Try = Unit {0}
+IsPhaseOf hold (Some object) Decide = Unit {0}
+IsPhaseOf hold (Some object) Place = (hold.held ≡ true) × (hold.locked ≡ Some object)
+IsPhaseOf hold (Some object) Unlock = (hold.held ≡ true) × (hold.locked ≡ Some object)
+IsPhaseOf hold (Some object) Leave = (hold.held ≡ true) × (hold.locked ≡ None)
 
 -- the list in which a task waits in this op
 abbrev pub list_of_op : Option Op → Option WaitList
@@ -85,7 +93,7 @@ pub record IsWaitOf (op : Option Op) (until : Option ℕ) (wait : Wait) : Type 0
 
 -- A task's status, its call and its op fit, at a time.
 pub record IsCall (hold : Hold) (now : ℕ) (op : Option Op) (t : Task) : Type 0 where
-  pub phase : IsPhaseOf hold op t.progress.call.phase
+  pub phase : IsPhaseOf hold (awaited op) t.progress.call.phase
   pub wait : IfSome (wait_of t.status) (λ w. IsWaitOf op t.progress.call.deadline w)
   -- it was woken through the locked object
   pub awake : IfSome (wait_if_awake t.status) (λ w. is_locked hold.locked w.list ≡ true)
@@ -94,9 +102,10 @@ pub record IsCall (hold : Hold) (now : ℕ) (op : Option Op) (t : Task) : Type 0
 
 -- ---- the whole
 
--- An object holds no more than it has room for.
-abbrev pub IsObject : Object → Type 0
-IsObject o = length o.items ≤ o.size
+-- An object is of its kind, and holds no more than it has room for.
+abbrev pub IsObject : Option ObjectKind → Object → Type 0
+IsObject (Some (Queue size)) o = (o.size ≡ size) × (length o.items ≤ o.size)
+IsObject None o = Unit {0}
 
 -- what every deed keeps, while this is held and locked
 pub record IsSound (app : Application) (hold : Hold) (s : State) : Type 0 where
@@ -105,7 +114,7 @@ pub record IsSound (app : Application) (hold : Hold) (s : State) : Type 0 where
   pub objects : length s.objects ≡ length app.objects
   pub progress : (task : ℕ) → IsAt s.time (script_of app task) (progress_at s task) (status_at s task)
   pub calls : (task : ℕ) → IsCall hold s.time (op_at app task (progress_at s task).op_index) (task_at s task)
-  pub contents : (object : ℕ) → IsObject (object_at s object)
+  pub contents : (object : ℕ) → IsObject (slice_get app.objects object) (object_at s object)
   -- the time is the start and the elapsed ticks
   pub time : s.time ≡ app.start + s.elapsed
 

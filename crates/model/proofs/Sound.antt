@@ -1,0 +1,433 @@
+-- What every deed keeps.
+use Rattle.std.proofs.Common.{◌≡◌, ◌≢◌, ◌<◌, ◌≤◌, ◌+◌, ◌-◌, ℕ, zero, suc, true, false, eqb, leb, ltb, ltb-false, ◌||◌, List, [], ◌∷◌, length, map, get_or, set, drop, Option, Some, None, refl, ap, sym, subst, ◌∙◌, arith, get_or-set_same, get_or-set_other}
+use Rattle.std.specs.List.{AllByRecursion, slice_get, filter}
+use Rattle.std.specs.Prelude.{Bool}
+use Rattle.std.specs.Option.{IfSome, option_map, is_some, unwrap_or, option_eq}
+use Rattle.std.proofs.Math.ListN.{length-set}
+use Rattle.std.proofs.lemmas.List.{length-map}
+use Rattle.model.specs.declared.op.Op.{Op}
+use Rattle.model.specs.declared.op.Op.TheVariants.{Work, Delay, DelayUntil, Yield, Time, Mark, Expect, Repeat, End}
+use Rattle.model.specs.declared.call.CallProgress.{CallProgress}
+use Rattle.model.specs.declared.loops.Loop.{Loop}
+use Rattle.model.specs.declared.event.Event.{Event}
+use Rattle.model.specs.declared.event.End as ending
+use Rattle.model.specs.declared.event.What.TheVariants as what
+use Rattle.model.specs.Application.{Application, Definition, script_of, op_at, op_count}
+use Rattle.model.specs.Scripts.{may_stand, nesting_past, Nests, IsDefinition, IsWellFormed}
+use Rattle.model.specs.State.{State, Task, Progress, Status, Wait, Ready, Awake, Waiting, Asleep, Ended, ticket_if_ready, wait_of, wait_if_awake, wake_time_of, no_call, task_at, progress_at, status_at, with_task, take_ticket, for_one, for_each, no_task}
+use Rattle.model.specs.Order.{Entry, tasks_of}
+use Rattle.model.specs.Switching.{make_ready, to_back, dispatch, choose, choice, is_same, is_ready, yield_now, is_outranked, is_sharing, preempt, slice, settle, is_off, write}
+use Rattle.model.specs.Waiting.{is_locked}
+use Rattle.model.specs.Time.{wake_due, due, is_due, delayed_list, delayed_key, advance, increment_tick, tick_interrupt, sleep, set_previous_wake}
+use Rattle.model.specs.Ops.{go_to, moved_to, complete, answer, use_up, delay, delay_until, expect, open_loop, turn, close_turn}
+use Rattle.model.specs.Step.{act, act_if, act_current, step, reset, nobody_ready, ready_at_reset, task_at_reset, with_ops, is_empty}
+use Rattle.model.specs.Invariant.{HasTicketBelow, IsUsedBy, LoopsNest, IsReckoned, IsAt, Hold, awaited, IsPhaseOf, IsWaitOf, IsCall, IsSound}
+use Rattle.model.proofs.Sorting.{by_test}
+use Rattle.model.proofs.Lists.{eqb-refl, eqb-same}
+use Rattle.model.proofs.Tables.{ticket_at, table-set, table-taken}
+use Rattle.model.proofs.Chosen.{choice_within, list_within}
+use Rattle.model.proofs.InScripts.{script_formed, stands_at, nests_past, used_none}
+use Rattle.model.proofs.Frames.{keeps-answer, keeps-sleep}
+
+-- ---- who wakes when
+
+later_reckoned : (now previous : ℕ) (u : Status) → IsReckoned now previous u → IsReckoned (now + 1) previous u
+later_reckoned now p (Ready n) h = omega arith
+later_reckoned now p (Awake w) h = omega arith
+later_reckoned now p (Waiting w) h = omega arith
+later_reckoned now p (Asleep w n) h = h
+later_reckoned now p Ended h = tt
+
+pub ready_reckoned : (now previous : ℕ) (u : Status) → IsReckoned now previous u → is_some (ticket_if_ready u) ≡ true → previous ≤ now
+ready_reckoned now p (Ready n) h t = h
+ready_reckoned now p (Awake w) h t = h
+ready_reckoned now p (Waiting w) h t = h
+ready_reckoned now p (Asleep w n) h t = absurd (cc)
+ready_reckoned now p Ended h t = absurd (cc)
+
+reckoned_now : (now previous : ℕ) (u : Status) → previous ≤ now → wake_time_of u ≡ None → IsReckoned now previous u
+reckoned_now now p (Ready n) h t = h
+reckoned_now now p (Awake w) h t = h
+reckoned_now now p (Waiting w) h t = h
+reckoned_now now p (Asleep w n) h t = absurd (cc)
+reckoned_now now p Ended h t = tt
+
+reckoned_ended : (now previous : ℕ) (u : Status) → is_some (ticket_if_ready u) ≡ false → wake_time_of u ≡ None → wait_of u ≡ None → IsReckoned now previous u
+reckoned_ended now p (Ready n) h t f = absurd (cc)
+reckoned_ended now p (Awake w) h t f = absurd (cc)
+reckoned_ended now p (Waiting w) h t f = absurd (cc)
+reckoned_ended now p (Asleep w n) h t f = absurd (cc)
+reckoned_ended now p Ended h t f = tt
+
+pub ready_awake : (u : Status) → is_some (ticket_if_ready u) ≡ true → wake_time_of u ≡ None
+ready_awake (Ready n) t = refl
+ready_awake (Awake w) t = absurd (cc)
+ready_awake (Waiting w) t = absurd (cc)
+ready_awake (Asleep w n) t = absurd (cc)
+ready_awake Ended t = absurd (cc)
+
+pub ready_free : (u : Status) → is_some (ticket_if_ready u) ≡ true → wait_of u ≡ None
+ready_free (Ready n) t = refl
+ready_free (Awake w) t = absurd (cc)
+ready_free (Waiting w) t = absurd (cc)
+ready_free (Asleep w n) t = absurd (cc)
+ready_free Ended t = absurd (cc)
+
+pub free_unwoken : (u : Status) → wait_of u ≡ None → wait_if_awake u ≡ None
+free_unwoken (Ready n) e = refl
+free_unwoken (Awake w) e = absurd (cc)
+free_unwoken (Waiting w) e = absurd (cc)
+free_unwoken (Asleep w n) e = refl
+free_unwoken Ended e = refl
+
+due_reckoned : (now previous : ℕ) (u : Status) → IsReckoned now previous u → option_eq eqb (wake_time_of u) (Some now) ≡ true → previous ≤ now
+due_reckoned now p (Ready n) h t = absurd (cc)
+due_reckoned now p (Awake w) h t = h
+due_reckoned now p (Waiting w) h t = h
+due_reckoned now p (Asleep w n) h t = let e = eqb-same w now t in omega arith
+due_reckoned now p Ended h t = absurd (cc)
+
+-- a task that may become Ready now
+abbrev pub CanBeReady : State → ℕ → Type 0
+CanBeReady s i = (i < length s.tasks) × ((progress_at s i).previous_wake ≤ s.time)
+
+can_still : (s : State) (i j : ℕ) → CanBeReady s i → CanBeReady s j → CanBeReady (make_ready i s) j
+can_still s i j c d = (
+  rw length-set d.0,
+  by_test (eqb j i)
+      (λ u. let same : j ≡ i = eqb-same j i u in rw (same, get_or-set_same s.tasks i (record (task_at s i) { status = Ready s.next_ticket }) no_task c.0, progress_at) c.1)
+      (λ u. let apart : j ≢ i = (λ q. let w : eqb j i ≡ true = rw q (eqb-refl i) in absurd (cc)) in
+      rw (get_or-set_other s.tasks i j (record (task_at s i) { status = Ready s.next_ticket }) no_task apart, progress_at) d.1),
+)
+
+still_can : (s : State) (i : ℕ) (js : List ℕ) → CanBeReady s i → AllByRecursion (CanBeReady s) js → AllByRecursion (CanBeReady (make_ready i s)) js
+still_can s i [] c a = tt
+still_can s i (j ∷ js) c a = (can_still s i j c a.0, still_can s i js c a.1)
+
+due_can : (s : State) → ((i : ℕ) → IsReckoned s.time (progress_at s i).previous_wake (status_at s i)) → (es : List Entry) → AllByRecursion (λ (e : Entry). e.task < length s.tasks) es → AllByRecursion (CanBeReady s) (tasks_of (filter (is_due s) es))
+due_can s r [] a = tt
+due_can s r (e ∷ es) a = by_test (is_due s e)
+    (λ t. rw t ((a.0, due_reckoned s.time (progress_at s e.task).previous_wake (status_at s e.task) (r e.task) t), due_can s r es a.1))
+    (λ t. rw t (due_can s r es a.1))
+
+-- ---- changes of a list of what is kept
+
+-- what holds of every other place holds of each where one was changed
+pub each-set_but : {A : Type 0} (none : A) (P : ℕ → A → Type 0) (xs : List A) (i : ℕ) (x : A) → i < length xs → P i x → ((j : ℕ) → j ≢ i → P j (get_or xs j none)) → (j : ℕ) → P j (get_or (set xs i x) j none)
+each-set_but none P [] i x l p h j = absurd (omega arith)
+each-set_but none P (y ∷ ys) zero x l p h zero = p
+each-set_but none P (y ∷ ys) zero x l p h (suc j) = h (suc j) (λ e. omega arith)
+each-set_but none P (y ∷ ys) (suc i) x l p h zero = h zero (λ e. omega arith)
+each-set_but none P (y ∷ ys) (suc i) x l p h (suc j) = each-set_but none (λ k. P (suc k)) ys i x (omega arith) p (λ k ne. h (suc k) (λ e. ne (omega arith))) j
+
+-- what holds of each place still holds where one was changed
+pub each-set : {A : Type 0} (none : A) (P : ℕ → A → Type 0) (xs : List A) (i : ℕ) (x : A) → P i x → ((j : ℕ) → P j (get_or xs j none)) → (j : ℕ) → P j (get_or (set xs i x) j none)
+each-set none P [] i x p h j = h j
+each-set none P (y ∷ ys) zero x p h zero = p
+each-set none P (y ∷ ys) zero x p h (suc j) = h (suc j)
+each-set none P (y ∷ ys) (suc i) x p h zero = h zero
+each-set none P (y ∷ ys) (suc i) x p h (suc j) = each-set none (λ k. P (suc k)) ys i x p (λ k. h (suc k)) j
+
+-- ---- calls
+
+-- a task that doesn't wait, whose call hasn't begun or goes on as it is
+pub call_free : (hold : Hold) (now : ℕ) (op : Option Op) (t : Task) (status : Status) → wait_of status ≡ None → IsCall hold now op t → IsCall hold now op (record t { status = status })
+call_free hold now op t status free c =
+    let W : Option Wait → Type 0 = λ o. IfSome o (λ w. IsWaitOf op t.progress.call.deadline w) in
+    let A : Option Wait → Type 0 = λ o. IfSome o (λ w. is_locked hold.locked w.list ≡ true) in
+    record { phase = c.phase; wait = subst W (sym free) tt; awake = subst A (sym (free_unwoken status free)) tt; near = c.near }
+
+-- a call that hasn't begun
+pub call_none : (hold : Hold) (now : ℕ) (op : Option Op) (t : Task) → t.progress.call ≡ no_call → wait_of t.status ≡ None → IsCall hold now op t
+call_none hold now op t none free =
+    let P : CallProgress → Type 0 = λ call. IsPhaseOf hold (awaited op) call.phase in
+    let W : Option Wait → Type 0 = λ o. IfSome o (λ w. IsWaitOf op t.progress.call.deadline w) in
+    let A : Option Wait → Type 0 = λ o. IfSome o (λ w. is_locked hold.locked w.list ≡ true) in
+    let N : CallProgress → Type 0 = λ call. IfSome call.deadline (λ deadline. deadline < now + 4294967296) in
+    record { phase = subst P (sym none) tt; wait = subst W (sym free) tt; awake = subst A (sym (free_unwoken t.status free)) tt; near = subst N (sym none) tt }
+
+-- time passes
+near_later : (o : Option ℕ) (now : ℕ) → IfSome o (λ deadline. deadline < now + 4294967296) → IfSome o (λ deadline. deadline < (now + 1) + 4294967296)
+near_later None now h = tt
+near_later (Some deadline) now h = omega arith
+
+call_later : (hold : Hold) (now : ℕ) (op : Option Op) (t : Task) → IsCall hold now op t → IsCall hold (now + 1) op t
+call_later hold now op t c = record { phase = c.phase; wait = c.wait; awake = c.awake; near = near_later t.progress.call.deadline now c.near }
+
+-- ---- what each deed keeps
+
+module _ (app : Application) (formed : IsWellFormed app) (hold : Hold) where
+  -- the events don't matter, nor the steps done, nor an end that a step has brought about, nor what the state says of a hold
+  pub framed : (s : State) (log : List Event) (steps : ℕ) (stopped : Option ending.End) (locked : Option ℕ) (held : Bool) → IsSound app hold s → IsSound app hold (record s { log = log; steps = steps; stopped = stopped; locked = locked; call_hold = held })
+  framed s log steps stopped locked held h = record {
+    table = record { tickets = h.table.tickets; few = h.table.few; current = h.table.current };
+    tasks = h.tasks;
+    objects = h.objects;
+    progress = h.progress;
+    calls = h.calls;
+    contents = h.contents;
+    time = h.time;
+  }
+
+  pub logged : (s : State) (log : List Event) (steps : ℕ) (stopped : Option ending.End) → IsSound app hold s → IsSound app hold (record s { log = log; steps = steps; stopped = stopped })
+  logged s log steps stopped h = framed s log steps stopped s.locked s.call_hold h
+
+  -- what is true of the task of this number
+  abbrev pub IsKept : ℕ → ℕ → Task → Type 0
+  IsKept now i t = IsAt now (script_of app i) t.progress t.status × IsCall hold now (op_at app i t.progress.op_index) t
+
+  pub kept_at : (s : State) (i : ℕ) → IsSound app hold s → IsKept s.time i (task_at s i)
+  kept_at s i h = (h.progress i, h.calls i)
+
+  kept-set : (s : State) (i : ℕ) (t : Task) → IsSound app hold s → IsKept s.time i t → (j : ℕ) → IsKept s.time j (get_or (set s.tasks i t) j no_task)
+  kept-set s i t h k = each-set no_task (IsKept s.time) s.tasks i t k (λ j. kept_at s j h)
+
+  pub changed : (s : State) (i : ℕ) (t : Task) → IsSound app hold s → HasTicketBelow s.next_ticket t.status → IsKept s.time i t → IsSound app hold (with_task i t s)
+  changed s i t h b k = record {
+    table = table-set s i t h.table b;
+    tasks = rw length-set h.tasks;
+    objects = h.objects;
+    progress = λ j. (kept-set s i t h k j).0;
+    calls = λ j. (kept-set s i t h k j).1;
+    contents = h.contents;
+    time = h.time;
+  }
+
+  pub taken : (s : State) (i : ℕ) (f : ℕ → Status) → IsSound app hold s → HasTicketBelow (s.next_ticket + 1) (f s.next_ticket) → IsKept s.time i (record (task_at s i) { status = f s.next_ticket }) → IsSound app hold (take_ticket i f s)
+  taken s i f h b k = record {
+    table = table-taken s i f h.table b;
+    tasks = rw length-set h.tasks;
+    objects = h.objects;
+    progress = λ j. (kept-set s i (record (task_at s i) { status = f s.next_ticket }) h k j).0;
+    calls = λ j. (kept-set s i (record (task_at s i) { status = f s.next_ticket }) h k j).1;
+    contents = h.contents;
+    time = h.time;
+  }
+
+  -- a task in its place gets a status in which it doesn't wait
+  pub kept_free : (s : State) (i : ℕ) (u : Status) → IsSound app hold s → wait_of u ≡ None → IsReckoned s.time (progress_at s i).previous_wake u → IsKept s.time i (record (task_at s i) { status = u })
+  kept_free s i u h free r =
+      let a = h.progress i in
+      (record { nests = a.nests; loops = a.loops; used = a.used; reckoned = r }, call_free hold s.time (op_at app i (progress_at s i).op_index) (task_at s i) u free (h.calls i))
+
+  pub made_ready : (s : State) (i : ℕ) → IsSound app hold s → CanBeReady s i → IsSound app hold (make_ready i s)
+  made_ready s i h c = taken s i Ready h (omega arith) (kept_free s i (Ready s.next_ticket) h refl c.1)
+
+  pub all_made_ready : (s : State) (is : List ℕ) → IsSound app hold s → AllByRecursion (CanBeReady s) is → IsSound app hold (for_each make_ready is s)
+  all_made_ready s [] h a = h
+  all_made_ready s (i ∷ is) h a = all_made_ready (make_ready i s) is (made_ready s i h a.0) (still_can s i is a.0 a.1)
+
+  pub ready_can : (s : State) (i : ℕ) → IsSound app hold s → i < length s.tasks → is_ready s i ≡ true → CanBeReady s i
+  ready_can s i h l t = (l, ready_reckoned s.time (progress_at s i).previous_wake (status_at s i) (h.progress i).reckoned t)
+
+  pub runs : (s : State) (c : Option ℕ) → IsSound app hold s → IfSome c (λ i. i < length s.tasks) → IsSound app hold (record s { current = c })
+  runs s c h l = record {
+    table = record { tickets = h.table.tickets; few = h.table.few; current = l };
+    tasks = h.tasks;
+    objects = h.objects;
+    progress = h.progress;
+    calls = h.calls;
+    contents = h.contents;
+    time = h.time;
+  }
+
+  pub chosen : (s : State) → IsSound app hold s → IsSound app hold (choose s)
+  unfolding choose dispatch
+  chosen s h = by_test (is_same (choice s) s.current)
+      (λ t. rw t h)
+      (λ t. rw t (logged (record s { current = choice s }) _ s.steps s.stopped (runs s (choice s) h (choice_within s))))
+
+  went_back : (s : State) (r : Option ℕ) → IsSound app hold s → IfSome r (λ i. i < length s.tasks) → IsSound app hold (for_one to_back r s)
+  unfolding to_back
+  went_back s None h l = h
+  went_back s (Some i) h l = by_test (is_ready s i) (λ t. rw t (made_ready s i h (ready_can s i h l t))) (λ t. rw t h)
+
+  pub yielded : (s : State) → IsSound app hold s → IsSound app hold (yield_now s)
+  unfolding yield_now
+  yielded s h = chosen (for_one to_back s.current s) (went_back s s.current h h.table.current)
+
+  sliced : (s : State) → IsSound app hold s → IsSound app hold (slice s)
+  unfolding slice
+  sliced s h = by_test (is_outranked s || is_sharing s) (λ t. rw t (yielded s h)) (λ t. rw t h)
+
+  pub preempted : (s : State) → IsSound app hold s → IsSound app hold (preempt s)
+  unfolding preempt
+  preempted s h = by_test (is_outranked s) (λ t. rw t (yielded s h)) (λ t. rw t h)
+
+  pub settled : (s : State) → IsSound app hold s → IsSound app hold (settle s)
+  unfolding settle
+  settled s h = by_test (is_off s s.current) (λ t. rw t (chosen s h)) (λ t. rw t h)
+
+  woken : (s : State) → IsSound app hold s → IsSound app hold (wake_due s)
+  unfolding wake_due
+  woken s h = all_made_ready s (tasks_of (due s)) h (due_can s (λ i. (h.progress i).reckoned) (delayed_list s) (list_within delayed_key s.tasks))
+
+  later : (s : State) → IsSound app hold s → IsSound app hold (record s { time = s.time + 1; elapsed = s.elapsed + 1 })
+  later s h = let e = h.time in record {
+    table = record { tickets = h.table.tickets; few = h.table.few; current = h.table.current };
+    tasks = h.tasks;
+    objects = h.objects;
+    progress = λ i. let a = h.progress i in record { nests = a.nests; loops = a.loops; used = a.used; reckoned = later_reckoned s.time (progress_at s i).previous_wake (status_at s i) a.reckoned };
+    calls = λ i. call_later hold s.time (op_at app i (progress_at s i).op_index) (task_at s i) (h.calls i);
+    contents = h.contents;
+    time = omega arith;
+  }
+
+  pub ticked : (s : State) → IsSound app hold s → IsSound app hold (tick_interrupt s)
+  unfolding tick_interrupt increment_tick advance
+  ticked s h = sliced _ (woken _ (later s h))
+
+  -- The task of the state, which doesn't wait, is at an op, which does something and goes on.
+  module _ (s : State) (i : ℕ) (h : IsSound app hold s) (free : wait_of (status_at s i) ≡ None) where
+    ticket_kept : HasTicketBelow s.next_ticket (status_at s i)
+    ticket_kept = ticket_at s.next_ticket i s.tasks h.table.tickets
+
+    gone : (op_index : ℕ) (p : Progress) → p.previous_wake ≡ (progress_at s i).previous_wake → Nests (length p.loops) (drop op_index (script_of app i)) → LoopsNest (script_of app i) p.loops → IsSound app hold (go_to app i op_index p s)
+    unfolding go_to
+    gone op_index p before n ls =
+        let q : Progress = record p { op_index = op_index; used = 0; call = no_call } in
+        let a : (u : Status) → IsReckoned s.time p.previous_wake u → IsAt s.time (script_of app i) q u = λ u r. record { nests = n; loops = ls; used = used_none op_index (script_of app i) (script_formed app formed i).ranges; reckoned = r } in
+        let c : (u : Status) → wait_of u ≡ None → IsCall hold s.time (op_at app i op_index) (record (task_at s i) { progress = q; status = u }) = λ u f. call_none hold s.time (op_at app i op_index) (record (task_at s i) { progress = q; status = u }) refl f in
+        let kept : IsReckoned s.time p.previous_wake (status_at s i) = rw before (h.progress i).reckoned in
+        by_test (eqb op_index (op_count app i))
+        (λ e. rw e (changed s i (record (task_at s i) { progress = q; status = Ended }) h tt (a Ended tt, c Ended refl)))
+        (λ e. rw e (changed s i (record (task_at s i) { progress = q }) h ticket_kept (a (status_at s i) kept, c (status_at s i) free)))
+
+    module _ (op : Op) (is : op_at app i (progress_at s i).op_index ≡ Some op) where
+      past_it : Nests (nesting_past (length (progress_at s i).loops) op) (drop ((progress_at s i).op_index + 1) (script_of app i))
+      past_it = nests_past (length (progress_at s i).loops) (progress_at s i).op_index (script_of app i) op (h.progress i).nests is
+
+      -- an op that opens or closes no loop, whatever the answer
+      pub plain : (a : Option ℕ) → nesting_past (length (progress_at s i).loops) op ≡ length (progress_at s i).loops → IsSound app hold (complete app i (record (progress_at s i) { answer = a }) s)
+      plain a e = gone ((progress_at s i).op_index + 1) (record (progress_at s i) { answer = a }) refl (rw e at past_it) (h.progress i).loops
+
+  module _ (s : State) (i : ℕ) (op : Op) (h : IsSound app hold s) (free : wait_of (status_at s i) ≡ None) (is : op_at app i (progress_at s i).op_index ≡ Some op) where
+    pub answered : (a : Option ℕ) → nesting_past (length (progress_at s i).loops) op ≡ length (progress_at s i).loops → IsSound app hold (answer app i a s)
+    unfolding answer
+    answered a e = plain (write (what.Call i (progress_at s i).op_index a) s) i (logged s _ s.steps s.stopped h) free op is a e
+
+    pub used_up : (n : ℕ) → op ≡ Work n → IsSound app hold (use_up app i n s)
+    unfolding use_up
+    used_up n e = by_test (eqb ((progress_at s i).used + 1) n)
+        (λ t. rw t (plain s i h free op is (progress_at s i).answer (rw e refl)))
+        (λ t.
+        let a = h.progress i in
+        let c = h.calls i in
+        let u : IsUsedBy (progress_at s i).used (op_at app i (progress_at s i).op_index) = a.used in
+        let W : Option Op → Type 0 = λ o. IsUsedBy (progress_at s i).used o in
+        let less : (progress_at s i).used < n = subst W (is ∙ ap Some e) u in
+        let apart : (progress_at s i).used + 1 ≢ n = (λ q. let v : eqb ((progress_at s i).used + 1) n ≡ true = rw q (eqb-refl n) in absurd (cc)) in
+        let more : (progress_at s i).used + 1 < n = omega arith in
+        let V : Option Op → Type 0 = λ o. IsUsedBy ((progress_at s i).used + 1) o in
+        rw t (changed s i (record (task_at s i) { progress = record (progress_at s i) { used = (progress_at s i).used + 1 } }) h (ticket_kept s i h free)
+        (record { nests = a.nests; loops = a.loops; used = subst V (sym (is ∙ ap Some e)) more; reckoned = a.reckoned },
+        record { phase = c.phase; wait = c.wait; awake = c.awake; near = c.near })))
+
+    pub expected : (a : Option ℕ) → op ≡ Expect a → IsSound app hold (expect app i a s)
+    unfolding expect
+    expected a e = by_test (option_eq eqb (progress_at s i).answer a)
+        (λ t. rw t (plain s i h free op is (progress_at s i).answer (rw e refl)))
+        (λ t. rw t (logged s s.log s.steps _ h))
+
+    pub opened : (n : ℕ) → op ≡ Repeat n → IsSound app hold (open_loop app i n s)
+    unfolding open_loop
+    opened n e =
+        let p : Progress = progress_at s i in
+        let inner : Nests (length p.loops + 1) (drop (p.op_index + 1) (script_of app i)) = rw e at (past_it s i h free op is) in
+        let deep : Nests (suc (length p.loops)) (drop (p.op_index + 1) (script_of app i)) = let n : length p.loops + 1 ≡ suc (length p.loops) = omega arith in rw n at inner in
+        gone s i h free (p.op_index + 1) (record p { loops = record { start = p.op_index + 1; left = n } ∷ p.loops }) refl deep (deep, (h.progress i).loops)
+
+    closed_by : op ≡ End → (ls : List Loop) → (progress_at s i).loops ≡ ls → IsSound app hold (turn app i (progress_at s i) ls s)
+    closed_by e [] same =
+        let p : Progress = progress_at s i in
+        let may : may_stand (length p.loops) op ≡ true = stands_at (length p.loops) p.op_index (script_of app i) op (h.progress i).nests is in
+        let none : may_stand 0 End ≡ true = rw (same, e) at may in
+        absurd (cc)
+    closed_by e (x ∷ xs) same =
+        let p : Progress = progress_at s i in
+        let all : LoopsNest (script_of app i) (x ∷ xs) = rw same at (h.progress i).loops in
+        let P : List Loop → Type 0 = λ us. Nests (nesting_past (length us) op) (drop (p.op_index + 1) (script_of app i)) in
+        let outer : Nests (length (x ∷ xs) - 1) (drop (p.op_index + 1) (script_of app i)) = rw e at (subst P same (past_it s i h free op is)) in
+        let rest : Nests (length xs) (drop (p.op_index + 1) (script_of app i)) = let n : length (x ∷ xs) - 1 ≡ length xs = omega arith in rw n at outer in
+        by_test (leb x.left 1)
+        (λ q. rw q (gone s i h free (p.op_index + 1) (record p { loops = xs }) refl rest all.1))
+        (λ q. rw q (gone s i h free x.start (record p { loops = record x { left = x.left - 1 } ∷ xs }) refl all.0 (all.0, all.1)))
+
+    pub closed : op ≡ End → IsSound app hold (close_turn app i s)
+    unfolding close_turn
+    closed e = closed_by e (progress_at s i).loops refl
+
+  pub slept : (s : State) (i wake_time : ℕ) → IsSound app hold s → (is_ready s i ≡ true → (progress_at s i).previous_wake ≤ wake_time) → IsSound app hold (sleep i wake_time s)
+  unfolding sleep
+  slept s i wake_time h le = by_test (is_ready s i)
+      (λ u. rw u (taken s i (Asleep wake_time) h (omega arith) (kept_free s i (Asleep wake_time s.next_ticket) h refl (le u))))
+      (λ u. rw u h)
+
+  counted : (s : State) (i time : ℕ) → IsSound app hold s → IsReckoned s.time time (status_at s i) → IsSound app hold (set_previous_wake i time s)
+  unfolding set_previous_wake
+  counted s i time h r =
+      let a = h.progress i in
+      let c = h.calls i in
+      changed s i (record (task_at s i) { progress = record (progress_at s i) { previous_wake = time } }) h (ticket_at s.next_ticket i s.tasks h.table.tickets)
+      (record { nests = a.nests; loops = a.loops; used = a.used; reckoned = r }, record { phase = c.phase; wait = c.wait; awake = c.awake; near = c.near })
+
+  -- One who has begun to sleep until a time may count from it.
+  reckoned_asleep : (s : State) (i wake_time : ℕ) → i < length s.tasks → wake_time_of (status_at s i) ≡ None → wait_of (status_at s i) ≡ None → IsReckoned (sleep i wake_time s).time wake_time (status_at (sleep i wake_time s) i)
+  unfolding sleep
+  reckoned_asleep s i wake_time l awake free =
+      let t : Task = record (task_at s i) { status = Asleep wake_time s.next_ticket } in
+      by_test (is_ready s i)
+      (λ u. rw (u, get_or-set_same s.tasks i t no_task l, status_at) (omega arith))
+      (λ u. rw u (reckoned_ended s.time wake_time (status_at s i) u awake free))
+
+  still_task : (s : State) (i : ℕ) (a : Option ℕ) → i < length s.tasks → i < length (answer app i a s).tasks
+  still_task s i a l = rw (keeps-answer app i a s).tasks l
+
+  -- The answering task was Ready, so it is so still, or Ended.
+  module _ (s : State) (i : ℕ) (a : Option ℕ) (l : i < length s.tasks) where
+    answering : Task
+    answering = moved_to (op_count app i) ((progress_at s i).op_index + 1) (record (progress_at s i) { answer = a }) (task_at s i)
+
+    at_answer : task_at (answer app i a s) i ≡ answering
+    unfolding answer go_to answering
+    at_answer = get_or-set_same s.tasks i answering no_task l
+
+    awake_answer : is_ready s i ≡ true → wake_time_of (status_at (answer app i a s) i) ≡ None
+    unfolding answering
+    awake_answer t = rw (at_answer, status_at) (by_test (eqb ((progress_at s i).op_index + 1) (op_count app i)) (λ u. rw u refl) (λ u. rw u (ready_awake (status_at s i) t)))
+
+    free_answer : is_ready s i ≡ true → wait_of (status_at (answer app i a s) i) ≡ None
+    unfolding answering
+    free_answer t = rw (at_answer, status_at) (by_test (eqb ((progress_at s i).op_index + 1) (op_count app i)) (λ u. rw u refl) (λ u. rw u (ready_free (status_at s i) t)))
+
+    previous_answer : (progress_at (answer app i a s) i).previous_wake ≡ (progress_at s i).previous_wake
+    unfolding answering
+    previous_answer = rw (at_answer, progress_at) refl
+
+  -- who sleeps from now on
+  pub delayed : (s : State) (i n : ℕ) → IsSound app hold s → i < length s.tasks → is_ready s i ≡ true → op_at app i (progress_at s i).op_index ≡ Some (Delay n) → IsSound app hold (delay app i n s)
+  unfolding delay
+  delayed s i n h l ready is =
+      let t : State = answer app i (Some 0) s in
+      let k : IsSound app hold t = answered s i (Delay n) h (ready_free (status_at s i) ready) is (Some 0) refl in
+      let now : t.time ≡ s.time = (keeps-answer app i (Some 0) s).time in
+      by_test (eqb n 0)
+      (λ q. rw q (yielded t k))
+      (λ q. rw q (slept t i (s.time + n) k
+      (λ r. let le = (ready_can t i k (still_task s i (Some 0) l) r).1 in omega arith)))
+
+  pub delayed_until : (s : State) (i n : ℕ) → IsSound app hold s → i < length s.tasks → is_ready s i ≡ true → op_at app i (progress_at s i).op_index ≡ Some (DelayUntil n) → IsSound app hold (delay_until app i ((progress_at s i).previous_wake + n) s)
+  unfolding delay_until
+  delayed_until s i n h l ready is =
+      let time : ℕ = (progress_at s i).previous_wake + n in
+      let free : wait_of (status_at s i) ≡ None = ready_free (status_at s i) ready in
+      by_test (ltb s.time time)
+      (λ t.
+      let one : State = answer app i (Some 1) s in
+      let there : i < length one.tasks = still_task s i (Some 1) l in
+      let before : (progress_at one i).previous_wake ≡ (progress_at s i).previous_wake = previous_answer s i (Some 1) l in
+      let asleep : IsSound app hold (sleep i time one) = slept one i time (answered s i (DelayUntil n) h free is (Some 1) refl) (λ _. omega arith) in
+      rw t (counted (sleep i time one) i time asleep (reckoned_asleep one i time there (awake_answer s i (Some 1) l ready) (free_answer s i (Some 1) l ready))))
+      (λ t.
+      let le : time ≤ (answer app i (Some 0) s).time = rw (keeps-answer app i (Some 0) s).time (ltb-false s.time time t) in
+      rw t (counted _ i time (answered s i (DelayUntil n) h free is (Some 0) refl) (reckoned_now _ time _ le (awake_answer s i (Some 0) l ready))))
