@@ -8,4 +8,5 @@ pub mod Frames
 pub mod InScripts
 pub mod Settled
 pub mod Sound
+pub mod Called
 pub mod Reached
