@@ -9,4 +9,6 @@ pub mod InScripts
 pub mod Settled
 pub mod Sound
 pub mod Called
+pub mod Unlocking
+pub mod Phases
 pub mod Reached

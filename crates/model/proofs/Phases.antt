@@ -1,0 +1,166 @@
+-- What each phase of a call that waits makes of a state.
+use Rattle.std.proofs.Common.{◌≡◌, ◌≢◌, ◌<◌, ◌≤◌, ◌+◌, ◌||◌, ℕ, zero, suc, true, false, eqb, leb, List, [], ◌∷◌, ◌++◌, length, get_or, set, Option, Some, None, refl, ap, sym, subst, ◌∙◌, arith, get_or-set_same, get_or-set_other}
+use Rattle.std.specs.Prelude.{Bool}
+use Rattle.std.specs.List.{AllByRecursion}
+use Rattle.std.specs.Option.{IfSome, option_map, option_and_then, is_some, unwrap_or}
+use Rattle.std.proofs.Math.ListN.{length-set}
+use Rattle.std.proofs.lemmas.Bool.{leb-false}
+use Rattle.model.specs.declared.op.Op.{Op}
+use Rattle.model.specs.declared.op.Op.TheVariants.{Await}
+use Rattle.model.specs.declared.op.Access.{Access}
+use Rattle.model.specs.declared.call.CallProgress.{CallProgress}
+use Rattle.model.specs.declared.call.Phase.{Phase}
+use Rattle.model.specs.declared.call.Phase.TheVariants.{Start, Try, Decide, Place, Unlock, Leave}
+use Rattle.model.specs.declared.call.WaitList.{WaitList}
+use Rattle.model.specs.declared.call.WaitList.TheVariants.{ToReceive, ToSend}
+use Rattle.model.specs.Application.{Application, script_of, op_at}
+use Rattle.model.specs.Scripts.{IsWellFormed}
+use Rattle.model.specs.State.{State, Task, Progress, Status, Wait, Ready, Awake, Waiting, ticket_if_ready, wait_if_awake, wait_of, task_at, status_at, progress_at, call_at, with_task, with_call, go_on, for_each, for_one, no_task}
+use Rattle.model.specs.Order.{Key, Entry, key, tasks_of}
+use Rattle.model.specs.Switching.{is_ready, is_same, make_ready, choose, preempt}
+use Rattle.model.specs.Waiting.{same_list, wait_key, awakened, is_locked, wait_in, is_expired, end_hold, unlock_object, unlock}
+use Rattle.model.specs.Objects.{list_for, possible}
+use Rattle.model.specs.Calls.{lock, decide, leave_call}
+use Rattle.model.specs.Invariant.{HasTicketBelow, Hold, hold_of, awaited, IsPhaseOf, IsCall, IsSound, holds, IsPlacing, IsRunning, Runs, IsState}
+use Rattle.model.proofs.Sorting.{by_test}
+use Rattle.model.proofs.Lists.{HasKey, eqb-refl, eqb-same, list_has}
+use Rattle.model.proofs.Members.{has_task, has_task-key}
+use Rattle.model.proofs.Tables.{ticket_at}
+use Rattle.model.proofs.Chosen.{list_within}
+use Rattle.model.proofs.Sound.{IsKept, CanBeReady, each-set, each-set_but, framed, all_made_ready, chosen, preempted, ready_free}
+use Rattle.model.proofs.Called.{went_on, began, phase_free, call_apart, none_awake, rehung, reheld}
+
+-- ---- a call holds the scheduler
+
+-- where nothing is held
+abbrev pub free : Hold
+free = record { held = false; locked = None }
+
+module _ (app : Application) (formed : IsWellFormed app) where
+  -- the running task goes on in a phase that holds the scheduler
+  in_hold : (s : State) (i : ℕ) (t : Task) → IsSound app (hold_of s) (with_task i t s) → s.current ≡ Some i → i < length s.tasks → s.call_hold ≡ true
+      → holds t.progress.call.phase ≡ true → (t.progress.call.phase ≡ Place → IsPlacing s.time t (wait_of t.status))
+      → ((j : ℕ) → j ≢ i → holds (call_at s j).phase ≡ false) → IsState app (with_task i t s)
+  in_hold s i t h runs l held phase placing others =
+      let at : task_at (with_task i t s) i ≡ t = get_or-set_same s.tasks i t no_task l in
+      let H : Task → Type 0 = λ u. holds u.progress.call.phase ≡ s.call_hold in
+      let Q : Task → Type 0 = λ u. u.progress.call.phase ≡ Place → IsPlacing s.time u (wait_of u.status) in
+      let P : ℕ → Task → Type 0 = λ j u. holds u.progress.call.phase ≡ true → s.current ≡ Some j in
+      record {
+        sound = h;
+        runs = subst (Runs (with_task i t s)) (sym runs) (record {
+          holding = subst H (sym at) (phase ∙ sym held);
+          ready = λ none. absurd (cc);
+          placing = subst Q (sym at) placing;
+        });
+        alone = each-set_but no_task P s.tasks i t l (λ _. runs) (λ j ne on. let off = others j ne in absurd (cc));
+        locked = λ none. absurd (cc);
+      }
+
+  -- ---- Decide
+
+  others_free : (s : State) → IsSound app (hold_of s) s → s.call_hold ≡ false → (j : ℕ) → holds (call_at s j).phase ≡ false
+  others_free s h none j = phase_free (hold_of s) _ (call_at s j).phase none (h.calls j).phase
+
+  none_woken : (s : State) → IsSound app (hold_of s) s → s.locked ≡ None → (j : ℕ) → wait_if_awake (status_at s j) ≡ None
+  none_woken s h none j = none_awake s.locked (wait_if_awake (status_at s j)) none (h.calls j).awake
+
+  -- whatever is held from now on, it is as it was of all tasks
+  held_by_all : (s : State) (new : Hold) → IsSound app (hold_of s) s → s.call_hold ≡ false → s.locked ≡ None → IsSound app new s
+  held_by_all s new h none unlocked =
+      reheld app formed (hold_of s) new s h (λ j. call_apart (hold_of s) new s.time _ (task_at s j) (others_free s h none j) (none_woken s h unlocked j) (h.calls j))
+
+  still_to_come : (deadline : Option ℕ) (now : ℕ) → unwrap_or (option_map (λ d. leb d now) deadline) false ≡ false → IfSome deadline (λ d. now < d)
+  still_to_come None now t = tt
+  still_to_come (Some d) now t = leb-false d now t
+
+  module _ (s : State) (i o : ℕ) (a : Access) (ticks : Option ℕ) (h : IsSound app (hold_of s) s) (none : s.call_hold ≡ false) (unlocked : s.locked ≡ None)
+      (runs : s.current ≡ Some i) (l : i < length s.tasks) (r : is_ready s i ≡ true) (is : op_at app i (progress_at s i).op_index ≡ Some (Await o a ticks)) where
+    locking : Hold
+    locking = record { held = true; locked = Some o }
+
+    phase_there : (phase : Phase) → IsPhaseOf locking (Some o) phase → IsPhaseOf locking (awaited (op_at app i (progress_at s i).op_index)) phase
+    phase_there phase p = let P : Option Op → Type 0 = λ op. IsPhaseOf locking (awaited op) phase in subst P (sym is) p
+
+    decided_not : IsState app (lock i o Unlock s)
+    unfolding locking
+    decided_not =
+        let t : State = record s { call_hold = true; locked = Some o } in
+        let h1 : IsSound app locking t = framed app formed locking s s.log s.steps s.stopped (Some o) true (held_by_all s locking h none unlocked) in
+        in_hold t i (record (task_at s i) { progress = record (progress_at s i) { call = record (call_at s i) { phase = Unlock } } })
+        (went_on app formed locking t i Unlock h1 (phase_there Unlock (refl, refl))) runs l refl refl (λ e. absurd (cc)) (λ j ne. others_free s h none j)
+
+    -- what the task is when it has begun to wait
+    waiting_task : Task
+    waiting_task = record (task_at s i) {
+      progress = record (progress_at s i) { call = record (call_at s i) { list = Some (list_for o a) } };
+      status = Waiting (record { list = list_for o a; priority = (task_at s i).priority; ticket = s.next_ticket; deadline = (call_at s i).deadline });
+    }
+
+    begun_at : task_at (wait_in i (list_for o a) s) i ≡ waiting_task
+    unfolding wait_in waiting_task
+    begun_at =
+        let t : Task = record (task_at s i) { progress = record (progress_at s i) { call = record (call_at s i) { list = Some (list_for o a) } } } in
+        let s1 : State = with_task i t s in
+        let at : task_at s1 i ≡ t = get_or-set_same s.tasks i t no_task l in
+        let u : Task = record (task_at s1 i) { status = Waiting (record { list = list_for o a; priority = (task_at s i).priority; ticket = s.next_ticket; deadline = (call_at s i).deadline }) } in
+        let l1 : i < length s1.tasks = rw length-set l in
+        get_or-set_same s1.tasks i u no_task l1 ∙ ap (λ (v : Task). record v { status = Waiting (record { list = list_for o a; priority = (task_at s i).priority; ticket = s.next_ticket; deadline = (call_at s i).deadline }) }) at
+
+    begun_others : (j : ℕ) → j ≢ i → task_at (wait_in i (list_for o a) s) j ≡ task_at s j
+    unfolding wait_in
+    begun_others j ne = get_or-set_other _ i j _ no_task ne ∙ get_or-set_other s.tasks i j _ no_task ne
+
+    begun_length : length (wait_in i (list_for o a) s).tasks ≡ length s.tasks
+    unfolding wait_in
+    begun_length = length-set _ i _ ∙ length-set s.tasks i _
+
+    begun_kept : ((wait_in i (list_for o a) s).time ≡ s.time) × ((wait_in i (list_for o a) s).current ≡ s.current)
+    unfolding wait_in
+    begun_kept = (refl, refl)
+
+    decided_to_wait : is_expired s i ≡ false → IsState app (lock i o Place (wait_in i (list_for o a) s))
+    unfolding locking waiting_task
+    decided_to_wait to_come =
+        let b : State = wait_in i (list_for o a) s in
+        let t : State = record b { call_hold = true; locked = Some o } in
+        let h1 : IsSound app locking t = framed app formed locking b b.log b.steps b.stopped (Some o) true (began app formed locking s i o a ticks (held_by_all s locking h none unlocked) l r is) in
+        let O : Task → Type 0 = λ (u : Task). IsPhaseOf locking (awaited (op_at app i u.progress.op_index)) Place in
+        let F : ℕ → Task → Type 0 = λ now u. IsPlacing now (record u { progress = record u.progress { call = record u.progress.call { phase = Place } } }) (wait_of u.status) in
+        let later : IfSome (call_at s i).deadline (λ d. s.time < d) = still_to_come (call_at s i).deadline s.time to_come in
+        let placing : F s.time waiting_task = (refl, refl, later) in
+        in_hold t i (record (task_at b i) { progress = record (progress_at b i) { call = record (call_at b i) { phase = Place } } })
+        (went_on app formed locking t i Place h1 (subst O (sym begun_at) (phase_there Place (refl, refl))))
+        (begun_kept.1 ∙ runs) (rw begun_length l) refl refl
+        (λ _. subst (λ now. F now (task_at b i)) (sym begun_kept.0) (subst (F s.time) (sym begun_at) placing))
+        (λ j ne. subst (λ (u : Task). holds u.progress.call.phase ≡ false) (sym (begun_others j ne)) (others_free s h none j))
+
+    pub decided : IsState app (decide i o a s)
+    unfolding decide
+    decided = by_test (possible s o a || is_expired s i)
+        (λ t. rw t decided_not)
+        (λ t. rw t (decided_to_wait (expired_not (possible s o a) (is_expired s i) t))) where
+      expired_not : (x y : Bool) → (x || y) ≡ false → y ≡ false
+      expired_not false y e = e
+      expired_not true y e = absurd (cc)
+
+  -- ---- Place
+
+  module _ (s : State) (i o : ℕ) (h : IsState app s) (runs : s.current ≡ Some i) (l : i < length s.tasks) (on : awaited (op_at app i (progress_at s i).op_index) ≡ Some o) where
+    running : IsRunning s i
+    running = subst (Runs s) runs h.runs
+
+    -- nobody else is in a phase that holds the scheduler
+    only : (j : ℕ) → j ≢ i → holds (call_at s j).phase ≡ false
+    only j ne = by_test (holds (call_at s j).phase)
+        (λ t. let same : Some i ≡ Some j = sym runs ∙ h.alone j t in let e : i ≡ j = cc in absurd (ne (sym e)))
+        (λ t. t)
+
+    module _ (held : s.call_hold ≡ true) where
+      pub placed : (call_at s i).phase ≡ Place → IsState app (go_on i Unlock s)
+      placed is =
+          let P : Option ℕ → Phase → Type 0 = λ object phase. IsPhaseOf (hold_of s) object phase in
+          let p : IsPhaseOf (hold_of s) (Some o) Place = subst (P (Some o)) is (subst (λ object. P object (call_at s i).phase) on (h.sound.calls i).phase) in
+          in_hold s i (record (task_at s i) { progress = record (progress_at s i) { call = record (call_at s i) { phase = Unlock } } })
+          (went_on app formed (hold_of s) s i Unlock h.sound (subst (λ object. P object Unlock) (sym on) p)) runs l held refl (λ e. absurd (cc)) only
+

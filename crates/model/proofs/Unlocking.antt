@@ -1,0 +1,144 @@
+-- Who was Awake is Ready after an unlock.
+use Rattle.std.proofs.Common.{◌≡◌, ◌<◌, ◌≤◌, ◌||◌, ℕ, true, false, eqb, List, [], ◌∷◌, ◌++◌, length, get_or, set, Option, Some, None, refl, ap, sym, subst, ◌∙◌, get_or-set_same}
+use Rattle.std.specs.Prelude.{Bool}
+use Rattle.std.specs.List.{AllByRecursion}
+use Rattle.std.specs.Option.{IfSome, option_and_then, is_some}
+use Rattle.std.proofs.Math.ListN.{length-set}
+use Rattle.model.specs.declared.call.WaitList.{WaitList}
+use Rattle.model.specs.declared.call.WaitList.TheVariants.{ToReceive, ToSend}
+use Rattle.model.specs.State.{State, Task, Progress, Status, Wait, Ready, Awake, Waiting, Asleep, Ended, ticket_if_ready, wait_if_awake, wait_of, task_at, status_at, progress_at, for_each, no_task}
+use Rattle.model.specs.Order.{Key, Entry, key, tasks_of}
+use Rattle.model.specs.Switching.{is_ready, make_ready}
+use Rattle.model.specs.Waiting.{same_list, wait_key, awakened, is_locked, unlock_object}
+use Rattle.model.specs.Invariant.{IsReckoned}
+use Rattle.model.proofs.Sorting.{by_test}
+use Rattle.model.proofs.Lists.{HasKey, eqb-refl, eqb-same, list_has}
+use Rattle.model.proofs.Members.{has_task, has_task-key}
+use Rattle.model.proofs.Sound.{CanBeReady, each-set}
+
+same_list-refl : (list : WaitList) → same_list list list ≡ true
+same_list-refl (ToReceive o) = eqb-refl o
+same_list-refl (ToSend o) = eqb-refl o
+
+-- a number is among these
+among : ℕ → List ℕ → Bool
+among i [] = false
+among i (j ∷ js) = eqb j i || among i js
+
+among-append : (i : ℕ) (js ks : List ℕ) → among i (js ++ ks) ≡ (among i js || among i ks)
+unfolding among
+among-append i [] ks = refl
+among-append i (j ∷ js) ks = by_test (eqb j i) (λ t. rw t refl) (λ t. rw t (among-append i js ks))
+
+among-tasks_of : (i : ℕ) (es : List Entry) → among i (tasks_of es) ≡ has_task i es
+unfolding among
+among-tasks_of i [] = refl
+among-tasks_of i (e ∷ es) = ap (λ (b : Bool). eqb e.task i || b) (among-tasks_of i es)
+
+still_ready : (s : State) (js : List ℕ) (i : ℕ) → is_ready s i ≡ true → is_ready (for_each make_ready js s) i ≡ true
+still_ready s [] i r = r
+still_ready s (j ∷ js) i r =
+    let P : ℕ → Task → Type 0 = λ k t. k ≡ i → is_some (ticket_if_ready t.status) ≡ true in
+    let one : is_ready (make_ready j s) i ≡ true = each-set no_task P s.tasks j (record (task_at s j) { status = Ready s.next_ticket }) (λ _. refl) (λ k e. subst (λ (m : ℕ). is_ready s m ≡ true) (sym e) r) i refl in
+    still_ready (make_ready j s) js i one
+
+made_of : (s : State) (js : List ℕ) (i : ℕ) → i < length s.tasks → among i js ≡ true → is_ready (for_each make_ready js s) i ≡ true
+unfolding among
+made_of s [] i l t = absurd (cc)
+made_of s (j ∷ js) i l t = by_test (eqb j i)
+    (λ e.
+    let same : j ≡ i = eqb-same j i e in
+    let R : Task → Type 0 = λ u. is_some (ticket_if_ready u.status) ≡ true in
+    let one : is_ready (make_ready i s) i ≡ true = subst R (sym (get_or-set_same s.tasks i (record (task_at s i) { status = Ready s.next_ticket }) no_task l)) refl in
+    still_ready (make_ready j s) js i (subst (λ k. is_ready (make_ready k s) i ≡ true) (sym same) one))
+    (λ e. made_of (make_ready j s) js i (rw length-set l) (rw e at t))
+
+not_woken_still : (s : State) (js : List ℕ) (i : ℕ) → wait_if_awake (status_at s i) ≡ None → wait_if_awake (status_at (for_each make_ready js s) i) ≡ None
+not_woken_still s [] i n = n
+not_woken_still s (j ∷ js) i n =
+    let P : ℕ → Task → Type 0 = λ k t. k ≡ i → wait_if_awake t.status ≡ None in
+    not_woken_still (make_ready j s) js i (each-set no_task P s.tasks j (record (task_at s j) { status = Ready s.next_ticket }) (λ _. refl) (λ k e. subst (λ (m : ℕ). wait_if_awake (status_at s m) ≡ None) (sym e) n) i refl)
+
+ready_not_woken : (u : Status) → is_some (ticket_if_ready u) ≡ true → wait_if_awake u ≡ None
+ready_not_woken (Ready n) t = refl
+ready_not_woken (Awake w) t = absurd (cc)
+ready_not_woken (Waiting w) t = refl
+ready_not_woken (Asleep v n) t = refl
+ready_not_woken Ended t = refl
+
+-- those whom the unlock of an object makes Ready
+pub opened_by : State → ℕ → List ℕ
+opened_by s o = tasks_of (awakened s (ToReceive o)) ++ tasks_of (awakened s (ToSend o))
+
+awake_key : WaitList → Task → Option Key
+awake_key list t = option_and_then (wait_key list) (wait_if_awake t.status)
+
+awake_keyed : (s : State) (i : ℕ) (w : Wait) → wait_if_awake (status_at s i) ≡ Some w → awake_key w.list (task_at s i) ≡ Some (key w.priority w.ticket)
+unfolding awake_key
+awake_keyed s i w e = ap (option_and_then (wait_key w.list)) e ∙ (let t = same_list-refl w.list in rw t refl)
+
+awake_among : (s : State) (i : ℕ) (w : Wait) → wait_if_awake (status_at s i) ≡ Some w → among i (tasks_of (awakened s w.list)) ≡ true
+unfolding awake_key
+awake_among s i w e =
+    among-tasks_of i (awakened s w.list) ∙ has_task-key (awake_key w.list) refl i (key w.priority w.ticket) s.tasks (awake_keyed s i w e)
+
+or_left : (a b : Bool) → a ≡ true → (a || b) ≡ true
+or_left true b e = refl
+or_left false b e = absurd (cc)
+
+or_right : (a b : Bool) → b ≡ true → (a || b) ≡ true
+or_right true b e = refl
+or_right false b e = e
+
+of_locked : (s : State) (o i : ℕ) (list : WaitList) → is_locked (Some o) list ≡ true → among i (tasks_of (awakened s list)) ≡ true → among i (opened_by s o) ≡ true
+unfolding opened_by
+of_locked s o i (ToReceive p) t a =
+    let same : o ≡ p = eqb-same o p t in
+    let b : among i (tasks_of (awakened s (ToReceive o))) ≡ true = rw same a in
+    among-append i (tasks_of (awakened s (ToReceive o))) (tasks_of (awakened s (ToSend o))) ∙ or_left _ _ b
+of_locked s o i (ToSend p) t a =
+    let same : o ≡ p = eqb-same o p t in
+    let b : among i (tasks_of (awakened s (ToSend o))) ≡ true = rw same a in
+    among-append i (tasks_of (awakened s (ToReceive o))) (tasks_of (awakened s (ToSend o))) ∙ or_right (among i (tasks_of (awakened s (ToReceive o)))) _ b
+
+-- nobody is Awake any more
+pub none_left : (s : State) (o i : ℕ) → i < length s.tasks → IfSome (wait_if_awake (status_at s i)) (λ w. is_locked (Some o) w.list ≡ true) → wait_if_awake (status_at (for_each make_ready (opened_by s o) s) i) ≡ None
+none_left s o i l h = by_wait (wait_if_awake (status_at s i)) refl h where
+  by_wait : (w : Option Wait) → wait_if_awake (status_at s i) ≡ w → IfSome w (λ w. is_locked (Some o) w.list ≡ true) → wait_if_awake (status_at (for_each make_ready (opened_by s o) s) i) ≡ None
+  by_wait None e h = not_woken_still s (opened_by s o) i e
+  by_wait (Some w) e h = ready_not_woken (status_at (for_each make_ready (opened_by s o) s) i) (made_of s (opened_by s o) i l (of_locked s o i w.list h (awake_among s i w e)))
+
+-- and nobody is further in a script
+pub still_at : (s : State) (js : List ℕ) (i : ℕ) → progress_at (for_each make_ready js s) i ≡ progress_at s i
+still_at s [] i = refl
+still_at s (j ∷ js) i =
+    let P : ℕ → Task → Type 0 = λ k t. k ≡ i → t.progress ≡ progress_at s i in
+    let own : j ≡ i → progress_at s j ≡ progress_at s i = ap (progress_at s) in
+    still_at (make_ready j s) js i ∙ each-set no_task P s.tasks j (record (task_at s j) { status = Ready s.next_ticket }) own (λ k. ap (progress_at s)) i refl
+
+awake_reckoned : (list : WaitList) (now previous : ℕ) (u : Status) (k : Key) → option_and_then (wait_key list) (wait_if_awake u) ≡ Some k → IsReckoned now previous u → previous ≤ now
+awake_reckoned list now p (Ready n) k e h = absurd (cc)
+awake_reckoned list now p (Awake w) k e h = h
+awake_reckoned list now p (Waiting w) k e h = absurd (cc)
+awake_reckoned list now p (Asleep v n) k e h = absurd (cc)
+awake_reckoned list now p Ended k e h = absurd (cc)
+
+-- those who are woken can be Ready
+can_all : (s : State) (list : WaitList) (es : List Entry) → ((i : ℕ) → IsReckoned s.time (progress_at s i).previous_wake (status_at s i)) → AllByRecursion (HasKey (awake_key list) s.tasks) es → AllByRecursion (CanBeReady s) (tasks_of es)
+unfolding awake_key
+can_all s list [] r has = tt
+can_all s list (e ∷ es) r has = ((has.0.within, awake_reckoned list s.time (progress_at s e.task).previous_wake (status_at s e.task) e.key has.0.key (r e.task)), can_all s list es r has.1)
+
+can_both : (s : State) (js ks : List ℕ) → AllByRecursion (CanBeReady s) js → AllByRecursion (CanBeReady s) ks → AllByRecursion (CanBeReady s) (js ++ ks)
+can_both s [] ks a b = b
+can_both s (j ∷ js) ks a b = (a.0, can_both s js ks a.1 b)
+
+pub opened_can : (s : State) (o : ℕ) → ((i : ℕ) → IsReckoned s.time (progress_at s i).previous_wake (status_at s i)) → AllByRecursion (CanBeReady s) (opened_by s o)
+unfolding opened_by awake_key
+opened_can s o r = can_both s (tasks_of (awakened s (ToReceive o))) (tasks_of (awakened s (ToSend o)))
+    (can_all s (ToReceive o) (awakened s (ToReceive o)) r (list_has (awake_key (ToReceive o)) s.tasks))
+    (can_all s (ToSend o) (awakened s (ToSend o)) r (list_has (awake_key (ToSend o)) s.tasks))
+
+pub unlocked_by : (s : State) (o : ℕ) → unlock_object o s ≡ for_each make_ready (opened_by s o) (record s { locked = None })
+unfolding opened_by
+unlocked_by s o = refl
