@@ -244,6 +244,14 @@ module _ (app : Application) (formed : IsWellFormed app) (hold : Hold) where
       (record { nests = a0.nests; loops = a0.loops; used = a0.used; reckoned = past },
       record { phase = c0.phase; wait = record { list = subst L (sym is) refl; deadline = refl }; awake = tt; near = c0.near }))
 
+-- a call that gets its deadline is that of a task that is Ready still, and at the same op
+pub dated_at : (s : State) (i : ℕ) (ticks : Option ℕ) → i < length s.tasks → (is_ready (set_deadline i ticks s) i ≡ is_ready s i) × ((progress_at (set_deadline i ticks s) i).op_index ≡ (progress_at s i).op_index)
+unfolding set_deadline
+dated_at s i ticks l =
+    let t : Task = record (task_at s i) { progress = record (progress_at s i) { call = record (call_at s i) { deadline = option_map (λ n. s.time + n) ticks } } } in
+    let at : get_or (set s.tasks i t) i no_task ≡ t = get_or-set_same s.tasks i t no_task l in
+    (ap (λ (u : Task). is_some (ticket_if_ready u.status)) at, ap (λ (u : Task). u.progress.op_index) at)
+
 -- ---- another hold
 
 -- a phase that doesn't hold the scheduler fits every hold

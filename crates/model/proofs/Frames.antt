@@ -21,7 +21,7 @@ use Rattle.model.specs.Waiting.{waiters, awakened, awake_status, is_locked, wake
 use Rattle.model.specs.Objects.{possible, answer_to, object_after, list_woken, fulfil, attempt}
 use Rattle.model.specs.Calls.{try, decide, leave_call, await, do_now}
 use Rattle.model.specs.Ops.{go_to, moved_to, complete, answer, use_up, delay, delay_until, expect, open_loop, turn, close_turn}
-use Rattle.model.specs.Invariant.{hold_of}
+use Rattle.model.specs.Invariant.{hold_of, awaited}
 use Rattle.model.specs.Step.{act, act_if, act_current, step, reset, nobody_ready, ready_at_reset, with_ops}
 use Rattle.model.proofs.Sorting.{by_test}
 use Rattle.model.proofs.Settled.{when_held, when_free}
@@ -239,6 +239,34 @@ unfolding tick_interrupt increment_tick advance
 elapsed-tick s =
     let later : State = record s { time = s.time + 1; elapsed = s.elapsed + 1 } in
     (keeps-slice (wake_due later)).elapsed ∙ (keeps-wake_due later).elapsed
+
+pub hold-tick : (s : State) → hold_of (tick_interrupt s) ≡ hold_of s
+unfolding tick_interrupt increment_tick advance
+hold-tick s =
+    let later : State = record s { time = s.time + 1; elapsed = s.elapsed + 1 } in
+    (keeps-slice (wake_due later)).hold ∙ (keeps-wake_due later).hold
+
+hold-expect : (app : Application) (i : ℕ) (a : Option ℕ) (s : State) → hold_of (expect app i a s) ≡ hold_of s
+unfolding expect
+hold-expect app i a s = by_test (option_eq eqb (progress_at s i).answer a)
+    (λ t. rw t (keeps-go_to app i ((progress_at s i).op_index + 1) (progress_at s i) s).hold)
+    (λ t. rw t refl)
+
+-- an op that doesn't wait
+pub hold-act : (app : Application) (i : ℕ) (op : Op) (s : State) → awaited (Some op) ≡ None → hold_of (act app i op s) ≡ hold_of s
+hold-act app i (Work n) s w = hold-tick (use_up app i n s) ∙ (keeps-use_up app i n s).hold
+hold-act app i (Delay n) s w = (keeps-delay app i n s).hold
+hold-act app i (DelayUntil n) s w = (keeps-delay_until app i ((progress_at s i).previous_wake + n) s).hold
+hold-act app i Yield s w = let t : State = answer app i (Some 0) s in (keeps-yield_now t).hold ∙ (keeps-answer app i (Some 0) s).hold
+hold-act app i Time s w = (keeps-answer app i (Some (printed s.time)) s).hold
+hold-act app i (Mark n) s w = (keeps-go_to app i ((progress_at s i).op_index + 1) (progress_at s i) (write (what.Mark i n) s)).hold
+hold-act app i (Expect a) s w = hold-expect app i a s
+hold-act app i (Repeat n) s w = (keeps-open_loop app i n s).hold
+hold-act app i End s w = (keeps-close_turn app i s).hold
+hold-act app i (Await o a ticks) s w = absurd (cc)
+hold-act app i (Do o a) s w = (keeps-do_now app i o a s).hold
+hold-act app i (MessagesWaiting o) s w = (keeps-answer app i (Some (length (object_at s o).items)) s).hold
+hold-act app i (SpacesAvailable o) s w = (keeps-answer app i (Some ((object_at s o).size - length (object_at s o).items)) s).hold
 
 elapsed-expect : (app : Application) (i : ℕ) (a : Option ℕ) (s : State) → (expect app i a s).elapsed ≡ s.elapsed
 unfolding expect

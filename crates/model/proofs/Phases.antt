@@ -28,6 +28,8 @@ use Rattle.model.proofs.Members.{has_task, has_task-key}
 use Rattle.model.proofs.Tables.{ticket_at}
 use Rattle.model.proofs.Chosen.{list_within}
 use Rattle.model.proofs.Sound.{IsKept, CanBeReady, each-set, each-set_but, framed, all_made_ready, chosen, preempted, ready_free}
+use Rattle.model.proofs.Frames.{Keeps, keeps-all_ready, keeps-choose, keeps-preempt}
+use Rattle.model.proofs.Unlocking.{opened_by, none_left, still_at, opened_can, unlocked_by, current-all_ready}
 use Rattle.model.proofs.Called.{went_on, began, phase_free, call_apart, none_awake, rehung, reheld}
 
 -- ---- a call holds the scheduler
@@ -144,6 +146,10 @@ module _ (app : Application) (formed : IsWellFormed app) where
       expired_not false y e = e
       expired_not true y e = absurd (cc)
 
+    pub decided_held : (decide i o a s).call_hold ≡ true
+    unfolding decide
+    decided_held = by_test (possible s o a || is_expired s i) (λ t. rw t refl) (λ t. rw t refl)
+
   -- ---- Place
 
   module _ (s : State) (i o : ℕ) (h : IsState app s) (runs : s.current ≡ Some i) (l : i < length s.tasks) (on : awaited (op_at app i (progress_at s i).op_index) ≡ Some o) where
@@ -164,3 +170,115 @@ module _ (app : Application) (formed : IsWellFormed app) where
           in_hold s i (record (task_at s i) { progress = record (progress_at s i) { call = record (call_at s i) { phase = Unlock } } })
           (went_on app formed (hold_of s) s i Unlock h.sound (subst (λ object. P object Unlock) (sym on) p)) runs l held refl (λ e. absurd (cc)) only
 
+      -- ---- Unlock
+
+      module _ (is : (call_at s i).phase ≡ Unlock) where
+        unlocks : s.locked ≡ Some o
+        unlocks =
+            let P : Option ℕ → Phase → Type 0 = λ object phase. IsPhaseOf (hold_of s) object phase in
+            let p : IsPhaseOf (hold_of s) (Some o) Unlock = subst (P (Some o)) is (subst (λ object. P object (call_at s i).phase) on (h.sound.calls i).phase) in
+            p.1
+
+        opened : State
+        opened = for_each make_ready (opened_by s o) (record s { locked = None })
+
+        still : Hold
+        still = record { held = s.call_hold; locked = None }
+
+        opened_is : unlock s ≡ opened
+        unfolding unlock opened
+        opened_is = ap (λ l. for_one unlock_object l s) unlocks ∙ unlocked_by s o
+
+        opened_sound : IsSound app (hold_of s) opened
+        unfolding opened
+        opened_sound = all_made_ready app formed (hold_of s) (record s { locked = None }) (opened_by s o) (framed app formed (hold_of s) s s.log s.steps s.stopped None s.call_hold h.sound) (opened_can s o (λ j. (h.sound.progress j).reckoned))
+
+        at_opened : (j : ℕ) → progress_at opened j ≡ progress_at s j
+        unfolding opened
+        at_opened j = still_at (record s { locked = None }) (opened_by s o) j
+
+        none_opened : (j : ℕ) → wait_if_awake (status_at opened j) ≡ None
+        unfolding opened
+        none_opened j = none_left (record s { locked = None }) o j (subst (λ l. IfSome (wait_if_awake (status_at s j)) (λ w. is_locked l w.list ≡ true)) unlocks (h.sound.calls j).awake)
+
+        kept_opened : Keeps (record s { locked = None }) opened
+        unfolding opened
+        kept_opened = keeps-all_ready (opened_by s o) (record s { locked = None })
+
+        runs_opened : opened.current ≡ Some i
+        unfolding opened
+        runs_opened = current-all_ready (record s { locked = None }) (opened_by s o) ∙ runs
+
+        off_opened : (j : ℕ) → j ≢ i → holds (call_at opened j).phase ≡ false
+        off_opened j ne = subst (λ (p : Progress). holds p.call.phase ≡ false) (sym (at_opened j)) (only j ne)
+
+        left_task : Task
+        left_task = record (task_at opened i) { progress = record (progress_at opened i) { call = record (call_at opened i) { phase = Leave } } }
+
+        sound_left : IsSound app still (with_task i left_task opened)
+        unfolding still left_task
+        sound_left =
+            let a = opened_sound.progress i in
+            let c = opened_sound.calls i in
+            let O : Progress → Type 0 = λ p. IsPhaseOf still (awaited (op_at app i p.op_index)) Leave in
+            let A : Option Wait → Type 0 = λ w. IfSome w (λ x. is_locked None x.list ≡ true) in
+            let l1 : i < length opened.tasks = rw kept_opened.tasks l in
+            rehung app formed (hold_of s) still opened i left_task opened_sound l1 (ticket_at opened.next_ticket i opened.tasks opened_sound.table.tickets)
+            (record { nests = a.nests; loops = a.loops; used = a.used; reckoned = a.reckoned },
+            record { phase = subst O (sym (at_opened i)) (subst (λ object. IsPhaseOf still object Leave) (sym on) (held, refl)); wait = c.wait; awake = subst A (sym (none_opened i)) tt; near = c.near })
+            (λ j ne. call_apart (hold_of s) still opened.time _ (task_at opened j) (off_opened j ne) (none_opened j) (opened_sound.calls j))
+
+        pub unlocked : IsState app (go_on i Leave (unlock s))
+        unfolding still left_task
+        unlocked =
+            let kept : hold_of opened ≡ still = kept_opened.hold in
+            let hold : opened.call_hold ≡ true = ap (λ (x : Hold). x.held) kept ∙ held in
+            let l1 : i < length opened.tasks = rw kept_opened.tasks l in
+            subst (λ u. IsState app (go_on i Leave u)) (sym opened_is)
+            (in_hold opened i left_task (subst (λ x. IsSound app x (with_task i left_task opened)) (sym kept) sound_left) runs_opened l1 hold refl (λ e. absurd (cc)) off_opened)
+
+        pub unlocked_held : (go_on i Leave (unlock s)).call_hold ≡ true
+        unlocked_held =
+            let kept : hold_of opened ≡ record { held = s.call_hold; locked = None } = kept_opened.hold in
+            ap (λ (u : State). u.call_hold) opened_is ∙ ap (λ (x : Hold). x.held) kept ∙ held
+
+      -- ---- Leave
+
+      module _ (is : (call_at s i).phase ≡ Leave) where
+        leaves : s.locked ≡ None
+        leaves =
+            let P : Option ℕ → Phase → Type 0 = λ object phase. IsPhaseOf (hold_of s) object phase in
+            let p : IsPhaseOf (hold_of s) (Some o) Leave = subst (P (Some o)) is (subst (λ object. P object (call_at s i).phase) on (h.sound.calls i).phase) in
+            p.1
+
+        ended : State
+        ended = end_hold i Try s
+
+        ended_sound : IsSound app free ended
+        unfolding ended
+        ended_sound =
+            let s1 : State = record s { call_hold = false } in
+            let t : Task = record (task_at s i) { progress = record (progress_at s i) { call = record (call_at s i) { phase = Try; list = None } } } in
+            let h1 : IsSound app (hold_of s) s1 = framed app formed (hold_of s) s s.log s.steps s.stopped s.locked false h.sound in
+            let a = h.sound.progress i in
+            let c = h.sound.calls i in
+            let A : Option Wait → Type 0 = λ w. IfSome w (λ x. is_locked None x.list ≡ true) in
+            let none : (j : ℕ) → wait_if_awake (status_at s j) ≡ None = λ j. none_awake s.locked (wait_if_awake (status_at s j)) leaves (h.sound.calls j).awake in
+            rehung app formed (hold_of s) free s1 i t h1 l (ticket_at s.next_ticket i s.tasks h.sound.table.tickets)
+            (record { nests = a.nests; loops = a.loops; used = a.used; reckoned = a.reckoned },
+            record { phase = subst (λ object. IsPhaseOf free object Try) (sym on) tt; wait = c.wait; awake = subst A (sym (none i)) tt; near = c.near })
+            (λ j ne. call_apart (hold_of s) free s.time _ (task_at s j) (only j ne) (none j) (h.sound.calls j))
+
+        pub left : IsSound app free (leave_call i s)
+        unfolding leave_call ended
+        left = by_test (is_some (call_at s i).list)
+            (λ t. rw t (chosen app formed free ended ended_sound))
+            (λ t. rw t (preempted app formed free ended ended_sound))
+
+        pub left_hold : hold_of (leave_call i s) ≡ free
+        unfolding leave_call ended
+        left_hold =
+            let same : hold_of ended ≡ free = ap (λ l. record { held = false; locked = l }) leaves in
+            by_test (is_some (call_at s i).list)
+            (λ t. rw t ((keeps-choose ended).hold ∙ same))
+            (λ t. rw t ((keeps-preempt ended).hold ∙ same))

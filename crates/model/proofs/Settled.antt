@@ -45,7 +45,7 @@ still_on : (s : State) (r : Option ℕ) → is_off s r ≡ false → IfSome r (�
 still_on s None t = tt
 still_on s (Some i) t = by_test (is_ready s i) (λ u. u) (λ u. let w : not false ≡ false = rw u at t in absurd (cc))
 
-settled-settle : (s : State) → IsSettled (settle s)
+pub settled-settle : (s : State) → IsSettled (settle s)
 unfolding settle
 settled-settle s = by_test (is_off s s.current)
     (λ t. rw t (settled-choose s))

@@ -1,5 +1,5 @@
 -- Who was Awake is Ready after an unlock.
-use Rattle.std.proofs.Common.{◌≡◌, ◌<◌, ◌≤◌, ◌||◌, ℕ, true, false, eqb, List, [], ◌∷◌, ◌++◌, length, get_or, set, Option, Some, None, refl, ap, sym, subst, ◌∙◌, get_or-set_same}
+use Rattle.std.proofs.Common.{◌≡◌, ◌<◌, ◌≤◌, ◌||◌, ℕ, zero, suc, true, false, eqb, arith, List, [], ◌∷◌, ◌++◌, length, get_or, set, Option, Some, None, refl, ap, sym, subst, ◌∙◌, get_or-set_same}
 use Rattle.std.specs.Prelude.{Bool}
 use Rattle.std.specs.List.{AllByRecursion}
 use Rattle.std.specs.Option.{IfSome, option_and_then, is_some}
@@ -67,7 +67,7 @@ ready_not_woken (Asleep v n) t = refl
 ready_not_woken Ended t = refl
 
 -- those whom the unlock of an object makes Ready
-pub opened_by : State → ℕ → List ℕ
+abbrev pub opened_by : State → ℕ → List ℕ
 opened_by s o = tasks_of (awakened s (ToReceive o)) ++ tasks_of (awakened s (ToSend o))
 
 awake_key : WaitList → Task → Option Key
@@ -91,7 +91,6 @@ or_right true b e = refl
 or_right false b e = e
 
 of_locked : (s : State) (o i : ℕ) (list : WaitList) → is_locked (Some o) list ≡ true → among i (tasks_of (awakened s list)) ≡ true → among i (opened_by s o) ≡ true
-unfolding opened_by
 of_locked s o i (ToReceive p) t a =
     let same : o ≡ p = eqb-same o p t in
     let b : among i (tasks_of (awakened s (ToReceive o))) ≡ true = rw same a in
@@ -101,12 +100,17 @@ of_locked s o i (ToSend p) t a =
     let b : among i (tasks_of (awakened s (ToSend o))) ≡ true = rw same a in
     among-append i (tasks_of (awakened s (ToReceive o))) (tasks_of (awakened s (ToSend o))) ∙ or_right (among i (tasks_of (awakened s (ToReceive o)))) _ b
 
+awake_within : (ts : List Task) (i : ℕ) (w : Wait) → wait_if_awake (get_or ts i no_task).status ≡ Some w → i < length ts
+awake_within [] i w e = absurd (cc)
+awake_within (t ∷ ts) zero w e = omega arith
+awake_within (t ∷ ts) (suc i) w e = let l = awake_within ts i w e in omega arith
+
 -- nobody is Awake any more
-pub none_left : (s : State) (o i : ℕ) → i < length s.tasks → IfSome (wait_if_awake (status_at s i)) (λ w. is_locked (Some o) w.list ≡ true) → wait_if_awake (status_at (for_each make_ready (opened_by s o) s) i) ≡ None
-none_left s o i l h = by_wait (wait_if_awake (status_at s i)) refl h where
+pub none_left : (s : State) (o i : ℕ) → IfSome (wait_if_awake (status_at s i)) (λ w. is_locked (Some o) w.list ≡ true) → wait_if_awake (status_at (for_each make_ready (opened_by s o) s) i) ≡ None
+none_left s o i h = by_wait (wait_if_awake (status_at s i)) refl h where
   by_wait : (w : Option Wait) → wait_if_awake (status_at s i) ≡ w → IfSome w (λ w. is_locked (Some o) w.list ≡ true) → wait_if_awake (status_at (for_each make_ready (opened_by s o) s) i) ≡ None
   by_wait None e h = not_woken_still s (opened_by s o) i e
-  by_wait (Some w) e h = ready_not_woken (status_at (for_each make_ready (opened_by s o) s) i) (made_of s (opened_by s o) i l (of_locked s o i w.list h (awake_among s i w e)))
+  by_wait (Some w) e h = ready_not_woken (status_at (for_each make_ready (opened_by s o) s) i) (made_of s (opened_by s o) i (awake_within s.tasks i w e) (of_locked s o i w.list h (awake_among s i w e)))
 
 -- and nobody is further in a script
 pub still_at : (s : State) (js : List ℕ) (i : ℕ) → progress_at (for_each make_ready js s) i ≡ progress_at s i
@@ -134,11 +138,14 @@ can_both s [] ks a b = b
 can_both s (j ∷ js) ks a b = (a.0, can_both s js ks a.1 b)
 
 pub opened_can : (s : State) (o : ℕ) → ((i : ℕ) → IsReckoned s.time (progress_at s i).previous_wake (status_at s i)) → AllByRecursion (CanBeReady s) (opened_by s o)
-unfolding opened_by awake_key
+unfolding awake_key
 opened_can s o r = can_both s (tasks_of (awakened s (ToReceive o))) (tasks_of (awakened s (ToSend o)))
     (can_all s (ToReceive o) (awakened s (ToReceive o)) r (list_has (awake_key (ToReceive o)) s.tasks))
     (can_all s (ToSend o) (awakened s (ToSend o)) r (list_has (awake_key (ToSend o)) s.tasks))
 
 pub unlocked_by : (s : State) (o : ℕ) → unlock_object o s ≡ for_each make_ready (opened_by s o) (record s { locked = None })
-unfolding opened_by
 unlocked_by s o = refl
+
+pub current-all_ready : (s : State) (js : List ℕ) → (for_each make_ready js s).current ≡ s.current
+current-all_ready s [] = refl
+current-all_ready s (j ∷ js) = current-all_ready (make_ready j s) js
