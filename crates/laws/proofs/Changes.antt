@@ -1,36 +1,69 @@
 -- What every deed keeps of who sleeps and who has which ticket, and so every step.
-use Rattle.std.proofs.Common.{◌≡◌, ◌≢◌, ◌<◌, ◌≤◌, ◌+◌, ◌||◌, ℕ, zero, suc, true, eqb, leb, ltb, inl, inr, ◌⊎◌, List, [], ◌∷◌, map, get_or, set, Option, Some, None, refl, ap, sym, subst, ◌∙◌, arith}
+use Rattle.std.proofs.Common.{◌≡◌, ◌≢◌, ◌<◌, ◌≤◌, ◌+◌, ◌||◌, ℕ, zero, suc, true, false, eqb, leb, ltb, leb-false, inl, inr, ◌⊎◌, List, [], ◌∷◌, map, get_or, set, Option, Some, None, refl, ap, sym, subst, ◌∙◌, arith}
 use Rattle.std.specs.List.{AllByRecursion, filter}
-use Rattle.std.specs.Option.{IfSome, option_eq}
+use Rattle.std.specs.Prelude.{Bool, ◌++◌, if◌then◌else◌}
+use Rattle.std.specs.Option.{IfSome, option_eq, option_map, unwrap_or, is_some}
 use Rattle.std.proofs.lemmas.Bool.{ltb-true}
 use Rattle.model.specs.declared.op.Op.{Op}
-use Rattle.model.specs.declared.op.Op.TheVariants.{Work, Delay, DelayUntil, Yield, Time, Mark, Expect, Repeat, End}
+use Rattle.model.specs.declared.op.Op.TheVariants.{Work, Delay, DelayUntil, Yield, Time, Mark, Expect, Repeat, End, Await, Do, MessagesWaiting, SpacesAvailable}
+use Rattle.model.specs.declared.op.Access.{Access}
+use Rattle.model.specs.declared.call.CallProgress.{CallProgress}
+use Rattle.model.specs.declared.call.Phase.{Phase}
+use Rattle.model.specs.declared.call.Phase.TheVariants.{Start, Try, Decide, Place, Unlock, Leave}
+use Rattle.model.specs.declared.call.WaitList.{WaitList}
+use Rattle.model.specs.declared.call.WaitList.TheVariants.{ToReceive, ToSend}
 use Rattle.model.specs.declared.event.What.TheVariants as what
 use Rattle.model.specs.declared.loops.Loop.{Loop}
 use Rattle.model.specs.Application.{Application, Definition, op_at, op_count}
-use Rattle.model.specs.State.{State, Task, Progress, Status, Ready, Asleep, Ended, ticket_of, wake_time_of, task_at, progress_at, status_at, with_task, take_ticket, for_one, for_each, no_task, printed}
-use Rattle.model.specs.Order.{Entry, Key, key, entry, keyed, tasks_of}
-use Rattle.model.specs.Switching.{make_ready, to_back, dispatch, choose, choice, is_same, is_ready, yield_now, is_outranked, is_sharing, slice, settle, is_off, write}
+use Rattle.model.specs.State.{State, Task, Progress, Status, Ready, Awake, Waiting, Asleep, Ended, ticket_of, wake_time_of, no_call, task_at, progress_at, status_at, call_at, object_at, with_task, with_call, with_object, take_ticket, for_one, for_each, no_task, printed}
+use Rattle.model.specs.Order.{Entry, Key, key, entry, keyed, tasks_of, task_of, first}
+use Rattle.model.specs.Switching.{make_ready, to_back, dispatch, choose, choice, is_same, is_ready, yield_now, is_outranked, is_sharing, preempt, slice, settle, is_off, unless_held, write}
+use Rattle.model.specs.Waiting.{waiters, awakened, awake_status, is_locked, wake_one, wake_best, wait_in, set_deadline, is_expired, end_hold, unlock_object, unlock}
+use Rattle.model.specs.Objects.{possible, answer_to, object_after, list_woken, list_for, fulfil, attempt}
+use Rattle.model.specs.Calls.{try, lock, decide, leave_call, await, do_now}
 use Rattle.model.specs.Time.{delayed_key, delayed_list, is_due, due, wake_due, advance, increment_tick, tick_interrupt, sleep, set_previous_wake}
 use Rattle.model.specs.Ops.{go_to, answer, use_up, delay, delay_until, expect, open_loop, turn, close_turn}
 use Rattle.model.specs.Step.{act, act_if, act_current, step, nobody_ready, ready_at_reset, reset, task_at_reset, with_ops}
 use Rattle.model.specs.Run.{state_after}
 use Rattle.model.proofs.Sorting.{by_test}
 use Rattle.model.proofs.Lists.{eqb-refl, eqb-same}
+use Rattle.model.proofs.Settled.{when_held, when_free}
 use Rattle.model.proofs.Frames.{keeps-answer, keeps-all_ready}
 use Rattle.laws.proofs.Choice.{at_index, All-from_in_order}
 
--- ---- what every step keeps, if five kinds of change keep it
+-- ---- what every step keeps, if four kinds of change keep it
+
+-- a task whose status has this ticket, and wakes by itself then, or it is Ended
+abbrev Stays : Status → Status → Type 0
+Stays old new = ((ticket_of new ≡ ticket_of old) × (wake_time_of new ≡ wake_time_of old)) ⊎ (new ≡ Ended)
+
+same_awake : (u : Status) → (ticket_of (awake_status u) ≡ ticket_of u) × (wake_time_of (awake_status u) ≡ wake_time_of u)
+same_awake (Ready n) = (refl, refl)
+same_awake (Awake w) = (refl, refl)
+same_awake (Waiting w) = (refl, refl)
+same_awake (Asleep w n) = (refl, refl)
+same_awake Ended = (refl, refl)
+
+still_to_come : (deadline : Option ℕ) (now : ℕ) → unwrap_or (option_map (λ d. leb d now) deadline) false ≡ false → IfSome deadline (λ d. now < d)
+still_to_come None now t = tt
+still_to_come (Some d) now t = leb-false d now t
+
+or_false_right : (a b : Bool) → (a || b) ≡ false → b ≡ false
+or_false_right false b t = t
+or_false_right true b t = absurd (cc)
 
 module _ (P : State → Type 0)
     -- neither the clock's count of ticks, nor who runs, nor the steps and events matter
     (framed : (s t : State) → t.tasks ≡ s.tasks → t.next_ticket ≡ s.next_ticket → t.time ≡ s.time → P s → P t)
     -- a task goes on, or is Ended
-    (moved : (s : State) (i : ℕ) (t : Task) → (t.status ≡ status_at s i) ⊎ (t.status ≡ Ended) → P s → P (with_task i t s))
-    (made_ready : (s : State) (i : ℕ) → P s → P (make_ready i s))
-    (slept : (s : State) (i w : ℕ) → s.time < w → P s → P (take_ticket i (Asleep w) s))
+    (moved : (s : State) (i : ℕ) (t : Task) → Stays (status_at s i) t.status → P s → P (with_task i t s))
+    -- a task takes a ticket, and wakes by itself later, if it does
+    (taken : (s : State) (i : ℕ) (status : ℕ → Status) → ticket_of (status s.next_ticket) ≡ Some s.next_ticket → IfSome (wake_time_of (status s.next_ticket)) (λ w. s.time < w) → P s → P (take_ticket i status s))
     -- a tick passes, and all who are due are Ready
     (passed : (s : State) → P s → P (wake_due (record s { time = s.time + 1 }))) where
+  made_ready : (s : State) (i : ℕ) → P s → P (make_ready i s)
+  made_ready s i h = taken s i Ready refl tt h
+
   kept-to_back : (i : ℕ) (s : State) → P s → P (to_back i s)
   unfolding to_back
   kept-to_back i s h = by_test (is_ready s i) (λ t. rw t (made_ready s i h)) (λ t. rw t h)
@@ -64,8 +97,8 @@ module _ (P : State → Type 0)
   kept-go_to : (app : Application) (i op_index : ℕ) (p : Progress) (s : State) → P s → P (go_to app i op_index p s)
   unfolding go_to
   kept-go_to app i op_index p s h = by_test (eqb op_index (op_count app i))
-      (λ t. rw t (moved s i (record (task_at s i) { progress = record p { op_index = op_index; used = 0 }; status = Ended }) (inr refl) h))
-      (λ t. rw t (moved s i (record (task_at s i) { progress = record p { op_index = op_index; used = 0 } }) (inl refl) h))
+      (λ t. rw t (moved s i (record (task_at s i) { progress = record p { op_index = op_index; used = 0; call = no_call }; status = Ended }) (inr refl) h))
+      (λ t. rw t (moved s i (record (task_at s i) { progress = record p { op_index = op_index; used = 0; call = no_call } }) (inl (refl, refl)) h))
 
   kept-answer : (app : Application) (i : ℕ) (a : Option ℕ) (s : State) → P s → P (answer app i a s)
   unfolding answer
@@ -78,15 +111,15 @@ module _ (P : State → Type 0)
   unfolding use_up
   kept-use_up app i n s h = by_test (eqb ((progress_at s i).used + 1) n)
       (λ t. rw t (kept-go_to app i ((progress_at s i).op_index + 1) (progress_at s i) s h))
-      (λ t. rw t (moved s i (record (task_at s i) { progress = record (progress_at s i) { used = (progress_at s i).used + 1 } }) (inl refl) h))
+      (λ t. rw t (moved s i (record (task_at s i) { progress = record (progress_at s i) { used = (progress_at s i).used + 1 } }) (inl (refl, refl)) h))
 
   kept-sleep : (i w : ℕ) (s : State) → s.time < w → P s → P (sleep i w s)
   unfolding sleep
-  kept-sleep i w s l h = by_test (is_ready s i) (λ t. rw t (slept s i w l h)) (λ t. rw t h)
+  kept-sleep i w s l h = by_test (is_ready s i) (λ t. rw t (taken s i (Asleep w) refl l h)) (λ t. rw t h)
 
   kept-set_previous_wake : (i time : ℕ) (s : State) → P s → P (set_previous_wake i time s)
   unfolding set_previous_wake
-  kept-set_previous_wake i time s h = moved s i (record (task_at s i) { progress = record (progress_at s i) { previous_wake = time } }) (inl refl) h
+  kept-set_previous_wake i time s h = moved s i (record (task_at s i) { progress = record (progress_at s i) { previous_wake = time } }) (inl (refl, refl)) h
 
   kept-delay : (app : Application) (i n : ℕ) (s : State) → P s → P (delay app i n s)
   unfolding delay
@@ -119,6 +152,96 @@ module _ (P : State → Type 0)
       (λ q. rw q (kept-go_to app i (p.op_index + 1) (record p { loops = ls }) s h))
       (λ q. rw q (kept-go_to app i l.start _ s h))
 
+  -- ---- calls on objects
+
+  kept-one : {A : Type 0} (deed : A → State → State) (o : Option A) (s : State) → ((a : A) → P s → P (deed a s)) → P s → P (for_one deed o s)
+  kept-one deed None s k h = h
+  kept-one deed (Some a) s k h = k a h
+
+  kept-all_ready : (is : List ℕ) (s : State) → P s → P (for_each make_ready is s)
+  kept-all_ready [] s h = h
+  kept-all_ready (i ∷ is) s h = kept-all_ready is (make_ready i s) (made_ready s i h)
+
+  kept-preempt : (s : State) → P s → P (preempt s)
+  unfolding preempt
+  kept-preempt s h = by_test (is_outranked s) (λ t. rw t (kept-yield_now s h)) (λ t. rw t h)
+
+  kept-wake_one : (i : ℕ) (list : WaitList) (s : State) → P s → P (wake_one i list s)
+  kept-wake_one i list s h = by_test (is_locked s.locked list)
+      (λ t. rw t (moved s i (record (task_at s i) { status = awake_status (status_at s i) }) (inl (same_awake (status_at s i))) h))
+      (λ t. rw t (made_ready s i h))
+
+  kept-wake_best : (list : WaitList) (s : State) → P s → P (wake_best list s)
+  unfolding wake_best
+  kept-wake_best list s h = kept-one (λ i. wake_one i list) (task_of (first (waiters s list))) s (λ i. kept-wake_one i list s) h
+
+  kept-fulfil : (caller : Option ℕ) (o : ℕ) (a : Access) (s : State) → P s → P (fulfil caller o a s)
+  unfolding fulfil
+  kept-fulfil caller o a s h =
+      let t : State = with_object o (object_after caller a (object_at s o)) s in
+      kept-one wake_best (list_woken caller o a) t (λ list. kept-wake_best list t) (framed s t refl refl refl h)
+
+  kept-attempt : (caller : Option ℕ) (o : ℕ) (a : Access) (s : State) → P s → P (attempt caller o a s)
+  unfolding attempt
+  kept-attempt caller o a s h = by_test (possible s o a) (λ t. rw t (kept-fulfil caller o a s h)) (λ t. rw t h)
+
+  -- a task's call goes on
+  kept-with_call : (i : ℕ) (call : CallProgress) (s : State) → P s → P (with_call i call s)
+  kept-with_call i call s h = moved s i (record (task_at s i) { progress = record (progress_at s i) { call = call } }) (inl (refl, refl)) h
+
+  kept-set_deadline : (i : ℕ) (ticks : Option ℕ) (s : State) → P s → P (set_deadline i ticks s)
+  unfolding set_deadline
+  kept-set_deadline i ticks s h = kept-with_call i _ s h
+
+  kept-try : (app : Application) (i o : ℕ) (a : Access) (s : State) → P s → P (try app i o a s)
+  unfolding try
+  kept-try app i o a s h = by_test (possible s o a)
+      (λ p. rw p (kept-preempt _ (kept-answer app i (answer_to s o a) _ (kept-fulfil (Some i) o a s h))))
+      (λ p. rw p (by_test (is_expired s i)
+      (λ q. rw q (kept-answer app i (answer_to s o a) s h))
+      (λ q. rw q (kept-with_call i _ s h))))
+
+  kept-wait_in : (i : ℕ) (list : WaitList) (s : State) → is_expired s i ≡ false → P s → P (wait_in i list s)
+  unfolding wait_in
+  kept-wait_in i list s t h =
+      let call : CallProgress = record (call_at s i) { list = Some list } in
+      taken (with_call i call s) i (λ ticket. Waiting (record { list = list; priority = (task_at s i).priority; ticket = ticket; deadline = (call_at s i).deadline })) refl (still_to_come (call_at s i).deadline s.time t) (kept-with_call i call s h)
+
+  -- the scheduler is held and the object locked, and the call goes on
+  kept-lock : (i o : ℕ) (phase : Phase) (s : State) → P s → P (lock i o phase s)
+  kept-lock i o phase s h = let t : State = record s { call_hold = true; locked = Some o } in kept-with_call i _ t (framed s t refl refl refl h)
+
+  kept-decide : (i o : ℕ) (a : Access) (s : State) → P s → P (decide i o a s)
+  unfolding decide
+  kept-decide i o a s h = by_test (possible s o a || is_expired s i)
+      (λ t. rw t (kept-lock i o Unlock s h))
+      (λ t. rw t (kept-lock i o Place _ (kept-wait_in i (list_for o a) s (or_false_right (possible s o a) (is_expired s i) t) h)))
+
+  kept-unlock : (s : State) → P s → P (unlock s)
+  unfolding unlock
+  kept-unlock s h = kept-one unlock_object s.locked s (λ o k. kept-all_ready (tasks_of (awakened s (ToReceive o)) ++ tasks_of (awakened s (ToSend o))) (record s { locked = None }) (framed s (record s { locked = None }) refl refl refl k)) h
+
+  kept-leave_call : (i : ℕ) (s : State) → P s → P (leave_call i s)
+  unfolding leave_call
+  kept-leave_call i s h =
+      let t : State = record s { call_hold = false } in
+      let free : P (end_hold i Try s) = kept-with_call i _ t (framed s t refl refl refl h) in
+      by_test (is_some (call_at s i).list)
+      (λ q. rw q (kept-choose (end_hold i Try s) free))
+      (λ q. rw q (kept-preempt (end_hold i Try s) free))
+
+  kept-await : (app : Application) (i o : ℕ) (a : Access) (ticks : Option ℕ) (phase : Phase) (s : State) → P s → P (await app i o a ticks phase s)
+  kept-await app i o a ticks Start s h = kept-try app i o a _ (kept-set_deadline i ticks s h)
+  kept-await app i o a ticks Try s h = kept-try app i o a s h
+  kept-await app i o a ticks Decide s h = kept-decide i o a s h
+  kept-await app i o a ticks Place s h = kept-with_call i _ s h
+  kept-await app i o a ticks Unlock s h = kept-with_call i _ (unlock s) (kept-unlock s h)
+  kept-await app i o a ticks Leave s h = kept-leave_call i s h
+
+  kept-do_now : (app : Application) (i o : ℕ) (a : Access) (s : State) → P s → P (do_now app i o a s)
+  unfolding do_now
+  kept-do_now app i o a s h = kept-preempt _ (kept-answer app i (answer_to s o a) _ (kept-attempt (Some i) o a s h))
+
   kept-act : (app : Application) (i : ℕ) (op : Op) (s : State) → P s → P (act app i op s)
   unfolding open_loop close_turn
   kept-act app i (Work n) s h = kept-tick (use_up app i n s) (kept-use_up app i n s h)
@@ -132,6 +255,10 @@ module _ (P : State → Type 0)
   kept-act app i (Expect a) s h = kept-expect app i a s h
   kept-act app i (Repeat n) s h = kept-go_to app i ((progress_at s i).op_index + 1) _ s h
   kept-act app i End s h = kept-turn app i (progress_at s i) (progress_at s i).loops s h
+  kept-act app i (Await o a ticks) s h = kept-await app i o a ticks (call_at s i).phase s h
+  kept-act app i (Do o a) s h = kept-do_now app i o a s h
+  kept-act app i (MessagesWaiting o) s h = kept-answer app i _ s h
+  kept-act app i (SpacesAvailable o) s h = kept-answer app i _ s h
 
   kept-act_if : (app : Application) (i : ℕ) (o : Option Op) (s : State) → P s → P (act_if app i o s)
   kept-act_if app i None s h = h
@@ -141,16 +268,17 @@ module _ (P : State → Type 0)
   kept-act_current app None s h = kept-tick s h
   kept-act_current app (Some i) s h = kept-act_if app i (op_at app i (progress_at s i).op_index) s h
 
+  kept-unless_held : (s : State) → P s → P (unless_held settle s)
+  kept-unless_held s h = by_test s.call_hold
+      (λ t. subst P (sym (when_held settle s t)) h)
+      (λ t. subst P (sym (when_free settle s t)) (kept-settle s h))
+
   kept-step : (app : Application) (s : State) → P s → P (step app s)
   unfolding step
   kept-step app s h =
       let begun : State = record s { log = [] } in
-      let acted : State = settle (act_current app s.current begun) in
-      framed acted (record acted { steps = s.steps + 1 }) refl refl refl (kept-settle (act_current app s.current begun) (kept-act_current app s.current begun (framed s begun refl refl refl h)))
-
-  kept-all_ready : (is : List ℕ) (s : State) → P s → P (for_each make_ready is s)
-  kept-all_ready [] s h = h
-  kept-all_ready (i ∷ is) s h = kept-all_ready is (make_ready i s) (made_ready s i h)
+      let acted : State = unless_held settle (act_current app s.current begun) in
+      framed acted (record acted { steps = s.steps + 1 }) refl refl refl (kept-unless_held (act_current app s.current begun) (kept-act_current app s.current begun (framed s begun refl refl refl h)))
 
   kept-reset : (app : Application) → P (nobody_ready app) → P (reset app)
   unfolding reset ready_at_reset
@@ -196,14 +324,13 @@ later-set s i t now l h j = elim (one_task s.tasks i t j) [
   | inr e ↦ subst (Later now) (sym (status_same (get_or (set s.tasks i t) j no_task) (get_or s.tasks j no_task) e)) (h j)
 ]
 
-later-moved : (s : State) (i : ℕ) (t : Task) → (t.status ≡ status_at s i) ⊎ (t.status ≡ Ended) → WakeLater s → WakeLater (with_task i t s)
-later-moved s i t u h = later-set s i t s.time (elim u [ inl e ↦ subst (Later s.time) (sym e) (h i) | inr e ↦ subst (Later s.time) (sym e) tt ]) h
+later-moved : (s : State) (i : ℕ) (t : Task) → Stays (status_at s i) t.status → WakeLater s → WakeLater (with_task i t s)
+later-moved s i t u h =
+    let W : Option ℕ → Type 0 = λ o. IfSome o (λ w. s.time < w) in
+    later-set s i t s.time (elim u [ inl e ↦ subst W (sym e.1) (h i) | inr e ↦ subst (Later s.time) (sym e) tt ]) h
 
-later-ready : (s : State) (i : ℕ) → WakeLater s → WakeLater (make_ready i s)
-later-ready s i h = later-set s i (record (task_at s i) { status = Ready s.next_ticket }) s.time tt h
-
-later-slept : (s : State) (i w : ℕ) → s.time < w → WakeLater s → WakeLater (take_ticket i (Asleep w) s)
-later-slept s i w l h = later-set s i (record (task_at s i) { status = Asleep w s.next_ticket }) s.time l h
+later-taken : (s : State) (i : ℕ) (status : ℕ → Status) → ticket_of (status s.next_ticket) ≡ Some s.next_ticket → IfSome (wake_time_of (status s.next_ticket)) (λ w. s.time < w) → WakeLater s → WakeLater (take_ticket i status s)
+later-taken s i status is l h = later-set s i (record (task_at s i) { status = status s.next_ticket }) s.time l h
 
 -- Who still sleeps when some have been made Ready is none of them, and sleeps as before.
 abbrev Spared : State → List ℕ → ℕ → State → Type 0
@@ -244,8 +371,14 @@ spared s (j ∷ is) i = elim (spared (make_ready j s) is i) [
     by_index (u ∷ us) zero t e = inl e
     by_index (u ∷ us) (suc i) t e = by_index us i t e
 
+until_key : (deadline : Option ℕ) (ticket time : ℕ) → deadline ≡ Some time → (if is_some deadline then Some (key 0 ticket) else None) ≡ Some (key 0 ticket)
+until_key None ticket time e = absurd (cc)
+until_key (Some deadline) ticket time e = refl
+
 delayed_some : (t : Task) (u : Status) (time : ℕ) → t.status ≡ u → wake_time_of u ≡ Some time → (k : Key) × (delayed_key t ≡ Some k)
 delayed_some t (Ready n) time e v = absurd (cc)
+delayed_some t (Awake w) time e v = (key 0 w.ticket, ap (λ (u : Status). delayed_key (record t { status = u })) e ∙ until_key w.deadline w.ticket time v)
+delayed_some t (Waiting w) time e v = (key 0 w.ticket, ap (λ (u : Status). delayed_key (record t { status = u })) e ∙ until_key w.deadline w.ticket time v)
 delayed_some t (Asleep w n) time e v = (key 0 n, ap (λ (u : Status). delayed_key (record t { status = u })) e)
 delayed_some t Ended time e v = absurd (cc)
 
@@ -288,7 +421,7 @@ later-passed s h i =
 
 pub wake_later : (app : Application) (n task : ℕ) → Later (state_after app n).time (status_at (state_after app n) task)
 unfolding nobody_ready
-wake_later app n task = kept_after WakeLater later-framed later-moved later-ready later-slept later-passed app (λ i. subst (Later app.start) (sym (ended_at_reset app.start app.tasks i)) tt) n task
+wake_later app n task = kept_after WakeLater later-framed later-moved later-taken later-passed app (λ i. subst (Later app.start) (sym (ended_at_reset app.start app.tasks i)) tt) n task
 
 -- ---- two tasks have two tickets
 
@@ -351,19 +484,21 @@ module _ (s : State) (k : ℕ) (t : Task) (h : TicketsApart s) where
     | inr e ↦ subst (Below next) (sym (status_same _ _ e)) (g i)
   ]
 
-apart-moved : (s : State) (i : ℕ) (t : Task) → (t.status ≡ status_at s i) ⊎ (t.status ≡ Ended) → TicketsApart s → TicketsApart (with_task i t s)
+apart-moved : (s : State) (i : ℕ) (t : Task) → Stays (status_at s i) t.status → TicketsApart s → TicketsApart (with_task i t s)
 unfolding new_at
-apart-moved s i t u h = record {
-  below = below-set s i t h s.next_ticket (elim u [ inl e ↦ subst (Below s.next_ticket) (sym e) (h.below i) | inr e ↦ subst (Below s.next_ticket) (sym e) tt ]) h.below;
-  apart = apart-set s i t h (λ ticket a. elim u [
-    | inl e ↦ inl (ap ticket_of (sym e) ∙ a)
-    | inr e ↦ (let none : None ≡ Some ticket = ap ticket_of (sym e) ∙ a in absurd (cc))
-  ]);
-}
+apart-moved s i t u h =
+    let B : Option ℕ → Type 0 = λ o. IfSome o (λ ticket. ticket < s.next_ticket) in
+    record {
+      below = below-set s i t h s.next_ticket (elim u [ inl e ↦ subst B (sym e.0) (h.below i) | inr e ↦ subst (Below s.next_ticket) (sym e) tt ]) h.below;
+      apart = apart-set s i t h (λ ticket a. elim u [
+        | inl e ↦ inl (sym e.0 ∙ a)
+        | inr e ↦ (let none : None ≡ Some ticket = ap ticket_of (sym e) ∙ a in absurd (cc))
+      ]);
+    }
 
-apart-taken : (s : State) (i : ℕ) (f : ℕ → Status) → ticket_of (f s.next_ticket) ≡ Some s.next_ticket → TicketsApart s → TicketsApart (take_ticket i f s)
+apart-taken : (s : State) (i : ℕ) (f : ℕ → Status) → ticket_of (f s.next_ticket) ≡ Some s.next_ticket → IfSome (wake_time_of (f s.next_ticket)) (λ w. s.time < w) → TicketsApart s → TicketsApart (take_ticket i f s)
 unfolding new_at
-apart-taken s i f is h =
+apart-taken s i f is later h =
     let t : Task = record (task_at s i) { status = f s.next_ticket } in
     let P : Option ℕ → Type 0 = λ o. IfSome o (λ ticket. ticket < s.next_ticket + 1) in
     record {
@@ -372,10 +507,7 @@ apart-taken s i f is h =
     }
 
 apart-ready : (s : State) (i : ℕ) → TicketsApart s → TicketsApart (make_ready i s)
-apart-ready s i h = apart-taken s i Ready refl h
-
-apart-slept : (s : State) (i w : ℕ) → s.time < w → TicketsApart s → TicketsApart (take_ticket i (Asleep w) s)
-apart-slept s i w l h = apart-taken s i (Asleep w) refl h
+apart-ready s i h = apart-taken s i Ready refl tt h
 
 apart-all_ready : (is : List ℕ) (s : State) → TicketsApart s → TicketsApart (for_each make_ready is s)
 apart-all_ready [] s h = h
@@ -398,4 +530,4 @@ apart-nobody app =
     }
 
 pub tickets_apart : (app : Application) (n a b ticket : ℕ) → ticket_of (status_at (state_after app n) a) ≡ Some ticket → ticket_of (status_at (state_after app n) b) ≡ Some ticket → a ≡ b
-tickets_apart app n a b ticket = (kept_after TicketsApart apart-framed apart-moved apart-ready apart-slept apart-passed app (apart-nobody app) n).apart a b ticket
+tickets_apart app n a b ticket = (kept_after TicketsApart apart-framed apart-moved apart-taken apart-passed app (apart-nobody app) n).apart a b ticket

@@ -1,22 +1,29 @@
 -- Idle runs only where no task is Ready, and after a tick nobody outranks the running task.
 use Rattle.std.proofs.Common.{◌≡◌, ◌≤◌, ◌||◌, ◌+◌, ℕ, zero, suc, Bool, true, false, eqb, leb, ltb, List, [], ◌∷◌, Option, Some, None, refl, sym, subst, ◌∙◌, arith}
 use Rattle.std.specs.List.{AllByRecursion, list_any}
-use Rattle.std.specs.Option.{option_eq}
+use Rattle.std.specs.Option.{option_eq, is_some}
 use Rattle.std.proofs.lemmas.Bool.{le-ltb}
 use Rattle.model.specs.declared.op.Op.{Op}
-use Rattle.model.specs.declared.op.Op.TheVariants.{Work, Delay, DelayUntil, Yield, Time, Mark, Expect, Repeat, End}
+use Rattle.model.specs.declared.op.Op.TheVariants.{Work, Delay, DelayUntil, Yield, Time, Mark, Expect, Repeat, End, Await, Do, MessagesWaiting, SpacesAvailable}
+use Rattle.model.specs.declared.op.Access.{Access}
+use Rattle.model.specs.declared.call.Phase.{Phase}
+use Rattle.model.specs.declared.call.Phase.TheVariants.{Start, Try, Decide, Place, Unlock, Leave}
 use Rattle.model.specs.declared.loops.Loop.{Loop}
 use Rattle.model.specs.Application.{Application, op_at}
-use Rattle.model.specs.State.{State, Progress, task_at, progress_at, for_one}
+use Rattle.model.specs.State.{State, Progress, task_at, progress_at, call_at, go_on, for_one}
 use Rattle.model.specs.Order.{Entry, first, task_of}
-use Rattle.model.specs.Switching.{to_back, dispatch, choose, choice, is_same, is_ready, ready_list, ready_key, yield_now, is_above, is_outranked, is_sharing, slice, settle, is_off}
+use Rattle.model.specs.Switching.{to_back, dispatch, choose, choice, is_same, is_ready, ready_list, ready_key, yield_now, is_above, is_outranked, is_sharing, preempt, slice, settle, is_off}
+use Rattle.model.specs.Waiting.{wait_in, set_deadline, is_expired, end_hold, unlock_object, unlock}
+use Rattle.model.specs.Objects.{possible, answer_to, list_for}
+use Rattle.model.specs.Calls.{try, lock, decide, leave_call, await, do_now}
 use Rattle.model.specs.Time.{increment_tick, tick_interrupt, sleep, set_previous_wake}
 use Rattle.model.specs.Ops.{go_to, answer, use_up, delay, delay_until, expect, open_loop, turn, close_turn}
 use Rattle.model.specs.Step.{act, act_if, act_current, step, ready_at_reset, reset}
 use Rattle.model.specs.Run.{state_after}
 use Rattle.model.proofs.Sorting.{by_test, Falls, Falls-in_order, IsAfter}
 use Rattle.model.proofs.Lists.{HasKey, list_has}
-use Rattle.model.proofs.Settled.{same_eq}
+use Rattle.model.proofs.Settled.{same_eq, when_held, when_free}
+use Rattle.model.proofs.Unlocking.{opened_by, current-all_ready}
 use Rattle.model.specs.Order.{keyed}
 use Rattle.laws.specs.Choice.{IsChoice}
 use Rattle.laws.proofs.Choice.{choice_is, key_is, none_ready}
@@ -54,6 +61,12 @@ idle-slice s = by_test (is_outranked s || is_sharing s)
     (λ t. rw t (idle-yield_now s))
     (λ t. rw t (idle_below s (or_false (is_outranked s) (is_sharing s) t)))
 
+idle-preempt : (s : State) → IdleAlone (preempt s)
+unfolding preempt
+idle-preempt s = by_test (is_outranked s)
+    (λ t. rw t (idle-yield_now s))
+    (λ t. rw t (idle_below s t))
+
 idle-tick : (s : State) → IdleAlone (tick_interrupt s)
 unfolding tick_interrupt
 idle-tick s = idle-slice (increment_tick s)
@@ -90,6 +103,46 @@ idle-delay app i n s r = by_test (eqb n 0)
     (λ t. rw t (idle-yield_now (answer app i (Some 0) s)))
     (λ t. rw t (still_runs i s (sleep i (s.time + n) (answer app i (Some 0) s)) r (current-sleep i (s.time + n) (answer app i (Some 0) s))))
 
+idle-try : (app : Application) (i o : ℕ) (a : Access) (s : State) → s.current ≡ Some i → IdleAlone (try app i o a s)
+unfolding try answer go_to
+idle-try app i o a s r = by_test (possible s o a)
+    (λ t. rw t (idle-preempt _))
+    (λ t. rw t (by_test (is_expired s i)
+    (λ q. rw q (still_runs i s (answer app i (answer_to s o a) s) r refl))
+    (λ q. rw q (still_runs i s (go_on i Decide s) r refl))))
+
+idle-decide : (i o : ℕ) (a : Access) (s : State) → s.current ≡ Some i → IdleAlone (decide i o a s)
+unfolding decide wait_in
+idle-decide i o a s r = by_test (possible s o a || is_expired s i)
+    (λ t. rw t (still_runs i s (lock i o Unlock s) r refl))
+    (λ t. rw t (still_runs i s (lock i o Place (wait_in i (list_for o a) s)) r refl))
+
+current-unlock : (s : State) → (unlock s).current ≡ s.current
+unfolding unlock
+current-unlock s = by_locked s.locked where
+  by_locked : (o : Option ℕ) → (for_one unlock_object o s).current ≡ s.current
+  by_locked None = refl
+  by_locked (Some o) = current-all_ready (record s { locked = None }) (opened_by s o)
+
+idle-leave_call : (i : ℕ) (s : State) → IdleAlone (leave_call i s)
+unfolding leave_call
+idle-leave_call i s = by_test (is_some (call_at s i).list)
+    (λ t. rw t (idle-choose (end_hold i Try s)))
+    (λ t. rw t (idle-preempt (end_hold i Try s)))
+
+idle-await : (app : Application) (i o : ℕ) (a : Access) (ticks : Option ℕ) (phase : Phase) (s : State) → s.current ≡ Some i → IdleAlone (await app i o a ticks phase s)
+unfolding set_deadline
+idle-await app i o a ticks Start s r = idle-try app i o a (set_deadline i ticks s) r
+idle-await app i o a ticks Try s r = idle-try app i o a s r
+idle-await app i o a ticks Decide s r = idle-decide i o a s r
+idle-await app i o a ticks Place s r = still_runs i s (go_on i Unlock s) r refl
+idle-await app i o a ticks Unlock s r = still_runs i s (go_on i Leave (unlock s)) r (current-unlock s)
+idle-await app i o a ticks Leave s r = idle-leave_call i s
+
+idle-do_now : (app : Application) (i o : ℕ) (a : Access) (s : State) → IdleAlone (do_now app i o a s)
+unfolding do_now
+idle-do_now app i o a s = idle-preempt _
+
 idle-act : (app : Application) (i : ℕ) (op : Op) (s : State) → s.current ≡ Some i → IdleAlone (act app i op s)
 unfolding answer go_to open_loop close_turn
 idle-act app i (Work n) s r = idle-tick (use_up app i n s)
@@ -101,6 +154,10 @@ idle-act app i (Mark n) s r = still_runs i s (act app i (Mark n) s) r refl
 idle-act app i (Expect a) s r = still_runs i s (expect app i a s) r (current-expect app i a s)
 idle-act app i (Repeat n) s r = still_runs i s (open_loop app i n s) r refl
 idle-act app i End s r = still_runs i s (close_turn app i s) r (current-turn app i (progress_at s i) (progress_at s i).loops s)
+idle-act app i (Await o a ticks) s r = idle-await app i o a ticks (call_at s i).phase s r
+idle-act app i (Do o a) s r = idle-do_now app i o a s
+idle-act app i (MessagesWaiting o) s r = still_runs i s (act app i (MessagesWaiting o) s) r refl
+idle-act app i (SpacesAvailable o) s r = still_runs i s (act app i (SpacesAvailable o) s) r refl
 
 idle-act_if : (app : Application) (i : ℕ) (o : Option Op) (s : State) → s.current ≡ Some i → IdleAlone (act_if app i o s)
 idle-act_if app i None s r = still_runs i s s r refl
@@ -112,7 +169,12 @@ idle-act_current app (Some i) s e = idle-act_if app i (op_at app i (progress_at 
 
 idle-step : (app : Application) (s : State) → IdleAlone (step app s)
 unfolding step
-idle-step app s = idle-settle (act_current app s.current (record s { log = [] })) (idle-act_current app s.current (record s { log = [] }) refl)
+idle-step app s =
+    let t : State = act_current app s.current (record s { log = [] }) in
+    let h : IdleAlone t = idle-act_current app s.current (record s { log = [] }) refl in
+    by_test t.call_hold
+    (λ q. subst IdleAlone (sym (when_held settle t q)) h)
+    (λ q. subst IdleAlone (sym (when_free settle t q)) (idle-settle t h))
 
 idle-reset : (app : Application) → IdleAlone (reset app)
 unfolding reset

@@ -1,7 +1,10 @@
 -- Worked examples: applications, and what their runs come to.
 use Rattle.std.specs.Prelude.{ℕ, List, [], ◌∷◌, Some, None, codes}
+use Rattle.model.specs.declared.object.ObjectKind.TheVariants.{Queue}
+use Rattle.model.specs.declared.op.Access.{Access}
+use Rattle.model.specs.declared.op.Access.TheVariants.{Send, Receive, Peek}
 use Rattle.model.specs.declared.op.Op.{Op}
-use Rattle.model.specs.declared.op.Op.TheVariants.{Work, Delay, DelayUntil, Yield, Time, Mark, Expect, Repeat, End as EndLoop}
+use Rattle.model.specs.declared.op.Op.TheVariants.{Work, Delay, DelayUntil, Yield, Time, Mark, Expect, Repeat, End as EndLoop, Await}
 use Rattle.model.specs.declared.event.What.{What}
 use Rattle.model.specs.declared.event.What.TheVariants as what
 use Rattle.model.specs.declared.event.Event.{Event}
@@ -19,9 +22,25 @@ wide = record { ticks = 1000000; steps = 1000000 }
 abbrev pub a_task : List ℕ → List Op → Definition
 a_task name script = record { name = name; priority = 1; script = script }
 
--- an application that starts at this time
+-- an application that starts at this time, without objects
 abbrev pub the_application : ℕ → List Definition → Application
-the_application start tasks = record { start = start; limits = wide; tasks = tasks }
+the_application start tasks = record { start = start; limits = wide; objects = []; tasks = tasks }
+
+-- a task of this priority
+abbrev pub a_task_of : ℕ → List ℕ → List Op → Definition
+a_task_of priority name script = record { name = name; priority = priority; script = script }
+
+-- an application that starts at 0, with one queue of length 1
+abbrev pub with_queue : List Definition → Application
+with_queue tasks = record { start = 0; limits = wide; objects = Queue 1 ∷ []; tasks = tasks }
+
+-- a call on that queue, which may wait for so many ticks
+abbrev pub on_queue : Access → ℕ → Op
+on_queue access ticks = Await 0 access (Some ticks)
+
+-- the same, which may wait for ever
+abbrev pub on_queue_forever : Access → Op
+on_queue_forever access = Await 0 access None
 
 -- the first task
 abbrev pub a : ℕ
@@ -30,6 +49,10 @@ a = 0
 -- the second task
 abbrev pub b : ℕ
 b = 1
+
+-- the third task
+abbrev pub c : ℕ
+c = 2
 
 -- an event of this step, at this printed tick
 abbrev pub event_at : ℕ → ℕ → What → Event
@@ -146,6 +169,74 @@ failed_expect = record {
   run = record { events = event_at 0 0 (call a 0 0) ∷ []; steps = 2; ticks = 0; end = Check a 1 };
 }
 
+-- ---- queues
+
+-- a receive whose timeout comes
+abbrev pub times_out : Example
+times_out = record {
+  app = with_queue (a_task (codes "a") (on_queue Receive 5 ∷ Expect None ∷ []) ∷ []);
+  run = record {
+    events =
+        event_at 4 0 idles ∷ event_at 9 5 (runs a) ∷ event_at 10 5 (what.Call a 0 None) ∷ event_at 11 5 idles ∷ [];
+    steps = 12;
+    ticks = 5;
+    end = Pass;
+  };
+}
+
+-- a peek that is woken passes the wake on to the next who waits
+abbrev pub peek_passes_on : Example
+peek_passes_on = record {
+  app = with_queue (
+      a_task_of 3 (codes "a") (on_queue Peek 9 ∷ []) ∷ a_task_of 2 (codes "b") (on_queue Receive 9 ∷ [])
+      ∷ a_task_of 1 (codes "c") (on_queue (Send 5) 0 ∷ []) ∷ []);
+  run = record {
+    events =
+        event_at 4 0 (runs b) ∷ event_at 9 0 (runs c) ∷ event_at 10 0 (call c 0 1) ∷ event_at 10 0 (runs a)
+        ∷ event_at 11 0 (call a 0 5) ∷ event_at 11 0 (runs b) ∷ event_at 12 0 (call b 0 5) ∷ event_at 12 0 idles ∷ [];
+    steps = 13;
+    ticks = 0;
+    end = Pass;
+  };
+}
+
+-- a send wakes a reader of higher priority, which runs at once
+abbrev pub send_wakes : Example
+send_wakes = record {
+  app = with_queue (
+      a_task_of 1 (codes "a") (on_queue (Send 7) 0 ∷ Mark 1 ∷ []) ∷ a_task_of 2 (codes "b") (on_queue_forever Receive ∷ []) ∷ []);
+  run = record {
+    events =
+        event_at 4 0 (runs a) ∷ event_at 5 0 (call a 0 1) ∷ event_at 5 0 (runs b) ∷ event_at 6 0 (call b 0 7)
+        ∷ event_at 6 0 (runs a) ∷ event_at 7 0 (what.Mark a 1) ∷ event_at 7 0 idles ∷ [];
+    steps = 8;
+    ticks = 0;
+    end = Pass;
+  };
+}
+
+-- two wait for room in a full queue: the one of higher priority, which came first, gets it first
+abbrev pub two_writers : Example
+two_writers = record {
+  app = with_queue (
+      a_task_of 1 (codes "a") (on_queue_forever (Send 1) ∷ []) ∷ a_task_of 2 (codes "b") (on_queue_forever (Send 2) ∷ [])
+      ∷ a_task_of 3 (codes "c") (
+        on_queue (Send 3) 0 ∷ Delay 1 ∷ on_queue Receive 0 ∷ Delay 1 ∷ on_queue Receive 0 ∷ on_queue_forever Receive ∷ []) ∷ []);
+  run = record {
+    events =
+        event_at 0 0 (call c 0 1) ∷ event_at 1 0 (call c 1 0) ∷ event_at 1 0 (runs b) ∷ event_at 6 0 (runs a)
+        ∷ event_at 11 0 idles ∷ event_at 12 1 (runs c) ∷ event_at 13 1 (call c 2 3) ∷ event_at 14 1 (call c 3 0)
+        ∷ event_at 14 1 (runs b) ∷ event_at 15 1 (call b 0 1) ∷ event_at 15 1 idles ∷ event_at 16 2 (runs c)
+        ∷ event_at 17 2 (call c 4 2) ∷ event_at 22 2 (runs a) ∷ event_at 23 2 (call a 0 1) ∷ event_at 23 2 (runs c)
+        ∷ event_at 24 2 (call c 5 1) ∷ event_at 24 2 idles ∷ [];
+    steps = 25;
+    ticks = 2;
+    end = Pass;
+  };
+}
+
 -- all of them
 abbrev pub examples : List Example
-examples = round_robin ∷ delay_zero ∷ delay_one ∷ across_the_wrap ∷ periodic ∷ two_turns ∷ failed_expect ∷ []
+examples =
+    round_robin ∷ delay_zero ∷ delay_one ∷ across_the_wrap ∷ periodic ∷ two_turns ∷ failed_expect
+    ∷ times_out ∷ peek_passes_on ∷ send_wakes ∷ two_writers ∷ []

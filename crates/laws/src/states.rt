@@ -20,9 +20,9 @@ pub fn states_are_sound()
     ensures { (app : Application) → IsWellFormed app → (n : ℕ) → IsState app (state_after app n) }
 {}
 
-/// Between two steps the running task is Ready.
+/// Between two steps the running task is Ready, where no call of it holds the scheduler.
 pub fn running_task_is_ready()
-    ensures { (app : Application) (n : ℕ)
+    ensures { (app : Application) (n : ℕ) → (state_after app n).call_hold ≡ false
         → IfSome (state_after app n).current (λ task. is_ready (state_after app n) task ≡ true) }
 {}
 
@@ -37,7 +37,7 @@ pub fn no_one_outranks_after_a_tick()
     ensures { (s : State) → is_outranked (tick_interrupt s) ≡ false }
 {}
 
-/// A sleeper's wake time is after now.
+/// The time at which a task wakes by itself is after now: a sleeper's, and that at which a wait ends at the latest.
 pub fn sleepers_wake_later()
     ensures { (app : Application) (n task : ℕ)
         → IfSome (wake_time_of (status_at (state_after app n) task))

@@ -1,5 +1,5 @@
 -- Between two steps the running task is Ready, and idle runs only where no task is.
-use Rattle.std.proofs.Common.{◌≡◌, ℕ, true, false, not, List, [], ◌∷◌, Option, Some, None, refl, ap, sym, subst}
+use Rattle.std.proofs.Common.{◌≡◌, ℕ, zero, suc, true, false, not, List, [], ◌∷◌, Option, Some, None, refl, ap, sym, subst}
 use Rattle.std.specs.List.{AllByRecursion}
 use Rattle.std.specs.Prelude.{Bool, if◌then◌else◌}
 use Rattle.std.specs.Option.{IfSome, is_some, option_map}
@@ -8,6 +8,7 @@ use Rattle.model.specs.State.{State, Status, Ready, Awake, Waiting, Asleep, Ende
 use Rattle.model.specs.Order.{Key, Entry, key, first, task_of}
 use Rattle.model.specs.Switching.{ready_key, ready_list, is_ready, choice, is_same, choose, dispatch, is_off, settle, unless_held}
 use Rattle.model.specs.Step.{act_current, step, ready_at_reset, reset}
+use Rattle.model.specs.Run.{state_after}
 use Rattle.model.proofs.Sorting.{by_test}
 use Rattle.model.proofs.Lists.{HasKey, eqb-same, list_has}
 
@@ -77,3 +78,7 @@ settled-step app s free = by_test t.call_hold
 pub settled-reset : (app : Application) → IsSettled (reset app)
 unfolding reset
 settled-reset app = choice_ready (ready_at_reset app)
+
+pub settled_after : (app : Application) (n : ℕ) → (state_after app n).call_hold ≡ false → IsSettled (state_after app n)
+settled_after app zero free = settled-reset app
+settled_after app (suc n) free = settled-step app (state_after app n) free
