@@ -1,3 +1,4 @@
+pub mod Logs
 pub mod Loops
 pub mod StandsFor
 pub mod Can
