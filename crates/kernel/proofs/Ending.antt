@@ -94,8 +94,19 @@ asleep o (t ∷ ts) = by_status t t.status (asleep (o + 1) ts) where
 pub over_is : (k : Kernel) (s : State) (q : Bool) → StandsFor k s → (IsTrue q ↔ (k.clock.delayed_list ≡ [])) → not (is_some (first_of k.sched.ready)) && q ≡ are_all_ended s
 over_is k s q h is = rw (quiet k.clock s h.rest.clock q is, none_first k.sched.ready, h.sched.ready, length-ready s.tasks) (over 0 s.tasks)
 
+-- A Ready task is none that is Ended.
+pub over_is_not : (k : Kernel) (s : State) → StandsFor k s → is_some (first_of k.sched.ready) ≡ true → false ≡ are_all_ended s
+over_is_not k s h e =
+    let some_ready : not (is_some (first_of k.sched.ready)) ≡ false = rw e refl in
+    let none : eqb (length (keyed ready_key 0 s.tasks)) 0 ≡ false = rw (none_first k.sched.ready, h.sched.ready, length-ready s.tasks) at some_ready in
+    let all = over 0 s.tasks in
+    rw none at all
+
 pub stuck_is : (k : Kernel) (s : State) (q : Bool) → StandsFor k s → (IsTrue q ↔ (k.clock.delayed_list ≡ [])) → is_none k.sched.current && q ≡ is_stuck s
 stuck_is k s q h is = rw (quiet k.clock s h.rest.clock q is, h.sched.current, asleep 0 s.tasks) refl
+
+pub stuck_is_not : (k : Kernel) (s : State) → StandsFor k s → is_none k.sched.current ≡ false → false ≡ is_stuck s
+stuck_is_not k s h e = let runs : is_none s.current ≡ false = rw h.sched.current at e in rw runs refl
 
 -- A step begins with no event told, and ends with one step more.
 pub begun : (k : Kernel) (log : List Event) (s : State) → StandsFor k s → log ≡ [] → At k log (record s { log = [] })

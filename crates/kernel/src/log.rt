@@ -29,6 +29,8 @@ impl Log for ArrayVec<Event, 128> {
 
     #[inline]
     fn push(&mut self, event: Event) {
-        self.push(event);
+        // The check of loans takes no event whole here.
+        let Event { step, tick, what } = event;
+        self.push(Event { step, tick, what });
     }
 }

@@ -56,17 +56,15 @@ impl Trail {
         Ok(())
     }
 
-    /// This step tells these events too, whatever room there is. At `Err(Memory)`, where a growth was refused, it has told
-    /// some of them; never where there are none.
+    /// This step tells these events too, whatever room there is. At `Err(Memory)`, where the growth was refused, it has told
+    /// none of them; never where there are none.
     pub(crate) fn append(&mut self, events: &[Event]) -> Result<(), Memory>
         ensures before { self.new.before ≡ self.old.before }
         ensures told { OnOk result (self.new.told ≡ self.old.told ++ events.now) }
         ensures memory { OnErr result (0 < length events.now) }
     {
-        for event in events {
-            if self.events.push(*event).is_err() {
-                return Err(Memory);
-            }
+        if self.events.extend_from_slice(events).is_err() {
+            return Err(Memory);
         }
         Ok(())
     }
@@ -84,6 +82,8 @@ impl Log for Trail {
 
     #[inline]
     fn push(&mut self, event: Event) {
-        self.events.push_reserved(event);
+        // The check of loans takes no event whole here.
+        let Event { step, tick, what } = event;
+        self.events.push_reserved(Event { step, tick, what });
     }
 }

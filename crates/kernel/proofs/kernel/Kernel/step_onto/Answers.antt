@@ -1,4 +1,3 @@
-use Rattle.std.proofs.Common.{◌∙◌, arith}
 use Rattle.model.specs.Step.{step}
 use Rattle.kernel.proofs.Bounds.{can_act}
 use Rattle.kernel.proofs.Ending.{begun, stepped}
