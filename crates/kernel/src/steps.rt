@@ -1,9 +1,9 @@
 //! Steps, and whole runs.
-ghost use Rattle.std.specs.Prelude.{◌≡◌, ◌<◌, ◌≤◌, ◌+◌, ◌^◌, ◌++◌, [], Some, None, if◌then◌else◌, IfOk, OnOk, OnErr, length};
+ghost use Rattle.std.specs.Prelude.{◌≡◌, ◌<◌, ◌≤◌, ◌+◌, ◌^◌, ◌++◌, [], Some, None, ◌||◌, IfOk, OnOk, OnErr, length};
 ghost use Rattle.model.specs.State.{State};
 ghost use Rattle.model.specs.Step.{act_current, step, reset};
 ghost use Rattle.model.specs.Run as definition;
-ghost use Rattle.model.specs.Run.{end_of, IsRun, state_after, events_after, or_else};
+ghost use Rattle.model.specs.Run.{end_of, IsRun, state_after, events_after, are_all_ended, is_stuck};
 ghost use Rattle.kernel.specs.Logs.{all_of};
 ghost use Rattle.kernel.specs.StandsFor.{StandsFor, Does};
 ghost use Rattle.kernel.specs.Can.{CanAct, CanStep, IsUnderWay};
@@ -71,43 +71,35 @@ impl Kernel {
         self.step_onto(app, meter, log);
     }
 
+    /// Whether nobody sleeps, where nobody is Ready or idle runs: whether every task is Ended, or stuck.
+    fn is_still(&self) -> bool
+        ensures { (s : State) → StandsFor self.now s → result ≡ are_all_ended s || is_stuck s }
+    {
+        (self.sched.current().is_none() || !self.sched.has_ready()) && self.clock.is_quiet()
+    }
+
     /// The end of the run before its next step, under these limits: the first that holds of a failed `expect`, every task
     /// Ended, the ticks, the steps, stuck (profile). `None` where the run goes on.
     pub fn ended(&self, _app: &App, limits: &Limits) -> Option<End>
         ensures { (s : State) → StandsFor self.now s → result ≡ end_of limits.now s }
     {
-        first_end(
-            self.stopped,
-            !self.sched.has_ready() && self.clock.is_quiet(),
-            limits.ticks as u64 <= self.clock.age(),
-            limits.steps <= self.steps,
-            self.sched.current().is_none() && self.clock.is_quiet(),
-        )
-    }
-}
-
-/// The first of these ends that is due.
-fn first_end(
-    stopped: Option<End>,
-    are_all_ended: bool,
-    ticks: bool,
-    steps: bool,
-    is_stuck: bool,
-) -> Option<End>
-    ensures { result ≡ or_else stopped
-        (if are_all_ended then Some End.Pass
-        else if ticks then Some End.Ticks
-        else if steps then Some End.Steps
-        else if is_stuck then Some End.Stuck
-        else None) }
-{
-    match stopped {
-        Some(end) => Some(end),
-        None if are_all_ended => Some(End::Pass),
-        None if ticks => Some(End::Ticks),
-        None if steps => Some(End::Steps),
-        None if is_stuck => Some(End::Stuck),
-        None => None,
+        if self.stopped.is_some() {
+            return self.stopped;
+        }
+        let is_still = self.is_still();
+        if is_still && !self.sched.has_ready() {
+            return Some(End::Pass);
+        }
+        if limits.ticks as u64 <= self.clock.age() {
+            return Some(End::Ticks);
+        }
+        if limits.steps <= self.steps {
+            return Some(End::Steps);
+        }
+        if is_still {
+            return Some(End::Stuck);
+        }
+        None
     }
 }
 

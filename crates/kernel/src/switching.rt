@@ -93,6 +93,7 @@ impl Kernel {
     }
 
     /// A tick of the clock: who is due becomes Ready, in the order in which they began to sleep.
+    #[inline]
     fn increment_tick(&mut self)
         requires { CanTick self.old }
         ensures { Moves self.old self.new increment_tick }

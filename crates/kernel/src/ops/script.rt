@@ -46,6 +46,7 @@ impl Kernel {
     }
 
     /// `end`: the next turn begins, or the loop is left.
+    #[inline]
     pub(crate) fn close_turn(&mut self, app: &App, task: TaskId)
         requires { Can self.old task op.End }
         ensures { Moves self.old self.new (close_turn app.now task) }
