@@ -93,7 +93,6 @@ impl Kernel {
     }
 
     /// A tick of the clock: who is due becomes Ready, in the order in which they began to sleep.
-    #[inline]
     fn increment_tick(&mut self)
         requires { CanTick self.old }
         ensures { Moves self.old self.new increment_tick }
@@ -103,6 +102,7 @@ impl Kernel {
     }
 
     /// The tick interrupt: one tick, and then a switch if one is due.
+    #[inline(always)]
     pub(crate) fn tick_interrupt<L: Log>(&mut self, log: &mut L)
         requires room { 0 < (L.logged log.old).room }
         requires can { CanTick self.old }

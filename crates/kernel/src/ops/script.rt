@@ -46,7 +46,7 @@ impl Kernel {
     }
 
     /// `end`: the next turn begins, or the loop is left.
-    #[inline]
+    #[inline(always)]
     pub(crate) fn close_turn(&mut self, app: &App, task: TaskId)
         requires { Can self.old task op.End }
         ensures { Moves self.old self.new (close_turn app.now task) }
