@@ -1,4 +1,4 @@
-pub mod Logs
+pub mod Logged
 pub mod Loops
 pub mod StandsFor
 pub mod Can

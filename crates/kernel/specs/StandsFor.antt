@@ -7,7 +7,7 @@ use Rattle.model.specs.Switching.{is_same}
 use Rattle.sched.specs.StandsFor as sched
 use Rattle.clock.specs.StandsFor as clock
 use Rattle.kernel.specs.declared.kernel.Kernel.{Kernel}
-use Rattle.kernel.specs.Logs.{Logged}
+use Rattle.kernel.specs.Logged.{Logged}
 
 -- the progress that the kernel keeps of this task
 abbrev pub progress_in : List Progress → ℕ → Progress

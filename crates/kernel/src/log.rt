@@ -1,6 +1,6 @@
 //! Where a step tells its events.
 ghost use Rattle.std.specs.Prelude.{◌≡◌, ◌<◌, ◌+◌, ◌++◌, ◌∷◌, []};
-ghost use Rattle.kernel.specs.Logs.{Logged};
+ghost use Rattle.kernel.specs.Logged.{Logged};
 
 use arrayvec::ArrayVec;
 use model::Event;
@@ -29,7 +29,7 @@ impl Log for ArrayVec<Event, 128> {
 
     #[inline]
     fn push(&mut self, event: Event) {
-        // The check of loans takes no event whole here.
+        // Taken apart and made again, since the check proves no push of the whole.
         let Event { step, tick, what } = event;
         self.push(Event { step, tick, what });
     }

@@ -4,7 +4,7 @@ ghost use Rattle.model.specs.State.{State};
 ghost use Rattle.model.specs.Step.{act_current, step, reset};
 ghost use Rattle.model.specs.Run as definition;
 ghost use Rattle.model.specs.Run.{end_of, IsRun, state_after, events_after, are_all_ended, is_stuck};
-ghost use Rattle.kernel.specs.Logs.{all_of};
+ghost use Rattle.kernel.specs.Logged.{all_of};
 ghost use Rattle.kernel.specs.StandsFor.{StandsFor, Does};
 ghost use Rattle.kernel.specs.Can.{CanAct, CanStep, IsUnderWay};
 
@@ -32,8 +32,8 @@ impl Kernel {
         }
     }
 
-    /// One step of the run, whose events go to a log.
-    pub(crate) fn step_onto<L: Log>(&mut self, app: &App, meter: &mut Meter, log: &mut L)
+    /// One step of the run, whose events go to a log that has none of this step yet.
+    fn step_onto<L: Log>(&mut self, app: &App, meter: &mut Meter, log: &mut L)
         requires going { CanStep app.now self.old }
         requires meter { meter.old < 2 ^ 63 }
         requires begun { (L.logged log.old).told ≡ [] }

@@ -1,6 +1,6 @@
 //! The events of a run, or of several, with room for those of one more step.
 ghost use Rattle.std.specs.Prelude.{◌≡◌, ◌<◌, ◌≤◌, ◌++◌, [], OnOk, OnErr, length};
-ghost use Rattle.kernel.specs.Logs.{all_of};
+ghost use Rattle.kernel.specs.Logged.{all_of};
 
 use crate::log::Log;
 use model::{Event, Memory};
@@ -20,7 +20,7 @@ pub(crate) struct Trail {
 impl Model for Trail {
     ghost use Rattle.std.specs.Prelude.{◌≤◌, ◌-◌, take, drop, length};
     ghost use Rattle.std.specs.Vec.{vec_capacity};
-    ghost use Rattle.kernel.specs.Logs.{Logged};
+    ghost use Rattle.kernel.specs.Logged.{Logged};
 
     ghost Value = { Logged };
 
@@ -82,7 +82,7 @@ impl Log for Trail {
 
     #[inline]
     fn push(&mut self, event: Event) {
-        // The check of loans takes no event whole here.
+        // Taken apart and made again, since the check proves no push of the whole.
         let Event { step, tick, what } = event;
         self.events.push_reserved(Event { step, tick, what });
     }

@@ -1,7 +1,7 @@
 use Rattle.std.proofs.Common.{◌≡◌, ◌++◌, None, ap, sym, ◌∙◌, append-nil, arith}
 use Rattle.std.proofs.lemmas.Result.{err_from_is_err_and}
 use Rattle.model.specs.Run.{end_of, state_after}
-use Rattle.kernel.specs.Logs.{all_of}
+use Rattle.kernel.specs.Logged.{all_of}
 use Rattle.kernel.proofs.Running.{begins, no_events, steps_begin, can_step, steps_below, steps_more, goes_on, more_events, told_more}
 use Rattle.kernel.proofs.steps.finish.Goals as goal
 

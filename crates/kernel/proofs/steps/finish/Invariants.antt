@@ -1,6 +1,6 @@
 use Rattle.std.proofs.Common.{◌≡◌, ◌+◌, ◌-◌, ◌++◌}
 use Rattle.model.specs.Run.{events_after}
-use Rattle.kernel.specs.Logs.{all_of}
+use Rattle.kernel.specs.Logged.{all_of}
 use Rattle.kernel.specs.Can.{IsUnderWay}
 use Rattle.kernel.proofs.steps.finish.Given as goal
 
