@@ -1,14 +1,14 @@
 //! The clock: its tick, and its two lists of sleepers.
-ghost use Rattle.std.specs.Prelude.{◌≡◌, ◌+◌, ◌-◌, ◌*◌, ◌^◌, ◌<◌, ◌≤◌, ◌%◌, [], min, false, length, IsTrue, ◌↔◌};
+ghost use Rattle.std.specs.Prelude.{◌≡◌, ◌+◌, ◌-◌, ◌*◌, ◌^◌, ◌<◌, ◌≤◌, ◌%◌, ◌≢◌, [], min, false, length, IfSome, IsTrue, ◌↔◌};
 ghost use Rattle.lists.specs.Lists.{insert_sorted, without};
 ghost use Rattle.model.specs.State.{State};
 ghost use Rattle.model.specs.Order.{tasks_of};
 ghost use Rattle.model.specs.Switching as switching;
 ghost use Rattle.model.specs.Time as time;
-ghost use Rattle.clock.specs.Timeline.{is_asleep, Advances};
+ghost use Rattle.clock.specs.Timeline.{is_asleep, tasks_in, Advances};
 ghost use Rattle.clock.specs.StandsFor.{StandsFor, at_next_tick};
 
-use crate::due::{Due, take_due};
+use crate::due::{first_due, take_due, Due};
 use lists::ListId;
 use model::TaskId;
 use std::marker::Model;
@@ -161,6 +161,22 @@ impl Clock {
         ensures woken { (s : State) → StandsFor self.old s
             → StandsFor self.new (time.increment_tick s) }
     {
+        match self.next_tick() {
+            None => Due::new(),
+            Some(due) => due,
+        }
+    }
+
+    /// As `advance`, but answers `None` where nobody is due, which is quicker.
+    pub fn next_tick(&mut self) -> Option<Due>
+        requires { self.old.age < 2 ^ 62 }
+        ensures advances { Advances self.old self.new (tasks_in result) }
+        ensures some { IfSome result (λ due. due.items ≢ []) }
+        ensures due { (s : State) → StandsFor self.old s
+            → tasks_in result ≡ tasks_of (time.due (at_next_tick s)) }
+        ensures woken { (s : State) → StandsFor self.old s
+            → StandsFor self.new (time.increment_tick s) }
+    {
         if self.tick == u32::MAX {
             self.tick = 0;
             self.overflows += 1;
@@ -168,7 +184,8 @@ impl Clock {
         } else {
             self.tick += 1;
         }
-        take_due(&mut self.lists, self.current, self.tick)
+        first_due(&self.lists, self.current, self.tick)?;
+        Some(take_due(&mut self.lists, self.current, self.tick))
     }
 
     /// The time, without bound.

@@ -96,8 +96,9 @@ impl Kernel {
         requires { CanTick self.old }
         ensures { Moves self.old self.new increment_tick }
     {
-        let due = self.clock.advance();
-        make_all_ready(&mut self.sched, due.as_slice());
+        if let Some(due) = self.clock.next_tick() {
+            make_all_ready(&mut self.sched, due.as_slice());
+        }
     }
 
     /// The tick interrupt: one tick, and then a switch if one is due.
