@@ -31,7 +31,7 @@ first_here tick x xs is = let t : (x.1 == tick) ≡ true = eq-eqb x.1 tick is in
 first_later : (tick : ℕ) (x : ℕ × ℕ) (xs : List (ℕ × ℕ)) → x.1 ≢ tick → first_at tick (x ∷ xs) ≡ None
 first_later tick x xs ne = let t : (x.1 == tick) ≡ false = ne_eqb x.1 tick ne in rw t refl
 
-split_at : (tick n : ℕ) (xs : List (ℕ × ℕ)) → Some n ≡ first_at tick xs → (rest : List (ℕ × ℕ)) × (xs ≡ (n, tick) ∷ rest)
+pub split_at : (tick n : ℕ) (xs : List (ℕ × ℕ)) → Some n ≡ first_at tick xs → (rest : List (ℕ × ℕ)) × (xs ≡ (n, tick) ∷ rest)
 split_at tick n [] e = absurd (none-some n (sym e))
 split_at tick n (x ∷ xs) e = elim (cases_eq x.1 tick) [
   | inl same ↦ (xs, ap₂ (λ (k v : ℕ). (k, v) ∷ xs) (sym (same_Some n x.0 (e ∙ first_here tick x xs same))) same)
@@ -84,12 +84,3 @@ none_left tick (x ∷ xs) e s a = elim (cases_eq x.1 tick) [
       let first_later : tick < x.1 = let le : tick ≤ x.1 = a.0 in omega (arith, le, other) in
       (first_later, Each-imp (λ e. x.1 ≤ e.1) (λ e. tick < e.1) xs (λ e le. omega (arith, le, first_later)) s.0)
 ]
-
--- where one is due, it is taken
-pub some_due : (tick n : ℕ) (xs ys : List (ℕ × ℕ)) (due : List ℕ) → Some n ≡ first_at tick xs → xs ≡ all_until tick due ++ ys → Each (λ e. tick < e.1) ys → due ≢ []
-some_due tick n xs ys due e whole later none =
-    let same : xs ≡ ys = whole ∙ ap (λ (ds : List ℕ). all_until tick ds ++ ys) none in
-    let split = split_at tick n xs e in
-    let here : Each (λ e. tick < e.1) ((n, tick) ∷ split.0) = subst (Each (λ e. tick < e.1)) (sym same ∙ split.1) later in
-    let now = here.0 in
-    omega (arith, now)

@@ -1,6 +1,5 @@
 -- What callers see of a clock: time without bound, and who sleeps until when.
 use Rattle.std.specs.Prelude.{◌≡◌, ◌≢◌, ℕ, ◌+◌, ◌-◌, ◌^◌, ◌<◌, ◌≤◌, ◌==◌, if◌then◌else◌, Bool, Option, Some, None, List, [], ◌∷◌, ◌++◌, map}
-use Rattle.arrayvec.specs.ArrayVec.{ArrayVec}
 use Rattle.lists.specs.Lists.{Each, IsSorted, IsSound, entries_of, has_node}
 
 pub record Timeline : Type 0 where
@@ -23,11 +22,6 @@ all_until time tasks = map (λ task. (task, time)) tasks
 abbrev pub first_at : ℕ → List (ℕ × ℕ) → Option ℕ
 first_at time [] = None
 first_at time (e ∷ entries) = if e.1 == time then Some e.0 else None
-
--- the tasks that an answer tells, which is `None` where there are none
-abbrev pub tasks_in : {T : Type 0} → Option (ArrayVec T) → List T
-tasks_in None = []
-tasks_in (Some due) = due.items
 
 -- One tick passes: the sleepers whose wake time has come are due, and the others sleep on.
 pub record Advances (old new : Timeline) (due : List ℕ) : Type 0 where

@@ -1,11 +1,11 @@
 //! The clock: its tick, and its two lists of sleepers.
-ghost use Rattle.std.specs.Prelude.{◌≡◌, ◌+◌, ◌-◌, ◌*◌, ◌^◌, ◌<◌, ◌≤◌, ◌%◌, ◌≢◌, [], min, false, length, IfSome, IsTrue, ◌↔◌};
-ghost use Rattle.lists.specs.Lists.{insert_sorted, without};
+ghost use Rattle.std.specs.Prelude.{◌≡◌, ◌+◌, ◌-◌, ◌*◌, ◌^◌, ◌<◌, ◌≤◌, ◌%◌, [], min, true, false, length, IsTrue, ◌↔◌};
+ghost use Rattle.lists.specs.Lists.{insert_sorted, without, Each};
 ghost use Rattle.model.specs.State.{State};
 ghost use Rattle.model.specs.Order.{tasks_of};
 ghost use Rattle.model.specs.Switching as switching;
 ghost use Rattle.model.specs.Time as time;
-ghost use Rattle.clock.specs.Timeline.{is_asleep, tasks_in, Advances};
+ghost use Rattle.clock.specs.Timeline.{is_asleep, Advances};
 ghost use Rattle.clock.specs.StandsFor.{StandsFor, at_next_tick};
 
 use crate::due::{first_due, take_due, Due};
@@ -161,22 +161,6 @@ impl Clock {
         ensures woken { (s : State) → StandsFor self.old s
             → StandsFor self.new (time.increment_tick s) }
     {
-        match self.next_tick() {
-            None => Due::new(),
-            Some(due) => due,
-        }
-    }
-
-    /// As `advance`, but answers `None` where nobody is due, which is quicker.
-    pub fn next_tick(&mut self) -> Option<Due>
-        requires { self.old.age < 2 ^ 62 }
-        ensures advances { Advances self.old self.new (tasks_in result) }
-        ensures some { IfSome result (λ due. due.items ≢ []) }
-        ensures due { (s : State) → StandsFor self.old s
-            → tasks_in result ≡ tasks_of (time.due (at_next_tick s)) }
-        ensures woken { (s : State) → StandsFor self.old s
-            → StandsFor self.new (time.increment_tick s) }
-    {
         if self.tick == u32::MAX {
             self.tick = 0;
             self.overflows += 1;
@@ -184,8 +168,37 @@ impl Clock {
         } else {
             self.tick += 1;
         }
-        first_due(&self.lists, self.current, self.tick)?;
-        Some(take_due(&mut self.lists, self.current, self.tick))
+        take_due(&mut self.lists, self.current, self.tick)
+    }
+
+    /// As `advance` where nobody is due at the next tick, and answers whether that is so. Else nothing
+    /// changes. This is quicker, as it makes no list.
+    pub fn advance_if_none_due(&mut self) -> bool
+        requires { self.old.age < 2 ^ 62 }
+        ensures none { IsTrue result
+            ↔ Each (λ e. self.old.now + 1 < e.1) self.old.delayed_list }
+        ensures advances { result ≡ true → Advances self.old self.new [] }
+        ensures kept { result ≡ false → self.new ≡ self.old }
+        // In the definitions nobody is due then either, and the tick has come.
+        ensures due { (s : State) → result ≡ true → StandsFor self.old s
+            → [] ≡ tasks_of (time.due (at_next_tick s)) }
+        ensures woken { (s : State) → result ≡ true → StandsFor self.old s
+            → StandsFor self.new (time.increment_tick s) }
+    {
+        if self.tick == u32::MAX {
+            if first_due(&self.lists, self.overflow, 0).is_some() {
+                return false;
+            }
+            self.tick = 0;
+            self.overflows += 1;
+            mem::swap(&mut self.current, &mut self.overflow);
+        } else {
+            if first_due(&self.lists, self.current, self.tick + 1).is_some() {
+                return false;
+            }
+            self.tick += 1;
+        }
+        true
     }
 
     /// The time, without bound.

@@ -1,0 +1,34 @@
+use Rattle.std.proofs.Common.{◌+◌, ◌*◌, ◌^◌, sym, subst, arith}
+use Rattle.clock.specs.declared.clock.Clock.TheInside.{Inside}
+use Rattle.clock.proofs.Advancing.{Turned, turned_over, ticked, clock_after, advances}
+use Rattle.clock.proofs.Standing.{due_next, stands_advanced}
+use Rattle.clock.proofs.clock.Clock.advance.Goals.{then-self, else-self}
+use Rattle.clock.proofs.clock.Clock.advance.Goals as goal
+
+pub invariant_of-self : goal.invariant_of-self
+invariant_of-self c =
+    let q = c.self.inside in
+    let s = c.if-self.self-inside in
+    let P : Inside → Type 0 = λ i. Turned i.lists i.start (2 ^ 32 * i.overflows) i.tick i.current.number i.overflow.number c.args.self.now in
+    let turned : P s = elim c.if-self.branch [
+      | then-self w ↦ subst P (sym w.self-inside-is) (rw (w.swap.ensures.x_after, w.swap.ensures.y_after) (turned_over c.self.invariant c.self.view_is (2 ^ 32 * (q.overflows + 1)) (omega arith) (omega (arith, w.if-self.true))))
+      | else-self w ↦ subst P (sym w.self-inside-is) (ticked c.self.invariant c.self.view_is (let ne = w.if-self.false in omega (arith, ne)))
+    ] in
+    clock_after turned c.take_due.new.lists _ c.take_due.ensures.due c.take_due.ensures.later c.take_due.ensures.others c.take_due.ensures.sound
+
+pub returns-clause-advances : goal.returns-clause-advances
+returns-clause-advances c =
+    let q = c.self.inside in
+    let s = c.if-self.self-inside in
+    let P : Inside → Type 0 = λ i. Turned i.lists i.start (2 ^ 32 * i.overflows) i.tick i.current.number i.overflow.number c.args.self.now in
+    let turned : P s = elim c.if-self.branch [
+      | then-self w ↦ subst P (sym w.self-inside-is) (rw (w.swap.ensures.x_after, w.swap.ensures.y_after) (turned_over c.self.invariant c.self.view_is (2 ^ 32 * (q.overflows + 1)) (omega arith) (omega (arith, w.if-self.true))))
+      | else-self w ↦ subst P (sym w.self-inside-is) (ticked c.self.invariant c.self.view_is (let ne = w.if-self.false in omega (arith, ne)))
+    ] in
+    advances turned c.take_due.new.lists _ c.take_due.ensures.due c.take_due.ensures.later c.take_due.ensures.others
+
+pub returns-clause-due : goal.returns-clause-due
+returns-clause-due c = λ s h. due_next c.args.self.now _ s _ (returns-clause-advances c) h
+
+pub returns-clause-woken : goal.returns-clause-woken
+returns-clause-woken c = λ s h. stands_advanced c.args.self.now _ s _ (returns-clause-advances c) h
