@@ -97,6 +97,17 @@ impl Kernel {
         requires { CanTick self.old }
         ensures { Moves self.old self.new increment_tick }
     {
+        if !self.clock.advance_if_none_due() {
+            self.wake_due();
+        }
+    }
+
+    /// The same, by a list of those who are due.
+    #[inline(never)]
+    fn wake_due(&mut self)
+        requires { CanTick self.old }
+        ensures { Moves self.old self.new increment_tick }
+    {
         let due = self.clock.advance();
         make_all_ready(&mut self.sched, due.as_slice());
     }
