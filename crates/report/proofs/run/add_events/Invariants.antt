@@ -6,6 +6,7 @@ use Rattle.report.proofs.run.add_events.Given as goal
 
 abbrev pub invariant-loop-event : goal.invariant-loop-event
 invariant-loop-event g l = record {
-  sent : Sent (g.W.Sink.held l.fn.writer) (g.W.Sink.held l.writer) (l.fn.page ++ flat_map (event_text l.app) l.events) (l.page ++ flat_map (event_text l.app) (drop l.event-index l.events));
+  app : l.lines ≡ l.fn.lines;
+  sent : Sent (g.W.Sink.held l.fn.writer) (g.W.Sink.held l.writer) (l.fn.page ++ flat_map (event_text l.fn.lines) l.events) (l.page ++ flat_map (event_text l.fn.lines) (drop l.event-index l.events));
   working : g.W.Sink.has_failed l.writer ≡ false;
 }
