@@ -33,8 +33,21 @@ fn copy_to(page: &mut [u8], at: usize, text: &[u8]) -> usize
     end
 }
 
-// Copies all bytes of the text into the page from `at` on, of which so many count, and answers where these end. A copy of
-// constant length is a few moves of whole registers.
+// Makes the place equal to the text.
+//
+// As an assignment of an array this is a few moves of whole registers. `copy_from_slice` first compares the two places, since
+// it doesn't know that they don't overlap.
+#[inline]
+fn assign<const N: usize>(place: &mut [u8], text: &[u8; N])
+    requires { length place.old ≡ N }
+    ensures { place.new ≡ text.now }
+{
+    if let Some(array) = place.as_mut_array::<N>() {
+        *array = *text;
+    }
+}
+
+// Copies all bytes of the text into the page from `at` on, of which so many count, and answers where these end.
 #[inline]
 fn copy_whole<const N: usize>(page: &mut [u8], at: usize, text: &[u8; N], count: usize) -> usize
     requires room { at + N ≤ length page.old }
@@ -42,7 +55,7 @@ fn copy_whole<const N: usize>(page: &mut [u8], at: usize, text: &[u8; N], count:
     ensures end { result ≡ at + count }
     ensures text { take result page.new ≡ take at page.old ++ take count text.now }
 {
-    page[at..at + N].copy_from_slice(text);
+    assign(&mut page[at..at + N], text);
     at + count
 }
 
@@ -116,7 +129,7 @@ impl Page {
     }
 
     /// Adds so many bytes from the front of the text. The page needs room for all of the text, since all of it is copied.
-    #[inline]
+    #[inline(always)]
     pub fn push_front<const N: usize>(&mut self, text: &[u8; N], count: usize)
         requires room { length self.old + N ≤ Self.SIZE }
         requires count { count ≤ N }

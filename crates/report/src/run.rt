@@ -44,6 +44,8 @@ fn add_event<W: Sink>(
     Ok(())
 }
 
+// Out of line, so that the loop has the processor's registers for itself.
+#[inline(never)]
 fn add_events<W: Sink>(
     writer: &mut W,
     page: &mut Page,

@@ -11,6 +11,6 @@ front_put page text rest at count within few =
 
 pub returns-clause-text : goal.returns-clause-text
 returns-clause-text g c =
-    let is = c.copy_from_slice.ensures.after in
+    let is = c.assign.ensures in
     let t = c.told-text in
     rw is (front_put c.args.page.now c.args.text.now _ c.args.at c.args.count (omega (arith, c.requires.room)) (omega (arith, c.requires.count, t)))
