@@ -1,5 +1,5 @@
 //! All digits of a number but the last, kept for the next number.
-ghost use Rattle.std.specs.Prelude.{◌≡◌, ◌<◌, ◌≤◌, ◌+◌, ◌*◌, ◌/◌, ◌^◌, decimal};
+ghost use Rattle.std.specs.Prelude.{◌≡◌, ◌<◌, ◌+◌, ◌*◌, ◌/◌, ◌^◌, true, false, decimal};
 
 use byte_io::Numeral;
 use std::marker::Model;
@@ -54,16 +54,38 @@ impl Tens {
         self.first = 10 * tens as u64;
     }
 
-    // Takes the digits of another number.
+    // Goes on to the next ten where that changes one digit alone, and answers whether it did.
+    fn count_up(&mut self) -> bool
+        requires { self.old + 10 < 2 ^ 32 }
+        ensures counted { result ≡ true → self.new ≡ self.old + 10 }
+        ensures kept { result ≡ false → self.new ≡ self.old }
+    {
+        if self.len == 0 {
+            return false;
+        }
+        let digit = self.text[self.len - 1];
+        if digit >= b'9' {
+            return false;
+        }
+        self.text[self.len - 1] = digit + 1;
+        self.first += 10;
+        true
+    }
+
+    // Takes the digits of another number, most often of the next ten.
     #[inline(never)]
     fn renew(&mut self, number: u32)
         ensures { self.new ≡ 10 * (number / 10) }
     {
-        if number < 10 {
+        let tens = number / 10;
+        if 10 * tens as u64 == self.first + 10 && self.count_up() {
+            return;
+        }
+        if tens == 0 {
             self.len = 0;
             self.first = 0;
         } else {
-            self.spell(number / 10);
+            self.spell(tens);
         }
     }
 
