@@ -139,6 +139,16 @@ impl Page {
         self.used = copy_whole(&mut self.bytes, self.used, text, count);
     }
 
+    /// Adds all of the text. Its length is a constant, so this is a few moves of whole registers.
+    #[inline(always)]
+    pub fn push_array<const N: usize>(&mut self, text: &[u8; N])
+        requires { length self.old + N ≤ Self.SIZE }
+        ensures text { self.new ≡ self.old ++ text.now }
+        ensures size { length self.new ≡ length self.old + N }
+    {
+        self.push_front(text, N);
+    }
+
     /// Adds two numbers, and a space after each.
     ///
     /// Where the page ends stays in a variable between them: a byte written at a place that the compiler can't bound would

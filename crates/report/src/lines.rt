@@ -29,13 +29,18 @@ impl<'a> Model for Lines<'a> {
     ghost view = { λ l. l.labels };
 }
 
-// Adds a number that ends a line, and the line's end.
+// Adds a number that ends a line, and the line's end. A small one is a digit at once, so that the digits that are kept stay
+// those of large ones: most answers are 0, and others are a time.
 #[inline]
 fn push_number(page: &mut Page, tens: &mut Tens, number: u32)
     requires { length page.old + 16 ≤ Page.SIZE }
     ensures { page.new ≡ page.old ++ decimal number ++ codes "\n" }
 {
-    page.push_last(tens.numeral(number));
+    if number < 10 {
+        page.push_array(&[b'0' + number as u8, b'\n']);
+    } else {
+        page.push_last(tens.numeral(number));
+    }
 }
 
 impl<'a> Lines<'a> {
@@ -62,7 +67,7 @@ impl<'a> Lines<'a> {
             What::Call(task, op_index, answer) => {
                 self.labels.push_call(page, task, op_index);
                 match answer {
-                    None => page.push_text(b"none\n"),
+                    None => page.push_array(b"none\n"),
                     Some(number) => push_number(page, &mut self.number, number),
                 }
             }
@@ -70,7 +75,7 @@ impl<'a> Lines<'a> {
                 self.labels.push_mark(page, task);
                 push_number(page, &mut self.number, mark);
             }
-            What::Run(None) => page.push_text(b"run -\n"),
+            What::Run(None) => page.push_array(b"run -\n"),
             What::Run(Some(task)) => self.labels.push_run(page, task),
         }
     }
