@@ -118,6 +118,14 @@ impl Page {
         count <= Page::SIZE - self.used
     }
 
+    /// How many more bytes fit.
+    #[inline]
+    pub fn room(&self) -> usize
+        ensures { length self.now + result ≡ Self.SIZE }
+    {
+        Page::SIZE - self.used
+    }
+
     /// Adds the text.
     #[inline]
     pub fn push_text(&mut self, text: &[u8])

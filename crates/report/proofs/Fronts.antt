@@ -1,5 +1,5 @@
 -- Labels.
-use Rattle.std.proofs.Common.{◌≡◌, ℕ, ◌+◌, ◌<◌, ◌≤◌, List, length, take, get_or, inl, inr, arith, replicate, refl}
+use Rattle.std.proofs.Common.{◌≡◌, ℕ, List, get_or, inl, inr, arith, replicate, refl}
 use Rattle.std.proofs.lemmas.List.{get_or-replicate, get_or_past, length-replicate}
 use Rattle.std.proofs.lemmas.Bool.{cases_lt}
 use Rattle.model.specs.Application.{Application}

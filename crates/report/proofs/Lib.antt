@@ -1,3 +1,4 @@
+pub mod Adding
 pub mod Fronts
 pub mod Numbers
 pub mod Short

@@ -1,5 +1,5 @@
 -- The front of a line: all of what it tells but its number.
-use Rattle.std.specs.Prelude.{◌≡◌, ℕ, ◌≤◌, ◌<◌, List, ◌++◌, [], take, decimal, codes, slice_index_or, replicate}
+use Rattle.std.specs.Prelude.{◌≡◌, ℕ, ◌≤◌, ◌<◌, List, ◌++◌, take, decimal, codes, slice_index_or, replicate}
 use Rattle.model.specs.Application.{Application, name_of}
 use Rattle.report.specs.Text.{word_at}
 use Rattle.report.specs.declared.label.Label.{Label}

@@ -1,5 +1,6 @@
 //! The lines of an application's events, into a page that has room for them.
-ghost use Rattle.std.specs.Prelude.{◌≡◌, ◌≤◌, ◌+◌, ◌++◌, length, decimal, codes};
+ghost use Rattle.std.specs.Prelude.{◌≡◌, ◌≤◌, ◌+◌, ◌*◌, ◌++◌, length, decimal, codes};
+ghost use Rattle.std.specs.List.{flat_map};
 ghost use Rattle.report.specs.Text.{answer_text, what_text, event_text};
 
 use crate::labels::Labels;
@@ -34,7 +35,8 @@ impl<'a> Model for Lines<'a> {
 #[inline]
 fn push_number(page: &mut Page, tens: &mut Tens, number: u32)
     requires { length page.old + 16 ≤ Page.SIZE }
-    ensures { page.new ≡ page.old ++ decimal number ++ codes "\n" }
+    ensures text { page.new ≡ page.old ++ decimal number ++ codes "\n" }
+    ensures size { length page.new ≤ length page.old + 12 }
 {
     if number < 10 {
         page.push_array(&[b'0' + number as u8, b'\n']);
@@ -62,6 +64,7 @@ impl<'a> Lines<'a> {
         requires { length page.old + 64 ≤ Page.SIZE }
         ensures app { self.new ≡ self.old }
         ensures text { page.new ≡ page.old ++ what_text self.old what.now ++ codes "\n" }
+        ensures size { length page.new ≤ length page.old + 64 }
     {
         match *what {
             What::Call(task, op_index, answer) => {
@@ -80,14 +83,29 @@ impl<'a> Lines<'a> {
         }
     }
 
-    /// Adds the line of an event.
+    // Adds the line of an event.
     #[inline]
-    pub(crate) fn push(&mut self, page: &mut Page, event: &Event)
+    fn push(&mut self, page: &mut Page, event: &Event)
         requires { length page.old + MAX_LINE ≤ Page.SIZE }
         ensures app { self.new ≡ self.old }
         ensures text { page.new ≡ page.old ++ event_text self.old event.now }
+        ensures size { length page.new ≤ length page.old + MAX_LINE }
     {
         page.push_two(self.step.numeral(event.step), self.tick.numeral(event.tick));
         self.push_what(page, &event.what);
+    }
+
+    /// Adds the lines of the events.
+    ///
+    /// It stands out of line, so that its loop has the processor's registers for itself.
+    #[inline(never)]
+    pub(crate) fn push_all(&mut self, page: &mut Page, events: &[Event])
+        requires { length page.old + length events.now * MAX_LINE ≤ Page.SIZE }
+        ensures app { self.new ≡ self.old }
+        ensures text { page.new ≡ page.old ++ flat_map (event_text self.old) events.now }
+    {
+        for event in events {
+            self.push(page, event);
+        }
     }
 }

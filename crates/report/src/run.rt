@@ -26,26 +26,7 @@ fn add_head<W: Sink>(
     Ok(())
 }
 
-#[inline]
-fn add_event<W: Sink>(
-    writer: &mut W,
-    page: &mut Page,
-    lines: &mut Lines<'_>,
-    event: &Event,
-) -> Result<(), WriteFault>
-    requires { W.has_failed writer.old ≡ false }
-    ensures app { lines.new ≡ lines.old }
-    ensures text { Adds (W.held writer.old) (W.held writer.new) page.old page.new result
-        (event_text lines.old event.now) }
-    ensures failed { W.has_failed writer.new ≡ is_err result }
-{
-    make_room(writer, page, MAX_LINE)?;
-    lines.push(page, event);
-    Ok(())
-}
-
-// Out of line, so that the loop has the processor's registers for itself.
-#[inline(never)]
+// Adds the lines of the events. Room is asked for as many lines at once as surely fit.
 fn add_events<W: Sink>(
     writer: &mut W,
     page: &mut Page,
@@ -58,8 +39,13 @@ fn add_events<W: Sink>(
         (flat_map (event_text lines.old) events.now) }
     ensures failed { W.has_failed writer.new ≡ is_err result }
 {
-    for event in events {
-        add_event(writer, page, lines, event)?;
+    let mut rest = events;
+    while !rest.is_empty() {
+        make_room(writer, page, MAX_LINE)?;
+        let count = rest.len().min(page.room() / MAX_LINE);
+        let (some, others) = rest.split_at(count);
+        lines.push_all(page, some);
+        rest = others;
     }
     Ok(())
 }

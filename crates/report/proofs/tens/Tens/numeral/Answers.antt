@@ -1,4 +1,4 @@
-use Rattle.std.proofs.Common.{◌≡◌, ◌*◌, ◌/◌, ◌∙◌, arith}
+use Rattle.std.proofs.Common.{◌≡◌, ◌*◌, ◌/◌, ◌∙◌}
 use Rattle.report.proofs.Numbers.{decimal_of_tens}
 use Rattle.report.proofs.tens.Tens.numeral.Goals as goal
 
