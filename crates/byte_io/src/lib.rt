@@ -3,6 +3,7 @@
 
 mod add;
 mod line;
+mod numeral;
 mod page;
 mod put;
 mod read;
@@ -11,6 +12,7 @@ mod stream;
 
 pub use add::{flush, make_room};
 pub use line::{Piece, write_line};
+pub use numeral::Numeral;
 pub use page::Page;
 pub use put::{WriteFault, put_all};
 pub use read::{ReadFault, read_all};

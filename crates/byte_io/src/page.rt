@@ -1,6 +1,7 @@
 //! A page: bytes that wait, to be put with one call.
-ghost use Rattle.std.specs.Prelude.{◌≡◌, ◌<◌, ◌≤◌, ◌+◌, ◌↔◌, ◌++◌, [], length, take, decimal, IsTrue};
+ghost use Rattle.std.specs.Prelude.{◌≡◌, ◌<◌, ◌≤◌, ◌+◌, ◌↔◌, ◌++◌, ◌∷◌, [], length, take, decimal, codes, IsTrue};
 
+use crate::numeral::Numeral;
 use std::marker::Model;
 
 /// At most `SIZE` bytes. It stands on the stack and takes no memory.
@@ -30,6 +31,55 @@ fn copy_to(page: &mut [u8], at: usize, text: &[u8]) -> usize
     let end = at + text.len();
     page[at..end].copy_from_slice(text);
     end
+}
+
+// Makes the place equal to the text.
+//
+// As an assignment of an array this is a few moves of whole registers. `copy_from_slice` first compares the two places, since
+// it doesn't know that they don't overlap.
+#[inline]
+fn assign<const N: usize>(place: &mut [u8], text: &[u8; N])
+    requires { length place.old ≡ N }
+    ensures { place.new ≡ text.now }
+{
+    if let Some(array) = place.as_mut_array::<N>() {
+        *array = *text;
+    }
+}
+
+// Copies all bytes of the text into the page from `at` on, of which so many count, and answers where these end.
+#[inline]
+fn copy_whole<const N: usize>(page: &mut [u8], at: usize, text: &[u8; N], count: usize) -> usize
+    requires room { at + N ≤ length page.old }
+    requires count { count ≤ N }
+    ensures end { result ≡ at + count }
+    ensures text { take result page.new ≡ take at page.old ++ take count text.now }
+{
+    assign(&mut page[at..at + N], text);
+    at + count
+}
+
+// Writes the byte into the page at `at`, and answers the place after it.
+#[inline]
+fn put_byte(page: &mut [u8], at: usize, byte: u8) -> usize
+    requires { at < length page.old }
+    ensures end { result ≡ at + 1 }
+    ensures text { take result page.new ≡ take at page.old ++ byte ∷ [] }
+{
+    page[at] = byte;
+    at + 1
+}
+
+// Writes the digits and a byte after them into the page from `at` on, and answers where they end.
+#[inline]
+fn put_numeral(page: &mut [u8], at: usize, numeral: Numeral<'_>, after: u8) -> usize
+    requires { at + 16 ≤ length page.old }
+    ensures end { result ≤ at + 12 }
+    ensures text { take result page.new ≡ take at page.old ++ numeral.entry ++ after ∷ [] }
+{
+    let at = copy_whole(page, at, numeral.front, numeral.len);
+    let at = put_byte(page, at, numeral.last);
+    put_byte(page, at, after)
 }
 
 impl Page {
@@ -68,6 +118,14 @@ impl Page {
         count <= Page::SIZE - self.used
     }
 
+    /// How many more bytes fit.
+    #[inline]
+    pub fn room(&self) -> usize
+        ensures { length self.now + result ≡ Self.SIZE }
+    {
+        Page::SIZE - self.used
+    }
+
     /// Adds the text.
     #[inline]
     pub fn push_text(&mut self, text: &[u8])
@@ -76,6 +134,51 @@ impl Page {
         ensures size { length self.new ≡ length self.old + length text.now }
     {
         self.used = copy_to(&mut self.bytes, self.used, text);
+    }
+
+    /// Adds so many bytes from the front of the text. The page needs room for all of the text, since all of it is copied.
+    #[inline(always)]
+    pub fn push_front<const N: usize>(&mut self, text: &[u8; N], count: usize)
+        requires room { length self.old + N ≤ Self.SIZE }
+        requires count { count ≤ N }
+        ensures text { self.new ≡ self.old ++ take count text.now }
+        ensures size { length self.new ≡ length self.old + count }
+    {
+        self.used = copy_whole(&mut self.bytes, self.used, text, count);
+    }
+
+    /// Adds all of the text. Its length is a constant, so this is a few moves of whole registers.
+    #[inline(always)]
+    pub fn push_array<const N: usize>(&mut self, text: &[u8; N])
+        requires { length self.old + N ≤ Self.SIZE }
+        ensures text { self.new ≡ self.old ++ text.now }
+        ensures size { length self.new ≡ length self.old + N }
+    {
+        self.push_front(text, N);
+    }
+
+    /// Adds two numbers, and a space after each.
+    ///
+    /// Where the page ends stays in a variable between them: a byte written at a place that the compiler can't bound would
+    /// have it read the field again.
+    #[inline]
+    pub fn push_two(&mut self, first: Numeral<'_>, second: Numeral<'_>)
+        requires { length self.old + 32 ≤ Self.SIZE }
+        ensures text { self.new ≡ self.old ++ (first.entry ++ codes " ") ++ (second.entry ++ codes " ") }
+        ensures size { length self.new ≤ length self.old + 24 }
+    {
+        let at = put_numeral(&mut self.bytes, self.used, first, b' ');
+        self.used = put_numeral(&mut self.bytes, at, second, b' ');
+    }
+
+    /// Adds a number and a line feed.
+    #[inline]
+    pub fn push_last(&mut self, numeral: Numeral<'_>)
+        requires { length self.old + 16 ≤ Self.SIZE }
+        ensures text { self.new ≡ self.old ++ numeral.entry ++ codes "\n" }
+        ensures size { length self.new ≤ length self.old + 12 }
+    {
+        self.used = put_numeral(&mut self.bytes, self.used, numeral, b'\n');
     }
 
     /// Adds the number in decimal digits, of which a `u32` has at most 10.

@@ -12,7 +12,7 @@ struct Case {
     report: &'static str,
 }
 
-const CASES: [Case; 22] = [
+const CASES: [Case; 20] = [
     Case {
         name: "loops_and_expect.toml",
         file: r#"# A loop inside a loop, and an `expect` that holds in the first turn of the outer loop and fails in the second.
@@ -41,9 +41,9 @@ script = ["repeat 2", "repeat 2", "mark 7", "end", "time", "expect 0", "work 1",
         file: r#"# Two tasks that each compute for one tick in every turn and then sleep, one with `delay_until 5` and one with `delay 5`.
 #
 # Look at the answers of `time`, the ticks at which the turns begin. For `exact` they are 0, 5 and 10: `delay_until` counts
-# from the moment that it came to before, at first from the time at reset, so the computing between makes no difference. For
+# from the time that it came to before, at first from the time at reset, so the computing between makes no difference. For
 # `drifts` they are 1, 7 and 13: `delay` counts from the tick at which it is called, so each turn lasts one tick longer than
-# its sleep. `delay_until` answers 1 each time, since its moment is still to come.
+# its sleep. `delay_until` answers 1 each time, since that time is still to come.
 [[task]]
 name = "exact"
 priority = 2
@@ -228,28 +228,6 @@ script = ['repeat 3', 'yield', 'expect 0', 'time', 'expect none', 'end']
 ",
     },
     Case {
-        name: "tasks of one priority take turns",
-        file: r"[[task]]
-name = 'a'
-priority = 1
-script = ['work 3']
-
-[[task]]
-name = 'b'
-priority = 1
-script = ['work 3']
-",
-        status: 0,
-        report: r"base: pass in 6 steps, 6 ticks
-0 1 run b
-1 2 run a
-2 3 run b
-3 4 run a
-4 5 run b
-5 6 run -
-",
-    },
-    Case {
         name: "of two priorities the higher runs to its end",
         file: r"[[task]]
 name = 'low'
@@ -328,35 +306,6 @@ script = ['delay 1', 'time', 'expect 0']
 1 0 run a
 2 0 call a 1 time = 0
 3 0 run -
-",
-    },
-    Case {
-        name: "two sleepers wake across the wrap, in the order in which they began",
-        file: r"start = 4294967294
-
-[[task]]
-name = 'a'
-priority = 1
-script = ['yield', 'work 1', 'delay 2', 'mark 1']
-
-[[task]]
-name = 'b'
-priority = 1
-script = ['delay 3', 'mark 2']
-",
-        status: 0,
-        report: r"base: pass in 8 steps, 3 ticks
-0 4294967294 call a 0 yield = 0
-0 4294967294 run b
-1 4294967294 call b 0 delay = 0
-1 4294967294 run a
-3 4294967295 call a 2 delay = 0
-3 4294967295 run -
-5 1 run b
-6 1 mark b 2
-6 1 run a
-7 1 mark a 1
-7 1 run -
 ",
     },
     Case {

@@ -1,9 +1,11 @@
 -- One tick: the lists are swapped where the 32 bits wrap, and then the due sleepers go.
-use Rattle.std.proofs.Common.{◌≡◌, ◌≢◌, ℕ, ◌<◌, ◌≤◌, ◌+◌, ◌-◌, ◌^◌, List, [], ◌∷◌, ◌++◌, sym, ◌∙◌, ap, ap₂, subst, arith, refl, append_assoc, append-nil}
+use Rattle.std.proofs.Common.{◌≡◌, ◌≢◌, ℕ, ◌<◌, ◌≤◌, ◌+◌, ◌-◌, ◌^◌, true, false, Option, Some, None, List, [], ◌∷◌, ◌++◌, sym, ◌∙◌, ap, ap₂, subst, arith, refl, append_assoc, append-nil}
+use Rattle.std.specs.Option.{is_some}
 use Rattle.lists.specs.Lists.{Each, IsSorted, IsSound, entries_of}
 use Rattle.lists.proofs.Entries.{Each-right, Each-imp, Each-append, IsSorted-right}
-use Rattle.clock.specs.Timeline.{Timeline, Advances, count_from, all_until, timeline_of, IsClock}
+use Rattle.clock.specs.Timeline.{Timeline, Advances, count_from, all_until, first_at, timeline_of, IsClock}
 use Rattle.clock.proofs.Sleeping.{Each-count_from}
+use Rattle.clock.proofs.Taking.{none_left, split_at}
 
 -- a clock whose tick has gone on, and whose due sleepers are still in the current list
 pub record Turned (ls : List (List (ℕ × ℕ))) (start base tick current overflow : ℕ) (old : Timeline) : Type 0 where
@@ -130,3 +132,29 @@ module _ {ls : List (List (ℕ × ℕ))} {start base tick current overflow : ℕ
         ∙ append_assoc (all_until (base + tick) due) (count_from base (entries_of ls' current)) (count_from (base + 2 ^ 32) (entries_of ls' overflow));
     later = left_later;
   }
+
+-- nobody is due, or somebody is, by what the first sleeper of the current list says
+
+module _ {ls : List (List (ℕ × ℕ))} {start base tick current overflow : ℕ} {old : Timeline} (h : Turned ls start base tick current overflow old) where
+  none_later : (o : Option ℕ) → o ≡ first_at tick (entries_of ls current) → is_some o ≡ false → Each (λ e. tick < e.1) (entries_of ls current)
+  none_later None e t = none_left tick (entries_of ls current) e h.sorted h.ahead
+  none_later (Some n) e t = absurd cc
+
+  pub clock_if_none : (o : Option ℕ) → o ≡ first_at tick (entries_of ls current) → is_some o ≡ false → IsClock ls start base tick current overflow
+  clock_if_none o e t = clock_after h ls [] refl (none_later o e t) (λ k ne. refl) h.sound
+
+  pub advances_if_none : (o : Option ℕ) → o ≡ first_at tick (entries_of ls current) → is_some o ≡ false → Advances old (timeline_of ls start base tick current overflow) []
+  advances_if_none o e t = advances h ls [] refl (none_later o e t) (λ k ne. refl)
+
+  pub some_now : (o : Option ℕ) → o ≡ first_at tick (entries_of ls current) → is_some o ≡ true → Each (λ e. old.now + 1 < e.1) old.delayed_list → ⊥
+  some_now None e t later = cc
+  some_now (Some n) e t later =
+      let split = split_at tick n (entries_of ls current) e in
+      let whole = h.delayed ∙ ap (λ (xs : List (ℕ × ℕ)). count_from base xs ++ count_from (base + 2 ^ 32) (entries_of ls overflow)) split.1 in
+      let each : Each (λ e. old.now + 1 < e.1) ((n, base + tick) ∷ (count_from base split.0 ++ count_from (base + 2 ^ 32) (entries_of ls overflow))) = subst (Each (λ e. old.now + 1 < e.1)) whole later in
+      let now = h.now in
+      let here = each.0 in
+      omega (arith, now, here)
+
+pub none_now : (old new : Timeline) → Advances old new [] → Each (λ e. old.now + 1 < e.1) old.delayed_list
+none_now old new a = subst (λ (n : ℕ). Each (λ e. n < e.1) old.delayed_list) a.now (subst (Each (λ e. new.now < e.1)) (sym a.delayed) a.later)

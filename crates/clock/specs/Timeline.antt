@@ -1,5 +1,5 @@
 -- What callers see of a clock: time without bound, and who sleeps until when.
-use Rattle.std.specs.Prelude.{◌≡◌, ◌≢◌, ℕ, ◌+◌, ◌-◌, ◌^◌, ◌<◌, ◌≤◌, Bool, List, ◌++◌, map}
+use Rattle.std.specs.Prelude.{◌≡◌, ◌≢◌, ℕ, ◌+◌, ◌-◌, ◌^◌, ◌<◌, ◌≤◌, ◌==◌, if◌then◌else◌, Bool, Option, Some, None, List, [], ◌∷◌, ◌++◌, map}
 use Rattle.lists.specs.Lists.{Each, IsSorted, IsSound, entries_of, has_node}
 
 pub record Timeline : Type 0 where
@@ -17,6 +17,11 @@ is_asleep t task = has_node task t.delayed_list
 -- these tasks, all until one time
 abbrev pub all_until : ℕ → List ℕ → List (ℕ × ℕ)
 all_until time tasks = map (λ task. (task, time)) tasks
+
+-- the first entry's task, where its wake time is this one
+abbrev pub first_at : ℕ → List (ℕ × ℕ) → Option ℕ
+first_at time [] = None
+first_at time (e ∷ entries) = if e.1 == time then Some e.0 else None
 
 -- One tick passes: the sleepers whose wake time has come are due, and the others sleep on.
 pub record Advances (old new : Timeline) (due : List ℕ) : Type 0 where

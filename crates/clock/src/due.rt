@@ -1,7 +1,7 @@
 //! The sleepers whose wake time has come.
 ghost use Rattle.std.specs.Prelude.{◌≡◌, ◌≢◌, ℕ, ◌<◌, ◌≤◌, ◌++◌};
 ghost use Rattle.lists.specs.Lists.{entries_of, Each, IsSorted, IsSound};
-ghost use Rattle.clock.specs.Timeline.{all_until};
+ghost use Rattle.clock.specs.Timeline.{all_until, first_at};
 
 use arrayvec::ArrayVec;
 use lists::ListId;
@@ -10,6 +10,20 @@ use task_lists::TaskLists;
 
 /// The tasks whose wake time has come, 32 at most, in the order in which they began to sleep.
 pub type Due = ArrayVec<TaskId, 32>;
+
+/// The first task of a list, where its value is this one.
+pub(crate) fn first_due(lists: &TaskLists<2>, list: ListId, tick: u32) -> Option<TaskId>
+    requires { list.number < 2 }
+    ensures due { result ≡ first_at tick (entries_of lists.now list.number) }
+    ensures sound { IsSound 2 32 lists.now }
+{
+    let task = lists.first(list)?;
+    if lists.value(task) == tick {
+        Some(task)
+    } else {
+        None
+    }
+}
 
 /// Takes the entries of this value, which come first, out of a list.
 pub(crate) fn take_due(lists: &mut TaskLists<2>, list: ListId, tick: u32) -> Due
@@ -25,10 +39,7 @@ pub(crate) fn take_due(lists: &mut TaskLists<2>, list: ListId, tick: u32) -> Due
     ensures sound { IsSound 2 32 lists.new }
 {
     let mut due = ArrayVec::new();
-    while let Some(task) = lists.first(list) {
-        if lists.value(task) != tick {
-            break;
-        }
+    while let Some(task) = first_due(lists, list, tick) {
         lists.remove(task);
         due.push(task);
     }

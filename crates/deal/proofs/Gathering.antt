@@ -1,11 +1,11 @@
 -- What is known of the blocks when lanes come back.
 use Rattle.std.proofs.Common.{◌≡◌, ◌≢◌, ◌≤◌, ◌<◌, ℕ, zero, suc, ◌+◌, Bool, true, false, nat_lt, List, [], ◌∷◌, ◌++◌, length, length-append, take, set, map, replicate, reverse, get_or, get_or-set_same, get_or-set_other, append_assoc, append-nil, refl, sym, ap, ◌∙◌, arith, subst, ⊎_elim, inl, inr, ◌⊎◌, Vec, if◌then◌else◌, ◌==◌, true≢false}
 use Rattle.std.specs.Prelude.{slice_index, slice_index_or}
-use Rattle.std.specs.List.{concat}
+use Rattle.std.specs.List.{concat, AllByRecursion}
 use Rattle.std.specs.declared.alloc.Global.{Global}
 use Rattle.std.proofs.lemmas.Bool.Decides.{nat_tests}
 use Rattle.std.proofs.lemmas.List.{reverse-append, take_more, length-set}
-use Rattle.deal.specs.Totals.{total, range, one_at, times, HasEachOnce, Each}
+use Rattle.deal.specs.Totals.{total, range, one_at, times, HasEachOnce}
 use Rattle.deal.specs.Marks.{IsAmong}
 use Rattle.deal.specs.Lanes.{Collects}
 use Rattle.deal.specs.Sharing.{Game, Sight, AreLanesOf, HasSeenAll, SomeHasSeenAll, fresh, fresh_lanes, lists_of}
@@ -257,7 +257,7 @@ none_left lanes done (x ∷ xs) is none = absurd (omega (arith, none))
 pub fresh_are : (g : Game) → AreLanesOf g (fresh_lanes g)
 fresh_are g = all_of_each (λ (lane : Sight). lane.game ≡ g) (fresh_lanes g) (each_fresh (range 0 g.lanes))
   where
-    each_fresh : (ks : List ℕ) → Each (λ (lane : Sight). lane.game ≡ g) (map (fresh g) ks)
+    each_fresh : (ks : List ℕ) → AllByRecursion (λ (lane : Sight). lane.game ≡ g) (map (fresh g) ks)
     each_fresh [] = tt
     each_fresh (k ∷ ks) = (refl, each_fresh ks)
 

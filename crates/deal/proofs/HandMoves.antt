@@ -6,7 +6,8 @@ use lib.ListN.{get_elem?}
 use Rattle.atomic_table.specs.Seated.{TableId}
 use Rattle.atomic_table.proofs.Lists.{at_set, at_snoc}
 use Rattle.crossbeam_deque.specs.Handles.{SameWorker, worker_flavor, worker_view}
-use Rattle.deal.specs.Totals.{total, range, Each}
+use Rattle.deal.specs.Totals.{total, range}
+use Rattle.std.specs.List.{AllByRecursion}
 use Rattle.deal.specs.Logs.{whose, log, first_log}
 use Rattle.deal.specs.Logs.{HasTicketsOf}
 use Rattle.deal.specs.Sharing.{dealt_to}
@@ -74,7 +75,7 @@ deals_more z workers n hands hand new at h same is others =
 pub dealt_hands : (z : TableId) (workers n : ℕ) (hands : List Hand) → AreDealt z workers n hands → AreHands z workers n 0 hands
 dealt_hands z workers n hands h k hand e =
     let t = h k hand e in
-    (t.0, omega (arith, t.1), t.2, t.3, t.4, subst (Each (HasTicketsOf z)) (sym t.5) tt, (λ f. ap (total (λ (v : Log). total f v.got)) t.5), λ _. (t.1, t.5))
+    (t.0, omega (arith, t.1), t.2, t.3, t.4, subst (AllByRecursion (HasTicketsOf z)) (sym t.5) tt, (λ f. ap (total (λ (v : Log). total f v.got)) t.5), λ _. (t.1, t.5))
 
 pub hands_more : (z : TableId) (workers n cut cut' : ℕ) (hands : List Hand) → cut ≤ cut' → AreHands z workers n cut hands → AreHands z workers n cut' hands
 hands_more z workers n cut cut' hands more h k hand e = let t = h k hand e in (t.0, omega (arith, t.1, more), t.2, t.3, t.4, t.5, t.6, t.7)
@@ -91,7 +92,7 @@ cuts_more z workers n cut j hands hand new way at several few h same is others =
         ap (λ (v : Log). v.dealt) is.0 ∙ mine.2,
         ap (λ (v : Log). v.got) is.0 ∙ mine.3,
         (λ some_dealt. ap whose is.0 ∙ mine.4 (omega (arith, some_dealt, ap (λ (v : Log). length v.dealt) is.0))),
-        subst (Each (HasTicketsOf z)) (sym others) mine.5,
+        subst (AllByRecursion (HasTicketsOf z)) (sym others) mine.5,
         (λ f. ap (total (λ (v : Log). total f v.got)) others ∙ mine.6 f),
         λ lone. absurd (omega (arith, lone, several)),
       )
@@ -112,7 +113,7 @@ keeps_way z workers n cut j hands hand new way at several h tickets none own oth
       ap (λ (w : OwnOf). (worker_view w).dealt) own ∙ mine.2,
       ap (λ (w : OwnOf). (worker_view w).got) own ∙ mine.3,
       subst (λ (w : OwnOf). HasTicketsOf z (worker_view w)) (sym own) mine.4,
-      subst (Each (HasTicketsOf z)) (sym others) (each_last (HasTicketsOf z) hand.others.items way mine.5 tickets),
+      subst (AllByRecursion (HasTicketsOf z)) (sym others) (each_last (HasTicketsOf z) hand.others.items way mine.5 tickets),
       (λ f. omega (arith, ap (total (λ (v : Log). total f v.got)) others, total_append (λ (v : Log). total f v.got) hand.others.items (way ∷ []), mine.6 f, none f)),
       λ lone. absurd (omega (arith, lone, several)),
     )

@@ -6,7 +6,8 @@ use Rattle.std.proofs.lemmas.List.{length-set}
 use Rattle.atomic_table.specs.Table.{Allows, Joins, Splits, opening, step, keeps}
 use Rattle.atomic_table.proofs.Lists.{at_set}
 use Rattle.deal.specs.declared.part.Part.{Part}
-use Rattle.deal.specs.Totals.{total, Each}
+use Rattle.deal.specs.Totals.{total}
+use Rattle.std.specs.List.{AllByRecursion}
 use Rattle.deal.specs.Tallies.{Sheet, Tallied, AreSeatsOf, fresh_seat}
 use Rattle.deal.specs.Parts.{part, no_part, first_part, less_a_seat, seat_part, both_parts, zeros, FitsTally, IsSummed, Adding, Seeing}
 use Rattle.deal.proofs.Members.{all_of_each}
@@ -180,6 +181,6 @@ sums_more added kinds kind n wide here is before k low =
 pub fresh_seats_are : (s : Sheet) (n : ℕ) → AreSeatsOf s (replicate n (fresh_seat s))
 fresh_seats_are s n = all_of_each (λ (seat : Tallied). seat.sheet ≡ s) (replicate n (fresh_seat s)) (each_fresh n)
   where
-    each_fresh : (m : ℕ) → Each (λ (seat : Tallied). seat.sheet ≡ s) (replicate m (fresh_seat s))
+    each_fresh : (m : ℕ) → AllByRecursion (λ (seat : Tallied). seat.sheet ≡ s) (replicate m (fresh_seat s))
     each_fresh zero = tt
     each_fresh (suc m) = (refl, each_fresh m)

@@ -4,7 +4,8 @@ use mathlib.Core.Option.{some}
 use lib.ListN.{get_elem?}
 use Rattle.atomic_table.specs.Seated.{TableId}
 use Rattle.crossbeam_deque.specs.Handles.{worker_flavor, worker_view}
-use Rattle.deal.specs.Totals.{total, Each}
+use Rattle.deal.specs.Totals.{total}
+use Rattle.std.specs.List.{AllByRecursion}
 use Rattle.deal.specs.Logs.{HasTicketsOf}
 use Rattle.deal.specs.Sharing.{dealt_to}
 use Rattle.deal.specs.declared.hand.Hand.{Hand}
@@ -29,7 +30,7 @@ abbrev pub IsHand : TableId → ℕ → ℕ → ℕ → ℕ → Hand → Type 0
 IsHand z workers n cut k hand =
     (worker_flavor hand.own ≡ 0) × (8192 ≤ (worker_view hand.own).parts + cut)
     × ((worker_view hand.own).dealt ≡ dealt_to workers k n) × ((worker_view hand.own).got ≡ [])
-    × HasTicketsOf z (worker_view hand.own) × Each (HasTicketsOf z) hand.others.items
+    × HasTicketsOf z (worker_view hand.own) × AllByRecursion (HasTicketsOf z) hand.others.items
     × ((h : ℕ → ℕ) → total (λ (v : Log). total h v.got) hand.others.items ≡ 0)
     × (workers ≡ 1 → ((worker_view hand.own).parts ≡ 8192) × (hand.others.items ≡ []))
 

@@ -2,7 +2,8 @@
 use Rattle.std.specs.Prelude.{◌≡◌, ℕ, ◌+◌, ◌<◌, ◌≤◌, ◌^◌, List, [], ◌++◌, length}
 use Rattle.atomic_table.specs.Seated.{TableId}
 use Rattle.atomic_table.specs.declared.shared.Seat.{Seat}
-use Rattle.deal.specs.Totals.{total, range, Each}
+use Rattle.deal.specs.Totals.{total, range}
+use Rattle.std.specs.List.{AllByRecursion}
 use Rattle.deal.specs.Marks.{mark, IsAmong, IsTicketOf, IsShareOf}
 use Rattle.deal.specs.Logs.{HasTicketsOf}
 use Rattle.deal.specs.Dealing.{IsHand}
@@ -16,7 +17,7 @@ use Rattle.deal.specs.declared.log.Log.{Log}
 
 -- a lane may take from these deques
 abbrev pub MayTake : TableId → Log → List Log → Type 0
-MayTake z own others = (0 < own.parts) × HasTicketsOf z own × Each (HasTicketsOf z) others
+MayTake z own others = (0 < own.parts) × HasTicketsOf z own × AllByRecursion (HasTicketsOf z) others
 
 -- how much of h the passes have taken
 abbrev pub taken_by : (ℕ → ℕ) → Log → List Log → ℕ

@@ -1,7 +1,8 @@
 -- What tallies and their seats stand for, and what their calls promise, whatever other seats do at the same time.
 use Rattle.std.specs.Prelude.{◌≡◌, ℕ, ◌+◌, ◌<◌, ◌≤◌, List, length, All, slice_index, slice_set}
 use Rattle.atomic_table.specs.Seated.{TableId}
-use Rattle.deal.specs.Totals.{total, Each}
+use Rattle.deal.specs.Totals.{total}
+use Rattle.std.specs.List.{AllByRecursion}
 use Rattle.deal.specs.Parts.{zeros}
 use Rattle.deal.specs.declared.part.Part.{Part}
 
@@ -48,7 +49,7 @@ added_in k seats = total (λ (seat : Tallied). slice_index seat.added k) seats
 
 -- no seat saw more
 abbrev pub NoneSawMore : List ℕ → List Tallied → Type 0
-NoneSawMore counts seats = Each (λ (seat : Tallied). AtMost seat.seen counts) seats
+NoneSawMore counts seats = AllByRecursion (λ (seat : Tallied). AtMost seat.seen counts) seats
 
 -- the seats are of this tally
 abbrev pub AreSeatsOf : Sheet → List Tallied → Type 0
@@ -56,7 +57,7 @@ AreSeatsOf tally seats = All (λ (seat : Tallied). seat.sheet ≡ tally) seats
 
 -- the same, seat by seat
 abbrev pub AreEachOf : Sheet → List Tallied → Type 0
-AreEachOf tally seats = Each (λ (seat : Tallied). seat.sheet ≡ tally) seats
+AreEachOf tally seats = AllByRecursion (λ (seat : Tallied). seat.sheet ≡ tally) seats
 
 -- the counts are what the seats added, and no seat saw more
 abbrev pub AreCounts : List ℕ → List Tallied → Type 0

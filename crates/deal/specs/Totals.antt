@@ -11,11 +11,6 @@ abbrev pub range : ℕ → ℕ → List ℕ
 range first zero = []
 range first (suc n) = first ∷ range (first + 1) n
 
--- P of each
-abbrev pub Each : {V : Type 0} → (V → Type 0) → List V → Type 0
-Each P [] = Unit {0}
-Each P (v ∷ vs) = P v × Each P vs
-
 -- 1 at x, and 0 elsewhere
 abbrev pub one_at : ℕ → ℕ → ℕ
 one_at x y = if y == x then 1 else 0

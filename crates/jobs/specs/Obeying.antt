@@ -38,7 +38,7 @@ pub record Shows (kind : ErrorKind) (old new : Option (List ℕ)) (write_failed 
   pub ends : status ≡ shown_status write_failed
 
 -- The words are refused: a text that says why is told, and nothing is written.
-pub record Refuses (kind : ErrorKind) (old new : Option (List ℕ)) (write_failed : Bool)
+pub record RefusesWords (kind : ErrorKind) (old new : Option (List ℕ)) (write_failed : Bool)
     (faults_old faults_new : Option (List ℕ)) (tell_failed : Bool) (status : ℕ) : Type 0 where
   pub refused : IsRefusal kind
   pub text : List ℕ
@@ -56,11 +56,11 @@ pub record LacksMemory (old new : Option (List ℕ)) (write_failed : Bool)
   pub ends : status ≡ 4
 
 -- one of the three, for words of this kind
-abbrev pub Answers : ErrorKind → (old new : Option (List ℕ)) → (write_failed : Bool)
+abbrev pub Concludes : ErrorKind → (old new : Option (List ℕ)) → (write_failed : Bool)
     → (faults_old faults_new : Option (List ℕ)) → (tell_failed : Bool) → (status : ℕ) → Type 0
-Answers kind old new write_failed faults_old faults_new tell_failed status =
+Concludes kind old new write_failed faults_old faults_new tell_failed status =
     Shows kind old new write_failed faults_old faults_new tell_failed status
-    ⊎ (Refuses kind old new write_failed faults_old faults_new tell_failed status
+    ⊎ (RefusesWords kind old new write_failed faults_old faults_new tell_failed status
     ⊎ LacksMemory old new write_failed faults_old faults_new tell_failed status)
 
 -- ---- all words
@@ -82,7 +82,7 @@ pub record DoesNoJob (words : List (List ℕ)) (old new : Option (List ℕ)) (wr
     (faults_old faults_new : Option (List ℕ)) (tell_failed : Bool) (status : ℕ) : Type 0 where
   pub kind : ErrorKind
   pub due : (kind ≡ OutOfMemory) ⊎ IsAmong kind (fault_of rtosim_app words)
-  pub answers : Answers kind old new write_failed faults_old faults_new tell_failed status
+  pub concludes : Concludes kind old new write_failed faults_old faults_new tell_failed status
 
 -- one of the two
 abbrev pub Obeys : (words : List (List ℕ)) → (old new : Option (List ℕ)) → (write_failed : Bool)

@@ -2,7 +2,7 @@
 ghost use Rattle.std.specs.Prelude.{◌≡◌, false};
 ghost use Rattle.clap.specs.Words.{kind_of};
 ghost use Rattle.jobs.specs.Acting.{Tells};
-ghost use Rattle.jobs.specs.Obeying.{Answers, Obeys, ShownTells, shown_status};
+ghost use Rattle.jobs.specs.Obeying.{Concludes, Obeys, ShownTells, shown_status};
 ghost use Rattle.jobs.specs.Words.{texts_of};
 
 use crate::acting::{open_and_act, refuse};
@@ -50,7 +50,7 @@ pub fn conclude_error<W: Sink, F: Sink>(
 ) -> u8
     requires writes { W.has_failed writer.old ≡ false }
     requires tells { F.has_failed faults.old ≡ false }
-    ensures { Answers (kind_of error.now)
+    ensures { Concludes (kind_of error.now)
         (W.held writer.old) (W.held writer.new) (W.has_failed writer.new)
         (F.held faults.old) (F.held faults.new) (F.has_failed faults.new) result }
 {

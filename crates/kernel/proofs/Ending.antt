@@ -1,17 +1,20 @@
 -- When a run ends.
-use Rattle.std.proofs.Common.{◌≡◌, ◌+◌, ℕ, suc, Bool, true, false, not, ◌&&◌, ◌||◌, eqb, List, [], ◌∷◌, length, get_or, Some, refl, ap, sym, ◌∙◌, arith}
+use Rattle.std.proofs.Common.{◌≡◌, ◌+◌, ◌<◌, ◌≤◌, ℕ, suc, Bool, true, false, not, ◌&&◌, ◌||◌, eqb, leb, List, [], ◌∷◌, length, get_or, Option, Some, None, refl, ap, sym, subst, ◌∙◌, arith}
+use Rattle.std.proofs.lemmas.Bool.Decides.{nat_tests}
 use Rattle.std.specs.List.{list_all, list_any, filter, AllByRecursion}
 use Rattle.std.specs.Prelude.{IsTrue, ◌↔◌}
 use Rattle.std.specs.Option.{option_eq, is_none, is_some}
 use Rattle.std.proofs.lemmas.List.{length-map}
 use Rattle.model.specs.declared.event.Event.{Event}
-use Rattle.model.specs.Application.{Application}
+use Rattle.model.specs.declared.event.End.{End}
+use Rattle.model.specs.declared.event.End.TheVariants.{Pass, Ticks, Steps, Stuck}
+use Rattle.model.specs.Application.{Application, Limits}
 use Rattle.model.specs.State.{State, Task, Status, Ready, Asleep, Ended, wake_time_of, no_task}
 use Rattle.model.specs.Order.{Key, Entry, keyed, list_by, tasks_of}
 use Rattle.model.specs.Switching.{ready_key, settle}
 use Rattle.model.specs.Time.{delayed_key}
 use Rattle.model.specs.Step.{act_current, step}
-use Rattle.model.specs.Run.{is_ended, are_all_ended, is_stuck}
+use Rattle.model.specs.Run.{is_ended, are_all_ended, is_stuck, end_of}
 use Rattle.model.specs.Invariant.{IsTable}
 use Rattle.model.proofs.Sorting.{length-in_order, by_test}
 use Rattle.model.proofs.Lists.{eqb-apart, eqb-refl, HasKey, list_has}
@@ -23,6 +26,12 @@ use Rattle.clock.specs.Timeline.{Timeline}
 use Rattle.kernel.specs.declared.kernel.Kernel.{Kernel}
 use Rattle.kernel.specs.StandsFor.{StandsFor, At}
 use Rattle.kernel.proofs.Parts.{rest_same, clock-same}
+
+leb-yes : (a b : ℕ) → a ≤ b → leb a b ≡ true
+leb-yes a b e = grind (arith, nat_tests)
+
+leb-no : (a b : ℕ) → b < a → leb a b ≡ false
+leb-no a b e = grind (arith, nat_tests)
 
 some : (n : ℕ) → eqb (suc n) 0 ≡ false
 some n = eqb-apart (suc n) 0 (λ e. omega arith)
@@ -91,11 +100,77 @@ asleep o (t ∷ ts) = by_status t t.status (asleep (o + 1) ts) where
   by_status t (Asleep w n) later = some (length (keyed delayed_key (o + 1) ts))
   by_status t Ended later = later
 
-pub over_is : (k : Kernel) (s : State) (q : Bool) → StandsFor k s → (IsTrue q ↔ (k.clock.delayed_list ≡ [])) → not (is_some (first_of k.sched.ready)) && q ≡ are_all_ended s
-over_is k s q h is = rw (quiet k.clock s h.rest.clock q is, none_first k.sched.ready, h.sched.ready, length-ready s.tasks) (over 0 s.tasks)
+-- whether nobody sleeps
+abbrev is_quiet : State → Bool
+is_quiet s = eqb (length (keyed delayed_key 0 s.tasks)) 0
 
-pub stuck_is : (k : Kernel) (s : State) (q : Bool) → StandsFor k s → (IsTrue q ↔ (k.clock.delayed_list ≡ [])) → is_none k.sched.current && q ≡ is_stuck s
-stuck_is k s q h is = rw (quiet k.clock s h.rest.clock q is, h.sched.current, asleep 0 s.tasks) refl
+-- What the parts of the kernel say of an end where nobody sleeps.
+module _ (k : Kernel) (s : State) (h : StandsFor k s) where
+  over_is : not (is_some (first_of k.sched.ready)) && is_quiet s ≡ are_all_ended s
+  over_is = rw (none_first k.sched.ready, h.sched.ready, length-ready s.tasks) (over 0 s.tasks)
+
+  stuck_is : is_none k.sched.current && is_quiet s ≡ is_stuck s
+  stuck_is = rw (h.sched.current, asleep 0 s.tasks) refl
+
+  still_is : not (is_some (first_of k.sched.ready)) && is_quiet s || is_none k.sched.current && is_quiet s ≡ are_all_ended s || is_stuck s
+  still_is = subst (λ e. not (is_some (first_of k.sched.ready)) && is_quiet s || is_none k.sched.current && is_quiet s ≡ e || is_stuck s) over_is (ap (λ e. not (is_some (first_of k.sched.ready)) && is_quiet s || e) stuck_is)
+
+  -- idle runs
+  pub still_idle : (q : Bool) → (IsTrue q ↔ (k.clock.delayed_list ≡ [])) → is_some k.sched.current ≡ false → q ≡ are_all_ended s || is_stuck s
+  still_idle q is idle = quiet k.clock s h.rest.clock q is ∙ rw idle (either (not (is_some (first_of k.sched.ready))) (is_quiet s)) ∙ still_is where
+    either : (a b : Bool) → b ≡ a && b || true && b
+    either true true = refl
+    either true false = refl
+    either false b = refl
+
+  -- nobody is Ready
+  pub still_over : (q : Bool) → (IsTrue q ↔ (k.clock.delayed_list ≡ [])) → is_some (first_of k.sched.ready) ≡ false → q ≡ are_all_ended s || is_stuck s
+  still_over q is none = quiet k.clock s h.rest.clock q is ∙ rw none (either (is_none k.sched.current) (is_quiet s)) ∙ still_is where
+    either : (a b : Bool) → b ≡ true && b || a && b
+    either a true = refl
+    either true false = refl
+    either false false = refl
+
+  pub still_not : is_some k.sched.current ≡ true → is_some (first_of k.sched.ready) ≡ true → false ≡ are_all_ended s || is_stuck s
+  still_not runs some = rw (runs, some) refl ∙ still_is
+
+  pub over_not : is_some (first_of k.sched.ready) ≡ true → are_all_ended s ≡ false
+  over_not some = sym over_is ∙ rw some refl
+
+  pub over_now : are_all_ended s || is_stuck s ≡ true → is_some (first_of k.sched.ready) ≡ false → are_all_ended s ≡ true
+  over_now still none = sym over_is ∙ rw none (by_quiet (is_none k.sched.current) (is_quiet s) (rw none at (still_is ∙ still))) where
+    by_quiet : (a b : Bool) → true && b || a && b ≡ true → true && b ≡ true
+    by_quiet a true t = refl
+    by_quiet true false t = t
+    by_quiet false false t = t
+
+pub over_before : (s : State) → are_all_ended s || is_stuck s ≡ false → are_all_ended s ≡ false
+over_before s t = neither (are_all_ended s) (is_stuck s) t where
+  neither : (a b : Bool) → a || b ≡ false → a ≡ false
+  neither true b t = absurd (cc)
+  neither false b t = refl
+
+pub not_stopped : (o : Option End) → is_some o ≡ false → o ≡ None
+not_stopped None t = refl
+not_stopped (Some end) t = absurd (cc)
+
+-- Which end it is.
+module _ (limits : Limits) (s : State) (none : s.stopped ≡ None) where
+  pub ends_pass : are_all_ended s ≡ true → Some Pass ≡ end_of limits s
+  ends_pass over = rw (none, over) refl
+
+  module _ (on : are_all_ended s ≡ false) where
+    pub ends_ticks : limits.ticks ≤ s.elapsed → Some Ticks ≡ end_of limits s
+    ends_ticks le = rw (none, on, leb-yes limits.ticks s.elapsed le) refl
+
+    module _ (early : s.elapsed < limits.ticks) where
+      pub ends_steps : limits.steps ≤ s.steps → Some Steps ≡ end_of limits s
+      ends_steps le = rw (none, on, leb-no limits.ticks s.elapsed early, leb-yes limits.steps s.steps le) refl
+
+      pub ends_stuck : s.steps < limits.steps → are_all_ended s || is_stuck s ≡ true → Some Stuck ≡ end_of limits s
+      ends_stuck few still =
+          let stuck : is_stuck s ≡ true = rw on at still in
+          rw (none, on, leb-no limits.ticks s.elapsed early, leb-no limits.steps s.steps few, stuck) refl
 
 -- A step begins with no event told, and ends with one step more.
 pub begun : (k : Kernel) (log : List Event) (s : State) → StandsFor k s → log ≡ [] → At k log (record s { log = [] })

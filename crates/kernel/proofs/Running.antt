@@ -1,5 +1,6 @@
 -- A run, step by step.
 use Rattle.std.proofs.Common.{◌≡◌, ◌≢◌, ◌<◌, ◌≤◌, ℕ, zero, suc, true, false, eqb, leb, List, [], ◌++◌, None, refl, sym, subst, ◌∙◌, arith, length, length-append}
+use Rattle.std.proofs.lemmas.List.{append_assoc}
 use Rattle.std.proofs.lemmas.Bool.Decides.{nat_tests}
 use Rattle.model.proofs.Sorting.{by_test}
 use Rattle.model.proofs.Lists.{eqb-refl, eqb-same}
@@ -63,14 +64,12 @@ module _ (app : Application) (formed : IsWellFormed app) (limits : Limits) (are 
     }
 
     -- and its events
-    pub more_events : (events more all : List Event) → events ≡ events_after app k.steps → more ≡ (step app (state_after app k.steps)).log → all ≡ events ++ more → all ≡ events_after app next.steps
-    more_events events more all e f g = rw (g, steps_more, e, f) refl
+    pub more_events : (first events all : List Event) → events ≡ first ++ events_after app k.steps → all ≡ events ++ (step app (state_after app k.steps)).log → all ≡ first ++ events_after app next.steps
+    more_events first events all e g = rw (g, steps_more, e) (append_assoc first (events_after app k.steps) (step app (state_after app k.steps)).log)
 
     -- where the step tells something, so has the run
-    pub told_more : (more : List Event) → more ≡ (step app (state_after app k.steps)).log → 0 < length more → 0 < length (events_after app next.steps)
-    told_more more f l =
-        let one : 0 < length (step app (state_after app k.steps)).log = rw (← f) l in
-        rw steps_more (omega (arith, length-append (events_after app k.steps) (step app (state_after app k.steps)).log))
+    pub told_more : 0 < length (step app (state_after app k.steps)).log → 0 < length (events_after app next.steps)
+    told_more one = rw steps_more (omega (arith, length-append (events_after app k.steps) (step app (state_after app k.steps)).log))
 
 -- The ticks of a run, as far as it has gone
 ticks_by : (app : Application) (limits : Limits) → AreLimits limits.ticks limits.steps → (n : ℕ) → ((m : ℕ) → m < n → end_of limits (state_after app m) ≡ None) → (state_after app n).elapsed ≤ 1000000

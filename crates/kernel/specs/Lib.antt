@@ -1,3 +1,4 @@
+pub mod Logged
 pub mod Loops
 pub mod StandsFor
 pub mod Can

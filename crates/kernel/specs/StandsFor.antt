@@ -7,6 +7,7 @@ use Rattle.model.specs.Switching.{is_same}
 use Rattle.sched.specs.StandsFor as sched
 use Rattle.clock.specs.StandsFor as clock
 use Rattle.kernel.specs.declared.kernel.Kernel.{Kernel}
+use Rattle.kernel.specs.Logged.{Logged}
 
 -- the progress that the kernel keeps of this task
 abbrev pub progress_in : List Progress → ℕ → Progress
@@ -31,11 +32,12 @@ pub record At (k : Kernel) (told : List Event) (s : State) : Type 0 where
   pub stands : StandsFor k s
   pub log : told ≡ s.log
 
--- The deed is done and at most so many events are told: for every state that the old kernel stands for, the new one
--- stands for what the deed makes of it.
-pub record Does (count : ℕ) (old : Kernel) (old_log : List Event) (new : Kernel) (new_log : List Event) (deed : State → State) : Type 0 where
-  pub at : (s : State) → At old old_log s → At new new_log (deed s)
-  pub few : length new_log ≤ length old_log + count
+-- The deed is done and at most so many events are told, each of which takes room of the log: for every state that the
+-- old kernel stands for, the new one stands for what the deed makes of it. The events before this step stay.
+pub record Does (count : ℕ) (old : Kernel) (old_log : Logged) (new : Kernel) (new_log : Logged) (deed : State → State) : Type 0 where
+  pub at : (s : State) → At old old_log.told s → At new new_log.told (deed s)
+  pub few : old_log.room ≤ new_log.room + count
+  pub before : new_log.before ≡ old_log.before
 
 -- the same of a deed that tells nothing
 abbrev pub Moves : Kernel → Kernel → (State → State) → Type 0

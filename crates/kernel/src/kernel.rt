@@ -2,18 +2,14 @@
 ghost use Rattle.std.specs.Prelude.{◌≡◌, ◌<◌, ◌+◌, ◌++◌, ◌∷◌, [], length};
 ghost use Rattle.model.specs.State.{printed};
 ghost use Rattle.model.specs.Switching.{write};
-ghost use Rattle.arrayvec.specs.ArrayVec.{array_vec_len};
 ghost use Rattle.kernel.specs.Loops.{after_turn, next_turn};
 ghost use Rattle.kernel.specs.StandsFor.{Does, progress_in, with_progress};
 
+use crate::log::Log;
 use crate::progress::Progress;
-use arrayvec::ArrayVec;
 use clock::Clock;
 use model::{End, Event, Loop, TaskId, What};
 use sched::Sched;
-
-/// The events that one step tells: there is room for 128, and no step tells more.
-pub type StepLog = ArrayVec<Event, 128>;
 
 /// A kernel between two steps: FreeRTOS's scheduler and its tick, over tasks that follow scripts (profile).
 #[derive(Drop)]
@@ -34,11 +30,11 @@ impl Kernel {
     }
 
     /// Tells an event.
-    pub(crate) fn write(&self, log: &mut StepLog, what: What)
-        requires { array_vec_len log.old < 128 }
-        ensures does { Does 1 self.now log.old.items self.now log.new.items (write what) }
+    pub(crate) fn write<L: Log>(&self, log: &mut L, what: What)
+        requires { 0 < (L.logged log.old).room }
+        ensures does { Does 1 self.now (L.logged log.old) self.now (L.logged log.new) (write what) }
         // which one it is, for callers that tell one event or none
-        ensures event { log.new.items ≡ log.old.items
+        ensures event { (L.logged log.new).told ≡ (L.logged log.old).told
             ++ record { step = self.now.steps; tick = printed self.now.clock.now; what = what } ∷ [] }
     {
         log.push(Event {

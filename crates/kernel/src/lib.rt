@@ -3,11 +3,14 @@
 
 mod boot;
 mod kernel;
+mod log;
 mod loops;
 mod ops;
 mod progress;
 mod steps;
 mod switching;
+mod trail;
 
-pub use kernel::{Kernel, StepLog};
+pub use kernel::Kernel;
+pub use log::StepLog;
 pub use steps::run;

@@ -55,15 +55,12 @@ impl Loops {
             return None;
         }
         let innermost = self.nesting - 1;
-        let turn = self.cells[innermost as usize];
+        let turn = &mut self.cells[innermost as usize];
         if turn.left <= 1 {
             self.nesting = innermost;
             return None;
         }
-        self.cells[innermost as usize] = Loop {
-            left: turn.left - 1,
-            ..turn
-        };
+        turn.left -= 1;
         Some(turn.start)
     }
 }

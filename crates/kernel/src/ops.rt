@@ -6,11 +6,11 @@ ghost use Rattle.std.specs.Prelude.{◌≡◌, ◌≤◌, ◌+◌, Some};
 ghost use Rattle.model.specs.State.{progress_at};
 ghost use Rattle.model.specs.Ops.{go_to, complete, answer};
 ghost use Rattle.model.specs.Step.{act};
-ghost use Rattle.arrayvec.specs.ArrayVec.{array_vec_len};
 ghost use Rattle.kernel.specs.StandsFor.{Does, Moves};
 ghost use Rattle.kernel.specs.Can.{Runs, Can};
 
-use crate::kernel::{Kernel, StepLog};
+use crate::kernel::Kernel;
+use crate::log::Log;
 use model::{App, Op, TaskId, What};
 
 mod script;
@@ -42,10 +42,10 @@ impl Kernel {
     }
 
     /// A call of the running task is complete with this answer.
-    fn answer(&mut self, app: &App, task: TaskId, given: Option<u32>, log: &mut StepLog)
-        requires room { array_vec_len log.old + 1 ≤ 128 }
+    fn answer<L: Log>(&mut self, app: &App, task: TaskId, given: Option<u32>, log: &mut L)
+        requires room { 1 ≤ (L.logged log.old).room }
         requires runs { Runs self.old task }
-        ensures does { Does 1 self.old log.old.items self.new log.new.items
+        ensures does { Does 1 self.old (L.logged log.old) self.new (L.logged log.new)
             (answer app.now task given) }
         ensures clock { self.new.clock ≡ self.old.clock }
     {
@@ -56,10 +56,10 @@ impl Kernel {
     }
 
     /// What the running task's op does.
-    pub(crate) fn act(&mut self, app: &App, task: TaskId, op: Op, log: &mut StepLog)
-        requires room { array_vec_len log.old + 2 ≤ 128 }
+    pub(crate) fn act<L: Log>(&mut self, app: &App, task: TaskId, op: Op, log: &mut L)
+        requires room { 2 ≤ (L.logged log.old).room }
         requires can { Can self.old task op }
-        ensures { Does 2 self.old log.old.items self.new log.new.items (act app.now task op) }
+        ensures { Does 2 self.old (L.logged log.old) self.new (L.logged log.new) (act app.now task op) }
     {
         match op {
             Op::Work(ticks) => self.work(app, task, ticks, log),

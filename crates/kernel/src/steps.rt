@@ -1,23 +1,25 @@
 //! Steps, and whole runs.
-ghost use Rattle.std.specs.Prelude.{◌≡◌, ◌<◌, ◌≤◌, ◌+◌, ◌^◌, ◌++◌, [], Some, None, if◌then◌else◌, IfOk, OnOk, OnErr, length};
+ghost use Rattle.std.specs.Prelude.{◌≡◌, ◌<◌, ◌≤◌, ◌+◌, ◌^◌, ◌++◌, [], Some, None, ◌||◌, IfOk, OnOk, OnErr, length};
 ghost use Rattle.model.specs.State.{State};
 ghost use Rattle.model.specs.Step.{act_current, step, reset};
 ghost use Rattle.model.specs.Run as definition;
-ghost use Rattle.model.specs.Run.{end_of, IsRun, state_after, events_after, or_else};
-ghost use Rattle.arrayvec.specs.ArrayVec.{array_vec_len};
+ghost use Rattle.model.specs.Run.{end_of, IsRun, state_after, events_after, are_all_ended, is_stuck};
+ghost use Rattle.kernel.specs.Logged.{all_of};
 ghost use Rattle.kernel.specs.StandsFor.{StandsFor, Does};
 ghost use Rattle.kernel.specs.Can.{CanAct, CanStep, IsUnderWay};
 
-use crate::kernel::{Kernel, StepLog};
-use model::{App, End, Event, HandlerId, Limits, Memory, Meter, Plan, Run};
+use crate::kernel::Kernel;
+use crate::log::{Log, StepLog};
+use crate::trail::Trail;
+use model::{App, End, HandlerId, Limits, Memory, Meter, Plan, Run};
 use std::alloc::Global;
 
 impl Kernel {
     /// What a step does: the running task's op, or for idle a tick.
-    fn act_current(&mut self, app: &App, log: &mut StepLog)
-        requires room { array_vec_len log.old + 2 ≤ 128 }
+    fn act_current<L: Log>(&mut self, app: &App, log: &mut L)
+        requires room { 2 ≤ (L.logged log.old).room }
         requires can { CanAct app.now self.old }
-        ensures { Does 2 self.old log.old.items self.new log.new.items
+        ensures { Does 2 self.old (L.logged log.old) self.new (L.logged log.new)
             (λ s. act_current app.now s.current s) }
     {
         let Some(task) = self.sched.current() else {
@@ -28,6 +30,26 @@ impl Kernel {
         if let Some(op) = app.op(task, op_index) {
             self.act(app, task, op, log);
         }
+    }
+
+    /// One step of the run, whose events go to a log that has none of this step yet.
+    fn step_onto<L: Log>(&mut self, app: &App, meter: &mut Meter, log: &mut L)
+        requires going { CanStep app.now self.old }
+        requires meter { meter.old < 2 ^ 63 }
+        requires begun { (L.logged log.old).told ≡ [] }
+        requires room { 128 ≤ (L.logged log.old).room }
+        ensures stands { (s : State) → StandsFor self.old s → StandsFor self.new (step app.now s) }
+        ensures told { (s : State) → StandsFor self.old s
+            → (L.logged log.new).told ≡ (step app.now s).log }
+        ensures before { (L.logged log.new).before ≡ (L.logged log.old).before }
+        ensures meter { meter.new ≡ meter.old + 1 }
+    {
+        app.well_formed();
+        let steps = self.steps;
+        self.act_current(app, log);
+        self.settle(log);
+        self.steps = steps + 1;
+        meter.count();
     }
 
     /// One step of the run: the running task's op, or a tick of idle (profile). The events that it tells are then in the
@@ -45,13 +67,15 @@ impl Kernel {
         ensures meter { meter.new ≡ meter.old + 1 }
     {
         let _ = handlers;
-        app.well_formed();
         log.clear();
-        let steps = self.steps;
-        self.act_current(app, log);
-        self.settle(log);
-        self.steps = steps + 1;
-        meter.count();
+        self.step_onto(app, meter, log);
+    }
+
+    /// Whether nobody sleeps, where nobody is Ready or idle runs: whether every task is Ended, or stuck.
+    fn is_still(&self) -> bool
+        ensures { (s : State) → StandsFor self.now s → result ≡ are_all_ended s || is_stuck s }
+    {
+        (self.sched.current().is_none() || !self.sched.has_ready()) && self.clock.is_quiet()
     }
 
     /// The end of the run before its next step, under these limits: the first that holds of a failed `expect`, every task
@@ -59,53 +83,73 @@ impl Kernel {
     pub fn ended(&self, _app: &App, limits: &Limits) -> Option<End>
         ensures { (s : State) → StandsFor self.now s → result ≡ end_of limits.now s }
     {
-        let is_quiet = self.clock.is_quiet();
-        first_end(
-            self.stopped,
-            !self.sched.has_ready() && is_quiet,
-            limits.ticks as u64 <= self.clock.age(),
-            limits.steps <= self.steps,
-            self.sched.current().is_none() && is_quiet,
-        )
-    }
-}
-
-/// The first of these ends that is due.
-fn first_end(
-    stopped: Option<End>,
-    are_all_ended: bool,
-    ticks: bool,
-    steps: bool,
-    is_stuck: bool,
-) -> Option<End>
-    ensures { result ≡ or_else stopped
-        (if are_all_ended then Some End.Pass
-        else if ticks then Some End.Ticks
-        else if steps then Some End.Steps
-        else if is_stuck then Some End.Stuck
-        else None) }
-{
-    match stopped {
-        Some(end) => Some(end),
-        None if are_all_ended => Some(End::Pass),
-        None if ticks => Some(End::Ticks),
-        None if steps => Some(End::Steps),
-        None if is_stuck => Some(End::Stuck),
-        None => None,
-    }
-}
-
-/// Appends the events of a step.
-fn keep(events: &mut Vec<Event>, log: &StepLog) -> Result<(), Memory>
-    ensures kept { OnOk result (events.new.items ≡ events.old.items ++ log.now.items) }
-    // of memory nothing is asked where there is nothing to keep
-    ensures memory { OnErr result (0 < array_vec_len log.now) }
-{
-    for event in log.as_slice() {
-        if events.push(*event).is_err() {
-            return Err(Memory);
+        if self.stopped.is_some() {
+            return self.stopped;
         }
+        let is_still = self.is_still();
+        if is_still && !self.sched.has_ready() {
+            return Some(End::Pass);
+        }
+        if limits.ticks as u64 <= self.clock.age() {
+            return Some(End::Ticks);
+        }
+        if limits.steps <= self.steps {
+            return Some(End::Steps);
+        }
+        if is_still {
+            return Some(End::Stuck);
+        }
+        None
     }
+}
+
+/// One step of the run, where the trail has no room for the events of any step: it takes memory only for those that it
+/// tells.
+#[cold]
+#[inline(never)]
+fn step_in_little_room(
+    kernel: &mut Kernel,
+    app: &App,
+    meter: &mut Meter,
+    trail: &mut Trail,
+) -> Result<(), Memory>
+    requires going { CanStep app.now kernel.old }
+    requires meter { meter.old < 2 ^ 63 }
+    requires begun { trail.old.told ≡ [] }
+    ensures stands { (s : State) → StandsFor kernel.old s → StandsFor kernel.new (step app.now s) }
+    ensures told { OnOk result ((s : State) → StandsFor kernel.old s
+        → trail.new.told ≡ (step app.now s).log) }
+    ensures before { trail.new.before ≡ trail.old.before }
+    ensures meter { meter.new ≡ meter.old + 1 }
+    ensures memory { OnErr result ((s : State) → StandsFor kernel.old s
+        → 0 < length (step app.now s).log) }
+{
+    let mut log = StepLog::new();
+    kernel.step_onto(app, meter, &mut log);
+    trail.append(log.as_slice())
+}
+
+/// One step of the run, whose events go to the end of the trail. At `Err(Memory)`, answered only where a growth was
+/// refused, so never where the step tells nothing, it is done all the same.
+fn step_along(
+    kernel: &mut Kernel,
+    app: &App,
+    meter: &mut Meter,
+    trail: &mut Trail,
+) -> Result<(), Memory>
+    requires going { CanStep app.now kernel.old }
+    requires meter { meter.old < 2 ^ 63 }
+    ensures stands { (s : State) → StandsFor kernel.old s → StandsFor kernel.new (step app.now s) }
+    ensures told { OnOk result ((s : State) → StandsFor kernel.old s
+        → all_of trail.new ≡ all_of trail.old ++ (step app.now s).log) }
+    ensures meter { meter.new ≡ meter.old + 1 }
+    ensures memory { OnErr result ((s : State) → StandsFor kernel.old s
+        → 0 < length (step app.now s).log) }
+{
+    if trail.begin().is_err() {
+        return step_in_little_room(kernel, app, meter, trail);
+    }
+    kernel.step_onto(app, meter, trail);
     Ok(())
 }
 
@@ -115,13 +159,13 @@ fn finish(
     app: &App,
     limits: &Limits,
     meter: &mut Meter,
-    events: &mut Vec<Event>,
+    trail: &mut Trail,
 ) -> Result<End, Memory>
     requires stands { StandsFor kernel.old (reset app.now) }
-    requires events { events.old.items ≡ [] }
     requires meter { meter.old < 2 ^ 62 }
     ensures way { IsUnderWay app.now limits.now kernel.new }
-    ensures events { OnOk result (events.new.items ≡ events_after app.now kernel.new.steps) }
+    ensures events { OnOk result
+        (all_of trail.new ≡ all_of trail.old ++ events_after app.now kernel.new.steps) }
     ensures ended { IfOk result
         (λ end. end_of limits.now (state_after app.now kernel.new.steps) ≡ Some end) }
     ensures meter { meter.new ≡ meter.old + kernel.new.steps }
@@ -130,14 +174,11 @@ fn finish(
 {
     app.well_formed();
     limits.well_formed();
-    let none: [HandlerId; 0] = [];
-    let mut log = StepLog::new();
     'steps: loop {
         if let Some(end) = kernel.ended(app, limits) {
             return Ok(end);
         }
-        kernel.step(app, &none, meter, &mut log);
-        keep(events, &log)?;
+        step_along(kernel, app, meter, trail)?;
     }
 }
 
@@ -163,11 +204,11 @@ pub fn run(
 {
     let _ = plan;
     limits.well_formed();
-    let mut events = Vec::new(alloc);
+    let mut trail = Trail::new(alloc);
     let mut kernel = Kernel::boot(app);
-    let end = finish(&mut kernel, app, &limits, meter, &mut events)?;
+    let end = finish(&mut kernel, app, &limits, meter, &mut trail)?;
     Ok(Run {
-        events,
+        events: trail.into_events(),
         steps: kernel.steps,
         ticks: kernel.clock.age() as u32,
         end,

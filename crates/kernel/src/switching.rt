@@ -4,13 +4,13 @@ ghost use Rattle.std.specs.List.{AllByRecursion};
 ghost use Rattle.model.specs.State.{State, for_each};
 ghost use Rattle.model.specs.Switching.{choose, is_ready, slice, settle, yield_now, make_ready};
 ghost use Rattle.model.specs.Time.{increment_tick, tick_interrupt};
-ghost use Rattle.arrayvec.specs.ArrayVec.{array_vec_len};
 ghost use Rattle.sched.specs.StandsFor.{StandsFor as ScheduleStandsFor};
 ghost use Rattle.sched.specs.Schedule as schedule;
 ghost use Rattle.kernel.specs.StandsFor.{StandsFor, Does, Moves, change};
 ghost use Rattle.kernel.specs.Can.{CanTick, AreToWake};
 
-use crate::kernel::{Kernel, StepLog};
+use crate::kernel::Kernel;
+use crate::log::Log;
 use model::{TaskId, What};
 use sched::Sched;
 
@@ -29,11 +29,12 @@ fn make_all_ready(sched: &mut Sched, tasks: &[TaskId])
 
 impl Kernel {
     /// Tells who runs now, where that is a change.
-    fn write_change(&self, before: Option<TaskId>, log: &mut StepLog)
-        requires { array_vec_len log.old < 128 }
-        ensures event { log.new.items ≡ log.old.items
+    fn write_change<L: Log>(&self, before: Option<TaskId>, log: &mut L)
+        requires { 0 < (L.logged log.old).room }
+        ensures event { (L.logged log.new).told ≡ (L.logged log.old).told
             ++ change self.now.steps self.now.clock.now before self.now.sched.current }
-        ensures few { array_vec_len log.new ≤ array_vec_len log.old + 1 }
+        ensures few { (L.logged log.old).room ≤ (L.logged log.new).room + 1 }
+        ensures before { (L.logged log.new).before ≡ (L.logged log.old).before }
     {
         let now = self.sched.current();
         if now != before {
@@ -50,9 +51,9 @@ impl Kernel {
     }
 
     /// The choice runs.
-    fn choose(&mut self, log: &mut StepLog)
-        requires { array_vec_len log.old < 128 }
-        ensures { Does 1 self.old log.old.items self.new log.new.items choose }
+    fn choose<L: Log>(&mut self, log: &mut L)
+        requires { 0 < (L.logged log.old).room }
+        ensures { Does 1 self.old (L.logged log.old) self.new (L.logged log.new) choose }
     {
         let before = self.sched.current();
         self.sched.choose();
@@ -60,9 +61,9 @@ impl Kernel {
     }
 
     /// The running task goes behind its equals, and the choice runs.
-    pub(crate) fn yield_now(&mut self, log: &mut StepLog)
-        requires { array_vec_len log.old < 128 }
-        ensures { Does 1 self.old log.old.items self.new log.new.items yield_now }
+    pub(crate) fn yield_now<L: Log>(&mut self, log: &mut L)
+        requires { 0 < (L.logged log.old).room }
+        ensures { Does 1 self.old (L.logged log.old) self.new (L.logged log.new) yield_now }
     {
         let before = self.sched.current();
         self.sched.yield_now();
@@ -70,9 +71,9 @@ impl Kernel {
     }
 
     /// The end of a tick: a task above the running one runs, or else the next of equal priority.
-    fn slice(&mut self, log: &mut StepLog)
-        requires { array_vec_len log.old < 128 }
-        ensures { Does 1 self.old log.old.items self.new log.new.items slice }
+    fn slice<L: Log>(&mut self, log: &mut L)
+        requires { 0 < (L.logged log.old).room }
+        ensures { Does 1 self.old (L.logged log.old) self.new (L.logged log.new) slice }
     {
         let before = self.sched.current();
         self.sched.slice();
@@ -80,9 +81,9 @@ impl Kernel {
     }
 
     /// The end of a step: where the running task isn't Ready any more, the choice runs.
-    pub(crate) fn settle(&mut self, log: &mut StepLog)
-        requires { array_vec_len log.old < 128 }
-        ensures { Does 1 self.old log.old.items self.new log.new.items settle }
+    pub(crate) fn settle<L: Log>(&mut self, log: &mut L)
+        requires { 0 < (L.logged log.old).room }
+        ensures { Does 1 self.old (L.logged log.old) self.new (L.logged log.new) settle }
     {
         if let Some(task) = self.sched.current() {
             if !self.is_ready(task) {
@@ -96,15 +97,27 @@ impl Kernel {
         requires { CanTick self.old }
         ensures { Moves self.old self.new increment_tick }
     {
+        if !self.clock.advance_if_none_due() {
+            self.wake_due();
+        }
+    }
+
+    /// The same, by a list of those who are due.
+    #[inline(never)]
+    fn wake_due(&mut self)
+        requires { CanTick self.old }
+        ensures { Moves self.old self.new increment_tick }
+    {
         let due = self.clock.advance();
         make_all_ready(&mut self.sched, due.as_slice());
     }
 
     /// The tick interrupt: one tick, and then a switch if one is due.
-    pub(crate) fn tick_interrupt(&mut self, log: &mut StepLog)
-        requires room { array_vec_len log.old < 128 }
+    #[inline(always)]
+    pub(crate) fn tick_interrupt<L: Log>(&mut self, log: &mut L)
+        requires room { 0 < (L.logged log.old).room }
         requires can { CanTick self.old }
-        ensures { Does 1 self.old log.old.items self.new log.new.items tick_interrupt }
+        ensures { Does 1 self.old (L.logged log.old) self.new (L.logged log.new) tick_interrupt }
     {
         self.increment_tick();
         self.slice(log);

@@ -89,6 +89,10 @@ pub no_first : (xs : List (ℕ × ℕ)) → None ≡ first_of xs → xs ≡ []
 no_first [] e = refl
 no_first (x ∷ xs) e = absurd (none-some x.0 e)
 
+pub first_split : (n : ℕ) (xs : List (ℕ × ℕ)) → Some n ≡ first_of xs → (v : ℕ) × (rest : List (ℕ × ℕ)) × (xs ≡ (n, v) ∷ rest)
+first_split n [] e = absurd (none-some n (sym e))
+first_split n (x ∷ xs) e = (x.1, xs, ap (λ (k : ℕ). (k, x.1) ∷ xs) (sym (same_Some n x.0 e)))
+
 -- whether a node is among entries
 
 pub has_node-same : (n : ℕ) (x : ℕ × ℕ) (xs : List (ℕ × ℕ)) → x.0 ≡ n → has_node n (x ∷ xs) ≡ true

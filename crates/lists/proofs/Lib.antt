@@ -1,5 +1,6 @@
 pub mod Entries
 pub mod Laws
 pub mod Links
+pub mod Rotating
 pub mod Search
 pub mod Spelled

@@ -1,5 +1,5 @@
 -- What callers see of a table: for each list its entries in order, each a node and its value.
-use Rattle.std.specs.Prelude.{◌≡◌, ◌≢◌, ℕ, ◌<◌, ◌≤◌, IsTrue, Bool, not, ◌==◌, ◌||◌, nat_lt, if◌then◌else◌, false, Option, Some, None, List, [], ◌∷◌, slice_index_or, filter, position, length}
+use Rattle.std.specs.Prelude.{◌≡◌, ◌≢◌, ℕ, ◌<◌, ◌≤◌, IsTrue, Bool, not, ◌==◌, ◌||◌, nat_lt, if◌then◌else◌, false, Option, Some, None, List, [], ◌∷◌, ◌++◌, slice_index_or, filter, position, length}
 
 -- P holds of each element
 abbrev pub Each : {X : Type 0} → (X → Type 0) → List X → Type 0
@@ -14,6 +14,11 @@ entries_of lists list = slice_index_or lists list []
 abbrev pub first_of : List (ℕ × ℕ) → Option ℕ
 first_of [] = None
 first_of (e ∷ entries) = Some e.0
+
+-- the entries with the first one put last
+abbrev pub rotated : List (ℕ × ℕ) → List (ℕ × ℕ)
+rotated [] = []
+rotated (e ∷ entries) = entries ++ e ∷ []
 
 -- whether the node is among the entries
 abbrev pub has_node : ℕ → List (ℕ × ℕ) → Bool

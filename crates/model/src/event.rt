@@ -1,4 +1,4 @@
-//! What a run tells: its events, each a line of the trace, and how it ends.
+//! What a run tells: its events, each of which is a line of the report, and how it ends.
 use crate::ids::TaskId;
 
 /// What an event tells.
@@ -6,7 +6,7 @@ use crate::ids::TaskId;
 pub enum What {
     /// The task's op of this index is complete, with this answer; `None` is the answer `none`.
     Call(TaskId, u16, Option<u32>),
-    /// The task wrote this mark.
+    /// The task told this mark.
     Mark(TaskId, u32),
     /// The processor went to the task, or to idle.
     Run(Option<TaskId>),
@@ -18,14 +18,14 @@ impl Default for What {
     }
 }
 
-/// A line of the trace.
+/// One thing that happened in a run.
 #[derive(Clone, Copy, Debug, Default, PartialEq, Eq)]
 pub struct Event {
     /// The number of the step, from 0.
     pub step: u32,
-    /// The printed tick when the line was written: the time modulo 2^32.
+    /// The printed tick when it happened: the time modulo 2^32.
     pub tick: u32,
-    /// What happened.
+    /// What it was.
     pub what: What,
 }
 

@@ -9,7 +9,7 @@ pub struct Memory;
 /// A run from reset to its end.
 #[derive(Drop)]
 pub struct Run {
-    /// The lines of the trace, in order.
+    /// What happened, in order.
     pub events: Vec<Event>,
     /// The steps done, at most 1,000,000.
     pub steps: u32,

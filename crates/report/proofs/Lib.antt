@@ -1,1 +1,4 @@
+pub mod Adding
+pub mod Fronts
+pub mod Numbers
 pub mod Short

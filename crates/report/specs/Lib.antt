@@ -1,2 +1,4 @@
 pub mod Examples
+pub mod Fronts
+pub mod Tens
 pub mod Text

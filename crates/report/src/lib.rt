@@ -1,8 +1,12 @@
 //! The text of a run.
 #![tactic(auto)]
 
+mod label;
+mod labels;
 mod laws;
+mod lines;
 mod run;
+mod tens;
 mod text;
 
 pub use laws::{report_of_delay_one, report_of_each_form};

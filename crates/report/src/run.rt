@@ -5,7 +5,8 @@ ghost use Rattle.std.specs.Result.{is_err};
 ghost use Rattle.byte_io.specs.Bytes.{Writes, Adds};
 ghost use Rattle.report.specs.Text.{event_text, head_text, run_text};
 
-use crate::text::{MAX_LINE, push_event, push_head};
+use crate::lines::Lines;
+use crate::text::{MAX_LINE, push_head};
 use byte_io::{Page, Sink, WriteFault, flush, make_room};
 use model::{App, Event, Run};
 
@@ -25,35 +26,26 @@ fn add_head<W: Sink>(
     Ok(())
 }
 
-fn add_event<W: Sink>(
-    writer: &mut W,
-    page: &mut Page,
-    app: &App,
-    event: &Event,
-) -> Result<(), WriteFault>
-    requires { W.has_failed writer.old ≡ false }
-    ensures text { Adds (W.held writer.old) (W.held writer.new) page.old page.new result
-        (event_text app.now event.now) }
-    ensures failed { W.has_failed writer.new ≡ is_err result }
-{
-    make_room(writer, page, MAX_LINE)?;
-    push_event(page, app, event);
-    Ok(())
-}
-
+// Adds the lines of the events. Room is asked for as many lines at once as surely fit.
 fn add_events<W: Sink>(
     writer: &mut W,
     page: &mut Page,
-    app: &App,
+    lines: &mut Lines<'_>,
     events: &[Event],
 ) -> Result<(), WriteFault>
     requires { W.has_failed writer.old ≡ false }
+    ensures app { lines.new ≡ lines.old }
     ensures text { Adds (W.held writer.old) (W.held writer.new) page.old page.new result
-        (flat_map (event_text app.now) events.now) }
+        (flat_map (event_text lines.old) events.now) }
     ensures failed { W.has_failed writer.new ≡ is_err result }
 {
-    for event in events {
-        add_event(writer, page, app, event)?;
+    let mut rest = events;
+    while !rest.is_empty() {
+        make_room(writer, page, MAX_LINE)?;
+        let count = rest.len().min(page.room() / MAX_LINE);
+        let (some, others) = rest.split_at(count);
+        lines.push_all(page, some);
+        rest = others;
     }
     Ok(())
 }
@@ -66,7 +58,8 @@ fn add_run<W: Sink>(writer: &mut W, page: &mut Page, app: &App, run: &Run) -> Re
     ensures failed { W.has_failed writer.new ≡ is_err result }
 {
     add_head(writer, page, app, run)?;
-    add_events(writer, page, app, run.events.as_slice())
+    let mut lines = Lines::new(app);
+    add_events(writer, page, &mut lines, run.events.as_slice())
 }
 
 /// Writes the report of a run: its head line, and a line for each event. At `Err` the writer failed or took none of some

@@ -1,10 +1,11 @@
-//! The lines of a run, into a page that has room for them.
+//! The head line of a run, and the fronts of other lines, into a page that has room for them.
 ghost use Rattle.std.specs.Prelude.{◌≡◌, ◌≤◌, ◌+◌, ◌++◌, length};
 ghost use Rattle.model.specs.Application.{name_of};
-ghost use Rattle.report.specs.Text.{word_at, answer_text, runner_text, what_text, event_text, verdict_text, head_text};
+ghost use Rattle.report.specs.Text.{word_at, verdict_text, head_text};
+ghost use Rattle.report.specs.Fronts.{call_front, mark_front, run_front};
 
 use byte_io::Page;
-use model::{App, End, Event, Run, TaskId, What};
+use model::{App, End, Run, TaskId};
 
 // The bytes that a line has at most. The longest is that of a call: two numbers of 10 digits, two spaces, at most 64 bytes of
 // what happened, and a line feed. A head has its verdict of at most 64 bytes, two numbers, and 26 bytes of words.
@@ -31,21 +32,11 @@ fn word(app: &App, task: TaskId, op_index: u16) -> &'static [u8]
     }
 }
 
-fn push_answer(page: &mut Page, answer: Option<u32>)
-    requires { length page.old + 10 ≤ Page.SIZE }
-    ensures text { page.new ≡ page.old ++ answer_text answer }
-    ensures size { length page.new ≤ length page.old + 10 }
-{
-    match answer {
-        None => page.push_text(b"none"),
-        Some(number) => page.push_number(number),
-    }
-}
-
-fn push_call(page: &mut Page, app: &App, task: TaskId, op_index: u16, answer: Option<u32>)
-    requires { length page.old + 64 ≤ Page.SIZE }
-    ensures text { page.new ≡ page.old ++ what_text app.now (What.Call task op_index answer) }
-    ensures size { length page.new ≤ length page.old + 64 }
+/// Adds what the line of a call says before its answer.
+pub(crate) fn push_call_front(page: &mut Page, app: &App, task: TaskId, op_index: u16)
+    requires { length page.old + 48 ≤ Page.SIZE }
+    ensures text { page.new ≡ page.old ++ call_front app.now task op_index }
+    ensures size { length page.new ≤ length page.old + 48 }
 {
     page.push_text(b"call ");
     page.push_text(name(app, task));
@@ -54,50 +45,27 @@ fn push_call(page: &mut Page, app: &App, task: TaskId, op_index: u16, answer: Op
     page.push_text(b" ");
     page.push_text(word(app, task, op_index));
     page.push_text(b" = ");
-    push_answer(page, answer);
 }
 
-fn push_runner(page: &mut Page, app: &App, current: Option<TaskId>)
-    requires { length page.old + 16 ≤ Page.SIZE }
-    ensures text { page.new ≡ page.old ++ runner_text app.now current }
-    ensures size { length page.new ≤ length page.old + 16 }
+/// Adds what the line of a mark says before its number.
+pub(crate) fn push_mark_front(page: &mut Page, app: &App, task: TaskId)
+    requires { length page.old + 48 ≤ Page.SIZE }
+    ensures text { page.new ≡ page.old ++ mark_front app.now task }
+    ensures size { length page.new ≤ length page.old + 48 }
 {
-    match current {
-        None => page.push_text(b"-"),
-        Some(task) => page.push_text(name(app, task)),
-    }
-}
-
-fn push_what(page: &mut Page, app: &App, what: What)
-    requires { length page.old + 64 ≤ Page.SIZE }
-    ensures text { page.new ≡ page.old ++ what_text app.now what }
-    ensures size { length page.new ≤ length page.old + 64 }
-{
-    match what {
-        What::Call(task, op_index, answer) => push_call(page, app, task, op_index, answer),
-        What::Mark(task, mark) => {
-            page.push_text(b"mark ");
-            page.push_text(name(app, task));
-            page.push_text(b" ");
-            page.push_number(mark);
-        }
-        What::Run(current) => {
-            page.push_text(b"run ");
-            push_runner(page, app, current);
-        }
-    }
-}
-
-// Adds the line of an event.
-pub(crate) fn push_event(page: &mut Page, app: &App, event: &Event)
-    requires { length page.old + MAX_LINE ≤ Page.SIZE }
-    ensures { page.new ≡ page.old ++ event_text app.now event.now }
-{
-    page.push_number(event.step);
+    page.push_text(b"mark ");
+    page.push_text(name(app, task));
     page.push_text(b" ");
-    page.push_number(event.tick);
-    page.push_text(b" ");
-    push_what(page, app, event.what);
+}
+
+/// Adds all that the line of a task that runs says, with its end.
+pub(crate) fn push_run_front(page: &mut Page, app: &App, task: TaskId)
+    requires { length page.old + 48 ≤ Page.SIZE }
+    ensures text { page.new ≡ page.old ++ run_front app.now task }
+    ensures size { length page.new ≤ length page.old + 48 }
+{
+    page.push_text(b"run ");
+    page.push_text(name(app, task));
     page.push_text(b"\n");
 }
 

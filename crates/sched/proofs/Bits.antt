@@ -7,7 +7,7 @@ use Rattle.std.proofs.lemmas.Nat.{leading_top}
 use Rattle.std.proofs.lemmas.Nat.Bits.{bit_at-zero, bit_at_above, bit_at_clear_other, bit_at_clear_same, bit_at_set_other, bit_at_set_same}
 use Rattle.std.proofs.lemmas.List.{get_or_past}
 use Rattle.std.proofs.lemmas.Option.{same_Some}
-use Rattle.lists.specs.Lists.{IsSound, entries_of, place_of, without}
+use Rattle.lists.specs.Lists.{IsSound, entries_of, place_of, rotated, without}
 use Rattle.lists.proofs.Entries.{has_or_not, apart_from_test, without-apart}
 use Rattle.lists.proofs.Laws.{entries_of-set_other, entries_of-set_same, entries_of-without}
 use Rattle.sched.specs.ReadyLists.{AreReadyLists, IsHighest, bit_of}
@@ -65,6 +65,25 @@ bit_set {lists} {occupied} h list e known sound =
         | inr other ↦
             bit_at_set_other w32 occupied list known p other ∙ h.bits p hp
             ∙ sym (ap bit_of (entries_of-set_other lists list p new other))
+      ];
+    }
+
+-- the first task of a list goes last
+bit_of-rotated : (xs : List (ℕ × ℕ)) → bit_of (rotated xs) ≡ bit_of xs
+bit_of-rotated [] = refl
+bit_of-rotated (x ∷ xs) = bit_of-last xs x
+
+pub bit_rotated : {lists : List (List (ℕ × ℕ))} {occupied : ℕ} → AreReadyLists lists occupied → (list : ℕ) → list < 32 → IsSound 32 32 (set lists list (rotated (entries_of lists list))) → AreReadyLists (set lists list (rotated (entries_of lists list))) occupied
+bit_rotated {lists} {occupied} h list known sound =
+    let new = rotated (entries_of lists list) in
+    let below : list < length lists = let many = h.sound.as_many in omega (arith, many, known) in
+    record {
+      sound = sound;
+      bits = λ p hp. elim (cases_eq p list) [
+        | inl same ↦
+            h.bits p hp ∙ ap (λ (q : ℕ). bit_of (entries_of lists q)) same ∙ sym (bit_of-rotated (entries_of lists list))
+            ∙ sym (ap (λ (q : ℕ). bit_of (entries_of (set lists list new) q)) same ∙ ap bit_of (entries_of-set_same lists list new below))
+        | inr other ↦ h.bits p hp ∙ sym (ap bit_of (entries_of-set_other lists list p new other))
       ];
     }
 

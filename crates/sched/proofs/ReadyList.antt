@@ -154,7 +154,7 @@ any_first p [] fs some h = absurd (some refl)
 any_first p (e ∷ es) fs some h = ap (λ (b : Bool). b || list_any p (es ++ fs)) h.0
 
 -- list i has the tasks of priority k + i
-home_at : (k i : ℕ) (ls : List (List (ℕ × ℕ))) → AtHome k ls → Each (λ e. e.1 ≡ k + i) (get_or ls i [])
+pub home_at : (k i : ℕ) (ls : List (List (ℕ × ℕ))) → AtHome k ls → Each (λ e. e.1 ≡ k + i) (get_or ls i [])
 home_at k i [] h = tt
 home_at k zero (l ∷ ls) h = Each-imp (λ e. e.1 ≡ k) (λ e. e.1 ≡ k + 0) l (λ e at. omega (arith, at)) h.0
 home_at k (suc i) (l ∷ ls) h = Each-imp (λ e. e.1 ≡ suc k + i) (λ e. e.1 ≡ k + suc i) (get_or ls i []) (λ e at. omega (arith, at)) (home_at (suc k) i ls h.1)

@@ -141,6 +141,14 @@ impl Sched {
         ensures schedule { self.new ≡ slice self.old }
         ensures stands { Does self.old self.new switching.slice }
     {
+        if let (Some(task), Some(list)) = (self.current, self.ready.highest()) {
+            // Mostly the running task is the first of the highest list, whose next one then runs.
+            if self.list_of(task).number == list.number && self.ready.first_in(list) == Some(task) {
+                let ended = self.ready.rotate(list);
+                self.current = self.ready.first_in(list);
+                return ended;
+            }
+        }
         let ended = self.is_outranked() || self.is_sharing();
         if ended {
             self.yield_now();
@@ -152,7 +160,10 @@ impl Sched {
     fn to_back(&mut self, task: TaskId)
         ensures schedule { self.new ≡ to_back task self.old }
     {
-        if self.is_ready(task) {
+        let list = self.list_of(task);
+        if self.ready.first_in(list) == Some(task) {
+            self.ready.rotate(list);
+        } else if self.is_ready(task) {
             self.block(task);
             self.make_ready(task);
         }

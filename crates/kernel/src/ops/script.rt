@@ -3,19 +3,19 @@ ghost use Rattle.std.specs.Prelude.{◌≤◌, ◌+◌};
 ghost use Rattle.model.specs.declared.op.Op.TheVariants as op;
 ghost use Rattle.model.specs.Ops.{expect, open_loop, close_turn};
 ghost use Rattle.model.specs.Step.{act};
-ghost use Rattle.arrayvec.specs.ArrayVec.{array_vec_len};
 ghost use Rattle.kernel.specs.StandsFor.{Does, Moves};
 ghost use Rattle.kernel.specs.Can.{Runs, Can};
 
-use crate::kernel::{Kernel, StepLog};
+use crate::kernel::Kernel;
+use crate::log::Log;
 use model::{App, End, Loop, TaskId, What};
 
 impl Kernel {
     /// `mark`: a mark event is told.
-    pub(crate) fn mark(&mut self, app: &App, task: TaskId, number: u32, log: &mut StepLog)
-        requires room { array_vec_len log.old + 1 ≤ 128 }
+    pub(crate) fn mark<L: Log>(&mut self, app: &App, task: TaskId, number: u32, log: &mut L)
+        requires room { 1 ≤ (L.logged log.old).room }
         requires can { Can self.old task (op.Mark number) }
-        ensures { Does 1 self.old log.old.items self.new log.new.items
+        ensures { Does 1 self.old (L.logged log.old) self.new (L.logged log.new)
             (act app.now task (op.Mark number)) }
     {
         self.write(log, What::Mark(task, number));
@@ -46,6 +46,7 @@ impl Kernel {
     }
 
     /// `end`: the next turn begins, or the loop is left.
+    #[inline(always)]
     pub(crate) fn close_turn(&mut self, app: &App, task: TaskId)
         requires { Can self.old task op.End }
         ensures { Moves self.old self.new (close_turn app.now task) }

@@ -6,11 +6,11 @@ ghost use Rattle.model.specs.State.{State};
 ghost use Rattle.model.specs.Time.{sleep, set_previous_wake};
 ghost use Rattle.model.specs.Ops.{use_up};
 ghost use Rattle.model.specs.Step.{act};
-ghost use Rattle.arrayvec.specs.ArrayVec.{array_vec_len};
 ghost use Rattle.kernel.specs.StandsFor.{At, Does, Moves};
 ghost use Rattle.kernel.specs.Can.{Agrees, Runs, Can};
 
-use crate::kernel::{Kernel, StepLog};
+use crate::kernel::Kernel;
+use crate::log::Log;
 use model::{App, TaskId};
 
 impl Kernel {
@@ -29,10 +29,10 @@ impl Kernel {
     }
 
     /// `work`: a tick of it is used up, and the tick passes.
-    pub(crate) fn work(&mut self, app: &App, task: TaskId, ticks: u32, log: &mut StepLog)
-        requires room { array_vec_len log.old + 1 ≤ 128 }
+    pub(crate) fn work<L: Log>(&mut self, app: &App, task: TaskId, ticks: u32, log: &mut L)
+        requires room { 1 ≤ (L.logged log.old).room }
         requires can { Can self.old task (op.Work ticks) }
-        ensures { Does 1 self.old log.old.items self.new log.new.items
+        ensures { Does 1 self.old (L.logged log.old) self.new (L.logged log.new)
             (act app.now task (op.Work ticks)) }
     {
         self.use_up(app, task, ticks);
@@ -52,10 +52,10 @@ impl Kernel {
     }
 
     /// `delay`: the task sleeps; for 0 ticks it yields.
-    pub(crate) fn delay(&mut self, app: &App, task: TaskId, ticks: u32, log: &mut StepLog)
-        requires room { array_vec_len log.old + 2 ≤ 128 }
+    pub(crate) fn delay<L: Log>(&mut self, app: &App, task: TaskId, ticks: u32, log: &mut L)
+        requires room { 2 ≤ (L.logged log.old).room }
         requires can { Can self.old task (op.Delay ticks) }
-        ensures { Does 2 self.old log.old.items self.new log.new.items
+        ensures { Does 2 self.old (L.logged log.old) self.new (L.logged log.new)
             (act app.now task (op.Delay ticks)) }
     {
         self.answer(app, task, Some(0), log);
@@ -68,10 +68,10 @@ impl Kernel {
 
     /// `delay_until`: the task sleeps until so many ticks after the time from which it counts, and counts from there; where
     /// that is not still to come, it goes on.
-    pub(crate) fn delay_until(&mut self, app: &App, task: TaskId, ticks: u32, log: &mut StepLog)
-        requires room { array_vec_len log.old + 1 ≤ 128 }
+    pub(crate) fn delay_until<L: Log>(&mut self, app: &App, task: TaskId, ticks: u32, log: &mut L)
+        requires room { 1 ≤ (L.logged log.old).room }
         requires can { Can self.old task (op.DelayUntil ticks) }
-        ensures { Does 1 self.old log.old.items self.new log.new.items
+        ensures { Does 1 self.old (L.logged log.old) self.new (L.logged log.new)
             (act app.now task (op.DelayUntil ticks)) }
     {
         let wake_time = self.progress(task).previous_wake + ticks as u64;
@@ -87,10 +87,10 @@ impl Kernel {
     }
 
     /// `yield`: the task goes behind its equals.
-    pub(crate) fn call_yield(&mut self, app: &App, task: TaskId, log: &mut StepLog)
-        requires room { array_vec_len log.old + 2 ≤ 128 }
+    pub(crate) fn call_yield<L: Log>(&mut self, app: &App, task: TaskId, log: &mut L)
+        requires room { 2 ≤ (L.logged log.old).room }
         requires can { Can self.old task op.Yield }
-        ensures { Does 2 self.old log.old.items self.new log.new.items
+        ensures { Does 2 self.old (L.logged log.old) self.new (L.logged log.new)
             (act app.now task op.Yield) }
     {
         self.answer(app, task, Some(0), log);
@@ -98,10 +98,10 @@ impl Kernel {
     }
 
     /// `time`: the printed tick is the answer.
-    pub(crate) fn time(&mut self, app: &App, task: TaskId, log: &mut StepLog)
-        requires room { array_vec_len log.old + 1 ≤ 128 }
+    pub(crate) fn time<L: Log>(&mut self, app: &App, task: TaskId, log: &mut L)
+        requires room { 1 ≤ (L.logged log.old).room }
         requires can { Can self.old task op.Time }
-        ensures { Does 1 self.old log.old.items self.new log.new.items
+        ensures { Does 1 self.old (L.logged log.old) self.new (L.logged log.new)
             (act app.now task op.Time) }
     {
         let tick = self.clock.tick();

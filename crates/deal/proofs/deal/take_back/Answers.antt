@@ -1,8 +1,7 @@
 use Rattle.std.proofs.Common.{◌≡◌, ◌≤◌, ◌++◌, ◌∷◌, [], List, append_assoc, length, length-append, reverse, sym, refl, ap, ◌∙◌, subst, arith}
 use Rattle.std.proofs.lemmas.List.{reverse-append}
-use Rattle.deal.specs.Totals.{Each}
 use Rattle.deal.specs.Marks.{IsAmong}
-use Rattle.std.specs.List.{concat}
+use Rattle.std.specs.List.{concat, AllByRecursion}
 use Rattle.deal.specs.Sharing.{Sight, SomeHasSeenAll, lists_of}
 use Rattle.deal.specs.Closing.{items_of}
 use Rattle.deal.specs.declared.count.Mark.{Mark}
@@ -32,7 +31,7 @@ hand_back-list-requires c =
     let lane = c.in-Some.lane in
     let b = i.7 in
     let split : c.args.lanes.items ≡ i.0 ++ lane ∷ reverse rest = i.1 ∙ ap (λ l. i.0 ++ l) (ap (λ (l : List Sight). reverse l) c.in-Some.ensures.items ∙ reverse-append rest (lane ∷ [])) in
-    let mine = each_middle _ i.0 lane (reverse rest) (subst (Each _) split c.requires.lanes) in (
+    let mine = each_middle _ i.0 lane (reverse rest) (subst (AllByRecursion _) split c.requires.lanes) in (
       (i.5 ∙ sym mine.0, i.6, omega (arith, ap (λ z. z.words) (sym mine.0), c.requires.dealer.2)),
       b.0 ∙ sym mine.1,
       b.1 ∙ sym mine.2,
@@ -52,7 +51,7 @@ loop-lane-preserved c =
     let e = c.hand_back-list.ensures in
     let p = c.push_reserved.ensures in
     let split : c.args.lanes.items ≡ i.0 ++ lane ∷ reverse rest = i.1 ∙ ap (λ l. i.0 ++ l) (ap (λ (l : List Sight). reverse l) c.in-Some.ensures.items ∙ reverse-append rest (lane ∷ [])) in
-    let mine = each_middle _ i.0 lane (reverse rest) (subst (Each _) split c.requires.lanes) in (
+    let mine = each_middle _ i.0 lane (reverse rest) (subst (AllByRecursion _) split c.requires.lanes) in (
       i.0 ++ lane ∷ [],
       split ∙ sym (append_assoc i.0 (lane ∷ []) (reverse rest)),
       ap items_of p.items ∙ items_last c.loop-lane.lists.items c.hand_back-list.result ∙ ap (λ l. l ++ c.hand_back-list.result.items ∷ []) i.2 ∙ ap (λ l. lists_of i.0 ++ l ∷ []) e.list ∙ sym (lists_last i.0 lane),

@@ -20,5 +20,5 @@ pub returns-in-Err : goal.returns-in-Err
 returns-in-Err g c = inr record {
   kind = kind_of c.in-Err.error;
   due = c.in-Err.ensures.kinds;
-  answers = c.conclude_error.ensures;
+  concludes = c.conclude_error.ensures;
 }

@@ -1,17 +1,20 @@
+use Rattle.std.proofs.Common.{◌∙◌}
 use Rattle.std.specs.List.{flat_map}
 use Rattle.report.specs.Text.{event_text}
-use Rattle.byte_io.proofs.Sending.{Sent_item, SentFront_item, Adds_failed}
+use Rattle.byte_io.proofs.Sending.{Adds_failed}
+use Rattle.report.proofs.Adding.{Sent_some, SentFront_some}
 use Rattle.report.proofs.run.add_events.Goals as goal
 
-pub returns-in_err-add_event-clause-text : goal.returns-in_err-add_event-clause-text
-returns-in_err-add_event-clause-text g c =
-    Adds_failed _ _ c.args.page.now _ (flat_map (event_text c.args.app.now) c.args.events.now) _ c.from_residual.ensures.0
-    (SentFront_item (event_text c.args.app.now) c.args.events.now c.loop-event.event-index c.event-item.result _ _ _ _ _ c.loop-event.page
-    c.loop-event-test.true c.event-item.is c.loop-event.invariant.sent c.in_err-add_event.ensures.text)
+pub returns-in_err-make_room-clause-text : goal.returns-in_err-make_room-clause-text
+returns-in_err-make_room-clause-text g c =
+    Adds_failed _ _ c.args.page.now _ (flat_map (event_text c.args.lines.now) c.args.events.now) _ c.from_residual.ensures.0
+    (SentFront_some (event_text c.args.lines.now) _ _ _ _ c.loop-rest.page c.loop-rest.rest.now c.loop-rest.invariant.sent c.in_err-make_room.ensures.sent)
 
-pub loop-event-preserved : goal.loop-event-preserved
-loop-event-preserved g c = record {
-  sent = Sent_item (event_text c.args.app.now) c.args.events.now c.loop-event.event-index c.event-item.result _ _ _ _ _ c.loop-event.page _
-      c.loop-event-test.true c.event-item.is c.loop-event.invariant.sent c.in_ok-add_event.ensures.text;
-  working = c.in_ok-add_event.ensures.failed;
-}
+pub loop-rest-preserved : goal.loop-rest-preserved
+loop-rest-preserved g c =
+    record {
+      app = c.push_all.ensures.app ∙ c.loop-rest.invariant.app;
+      sent = Sent_some (event_text c.args.lines.now) _ _ _ _ c.loop-rest.page _ _ c.loop-rest.rest.now c.split_at.result.0.now c.split_at.result.1.now c.split_at.ensures.by_index.0
+          c.loop-rest.invariant.sent c.in_ok-make_room.ensures.sent (rw c.loop-rest.invariant.app at c.push_all.ensures.text);
+      working = c.in_ok-make_room.ensures.failed;
+    }

@@ -12,5 +12,5 @@ pub returns-clause-text : goal.returns-clause-text
 returns-clause-text g c =
     let run = c.args.run.now in
     let events : c.as_slice.result.now ≡ run.events = search rules in
-    rw events at
+    rw (c.new-lines.ensures, events) at
     (Adds_two _ _ _ _ (head_text c.args.app.now run.steps run.ticks run.end) _ _ _ _ c.in_ok-add_head.ensures.text c.add_events.ensures.text)

@@ -7,33 +7,35 @@ use Rattle.kernel.proofs.Acting.{still_task, still_task_asleep, agrees_after, co
 use Rattle.kernel.proofs.kernel.Kernel.delay_until.Goals as goal
 
 pub sleep-requires-clause-agrees : goal.sleep-requires-clause-agrees
-sleep-requires-clause-agrees c = agrees_after c.args.self.now c.answer.new.self c.args.log.now.items c.answer.new.log.items c.requires.can.tick.agrees _ c.answer.ensures.does.at
+sleep-requires-clause-agrees g c = agrees_after c.args.self.now c.answer.new.self (g.L.Log.logged c.args.log.now).told (g.L.Log.logged c.answer.new.log).told c.requires.can.tick.agrees _ c.answer.ensures.does.at
 
 pub returns-then-now-wake_time : goal.returns-then-now-wake_time
-returns-then-now-wake_time c = record {
+returns-then-now-wake_time g c = record {
   at = λ s h.
       let app = c.args.app.now in
       let i : ℕ = c.args.task in
       let now = c.mark-now.result.moment in
       let is_now = c.mark-now.ensures.mark in
-      let told = c.answer.new.log.items in
+      let told = (g.L.Log.logged c.answer.new.log).told in
       let still = still_to_come app i s now _ (is_now ∙ h.stands.rest.clock.now) c.if-now-wake_time.true in
       let P : ℕ → Type 0 = λ m. At c.sleep.new.self told (sleep i m (answer app i (Some 1) s)) in
       let asleep = subst P (sym still) (c.sleep.ensures told _ (c.answer.ensures.does.at s h)) in
-      let here = still_task_asleep app c.args.self.now c.args.log.now.items s h i c.requires.can.runs.current 1 _ in
-      until_later app c.args.self.now c.set_previous_wake.new.self c.args.log.now.items told s h i (the_view c.behind-self.inside) (c.behind-self.view_is ∙ c.progress.ensures) c.args.ticks now is_now c.if-now-wake_time.true
+      let here = still_task_asleep app c.args.self.now (g.L.Log.logged c.args.log.now).told s h i c.requires.can.runs.current 1 _ in
+      until_later app c.args.self.now c.set_previous_wake.new.self (g.L.Log.logged c.args.log.now).told told s h i (the_view c.behind-self.inside) (c.behind-self.view_is ∙ c.progress.ensures) c.args.ticks now is_now c.if-now-wake_time.true
       (counts c.sleep.new.self c.set_previous_wake.new.self told _ asleep i here _ c.set_previous_wake.ensures);
   few = let a = c.answer.ensures.does.few in omega arith;
+  before = c.answer.ensures.does.before;
 }
 
 pub returns-else-now-wake_time : goal.returns-else-now-wake_time
-returns-else-now-wake_time c = record {
+returns-else-now-wake_time g c = record {
   at = λ s h.
       let i : ℕ = c.args.task in
-      let told = c.answer-else-now-wake_time.new.log.items in
+      let told = (g.L.Log.logged c.answer-else-now-wake_time.new.log).told in
       let answered = c.answer-else-now-wake_time.ensures.does.at s h in
-      let here = still_task c.args.app.now c.args.self.now c.args.log.now.items s h i c.requires.can.runs.current 0 in
-      until_past c.args.app.now c.args.self.now c.set_previous_wake-else-now-wake_time.new.self c.args.log.now.items told s h i (the_view c.behind-self.inside) (c.behind-self.view_is ∙ c.progress.ensures) c.args.ticks c.mark-now.result.moment c.mark-now.ensures.mark c.if-now-wake_time.false
+      let here = still_task c.args.app.now c.args.self.now (g.L.Log.logged c.args.log.now).told s h i c.requires.can.runs.current 0 in
+      until_past c.args.app.now c.args.self.now c.set_previous_wake-else-now-wake_time.new.self (g.L.Log.logged c.args.log.now).told told s h i (the_view c.behind-self.inside) (c.behind-self.view_is ∙ c.progress.ensures) c.args.ticks c.mark-now.result.moment c.mark-now.ensures.mark c.if-now-wake_time.false
       (counts c.answer-else-now-wake_time.new.self c.set_previous_wake-else-now-wake_time.new.self told _ answered i here _ c.set_previous_wake-else-now-wake_time.ensures);
   few = let a = c.answer-else-now-wake_time.ensures.does.few in omega arith;
+  before = c.answer-else-now-wake_time.ensures.does.before;
 }

@@ -1,25 +1,49 @@
-use Rattle.std.proofs.Common.{◌≡◌, ◌∙◌, ◌&&◌, Bool, Option, ℕ, not, ap, sym}
-use Rattle.std.specs.Option.{is_some}
+use Rattle.std.proofs.Common.{◌≡◌, ◌∙◌, false, ap, sym, arith}
 use Rattle.model.specs.Application.{Limits}
-use Rattle.model.specs.Run.{are_all_ended, is_stuck, end_of}
-use Rattle.kernel.proofs.Ending.{over_is, stuck_is}
-use Rattle.kernel.proofs.kernel.Kernel.ended.Goals.{then-not-has_ready, else-not-has_ready, then-is_none, else-is_none}
+use Rattle.model.specs.Run.{are_all_ended}
+use Rattle.kernel.proofs.Ending.{over_now, over_not, over_before, not_stopped, ends_pass, ends_ticks, ends_steps, ends_stuck}
+use Rattle.kernel.proofs.kernel.Kernel.ended.Goals.{else-is_still-via-then-is_still+else-not-has_ready, else-is_still-via-else-is_still}
 use Rattle.kernel.proofs.kernel.Kernel.ended.Goals as goal
 
-pub returns : goal.returns
-returns c = λ s h.
-    let kernel = c.args.self.now in
-    let q : Bool = c.is_quiet-is_quiet.result in
-    let is_over = over_is kernel s q h c.is_quiet-is_quiet.ensures.quiet in
-    let over : c.if-not-has_ready.first_end ≡ are_all_ended s =
-    elim c.if-not-has_ready.branch [
-      | then-not-has_ready w ↦ w.first_end-is ∙ ap (λ (b : Bool). not b && q) w.if-not-has_ready.ensures.ready ∙ is_over
-      | else-not-has_ready w ↦ w.first_end-is ∙ ap (λ (b : Bool). not b) w.if-not-has_ready.false ∙ ap (λ (b : Bool). not b && q) w.if-not-has_ready.ensures.ready ∙ is_over
+pub returns-then-not-has_ready : goal.returns-then-not-has_ready
+returns-then-not-has_ready c = λ s h.
+    ends_pass c.args.limits.now s (sym h.rest.stopped ∙ not_stopped _ (sym c.if-is_some.ensures)) (over_now c.args.self.now s h (sym (c.if-is_still.ensures s h)) (sym c.if-not-has_ready.ensures.ready))
+
+pub returns-then-limits-age : goal.returns-then-limits-age
+returns-then-limits-age c = λ s h.
+    let on : are_all_ended s ≡ false = elim c.else-is_still.branch [
+      | else-is_still-via-then-is_still+else-not-has_ready w ↦ over_not c.args.self.now s h (sym w.if-not-has_ready.ensures.ready)
+      | else-is_still-via-else-is_still w ↦ over_before s (sym (w.if-is_still.ensures s h))
     ] in
-    let is_stuck_now = stuck_is kernel s q h c.is_quiet-is_quiet.ensures.quiet in
-    let stuck : c.if-is_none.first_end ≡ is_stuck s =
-    elim c.if-is_none.branch [
-      | then-is_none w ↦ w.first_end-is ∙ ap (λ (b : Bool). not b && q) (sym (ap (λ (o : Option ℕ). is_some o) (sym c.current.ensures.current) ∙ w.if-is_none.ensures)) ∙ is_stuck_now
-      | else-is_none w ↦ w.first_end-is ∙ w.if-is_none.false ∙ ap (λ (b : Bool). not b && q) (sym (ap (λ (o : Option ℕ). is_some o) (sym c.current.ensures.current) ∙ w.if-is_none.ensures)) ∙ is_stuck_now
+    let limit = ap (λ (l : Limits). l.ticks) c.limits.view_is in
+    let age = c.age.ensures.age ∙ h.rest.clock.age in
+    let late = c.if-limits-age.true in
+    ends_ticks c.args.limits.now s (sym h.rest.stopped ∙ not_stopped _ (sym c.if-is_some.ensures)) on (omega arith)
+
+pub returns-then-limits-self : goal.returns-then-limits-self
+returns-then-limits-self c = λ s h.
+    let on : are_all_ended s ≡ false = elim c.else-is_still.branch [
+      | else-is_still-via-then-is_still+else-not-has_ready w ↦ over_not c.args.self.now s h (sym w.if-not-has_ready.ensures.ready)
+      | else-is_still-via-else-is_still w ↦ over_before s (sym (w.if-is_still.ensures s h))
     ] in
-    c.first_end.ensures ∙ rw (h.rest.stopped, over, c.age.ensures.age, h.rest.clock.age, h.rest.steps, stuck) (ap (λ (l : Limits). end_of l s) c.limits.view_is)
+    let ticks = ap (λ (l : Limits). l.ticks) c.limits.view_is in
+    let steps = ap (λ (l : Limits). l.steps) c.limits.view_is in
+    let age = c.age.ensures.age ∙ h.rest.clock.age in
+    let early = c.if-limits-age.false in
+    let late = c.if-limits-self.true in
+    let done = h.rest.steps in
+    ends_steps c.args.limits.now s (sym h.rest.stopped ∙ not_stopped _ (sym c.if-is_some.ensures)) on (omega arith) (omega arith)
+
+pub returns-then-is_still-2 : goal.returns-then-is_still-2
+returns-then-is_still-2 c = λ s h.
+    let on : are_all_ended s ≡ false = elim c.else-is_still.branch [
+      | else-is_still-via-then-is_still+else-not-has_ready w ↦ over_not c.args.self.now s h (sym w.if-not-has_ready.ensures.ready)
+      | else-is_still-via-else-is_still w ↦ over_before s (sym (w.if-is_still.ensures s h))
+    ] in
+    let ticks = ap (λ (l : Limits). l.ticks) c.limits.view_is in
+    let steps = ap (λ (l : Limits). l.steps) c.limits.view_is in
+    let age = c.age.ensures.age ∙ h.rest.clock.age in
+    let early = c.if-limits-age.false in
+    let few = c.if-limits-self.false in
+    let done = h.rest.steps in
+    ends_stuck c.args.limits.now s (sym h.rest.stopped ∙ not_stopped _ (sym c.if-is_some.ensures)) on (omega arith) (omega arith) (sym (c.if-is_still-2.ensures s h))

@@ -1,16 +1,12 @@
-use Rattle.std.proofs.Common.{◌≡◌, ◌∙◌}
-use Rattle.model.specs.Order.{tasks_of}
-use Rattle.model.specs.Time.{due}
-use Rattle.model.proofs.Chosen.{due_within}
-use Rattle.clock.specs.StandsFor.{at_next_tick}
-use Rattle.kernel.proofs.Waking.{to_wake, sched-ticked, woken}
+use Rattle.std.proofs.Common.{[]}
+use Rattle.kernel.proofs.Waking.{sched-ticked, woken}
 use Rattle.kernel.proofs.kernel.Kernel.increment_tick.Goals as goal
 
-pub make_all_ready-requires : goal.make_all_ready-requires
-make_all_ready-requires c = rw c.as_slice.ensures.value (to_wake c.args.self.now c.requires.agrees.0 c.requires.agrees.1 c.advance-due.new.self c.advance-due.result.items c.advance-due.ensures.advances)
+pub returns-then-not-advance_if_none_due : goal.returns-then-not-advance_if_none_due
+returns-then-not-advance_if_none_due c = λ log s h. c.wake_due.ensures log s (rw (c.advance_if_none_due.ensures.kept c.if-not-advance_if_none_due.true) h)
 
-pub returns : goal.returns
-returns c = λ log s h.
-    let is : c.as_slice.result.now ≡ tasks_of (due (at_next_tick s)) = c.as_slice.ensures.value ∙ c.advance-due.ensures.due s h.stands.rest.clock in
-    let ready = c.make_all_ready.ensures.ready (at_next_tick s) (sched-ticked c.args.self.now log s h) (rw is (due_within (at_next_tick s))) in
-    woken c.args.self.now log s h c.as_slice.result.now c.make_all_ready.new.sched c.advance-due.new.self is ready (c.advance-due.ensures.woken s h.stands.rest.clock)
+pub returns-else-not-advance_if_none_due : goal.returns-else-not-advance_if_none_due
+returns-else-not-advance_if_none_due c = λ log s h.
+    let none = c.if-not-advance_if_none_due.false in
+    let now = c.advance_if_none_due.ensures in
+    woken c.args.self.now log s h [] c.args.self.now.sched c.advance_if_none_due.new.self (now.due s none h.stands.rest.clock) (sched-ticked c.args.self.now log s h) (now.woken s none h.stands.rest.clock)

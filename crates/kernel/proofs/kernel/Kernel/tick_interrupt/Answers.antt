@@ -3,7 +3,8 @@ use Rattle.kernel.proofs.kernel.Kernel.tick_interrupt.Goals as goal
 
 pub returns : goal.returns
 unfolding tick_interrupt
-returns c = record {
+returns g c = record {
   at = λ s h. c.slice.ensures.at _ (c.increment_tick.ensures _ s h);
   few = c.slice.ensures.few;
+  before = c.slice.ensures.before;
 }

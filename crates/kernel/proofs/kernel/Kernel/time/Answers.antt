@@ -5,9 +5,10 @@ use Rattle.kernel.specs.StandsFor.{At}
 use Rattle.kernel.proofs.kernel.Kernel.time.Goals as goal
 
 pub returns : goal.returns
-returns c = record {
+returns g c = record {
   at = λ s h.
-      let P : ℕ → Type 0 = λ n. At c.answer.new.self c.answer.new.log.items (answer c.args.app.now c.args.task (Some n) s) in
+      let P : ℕ → Type 0 = λ n. At c.answer.new.self (g.L.Log.logged c.answer.new.log).told (answer c.args.app.now c.args.task (Some n) s) in
       subst P (c.tick-tick.ensures.tick ∙ ap printed h.stands.rest.clock.now) (c.answer.ensures.does.at s h);
   few = c.answer.ensures.does.few;
+  before = c.answer.ensures.does.before;
 }

@@ -2,10 +2,11 @@ use Rattle.kernel.proofs.Acting.{can_tick_still}
 use Rattle.kernel.proofs.kernel.Kernel.work.Goals as goal
 
 pub tick_interrupt-requires-clause-can : goal.tick_interrupt-requires-clause-can
-tick_interrupt-requires-clause-can c = can_tick_still c.args.self.now c.use_up.new.self c.requires.can.tick c.use_up.ensures.clock _ c.use_up.ensures.does
+tick_interrupt-requires-clause-can g c = can_tick_still c.args.self.now c.use_up.new.self c.requires.can.tick c.use_up.ensures.clock _ c.use_up.ensures.does
 
 pub returns : goal.returns
-returns c = record {
+returns g c = record {
   at = λ s h. c.tick_interrupt.ensures.at _ (c.use_up.ensures.does _ s h);
   few = c.tick_interrupt.ensures.few;
+  before = c.tick_interrupt.ensures.before;
 }

@@ -1,9 +1,10 @@
-use Rattle.std.proofs.Common.{refl, arith, length-append, ◌∷◌, []}
+use Rattle.std.proofs.Common.{refl, arith}
 use Rattle.kernel.proofs.Parts.{at_written}
 use Rattle.kernel.proofs.kernel.Kernel.write.Goals as goal
 
 pub returns-clause-does : goal.returns-clause-does
-returns-clause-does c = record {
-  at = λ s h. at_written c.args.self.now c.args.log.now.items c.push.new.self.items s _ h c.push.ensures.items refl c.tick.ensures.tick;
-  few = rw c.push.ensures.items (omega (arith, length-append c.args.log.now.items (record { step = c.args.self.now.steps; tick = c.tick.result; what = c.args.what } ∷ [])));
+returns-clause-does g c = record {
+  at = λ s h. at_written c.args.self.now (g.L.Log.logged c.args.log.now).told (g.L.Log.logged c.push.new.self).told s _ h c.push.ensures.told refl c.tick.ensures.tick;
+  few = let e = c.push.ensures.room in omega arith;
+  before = c.push.ensures.before;
 }

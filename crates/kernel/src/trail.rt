@@ -1,0 +1,89 @@
+//! The events of a run, or of several, with room for those of one more step.
+ghost use Rattle.std.specs.Prelude.{◌≡◌, ◌<◌, ◌≤◌, ◌++◌, [], OnOk, OnErr, length};
+ghost use Rattle.kernel.specs.Logged.{all_of};
+
+use crate::log::Log;
+use model::{Event, Memory};
+use std::alloc::Global;
+use std::marker::Model;
+
+/// Events in the order in which they were told, of which the last are those of the present step. Before each step `begin`
+/// makes room for its events, so that telling one takes no memory and doesn't fail.
+#[derive(Drop)]
+pub(crate) struct Trail {
+    events: Vec<Event>,
+    /// How many events stand before this step.
+    start: usize,
+}
+
+// Clauses see the events before this step, those of this step, and the room that is left.
+impl Model for Trail {
+    ghost use Rattle.std.specs.Prelude.{◌≤◌, ◌-◌, take, drop, length};
+    ghost use Rattle.std.specs.Vec.{vec_capacity};
+    ghost use Rattle.kernel.specs.Logged.{Logged};
+
+    ghost Value = { Logged };
+
+    ghost view = { λ t. record { before = take t.start t.events.items; told = drop t.start t.events.items; room = vec_capacity t.events - length t.events.items } };
+
+    ghost invariant = { λ t. t.start ≤ length t.events.items };
+}
+
+impl Trail {
+    /// No events. It takes no memory.
+    pub(crate) fn new(alloc: Global) -> Trail
+        ensures before { result.before ≡ [] }
+        ensures told { result.told ≡ [] }
+    {
+        Trail {
+            events: Vec::new(alloc),
+            start: 0,
+        }
+    }
+
+    /// The next step begins, of which nothing is told yet, and there is room for 128 events of it. At `Err(Memory)`, where
+    /// the growth was refused, there is less room.
+    #[inline]
+    pub(crate) fn begin(&mut self) -> Result<(), Memory>
+        ensures before { self.new.before ≡ all_of self.old }
+        ensures told { self.new.told ≡ [] }
+        ensures room { OnOk result (128 ≤ self.new.room) }
+    {
+        self.start = self.events.len();
+        if self.events.reserve(128).is_err() {
+            return Err(Memory);
+        }
+        Ok(())
+    }
+
+    /// This step tells these events too, whatever room there is. At `Err(Memory)`, where the growth was refused, it has told
+    /// none of them; never where there are none.
+    pub(crate) fn append(&mut self, events: &[Event]) -> Result<(), Memory>
+        ensures before { self.new.before ≡ self.old.before }
+        ensures told { OnOk result (self.new.told ≡ self.old.told ++ events.now) }
+        ensures memory { OnErr result (0 < length events.now) }
+    {
+        if self.events.extend_from_slice(events).is_err() {
+            return Err(Memory);
+        }
+        Ok(())
+    }
+
+    /// All its events.
+    pub(crate) fn into_events(self) -> Vec<Event>
+        ensures { result.items ≡ all_of self }
+    {
+        self.events
+    }
+}
+
+impl Log for Trail {
+    ghost logged = { λ trail. trail };
+
+    #[inline]
+    fn push(&mut self, event: Event) {
+        // Taken apart and made again, since the check proves no push of the whole.
+        let Event { step, tick, what } = event;
+        self.events.push_reserved(Event { step, tick, what });
+    }
+}

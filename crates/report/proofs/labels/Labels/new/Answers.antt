@@ -1,0 +1,5 @@
+use Rattle.report.proofs.Fronts.{labels_at_first}
+use Rattle.report.proofs.labels.Labels.new.Goals as goal
+
+pub invariant_of-result : goal.invariant_of-result
+invariant_of-result c = labels_at_first _ _ _ _ 32 256 c.none.ensures c.none-2.ensures c.none-3.ensures

@@ -1,0 +1,40 @@
+-- The front of a line: all of what it tells but its number.
+use Rattle.std.specs.Prelude.{◌≡◌, ℕ, ◌≤◌, ◌<◌, List, ◌++◌, take, decimal, codes, slice_index_or, replicate}
+use Rattle.model.specs.Application.{Application, name_of}
+use Rattle.report.specs.Text.{word_at}
+use Rattle.report.specs.declared.label.Label.{Label}
+use Rattle.report.specs.declared.label.CallLabel.{CallLabel}
+
+-- what the line of a call says before its answer
+abbrev pub call_front : Application → (task op_index : ℕ) → List ℕ
+call_front app task op_index =
+    codes "call " ++ name_of app task ++ codes " " ++ decimal op_index ++ codes " " ++ word_at app task op_index ++ codes " = "
+
+-- what the line of a mark says before its number
+abbrev pub mark_front : Application → ℕ → List ℕ
+mark_front app task = codes "mark " ++ name_of app task ++ codes " "
+
+-- all that the line of a task that runs says, with its end
+abbrev pub run_front : Application → ℕ → List ℕ
+run_front app task = codes "run " ++ name_of app task ++ codes "\n"
+
+-- The label has no text yet, or this one.
+pub record IsLabel (label : Label) (front : List ℕ) : Type 0 where
+  pub few : label.len ≤ 48
+  pub text : 0 < label.len → take label.len label.text ≡ front
+
+-- The label of a call has the front of the call that it names.
+abbrev pub IsCallLabel : Application → CallLabel → Type 0
+IsCallLabel app call = IsLabel call.label (call_front app call.task call.op_index)
+
+abbrev pub blank : Label
+blank = record { text = replicate 48 0; len = 0 }
+
+abbrev pub blank_call : CallLabel
+blank_call = record { task = 0; op_index = 0; label = blank }
+
+-- Each label is right for what it stands for.
+pub record AreLabels (app : Application) (runs marks : List Label) (calls : List CallLabel) : Type 0 where
+  pub of_runs : (task : ℕ) → IsLabel (slice_index_or runs task blank) (run_front app task)
+  pub of_marks : (task : ℕ) → IsLabel (slice_index_or marks task blank) (mark_front app task)
+  pub of_calls : (place : ℕ) → IsCallLabel app (slice_index_or calls place blank_call)

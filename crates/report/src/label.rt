@@ -1,0 +1,58 @@
+//! The front of a line, kept.
+ghost use Rattle.std.specs.Prelude.{◌≡◌, ◌≤◌, ◌+◌, drop, length};
+ghost use Rattle.report.specs.Fronts.{IsLabel};
+
+/// The front of a line: none yet, or so many bytes at the front of these.
+#[derive(Clone, Copy)]
+pub(crate) struct Label {
+    pub(crate) text: [u8; 48],
+    pub(crate) len: u8,
+}
+
+impl Label {
+    /// No label yet.
+    pub(crate) fn none() -> Label
+        ensures { result.len ≡ 0 }
+    {
+        Label {
+            text: [0; 48],
+            len: 0,
+        }
+    }
+
+    /// A label of the bytes from `start` on, at most 48.
+    pub(crate) fn of(bytes: &[u8], start: usize) -> Label
+        requires start { start ≤ length bytes.now }
+        requires few { length bytes.now ≤ start + 48 }
+        ensures { IsLabel result (drop start bytes.now) }
+    {
+        let front = &bytes[start..];
+        let mut text = [0; 48];
+        text[..front.len()].copy_from_slice(front);
+        Label {
+            text,
+            len: front.len() as u8,
+        }
+    }
+}
+
+/// The front of a call's line: of the call of this op by this task.
+#[derive(Clone, Copy)]
+pub(crate) struct CallLabel {
+    pub(crate) task: u8,
+    pub(crate) op_index: u16,
+    pub(crate) label: Label,
+}
+
+impl CallLabel {
+    /// No label yet.
+    pub(crate) fn none() -> CallLabel
+        ensures { result.label.len ≡ 0 }
+    {
+        CallLabel {
+            task: 0,
+            op_index: 0,
+            label: Label::none(),
+        }
+    }
+}

@@ -1,0 +1,151 @@
+//! The fronts of an application's lines, each spelled once.
+ghost use Rattle.std.specs.Prelude.{◌≡◌, ◌<◌, ◌≤◌, ◌+◌, ◌++◌, length};
+ghost use Rattle.report.specs.Fronts.{call_front, mark_front, run_front};
+
+use crate::label::{CallLabel, Label};
+use crate::text::{push_call_front, push_mark_front, push_run_front};
+use byte_io::Page;
+use model::{App, TaskId};
+use std::marker::Model;
+
+// How many calls are kept at once.
+const CALLS: usize = 256;
+
+/// The fronts of lines of an application: that of a task that runs and of a task's marks at the task's number, and that of
+/// a call at a place that several calls share, so it says which call it is of.
+///
+/// Each is right at all times. One that isn't there is spelled into the page, and kept. They stand where this value stands,
+/// and take no memory.
+#[derive(Drop)]
+pub(crate) struct Labels<'a> {
+    app: &'a App,
+    runs: [Label; 32],
+    marks: [Label; 32],
+    calls: [CallLabel; 256],
+}
+
+// Clauses see the application.
+impl<'a> Model for Labels<'a> {
+    ghost use Rattle.model.specs.Application.{Application};
+    ghost use Rattle.report.specs.Fronts.{AreLabels};
+
+    ghost Value = { Application };
+
+    ghost view = { λ l. l.app.now };
+
+    ghost invariant = { λ l. AreLabels l.app.now l.runs l.marks l.calls };
+}
+
+// The place of a call's label.
+#[inline]
+fn place_of(task: TaskId, op_index: u16) -> usize
+    ensures { result < 256 }
+{
+    (task.number as usize * 8 + op_index as usize) % CALLS
+}
+
+impl<'a> Labels<'a> {
+    /// No labels yet.
+    pub(crate) fn new(app: &'a App) -> Labels<'a>
+        ensures { result ≡ app.now }
+    {
+        Labels {
+            app,
+            runs: [Label::none(); 32],
+            marks: [Label::none(); 32],
+            calls: [CallLabel::none(); 256],
+        }
+    }
+
+    /// Adds the whole of what the line of a task that runs says, with its end.
+    #[inline]
+    pub(crate) fn push_run(&mut self, page: &mut Page, task: TaskId)
+        requires { length page.old + 48 ≤ Page.SIZE }
+        ensures app { self.new ≡ self.old }
+        ensures text { page.new ≡ page.old ++ run_front self.old task }
+        ensures size { length page.new ≤ length page.old + 48 }
+    {
+        let label = &self.runs[task.number as usize];
+        if label.len == 0 {
+            self.spell_run(page, task);
+        } else {
+            page.push_front(&label.text, label.len as usize);
+        }
+    }
+
+    /// Adds what the line of a mark says before its number.
+    #[inline]
+    pub(crate) fn push_mark(&mut self, page: &mut Page, task: TaskId)
+        requires { length page.old + 48 ≤ Page.SIZE }
+        ensures app { self.new ≡ self.old }
+        ensures text { page.new ≡ page.old ++ mark_front self.old task }
+        ensures size { length page.new ≤ length page.old + 48 }
+    {
+        let label = &self.marks[task.number as usize];
+        if label.len == 0 {
+            self.spell_mark(page, task);
+        } else {
+            page.push_front(&label.text, label.len as usize);
+        }
+    }
+
+    /// Adds what the line of a call says before its answer.
+    #[inline]
+    pub(crate) fn push_call(&mut self, page: &mut Page, task: TaskId, op_index: u16)
+        requires { length page.old + 48 ≤ Page.SIZE }
+        ensures app { self.new ≡ self.old }
+        ensures text { page.new ≡ page.old ++ call_front self.old task op_index }
+        ensures size { length page.new ≤ length page.old + 48 }
+    {
+        let call = &self.calls[place_of(task, op_index)];
+        if call.label.len == 0 || call.task != task.number || call.op_index != op_index {
+            self.spell_call(page, task, op_index);
+        } else {
+            page.push_front(&call.label.text, call.label.len as usize);
+        }
+    }
+
+    // Spells and keeps the front of a task that runs.
+    #[inline(never)]
+    fn spell_run(&mut self, page: &mut Page, task: TaskId)
+        requires { length page.old + 48 ≤ Page.SIZE }
+        ensures app { self.new ≡ self.old }
+        ensures text { page.new ≡ page.old ++ run_front self.old task }
+        ensures size { length page.new ≤ length page.old + 48 }
+    {
+        let start = page.bytes().len();
+        push_run_front(page, self.app, task);
+        self.runs[task.number as usize] = Label::of(page.bytes(), start);
+    }
+
+    // Spells and keeps the front of a task's marks.
+    #[inline(never)]
+    fn spell_mark(&mut self, page: &mut Page, task: TaskId)
+        requires { length page.old + 48 ≤ Page.SIZE }
+        ensures app { self.new ≡ self.old }
+        ensures text { page.new ≡ page.old ++ mark_front self.old task }
+        ensures size { length page.new ≤ length page.old + 48 }
+    {
+        let start = page.bytes().len();
+        push_mark_front(page, self.app, task);
+        self.marks[task.number as usize] = Label::of(page.bytes(), start);
+    }
+
+    // Spells and keeps the front of a call.
+    #[inline(never)]
+    fn spell_call(&mut self, page: &mut Page, task: TaskId, op_index: u16)
+        requires { length page.old + 48 ≤ Page.SIZE }
+        ensures app { self.new ≡ self.old }
+        ensures text { page.new ≡ page.old ++ call_front self.old task op_index }
+        ensures size { length page.new ≤ length page.old + 48 }
+    {
+        let start = page.bytes().len();
+        push_call_front(page, self.app, task, op_index);
+        let label = Label::of(page.bytes(), start);
+        self.calls[place_of(task, op_index)] = CallLabel {
+            task: task.number,
+            op_index,
+            label,
+        };
+    }
+}

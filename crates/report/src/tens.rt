@@ -1,0 +1,112 @@
+//! All digits of a number but the last, kept for the next number.
+ghost use Rattle.std.specs.Prelude.{◌≡◌, ◌<◌, ◌+◌, ◌*◌, ◌/◌, ◌^◌, true, false, decimal};
+
+use byte_io::Numeral;
+use std::marker::Model;
+
+/// All digits of a number but the last one, at the front of 16 bytes; none of a number below 10.
+///
+/// Numbers that count up share them ten at a time. The last digit is kept apart: a copy of 16 bytes, of which one was just
+/// written, has to wait until that byte has left the processor's store buffer.
+#[derive(Drop)]
+pub(crate) struct Tens {
+    text: [u8; 16],
+    len: usize,
+    // The number that has these digits and then a 0. A `u64`, so that what a number is above it never wraps to below 10.
+    first: u64,
+}
+
+// Clauses see that number.
+impl Model for Tens {
+    ghost use Rattle.std.specs.Prelude.{ℕ};
+    ghost use Rattle.report.specs.Tens.{AreTens};
+
+    ghost Value = { ℕ };
+
+    ghost view = { λ t. t.first };
+
+    ghost invariant = { λ t. AreTens t.first t.len t.text };
+}
+
+impl Tens {
+    /// No digits, which numbers below 10 have.
+    pub(crate) fn new() -> Tens
+        ensures { result ≡ 0 }
+    {
+        Tens {
+            text: [0; 16],
+            len: 0,
+            first: 0,
+        }
+    }
+
+    // Spells the digits of this number, which is not 0.
+    fn spell(&mut self, tens: u32)
+        requires few { tens * 10 < 2 ^ 32 }
+        requires some { 0 < tens }
+        ensures { self.new ≡ 10 * tens }
+    {
+        let mut buffer = itoa::Buffer::new();
+        let digits = buffer.format(tens).as_bytes();
+        let len = digits.len();
+        self.text[..len].copy_from_slice(digits);
+        self.len = len;
+        self.first = 10 * tens as u64;
+    }
+
+    // Goes on to the next ten where that changes one digit alone, and answers whether it did.
+    fn count_up(&mut self) -> bool
+        requires { self.old + 10 < 2 ^ 32 }
+        ensures counted { result ≡ true → self.new ≡ self.old + 10 }
+        ensures kept { result ≡ false → self.new ≡ self.old }
+    {
+        if self.len == 0 {
+            return false;
+        }
+        let digit = self.text[self.len - 1];
+        if digit >= b'9' {
+            return false;
+        }
+        self.text[self.len - 1] = digit + 1;
+        self.first += 10;
+        true
+    }
+
+    // Takes the digits of another number, most often of the next ten.
+    #[inline(never)]
+    fn renew(&mut self, number: u32)
+        ensures { self.new ≡ 10 * (number / 10) }
+    {
+        let tens = number / 10;
+        if 10 * tens as u64 == self.first + 10 && self.count_up() {
+            return;
+        }
+        if tens == 0 {
+            self.len = 0;
+            self.first = 0;
+        } else {
+            self.spell(tens);
+        }
+    }
+
+    // Takes the digits that the number has, if these are others.
+    #[inline]
+    fn set(&mut self, number: u32)
+        ensures { self.new ≡ 10 * (number / 10) }
+    {
+        let above = (number as u64).wrapping_sub(self.first);
+        if above >= 10 {
+            self.renew(number);
+        }
+    }
+
+    /// The digits of the number.
+    #[inline]
+    pub(crate) fn numeral(&mut self, number: u32) -> Numeral<'_>
+        ensures { result ≡ decimal number }
+    {
+        self.set(number);
+        let last = (number as u64 - self.first) as u8;
+        Numeral::new(&self.text, self.len, b'0' + last)
+    }
+}
