@@ -5,7 +5,7 @@ use Rattle.std.specs.List.{AllByRecursion, IsDistinct, filter, list_any}
 use Rattle.std.specs.Option.{is_some, option_eq, option_map}
 use Rattle.std.proofs.lemmas.Bool.{cases_eq, cases_lt, eq-eqb, ne_eqb}
 use Rattle.std.proofs.lemmas.List.{get_or-set_other, get_or-set_same}
-use Rattle.model.specs.State.{State, Status, Task, Ready, Asleep, Ended, for_each, no_task, status_at, task_at, ticket_if_ready, ticket_of, wake_time_of}
+use Rattle.model.specs.State.{State, Status, Task, Ready, Awake, Waiting, Asleep, Ended, for_each, no_task, status_at, task_at, ticket_if_ready, ticket_of, wake_time_of}
 use Rattle.model.specs.Order.{Entry, Key, entry, key, list_by, put, tasks_of}
 use Rattle.model.specs.Switching.{is_ready, make_ready}
 use Rattle.model.specs.Time.{advance, delayed_key, due, increment_tick, sleep, wake_due}
@@ -154,6 +154,8 @@ due_in-entered ts n i m w u tickets l none is =
 
 pub asleep_none : (u : Status) → is_some (ticket_if_ready u) ≡ true → delayed_status_key u ≡ None
 asleep_none (Ready n) t = refl
+asleep_none (Awake w) t = absurd cc
+asleep_none (Waiting w) t = absurd cc
 asleep_none (Asleep m b) t = absurd cc
 asleep_none Ended t = refl
 
@@ -382,12 +384,25 @@ some_until : (o : Option ℕ) (m : ℕ) → option_eq nat_eq o (Some m) ≡ true
 some_until None m t = absurd cc
 some_until (Some w) m t = refl
 
+delayed_until : (deadline : Option ℕ) (ticket w : ℕ) → deadline ≡ Some w → (if is_some deadline then Some (key 0 ticket) else None) ≡ Some (key 0 ticket)
+delayed_until None ticket w e = absurd cc
+delayed_until (Some d) ticket w e = refl
+
+some_time : (o : Option ℕ) → is_some o ≡ true → (w : ℕ) × (o ≡ Some w)
+some_time None t = absurd cc
+some_time (Some w) t = (w, refl)
+
 -- a task that sleeps by its status is in the delayed list
-sleeper_in : (t : Timeline) (s : State) (i : ℕ) (u : Status) → StandsFor t s → status_at s i ≡ u → is_some (wake_time_of u) ≡ true → has_node i t.delayed_list ≡ true
-sleeper_in t s i (Asleep w n) h is some =
-    let has : has_task i (list_by delayed_key s.tasks) ≡ true = has_task-key delayed_key refl i (key 0 n) s.tasks (ap delayed_status_key is) in
-    let now : is_until w (get_or s.tasks i no_task).status ≡ true = ap (is_until w) is ∙ eqb-refl w in
+sleeper_until : (t : Timeline) (s : State) (i w n : ℕ) (u : Status) → StandsFor t s → status_at s i ≡ u → wake_time_of u ≡ Some w → delayed_status_key u ≡ Some (key 0 n) → has_node i t.delayed_list ≡ true
+sleeper_until t s i w n u h is until keyed =
+    let has : has_task i (list_by delayed_key s.tasks) ≡ true = has_task-key delayed_key refl i (key 0 n) s.tasks (ap delayed_status_key is ∙ keyed) in
+    let now : is_until w (get_or s.tasks i no_task).status ≡ true = ap (is_until w) is ∙ ap (λ o. option_eq nat_eq o (Some w)) until ∙ eqb-refl w in
     at-node i w t.delayed_list (ap (among i) (h.delayed w) ∙ until-due s.tasks i w (list_by delayed_key s.tasks) has now)
+
+sleeper_in : (t : Timeline) (s : State) (i : ℕ) (u : Status) → StandsFor t s → status_at s i ≡ u → is_some (wake_time_of u) ≡ true → has_node i t.delayed_list ≡ true
+sleeper_in t s i (Asleep w n) h is some = sleeper_until t s i w n (Asleep w n) h is refl refl
+sleeper_in t s i (Waiting x) h is some = let d = some_time x.deadline some in sleeper_until t s i d.0 x.ticket (Waiting x) h is d.1 (delayed_until x.deadline x.ticket d.0 d.1)
+sleeper_in t s i (Awake x) h is some = let d = some_time x.deadline some in sleeper_until t s i d.0 x.ticket (Awake x) h is d.1 (delayed_until x.deadline x.ticket d.0 d.1)
 sleeper_in t s i (Ready n) h is some = absurd cc
 sleeper_in t s i Ended h is some = absurd cc
 
@@ -403,6 +418,8 @@ asleep_same t s i h = elim (has_or_not i t.delayed_list) [
 
 sleeper_not_ready : (u : Status) → is_some (wake_time_of u) ≡ true → is_some (ticket_if_ready u) ≡ false
 sleeper_not_ready (Ready n) t = absurd cc
+sleeper_not_ready (Awake w) t = refl
+sleeper_not_ready (Waiting w) t = refl
 sleeper_not_ready (Asleep w n) t = refl
 sleeper_not_ready Ended t = absurd cc
 

@@ -5,7 +5,7 @@ use Rattle.std.specs.List.{AllByRecursion, filter, list_any}
 use Rattle.std.specs.Option.{IfSome, is_some, option_map}
 use Rattle.std.proofs.lemmas.Bool.{cases_eq, ltb-false, ltb-true}
 use Rattle.std.proofs.lemmas.List.{get_or-set_other, get_or-set_same}
-use Rattle.model.specs.State.{State, Status, Task, Ready, Asleep, Ended, no_task, task_at, ticket_if_ready, for_one}
+use Rattle.model.specs.State.{State, Status, Task, Ready, Awake, Waiting, Asleep, Ended, no_task, task_at, ticket_if_ready, for_one}
 use Rattle.model.specs.Order.{Entry, entry, first, key, list_by, put, task_of}
 use Rattle.model.specs.Switching.{choice, choose, dispatch, is_above, is_beside, is_outranked, is_ready, is_same, is_sharing, make_ready, preempt, ready_key, ready_list, slice, to_back, yield_now}
 use Rattle.model.specs.Invariant.{IsTable}
@@ -76,6 +76,8 @@ ready_key_of ep eu = ap₂ (λ (n : ℕ) (v : Status). option_map (key n) (ticke
 
 ready_at : (s : State) (i p : ℕ) (u : Status) → (task_at s i).priority ≡ p → (task_at s i).status ≡ u → has_task i (ready_list s) ≡ is_some (ticket_if_ready u)
 ready_at s i p (Ready n) ep eu = has_task-key ready_key refl i (key p n) s.tasks (ready_key_of ep eu)
+ready_at s i p (Awake w) ep eu = has_task-none ready_key i s.tasks (ready_key_of ep eu)
+ready_at s i p (Waiting w) ep eu = has_task-none ready_key i s.tasks (ready_key_of ep eu)
 ready_at s i p (Asleep w n) ep eu = has_task-none ready_key i s.tasks (ready_key_of ep eu)
 ready_at s i p Ended ep eu = has_task-none ready_key i s.tasks (ready_key_of ep eu)
 
