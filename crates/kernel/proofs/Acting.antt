@@ -8,7 +8,7 @@ use Rattle.model.specs.declared.event.Event.{Event}
 use Rattle.model.specs.declared.event.What.TheVariants as what
 use Rattle.model.specs.declared.event.End.TheVariants as ending
 use Rattle.model.specs.Application.{Application, op_count}
-use Rattle.model.specs.State.{State, Task, Progress, wake_time_of, task_at, status_at, progress_at, with_task, no_task}
+use Rattle.model.specs.State.{no_call, State, Task, Progress, wake_time_of, task_at, status_at, progress_at, with_task, no_task}
 use Rattle.model.specs.State as state
 use Rattle.model.specs.Switching.{write, yield_now, is_ready}
 use Rattle.model.specs.Time.{sleep, set_previous_wake}
@@ -105,6 +105,8 @@ module _ (app : Application) (k new : Kernel) (log : List Event) (s : State) (h 
         clock = record { now = h.stands.rest.clock.now; age = h.stands.rest.clock.age; sorted = h.stands.rest.clock.sorted; once = h.stands.rest.clock.once; delayed = h.stands.rest.clock.delayed; table = record { tickets = h.stands.rest.clock.table.tickets; few = h.stands.rest.clock.table.few; current = h.stands.rest.clock.table.current } };
         steps = h.stands.rest.steps;
         stopped = ap (λ (p : Progress). Some (ending.Check i p.op_index)) same;
+        nobody_waits = h.stands.rest.nobody_waits;
+        free = h.stands.rest.free;
       };
     };
     log = h.log;
@@ -202,7 +204,7 @@ can_tick_still k new c same deed does = record {
 
 -- ---- the task goes on at an op
 
-module _ (app : Application) (k moved : Kernel) (log : List Event) (s : State) (h : At k log s) (i : ℕ) (r : Runs k i) (op_index count : ℕ) (is : moved ≡ with_progress i (record (progress_in k.progress i) { op_index = op_index; used = 0 }) k) (many : count ≡ op_count app i) where
+module _ (app : Application) (k moved : Kernel) (log : List Event) (s : State) (h : At k log s) (i : ℕ) (r : Runs k i) (op_index count : ℕ) (is : moved ≡ with_progress i (record (progress_in k.progress i) { op_index = op_index; used = 0; call = no_call }) k) (many : count ≡ op_count app i) where
   l : i < length s.tasks
   l = within k log s h i r.current
 
@@ -215,14 +217,14 @@ module _ (app : Application) (k moved : Kernel) (log : List Event) (s : State) (
   pub goes_on : (op_index ≡ count → ⊥) → At moved log (go_to app i op_index (progress_at s i) s)
   unfolding go_to
   goes_on off =
-      let P : Progress → Type 0 = λ p. At (with_progress i (record p { op_index = op_index; used = 0 }) k) log (with_task i (moved_to count op_index (progress_at s i) (task_at s i)) s) in
+      let P : Progress → Type 0 = λ p. At (with_progress i (record p { op_index = op_index; used = 0; call = no_call }) k) log (with_task i (moved_to count op_index (progress_at s i) (task_at s i)) s) in
       rw (is, ← many) (subst P (sym p_is) (record { stands = stands-gone k s h.stands i l count op_index (progress_at s i) (ne_eqb op_index count off); log = h.log }))
 
   pub ends : op_index ≡ count → (v : Schedule) → v ≡ block i moved.sched → At (record moved { sched = v }) log (go_to app i op_index (progress_at s i) s)
   unfolding go_to
   ends on v blocks =
       let Q : Kernel → Type 0 = λ m. v ≡ block i m.sched → At (record m { sched = v }) log (with_task i (moved_to (op_count app i) op_index (progress_at s i) (task_at s i)) s) in
-      let P : Progress → Type 0 = λ p. At (record k { progress = set k.progress i (record p { op_index = op_index; used = 0 }); sched = v }) log (with_task i (moved_to (op_count app i) op_index (progress_at s i) (task_at s i)) s) in
+      let P : Progress → Type 0 = λ p. At (record k { progress = set k.progress i (record p { op_index = op_index; used = 0; call = no_call }); sched = v }) log (with_task i (moved_to (op_count app i) op_index (progress_at s i) (task_at s i)) s) in
       subst Q (sym is) (λ b. subst P (sym p_is) (rw (← many) (record { stands = stands-ended k s h.stands i l count op_index (progress_at s i) (eq-eqb op_index count on) awake v b; log = h.log }))) blocks
 
 -- ---- sleep

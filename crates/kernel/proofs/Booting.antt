@@ -7,11 +7,12 @@ use Rattle.std.proofs.Common.{inl, inr}
 use Rattle.model.specs.declared.op.Op.{Op}
 use Rattle.model.specs.Application.{Application, Definition}
 use Rattle.model.specs.Scripts.{IsDefinition, IsWellFormed}
-use Rattle.model.specs.State.{State, Task, Progress, Ready, wake_time_of, no_task, no_progress, task_at, status_at, for_each}
+use Rattle.model.specs.State.{State, Task, Progress, Ready, wait_of, wake_time_of, no_task, no_progress, task_at, status_at, for_each}
 use Rattle.model.specs.Order.{keyed, list_by, tasks_of}
 use Rattle.model.specs.Switching.{make_ready, ready_key, choice, choose, dispatch, is_same}
 use Rattle.model.specs.Time.{delayed_key, due}
 use Rattle.model.specs.Step.{task_at_reset, with_ops, is_empty, reset, nobody_ready, ready_at_reset}
+use Rattle.model.specs.Invariant.{Hold}
 use Rattle.model.proofs.Sorting.{by_test}
 use Rattle.model.proofs.Lists.{eqb-refl, eqb-same, eqb-apart}
 use Rattle.model.proofs.Chosen.{choice_within, each-end}
@@ -33,7 +34,7 @@ use Rattle.kernel.specs.declared.kernel.Kernel.{Kernel}
 use Rattle.kernel.specs.StandsFor.{progress_in, StandsFor}
 use Rattle.kernel.specs.Boot.{priorities_in, HasNoneFrom}
 use Rattle.kernel.proofs.Parts.{clock-same, ready_alike}
-use Rattle.kernel.proofs.Waking.{has_node-added, progress-all_ready}
+use Rattle.kernel.proofs.Waking.{has_node-added, progress-all_ready, unwaiting-all_ready}
 
 pub zeros : (n i : ℕ) → let nothing : ℕ = 0 in get_or (replicate n nothing) i nothing ≡ nothing
 zeros zero i = refl
@@ -200,6 +201,11 @@ awake-ready s i h j = by_index s.tasks i j h where
   by_index (u ∷ us) (suc i) zero h = h 0
   by_index (u ∷ us) (suc i) (suc j) h = by_index us i j (λ k. h (suc k))
 
+pub none_waits : (start : ℕ) (ds : List Definition) (i : ℕ) → wait_of (get_or (map (task_at_reset start) ds) i no_task).status ≡ None
+none_waits start [] i = refl
+none_waits start (d ∷ ds) zero = refl
+none_waits start (d ∷ ds) (suc i) = none_waits start ds i
+
 ended_at_reset : (start : ℕ) (ds : List Definition) (i : ℕ) → wake_time_of (get_or (map (task_at_reset start) ds) i no_task).status ≡ None
 ended_at_reset start [] i = refl
 ended_at_reset start (d ∷ ds) zero = refl
@@ -238,5 +244,7 @@ booted app formed k v w h ready chooses =
         clock = clock-same k.clock s (record s { current = choice s }) c refl refl refl on.table;
         steps = h.rest.steps ∙ sym keep.steps;
         stopped = h.rest.stopped ∙ sym keep.stopped;
+        nobody_waits = unwaiting-all_ready is none h.rest.nobody_waits;
+        free = ap (λ (x : Hold). x.held) keep.hold ∙ h.rest.free;
       };
     }

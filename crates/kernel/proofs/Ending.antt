@@ -2,20 +2,22 @@
 use Rattle.std.proofs.Common.{◌≡◌, ◌+◌, ◌<◌, ◌≤◌, ℕ, suc, Bool, true, false, not, ◌&&◌, ◌||◌, eqb, leb, List, [], ◌∷◌, length, get_or, Option, Some, None, refl, ap, sym, subst, ◌∙◌, arith}
 use Rattle.std.proofs.lemmas.Bool.Decides.{nat_tests}
 use Rattle.std.specs.List.{list_all, list_any, filter, AllByRecursion}
-use Rattle.std.specs.Prelude.{IsTrue, ◌↔◌}
+use Rattle.std.specs.Prelude.{IsTrue, ◌↔◌, if◌then◌else◌}
 use Rattle.std.specs.Option.{option_eq, is_none, is_some}
 use Rattle.std.proofs.lemmas.List.{length-map}
 use Rattle.model.specs.declared.event.Event.{Event}
 use Rattle.model.specs.declared.event.End.{End}
 use Rattle.model.specs.declared.event.End.TheVariants.{Pass, Ticks, Steps, Stuck}
 use Rattle.model.specs.Application.{Application, Limits}
-use Rattle.model.specs.State.{State, Task, Status, Ready, Asleep, Ended, wake_time_of, no_task}
-use Rattle.model.specs.Order.{Key, Entry, keyed, list_by, tasks_of}
+use Rattle.model.specs.State.{State, Task, Status, Ready, Awake, Waiting, Asleep, Ended, wait_of, wake_time_of, no_task}
+use Rattle.model.specs.Order.{Key, Entry, key, keyed, list_by, tasks_of}
 use Rattle.model.specs.Switching.{ready_key, settle}
 use Rattle.model.specs.Time.{delayed_key}
 use Rattle.model.specs.Step.{act_current, step}
 use Rattle.model.specs.Run.{is_ended, are_all_ended, is_stuck, end_of}
-use Rattle.model.specs.Invariant.{IsTable}
+use Rattle.model.specs.Invariant.{IsTable, Hold}
+use Rattle.model.proofs.Frames.{keeps-settle}
+use Rattle.model.proofs.Settled.{when_free}
 use Rattle.model.proofs.Sorting.{length-in_order, by_test}
 use Rattle.model.proofs.Lists.{eqb-apart, eqb-refl, HasKey, list_has}
 use Rattle.lists.specs.Lists.{first_of}
@@ -47,9 +49,15 @@ empty : {X : Type 0} → (xs : List X) → eqb (length xs) 0 ≡ true → xs ≡
 empty [] t = refl
 empty (x ∷ xs) t = let f : false ≡ true = sym (some (length xs)) ∙ t in absurd (cc)
 
+until_due : (deadline : Option ℕ) (ticket : ℕ) (k : Key) → (if is_some deadline then Some (key 0 ticket) else None) ≡ Some k → ((m : ℕ) → option_eq eqb deadline (Some m) ≡ true → ⊥) → ⊥
+until_due None ticket k e f = absurd (cc)
+until_due (Some w) ticket k e f = f w (eqb-refl w)
+
 -- One who sleeps is due at some time.
 when_due : (t : Task) (u : Status) (k : Key) → delayed_key (record t { status = u }) ≡ Some k → ((m : ℕ) → option_eq eqb (wake_time_of u) (Some m) ≡ true → ⊥) → ⊥
 when_due t (Ready n) k e f = absurd (cc)
+when_due t (Awake w) k e f = until_due w.deadline w.ticket k e f
+when_due t (Waiting w) k e f = until_due w.deadline w.ticket k e f
 when_due t (Asleep w n) k e f = f w (eqb-refl w)
 when_due t Ended k e f = absurd (cc)
 
@@ -82,14 +90,25 @@ and_false : (b : Bool) → b && false ≡ false
 and_false true = refl
 and_false false = refl
 
-over : (o : ℕ) (ts : List Task) → eqb (length (keyed ready_key o ts)) 0 && eqb (length (keyed delayed_key o ts)) 0 ≡ list_all (λ (t : Task). is_ended t.status) ts
-over o [] = refl
-over o (t ∷ ts) = by_status t t.status (over (o + 1) ts) where
-  by_status : (t : Task) (u : Status) → eqb (length (keyed ready_key (o + 1) ts)) 0 && eqb (length (keyed delayed_key (o + 1) ts)) 0 ≡ list_all (λ (t : Task). is_ended t.status) ts
+Unwaiting : Task → Type 0
+Unwaiting t = wait_of t.status ≡ None
+
+over : (o : ℕ) (ts : List Task) → AllByRecursion Unwaiting ts → eqb (length (keyed ready_key o ts)) 0 && eqb (length (keyed delayed_key o ts)) 0 ≡ list_all (λ (t : Task). is_ended t.status) ts
+unfolding Unwaiting
+over o [] h = refl
+over o (t ∷ ts) h = by_status t t.status h.0 (over (o + 1) ts h.1) where
+  by_status : (t : Task) (u : Status) → wait_of u ≡ None → eqb (length (keyed ready_key (o + 1) ts)) 0 && eqb (length (keyed delayed_key (o + 1) ts)) 0 ≡ list_all (λ (t : Task). is_ended t.status) ts
       → eqb (length (keyed ready_key o (record t { status = u } ∷ ts))) 0 && eqb (length (keyed delayed_key o (record t { status = u } ∷ ts))) 0 ≡ is_ended u && list_all (λ (v : Task). is_ended v.status) ts
-  by_status t (Ready n) later = rw (some (length (keyed ready_key (o + 1) ts))) refl
-  by_status t (Asleep w n) later = rw (some (length (keyed delayed_key (o + 1) ts))) (and_false (eqb (length (keyed ready_key (o + 1) ts)) 0))
-  by_status t Ended later = later
+  by_status t (Ready n) w later = rw (some (length (keyed ready_key (o + 1) ts))) refl
+  by_status t (Awake x) w later = absurd (cc)
+  by_status t (Waiting x) w later = absurd (cc)
+  by_status t (Asleep x n) w later = rw (some (length (keyed delayed_key (o + 1) ts))) (and_false (eqb (length (keyed ready_key (o + 1) ts)) 0))
+  by_status t Ended w later = later
+
+all_unwaiting : (ts : List Task) → ((i : ℕ) → wait_of (get_or ts i no_task).status ≡ None) → AllByRecursion Unwaiting ts
+unfolding Unwaiting
+all_unwaiting [] h = tt
+all_unwaiting (t ∷ ts) h = (h 0, all_unwaiting ts (λ i. h (suc i)))
 
 asleep : (o : ℕ) (ts : List Task) → eqb (length (keyed delayed_key o ts)) 0 ≡ not (list_any (λ (t : Task). is_some (wake_time_of t.status)) ts)
 asleep o [] = refl
@@ -97,6 +116,8 @@ asleep o (t ∷ ts) = by_status t t.status (asleep (o + 1) ts) where
   by_status : (t : Task) (u : Status) → eqb (length (keyed delayed_key (o + 1) ts)) 0 ≡ not (list_any (λ (t : Task). is_some (wake_time_of t.status)) ts)
       → eqb (length (keyed delayed_key o (record t { status = u } ∷ ts))) 0 ≡ not (is_some (wake_time_of u) || list_any (λ (v : Task). is_some (wake_time_of v.status)) ts)
   by_status t (Ready n) later = later
+  by_status t (Awake w) later = by_test (is_some w.deadline) (λ e. rw e (some (length (keyed delayed_key (o + 1) ts)))) (λ e. rw e later)
+  by_status t (Waiting w) later = by_test (is_some w.deadline) (λ e. rw e (some (length (keyed delayed_key (o + 1) ts)))) (λ e. rw e later)
   by_status t (Asleep w n) later = some (length (keyed delayed_key (o + 1) ts))
   by_status t Ended later = later
 
@@ -107,7 +128,7 @@ is_quiet s = eqb (length (keyed delayed_key 0 s.tasks)) 0
 -- What the parts of the kernel say of an end where nobody sleeps.
 module _ (k : Kernel) (s : State) (h : StandsFor k s) where
   over_is : not (is_some (first_of k.sched.ready)) && is_quiet s ≡ are_all_ended s
-  over_is = rw (none_first k.sched.ready, h.sched.ready, length-ready s.tasks) (over 0 s.tasks)
+  over_is = rw (none_first k.sched.ready, h.sched.ready, length-ready s.tasks) (over 0 s.tasks (all_unwaiting s.tasks h.rest.nobody_waits))
 
   stuck_is : is_none k.sched.current && is_quiet s ≡ is_stuck s
   stuck_is = rw (h.sched.current, asleep 0 s.tasks) refl
@@ -179,18 +200,30 @@ begun k log s h e =
     record {
       stands = record {
         sched = record { ready = h.sched.ready; current = h.sched.current; priorities = h.sched.priorities; table = table };
-        rest = rest_same k s (record s { log = [] }) h.rest refl refl refl refl refl table;
+        rest = rest_same k s (record s { log = [] }) h.rest refl refl refl refl refl refl table;
       };
       log = e;
     }
 
+-- a kernel that stands for a settled state, in which no call holds the scheduler
+acted_free : (s : State) (k : Kernel) (log : List Event) → At k log (settle s) → s.call_hold ≡ false
+acted_free s k log a = ap (λ (x : Hold). x.held) (sym (keeps-settle s).hold) ∙ a.stands.rest.free
+
+pub stepped_log : (app : Application) (s : State) (k : Kernel) (log : List Event) → At k log (settle (act_current app s.current (record s { log = [] }))) → log ≡ (step app s).log
+unfolding step
+stepped_log app s k log a =
+    let acted : State = act_current app s.current (record s { log = [] }) in
+    a.log ∙ ap (λ (t : State). t.log) (sym (when_free settle acted (acted_free acted k log a)))
+
 pub stepped : (app : Application) (s : State) (k : Kernel) (log : List Event) (n : ℕ) → n ≡ s.steps → At k log (settle (act_current app s.current (record s { log = [] }))) → StandsFor (record k { steps = n + 1 }) (step app s)
 unfolding step
 stepped app s k log n e a =
-    let new : State = settle (act_current app s.current (record s { log = [] })) in
+    let acted : State = act_current app s.current (record s { log = [] }) in
+    let new : State = settle acted in
     let h = a.stands in
     let table : IsTable (record new { steps = s.steps + 1 }) = record { tickets = h.sched.table.tickets; few = h.sched.table.few; current = h.sched.table.current } in
-    record {
+    let held : acted.call_hold ≡ false = acted_free acted k log a in
+    subst (λ (t : State). StandsFor (record k { steps = n + 1 }) (record t { steps = s.steps + 1 })) (sym (when_free settle acted held)) (record {
       sched = record { ready = h.sched.ready; current = h.sched.current; priorities = h.sched.priorities; table = table };
       rest = record {
         progress = h.rest.progress;
@@ -198,5 +231,7 @@ stepped app s k log n e a =
         clock = clock-same k.clock new (record new { steps = s.steps + 1 }) h.rest.clock refl refl refl table;
         steps = ap (λ m. m + 1) e;
         stopped = h.rest.stopped;
+        nobody_waits = h.rest.nobody_waits;
+        free = h.rest.free;
       };
-    }
+    })

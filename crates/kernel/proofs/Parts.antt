@@ -4,7 +4,7 @@ use Rattle.std.specs.List.{filter}
 use Rattle.std.specs.Option.{option_eq, is_some}
 use Rattle.std.proofs.Math.ListN.{length-set}
 use Rattle.model.specs.declared.event.Event.{Event}
-use Rattle.model.specs.State.{State, Task, Progress, Status, Ready, Asleep, Ended, ticket_if_ready, wake_time_of, no_task, no_progress, task_at, status_at, progress_at, with_task, printed}
+use Rattle.model.specs.State.{State, Task, Progress, Status, Ready, Awake, Waiting, Asleep, Ended, ticket_if_ready, wait_of, wake_time_of, no_call, no_task, no_progress, task_at, status_at, progress_at, with_task, printed}
 use Rattle.model.specs.State as state
 use Rattle.model.specs.Order.{Entry, list_by, tasks_of}
 use Rattle.model.specs.Switching.{is_ready, make_ready, write}
@@ -14,7 +14,7 @@ use Rattle.model.specs.Invariant.{IsTable}
 use Rattle.model.proofs.Sorting.{by_test}
 use Rattle.model.proofs.Lists.{eqb-refl, eqb-same}
 use Rattle.model.proofs.Tables.{ticket_at, table-set, table-taken, table-make_ready}
-use Rattle.model.proofs.Reached.{ready_awake}
+use Rattle.model.proofs.Sound.{ready_awake, each-set}
 use Rattle.sched.specs.Schedule.{Schedule, block}
 use Rattle.sched.specs.Schedule as schedule
 use Rattle.sched.proofs.Standing as on_sched
@@ -69,11 +69,15 @@ same_alike a b e = subst (SleepsAlike a) e (record { key = refl; wake_time = ref
 
 pub ready_alike : (u : Status) (n : ℕ) → wake_time_of u ≡ None → SleepsAlike (Ready n) u
 ready_alike (Ready m) n t = record { key = refl; wake_time = refl }
+ready_alike (Awake w) n t = record { key = rw t refl; wake_time = sym t }
+ready_alike (Waiting w) n t = record { key = rw t refl; wake_time = sym t }
 ready_alike (Asleep w m) n t = absurd (cc)
 ready_alike Ended n t = record { key = refl; wake_time = refl }
 
 ended_alike : (u : Status) → wake_time_of u ≡ None → SleepsAlike Ended u
 ended_alike (Ready m) t = record { key = refl; wake_time = refl }
+ended_alike (Awake w) t = record { key = rw t refl; wake_time = sym t }
+ended_alike (Waiting w) t = record { key = rw t refl; wake_time = sym t }
 ended_alike (Asleep w m) t = absurd (cc)
 ended_alike Ended t = record { key = refl; wake_time = refl }
 
@@ -94,13 +98,15 @@ apart_back k s h i t = by_test (schedule.is_ready k.sched i)
 
 -- ---- all but the scheduler
 
-pub rest_same : (k : Kernel) (s new : State) → RestStandsFor k s → new.tasks ≡ s.tasks → new.time ≡ s.time → new.elapsed ≡ s.elapsed → new.steps ≡ s.steps → new.stopped ≡ s.stopped → IsTable new → RestStandsFor k new
-rest_same k s new h tasks time elapsed steps stopped table = record {
+pub rest_same : (k : Kernel) (s new : State) → RestStandsFor k s → new.tasks ≡ s.tasks → new.time ≡ s.time → new.elapsed ≡ s.elapsed → new.steps ≡ s.steps → new.stopped ≡ s.stopped → new.call_hold ≡ s.call_hold → IsTable new → RestStandsFor k new
+rest_same k s new h tasks time elapsed steps stopped held table = record {
   progress = λ i. h.progress i ∙ ap (λ ts. (get_or ts i no_task).progress) (sym tasks);
   full = h.full;
   clock = clock-same k.clock s new h.clock tasks time elapsed table;
   steps = h.steps ∙ sym steps;
   stopped = h.stopped ∙ sym stopped;
+  nobody_waits = λ i. ap (λ ts. wait_of (get_or ts i no_task).status) tasks ∙ h.nobody_waits i;
+  free = held ∙ h.free;
 }
 
 -- a Ready task is a task
@@ -125,6 +131,8 @@ module _ (k : Kernel) (s : State) (h : StandsFor k s) (i : ℕ) (l : i < length 
         clock = on_clock.stands_kept k.clock s (make_ready i s) i t h.rest.clock l refl refl refl (ready_alike (status_at s i) s.next_ticket (ready_awake (status_at s i) on)) (table-make_ready s i h.sched.table);
         steps = h.rest.steps;
         stopped = h.rest.stopped;
+        nobody_waits = each-set no_task (λ _ u. wait_of u.status ≡ None) s.tasks i t refl h.rest.nobody_waits;
+        free = h.rest.free;
       }
 
   -- a Ready task begins to sleep
@@ -137,7 +145,7 @@ module _ (k : Kernel) (s : State) (h : StandsFor k s) (i : ℕ) (l : i < length 
       let c : clock.StandsFor t new = rw on at slept in
       rw on (record {
         sched = rw blocks (on_sched.stands_blocked k.sched s new i u h.sched l refl refl refl refl table);
-        rest = record { progress = progress-same k.progress s.tasks i u h.rest.progress l refl; full = h.rest.full; clock = c; steps = h.rest.steps; stopped = h.rest.stopped };
+        rest = record { progress = progress-same k.progress s.tasks i u h.rest.progress l refl; full = h.rest.full; clock = c; steps = h.rest.steps; stopped = h.rest.stopped; nobody_waits = each-set no_task (λ _ v. wait_of v.status ≡ None) s.tasks i u refl h.rest.nobody_waits; free = h.rest.free };
       })
 
   -- a task's progress changes
@@ -153,17 +161,19 @@ module _ (k : Kernel) (s : State) (h : StandsFor k s) (i : ℕ) (l : i < length 
           clock = on_clock.stands_kept k.clock s (with_task i t s) i t h.rest.clock l refl refl refl (same_alike (status_at s i) (status_at s i) refl) table;
           steps = h.rest.steps;
           stopped = h.rest.stopped;
+          nobody_waits = each-set no_task (λ _ u. wait_of u.status ≡ None) s.tasks i t (h.rest.nobody_waits i) h.rest.nobody_waits;
+          free = h.rest.free;
         };
       }
 
   -- it goes on at an op of so many, which isn't past the last one
-  pub stands-gone : (count op_index : ℕ) (p : Progress) → eqb op_index count ≡ false → StandsFor (with_progress i (record p { op_index = op_index; used = 0 }) k) (with_task i (moved_to count op_index p (task_at s i)) s)
-  stands-gone count op_index p off = rw off (stands-changed (record p { op_index = op_index; used = 0 }))
+  pub stands-gone : (count op_index : ℕ) (p : Progress) → eqb op_index count ≡ false → StandsFor (with_progress i (record p { op_index = op_index; used = 0; call = no_call }) k) (with_task i (moved_to count op_index p (task_at s i)) s)
+  stands-gone count op_index p off = rw off (stands-changed (record p { op_index = op_index; used = 0; call = no_call }))
 
   -- or is Ended
-  pub stands-ended : (count op_index : ℕ) (p : Progress) → eqb op_index count ≡ true → wake_time_of (status_at s i) ≡ None → (v : Schedule) → v ≡ block i k.sched → StandsFor (record k { progress = set k.progress i (record p { op_index = op_index; used = 0 }); sched = v }) (with_task i (moved_to count op_index p (task_at s i)) s)
+  pub stands-ended : (count op_index : ℕ) (p : Progress) → eqb op_index count ≡ true → wake_time_of (status_at s i) ≡ None → (v : Schedule) → v ≡ block i k.sched → StandsFor (record k { progress = set k.progress i (record p { op_index = op_index; used = 0; call = no_call }); sched = v }) (with_task i (moved_to count op_index p (task_at s i)) s)
   stands-ended count op_index p on awake v blocks =
-      let q : Progress = record p { op_index = op_index; used = 0 } in
+      let q : Progress = record p { op_index = op_index; used = 0; call = no_call } in
       let t : Task = record (task_at s i) { progress = q; status = Ended } in
       let table : IsTable (with_task i t s) = table-set s i t h.sched.table tt in
       rw on (record {
@@ -174,6 +184,8 @@ module _ (k : Kernel) (s : State) (h : StandsFor k s) (i : ℕ) (l : i < length 
           clock = on_clock.stands_kept k.clock s (with_task i t s) i t h.rest.clock l refl refl refl (ended_alike (status_at s i) awake) table;
           steps = h.rest.steps;
           stopped = h.rest.stopped;
+          nobody_waits = each-set no_task (λ _ u. wait_of u.status ≡ None) s.tasks i t refl h.rest.nobody_waits;
+          free = h.rest.free;
         };
       })
 
@@ -184,7 +196,7 @@ at_written k log new_log s e h told step tick =
     record {
       stands = record {
         sched = record { ready = h.stands.sched.ready; current = h.stands.sched.current; priorities = h.stands.sched.priorities; table = table };
-        rest = rest_same k s (write e.what s) h.stands.rest refl refl refl refl refl table;
+        rest = rest_same k s (write e.what s) h.stands.rest refl refl refl refl refl refl table;
       };
       log = told ∙ rw h.log (ap (λ (x : Event). s.log ++ x ∷ []) (event_same e s.steps (printed s.time) (step ∙ h.stands.rest.steps) (tick ∙ ap printed h.stands.rest.clock.now)));
     } where
@@ -197,5 +209,5 @@ stands-told k s h log =
     let table : IsTable (record s { log = log }) = record { tickets = h.sched.table.tickets; few = h.sched.table.few; current = h.sched.table.current } in
     record {
       sched = record { ready = h.sched.ready; current = h.sched.current; priorities = h.sched.priorities; table = table };
-      rest = rest_same k s (record s { log = log }) h.rest refl refl refl refl refl table;
+      rest = rest_same k s (record s { log = log }) h.rest refl refl refl refl refl refl table;
     }

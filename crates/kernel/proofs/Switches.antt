@@ -60,7 +60,7 @@ rest-choose : (k : Kernel) (s : State) → RestStandsFor k s → IsTable (choose
 unfolding choose dispatch
 rest-choose k s h table = by_test (is_same (choice s) s.current)
     (λ t. rw t h)
-    (λ t. rw t (rest_same k s (write (what.Run (choice s)) (record s { current = choice s })) h refl refl refl refl refl (rw t at table)))
+    (λ t. rw t (rest_same k s (write (what.Run (choice s)) (record s { current = choice s })) h refl refl refl refl refl refl (rw t at table)))
 
 rest-back : (k : Kernel) (s : State) (r : Option ℕ) → StandsFor k s → IfSome r (λ i. i < length s.tasks) → RestStandsFor k (for_one to_back r s)
 unfolding to_back
@@ -81,7 +81,7 @@ rest-slice k s h table = by_test (is_outranked s || is_sharing s)
 module _ (k : Kernel) (log new_log : List Event) (s : State) (v : Schedule) (before : Option ℕ) (h : At k log s) (b : before ≡ k.sched.current) (told : new_log ≡ log ++ change k.steps k.clock.now before v.current) where
   changed : (new : State) → sched.StandsFor v new → RestStandsFor k new → Tells s new → At (record k { sched = v }) new_log new
   changed new on rest tells = record {
-    stands = record { sched = on; rest = record { progress = rest.progress; full = rest.full; clock = rest.clock; steps = rest.steps; stopped = rest.stopped } };
+    stands = record { sched = on; rest = record { progress = rest.progress; full = rest.full; clock = rest.clock; steps = rest.steps; stopped = rest.stopped; nobody_waits = rest.nobody_waits; free = rest.free } };
     log = told ∙ rw (h.log, b, h.stands.sched.current, h.stands.rest.steps, h.stands.rest.clock.now, on.current) (sym tells);
   }
 

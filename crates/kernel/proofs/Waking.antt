@@ -1,14 +1,16 @@
 -- Who is due becomes Ready, one after the other.
-use Rattle.std.proofs.Common.{◌≡◌, ◌≢◌, ◌<◌, ◌+◌, ℕ, zero, suc, Bool, true, false, eqb, ltb, List, [], ◌∷◌, ◌++◌, ◌||◌, length, get_or, set, take, drop, refl, ap, sym, subst, ◌∙◌, arith}
+use Rattle.std.proofs.Common.{None, ◌≡◌, ◌≢◌, ◌<◌, ◌+◌, ℕ, zero, suc, Bool, true, false, eqb, ltb, List, [], ◌∷◌, ◌++◌, ◌||◌, length, get_or, set, take, drop, refl, ap, sym, subst, ◌∙◌, arith}
 use Rattle.std.specs.List.{AllByRecursion, IsDistinct}
 use Rattle.std.proofs.lemmas.List.{take_more}
 use Rattle.std.proofs.lemmas.Bool.{ne_eqb}
 use Rattle.model.specs.declared.event.Event.{Event}
-use Rattle.model.specs.State.{State, Task, Ready, task_at, progress_at, for_each, no_task}
+use Rattle.model.specs.State.{State, Task, Ready, wait_of, task_at, status_at, progress_at, for_each, no_task}
 use Rattle.model.specs.Order.{tasks_of}
 use Rattle.model.specs.Switching.{make_ready}
 use Rattle.model.specs.Time.{due, wake_due, advance, increment_tick}
+use Rattle.model.specs.Invariant.{Hold}
 use Rattle.model.proofs.Sorting.{by_test}
+use Rattle.model.proofs.Sound.{each-set}
 use Rattle.model.proofs.Lists.{eqb-refl}
 use Rattle.model.proofs.Chosen.{each-end}
 use Rattle.model.proofs.Frames.{keeps-all_ready}
@@ -95,6 +97,10 @@ progress-ready s i j = by_index s.tasks i j (record (task_at s i) { status = Rea
   by_index (u ∷ us) (suc i) zero t e = refl
   by_index (u ∷ us) (suc i) (suc j) t e = by_index us i j t e
 
+pub unwaiting-all_ready : (is : List ℕ) (s : State) → ((i : ℕ) → wait_of (status_at s i) ≡ None) → (i : ℕ) → wait_of (status_at (for_each make_ready is s) i) ≡ None
+unwaiting-all_ready [] s h i = h i
+unwaiting-all_ready (j ∷ is) s h i = unwaiting-all_ready is (make_ready j s) (each-set no_task (λ _ u. wait_of u.status ≡ None) s.tasks j (record (task_at s j) { status = Ready s.next_ticket }) refl h) i
+
 pub progress-all_ready : (is : List ℕ) (s : State) (j : ℕ) → progress_at (for_each make_ready is s) j ≡ progress_at s j
 progress-all_ready [] s j = refl
 progress-all_ready (i ∷ is) s j = progress-all_ready is (make_ready i s) j ∙ progress-ready s i j
@@ -128,6 +134,8 @@ module _ (k : Kernel) (log : List Event) (s : State) (h : At k log s) where
             clock = awake;
             steps = h.stands.rest.steps ∙ sym keep.steps;
             stopped = h.stands.rest.stopped ∙ sym keep.stopped;
+            nobody_waits = unwaiting-all_ready due_ones next h.stands.rest.nobody_waits;
+            free = ap (λ (x : Hold). x.held) keep.hold ∙ h.stands.rest.free;
           };
         };
         log = h.log ∙ sym (log-all_ready due_ones next);

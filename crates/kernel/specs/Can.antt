@@ -2,7 +2,7 @@
 use Rattle.std.specs.Prelude.{◌≡◌, ◌≢◌, ◌<◌, ◌≤◌, ℕ, ◌+◌, ◌^◌, false, List, [], ◌∷◌, Some, None, length}
 use Rattle.std.specs.List.{AllByRecursion}
 use Rattle.model.specs.declared.op.Op.{Op}
-use Rattle.model.specs.declared.op.Op.TheVariants.{Repeat}
+use Rattle.model.specs.declared.op.Op.TheVariants.{Repeat, Await, Do, MessagesWaiting, SpacesAvailable}
 use Rattle.model.specs.declared.ids.TaskId.{TaskId}
 use Rattle.model.specs.Application.{Application, Limits, op_at}
 use Rattle.model.specs.State.{State}
@@ -28,6 +28,14 @@ abbrev pub HasLoopRoom : Op → ℕ → Type 0
 HasLoopRoom (Repeat n) nesting = nesting < 4
 HasLoopRoom _ nesting = Unit {0}
 
+-- The op speaks of no object: no application has any yet.
+abbrev pub HasNoObject : Op → Type 0
+HasNoObject (Await object access ticks) = ⊥
+HasNoObject (Do object access) = ⊥
+HasNoObject (MessagesWaiting object) = ⊥
+HasNoObject (SpacesAvailable object) = ⊥
+HasNoObject _ = Unit {0}
+
 -- One tick can come.
 pub record CanTick (k : Kernel) : Type 0 where
   pub agrees : Agrees k
@@ -39,6 +47,7 @@ pub record Can (k : Kernel) (task : ℕ) (op : Op) : Type 0 where
   pub tick : CanTick k
   pub used : IsUsedBy (progress_in k.progress task).used (Some op)
   pub nesting : HasLoopRoom op (length (progress_in k.progress task).loops)
+  pub no_object : HasNoObject op
   pub previous_wake : (progress_in k.progress task).previous_wake ≤ k.clock.now
   pub time : k.clock.now + 2 ^ 32 < 2 ^ 63
 

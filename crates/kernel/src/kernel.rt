@@ -1,6 +1,6 @@
 //! The kernel's state, and the parts of which each step is made.
 ghost use Rattle.std.specs.Prelude.{◌≡◌, ◌<◌, ◌+◌, ◌++◌, ◌∷◌, [], length};
-ghost use Rattle.model.specs.State.{printed};
+ghost use Rattle.model.specs.State.{no_call, printed};
 ghost use Rattle.model.specs.Switching.{write};
 ghost use Rattle.kernel.specs.Loops.{after_turn, next_turn};
 ghost use Rattle.kernel.specs.StandsFor.{Does, progress_in, with_progress};
@@ -47,7 +47,7 @@ impl Kernel {
     /// Places a task at this op, of which nothing is used up.
     pub(crate) fn set_op_index(&mut self, task: TaskId, op_index: u16)
         ensures { self.new ≡ with_progress task
-            (record (progress_in self.old.progress task) { op_index = op_index; used = 0 }) self.old }
+            (record (progress_in self.old.progress task) { op_index = op_index; used = 0; call = no_call }) self.old }
     {
         let progress = &mut self.progress[task.number as usize];
         progress.op_index = op_index;

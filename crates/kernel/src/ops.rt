@@ -71,6 +71,8 @@ impl Kernel {
             Op::Expect(wanted) => self.expect(app, task, wanted),
             Op::Repeat(turns) => self.open_loop(app, task, turns),
             Op::End => self.close_turn(app, task),
+            // no application has objects yet
+            Op::Await(..) | Op::Do(..) | Op::MessagesWaiting(_) | Op::SpacesAvailable(_) => {}
         }
     }
 }

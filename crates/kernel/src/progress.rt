@@ -16,13 +16,14 @@ pub(crate) struct Progress {
     pub(crate) previous_wake: u64,
 }
 
-// Clauses see the definitions' progress.
+// Clauses see the definitions' progress, in which no call has begun: none waits yet.
 impl Model for Progress {
     ghost use Rattle.model.specs.State as state;
+    ghost use Rattle.model.specs.State.{no_call};
 
     ghost Value = { state.Progress };
 
-    ghost view = { λ p. record { op_index = p.op_index; used = p.used; loops = p.loops; answer = p.answer; previous_wake = p.previous_wake } };
+    ghost view = { λ p. record { op_index = p.op_index; used = p.used; loops = p.loops; answer = p.answer; previous_wake = p.previous_wake; call = no_call } };
 }
 
 impl Progress {

@@ -45,6 +45,7 @@ impl Kernel {
         ensures meter { meter.new ≡ meter.old + 1 }
     {
         app.well_formed();
+        app.without_objects();
         let steps = self.steps;
         self.act_current(app, log);
         self.settle(log);

@@ -3,7 +3,7 @@ use Rattle.sched.specs.Schedule.{Schedule}
 use Rattle.clock.specs.StandsFor.{tasks_at}
 use Rattle.model.specs.Step.{nobody_ready}
 use Rattle.model.proofs.Reached.{reached_nobody}
-use Rattle.kernel.proofs.Booting.{none_ready, none_due, priority_at}
+use Rattle.kernel.proofs.Booting.{none_ready, none_due, none_waits, priority_at}
 use Rattle.kernel.proofs.kernel.Kernel.nobody_ready.Goals as goal
 
 pub returns-clause-stands : goal.returns-clause-stands
@@ -30,5 +30,7 @@ returns-clause-stands c =
         };
         steps = refl;
         stopped = refl;
+        nobody_waits = none_waits c.args.app.now.start c.args.app.now.tasks;
+        free = refl;
       };
     }
