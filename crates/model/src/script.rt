@@ -50,14 +50,14 @@ impl Op {
     pub const MOST_WAIT: u32 = u32::MAX - 1;
 
     /// Whether its numbers are in their ranges.
-    pub fn is_in_range(self) -> bool
-        ensures { result ≡ is_in_range self }
+    pub fn is_in_range(&self) -> bool
+        ensures { result ≡ is_in_range self.now }
     {
         match self {
-            Op::Work(ticks) => 1 <= ticks && ticks <= Self::MOST_WORK,
-            Op::DelayUntil(ticks) => 1 <= ticks,
-            Op::Repeat(turns) => 1 <= turns && turns <= Self::MOST_TURNS,
-            Op::Await(_, _, Some(ticks)) => ticks <= Self::MOST_WAIT,
+            Op::Work(ticks) => 1 <= *ticks && *ticks <= Self::MOST_WORK,
+            Op::DelayUntil(ticks) => 1 <= *ticks,
+            Op::Repeat(turns) => 1 <= *turns && *turns <= Self::MOST_TURNS,
+            Op::Await(_, _, Some(ticks)) => *ticks <= Self::MOST_WAIT,
             _ => true,
         }
     }

@@ -1,8 +1,17 @@
 -- How long the words of a line are at most.
 use Rattle.std.proofs.Common.{◌≤◌, length, lit≤}
 use Rattle.model.specs.declared.op.Op.{Op}
-use Rattle.model.specs.declared.op.Op.TheVariants.{Work, Delay, DelayUntil, Yield, Time, Mark, Expect, Repeat, End}
-use Rattle.model.specs.Application.{word_of}
+use Rattle.model.specs.declared.op.Op.TheVariants.{Work, Delay, DelayUntil, Yield, Time, Mark, Expect, Repeat, End, Await, Do, MessagesWaiting, SpacesAvailable}
+use Rattle.model.specs.declared.op.Access.{Access}
+use Rattle.model.specs.declared.op.Access.TheVariants.{Send, SendFront, Overwrite, Receive, Peek}
+use Rattle.model.specs.Application.{word_of, word_of_access}
+
+access_short : (a : Access) → length (word_of_access a) ≤ 11
+access_short (Send v) = lit≤ tt
+access_short (SendFront v) = lit≤ tt
+access_short (Overwrite v) = lit≤ tt
+access_short Receive = lit≤ tt
+access_short Peek = lit≤ tt
 
 -- The first word of an op has at most eleven letters.
 pub word_short : (op : Op) → length (word_of op) ≤ 11
@@ -15,3 +24,7 @@ word_short (Mark n) = lit≤ tt
 word_short (Expect a) = lit≤ tt
 word_short (Repeat n) = lit≤ tt
 word_short End = lit≤ tt
+word_short (Await o a ticks) = access_short a
+word_short (Do o a) = access_short a
+word_short (MessagesWaiting o) = lit≤ tt
+word_short (SpacesAvailable o) = lit≤ tt

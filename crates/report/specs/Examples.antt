@@ -11,7 +11,7 @@ use Rattle.model.specs.declared.event.End.TheVariants.{Pass, Check}
 
 -- an application of these tasks, from tick 0 and under no limits but the most
 abbrev pub app_of : List Definition → Application
-app_of tasks = record { start = 0; limits = record { ticks = 1000000; steps = 1000000 }; tasks = tasks }
+app_of tasks = record { start = 0; limits = record { ticks = 1000000; steps = 1000000 }; objects = []; tasks = tasks }
 
 -- a task of priority 1
 abbrev pub a_task : List ℕ → List Op → Definition

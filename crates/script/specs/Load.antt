@@ -49,5 +49,6 @@ abbrev pub app_named : Members → Application
 app_named document = record {
   start = optional_named 0 (get_member (codes "start") document);
   limits = limits_named (get_member (codes "limits") document);
+  objects = [];
   tasks = map with_ops (section_named (get_member (codes "task") document));
 }
