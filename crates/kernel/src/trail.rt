@@ -48,6 +48,7 @@ impl Trail {
         ensures before { self.new.before ≡ all_of self.old }
         ensures told { self.new.told ≡ [] }
         ensures room { OnOk result (128 ≤ self.new.room) }
+        ensures refused { OnErr result (self.new.room < 128) }
     {
         self.start = self.events.len();
         if self.events.reserve(128).is_err() {
