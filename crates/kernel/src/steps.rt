@@ -75,7 +75,10 @@ impl Kernel {
     fn is_still(&self) -> bool
         ensures { (s : State) → StandsFor self.now s → result ≡ are_all_ended s || is_stuck s }
     {
-        (self.sched.current().is_none() || !self.sched.has_ready()) && self.clock.is_quiet()
+        if self.sched.current().is_some() && self.sched.has_ready() {
+            return false;
+        }
+        self.clock.is_quiet()
     }
 
     /// The end of the run before its next step, under these limits: the first that holds of a failed `expect`, every task

@@ -48,6 +48,7 @@ impl Trail {
         ensures before { self.new.before ≡ all_of self.old }
         ensures told { self.new.told ≡ [] }
         ensures room { OnOk result (128 ≤ self.new.room) }
+        ensures refused { OnErr result (self.new.room < 128) }
     {
         self.start = self.events.len();
         if self.events.reserve(128).is_err() {
@@ -61,6 +62,7 @@ impl Trail {
     pub(crate) fn append(&mut self, events: &[Event]) -> Result<(), Memory>
         ensures before { self.new.before ≡ self.old.before }
         ensures told { OnOk result (self.new.told ≡ self.old.told ++ events.now) }
+        ensures refused { OnErr result (self.new.told ≡ self.old.told) }
         ensures memory { OnErr result (0 < length events.now) }
     {
         if self.events.extend_from_slice(events).is_err() {
