@@ -65,7 +65,7 @@ impl ReadyLists {
         ensures first { result ≡ first_of (ready_list_of self.now) }
     {
         let list = self.highest()?;
-        self.lists.first(list)
+        self.first_in(list)
     }
 
     /// The first task of a list.
