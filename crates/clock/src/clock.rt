@@ -8,7 +8,7 @@ ghost use Rattle.model.specs.Time as time;
 ghost use Rattle.clock.specs.Timeline.{is_asleep, Advances};
 ghost use Rattle.clock.specs.StandsFor.{StandsFor, at_next_tick};
 
-use crate::due::{first_due, take_due, Due};
+use crate::due::{Due, first_due, take_due};
 use lists::ListId;
 use model::TaskId;
 use std::marker::Model;

@@ -10,7 +10,7 @@ use Rattle.model.proofs.Settled.{same_eq}
 use Rattle.lists.specs.Lists.{Apart, Each, EachOnce, IsSound, entries_of, first_of, has_node, rotated, second_of, without}
 use Rattle.lists.proofs.Entries.{first_split, no_first}
 use Rattle.lists.proofs.Laws.{entries_of-set_other, entries_of-set_same, has_first, without-first, without-others}
-use Rattle.sched.specs.Schedule.{Schedule, add_to_ready_list, choose, is_beside, is_outranked, is_sharing, priority_in, slice, to_back, yield_now}
+use Rattle.sched.specs.Schedule.{Schedule, add_to_ready_list, choose, is_outranked, is_sharing, priority_in, slice, to_back, yield_now}
 use Rattle.sched.specs.ReadyLists.{AtHome, IsHighest, IsSched, ready_list_of, schedule_of}
 use Rattle.sched.proofs.Deeds.{push, with_ready}
 use Rattle.sched.proofs.ReadyList.{AtHome-push, AtHome-without, any_above, any_beside, any_in_ready_list, first_of_highest, home_at, ready_list_of-push, ready_list_of-without}
