@@ -1,8 +1,9 @@
 //! All digits of a number but the last, kept for the next number.
-ghost use Rattle.std.specs.Prelude.{◌≡◌, ◌<◌, ◌+◌, ◌*◌, ◌/◌, ◌^◌, true, false, decimal};
+ghost use Rattle.std.specs.Prelude.{◌≡◌, ◌<◌, ◌+◌, ◌*◌, ◌/◌, ◌^◌, true, false, decimal, slice_set};
 
 use byte_io::Numeral;
 use std::marker::Model;
+use std::simd::prelude::*;
 
 /// All digits of a number but the last one, at the front of 16 bytes; none of a number below 10.
 ///
@@ -26,6 +27,23 @@ impl Model for Tens {
     ghost view = { λ t. t.first };
 
     ghost invariant = { λ t. AreTens t.first t.len t.text };
+}
+
+// The places of 16 bytes.
+const PLACES: [u8; 16] = [0, 1, 2, 3, 4, 5, 6, 7, 8, 9, 10, 11, 12, 13, 14, 15];
+
+// The text with another byte at this place.
+//
+// It is made as a whole, so that it is also stored as a whole: a copy of 16 bytes, of which one was just written, has to wait
+// until that byte has left the processor's store buffer.
+fn replaced(text: &[u8; 16], at: u8, byte: u8) -> [u8; 16]
+    requires { at < 16 }
+    ensures { result ≡ slice_set text.now at byte }
+{
+    let is_there = u8x16::from_array(PLACES).simd_eq(u8x16::splat(at));
+    is_there
+        .select(u8x16::splat(byte), u8x16::from_array(*text))
+        .to_array()
 }
 
 impl Tens {
@@ -67,7 +85,8 @@ impl Tens {
         if digit >= b'9' {
             return false;
         }
-        self.text[self.len - 1] = digit + 1;
+        let text = replaced(&self.text, self.len as u8 - 1, digit + 1);
+        self.text = text;
         self.first += 10;
         true
     }
