@@ -29,6 +29,9 @@ impl Model for Tens {
     ghost invariant = { λ t. AreTens t.first t.len t.text };
 }
 
+// The digit that is carried.
+const NINE: u8 = b'9';
+
 // The places of 16 bytes.
 const PLACES: [u8; 16] = [0, 1, 2, 3, 4, 5, 6, 7, 8, 9, 10, 11, 12, 13, 14, 15];
 
@@ -82,7 +85,7 @@ impl Tens {
             return false;
         }
         let digit = self.text[self.len - 1];
-        if digit >= b'9' {
+        if digit >= NINE {
             return false;
         }
         let text = replaced(&self.text, self.len as u8 - 1, digit + 1);
