@@ -1,5 +1,5 @@
 -- The front of a line: all of what it tells but its number.
-use Rattle.std.specs.Prelude.{[], ◌≡◌, ℕ, ◌≤◌, ◌<◌, List, ◌++◌, take, decimal, codes, slice_index_or}
+use Rattle.std.specs.Prelude.{◌≡◌, ℕ, ◌≤◌, ◌<◌, List, ◌++◌, take, decimal, codes, slice_index_or, replicate}
 use Rattle.model.specs.Application.{Application, name_of}
 use Rattle.report.specs.Text.{word_at}
 use Rattle.report.specs.declared.label.Label.{Label}
@@ -18,23 +18,23 @@ mark_front app task = codes "mark " ++ name_of app task ++ codes " "
 abbrev pub run_front : Application → ℕ → List ℕ
 run_front app task = codes "run " ++ name_of app task ++ codes "\n"
 
--- The label has no text yet, or this one, of at most so many bytes.
-pub record IsLabel (most : ℕ) (label : Label most) (front : List ℕ) : Type 0 where
-  pub few : label.len ≤ most
+-- The label has no text yet, or this one.
+pub record IsLabel (label : Label) (front : List ℕ) : Type 0 where
+  pub few : label.len ≤ 48
   pub text : 0 < label.len → take label.len label.text ≡ front
 
 -- The label of a call has the front of the call that it names.
 abbrev pub IsCallLabel : Application → CallLabel → Type 0
-IsCallLabel app call = IsLabel 48 call.label (call_front app call.task call.op_index)
+IsCallLabel app call = IsLabel call.label (call_front app call.task call.op_index)
 
-abbrev pub blank : (most : ℕ) → Label most
-blank most = record { text = []; len = 0 }
+abbrev pub blank : Label
+blank = record { text = replicate 48 0; len = 0 }
 
 abbrev pub blank_call : CallLabel
-blank_call = record { task = 0; op_index = 0; label = blank 48 }
+blank_call = record { task = 0; op_index = 0; label = blank }
 
 -- Each label is right for what it stands for.
-pub record AreLabels (app : Application) (runs marks : List (Label 32)) (calls : List CallLabel) : Type 0 where
-  pub of_runs : (task : ℕ) → IsLabel 32 (slice_index_or runs task (blank 32)) (run_front app task)
-  pub of_marks : (task : ℕ) → IsLabel 32 (slice_index_or marks task (blank 32)) (mark_front app task)
+pub record AreLabels (app : Application) (runs marks : List Label) (calls : List CallLabel) : Type 0 where
+  pub of_runs : (task : ℕ) → IsLabel (slice_index_or runs task blank) (run_front app task)
+  pub of_marks : (task : ℕ) → IsLabel (slice_index_or marks task blank) (mark_front app task)
   pub of_calls : (place : ℕ) → IsCallLabel app (slice_index_or calls place blank_call)

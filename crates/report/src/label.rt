@@ -1,34 +1,33 @@
 //! The front of a line, kept.
-ghost use Rattle.std.specs.Prelude.{◌≡◌, ◌<◌, ◌≤◌, ◌+◌, drop, length};
+ghost use Rattle.std.specs.Prelude.{◌≡◌, ◌≤◌, ◌+◌, drop, length};
 ghost use Rattle.report.specs.Fronts.{IsLabel};
 
-/// The front of a line, of at most N bytes: none yet, or so many bytes at the front of these.
+/// The front of a line: none yet, or so many bytes at the front of these.
 #[derive(Clone, Copy)]
-pub(crate) struct Label<const N: usize> {
-    pub(crate) text: [u8; N],
+pub(crate) struct Label {
+    pub(crate) text: [u8; 48],
     pub(crate) len: u8,
 }
 
-impl<const N: usize> Label<N> {
+impl Label {
     /// No label yet.
-    pub(crate) fn none() -> Label<N>
+    pub(crate) fn none() -> Label
         ensures { result.len ≡ 0 }
     {
         Label {
-            text: [0; N],
+            text: [0; 48],
             len: 0,
         }
     }
 
-    /// A label of the bytes from `start` on, at most N.
-    pub(crate) fn of(bytes: &[u8], start: usize) -> Label<N>
+    /// A label of the bytes from `start` on, at most 48.
+    pub(crate) fn of(bytes: &[u8], start: usize) -> Label
         requires start { start ≤ length bytes.now }
-        requires few { length bytes.now ≤ start + N }
-        requires short { N < 256 }
-        ensures { IsLabel N result (drop start bytes.now) }
+        requires few { length bytes.now ≤ start + 48 }
+        ensures { IsLabel result (drop start bytes.now) }
     {
         let front = &bytes[start..];
-        let mut text = [0; N];
+        let mut text = [0; 48];
         text[..front.len()].copy_from_slice(front);
         Label {
             text,
@@ -42,7 +41,7 @@ impl<const N: usize> Label<N> {
 pub(crate) struct CallLabel {
     pub(crate) task: u8,
     pub(crate) op_index: u16,
-    pub(crate) label: Label<48>,
+    pub(crate) label: Label,
 }
 
 impl CallLabel {

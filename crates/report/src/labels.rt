@@ -19,8 +19,8 @@ const CALLS: usize = 256;
 #[derive(Drop)]
 pub(crate) struct Labels<'a> {
     app: &'a App,
-    runs: [Label<32>; 32],
-    marks: [Label<32>; 32],
+    runs: [Label; 32],
+    marks: [Label; 32],
     calls: [CallLabel; 256],
 }
 
@@ -60,10 +60,10 @@ impl<'a> Labels<'a> {
     /// Adds the whole of what the line of a task that runs says, with its end.
     #[inline]
     pub(crate) fn push_run(&mut self, page: &mut Page, task: TaskId)
-        requires { length page.old + 32 ≤ Page.SIZE }
+        requires { length page.old + 48 ≤ Page.SIZE }
         ensures app { self.new ≡ self.old }
         ensures text { page.new ≡ page.old ++ run_front self.old task }
-        ensures size { length page.new ≤ length page.old + 32 }
+        ensures size { length page.new ≤ length page.old + 48 }
     {
         let label = &self.runs[task.number as usize];
         if label.len == 0 {
@@ -76,10 +76,10 @@ impl<'a> Labels<'a> {
     /// Adds what the line of a mark says before its number.
     #[inline]
     pub(crate) fn push_mark(&mut self, page: &mut Page, task: TaskId)
-        requires { length page.old + 32 ≤ Page.SIZE }
+        requires { length page.old + 48 ≤ Page.SIZE }
         ensures app { self.new ≡ self.old }
         ensures text { page.new ≡ page.old ++ mark_front self.old task }
-        ensures size { length page.new ≤ length page.old + 32 }
+        ensures size { length page.new ≤ length page.old + 48 }
     {
         let label = &self.marks[task.number as usize];
         if label.len == 0 {
@@ -108,10 +108,10 @@ impl<'a> Labels<'a> {
     // Spells and keeps the front of a task that runs.
     #[inline(never)]
     fn spell_run(&mut self, page: &mut Page, task: TaskId)
-        requires { length page.old + 32 ≤ Page.SIZE }
+        requires { length page.old + 48 ≤ Page.SIZE }
         ensures app { self.new ≡ self.old }
         ensures text { page.new ≡ page.old ++ run_front self.old task }
-        ensures size { length page.new ≤ length page.old + 32 }
+        ensures size { length page.new ≤ length page.old + 48 }
     {
         let start = page.bytes().len();
         push_run_front(page, self.app, task);
@@ -121,10 +121,10 @@ impl<'a> Labels<'a> {
     // Spells and keeps the front of a task's marks.
     #[inline(never)]
     fn spell_mark(&mut self, page: &mut Page, task: TaskId)
-        requires { length page.old + 32 ≤ Page.SIZE }
+        requires { length page.old + 48 ≤ Page.SIZE }
         ensures app { self.new ≡ self.old }
         ensures text { page.new ≡ page.old ++ mark_front self.old task }
-        ensures size { length page.new ≤ length page.old + 32 }
+        ensures size { length page.new ≤ length page.old + 48 }
     {
         let start = page.bytes().len();
         push_mark_front(page, self.app, task);

@@ -62,6 +62,7 @@ impl Tens {
     }
 
     // Spells the digits of this number, which is not 0.
+    #[inline(never)]
     fn spell(&mut self, tens: u32)
         requires few { tens * 10 < 2 ^ 32 }
         requires some { 0 < tens }
@@ -99,15 +100,15 @@ impl Tens {
     fn renew(&mut self, number: u32)
         ensures { self.new ≡ 10 * (number / 10) }
     {
-        let tens = number / 10;
-        if 10 * tens as u64 == self.first + 10 && self.count_up() {
+        let above = (number as u64).wrapping_sub(self.first);
+        if above >= 10 && above < 20 && self.count_up() {
             return;
         }
-        if tens == 0 {
+        if number < 10 {
             self.len = 0;
             self.first = 0;
         } else {
-            self.spell(tens);
+            self.spell(number / 10);
         }
     }
 
@@ -116,8 +117,8 @@ impl Tens {
     fn set(&mut self, number: u32)
         ensures { self.new ≡ 10 * (number / 10) }
     {
-        let above = (number as u64).wrapping_sub(self.first);
-        if above >= 10 {
+        let last = (number as u64).wrapping_sub(self.first);
+        if last >= 10 {
             self.renew(number);
         }
     }

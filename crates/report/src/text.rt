@@ -49,9 +49,9 @@ pub(crate) fn push_call_front(page: &mut Page, app: &App, task: TaskId, op_index
 
 /// Adds what the line of a mark says before its number.
 pub(crate) fn push_mark_front(page: &mut Page, app: &App, task: TaskId)
-    requires { length page.old + 32 ≤ Page.SIZE }
+    requires { length page.old + 48 ≤ Page.SIZE }
     ensures text { page.new ≡ page.old ++ mark_front app.now task }
-    ensures size { length page.new ≤ length page.old + 32 }
+    ensures size { length page.new ≤ length page.old + 48 }
 {
     page.push_text(b"mark ");
     page.push_text(name(app, task));
@@ -60,9 +60,9 @@ pub(crate) fn push_mark_front(page: &mut Page, app: &App, task: TaskId)
 
 /// Adds all that the line of a task that runs says, with its end.
 pub(crate) fn push_run_front(page: &mut Page, app: &App, task: TaskId)
-    requires { length page.old + 32 ≤ Page.SIZE }
+    requires { length page.old + 48 ≤ Page.SIZE }
     ensures text { page.new ≡ page.old ++ run_front app.now task }
-    ensures size { length page.new ≤ length page.old + 32 }
+    ensures size { length page.new ≤ length page.old + 48 }
 {
     page.push_text(b"run ");
     page.push_text(name(app, task));
