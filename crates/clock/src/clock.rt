@@ -8,7 +8,7 @@ ghost use Rattle.model.specs.Time as time;
 ghost use Rattle.clock.specs.Timeline.{is_asleep, Advances};
 ghost use Rattle.clock.specs.StandsFor.{StandsFor, at_next_tick};
 
-use crate::due::{first_due, take_due, Due};
+use crate::due::{Due, first_due, take_due};
 use lists::ListId;
 use model::TaskId;
 use std::marker::Model;
@@ -161,6 +161,21 @@ impl Clock {
         ensures woken { (s : State) → StandsFor self.old s
             → StandsFor self.new (time.increment_tick s) }
     {
+        let mut due = Due::new();
+        self.advance_into(&mut due);
+        due
+    }
+
+    /// As `advance`, but writes the tasks over the list `due`, and moves none.
+    pub fn advance_into(&mut self, due: &mut Due)
+        requires { self.old.age < 2 ^ 62 }
+        ensures advances { Advances self.old self.new due.new.items }
+        ensures due { (s : State) → StandsFor self.old s
+            → due.new.items ≡ tasks_of (time.due (at_next_tick s)) }
+        ensures woken { (s : State) → StandsFor self.old s
+            → StandsFor self.new (time.increment_tick s) }
+    {
+        due.clear();
         if self.tick == u32::MAX {
             self.tick = 0;
             self.overflows += 1;
@@ -168,7 +183,7 @@ impl Clock {
         } else {
             self.tick += 1;
         }
-        take_due(&mut self.lists, self.current, self.tick)
+        take_due(&mut self.lists, self.current, self.tick, due);
     }
 
     /// As `advance` where nobody is due at the next tick, and answers whether that is so. Else nothing

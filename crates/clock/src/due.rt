@@ -1,5 +1,5 @@
 //! The sleepers whose wake time has come.
-ghost use Rattle.std.specs.Prelude.{◌≡◌, ◌≢◌, ℕ, ◌<◌, ◌≤◌, ◌++◌};
+ghost use Rattle.std.specs.Prelude.{◌≡◌, ◌≢◌, ℕ, ◌<◌, ◌≤◌, ◌++◌, []};
 ghost use Rattle.lists.specs.Lists.{entries_of, Each, IsSorted, IsSound};
 ghost use Rattle.clock.specs.Timeline.{all_until, first_at};
 
@@ -25,23 +25,22 @@ pub(crate) fn first_due(lists: &TaskLists<2>, list: ListId, tick: u32) -> Option
     }
 }
 
-/// Takes the entries of this value, which come first, out of a list.
-pub(crate) fn take_due(lists: &mut TaskLists<2>, list: ListId, tick: u32) -> Due
+/// Takes the entries of this value, which come first, out of a list, into an empty list of those that are due.
+pub(crate) fn take_due(lists: &mut TaskLists<2>, list: ListId, tick: u32, due: &mut Due)
     requires list { list.number < 2 }
     requires sound { IsSound 2 32 lists.old }
     requires sorted { IsSorted (entries_of lists.old list.number) }
     requires ahead { Each (λ e. tick ≤ e.1) (entries_of lists.old list.number) }
+    requires empty { due.old.items ≡ [] }
     // What is taken and what is left are the list as it was.
     ensures due { entries_of lists.old list.number
-        ≡ all_until tick result.items ++ entries_of lists.new list.number }
+        ≡ all_until tick due.new.items ++ entries_of lists.new list.number }
     ensures later { Each (λ e. tick < e.1) (entries_of lists.new list.number) }
     ensures others { (k : ℕ) → k ≢ list.number → entries_of lists.new k ≡ entries_of lists.old k }
     ensures sound { IsSound 2 32 lists.new }
 {
-    let mut due = ArrayVec::new();
     while let Some(task) = first_due(lists, list, tick) {
         lists.remove(task);
         due.push(task);
     }
-    due
 }

@@ -29,9 +29,12 @@ fn sleepers_wake_across_the_wrap(rt: HostRuntime) {
     sleep(&rt, &mut clock, TaskId { number: 2 }, 3);
     sleep(&rt, &mut clock, TaskId { number: 7 }, 2);
     clock.wake(TaskId { number: 7 });
+    assert!(rt; clock.age() < 1000);
+    assert!(rt; !clock.advance_if_none_due());
     advance(&rt, &mut clock, &[TaskId { number: 9 }]);
     assert_eq!(rt; clock.tick(), u32::MAX);
-    advance(&rt, &mut clock, &[]);
+    assert!(rt; clock.age() < 1000);
+    assert!(rt; clock.advance_if_none_due());
     assert_eq!(rt; clock.tick(), 0);
     advance(
         &rt,

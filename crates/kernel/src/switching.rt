@@ -11,6 +11,7 @@ ghost use Rattle.kernel.specs.Can.{CanTick, AreToWake};
 
 use crate::kernel::Kernel;
 use crate::log::Log;
+use clock::Due;
 use model::{TaskId, What};
 use sched::Sched;
 
@@ -108,7 +109,8 @@ impl Kernel {
         requires { CanTick self.old }
         ensures { Moves self.old self.new increment_tick }
     {
-        let due = self.clock.advance();
+        let mut due = Due::new();
+        self.clock.advance_into(&mut due);
         make_all_ready(&mut self.sched, due.as_slice());
     }
 

@@ -6,7 +6,7 @@ use Rattle.std.proofs.lemmas.Option.{same_Some}
 use Rattle.std.specs.Prelude.{◌==◌, nat_lt}
 use Rattle.std.specs.List.{position_or_len}
 use Rattle.std.proofs.lemmas.List.Sums.{position_or_len_is}
-use Rattle.lists.specs.Lists.{EachOnce, Apart, entries_of, without, has_node, place_of, value_of, IsSound}
+use Rattle.lists.specs.Lists.{EachOnce, Apart, entries_of, without, has_node, place_of, IsSound}
 use Rattle.lists.proofs.Entries.{none-some, has_or_not, apart_from_test, has_node-apart, without-apart}
 
 -- a list without a node
@@ -25,11 +25,6 @@ module _ {L N : ℕ} {ls : List (List (ℕ × ℕ))} (sound : IsSound L N ls) (n
   has_first =
       let eq : (n == n) ≡ true = eq-eqb n n refl in
       ap (has_node n) first ∙ rw eq refl
-
-  pub value_of-first : value_of n (entries_of ls l) ≡ v
-  value_of-first =
-      let eq : (n == n) ≡ true = eq-eqb n n refl in
-      ap (value_of n) first ∙ rw eq refl
 
   -- without its first node a list is its rest, and the others stay
   pub without-first : entries_of (map (without n) ls) l ≡ rest

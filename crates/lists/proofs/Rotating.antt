@@ -1,9 +1,7 @@
 -- The first node of a list goes last.
-use Rattle.std.proofs.Common.{◌≡◌, ℕ, ◌<◌, true, false, Option, Some, None, List, [], ◌∷◌, ◌++◌, get_or, length, set, sym, ◌∙◌, ap, subst, refl, append-nil, arith}
-use Rattle.std.specs.Prelude.{nat_lt}
-use Rattle.std.proofs.lemmas.Bool.{lt-ltb}
+use Rattle.std.proofs.Common.{◌≡◌, ℕ, ◌<◌, Option, Some, None, List, [], ◌∷◌, ◌++◌, get_or, length, set, sym, ◌∙◌, ap, subst, refl, append-nil}
 use Rattle.std.proofs.lemmas.List.{get_or-set_same, set-set, set-get_or}
-use Rattle.lists.specs.Lists.{Each, first_of, rotated}
+use Rattle.lists.specs.Lists.{Each, rotated, second_of}
 use Rattle.lists.specs.Links.{at_link, Linked, IsStored, Spells}
 use Rattle.lists.proofs.Entries.{first_split, no_first, none-some}
 use Rattle.lists.proofs.Links.{last_of, at_place}
@@ -20,7 +18,7 @@ no_last (x ∷ xs) e = absurd (some_last x.0 xs e)
 -- a list that stays as its first node goes last
 pub record Stays (ls : List (List (ℕ × ℕ))) (l : ℕ) : Type 0 where
   pub same : ls ≡ set ls l (rotated (get_or ls l []))
-  pub few : false ≡ nat_lt 1 (length (get_or ls l []))
+  pub none : None ≡ second_of (get_or ls l [])
 
 module _ {L N : ℕ} {next prev place : List (Option ℕ)} {values : List ℕ} {firsts lasts : List (Option ℕ)} {ls : List (List (ℕ × ℕ))} (h : Spells L N next prev place values firsts lasts ls) (l : ℕ) (hl : l < L) where
   abbrev forth : Option ℕ → Option ℕ
@@ -30,10 +28,10 @@ module _ {L N : ℕ} {next prev place : List (Option ℕ)} {values : List ℕ} {
   back = at_link prev (get_or lasts l None)
 
   -- a list of one node or none stays
-  stays : (xs : List (ℕ × ℕ)) → get_or ls l [] ≡ xs → rotated xs ≡ xs → false ≡ nat_lt 1 (length xs) → Stays ls l
-  stays xs is same few = record {
+  stays : (xs : List (ℕ × ℕ)) → get_or ls l [] ≡ xs → rotated xs ≡ xs → None ≡ second_of xs → Stays ls l
+  stays xs is same none = record {
     same = sym (ap (λ (ys : List (ℕ × ℕ)). set ls l (rotated ys)) is ∙ ap (set ls l) (same ∙ sym is) ∙ set-get_or ls l []);
-    few = few ∙ ap (λ (ys : List (ℕ × ℕ)). nat_lt 1 (length ys)) (sym is);
+    none = none ∙ ap second_of (sym is);
   }
 
   pub no_first_stays : get_or firsts l None ≡ None → Stays ls l
@@ -69,11 +67,8 @@ module _ {L N : ℕ} {next prev place : List (Option ℕ)} {values : List ℕ} {
         let alone : split.1 ≡ [] = no_first split.1 (sym none ∙ (at_place forth back (Some n) [] split.1 linked.2).0) in
         stays ((n, split.0) ∷ []) (split.2 ∙ ap (λ (xs : List (ℕ × ℕ)). (n, split.0) ∷ xs) alone) refl refl
 
-    pub several : (q : ℕ) → get_or next n None ≡ Some q → true ≡ nat_lt 1 (length (get_or ls l []))
-    several q second =
-        let more = first_split q split.1 (sym second ∙ (at_place forth back (Some n) [] split.1 linked.2).0) in
-        sym (ap (λ (xs : List (ℕ × ℕ)). nat_lt 1 (length xs)) (split.2 ∙ ap (λ (xs : List (ℕ × ℕ)). (n, split.0) ∷ xs) more.2)
-        ∙ lt-ltb 1 (length ((n, split.0) ∷ (q, more.0) ∷ more.1)) (omega arith))
+    pub second_is : get_or next n None ≡ second_of (get_or ls l [])
+    second_is = (at_place forth back (Some n) [] split.1 linked.2).0 ∙ sym (ap second_of split.2)
 
     pub rotate_spells : (q m : ℕ) → get_or next n None ≡ Some q → get_or lasts l None ≡ Some m
         → Spells L N (set (set next n None) m (Some n)) (set (set prev q None) n (Some m)) place values (set firsts l (Some q)) (set lasts l (Some n)) (set ls l (rotated (get_or ls l [])))

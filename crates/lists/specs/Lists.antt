@@ -15,6 +15,11 @@ abbrev pub first_of : List (ℕ × ℕ) → Option ℕ
 first_of [] = None
 first_of (e ∷ entries) = Some e.0
 
+-- the second entry's node
+abbrev pub second_of : List (ℕ × ℕ) → Option ℕ
+second_of [] = None
+second_of (e ∷ entries) = first_of entries
+
 -- the entries with the first one put last
 abbrev pub rotated : List (ℕ × ℕ) → List (ℕ × ℕ)
 rotated [] = []

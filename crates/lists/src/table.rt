@@ -1,8 +1,8 @@
 //! The table: its lists, and their links.
-ghost use Rattle.std.specs.Prelude.{◌≡◌, ℕ, ◌+◌, ◌<◌, ◌≤◌, ◌↔◌, List, [], ◌∷◌, ◌++◌, length, replicate, slice_set, slice_index_or, map, option_map, nat_lt, IsTrue, IsNone};
+ghost use Rattle.std.specs.Prelude.{◌≡◌, ℕ, ◌+◌, ◌<◌, ◌≤◌, ◌↔◌, List, [], ◌∷◌, ◌++◌, length, replicate, slice_set, slice_index_or, map, option_map, IsTrue, IsNone};
 ghost use Rattle.std.specs.Option.{ForSome};
 ghost use Rattle.lists.specs.Links.{lists_of, IsLinkedTable, SplitsBefore, at_link, put_link, put_end, upper};
-ghost use Rattle.lists.specs.Lists.{entries_of, first_of, has_node, insert_sorted, next_of, place_of, rotated, value_of, without, IsSound};
+ghost use Rattle.lists.specs.Lists.{entries_of, first_of, has_node, insert_sorted, next_of, place_of, rotated, second_of, value_of, without, IsSound};
 
 use crate::ids::{ListId, NodeId};
 use std::marker::Model;
@@ -178,13 +178,15 @@ impl<const L: usize, const N: usize> Table<L, N> {
         }
     }
 
-    /// Puts the first node of a list below `L` last, with the value that it has. Answers whether the list has more than
-    /// one node: a list that has none, or one, stays as it is.
-    pub fn rotate(&mut self, list: ListId) -> bool
+    /// Puts the first node of a list below `L` last, with the value that it has. Answers the second node, which is the
+    /// first from then on; `None` where there is no second, and the list stays as it is.
+    pub fn rotate(&mut self, list: ListId) -> Option<NodeId>
         requires { list.number < L }
         ensures rotated { self.new ≡ slice_set self.old list.number
             (rotated (entries_of self.old list.number)) }
-        ensures several { result ≡ nat_lt 1 (length (entries_of self.old list.number)) }
+        ensures second { option_map (λ node. node.number) result
+            ≡ second_of (entries_of self.old list.number) }
+        ensures known { ForSome (option_map (λ node. node.number) result) (λ node. node < N) }
         ensures sound { IsSound L N self.new }
     {
         let list = list.number as usize;
@@ -197,11 +199,11 @@ impl<const L: usize, const N: usize> Table<L, N> {
                     self.prev[first as usize] = Some(last);
                     self.next[last as usize] = Some(first);
                     self.lasts[list] = Some(first);
-                    return true;
+                    return Some(NodeId { number: second });
                 }
             }
         }
-        false
+        None
     }
 
     /// Puts a node below `N`, which is in no list (`place` tells), last into a list below `L`, with a value of 0 to

@@ -47,3 +47,26 @@ fn a_node_goes_last(rt: HostRuntime) {
     assert_eq!(rt; table.next(NodeId { number: 1 }), Some(node));
     assert_eq!(rt; table.place(node), Some(LIST));
 }
+
+#[test]
+fn the_first_goes_last(rt: HostRuntime) {
+    let mut table: Table<2, 8> = Table::new();
+    assert_eq!(rt; table.rotate(LIST), None);
+    put(&rt, &mut table, NodeId { number: 6 }, 10);
+    assert_eq!(rt; table.rotate(LIST), None);
+    assert_eq!(rt; table.first(LIST), Some(NodeId { number: 6 }));
+    put(&rt, &mut table, NodeId { number: 3 }, 20);
+    put(&rt, &mut table, NodeId { number: 5 }, 30);
+    assert_eq!(rt; table.rotate(LIST), Some(NodeId { number: 3 }));
+    assert_eq!(rt; table.first(LIST), Some(NodeId { number: 3 }));
+    assert_eq!(rt;
+        table.next(NodeId { number: 3 }),
+        Some(NodeId { number: 5 })
+    );
+    assert_eq!(rt;
+        table.next(NodeId { number: 5 }),
+        Some(NodeId { number: 6 })
+    );
+    assert_eq!(rt; table.next(NodeId { number: 6 }), None);
+    assert_eq!(rt; table.value(NodeId { number: 6 }), 10);
+}

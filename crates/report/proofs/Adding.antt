@@ -10,7 +10,7 @@ pub Sent_some : {A : Type 0} (f : A → List ℕ) (a b c : Option (List ℕ)) (t
     → Sent a b text (page ++ flat_map f rest) → Sent b c page mid → kept ≡ mid ++ flat_map f some → Sent a c text (kept ++ flat_map f others)
 Sent_some f a b c text page mid kept rest some others is sent more put =
     let parts : mid ++ flat_map f rest ≡ kept ++ flat_map f others =
-      rw (is, flat_map-append f some others, put) (sym (append_assoc mid (flat_map f some) (flat_map f others))) in
+    rw (is, flat_map-append f some others, put) (sym (append_assoc mid (flat_map f some) (flat_map f others))) in
     Sent_then a b c text (page ++ flat_map f rest) (kept ++ flat_map f others) sent
     (rw (← parts) (Sent_longer b c page mid (flat_map f rest) more))
 

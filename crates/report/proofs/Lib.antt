@@ -1,4 +1,5 @@
 pub mod Adding
 pub mod Fronts
+pub mod Lanes
 pub mod Numbers
 pub mod Short

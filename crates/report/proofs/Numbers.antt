@@ -14,12 +14,12 @@ pub decimal_of_tens : (number first len : ℕ) (text : List ℕ) → number < 2 
 decimal_of_tens number first len text fits is tens =
     elim (eq-zero-or-pos first) [
       | inl z ↦
-        let last : number - first ≡ number = omega (arith, z) in
-        rw (tens.none z, last, decimal_digit number (omega (arith, is, z))) refl
+          let last : number - first ≡ number = omega (arith, z) in
+          rw (tens.none z, last, decimal_digit number (omega (arith, is, z))) refl
       | inr p ↦
-        let last : number - first ≡ number % 10 = omega (arith, is) in
-        let ten : first / 10 ≡ number / 10 = omega (arith, is) in
-        rw (tens.some p, last, ten, decimal_step number (omega (arith, is, p)) (omega (arith, fits))) refl
+          let last : number - first ≡ number % 10 = omega (arith, is) in
+          let ten : first / 10 ≡ number / 10 = omega (arith, is) in
+          rw (tens.some p, last, ten, decimal_step number (omega (arith, is, p)) (omega (arith, fits))) refl
     ]
 
 -- the digits of a number and of the next one, which differ in the last digit where it is no 9
@@ -32,21 +32,21 @@ next_of : (number : ℕ) → number + 1 < 2 ^ 64 → Next number
 next_of number fits =
     elim (cases_lt number 10) [
       | inl small ↦
-        let last : number % 10 ≡ number = omega (arith, small) in
-        record {
-          front = [];
-          here = rw last (decimal_digit number small);
-          next = λ h. let more : number + 1 < 10 = omega (arith, h, last) in rw (last, decimal_digit (number + 1) more) (ap (λ d. d ∷ []) (omega arith));
-        }
+          let last : number % 10 ≡ number = omega (arith, small) in
+          record {
+            front = [];
+            here = rw last (decimal_digit number small);
+            next = λ h. let more : number + 1 < 10 = omega (arith, h, last) in rw (last, decimal_digit (number + 1) more) (ap (λ d. d ∷ []) (omega arith));
+          }
       | inr large ↦
-        record {
-          front = decimal (number / 10);
-          here = decimal_step number large (omega (arith, fits));
-          next = λ h.
-            let tens : (number + 1) / 10 ≡ number / 10 = omega (arith, h) in
-            let last : 48 + (number + 1) % 10 ≡ 48 + number % 10 + 1 = omega (arith, h) in
-            decimal_step (number + 1) (omega (arith, large)) fits ∙ rw (tens, last) refl;
-        }
+          record {
+            front = decimal (number / 10);
+            here = decimal_step number large (omega (arith, fits));
+            next = λ h.
+                let tens : (number + 1) / 10 ≡ number / 10 = omega (arith, h) in
+                let last : 48 + (number + 1) % 10 ≡ 48 + number % 10 + 1 = omega (arith, h) in
+                decimal_step (number + 1) (omega (arith, large)) fits ∙ rw (tens, last) refl;
+          }
     ]
 
 -- One digit is changed where nothing is carried.
@@ -55,7 +55,7 @@ pub next_ten : (tens len : ℕ) (text : List ℕ) → tens + 1 < 2 ^ 64 → 0 < 
 next_ten tens len text fits some within is low =
     let n = next_of tens fits in
     let whole : text ≡ n.front ++ (48 + tens % 10) ∷ drop len text =
-      sym (take-append-drop len text) ∙ ap (λ t. t ++ drop len text) (is ∙ n.here) ∙ append_assoc n.front ((48 + tens % 10) ∷ []) (drop len text) in
+    sym (take-append-drop len text) ∙ ap (λ t. t ++ drop len text) (is ∙ n.here) ∙ append_assoc n.front ((48 + tens % 10) ∷ []) (drop len text) in
     let size : len ≡ length n.front + 1 = omega (arith, within, length-take len text, ap length (is ∙ n.here), length-append n.front ((48 + tens % 10) ∷ [])) in
     let at : len - 1 ≡ length n.front = omega (arith, size) in
     let digit : get_or text (len - 1) 0 ≡ 48 + tens % 10 = rw (at, whole) (get_or-append_seam n.front (48 + tens % 10) (drop len text) 0) in
@@ -69,10 +69,10 @@ pub counted_up : (first len : ℕ) (text : List ℕ) → first + 10 < 2 ^ 32 →
 counted_up first len text fits some size low tens =
     let within : len ≤ length text = omega (arith, size, tens.few) in
     let more : 0 < first =
-      elim (eq-zero-or-pos first) [
-        | inl z ↦ absurd (omega (arith, length-take len text, ap length (tens.none z), some, within))
-        | inr p ↦ p
-      ] in
+    elim (eq-zero-or-pos first) [
+      | inl z ↦ absurd (omega (arith, length-take len text, ap length (tens.none z), some, within))
+      | inr p ↦ p
+    ] in
     let next : (first + 10) / 10 ≡ first / 10 + 1 = omega arith in
     record {
       none = λ z. absurd (omega (arith, z));

@@ -1,8 +1,9 @@
 //! All digits of a number but the last, kept for the next number.
-ghost use Rattle.std.specs.Prelude.{◌≡◌, ◌<◌, ◌+◌, ◌*◌, ◌/◌, ◌^◌, true, false, decimal};
+ghost use Rattle.std.specs.Prelude.{◌≡◌, ◌<◌, ◌+◌, ◌*◌, ◌/◌, ◌^◌, true, false, decimal, slice_set};
 
 use byte_io::Numeral;
 use std::marker::Model;
+use std::simd::prelude::*;
 
 /// All digits of a number but the last one, at the front of 16 bytes; none of a number below 10.
 ///
@@ -28,6 +29,26 @@ impl Model for Tens {
     ghost invariant = { λ t. AreTens t.first t.len t.text };
 }
 
+// The digit that is carried.
+const NINE: u8 = b'9';
+
+// The places of 16 bytes.
+const PLACES: [u8; 16] = [0, 1, 2, 3, 4, 5, 6, 7, 8, 9, 10, 11, 12, 13, 14, 15];
+
+// The text with another byte at this place.
+//
+// It is made as a whole, so that it is also stored as a whole: a copy of 16 bytes, of which one was just written, has to wait
+// until that byte has left the processor's store buffer.
+fn replaced(text: &[u8; 16], at: u8, byte: u8) -> [u8; 16]
+    requires { at < 16 }
+    ensures { result ≡ slice_set text.now at byte }
+{
+    let is_there = u8x16::from_array(PLACES).simd_eq(u8x16::splat(at));
+    is_there
+        .select(u8x16::splat(byte), u8x16::from_array(*text))
+        .to_array()
+}
+
 impl Tens {
     /// No digits, which numbers below 10 have.
     pub(crate) fn new() -> Tens
@@ -41,6 +62,7 @@ impl Tens {
     }
 
     // Spells the digits of this number, which is not 0.
+    #[inline(never)]
     fn spell(&mut self, tens: u32)
         requires few { tens * 10 < 2 ^ 32 }
         requires some { 0 < tens }
@@ -64,10 +86,11 @@ impl Tens {
             return false;
         }
         let digit = self.text[self.len - 1];
-        if digit >= b'9' {
+        if digit >= NINE {
             return false;
         }
-        self.text[self.len - 1] = digit + 1;
+        let text = replaced(&self.text, self.len as u8 - 1, digit + 1);
+        self.text = text;
         self.first += 10;
         true
     }
@@ -77,15 +100,15 @@ impl Tens {
     fn renew(&mut self, number: u32)
         ensures { self.new ≡ 10 * (number / 10) }
     {
-        let tens = number / 10;
-        if 10 * tens as u64 == self.first + 10 && self.count_up() {
+        let above = (number as u64).wrapping_sub(self.first);
+        if above >= 10 && above < 20 && self.count_up() {
             return;
         }
-        if tens == 0 {
+        if number < 10 {
             self.len = 0;
             self.first = 0;
         } else {
-            self.spell(tens);
+            self.spell(number / 10);
         }
     }
 
@@ -94,8 +117,8 @@ impl Tens {
     fn set(&mut self, number: u32)
         ensures { self.new ≡ 10 * (number / 10) }
     {
-        let above = (number as u64).wrapping_sub(self.first);
-        if above >= 10 {
+        let last = (number as u64).wrapping_sub(self.first);
+        if last >= 10 {
             self.renew(number);
         }
     }

@@ -1,16 +1,16 @@
 -- The first task of a list goes behind its equals.
-use Rattle.std.proofs.Common.{◌≡◌, ◌≢◌, ℕ, ◌<◌, ◌+◌, inl, inr, Bool, true, false, not, Option, Some, List, [], ◌∷◌, ◌++◌, get_or, set, length, map, sym, ◌∙◌, ap, ap₂, subst, arith, refl}
-use Rattle.std.specs.Prelude.{◌==◌, ◌||◌, nat_lt, if◌then◌else◌}
+use Rattle.std.proofs.Common.{◌≡◌, ◌≢◌, ℕ, ◌<◌, ◌+◌, inl, inr, Bool, true, false, not, Option, Some, None, List, [], ◌∷◌, ◌++◌, get_or, set, length, map, sym, ◌∙◌, ap, ap₂, subst, arith, refl}
+use Rattle.std.specs.Prelude.{◌==◌, ◌||◌, if◌then◌else◌}
 use Rattle.std.specs.List.{list_any}
 use Rattle.std.specs.Option.{is_some}
-use Rattle.std.proofs.lemmas.Bool.{cases_eq, le-ltb, lt-ltb, eq-eqb, ne_eqb}
+use Rattle.std.proofs.lemmas.Bool.{cases_eq, le-ltb, eq-eqb, ne_eqb}
 use Rattle.std.proofs.lemmas.List.{get_or_default, get_or-set_other, get_or-set_same, length-map, length-set, same_lists, set-get_or}
 use Rattle.model.specs.Switching.{is_same}
 use Rattle.model.proofs.Settled.{same_eq}
-use Rattle.lists.specs.Lists.{Apart, Each, EachOnce, IsSound, entries_of, first_of, has_node, rotated, without}
-use Rattle.lists.proofs.Entries.{first_split}
+use Rattle.lists.specs.Lists.{Apart, Each, EachOnce, IsSound, entries_of, first_of, has_node, rotated, second_of, without}
+use Rattle.lists.proofs.Entries.{first_split, no_first}
 use Rattle.lists.proofs.Laws.{entries_of-set_other, entries_of-set_same, has_first, without-first, without-others}
-use Rattle.sched.specs.Schedule.{Schedule, add_to_ready_list, choose, is_beside, is_outranked, is_sharing, priority_in, slice, to_back, yield_now}
+use Rattle.sched.specs.Schedule.{Schedule, add_to_ready_list, choose, is_outranked, is_sharing, priority_in, slice, to_back, yield_now}
 use Rattle.sched.specs.ReadyLists.{AtHome, IsHighest, IsSched, ready_list_of, schedule_of}
 use Rattle.sched.proofs.Deeds.{push, with_ready}
 use Rattle.sched.proofs.ReadyList.{AtHome-push, AtHome-without, any_above, any_beside, any_in_ready_list, first_of_highest, home_at, ready_list_of-push, ready_list_of-without}
@@ -19,11 +19,13 @@ some_behind : (xs : List (ℕ × ℕ)) (e : ℕ × ℕ) → xs ++ e ∷ [] ≢ [
 some_behind [] e same = cc
 some_behind (x ∷ xs) e same = cc
 
-either : (x y z : Schedule) (b c : Bool) → b ≡ c → (c ≡ true → x ≡ y) → (c ≡ false → x ≡ z) → x ≡ (if b then y else z)
-either x y z true true same f g = f refl
-either x y z true false same f g = absurd cc
-either x y z false true same f g = absurd cc
-either x y z false false same f g = g refl
+first_still : (n : ℕ) (xs : List (ℕ × ℕ)) (e : ℕ × ℕ) → Some n ≡ first_of xs → Some n ≡ first_of (xs ++ e ∷ [])
+first_still n [] e is = absurd cc
+first_still n (x ∷ xs) e is = is
+
+-- the slice, where a test says so
+abbrev sliced_if : Schedule → Bool → Schedule
+sliced_if s ended = if ended then yield_now s else s
 
 -- the lists after the first task of one went last
 abbrev pub turn : ℕ → List (List (ℕ × ℕ)) → List (List (ℕ × ℕ))
@@ -101,22 +103,22 @@ module _ {lists : List (List (ℕ × ℕ))} {priorities : List ℕ} (h : IsSched
     not_outranked : is_outranked (schedule_of lists (Some task) priorities) ≡ false
     not_outranked = any_above priorities lists p task h.at_home highest ∙ le-ltb (priority_in priorities task) p (let home = is.home in omega (arith, home))
 
-    others_there : (v : ℕ) (xs : List (ℕ × ℕ)) → Apart (Some task) xs → list_any (λ e. not (e.0 == task)) xs ≡ nat_lt 1 (length ((task, v) ∷ xs))
-    others_there v [] a = refl
-    others_there v (x ∷ xs) a =
+    others_there : (xs : List (ℕ × ℕ)) → Apart (Some task) xs → list_any (λ e. not (e.0 == task)) xs ≡ is_some (first_of xs)
+    others_there [] a = refl
+    others_there (x ∷ xs) a =
         let ne : (x.0 == task) ≡ false = ne_eqb x.0 task (λ e. a.0 (ap Some (sym e))) in
-        rw ne (sym (lt-ltb 1 (length ((task, v) ∷ x ∷ xs)) (omega arith)))
+        rw ne refl
 
-    sharing_if : is_sharing (schedule_of lists (Some task) priorities) ≡ nat_lt 1 (length (entries_of lists p))
+    sharing_if : is_sharing (schedule_of lists (Some task) priorities) ≡ is_some (second_of (entries_of lists p))
     sharing_if =
         let once : EachOnce ((task, split.0) ∷ split.1) = subst EachOnce split.2 (h.sound.distinct p) in
         let eq : (task == task) ≡ true = eq-eqb task task refl in
         any_beside priorities task 0 p lists h.at_home (let home = is.home in omega (arith, home))
         ∙ ap (list_any (λ e. not (e.0 == task))) split.2
-        ∙ rw eq (others_there split.0 split.1 once.0)
-        ∙ sym (ap (λ (xs : List (ℕ × ℕ)). nat_lt 1 (length xs)) split.2)
+        ∙ rw eq (others_there split.1 once.0)
+        ∙ sym (ap (λ (xs : List (ℕ × ℕ)). is_some (second_of xs)) split.2)
 
-    pub ended_if : (is_outranked (schedule_of lists (Some task) priorities) || is_sharing (schedule_of lists (Some task) priorities)) ≡ nat_lt 1 (length (entries_of lists p))
+    pub ended_if : (is_outranked (schedule_of lists (Some task) priorities) || is_sharing (schedule_of lists (Some task) priorities)) ≡ is_some (second_of (entries_of lists p))
     ended_if = ap₂ (λ (a b : Bool). a || b) not_outranked sharing_if
 
     first_after : first_of (ready_list_of (turn p lists)) ≡ first_of (entries_of (turn p lists) p)
@@ -126,17 +128,17 @@ module _ {lists : List (List (ℕ × ℕ))} {priorities : List ℕ} (h : IsSched
       λ q above. entries_of-set_other lists p q (rotated (entries_of lists p)) (omega (arith, above)) ∙ highest.2 q above,
     )
 
-    alone : (v : ℕ) (xs : List (ℕ × ℕ)) → nat_lt 1 (length ((task, v) ∷ xs)) ≡ false → xs ≡ []
-    alone v [] few = refl
-    alone v (x ∷ xs) few = absurd (let many = lt-ltb 1 (length ((task, v) ∷ x ∷ xs)) (omega arith) in cc)
+    pub schedule_sliced : (n : ℕ) → Some n ≡ second_of (entries_of lists p) → schedule_of (turn p lists) (Some n) priorities ≡ slice (schedule_of lists (Some task) priorities)
+    schedule_sliced n second =
+        let next : Some n ≡ first_of (entries_of (turn p lists) p) =
+        first_still n split.1 (task, split.0) (second ∙ ap second_of split.2)
+        ∙ sym (ap first_of (entries_of-set_same lists p (rotated (entries_of lists p)) below ∙ ap rotated split.2)) in
+        ap (λ (o : Option ℕ). schedule_of (turn p lists) o priorities) (next ∙ sym first_after)
+        ∙ ap choose (schedule_turned (Some task))
+        ∙ sym (ap (sliced_if (schedule_of lists (Some task) priorities)) (ended_if ∙ ap is_some (sym second)))
 
-    turn-alone : nat_lt 1 (length (entries_of lists p)) ≡ false → turn p lists ≡ lists
-    turn-alone few =
-        let none : split.1 ≡ [] = alone split.0 split.1 (sym (ap (λ (xs : List (ℕ × ℕ)). nat_lt 1 (length xs)) split.2) ∙ few) in
-        let one : entries_of lists p ≡ (task, split.0) ∷ [] = split.2 ∙ ap (λ (xs : List (ℕ × ℕ)). (task, split.0) ∷ xs) none in
-        ap (λ (xs : List (ℕ × ℕ)). set lists p (rotated xs)) one ∙ ap (set lists p) (sym one) ∙ set-get_or lists p []
-
-    pub schedule_sliced : schedule_of (turn p lists) (first_of (entries_of (turn p lists) p)) priorities ≡ slice (schedule_of lists (Some task) priorities)
-    schedule_sliced = either _ _ _ _ _ ended_if
-        (λ t. ap (λ (o : Option ℕ). schedule_of (turn p lists) o priorities) (sym first_after) ∙ ap choose (schedule_turned (Some task)))
-        (λ t. ap (λ (ls : List (List (ℕ × ℕ))). schedule_of ls (first_of (entries_of ls p)) priorities) (turn-alone t) ∙ ap (λ (o : Option ℕ). schedule_of lists o priorities) (sym is.first))
+    pub schedule_kept : None ≡ second_of (entries_of lists p) → schedule_of (turn p lists) (Some task) priorities ≡ slice (schedule_of lists (Some task) priorities)
+    schedule_kept none =
+        let one : entries_of lists p ≡ (task, split.0) ∷ [] = split.2 ∙ ap (λ (xs : List (ℕ × ℕ)). (task, split.0) ∷ xs) (no_first split.1 (none ∙ ap second_of split.2)) in
+        ap (λ (ls : List (List (ℕ × ℕ))). schedule_of ls (Some task) priorities) (ap (λ (xs : List (ℕ × ℕ)). set lists p (rotated xs)) one ∙ ap (set lists p) (sym one) ∙ set-get_or lists p [])
+        ∙ sym (ap (sliced_if (schedule_of lists (Some task) priorities)) (ended_if ∙ ap is_some (sym none)))

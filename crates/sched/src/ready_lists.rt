@@ -1,8 +1,8 @@
 //! The Ready tasks: a list for each priority.
-ghost use Rattle.std.specs.Prelude.{◌≡◌, ℕ, ◌<◌, ◌==◌, not, List, [], ◌∷◌, ◌++◌, length, map, nat_lt, option_map, replicate, slice_set, None};
+ghost use Rattle.std.specs.Prelude.{◌≡◌, ℕ, ◌<◌, ◌==◌, not, List, [], ◌∷◌, ◌++◌, map, option_map, replicate, slice_set, None};
 ghost use Rattle.std.specs.List.{list_any};
 ghost use Rattle.std.specs.Option.{is_some};
-ghost use Rattle.lists.specs.Lists.{entries_of, first_of, place_of, rotated, without, IsSound};
+ghost use Rattle.lists.specs.Lists.{entries_of, first_of, place_of, rotated, second_of, without, IsSound};
 ghost use Rattle.sched.specs.ReadyLists.{ready_list_of, IsHighest};
 
 use lists::ListId;
@@ -65,7 +65,7 @@ impl ReadyLists {
         ensures first { result ≡ first_of (ready_list_of self.now) }
     {
         let list = self.highest()?;
-        self.lists.first(list)
+        self.first_in(list)
     }
 
     /// The first task of a list.
@@ -108,12 +108,12 @@ impl ReadyLists {
         self.occupied |= 1 << list.number;
     }
 
-    /// Puts the first task of a list last. Answers whether the list has more than one.
-    pub(crate) fn rotate(&mut self, list: ListId) -> bool
+    /// Puts the first task of a list last. Answers the second, which is the first from then on, if there is one.
+    pub(crate) fn rotate(&mut self, list: ListId) -> Option<TaskId>
         requires { list.number < 32 }
         ensures rotated { self.new ≡ slice_set self.old list.number
             (rotated (entries_of self.old list.number)) }
-        ensures several { result ≡ nat_lt 1 (length (entries_of self.old list.number)) }
+        ensures second { result ≡ second_of (entries_of self.old list.number) }
         ensures sound { IsSound 32 32 self.new }
     {
         self.lists.rotate(list)

@@ -142,11 +142,13 @@ impl Sched {
         ensures stands { Does self.old self.new switching.slice }
     {
         if let (Some(task), Some(list)) = (self.current, self.ready.highest()) {
-            // Mostly the running task is the first of the highest list, whose next one then runs.
+            // Mostly the running task is the first of the highest list, whose second then runs.
             if self.list_of(task).number == list.number && self.ready.first_in(list) == Some(task) {
-                let ended = self.ready.rotate(list);
-                self.current = self.ready.first_in(list);
-                return ended;
+                if let Some(next) = self.ready.rotate(list) {
+                    self.current = Some(next);
+                    return true;
+                }
+                return false;
             }
         }
         let ended = self.is_outranked() || self.is_sharing();

@@ -1,7 +1,7 @@
 //! Lists of tasks, by their typed numbers.
-ghost use Rattle.std.specs.Prelude.{◌≡◌, ℕ, ◌<◌, ◌≤◌, ◌↔◌, List, [], ◌∷◌, ◌++◌, replicate, slice_set, map, option_map, length, nat_lt, IsTrue, IsNone};
+ghost use Rattle.std.specs.Prelude.{◌≡◌, ℕ, ◌<◌, ◌≤◌, ◌↔◌, List, [], ◌∷◌, ◌++◌, replicate, slice_set, map, option_map, IsTrue, IsNone};
 ghost use Rattle.std.specs.Option.{ForSome, is_some};
-ghost use Rattle.lists.specs.Lists.{entries_of, first_of, has_node, insert_sorted, next_of, place_of, rotated, value_of, without, IsSound};
+ghost use Rattle.lists.specs.Lists.{entries_of, first_of, has_node, insert_sorted, next_of, place_of, rotated, second_of, value_of, without, IsSound};
 
 use lists::{ListId, NodeId, Table};
 use model::TaskId;
@@ -148,17 +148,17 @@ impl<const L: usize> TaskLists<L> {
         self.table.insert_sorted(list, node_of(task), value);
     }
 
-    /// Puts the first task of a list last, with the value that it has. Answers whether the list has more than one task:
-    /// a list that has none, or one, stays as it is.
+    /// Puts the first task of a list last, with the value that it has. Answers the second task, which is the first from
+    /// then on; `None` where there is no second, and the list stays as it is.
     #[inline]
-    pub fn rotate(&mut self, list: ListId) -> bool
+    pub fn rotate(&mut self, list: ListId) -> Option<TaskId>
         requires { list.number < L }
         ensures rotated { self.new ≡ slice_set self.old list.number
             (rotated (entries_of self.old list.number)) }
-        ensures several { result ≡ nat_lt 1 (length (entries_of self.old list.number)) }
+        ensures second { result ≡ second_of (entries_of self.old list.number) }
         ensures sound { IsSound L 32 self.new }
     {
-        self.table.rotate(list)
+        task_of(self.table.rotate(list))
     }
 
     /// Takes a task out of its list. One that is in no list stays so. The other entries keep their order.

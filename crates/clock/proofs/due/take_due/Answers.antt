@@ -1,4 +1,4 @@
-use Rattle.clock.proofs.Taking.{head_of, takes_one, shorter, none_left}
+use Rattle.clock.proofs.Taking.{head_of, takes_one, shorter}
 use Rattle.clock.proofs.due.take_due.Goals as goal
 
 pub loop-task-smaller : goal.loop-task-smaller

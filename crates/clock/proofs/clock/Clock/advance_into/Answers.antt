@@ -2,8 +2,8 @@ use Rattle.std.proofs.Common.{◌+◌, ◌*◌, ◌^◌, sym, subst, arith}
 use Rattle.clock.specs.declared.clock.Clock.TheInside.{Inside}
 use Rattle.clock.proofs.Advancing.{Turned, turned_over, ticked, clock_after, advances}
 use Rattle.clock.proofs.Standing.{due_next, stands_advanced}
-use Rattle.clock.proofs.clock.Clock.advance.Goals.{then-self, else-self}
-use Rattle.clock.proofs.clock.Clock.advance.Goals as goal
+use Rattle.clock.proofs.clock.Clock.advance_into.Goals.{then-self, else-self}
+use Rattle.clock.proofs.clock.Clock.advance_into.Goals as goal
 
 pub invariant_of-self : goal.invariant_of-self
 invariant_of-self c =
