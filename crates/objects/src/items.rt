@@ -1,0 +1,171 @@
+//! The items of the queues: a pool, and a ring in it for each queue.
+ghost use Rattle.std.specs.Prelude.{◌≡◌, ℕ, ◌+◌, ◌-◌, ◌<◌, ◌≤◌, List, [], ◌∷◌, ◌++◌, All, length, drop, slice_index_or, slice_set, slice_get};
+ghost use Rattle.model.specs.State.{no_object};
+ghost use Rattle.objects.specs.Items.{holding, object_in, IsSound};
+ghost use Rattle.objects.specs.Rings.{wrap};
+
+use std::marker::Model;
+
+/// The items of 32 queues, in one pool.
+#[derive(Drop)]
+pub(crate) struct Items {
+    pool: [u32; 8192],
+    bases: [u16; 32],
+    lengths: [u16; 32],
+    heads: [u16; 32],
+    counts: [u16; 32],
+}
+
+// Clauses see the objects of the definitions.
+impl Model for Items {
+    ghost use Rattle.std.specs.Prelude.{List};
+    ghost use Rattle.model.specs.State.{Object};
+    ghost use Rattle.objects.specs.Rings.{objects_of, IsItems};
+
+    ghost Value = { List Object };
+
+    ghost view = { λ s. objects_of (record { pool = s.pool; bases = s.bases; lengths = s.lengths; heads = s.heads; counts = s.counts }) };
+
+    ghost invariant = { λ s. IsItems (record { pool = s.pool; bases = s.bases; lengths = s.lengths; heads = s.heads; counts = s.counts }) };
+}
+
+/// A place in a region of a size, counted on around it.
+fn wrapped(size: u16, at: u16) -> u16
+    requires { at < size + size }
+    ensures wrapped { result ≡ wrap size at }
+{
+    if at < size { at } else { at - size }
+}
+
+impl Items {
+    /// Empty queues of these lengths, each 256 at most. There are 32 lengths at most, and the queues past them have
+    /// length 0.
+    pub(crate) fn new(lengths: &[u16]) -> Self
+        requires few { length lengths.now ≤ 32 }
+        requires small { All (λ length. length ≤ 256) lengths.now }
+        ensures empty { (queue : ℕ) → queue < 32
+            → object_in result queue ≡ record no_object { size = slice_index_or lengths.now queue 0 } }
+        ensures sound { IsSound result }
+    {
+        let mut sizes = [0; 32];
+        sizes[..lengths.len()].copy_from_slice(lengths);
+        let mut bases = [0; 32];
+        let mut used = 0;
+        for queue in 0..32 {
+            bases[queue] = used;
+            used += sizes[queue];
+        }
+        Items {
+            pool: [0; 8192],
+            bases,
+            lengths: sizes,
+            heads: [0; 32],
+            counts: [0; 32],
+        }
+    }
+
+    /// The number of items in a queue.
+    pub(crate) fn len(&self, queue: usize) -> usize
+        requires { queue < 32 }
+        ensures len { result ≡ length (object_in self.now queue).items }
+        ensures sound { IsSound self.now }
+    {
+        self.counts[queue] as usize
+    }
+
+    /// The number of items that a queue still has room for.
+    pub(crate) fn room(&self, queue: usize) -> usize
+        requires { queue < 32 }
+        ensures room { result + length (object_in self.now queue).items ≡ (object_in self.now queue).size }
+        ensures sound { IsSound self.now }
+    {
+        (self.lengths[queue] - self.counts[queue]) as usize
+    }
+
+    /// The item that leaves a queue first; `None` where it is empty.
+    pub(crate) fn first(&self, queue: usize) -> Option<u32>
+        requires { queue < 32 }
+        ensures first { result ≡ slice_get (object_in self.now queue).items 0 }
+        ensures sound { IsSound self.now }
+    {
+        if self.counts[queue] == 0 {
+            None
+        } else {
+            Some(self.pool[self.bases[queue] as usize + self.heads[queue] as usize])
+        }
+    }
+
+    /// Puts an item behind those of a queue that has room (`room` tells).
+    pub(crate) fn push_back(&mut self, queue: usize, item: u32)
+        requires known { queue < 32 }
+        requires room { length (object_in self.old queue).items < (object_in self.old queue).size }
+        ensures items { self.new ≡ slice_set self.old queue
+            (holding (object_in self.old queue) ((object_in self.old queue).items ++ item ∷ [])) }
+        ensures sound { IsSound self.new }
+    {
+        let at = wrapped(
+            self.lengths[queue],
+            self.heads[queue] + self.counts[queue],
+        );
+        self.pool[self.bases[queue] as usize + at as usize] = item;
+        self.counts[queue] += 1;
+    }
+
+    /// Puts an item before those of a queue that has room (`room` tells).
+    pub(crate) fn push_front(&mut self, queue: usize, item: u32)
+        requires known { queue < 32 }
+        requires room { length (object_in self.old queue).items < (object_in self.old queue).size }
+        ensures items { self.new ≡ slice_set self.old queue
+            (holding (object_in self.old queue) (item ∷ (object_in self.old queue).items)) }
+        ensures sound { IsSound self.new }
+    {
+        let size = self.lengths[queue];
+        let head = wrapped(size, self.heads[queue] + size - 1);
+        self.pool[self.bases[queue] as usize + head as usize] = item;
+        self.heads[queue] = head;
+        self.counts[queue] += 1;
+    }
+
+    /// Takes the first item out of a queue; `None` where it is empty.
+    pub(crate) fn pop_front(&mut self, queue: usize) -> Option<u32>
+        requires { queue < 32 }
+        ensures first { result ≡ slice_get (object_in self.old queue).items 0 }
+        ensures items { self.new ≡ slice_set self.old queue
+            (holding (object_in self.old queue) (drop 1 (object_in self.old queue).items)) }
+        ensures sound { IsSound self.new }
+    {
+        if self.counts[queue] == 0 {
+            return None;
+        }
+        let head = self.heads[queue];
+        let item = self.pool[self.bases[queue] as usize + head as usize];
+        self.heads[queue] = wrapped(self.lengths[queue], head + 1);
+        self.counts[queue] -= 1;
+        Some(item)
+    }
+
+    /// Makes an item the only one of a queue that can hold one.
+    pub(crate) fn replace(&mut self, queue: usize, item: u32)
+        requires known { queue < 32 }
+        requires long { 0 < (object_in self.old queue).size }
+        ensures items { self.new ≡ slice_set self.old queue
+            (holding (object_in self.old queue) (item ∷ [])) }
+        ensures sound { IsSound self.new }
+    {
+        self.pool[self.bases[queue] as usize + self.heads[queue] as usize] = item;
+        self.counts[queue] = 1;
+    }
+
+    /// Makes the queues those of another storage. What lies in the pool behind the last region is not copied.
+    pub(crate) fn set_from(&mut self, other: &Items)
+        ensures same { self.new ≡ other.now }
+        ensures sound { IsSound self.new }
+    {
+        let used = other.bases[31] as usize + other.lengths[31] as usize;
+        self.pool[..used].copy_from_slice(&other.pool[..used]);
+        self.bases = other.bases;
+        self.lengths = other.lengths;
+        self.heads = other.heads;
+        self.counts = other.counts;
+    }
+}
