@@ -1,6 +1,8 @@
 //! Small applications, each from a seed.
-ghost use Rattle.std.specs.Prelude.{◌<◌, ◌≤◌, IfSome, length};
-ghost use Rattle.model.specs.Scripts.{InRange, IsScript, IsDefinition};
+ghost use Rattle.std.specs.Prelude.{◌<◌, ◌≤◌, ◌≡◌, true, IfSome, length};
+ghost use Rattle.model.specs.Application.{Application};
+ghost use Rattle.model.specs.Scripts.{InRange, IsScript, IsDefinition, knows};
+ghost use Rattle.checks.specs.Known.{AreKnown};
 
 use model::{App, Limits, Op, Script, ScriptBuilder, TaskDefinition};
 use std::alloc::Global;
@@ -25,7 +27,8 @@ impl Dice {
     }
 
     fn op(&mut self) -> Op
-        ensures { InRange result }
+        ensures range { InRange result }
+        ensures known { (app : Application) → knows app result ≡ true }
     {
         match self.roll(26) {
             0..=4 => Op::Work(1 + self.roll(3)),
@@ -43,7 +46,8 @@ impl Dice {
 
     /// Up to eight ops. One that may not stand where it would is left out, and loops that are open are closed.
     fn script(&mut self, alloc: Global) -> Option<Script>
-        ensures { IfSome result (λ script. IsScript script) }
+        ensures script { IfSome result (λ script. IsScript script) }
+        ensures known { IfSome result (λ script. AreKnown script) }
     {
         let mut script = ScriptBuilder::new(alloc);
         let length = self.roll(9);
@@ -56,7 +60,8 @@ impl Dice {
 
     fn task(&mut self, alloc: Global, name: &str) -> Option<TaskDefinition>
         requires { length name.now ≤ 16 }
-        ensures { IfSome result (λ task. IsDefinition task) }
+        ensures task { IfSome result (λ task. IsDefinition task) }
+        ensures known { IfSome result (λ task. AreKnown task.script) }
     {
         let priority = self.roll(3) as u8;
         let script = self.script(alloc)?;
@@ -79,7 +84,9 @@ impl Dice {
 
 /// Closes the loops that are open.
 fn close(script: &mut ScriptBuilder)
-    requires { length script.old ≤ 8 }
+    requires few { length script.old ≤ 8 }
+    requires known { AreKnown script.old }
+    ensures { AreKnown script.new }
 {
     for _ in 0..4_u8 {
         let _ = script.push(Op::End);

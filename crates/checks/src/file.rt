@@ -13,6 +13,10 @@ fn push_op(file: &mut String, alloc: Global, op: Op) -> Result<(), AllocError> {
         Op::Expect(Some(number)) => format!(in alloc; "{word} {number}")?,
         Op::Expect(None) => format!(in alloc; "{word} none")?,
         Op::Yield | Op::Time | Op::End => String::from_str(alloc, word)?,
+        // no application has objects yet
+        Op::Await(..) | Op::Do(..) | Op::MessagesWaiting(_) | Op::SpacesAvailable(_) => {
+            String::from_str(alloc, word)?
+        }
     };
     let quoted = format!(in alloc; "'{text}', ")?;
     file.push_str(quoted.as_str())

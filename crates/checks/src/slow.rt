@@ -351,6 +351,8 @@ impl SlowKernel {
             Op::Expect(wanted) => self.expect(app, id, wanted),
             Op::Repeat(turns) => self.open_loop(app, id, turns),
             Op::End => self.close_turn(app, id),
+            // no application has objects yet
+            Op::Await(..) | Op::Do(..) | Op::MessagesWaiting(_) | Op::SpacesAvailable(_) => {}
         }
     }
 

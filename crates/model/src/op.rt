@@ -72,10 +72,10 @@ impl Op {
     ghost use Rattle.model.specs.Application.{word_of};
 
     /// The first word of the op's text.
-    pub fn word(self) -> &'static str
-        ensures { result.now ≡ word_of self }
+    pub fn word(&self) -> &'static str
+        ensures { result.now ≡ word_of self.now }
     {
-        match self {
+        match *self {
             Op::Work(_) => "work",
             Op::Delay(_) => "delay",
             Op::DelayUntil(_) => "delay_until",

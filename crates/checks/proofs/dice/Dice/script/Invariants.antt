@@ -1,5 +1,6 @@
 use Rattle.std.proofs.Common.{◌≤◌, length}
+use Rattle.checks.specs.Known.{AreKnown}
 use Rattle.checks.proofs.dice.Dice.script.Given as goal
 
 abbrev pub invariant-loop : goal.invariant-loop
-invariant-loop l = length l.script ≤ l.counter
+invariant-loop l = (length l.script ≤ l.counter) × AreKnown l.script
