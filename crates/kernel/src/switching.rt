@@ -115,6 +115,7 @@ impl Kernel {
     }
 
     /// The tick interrupt: one tick, and then a switch if one is due.
+    // Most steps are ticks, and a call would cost a tenth of one.
     #[inline(always)]
     pub(crate) fn tick_interrupt<L: Log>(&mut self, log: &mut L)
         requires room { 0 < (L.logged log.old).room }
