@@ -166,7 +166,7 @@ impl Clock {
         due
     }
 
-    /// As `advance`, but writes the tasks over the list `due`, and moves none.
+    /// As `advance`, but writes the tasks into the list `due`, in place of what it has.
     pub fn advance_into(&mut self, due: &mut Due)
         requires { self.old.age < 2 ^ 62 }
         ensures advances { Advances self.old self.new due.new.items }
@@ -186,8 +186,8 @@ impl Clock {
         take_due(&mut self.lists, self.current, self.tick, due);
     }
 
-    /// As `advance` where nobody is due at the next tick, and answers whether that is so. Else nothing
-    /// changes. This is quicker, as it makes no list.
+    /// Lets one tick pass if nobody's sleep ends with it, and answers whether that is so; else nothing
+    /// changes. It makes no list. Before the call the age is below 2^62 ticks.
     pub fn advance_if_none_due(&mut self) -> bool
         requires { self.old.age < 2 ^ 62 }
         ensures none { IsTrue result

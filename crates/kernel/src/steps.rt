@@ -72,7 +72,7 @@ impl Kernel {
         self.step_onto(app, meter, log);
     }
 
-    /// Whether nobody sleeps, where nobody is Ready or idle runs: whether every task is Ended, or stuck.
+    /// Whether every task is Ended, or they are stuck: nobody sleeps, and nobody is Ready or idle runs.
     fn is_still(&self) -> bool
         ensures { (s : State) → StandsFor self.now s → result ≡ are_all_ended s || is_stuck s }
     {
@@ -107,8 +107,8 @@ impl Kernel {
     }
 }
 
-/// One step of the run, where the trail has no room for the events of any step: it takes memory only for those that it
-/// tells.
+/// One step of the run, where the trail has less room than a step may need: memory is taken only for the events that it
+/// tells. At `Err(Memory)`, answered only where that growth was refused, it is done all the same.
 #[cold]
 #[inline(never)]
 fn step_in_little_room(

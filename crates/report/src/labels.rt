@@ -21,7 +21,7 @@ pub(crate) struct Labels<'a> {
     app: &'a App,
     runs: [Label; 32],
     marks: [Label; 32],
-    calls: [CallLabel; 256],
+    calls: [CallLabel; CALLS],
 }
 
 // Clauses see the application.
@@ -39,7 +39,7 @@ impl<'a> Model for Labels<'a> {
 // The place of a call's label.
 #[inline]
 fn place_of(task: TaskId, op_index: u16) -> usize
-    ensures { result < 256 }
+    ensures { result < CALLS }
 {
     (task.number as usize * 8 + op_index as usize) % CALLS
 }
@@ -53,7 +53,7 @@ impl<'a> Labels<'a> {
             app,
             runs: [Label::none(); 32],
             marks: [Label::none(); 32],
-            calls: [CallLabel::none(); 256],
+            calls: [CallLabel::none(); CALLS],
         }
     }
 

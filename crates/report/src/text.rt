@@ -7,8 +7,9 @@ ghost use Rattle.report.specs.Fronts.{call_front, mark_front, run_front};
 use byte_io::Page;
 use model::{App, End, Run, TaskId};
 
-// The bytes that a line has at most. The longest is that of a call: two numbers of 10 digits, two spaces, at most 64 bytes of
-// what happened, and a line feed. A head has its verdict of at most 64 bytes, two numbers, and 26 bytes of words.
+// The room that a line needs at most. The longest is that of a call: two numbers of 10 digits, two spaces, at most 64 bytes of
+// what happened, and a line feed. Texts that are copied whole end at most 88 bytes after the line's beginning. A head has its
+// verdict of at most 64 bytes, two numbers, and 26 bytes of words.
 pub(crate) const MAX_LINE: usize = 128;
 
 // The name of a task.

@@ -3,7 +3,7 @@ use Rattle.std.proofs.Common.{◌≡◌, ◌≢◌, ℕ, zero, suc, ◌-◌, ◌
 use Rattle.std.specs.Int.{bit_at, bit_not, leading_zeros, w32}
 use Rattle.std.proofs.Math.Nat.{div-eq_of_lt-le}
 use Rattle.std.proofs.lemmas.Bool.{cases_eq, cases_lt}
-use Rattle.std.proofs.lemmas.Nat.{leading_top}
+use Rattle.std.proofs.lemmas.Nat.{leading_top, le-div}
 use Rattle.std.proofs.lemmas.Nat.Bits.{bit_at-zero, bit_at_above, bit_at_clear_other, bit_at_clear_same, bit_at_set_other, bit_at_set_same}
 use Rattle.std.proofs.lemmas.List.{get_or_past}
 use Rattle.std.proofs.lemmas.Option.{same_Some}
@@ -13,7 +13,7 @@ use Rattle.lists.proofs.Laws.{entries_of-set_other, entries_of-set_same, entries
 use Rattle.sched.specs.ReadyLists.{AreReadyLists, IsHighest, bit_of}
 
 -- the place of the highest bit
-highest_bit : (n : ℕ) → 0 < n → n < 2 ^ 32 → (31 - leading_zeros w32 n < 32) × (bit_at n (31 - leading_zeros w32 n) ≡ 1) × ((i : ℕ) → 31 - leading_zeros w32 n < i → bit_at n i ≡ 0)
+highest_bit : (n : ℕ) → 0 < n → n < 2 ^ 32 → (31 - leading_zeros w32 n < 32) × (n / 2 ^ (31 - leading_zeros w32 n) ≡ 1) × ((i : ℕ) → 31 - leading_zeros w32 n < i → bit_at n i ≡ 0)
 highest_bit n some fits =
     let top = leading_top 32 n some fits in
     let j = top.0 in
@@ -21,7 +21,7 @@ highest_bit n some fits =
     let twice : 2 ^ suc j ≡ 2 * 2 ^ j = omega arith in
     let one : n / 2 ^ j ≡ 1 = div-eq_of_lt-le (2 ^ j) (omega (arith, top.2)) (omega (arith, top.3, twice)) in (
       omega arith,
-      ap (bit_at n) place ∙ ap (λ (q : ℕ). q % 2) one,
+      ap (λ (i : ℕ). n / 2 ^ i) place ∙ one,
       λ i above. bit_at_above n (suc j) i top.3 (omega (arith, place, above)),
     )
 
@@ -44,12 +44,52 @@ highest_is {lists} {occupied} h some fits =
     let top = highest_bit occupied (omega (arith, some)) fits in
     let p = 31 - leading_zeros w32 occupied in (
       top.0,
-      λ e. no_one (bit_at occupied p) (bit_of (entries_of lists p)) top.1 (ap bit_of e) (h.bits p top.0),
+      λ e. no_one (bit_at occupied p) (bit_of (entries_of lists p)) (ap (λ (q : ℕ). q % 2) top.1) (ap bit_of e) (h.bits p top.0),
       λ q above. elim (cases_lt q 32) [
         | inl below ↦ bit_of-empty (entries_of lists q) (sym (h.bits q below) ∙ top.2 q above)
         | inr past ↦ past_empty h q past
       ],
     )
+
+-- a list is the highest where nothing stands above its bit
+only_bit : (n p : ℕ) → n / 2 ^ p ≡ 1 → n < 2 ^ suc p
+only_bit n p one =
+    let twice : 2 ^ suc p ≡ 2 * 2 ^ p = omega arith in
+    elim (cases_lt n (2 * 2 ^ p)) [
+      | inl less ↦ omega (arith, less, twice)
+      | inr more ↦ absurd (let two : 2 ≤ n / 2 ^ p = le-div 2 n (2 ^ p) (omega arith) more in omega (arith, two, one))
+    ]
+
+pub highest_by_bit : {lists : List (List (ℕ × ℕ))} {occupied : ℕ} → AreReadyLists lists occupied → (p : ℕ) → p < 32 → occupied / 2 ^ p ≡ 1 → IsHighest lists (Some p)
+highest_by_bit {lists} {occupied} h p known one = (
+  known,
+  λ e. no_one (bit_at occupied p) (bit_of (entries_of lists p)) (ap (λ (q : ℕ). q % 2) one) (ap bit_of e) (h.bits p known),
+  λ q above. elim (cases_lt q 32) [
+    | inl below ↦ bit_of-empty (entries_of lists q) (sym (h.bits q below) ∙ bit_at_above occupied (suc p) q (only_bit occupied p one) (omega (arith, above)))
+    | inr past ↦ past_empty h q past
+  ],
+)
+
+bit_of-some : (xs : List (ℕ × ℕ)) → xs ≢ [] → bit_of xs ≡ 1
+bit_of-some [] some = absurd (some refl)
+bit_of-some (x ∷ xs) some = refl
+
+pub bit_of_highest : {lists : List (List (ℕ × ℕ))} {occupied : ℕ} → AreReadyLists lists occupied → occupied < 2 ^ 32 → (p : ℕ) → IsHighest lists (Some p) → occupied / 2 ^ p ≡ 1
+bit_of_highest {lists} {occupied} h fits p highest =
+    let here : bit_at occupied p ≡ 1 = h.bits p highest.0 ∙ bit_of-some (entries_of lists p) highest.1 in
+    let some : 0 < occupied = elim (cases_eq occupied 0) [
+      | inl none ↦ absurd (no_one (bit_at occupied p) (bit_at 0 p) here (bit_at-zero p) (ap (λ (n : ℕ). bit_at n p) none))
+      | inr other ↦ omega (arith, other)
+    ] in
+    let top = highest_bit occupied some fits in
+    let j = 31 - leading_zeros w32 occupied in
+    elim (cases_eq p j) [
+      | inl same ↦ ap (λ (i : ℕ). occupied / 2 ^ i) same ∙ top.1
+      | inr other ↦ elim (cases_lt p j) [
+        | inl less ↦ absurd (no_one (bit_at occupied j) (bit_of (entries_of lists j)) (ap (λ (q : ℕ). q % 2) top.1) (ap bit_of (highest.2 j less)) (h.bits j top.0))
+        | inr more ↦ absurd (no_one (bit_at occupied p) (bit_at occupied p) here (top.2 p (omega (arith, more, other))) refl)
+      ]
+    ]
 
 -- a task goes into a list
 pub bit_set : {lists : List (List (ℕ × ℕ))} {occupied : ℕ} → AreReadyLists lists occupied → (list : ℕ) (e : ℕ × ℕ) → list < 32 → IsSound 32 32 (set lists list (entries_of lists list ++ e ∷ [])) → AreReadyLists (set lists list (entries_of lists list ++ e ∷ [])) (bit_or occupied (1 * 2 ^ list % 2 ^ 32))
@@ -107,10 +147,6 @@ bit_cleared {lists} {occupied} h task list known at sound empty = record {
         ∙ sym (ap bit_of (left_other h.sound task list p at other))
   ];
 }
-
-bit_of-some : (xs : List (ℕ × ℕ)) → xs ≢ [] → bit_of xs ≡ 1
-bit_of-some [] some = absurd (some refl)
-bit_of-some (x ∷ xs) some = refl
 
 was_some : (task : ℕ) (xs ys : List (ℕ × ℕ)) → ys ≡ without task xs → ys ≢ [] → xs ≢ []
 was_some task [] ys is some = λ e. some is

@@ -1,5 +1,5 @@
 //! The Ready tasks: a list for each priority.
-ghost use Rattle.std.specs.Prelude.{◌≡◌, ℕ, ◌<◌, ◌==◌, not, List, [], ◌∷◌, ◌++◌, map, option_map, replicate, slice_set, None};
+ghost use Rattle.std.specs.Prelude.{◌≡◌, ℕ, ◌<◌, ◌==◌, not, List, [], ◌∷◌, ◌++◌, map, option_map, replicate, slice_set, None, Some, IsTrue, ◌↔◌};
 ghost use Rattle.std.specs.List.{list_any};
 ghost use Rattle.std.specs.Option.{is_some};
 ghost use Rattle.lists.specs.Lists.{entries_of, first_of, place_of, rotated, second_of, without, IsSound};
@@ -51,6 +51,14 @@ impl ReadyLists {
         Some(ListId {
             number: 31 - self.occupied.leading_zeros() as u16,
         })
+    }
+
+    /// Whether a list is the highest that is not empty.
+    pub(crate) fn is_highest(&self, list: ListId) -> bool
+        requires { list.number < 32 }
+        ensures highest { IsTrue result ↔ IsHighest self.now (Some list.number) }
+    {
+        self.occupied >> list.number == 1
     }
 
     /// Whether any list has a task.

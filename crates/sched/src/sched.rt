@@ -141,9 +141,10 @@ impl Sched {
         ensures schedule { self.new ≡ slice self.old }
         ensures stands { Does self.old self.new switching.slice }
     {
-        if let (Some(task), Some(list)) = (self.current, self.ready.highest()) {
+        if let Some(task) = self.current {
+            let list = self.list_of(task);
             // Mostly the running task is the first of the highest list, whose second then runs.
-            if self.list_of(task).number == list.number && self.ready.first_in(list) == Some(task) {
+            if self.ready.is_highest(list) && self.ready.first_in(list) == Some(task) {
                 if let Some(next) = self.ready.rotate(list) {
                     self.current = Some(next);
                     return true;

@@ -11,61 +11,66 @@ use Rattle.sched.proofs.sched.Sched.slice.Goals as goal
 pub invariant_of-self : goal.invariant_of-self
 invariant_of-self c =
     let q = c.self.inside in
-    let task = c.in-Some-Some.task in
-    let p = c.in-Some-Some.list.number in
-    let home = sym c.if-list_of-list.true ∙ c.list_of.ensures.list ∙ ap (λ (s : Schedule). priority_in s.priorities task) (sym c.self.view_is) in
-    let is = first_by c.first_in.result c.first_in.ensures.first c.if-eq.ensures home c.in-Some-Some.ensures.highest.0 in
+    let task = c.in-Some.task in
+    let p = c.list_of-list.result.number in
+    let home = c.list_of-list.ensures.list ∙ ap (λ (s : Schedule). priority_in s.priorities task) (sym c.self.view_is) in
+    let highest = c.is_highest.ensures.highest.0 c.if-is_highest.true in
+    let is = first_by c.first_in.result c.first_in.ensures.first c.if-eq.ensures home c.list_of-list.ensures.known in
     let rotated = c.rotate.ensures.rotated in
     subst (λ (ls : List (List (ℕ × ℕ))). IsSched ls q.priorities) (sym rotated) (sched_turned c.self.invariant task p is (subst (IsSound 32 32) rotated c.rotate.ensures.sound))
 
-pub returns-in-Some-clause-ended : goal.returns-in-Some-clause-ended
-returns-in-Some-clause-ended c =
+pub returns-in-Some-rotate-clause-ended : goal.returns-in-Some-rotate-clause-ended
+returns-in-Some-rotate-clause-ended c =
     let q = c.self.inside in
-    let task = c.in-Some-Some.task in
-    let p = c.in-Some-Some.list.number in
-    let home = sym c.if-list_of-list.true ∙ c.list_of.ensures.list ∙ ap (λ (s : Schedule). priority_in s.priorities task) (sym c.self.view_is) in
-    let is = first_by c.first_in.result c.first_in.ensures.first c.if-eq.ensures home c.in-Some-Some.ensures.highest.0 in
-    sym (ended_if c.self.invariant task p is c.in-Some-Some.ensures.highest ∙ ap is_some (sym c.in-Some.ensures.second))
-    ∙ ap (λ (o : Option ℕ). let s = schedule_of q.ready o q.priorities in is_outranked s || is_sharing s) (sym c.in-Some-Some.is-0)
+    let task = c.in-Some.task in
+    let p = c.list_of-list.result.number in
+    let home = c.list_of-list.ensures.list ∙ ap (λ (s : Schedule). priority_in s.priorities task) (sym c.self.view_is) in
+    let highest = c.is_highest.ensures.highest.0 c.if-is_highest.true in
+    let is = first_by c.first_in.result c.first_in.ensures.first c.if-eq.ensures home c.list_of-list.ensures.known in
+    sym (ended_if c.self.invariant task p is highest ∙ ap is_some (sym c.in-Some-rotate.ensures.second))
+    ∙ ap (λ (o : Option ℕ). let s = schedule_of q.ready o q.priorities in is_outranked s || is_sharing s) (sym c.in-Some.is)
     ∙ ap (λ (s : Schedule). is_outranked s || is_sharing s) c.self.view_is
 
-pub returns-in-Some-clause-schedule : goal.returns-in-Some-clause-schedule
-returns-in-Some-clause-schedule c =
+pub returns-in-Some-rotate-clause-schedule : goal.returns-in-Some-rotate-clause-schedule
+returns-in-Some-rotate-clause-schedule c =
     let q = c.self.inside in
-    let task = c.in-Some-Some.task in
-    let p = c.in-Some-Some.list.number in
-    let home = sym c.if-list_of-list.true ∙ c.list_of.ensures.list ∙ ap (λ (s : Schedule). priority_in s.priorities task) (sym c.self.view_is) in
-    let is = first_by c.first_in.result c.first_in.ensures.first c.if-eq.ensures home c.in-Some-Some.ensures.highest.0 in
-    ap (λ (ls : List (List (ℕ × ℕ))). schedule_of ls (Some c.in-Some.next) q.priorities) c.rotate.ensures.rotated
-    ∙ schedule_sliced c.self.invariant task p is c.in-Some-Some.ensures.highest c.in-Some.next c.in-Some.ensures.second
-    ∙ ap (λ (o : Option ℕ). slice (schedule_of q.ready o q.priorities)) (sym c.in-Some-Some.is-0)
+    let task = c.in-Some.task in
+    let p = c.list_of-list.result.number in
+    let home = c.list_of-list.ensures.list ∙ ap (λ (s : Schedule). priority_in s.priorities task) (sym c.self.view_is) in
+    let highest = c.is_highest.ensures.highest.0 c.if-is_highest.true in
+    let is = first_by c.first_in.result c.first_in.ensures.first c.if-eq.ensures home c.list_of-list.ensures.known in
+    ap (λ (ls : List (List (ℕ × ℕ))). schedule_of ls (Some c.in-Some-rotate.next) q.priorities) c.rotate.ensures.rotated
+    ∙ schedule_sliced c.self.invariant task p is highest c.in-Some-rotate.next c.in-Some-rotate.ensures.second
+    ∙ ap (λ (o : Option ℕ). slice (schedule_of q.ready o q.priorities)) (sym c.in-Some.is)
     ∙ ap slice c.self.view_is
 
-pub returns-in-Some-clause-stands : goal.returns-in-Some-clause-stands
-returns-in-Some-clause-stands c = does_slice (returns-in-Some-clause-schedule c)
+pub returns-in-Some-rotate-clause-stands : goal.returns-in-Some-rotate-clause-stands
+returns-in-Some-rotate-clause-stands c = does_slice (returns-in-Some-rotate-clause-schedule c)
 
 pub returns-then-eq-clause-ended : goal.returns-then-eq-clause-ended
 returns-then-eq-clause-ended c =
     let q = c.self.inside in
-    let task = c.in-Some-Some.task in
-    let p = c.in-Some-Some.list.number in
-    let home = sym c.if-list_of-list.true ∙ c.list_of.ensures.list ∙ ap (λ (s : Schedule). priority_in s.priorities task) (sym c.self.view_is) in
-    let is = first_by c.first_in.result c.first_in.ensures.first c.if-eq.ensures home c.in-Some-Some.ensures.highest.0 in
-    sym (ended_if c.self.invariant task p is c.in-Some-Some.ensures.highest ∙ ap is_some (sym c.in_default-rotate.ensures.second))
-    ∙ ap (λ (o : Option ℕ). let s = schedule_of q.ready o q.priorities in is_outranked s || is_sharing s) (sym c.in-Some-Some.is-0)
+    let task = c.in-Some.task in
+    let p = c.list_of-list.result.number in
+    let home = c.list_of-list.ensures.list ∙ ap (λ (s : Schedule). priority_in s.priorities task) (sym c.self.view_is) in
+    let highest = c.is_highest.ensures.highest.0 c.if-is_highest.true in
+    let is = first_by c.first_in.result c.first_in.ensures.first c.if-eq.ensures home c.list_of-list.ensures.known in
+    sym (ended_if c.self.invariant task p is highest ∙ ap is_some (sym c.in_default-rotate.ensures.second))
+    ∙ ap (λ (o : Option ℕ). let s = schedule_of q.ready o q.priorities in is_outranked s || is_sharing s) (sym c.in-Some.is)
     ∙ ap (λ (s : Schedule). is_outranked s || is_sharing s) c.self.view_is
 
 pub returns-then-eq-clause-schedule : goal.returns-then-eq-clause-schedule
 returns-then-eq-clause-schedule c =
     let q = c.self.inside in
-    let task = c.in-Some-Some.task in
-    let p = c.in-Some-Some.list.number in
-    let home = sym c.if-list_of-list.true ∙ c.list_of.ensures.list ∙ ap (λ (s : Schedule). priority_in s.priorities task) (sym c.self.view_is) in
-    let is = first_by c.first_in.result c.first_in.ensures.first c.if-eq.ensures home c.in-Some-Some.ensures.highest.0 in
+    let task = c.in-Some.task in
+    let p = c.list_of-list.result.number in
+    let home = c.list_of-list.ensures.list ∙ ap (λ (s : Schedule). priority_in s.priorities task) (sym c.self.view_is) in
+    let highest = c.is_highest.ensures.highest.0 c.if-is_highest.true in
+    let is = first_by c.first_in.result c.first_in.ensures.first c.if-eq.ensures home c.list_of-list.ensures.known in
     ap (λ (ls : List (List (ℕ × ℕ))). schedule_of ls q.current q.priorities) c.rotate.ensures.rotated
-    ∙ ap (λ (o : Option ℕ). schedule_of (turn p q.ready) o q.priorities) c.in-Some-Some.is-0
-    ∙ schedule_kept c.self.invariant task p is c.in-Some-Some.ensures.highest c.in_default-rotate.ensures.second
-    ∙ ap (λ (o : Option ℕ). slice (schedule_of q.ready o q.priorities)) (sym c.in-Some-Some.is-0)
+    ∙ ap (λ (o : Option ℕ). schedule_of (turn p q.ready) o q.priorities) c.in-Some.is
+    ∙ schedule_kept c.self.invariant task p is highest c.in_default-rotate.ensures.second
+    ∙ ap (λ (o : Option ℕ). slice (schedule_of q.ready o q.priorities)) (sym c.in-Some.is)
     ∙ ap slice c.self.view_is
 
 pub returns-then-eq-clause-stands : goal.returns-then-eq-clause-stands
