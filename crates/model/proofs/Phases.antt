@@ -21,7 +21,7 @@ use Rattle.model.specs.Switching.{is_ready, is_same, make_ready, choose, preempt
 use Rattle.model.specs.Waiting.{same_list, wait_key, awakened, is_locked, wait_in, is_expired, end_hold, unlock_object, unlock}
 use Rattle.model.specs.Objects.{list_for, possible}
 use Rattle.model.specs.Calls.{lock, decide, leave_call}
-use Rattle.model.specs.Invariant.{HasTicketBelow, Hold, hold_of, awaited, IsPhaseOf, IsCall, IsSound, holds, IsPlacing, IsRunning, Runs, IsState}
+use Rattle.model.specs.Invariant.{HasTicketBelow, Hold, hold_of, awaited, IsPhaseOf, IsCall, IsSound, holds, IsPlacing, IsRunning, RunsIn, IsState}
 use Rattle.model.proofs.Sorting.{by_test}
 use Rattle.model.proofs.Lists.{HasKey, eqb-refl, eqb-same, list_has}
 use Rattle.model.proofs.Members.{has_task, has_task-key}
@@ -50,7 +50,7 @@ module _ (app : Application) (formed : IsWellFormed app) where
       let P : ℕ → Task → Type 0 = λ j u. holds u.progress.call.phase ≡ true → s.current ≡ Some j in
       record {
         sound = h;
-        runs = subst (Runs (with_task i t s)) (sym runs) (record {
+        runs = subst (RunsIn (with_task i t s)) (sym runs) (record {
           holding = subst H (sym at) (phase ∙ sym held);
           ready = λ none. absurd (cc);
           placing = subst Q (sym at) placing;
@@ -154,7 +154,7 @@ module _ (app : Application) (formed : IsWellFormed app) where
 
   module _ (s : State) (i o : ℕ) (h : IsState app s) (runs : s.current ≡ Some i) (l : i < length s.tasks) (on : awaited (op_at app i (progress_at s i).op_index) ≡ Some o) where
     running : IsRunning s i
-    running = subst (Runs s) runs h.runs
+    running = subst (RunsIn s) runs h.runs
 
     -- nobody else is in a phase that holds the scheduler
     only : (j : ℕ) → j ≢ i → holds (call_at s j).phase ≡ false

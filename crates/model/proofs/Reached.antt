@@ -23,7 +23,7 @@ use Rattle.model.specs.Waiting.{set_deadline}
 use Rattle.model.specs.Calls.{await}
 use Rattle.model.specs.Step.{act, act_if, act_current, step, reset, nobody_ready, ready_at_reset, task_at_reset, object_at_reset, with_ops, is_empty}
 use Rattle.model.specs.Run.{state_after}
-use Rattle.model.specs.Invariant.{AllTicketsBelow, IsAt, Hold, hold_of, awaited, IsPhaseOf, IsCall, IsObject, IsSound, holds, IsRunning, Runs, IsState}
+use Rattle.model.specs.Invariant.{AllTicketsBelow, IsAt, Hold, hold_of, awaited, IsPhaseOf, IsCall, IsObject, IsSound, holds, IsRunning, RunsIn, IsState}
 use Rattle.model.proofs.Sorting.{by_test}
 use Rattle.model.proofs.Chosen.{choice_within}
 use Rattle.model.proofs.Settled.{IsSettled, settled-settle, settled-reset, when_held, when_free}
@@ -48,7 +48,7 @@ module _ (app : Application) (formed : IsWellFormed app) where
         alone = λ j t. let f = off j in absurd (cc);
         locked = λ _. unlocked_;
       } where
-    by_current : (r : Option ℕ) → IfSome r (λ task. is_ready s task ≡ true) → s.call_hold ≡ false → ((j : ℕ) → holds (call_at s j).phase ≡ false) → Runs s r
+    by_current : (r : Option ℕ) → IfSome r (λ task. is_ready s task ≡ true) → s.call_hold ≡ false → ((j : ℕ) → holds (call_at s j).phase ≡ false) → RunsIn s r
     by_current None on none off = none
     by_current (Some i) on none off = record { holding = off i ∙ sym none; ready = λ _. on; placing = λ e. let f : holds Place ≡ false = subst (λ phase. holds phase ≡ false) e (off i) in absurd (cc) }
 
@@ -63,7 +63,7 @@ module _ (app : Application) (formed : IsWellFormed app) where
   -- the events don't matter, nor the steps done
   told : (s : State) (log : List Event) (steps : ℕ) → IsState app s → IsState app (record s { log = log; steps = steps })
   told s log steps h = record { sound = logged app formed (hold_of s) s log steps s.stopped h.sound; runs = by_current s.current h.runs; alone = h.alone; locked = h.locked } where
-    by_current : (r : Option ℕ) → Runs s r → Runs (record s { log = log; steps = steps }) r
+    by_current : (r : Option ℕ) → RunsIn s r → RunsIn (record s { log = log; steps = steps }) r
     by_current None r = r
     by_current (Some i) r = record { holding = r.holding; ready = r.ready; placing = r.placing }
 
@@ -91,7 +91,7 @@ module _ (app : Application) (formed : IsWellFormed app) where
 
   module _ (s : State) (i : ℕ) (h : IsState app s) (on : s.current ≡ Some i) where
     running : IsRunning s i
-    running = subst (Runs s) on h.runs
+    running = subst (RunsIn s) on h.runs
 
     there : i < length s.tasks
     there = subst (λ r. IfSome r (λ task. task < length s.tasks)) on h.sound.table.current
@@ -183,7 +183,7 @@ module _ (app : Application) (formed : IsWellFormed app) where
 
   current_done : (s : State) (r : Option ℕ) → IsState app s → s.current ≡ r → IsState app (unless_held settle (act_current app r s))
   current_done s None h on =
-      let none : s.call_hold ≡ false = subst (Runs s) on h.runs in
+      let none : s.call_hold ≡ false = subst (RunsIn s) on h.runs in
       settled_at_rest _ (ticked app formed free s (sound_free_idle none)) (hold-tick s ∙ hold_none_idle none) where
     hold_none_idle : s.call_hold ≡ false → hold_of s ≡ free
     hold_none_idle none = ap (λ l. record { held = s.call_hold; locked = l }) (h.locked none) ∙ ap (λ b. record { held = b; locked = None }) none

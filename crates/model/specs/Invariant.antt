@@ -137,14 +137,14 @@ pub record IsRunning (s : State) (task : ℕ) : Type 0 where
   pub placing : (call_at s task).phase ≡ Place → IsPlacing s.time (task_at s task) (wait_of (status_at s task))
 
 -- Who runs, and what is held, fit: idle holds nothing.
-abbrev pub Runs : State → Option ℕ → Type 0
-Runs s None = s.call_hold ≡ false
-Runs s (Some task) = IsRunning s task
+abbrev pub RunsIn : State → Option ℕ → Type 0
+RunsIn s None = s.call_hold ≡ false
+RunsIn s (Some task) = IsRunning s task
 
 -- what every state of a run is
 pub record IsState (app : Application) (s : State) : Type 0 where
   pub sound : IsSound app (hold_of s) s
-  pub runs : Runs s s.current
+  pub runs : RunsIn s s.current
   -- nobody else is in a phase that holds the scheduler
   pub alone : (task : ℕ) → holds (call_at s task).phase ≡ true → s.current ≡ Some task
   -- what is locked is locked by a call that holds the scheduler
