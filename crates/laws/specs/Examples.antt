@@ -221,7 +221,7 @@ two_writers = record {
   app = with_queue (
       a_task_of 1 (codes "a") (on_queue_forever (Send 1) ∷ []) ∷ a_task_of 2 (codes "b") (on_queue_forever (Send 2) ∷ [])
       ∷ a_task_of 3 (codes "c") (
-        on_queue (Send 3) 0 ∷ Delay 1 ∷ on_queue Receive 0 ∷ Delay 1 ∷ on_queue Receive 0 ∷ on_queue_forever Receive ∷ []) ∷ []);
+      on_queue (Send 3) 0 ∷ Delay 1 ∷ on_queue Receive 0 ∷ Delay 1 ∷ on_queue Receive 0 ∷ on_queue_forever Receive ∷ []) ∷ []);
   run = record {
     events =
         event_at 0 0 (call c 0 1) ∷ event_at 1 0 (call c 1 0) ∷ event_at 1 0 (runs b) ∷ event_at 6 0 (runs a)

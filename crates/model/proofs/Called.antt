@@ -107,9 +107,10 @@ module _ (app : Application) (formed : IsWellFormed app) (hold : Hold) where
       let below : HasTicketBelow s.next_ticket (Waiting w.wait) = subst B w.is (ticket_at s.next_ticket i s.tasks h.table.tickets) in
       let reckoned : IsReckoned s.time (progress_at s i).previous_wake (Waiting w.wait) = subst R w.is a.reckoned in
       let waits : IfSome (wait_of (Waiting w.wait)) (λ x. IsWaitOf (op_at app i (progress_at s i).op_index) (call_at s i).deadline x) = subst W w.is c.wait in
-      changed app formed hold s i (record (task_at s i) { status = u }) h (subst B (sym same) below)
-      (record { nests = a.nests; loops = a.loops; used = a.used; reckoned = subst R (sym same) reckoned },
-      record { phase = c.phase; wait = subst W (sym same) waits; awake = subst A (sym same) there; near = c.near })
+      changed app formed hold s i (record (task_at s i) { status = u }) h (subst B (sym same) below) (
+        record { nests = a.nests; loops = a.loops; used = a.used; reckoned = subst R (sym same) reckoned },
+        record { phase = c.phase; wait = subst W (sym same) waits; awake = subst A (sym same) there; near = c.near },
+      )
 
   pub woken_one : (s : State) (i : ℕ) (list : WaitList) → IsSound app hold s → s.locked ≡ hold.locked → i < length s.tasks → WaitsIn list (status_at s i) → IsSound app hold (wake_one i list s)
   woken_one s i list h same l w =
@@ -238,11 +239,12 @@ module _ (app : Application) (formed : IsWellFormed app) (hold : Hold) where
       let past : (progress_at s i).previous_wake ≤ s.time = ready_reckoned s.time (progress_at s i).previous_wake (status_at s i) a0.reckoned r in
       let L : Option Op → Type 0 = λ op. list_of_op op ≡ Some list in
       let h1 : IsSound app hold s1 = changed app formed hold s i t h (ticket_at s.next_ticket i s.tasks h.table.tickets)
-          (record { nests = a0.nests; loops = a0.loops; used = a0.used; reckoned = a0.reckoned }, record { phase = c0.phase; wait = c0.wait; awake = c0.awake; near = c0.near }) in
+      (record { nests = a0.nests; loops = a0.loops; used = a0.used; reckoned = a0.reckoned }, record { phase = c0.phase; wait = c0.wait; awake = c0.awake; near = c0.near }) in
       let K : Task → Type 0 = λ u. IsKept app formed hold s.time i (record u { status = f s.next_ticket }) in
-      taken app formed hold s1 i f h1 (omega arith) (subst K (sym at)
-      (record { nests = a0.nests; loops = a0.loops; used = a0.used; reckoned = past },
-      record { phase = c0.phase; wait = record { list = subst L (sym is) refl; deadline = refl }; awake = tt; near = c0.near }))
+      taken app formed hold s1 i f h1 (omega arith) (subst K (sym at) (
+        record { nests = a0.nests; loops = a0.loops; used = a0.used; reckoned = past },
+        record { phase = c0.phase; wait = record { list = subst L (sym is) refl; deadline = refl }; awake = tt; near = c0.near },
+      ))
 
 -- a call that gets its deadline is that of a task that is Ready still, and at the same op
 pub dated_at : (s : State) (i : ℕ) (ticks : Option ℕ) → i < length s.tasks → (is_ready (set_deadline i ticks s) i ≡ is_ready s i) × ((progress_at (set_deadline i ticks s) i).op_index ≡ (progress_at s i).op_index)

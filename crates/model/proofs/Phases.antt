@@ -142,9 +142,9 @@ module _ (app : Application) (formed : IsWellFormed app) where
     decided = by_test (possible s o a || is_expired s i)
         (λ t. rw t decided_not)
         (λ t. rw t (decided_to_wait (expired_not (possible s o a) (is_expired s i) t))) where
-      expired_not : (x y : Bool) → (x || y) ≡ false → y ≡ false
-      expired_not false y e = e
-      expired_not true y e = absurd (cc)
+          expired_not : (x y : Bool) → (x || y) ≡ false → y ≡ false
+          expired_not false y e = e
+          expired_not true y e = absurd (cc)
 
     pub decided_held : (decide i o a s).call_hold ≡ true
     unfolding decide
@@ -223,9 +223,10 @@ module _ (app : Application) (formed : IsWellFormed app) where
             let O : Progress → Type 0 = λ p. IsPhaseOf still (awaited (op_at app i p.op_index)) Leave in
             let A : Option Wait → Type 0 = λ w. IfSome w (λ x. is_locked None x.list ≡ true) in
             let l1 : i < length opened.tasks = rw kept_opened.tasks l in
-            rehung app formed (hold_of s) still opened i left_task opened_sound l1 (ticket_at opened.next_ticket i opened.tasks opened_sound.table.tickets)
-            (record { nests = a.nests; loops = a.loops; used = a.used; reckoned = a.reckoned },
-            record { phase = subst O (sym (at_opened i)) (subst (λ object. IsPhaseOf still object Leave) (sym on) (held, refl)); wait = c.wait; awake = subst A (sym (none_opened i)) tt; near = c.near })
+            rehung app formed (hold_of s) still opened i left_task opened_sound l1 (ticket_at opened.next_ticket i opened.tasks opened_sound.table.tickets) (
+              record { nests = a.nests; loops = a.loops; used = a.used; reckoned = a.reckoned },
+              record { phase = subst O (sym (at_opened i)) (subst (λ object. IsPhaseOf still object Leave) (sym on) (held, refl)); wait = c.wait; awake = subst A (sym (none_opened i)) tt; near = c.near },
+            )
             (λ j ne. call_apart (hold_of s) still opened.time _ (task_at opened j) (off_opened j ne) (none_opened j) (opened_sound.calls j))
 
         pub unlocked : IsState app (go_on i Leave (unlock s))
@@ -264,9 +265,10 @@ module _ (app : Application) (formed : IsWellFormed app) where
             let c = h.sound.calls i in
             let A : Option Wait → Type 0 = λ w. IfSome w (λ x. is_locked None x.list ≡ true) in
             let none : (j : ℕ) → wait_if_awake (status_at s j) ≡ None = λ j. none_awake s.locked (wait_if_awake (status_at s j)) leaves (h.sound.calls j).awake in
-            rehung app formed (hold_of s) free s1 i t h1 l (ticket_at s.next_ticket i s.tasks h.sound.table.tickets)
-            (record { nests = a.nests; loops = a.loops; used = a.used; reckoned = a.reckoned },
-            record { phase = subst (λ object. IsPhaseOf free object Try) (sym on) tt; wait = c.wait; awake = subst A (sym (none i)) tt; near = c.near })
+            rehung app formed (hold_of s) free s1 i t h1 l (ticket_at s.next_ticket i s.tasks h.sound.table.tickets) (
+              record { nests = a.nests; loops = a.loops; used = a.used; reckoned = a.reckoned },
+              record { phase = subst (λ object. IsPhaseOf free object Try) (sym on) tt; wait = c.wait; awake = subst A (sym (none i)) tt; near = c.near },
+            )
             (λ j ne. call_apart (hold_of s) free s.time _ (task_at s j) (only j ne) (none j) (h.sound.calls j))
 
         pub left : IsSound app free (leave_call i s)

@@ -48,9 +48,9 @@ module _ (app : Application) (formed : IsWellFormed app) where
         alone = λ j t. let f = off j in absurd (cc);
         locked = λ _. unlocked_;
       } where
-    by_current : (r : Option ℕ) → IfSome r (λ task. is_ready s task ≡ true) → s.call_hold ≡ false → ((j : ℕ) → holds (call_at s j).phase ≡ false) → RunsIn s r
-    by_current None on none off = none
-    by_current (Some i) on none off = record { holding = off i ∙ sym none; ready = λ _. on; placing = λ e. let f : holds Place ≡ false = subst (λ phase. holds phase ≡ false) e (off i) in absurd (cc) }
+        by_current : (r : Option ℕ) → IfSome r (λ task. is_ready s task ≡ true) → s.call_hold ≡ false → ((j : ℕ) → holds (call_at s j).phase ≡ false) → RunsIn s r
+        by_current None on none off = none
+        by_current (Some i) on none off = record { holding = off i ∙ sym none; ready = λ _. on; placing = λ e. let f : holds Place ≡ false = subst (λ phase. holds phase ≡ false) e (off i) in absurd (cc) }
 
   settled_at_rest : (s : State) → IsSound app free s → hold_of s ≡ free → IsState app (unless_held settle s)
   settled_at_rest s h same =
@@ -185,10 +185,11 @@ module _ (app : Application) (formed : IsWellFormed app) where
   current_done s None h on =
       let none : s.call_hold ≡ false = subst (RunsIn s) on h.runs in
       settled_at_rest _ (ticked app formed free s (sound_free_idle none)) (hold-tick s ∙ hold_none_idle none) where
-    hold_none_idle : s.call_hold ≡ false → hold_of s ≡ free
-    hold_none_idle none = ap (λ l. record { held = s.call_hold; locked = l }) (h.locked none) ∙ ap (λ b. record { held = b; locked = None }) none
-    sound_free_idle : s.call_hold ≡ false → IsSound app free s
-    sound_free_idle none = subst (λ x. IsSound app x s) (hold_none_idle none) h.sound
+        hold_none_idle : s.call_hold ≡ false → hold_of s ≡ free
+        hold_none_idle none = ap (λ l. record { held = s.call_hold; locked = l }) (h.locked none) ∙ ap (λ b. record { held = b; locked = None }) none
+
+        sound_free_idle : s.call_hold ≡ false → IsSound app free s
+        sound_free_idle none = subst (λ x. IsSound app x s) (hold_none_idle none) h.sound
   current_done s (Some i) h on = act_if_done s i h on (op_at app i (progress_at s i).op_index) refl
 
   pub reached_step : (s : State) → IsState app s → IsState app (step app s)

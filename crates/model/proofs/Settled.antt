@@ -72,8 +72,8 @@ unfolding step
 settled-step app s free = by_test t.call_hold
     (λ held. let same : (unless_held settle t).call_hold ≡ t.call_hold = ap (λ (u : State). u.call_hold) (when_held settle t held) in absurd (cc))
     (λ none. subst IsSettled (sym (when_free settle t none)) (settled-settle t)) where
-  t : State
-  t = act_current app s.current (record s { log = [] })
+      t : State
+      t = act_current app s.current (record s { log = [] })
 
 pub settled-reset : (app : Application) → IsSettled (reset app)
 unfolding reset

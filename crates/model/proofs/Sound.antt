@@ -319,9 +319,10 @@ module _ (app : Application) (formed : IsWellFormed app) (hold : Hold) where
         let apart : (progress_at s i).used + 1 ≢ n = (λ q. let v : eqb ((progress_at s i).used + 1) n ≡ true = rw q (eqb-refl n) in absurd (cc)) in
         let more : (progress_at s i).used + 1 < n = omega arith in
         let V : Option Op → Type 0 = λ o. IsUsedBy ((progress_at s i).used + 1) o in
-        rw t (changed s i (record (task_at s i) { progress = record (progress_at s i) { used = (progress_at s i).used + 1 } }) h (ticket_kept s i h free)
-        (record { nests = a.nests; loops = a.loops; used = subst V (sym (is ∙ ap Some e)) more; reckoned = a.reckoned },
-        record { phase = c.phase; wait = c.wait; awake = c.awake; near = c.near })))
+        rw t (changed s i (record (task_at s i) { progress = record (progress_at s i) { used = (progress_at s i).used + 1 } }) h (ticket_kept s i h free) (
+          record { nests = a.nests; loops = a.loops; used = subst V (sym (is ∙ ap Some e)) more; reckoned = a.reckoned },
+          record { phase = c.phase; wait = c.wait; awake = c.awake; near = c.near },
+        )))
 
     pub expected : (a : Option ℕ) → op ≡ Expect a → IsSound app hold (expect app i a s)
     unfolding expect
