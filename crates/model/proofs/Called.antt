@@ -1,6 +1,5 @@
 -- What the deeds of calls on objects keep.
-use Rattle.std.proofs.Common.{◌≡◌, ◌≢◌, ◌<◌, ◌≤◌, ◌+◌, ◌==◌, ℕ, zero, suc, true, false, eqb, ltb, ◌||◌, List, [], ◌∷◌, ◌++◌, length, get_or, set, drop, Option, Some, None, refl, ap, sym, subst, ◌∙◌, arith, get_or-set_same, get_or-set_other, length-append}
-use Rattle.std.specs.Prelude.{Bool}
+use Rattle.std.proofs.Common.{◌≡◌, ◌≢◌, ◌<◌, ◌≤◌, ◌+◌, ℕ, true, false, ltb, List, [], ◌∷◌, ◌++◌, length, get_or, set, drop, Option, Some, None, refl, ap, sym, subst, arith, get_or-set_same, get_or-set_other, length-append}
 use Rattle.std.specs.List.{AllByRecursion, slice_get}
 use Rattle.std.specs.Option.{IfSome, option_map, option_and_then, is_some, unwrap_or}
 use Rattle.std.proofs.Math.ListN.{length-set}
@@ -16,20 +15,20 @@ use Rattle.model.specs.declared.call.Phase.{Phase}
 use Rattle.model.specs.declared.call.Phase.TheVariants.{Start, Try, Decide, Place, Unlock, Leave}
 use Rattle.model.specs.declared.call.WaitList.{WaitList}
 use Rattle.model.specs.declared.call.WaitList.TheVariants.{ToReceive, ToSend}
-use Rattle.model.specs.Application.{Application, script_of, op_at}
+use Rattle.model.specs.Application.{Application, op_at}
 use Rattle.model.specs.Scripts.{IsWellFormed, fits, fits_object, is_wait, nesting_past}
-use Rattle.model.specs.State.{State, Task, Object, Status, Wait, Ready, Awake, Waiting, Asleep, Ended, ticket_if_ready, wait_if_waiting, wait_if_awake, wait_of, ticket_of, task_at, status_at, progress_at, call_at, object_at, with_task, with_call, with_object, go_on, take_ticket, for_one, for_each, no_task, no_object}
-use Rattle.model.specs.Order.{Key, Entry, key, first, task_of}
-use Rattle.model.specs.Switching.{is_ready, is_same, make_ready, preempt}
+use Rattle.model.specs.State.{State, Task, Object, Status, Wait, Ready, Awake, Waiting, Asleep, Ended, ticket_if_ready, wait_if_waiting, wait_if_awake, wait_of, task_at, status_at, progress_at, call_at, object_at, with_task, with_call, with_object, go_on, for_one, no_task, no_object}
+use Rattle.model.specs.Order.{Key, Entry, first, task_of}
+use Rattle.model.specs.Switching.{is_ready}
 use Rattle.model.specs.Waiting.{same_list, wait_key, waiters, awake_status, awaken, is_locked, wake_one, wake_best, wait_in, set_deadline, is_expired}
 use Rattle.model.specs.Objects.{allows, object_after, list_woken, list_for, possible, answer_to, fulfil, attempt}
 use Rattle.model.specs.Calls.{try, do_now}
 use Rattle.model.specs.Ops.{answer}
-use Rattle.model.specs.Invariant.{HasTicketBelow, IsReckoned, IsAt, Hold, awaited, IsPhaseOf, list_of_op, IsWaitOf, IsCall, IsObject, IsSound, holds}
+use Rattle.model.specs.Invariant.{HasTicketBelow, IsReckoned, Hold, awaited, IsPhaseOf, list_of_op, IsWaitOf, IsCall, IsObject, IsSound, holds}
 use Rattle.model.proofs.Sorting.{by_test}
-use Rattle.model.proofs.Lists.{HasKey, eqb-refl, eqb-same, list_has}
+use Rattle.model.proofs.Lists.{HasKey, eqb-same, list_has}
 use Rattle.model.proofs.Tables.{ticket_at, table-set}
-use Rattle.model.proofs.Sound.{IsKept, kept_at, each-set, each-set_but, changed, taken, made_ready, answered, preempted, ready_free, ready_reckoned, logged}
+use Rattle.model.proofs.Sound.{IsKept, each-set, each-set_but, changed, taken, made_ready, answered, preempted, ready_free, ready_reckoned}
 
 -- ---- lists of those who wait
 

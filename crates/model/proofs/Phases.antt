@@ -1,33 +1,25 @@
 -- What each phase of a call that waits makes of a state.
-use Rattle.std.proofs.Common.{◌≡◌, ◌≢◌, ◌<◌, ◌≤◌, ◌+◌, ◌||◌, ℕ, zero, suc, true, false, eqb, leb, List, [], ◌∷◌, ◌++◌, length, get_or, set, Option, Some, None, refl, ap, sym, subst, ◌∙◌, arith, get_or-set_same, get_or-set_other}
+use Rattle.std.proofs.Common.{◌≡◌, ◌≢◌, ◌<◌, ◌||◌, ℕ, true, false, leb, length, Option, Some, None, refl, ap, sym, subst, ◌∙◌, get_or-set_same, get_or-set_other}
 use Rattle.std.specs.Prelude.{Bool}
-use Rattle.std.specs.List.{AllByRecursion}
-use Rattle.std.specs.Option.{IfSome, option_map, option_and_then, is_some, unwrap_or}
+use Rattle.std.specs.Option.{IfSome, option_map, is_some, unwrap_or}
 use Rattle.std.proofs.Math.ListN.{length-set}
 use Rattle.std.proofs.lemmas.Bool.{leb-false}
 use Rattle.model.specs.declared.op.Op.{Op}
 use Rattle.model.specs.declared.op.Op.TheVariants.{Await}
 use Rattle.model.specs.declared.op.Access.{Access}
-use Rattle.model.specs.declared.call.CallProgress.{CallProgress}
 use Rattle.model.specs.declared.call.Phase.{Phase}
-use Rattle.model.specs.declared.call.Phase.TheVariants.{Start, Try, Decide, Place, Unlock, Leave}
-use Rattle.model.specs.declared.call.WaitList.{WaitList}
-use Rattle.model.specs.declared.call.WaitList.TheVariants.{ToReceive, ToSend}
-use Rattle.model.specs.Application.{Application, script_of, op_at}
+use Rattle.model.specs.declared.call.Phase.TheVariants.{Try, Place, Unlock, Leave}
+use Rattle.model.specs.Application.{Application, op_at}
 use Rattle.model.specs.Scripts.{IsWellFormed}
-use Rattle.model.specs.State.{State, Task, Progress, Status, Wait, Ready, Awake, Waiting, ticket_if_ready, wait_if_awake, wait_of, task_at, status_at, progress_at, call_at, with_task, with_call, go_on, for_each, for_one, no_task}
-use Rattle.model.specs.Order.{Key, Entry, key, tasks_of}
-use Rattle.model.specs.Switching.{is_ready, is_same, make_ready, choose, preempt}
-use Rattle.model.specs.Waiting.{same_list, wait_key, awakened, is_locked, wait_in, is_expired, end_hold, unlock_object, unlock}
+use Rattle.model.specs.State.{State, Task, Progress, Wait, Waiting, wait_if_awake, wait_of, task_at, status_at, progress_at, call_at, with_task, go_on, for_each, for_one, no_task}
+use Rattle.model.specs.Switching.{is_ready, make_ready}
+use Rattle.model.specs.Waiting.{is_locked, wait_in, is_expired, end_hold, unlock_object, unlock}
 use Rattle.model.specs.Objects.{list_for, possible}
 use Rattle.model.specs.Calls.{lock, decide, leave_call}
-use Rattle.model.specs.Invariant.{HasTicketBelow, Hold, hold_of, awaited, IsPhaseOf, IsCall, IsSound, holds, IsPlacing, IsRunning, RunsIn, IsState}
+use Rattle.model.specs.Invariant.{Hold, hold_of, awaited, IsPhaseOf, IsSound, holds, IsPlacing, IsRunning, RunsIn, IsState}
 use Rattle.model.proofs.Sorting.{by_test}
-use Rattle.model.proofs.Lists.{HasKey, eqb-refl, eqb-same, list_has}
-use Rattle.model.proofs.Members.{has_task, has_task-key}
 use Rattle.model.proofs.Tables.{ticket_at}
-use Rattle.model.proofs.Chosen.{list_within}
-use Rattle.model.proofs.Sound.{IsKept, CanBeReady, each-set, each-set_but, framed, all_made_ready, chosen, preempted, ready_free}
+use Rattle.model.proofs.Sound.{each-set_but, framed, all_made_ready, chosen, preempted}
 use Rattle.model.proofs.Frames.{Keeps, keeps-all_ready, keeps-choose, keeps-preempt}
 use Rattle.model.proofs.Unlocking.{opened_by, none_left, still_at, opened_can, unlocked_by, current-all_ready}
 use Rattle.model.proofs.Called.{went_on, began, phase_free, call_apart, none_awake, rehung, reheld}

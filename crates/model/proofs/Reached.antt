@@ -1,9 +1,8 @@
 -- What is true of every state that a run comes to.
-use Rattle.std.proofs.Common.{◌≡◌, ◌≢◌, ◌<◌, ◌≤◌, ◌+◌, ◌-◌, ◌&&◌, ℕ, zero, suc, true, false, List, [], ◌∷◌, length, map, get_or, Option, Some, None, refl, ap, sym, subst, ◌∙◌, arith}
+use Rattle.std.proofs.Common.{◌≡◌, ◌<◌, ◌≤◌, ◌+◌, ◌&&◌, ℕ, zero, suc, true, false, List, [], ◌∷◌, length, map, get_or, Option, Some, None, refl, ap, sym, subst, ◌∙◌, arith}
 use Rattle.std.specs.Prelude.{Bool}
 use Rattle.std.specs.List.{AllByRecursion, slice_get}
 use Rattle.std.specs.Option.{IfSome, option_map, unwrap_or}
-use Rattle.std.proofs.Math.ListN.{length-set}
 use Rattle.std.proofs.lemmas.List.{length-map}
 use Rattle.model.specs.declared.object.ObjectKind.{ObjectKind}
 use Rattle.model.specs.declared.object.ObjectKind.TheVariants.{Queue}
@@ -15,15 +14,14 @@ use Rattle.model.specs.declared.call.Phase.TheVariants.{Start, Try, Decide, Plac
 use Rattle.model.specs.declared.event.Event.{Event}
 use Rattle.model.specs.declared.event.What.TheVariants as what
 use Rattle.model.specs.Application.{Application, Definition, script_of, op_at}
-use Rattle.model.specs.Scripts.{IsDefinition, IsWellFormed, fits_object, may_wait, knows, is_wait}
-use Rattle.model.specs.State.{State, Task, Status, Ready, Ended, wait_of, task_at, progress_at, status_at, call_at, object_at, no_call, no_task, no_object, with_task, for_each}
-use Rattle.model.specs.Order.{Entry}
+use Rattle.model.specs.Scripts.{IsDefinition, IsWellFormed, fits_object, is_wait}
+use Rattle.model.specs.State.{State, wait_of, progress_at, status_at, call_at, no_call, no_task, no_object, for_each}
 use Rattle.model.specs.Switching.{make_ready, choice, is_ready, settle, unless_held, write}
 use Rattle.model.specs.Waiting.{set_deadline}
 use Rattle.model.specs.Calls.{await}
 use Rattle.model.specs.Step.{act, act_if, act_current, step, reset, nobody_ready, ready_at_reset, task_at_reset, object_at_reset, with_ops, is_empty}
 use Rattle.model.specs.Run.{state_after}
-use Rattle.model.specs.Invariant.{AllTicketsBelow, IsAt, Hold, hold_of, awaited, IsPhaseOf, IsCall, IsObject, IsSound, holds, IsRunning, RunsIn, IsState}
+use Rattle.model.specs.Invariant.{AllTicketsBelow, IsAt, Hold, hold_of, awaited, IsPhaseOf, IsObject, IsSound, holds, IsRunning, RunsIn, IsState}
 use Rattle.model.proofs.Sorting.{by_test}
 use Rattle.model.proofs.Chosen.{choice_within}
 use Rattle.model.proofs.Settled.{IsSettled, settled-settle, settled-reset, when_held, when_free}

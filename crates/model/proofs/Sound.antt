@@ -1,33 +1,31 @@
 -- What every deed keeps.
-use Rattle.std.proofs.Common.{◌≡◌, ◌≢◌, ◌<◌, ◌≤◌, ◌+◌, ◌-◌, ℕ, zero, suc, true, false, eqb, leb, ltb, ltb-false, ◌||◌, List, [], ◌∷◌, length, map, get_or, set, drop, Option, Some, None, refl, ap, sym, subst, ◌∙◌, arith, get_or-set_same, get_or-set_other}
-use Rattle.std.specs.List.{AllByRecursion, slice_get, filter}
+use Rattle.std.proofs.Common.{◌≡◌, ◌≢◌, ◌<◌, ◌≤◌, ◌+◌, ◌-◌, ℕ, zero, suc, true, false, eqb, leb, ltb, ltb-false, ◌||◌, List, [], ◌∷◌, length, get_or, set, drop, Option, Some, None, refl, ap, sym, subst, ◌∙◌, arith, get_or-set_same, get_or-set_other}
+use Rattle.std.specs.List.{AllByRecursion, filter}
 use Rattle.std.specs.Prelude.{Bool}
-use Rattle.std.specs.Option.{IfSome, option_map, is_some, unwrap_or, option_eq}
+use Rattle.std.specs.Option.{IfSome, is_some, option_eq}
 use Rattle.std.proofs.Math.ListN.{length-set}
-use Rattle.std.proofs.lemmas.List.{length-map}
 use Rattle.model.specs.declared.op.Op.{Op}
-use Rattle.model.specs.declared.op.Op.TheVariants.{Work, Delay, DelayUntil, Yield, Time, Mark, Expect, Repeat, End}
+use Rattle.model.specs.declared.op.Op.TheVariants.{Work, Delay, DelayUntil, Expect, Repeat, End}
 use Rattle.model.specs.declared.call.CallProgress.{CallProgress}
 use Rattle.model.specs.declared.loops.Loop.{Loop}
 use Rattle.model.specs.declared.event.Event.{Event}
 use Rattle.model.specs.declared.event.End as ending
 use Rattle.model.specs.declared.event.What.TheVariants as what
-use Rattle.model.specs.Application.{Application, Definition, script_of, op_at, op_count}
-use Rattle.model.specs.Scripts.{may_stand, nesting_past, Nests, IsDefinition, IsWellFormed}
+use Rattle.model.specs.Application.{Application, script_of, op_at, op_count}
+use Rattle.model.specs.Scripts.{may_stand, nesting_past, Nests, IsWellFormed}
 use Rattle.model.specs.State.{State, Task, Progress, Status, Wait, Ready, Awake, Waiting, Asleep, Ended, ticket_if_ready, wait_of, wait_if_awake, wake_time_of, no_call, task_at, progress_at, status_at, with_task, take_ticket, for_one, for_each, no_task}
 use Rattle.model.specs.Order.{Entry, tasks_of}
 use Rattle.model.specs.Switching.{make_ready, to_back, dispatch, choose, choice, is_same, is_ready, yield_now, is_outranked, is_sharing, preempt, slice, settle, is_off, write}
 use Rattle.model.specs.Waiting.{is_locked}
 use Rattle.model.specs.Time.{wake_due, due, is_due, delayed_list, delayed_key, advance, increment_tick, tick_interrupt, sleep, set_previous_wake}
 use Rattle.model.specs.Ops.{go_to, moved_to, complete, answer, use_up, delay, delay_until, expect, open_loop, turn, close_turn}
-use Rattle.model.specs.Step.{act, act_if, act_current, step, reset, nobody_ready, ready_at_reset, task_at_reset, with_ops, is_empty}
 use Rattle.model.specs.Invariant.{HasTicketBelow, IsUsedBy, LoopsNest, IsReckoned, IsAt, Hold, awaited, IsPhaseOf, IsWaitOf, IsCall, IsSound}
 use Rattle.model.proofs.Sorting.{by_test}
 use Rattle.model.proofs.Lists.{eqb-refl, eqb-same}
 use Rattle.model.proofs.Tables.{ticket_at, table-set, table-taken}
 use Rattle.model.proofs.Chosen.{choice_within, list_within}
 use Rattle.model.proofs.InScripts.{script_formed, stands_at, nests_past, used_none}
-use Rattle.model.proofs.Frames.{keeps-answer, keeps-sleep}
+use Rattle.model.proofs.Frames.{keeps-answer}
 
 -- ---- who wakes when
 

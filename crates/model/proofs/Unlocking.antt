@@ -1,12 +1,12 @@
 -- Who was Awake is Ready after an unlock.
-use Rattle.std.proofs.Common.{◌≡◌, ◌<◌, ◌≤◌, ◌||◌, ℕ, zero, suc, true, false, eqb, arith, List, [], ◌∷◌, ◌++◌, length, get_or, set, Option, Some, None, refl, ap, sym, subst, ◌∙◌, get_or-set_same}
+use Rattle.std.proofs.Common.{◌≡◌, ◌<◌, ◌≤◌, ◌||◌, ℕ, zero, suc, true, false, eqb, arith, List, [], ◌∷◌, ◌++◌, length, get_or, Option, Some, None, refl, ap, sym, subst, ◌∙◌, get_or-set_same}
 use Rattle.std.specs.Prelude.{Bool}
 use Rattle.std.specs.List.{AllByRecursion}
 use Rattle.std.specs.Option.{IfSome, option_and_then, is_some}
 use Rattle.std.proofs.Math.ListN.{length-set}
 use Rattle.model.specs.declared.call.WaitList.{WaitList}
 use Rattle.model.specs.declared.call.WaitList.TheVariants.{ToReceive, ToSend}
-use Rattle.model.specs.State.{State, Task, Progress, Status, Wait, Ready, Awake, Waiting, Asleep, Ended, ticket_if_ready, wait_if_awake, wait_of, task_at, status_at, progress_at, for_each, no_task}
+use Rattle.model.specs.State.{State, Task, Status, Wait, Ready, Awake, Waiting, Asleep, Ended, ticket_if_ready, wait_if_awake, task_at, status_at, progress_at, for_each, no_task}
 use Rattle.model.specs.Order.{Key, Entry, key, tasks_of}
 use Rattle.model.specs.Switching.{is_ready, make_ready}
 use Rattle.model.specs.Waiting.{same_list, wait_key, awakened, is_locked, unlock_object}

@@ -4,7 +4,7 @@ use Rattle.std.specs.List.{AllByRecursion}
 use Rattle.model.specs.declared.object.ObjectKind.{ObjectKind}
 use Rattle.model.specs.declared.object.ObjectKind.TheVariants.{Queue}
 use Rattle.model.specs.declared.op.Access.{Access}
-use Rattle.model.specs.declared.op.Access.TheVariants.{Send, SendFront, Overwrite, Receive, Peek}
+use Rattle.model.specs.declared.op.Access.TheVariants.{Overwrite, Receive}
 use Rattle.model.specs.declared.op.Op.{Op}
 use Rattle.model.specs.declared.op.Op.TheVariants.{Work, DelayUntil, Repeat, End, Await, Do, MessagesWaiting, SpacesAvailable}
 use Rattle.model.specs.Application.{Application, Definition}
