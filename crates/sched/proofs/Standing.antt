@@ -58,6 +58,7 @@ stands_back v s i h l = record {
         ∙ sym (ap (λ (k : ℕ). (task_at (make_ready i s) k).priority) same ∙ ap (λ (t : Task). t.priority) (get_or-set_same s.tasks i (record (task_at s i) { status = Ready s.next_ticket }) no_task l))
     | inr apart ↦ sym (ap (λ (t : Task). t.priority) (get_or-set_other s.tasks i j (record (task_at s i) { status = Ready s.next_ticket }) no_task apart))
   ];
+  depth = h.depth;
   table = table-make_ready s i h.table;
 }
 
@@ -121,11 +122,12 @@ unfolding choose dispatch
 stands_chosen v s h =
     let is : first_of v.ready ≡ choice s = ap first_of h.ready ∙ first_task (ready_list s) in
     by_test (is_same (choice s) s.current)
-    (λ t. rw t (record { ready = h.ready; current = is ∙ same_eq (choice s) s.current t; priorities = h.priorities; table = h.table }))
+    (λ t. rw t (record { ready = h.ready; current = is ∙ same_eq (choice s) s.current t; priorities = h.priorities; depth = h.depth; table = h.table }))
     (λ t. rw t (record {
       ready = h.ready;
       current = is;
       priorities = h.priorities;
+      depth = h.depth;
       table = record { tickets = h.table.tickets; few = h.table.few; current = choice_within s };
     }))
 
@@ -184,19 +186,21 @@ priorities_set v s new i t h l is same j =
     ])
 
 -- it is Ready no more
-pub stands_blocked : (v : Schedule) (s new : State) (i : ℕ) (t : Task) → StandsFor v s → i < length s.tasks → new.tasks ≡ set s.tasks i t → new.current ≡ s.current → ready_key t ≡ None → t.priority ≡ (task_at s i).priority → IsTable new → StandsFor (mine.block i v) new
-stands_blocked v s new i t h l is current none same table = record {
+pub stands_blocked : (v : Schedule) (s new : State) (i : ℕ) (t : Task) → StandsFor v s → i < length s.tasks → new.tasks ≡ set s.tasks i t → new.current ≡ s.current → new.call_hold ≡ s.call_hold → ready_key t ≡ None → t.priority ≡ (task_at s i).priority → IsTable new → StandsFor (mine.block i v) new
+stands_blocked v s new i t h l is current held none same table = record {
   ready = ap (without i) h.ready ∙ sym (with_priorities-filter i (ready_list s)) ∙ sym (ap with_priorities (ap (list_by ready_key) is ∙ list-gone ready_key i t s.tasks l none));
   current = h.current ∙ sym current;
   priorities = priorities_set v s new i t h l is same;
+  depth = h.depth ∙ sym (ap (λ b. if b then 1 else 0) held);
   table = table;
 }
 
 -- it keeps its key
-pub stands_kept : (v : Schedule) (s new : State) (i : ℕ) (t : Task) → StandsFor v s → i < length s.tasks → new.tasks ≡ set s.tasks i t → new.current ≡ s.current → ready_key t ≡ ready_key (task_at s i) → t.priority ≡ (task_at s i).priority → IsTable new → StandsFor v new
-stands_kept v s new i t h l is current key_same same table = record {
+pub stands_kept : (v : Schedule) (s new : State) (i : ℕ) (t : Task) → StandsFor v s → i < length s.tasks → new.tasks ≡ set s.tasks i t → new.current ≡ s.current → new.call_hold ≡ s.call_hold → ready_key t ≡ ready_key (task_at s i) → t.priority ≡ (task_at s i).priority → IsTable new → StandsFor v new
+stands_kept v s new i t h l is current held key_same same table = record {
   ready = h.ready ∙ sym (ap with_priorities (ap (list_by ready_key) is ∙ list-kept ready_key i t s.tasks key_same));
   current = h.current ∙ sym current;
   priorities = priorities_set v s new i t h l is same;
+  depth = h.depth ∙ sym (ap (λ b. if b then 1 else 0) held);
   table = table;
 }

@@ -95,12 +95,12 @@ module _ {lists : List (List (ℕ × ℕ))} {priorities : List ℕ} (h : IsSched
   is_in : has_node task (ready_list_of lists) ≡ true
   is_in = sym (any_in_ready_list h.sound task) ∙ ap is_some (h.sound.one_place task p (has_first h.sound task split.0 p split.1 split.2))
 
-  pub schedule_turned : (current : Option ℕ) → schedule_of (turn p lists) current priorities ≡ to_back task (schedule_of lists current priorities)
-  schedule_turned current = rw is_in (ap (with_ready current priorities) ready_turned)
+  pub schedule_turned : (current : Option ℕ) (depth : ℕ) → schedule_of (turn p lists) current priorities depth ≡ to_back task (schedule_of lists current priorities depth)
+  schedule_turned current depth = rw is_in (ap (with_ready current priorities depth) ready_turned)
 
   -- where it runs and no task is above it, its turn ends if it has an equal
-  module _ (highest : IsHighest lists (Some p)) where
-    not_outranked : is_outranked (schedule_of lists (Some task) priorities) ≡ false
+  module _ (depth : ℕ) (highest : IsHighest lists (Some p)) where
+    not_outranked : is_outranked (schedule_of lists (Some task) priorities depth) ≡ false
     not_outranked = any_above priorities lists p task h.at_home highest ∙ le-ltb (priority_in priorities task) p (let home = is.home in omega (arith, home))
 
     others_there : (xs : List (ℕ × ℕ)) → Apart (Some task) xs → list_any (λ e. not (e.0 == task)) xs ≡ is_some (first_of xs)
@@ -109,7 +109,7 @@ module _ {lists : List (List (ℕ × ℕ))} {priorities : List ℕ} (h : IsSched
         let ne : (x.0 == task) ≡ false = ne_eqb x.0 task (λ e. a.0 (ap Some (sym e))) in
         rw ne refl
 
-    sharing_if : is_sharing (schedule_of lists (Some task) priorities) ≡ is_some (second_of (entries_of lists p))
+    sharing_if : is_sharing (schedule_of lists (Some task) priorities depth) ≡ is_some (second_of (entries_of lists p))
     sharing_if =
         let once : EachOnce ((task, split.0) ∷ split.1) = subst EachOnce split.2 (h.sound.distinct p) in
         let eq : (task == task) ≡ true = eq-eqb task task refl in
@@ -118,7 +118,7 @@ module _ {lists : List (List (ℕ × ℕ))} {priorities : List ℕ} (h : IsSched
         ∙ rw eq (others_there split.1 once.0)
         ∙ sym (ap (λ (xs : List (ℕ × ℕ)). is_some (second_of xs)) split.2)
 
-    pub ended_if : (is_outranked (schedule_of lists (Some task) priorities) || is_sharing (schedule_of lists (Some task) priorities)) ≡ is_some (second_of (entries_of lists p))
+    pub ended_if : (is_outranked (schedule_of lists (Some task) priorities depth) || is_sharing (schedule_of lists (Some task) priorities depth)) ≡ is_some (second_of (entries_of lists p))
     ended_if = ap₂ (λ (a b : Bool). a || b) not_outranked sharing_if
 
     first_after : first_of (ready_list_of (turn p lists)) ≡ first_of (entries_of (turn p lists) p)
@@ -128,17 +128,17 @@ module _ {lists : List (List (ℕ × ℕ))} {priorities : List ℕ} (h : IsSched
       λ q above. entries_of-set_other lists p q (rotated (entries_of lists p)) (omega (arith, above)) ∙ highest.2 q above,
     )
 
-    pub schedule_sliced : (n : ℕ) → Some n ≡ second_of (entries_of lists p) → schedule_of (turn p lists) (Some n) priorities ≡ slice (schedule_of lists (Some task) priorities)
+    pub schedule_sliced : (n : ℕ) → Some n ≡ second_of (entries_of lists p) → schedule_of (turn p lists) (Some n) priorities depth ≡ slice (schedule_of lists (Some task) priorities depth)
     schedule_sliced n second =
         let next : Some n ≡ first_of (entries_of (turn p lists) p) =
         first_still n split.1 (task, split.0) (second ∙ ap second_of split.2)
         ∙ sym (ap first_of (entries_of-set_same lists p (rotated (entries_of lists p)) below ∙ ap rotated split.2)) in
-        ap (λ (o : Option ℕ). schedule_of (turn p lists) o priorities) (next ∙ sym first_after)
-        ∙ ap choose (schedule_turned (Some task))
-        ∙ sym (ap (sliced_if (schedule_of lists (Some task) priorities)) (ended_if ∙ ap is_some (sym second)))
+        ap (λ (o : Option ℕ). schedule_of (turn p lists) o priorities depth) (next ∙ sym first_after)
+        ∙ ap choose (schedule_turned (Some task) depth)
+        ∙ sym (ap (sliced_if (schedule_of lists (Some task) priorities depth)) (ended_if ∙ ap is_some (sym second)))
 
-    pub schedule_kept : None ≡ second_of (entries_of lists p) → schedule_of (turn p lists) (Some task) priorities ≡ slice (schedule_of lists (Some task) priorities)
+    pub schedule_kept : None ≡ second_of (entries_of lists p) → schedule_of (turn p lists) (Some task) priorities depth ≡ slice (schedule_of lists (Some task) priorities depth)
     schedule_kept none =
         let one : entries_of lists p ≡ (task, split.0) ∷ [] = split.2 ∙ ap (λ (xs : List (ℕ × ℕ)). (task, split.0) ∷ xs) (no_first split.1 (none ∙ ap second_of split.2)) in
-        ap (λ (ls : List (List (ℕ × ℕ))). schedule_of ls (Some task) priorities) (ap (λ (xs : List (ℕ × ℕ)). set lists p (rotated xs)) one ∙ ap (set lists p) (sym one) ∙ set-get_or lists p [])
-        ∙ sym (ap (sliced_if (schedule_of lists (Some task) priorities)) (ended_if ∙ ap is_some (sym none)))
+        ap (λ (ls : List (List (ℕ × ℕ))). schedule_of ls (Some task) priorities depth) (ap (λ (xs : List (ℕ × ℕ)). set lists p (rotated xs)) one ∙ ap (set lists p) (sym one) ∙ set-get_or lists p [])
+        ∙ sym (ap (sliced_if (schedule_of lists (Some task) priorities depth)) (ended_if ∙ ap is_some (sym none)))

@@ -35,5 +35,6 @@ pub record IsSched (lists : List (List (ℕ × ℕ))) (priorities : List ℕ) : 
   pub at_home : AtHome 0 lists
   pub known : (task : ℕ) → priority_in priorities task < 32
 
-abbrev pub schedule_of : List (List (ℕ × ℕ)) → Option ℕ → List ℕ → Schedule
-schedule_of lists current priorities = record { ready = ready_list_of lists; current = current; priorities = priorities }
+abbrev pub schedule_of : List (List (ℕ × ℕ)) → Option ℕ → List ℕ → ℕ → Schedule
+schedule_of lists current priorities depth =
+    record { ready = ready_list_of lists; current = current; priorities = priorities; depth = depth }

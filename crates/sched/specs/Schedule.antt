@@ -10,6 +10,8 @@ pub record Schedule : Type 0 where
   pub current : Option ℕ
   -- the priority of each task
   pub priorities : List ℕ
+  -- how often the scheduler is held (`uxSchedulerSuspended`)
+  pub depth : ℕ
 
 -- the priority of this task
 abbrev pub priority_in : List ℕ → ℕ → ℕ

@@ -1,5 +1,5 @@
 -- What a schedule stands for: a state of the definitions, whose tickets it does not have.
-use Rattle.std.specs.Prelude.{◌≡◌, ℕ, List, map}
+use Rattle.std.specs.Prelude.{◌≡◌, ℕ, List, map, if◌then◌else◌}
 use Rattle.model.specs.State.{State, task_at}
 use Rattle.model.specs.Order.{Entry}
 use Rattle.model.specs.Switching.{ready_list}
@@ -10,11 +10,17 @@ use Rattle.sched.specs.Schedule.{Schedule, priority_in}
 abbrev pub with_priorities : List Entry → List (ℕ × ℕ)
 with_priorities es = map (λ (e : Entry). (e.task, e.key.priority)) es
 
--- The schedule's Ready tasks are those of the ready list in order, it runs who runs, and the priorities are the tasks'.
+-- how often the scheduler is held in a state
+abbrev pub depth_of : State → ℕ
+depth_of s = if s.call_hold then 1 else 0
+
+-- The schedule's Ready tasks are those of the ready list in order, it runs who runs, the priorities are the tasks', and it
+-- is held as often.
 pub record StandsFor (v : Schedule) (s : State) : Type 0 where
   pub ready : v.ready ≡ with_priorities (ready_list s)
   pub current : v.current ≡ s.current
   pub priorities : (task : ℕ) → priority_in v.priorities task ≡ (task_at s task).priority
+  pub depth : v.depth ≡ depth_of s
   pub table : IsTable s
 
 -- For every state that the old schedule stands for, the new one stands for what the deed makes of it.

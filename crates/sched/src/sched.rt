@@ -1,5 +1,5 @@
 //! The scheduler: the Ready tasks, and the running one.
-ghost use Rattle.std.specs.Prelude.{◌≡◌, ◌<◌, ◌||◌, [], None, false, length};
+ghost use Rattle.std.specs.Prelude.{◌≡◌, ◌<◌, ◌+◌, ◌-◌, ◌||◌, true, [], None, false, length};
 ghost use Rattle.std.specs.List.{AllByRecursion};
 ghost use Rattle.std.specs.Option.{is_some};
 ghost use Rattle.model.specs.State.{State};
@@ -21,6 +21,7 @@ pub struct Sched {
     ready: ReadyLists,
     current: Option<TaskId>,
     priorities: [u8; 32],
+    depth: u32,
 }
 
 // Clauses see the Ready tasks in one list, each before those that it would run before.
@@ -30,22 +31,23 @@ impl Model for Sched {
 
     ghost Value = { Schedule };
 
-    ghost view = { λ s. schedule_of s.ready s.current s.priorities };
+    ghost view = { λ s. schedule_of s.ready s.current s.priorities s.depth };
 
     ghost invariant = { λ s. IsSched s.ready s.priorities };
 }
 
 impl Sched {
-    /// No task is Ready and idle runs. Place `i` of `priorities` is the priority of task `i`, 0 to 31;
+    /// No task is Ready, idle runs, and the scheduler isn't held. Place `i` of `priorities` is the priority of task `i`, 0 to 31;
     /// a larger number is a higher priority.
     pub fn new(priorities: [u8; 32]) -> Self
         requires { AllByRecursion (λ priority. priority < 32) priorities }
-        ensures new { result ≡ record { ready = []; current = None; priorities = priorities } }
+        ensures new { result ≡ record { ready = []; current = None; priorities = priorities; depth = 0 } }
     {
         Sched {
             ready: ReadyLists::new(),
             current: None,
             priorities,
+            depth: 0,
         }
     }
 
@@ -76,6 +78,35 @@ impl Sched {
         ensures ready { result ≡ is_ready self.now task }
     {
         self.ready.contains(task)
+    }
+
+    /// How often the scheduler is held.
+    pub fn depth(&self) -> u32
+        ensures depth { result ≡ self.now.depth }
+    {
+        self.depth
+    }
+
+    /// Holds the scheduler once more, less than 4294967295 times in all (`vTaskSuspendAll`). While it is held the caller
+    /// lets nothing switch.
+    pub fn hold(&mut self)
+        requires { self.old.depth < 4294967295 }
+        ensures schedule { self.new ≡ record self.old { depth = self.old.depth + 1 } }
+        // In the definitions a call holds it, where none did.
+        ensures stands { (s : State) → StandsFor self.old s → s.call_hold ≡ false
+            → StandsFor self.new (record s { call_hold = true }) }
+    {
+        self.depth += 1;
+    }
+
+    /// Takes back one of the holds, of which there is one (`xTaskResumeAll`). It switches nothing by itself.
+    pub fn unhold(&mut self)
+        requires { 0 < self.old.depth }
+        ensures schedule { self.new ≡ record self.old { depth = self.old.depth - 1 } }
+        ensures stands { (s : State) → StandsFor self.old s → s.call_hold ≡ true
+            → StandsFor self.new (record s { call_hold = false }) }
+    {
+        self.depth -= 1;
     }
 
     /// Makes a task Ready that isn't (`is_ready` tells), behind the others of its priority.

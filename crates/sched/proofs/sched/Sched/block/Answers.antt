@@ -16,7 +16,7 @@ returns c =
     let q = c.self.inside in
     record {
       schedule =
-          ap (λ (ls : List (List (ℕ × ℕ))). schedule_of ls q.current q.priorities) c.remove.ensures.removed
-          ∙ schedule_block q.ready q.current q.priorities c.args.task
+          ap (λ (ls : List (List (ℕ × ℕ))). schedule_of ls q.current q.priorities q.depth) c.remove.ensures.removed
+          ∙ schedule_block q.ready q.current q.priorities q.depth c.args.task
           ∙ ap (block c.args.task) c.self.view_is;
     }

@@ -28,8 +28,8 @@ returns-clause-schedule c =
     let many = c.self.invariant.sound.as_many in
     let known = c.list_of-list.ensures.known in
     omega (arith, many, known) in
-    ap (λ (ls : List (List (ℕ × ℕ))). schedule_of ls q.current q.priorities) c.push_back.ensures.put
-    ∙ schedule_push c.self.invariant q.current task p home below
+    ap (λ (ls : List (List (ℕ × ℕ))). schedule_of ls q.current q.priorities q.depth) c.push_back.ensures.put
+    ∙ schedule_push c.self.invariant q.current q.depth task p home below
     ∙ ap (make_ready task) c.self.view_is
 
 pub returns-clause-stands : goal.returns-clause-stands

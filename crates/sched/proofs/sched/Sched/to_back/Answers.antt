@@ -21,8 +21,8 @@ returns-then-eq c =
     let is = first_by c.first_in.result c.first_in.ensures.first c.if-eq.ensures home c.list_of-list.ensures.known in
     record {
       schedule =
-          ap (λ (ls : List (List (ℕ × ℕ))). schedule_of ls q.current q.priorities) c.rotate.ensures.rotated
-          ∙ schedule_turned c.self.invariant c.args.task c.list_of-list.result.number is q.current
+          ap (λ (ls : List (List (ℕ × ℕ))). schedule_of ls q.current q.priorities q.depth) c.rotate.ensures.rotated
+          ∙ schedule_turned c.self.invariant c.args.task c.list_of-list.result.number is q.current q.depth
           ∙ ap (to_back c.args.task) c.self.view_is;
     }
 
