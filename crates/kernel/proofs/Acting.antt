@@ -98,7 +98,7 @@ module _ (app : Application) (k new : Kernel) (log : List Event) (s : State) (h 
   unfolding expect
   expect_other a t = let u : option_eq eqb (progress_at s i).answer a ≡ false = ap (λ (p : Progress). option_eq eqb p.answer a) (sym same) ∙ t in rw u (record {
     stands = record {
-      sched = record { ready = h.stands.sched.ready; current = h.stands.sched.current; priorities = h.stands.sched.priorities; table = record { tickets = h.stands.sched.table.tickets; few = h.stands.sched.table.few; current = h.stands.sched.table.current } };
+      sched = record { ready = h.stands.sched.ready; current = h.stands.sched.current; priorities = h.stands.sched.priorities; depth = h.stands.sched.depth; table = record { tickets = h.stands.sched.table.tickets; few = h.stands.sched.table.few; current = h.stands.sched.table.current } };
       rest = record {
         progress = h.stands.rest.progress;
         full = h.stands.rest.full;
@@ -106,7 +106,6 @@ module _ (app : Application) (k new : Kernel) (log : List Event) (s : State) (h 
         steps = h.stands.rest.steps;
         stopped = ap (λ (p : Progress). Some (ending.Check i p.op_index)) same;
         nobody_waits = h.stands.rest.nobody_waits;
-        free = h.stands.rest.free;
       };
     };
     log = h.log;

@@ -183,9 +183,9 @@ sched_chosen : (v : Schedule) (s : State) → sched.StandsFor v (choose s) → s
 unfolding choose dispatch
 sched_chosen v s h = by_test (is_same (choice s) s.current)
     (λ t. let g : sched.StandsFor v s = rw t at h in
-    record { ready = g.ready; current = g.current ∙ sym (same_eq (choice s) s.current t); priorities = g.priorities; table = record { tickets = g.table.tickets; few = g.table.few; current = choice_within s } })
+    record { ready = g.ready; current = g.current ∙ sym (same_eq (choice s) s.current t); priorities = g.priorities; depth = g.depth; table = record { tickets = g.table.tickets; few = g.table.few; current = choice_within s } })
     (λ t. let g = rw t at h in
-    record { ready = g.ready; current = g.current; priorities = g.priorities; table = record { tickets = g.table.tickets; few = g.table.few; current = choice_within s } })
+    record { ready = g.ready; current = g.current; priorities = g.priorities; depth = g.depth; table = record { tickets = g.table.tickets; few = g.table.few; current = choice_within s } })
 
 -- Nobody sleeps.
 NobodyAsleep : State → Type 0
@@ -245,6 +245,5 @@ booted app formed k v w h ready chooses =
         steps = h.rest.steps ∙ sym keep.steps;
         stopped = h.rest.stopped ∙ sym keep.stopped;
         nobody_waits = unwaiting-all_ready is none h.rest.nobody_waits;
-        free = ap (λ (x : Hold). x.held) keep.hold ∙ h.rest.free;
       };
     }

@@ -18,11 +18,10 @@ use Rattle.model.specs.Scripts.{may_stand, fits, fits_object, knows, IsWellForme
 use Rattle.model.specs.State.{State, Progress, progress_at, status_at}
 use Rattle.model.specs.Switching.{is_ready}
 use Rattle.model.specs.Run.{end_of, or_else, are_all_ended, is_stuck, state_after}
-use Rattle.model.specs.Invariant.{IsState, IsUsedBy}
+use Rattle.model.specs.Invariant.{IsState, IsUsedBy, IsRunning, RunsIn, awaited}
 use Rattle.model.proofs.InScripts.{script_formed, stands_at, known_at}
 use Rattle.model.proofs.Sound.{ready_reckoned, ready_awake}
-use Rattle.model.proofs.Reached.{reached_after}
-use Rattle.model.proofs.Settled.{settled_after}
+use Rattle.model.proofs.Reached.{reached_after, start_only}
 use Rattle.clock.specs.Timeline.{is_asleep}
 use Rattle.kernel.specs.declared.kernel.Kernel.{Kernel}
 use Rattle.kernel.specs.StandsFor.{progress_in}
@@ -83,6 +82,21 @@ no_object app (Do o a) none t = no_fit app o a none (and_left (fits_object app o
 no_object app (MessagesWaiting o) none t = no_fit app o Receive none t
 no_object app (SpacesAvailable o) none t = no_fit app o Receive none t
 
+no_wait : (op : Op) → HasNoObject op → awaited (Some op) ≡ None
+no_wait (Work n) h = refl
+no_wait (Delay n) h = refl
+no_wait (DelayUntil n) h = refl
+no_wait Yield h = refl
+no_wait Time h = refl
+no_wait (Mark n) h = refl
+no_wait (Expect a) h = refl
+no_wait (Repeat n) h = refl
+no_wait EndLoop h = refl
+no_wait (Await o a w) h = absurd h
+no_wait (Do o a) h = refl
+no_wait (MessagesWaiting o) h = refl
+no_wait (SpacesAvailable o) h = refl
+
 module _ (app : Application) (formed : IsWellFormed app) (none : app.objects ≡ []) (k : Kernel) (c : CanStep app k) where
   abbrev state : State
   state = state_after app c.steps
@@ -106,9 +120,13 @@ module _ (app : Application) (formed : IsWellFormed app) (none : app.objects ≡
     at_op : op_at app task (progress_at state task).op_index ≡ Some op
     at_op = let P : Progress → Type 0 = λ p. op_at app task p.op_index ≡ Some op in subst P same is
 
-    -- The running task is Ready.
+    -- The op waits for nothing, so no call holds the scheduler, and the running task is Ready.
     is_on : is_ready state task ≡ true
-    is_on = let L : Option ℕ → Type 0 = λ o. IfSome o (λ i. is_ready state i ≡ true) in subst L (sym c.stands.sched.current ∙ runs) (settled_after app c.steps c.stands.rest.free)
+    is_on =
+        let on : state.current ≡ Some task = sym c.stands.sched.current ∙ runs in
+        let waits : awaited (Some op) ≡ None = no_wait op (no_object app op none (known_at app formed task (progress_at state task).op_index op at_op)) in
+        let running : IsRunning state task = subst (RunsIn state) on reached.runs in
+        running.ready (start_only app formed state task reached on op waits at_op)
 
     is_awake : is_asleep k.clock task ≡ false
     is_awake = asleep_is k.clock state c.stands.rest.clock task ∙ ap (λ (o : Option ℕ). is_some o) (ready_awake (status_at state task) is_on)

@@ -11,7 +11,7 @@ use Rattle.model.specs.declared.event.End.TheVariants.{Pass, Ticks, Steps, Stuck
 use Rattle.model.specs.Application.{Application, Limits}
 use Rattle.model.specs.State.{State, Task, Status, Ready, Awake, Waiting, Asleep, Ended, wait_of, wake_time_of, no_task}
 use Rattle.model.specs.Order.{Key, Entry, key, keyed, list_by, tasks_of}
-use Rattle.model.specs.Switching.{ready_key, settle}
+use Rattle.model.specs.Switching.{ready_key, settle, unless_held}
 use Rattle.model.specs.Time.{delayed_key}
 use Rattle.model.specs.Step.{act_current, step}
 use Rattle.model.specs.Run.{is_ended, are_all_ended, is_stuck, end_of}
@@ -199,32 +199,21 @@ begun k log s h e =
     let table : IsTable (record s { log = [] }) = record { tickets = h.sched.table.tickets; few = h.sched.table.few; current = h.sched.table.current } in
     record {
       stands = record {
-        sched = record { ready = h.sched.ready; current = h.sched.current; priorities = h.sched.priorities; table = table };
-        rest = rest_same k s (record s { log = [] }) h.rest refl refl refl refl refl refl table;
+        sched = record { ready = h.sched.ready; current = h.sched.current; priorities = h.sched.priorities; depth = h.sched.depth; table = table };
+        rest = rest_same k s (record s { log = [] }) h.rest refl refl refl refl refl table;
       };
       log = e;
     }
 
--- a kernel that stands for a settled state, in which no call holds the scheduler
-acted_free : (s : State) (k : Kernel) (log : List Event) → At k log (settle s) → s.call_hold ≡ false
-acted_free s k log a = ap (λ (x : Hold). x.held) (sym (keeps-settle s).hold) ∙ a.stands.rest.free
-
-pub stepped_log : (app : Application) (s : State) (k : Kernel) (log : List Event) → At k log (settle (act_current app s.current (record s { log = [] }))) → log ≡ (step app s).log
-unfolding step
-stepped_log app s k log a =
-    let acted : State = act_current app s.current (record s { log = [] }) in
-    a.log ∙ ap (λ (t : State). t.log) (sym (when_free settle acted (acted_free acted k log a)))
-
-pub stepped : (app : Application) (s : State) (k : Kernel) (log : List Event) (n : ℕ) → n ≡ s.steps → At k log (settle (act_current app s.current (record s { log = [] }))) → StandsFor (record k { steps = n + 1 }) (step app s)
+pub stepped : (app : Application) (s : State) (k : Kernel) (log : List Event) (n : ℕ) → n ≡ s.steps → At k log (unless_held settle (act_current app s.current (record s { log = [] }))) → StandsFor (record k { steps = n + 1 }) (step app s)
 unfolding step
 stepped app s k log n e a =
     let acted : State = act_current app s.current (record s { log = [] }) in
-    let new : State = settle acted in
+    let new : State = unless_held settle acted in
     let h = a.stands in
     let table : IsTable (record new { steps = s.steps + 1 }) = record { tickets = h.sched.table.tickets; few = h.sched.table.few; current = h.sched.table.current } in
-    let held : acted.call_hold ≡ false = acted_free acted k log a in
-    subst (λ (t : State). StandsFor (record k { steps = n + 1 }) (record t { steps = s.steps + 1 })) (sym (when_free settle acted held)) (record {
-      sched = record { ready = h.sched.ready; current = h.sched.current; priorities = h.sched.priorities; table = table };
+    record {
+      sched = record { ready = h.sched.ready; current = h.sched.current; priorities = h.sched.priorities; depth = h.sched.depth; table = table };
       rest = record {
         progress = h.rest.progress;
         full = h.rest.full;
@@ -232,6 +221,5 @@ stepped app s k log n e a =
         steps = ap (λ m. m + 1) e;
         stopped = h.rest.stopped;
         nobody_waits = h.rest.nobody_waits;
-        free = h.rest.free;
       };
-    })
+    }

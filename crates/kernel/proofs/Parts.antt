@@ -98,15 +98,14 @@ apart_back k s h i t = by_test (schedule.is_ready k.sched i)
 
 -- ---- all but the scheduler
 
-pub rest_same : (k : Kernel) (s new : State) → RestStandsFor k s → new.tasks ≡ s.tasks → new.time ≡ s.time → new.elapsed ≡ s.elapsed → new.steps ≡ s.steps → new.stopped ≡ s.stopped → new.call_hold ≡ s.call_hold → IsTable new → RestStandsFor k new
-rest_same k s new h tasks time elapsed steps stopped held table = record {
+pub rest_same : (k : Kernel) (s new : State) → RestStandsFor k s → new.tasks ≡ s.tasks → new.time ≡ s.time → new.elapsed ≡ s.elapsed → new.steps ≡ s.steps → new.stopped ≡ s.stopped → IsTable new → RestStandsFor k new
+rest_same k s new h tasks time elapsed steps stopped table = record {
   progress = λ i. h.progress i ∙ ap (λ ts. (get_or ts i no_task).progress) (sym tasks);
   full = h.full;
   clock = clock-same k.clock s new h.clock tasks time elapsed table;
   steps = h.steps ∙ sym steps;
   stopped = h.stopped ∙ sym stopped;
   nobody_waits = λ i. ap (λ ts. wait_of (get_or ts i no_task).status) tasks ∙ h.nobody_waits i;
-  free = held ∙ h.free;
 }
 
 -- a Ready task is a task
@@ -132,7 +131,6 @@ module _ (k : Kernel) (s : State) (h : StandsFor k s) (i : ℕ) (l : i < length 
         steps = h.rest.steps;
         stopped = h.rest.stopped;
         nobody_waits = each-set no_task (λ _ u. wait_of u.status ≡ None) s.tasks i t refl h.rest.nobody_waits;
-        free = h.rest.free;
       }
 
   -- a Ready task begins to sleep
@@ -144,8 +142,8 @@ module _ (k : Kernel) (s : State) (h : StandsFor k s) (i : ℕ) (l : i < length 
       let table : IsTable new = table-taken s i (Asleep wake_time) h.sched.table (omega arith) in
       let c : clock.StandsFor t new = rw on at slept in
       rw on (record {
-        sched = rw blocks (on_sched.stands_blocked k.sched s new i u h.sched l refl refl refl refl table);
-        rest = record { progress = progress-same k.progress s.tasks i u h.rest.progress l refl; full = h.rest.full; clock = c; steps = h.rest.steps; stopped = h.rest.stopped; nobody_waits = each-set no_task (λ _ v. wait_of v.status ≡ None) s.tasks i u refl h.rest.nobody_waits; free = h.rest.free };
+        sched = rw blocks (on_sched.stands_blocked k.sched s new i u h.sched l refl refl refl refl refl table);
+        rest = record { progress = progress-same k.progress s.tasks i u h.rest.progress l refl; full = h.rest.full; clock = c; steps = h.rest.steps; stopped = h.rest.stopped; nobody_waits = each-set no_task (λ _ v. wait_of v.status ≡ None) s.tasks i u refl h.rest.nobody_waits };
       })
 
   -- a task's progress changes
@@ -154,7 +152,7 @@ module _ (k : Kernel) (s : State) (h : StandsFor k s) (i : ℕ) (l : i < length 
       let t : Task = record (task_at s i) { progress = p } in
       let table : IsTable (with_task i t s) = table-set s i t h.sched.table (ticket_at s.next_ticket i s.tasks h.sched.table.tickets) in
       record {
-        sched = on_sched.stands_kept k.sched s (with_task i t s) i t h.sched l refl refl refl refl table;
+        sched = on_sched.stands_kept k.sched s (with_task i t s) i t h.sched l refl refl refl refl refl table;
         rest = record {
           progress = progress-set k.progress s.tasks i t h.rest.progress in_table l;
           full = rw length-set h.rest.full;
@@ -162,7 +160,6 @@ module _ (k : Kernel) (s : State) (h : StandsFor k s) (i : ℕ) (l : i < length 
           steps = h.rest.steps;
           stopped = h.rest.stopped;
           nobody_waits = each-set no_task (λ _ u. wait_of u.status ≡ None) s.tasks i t (h.rest.nobody_waits i) h.rest.nobody_waits;
-          free = h.rest.free;
         };
       }
 
@@ -177,7 +174,7 @@ module _ (k : Kernel) (s : State) (h : StandsFor k s) (i : ℕ) (l : i < length 
       let t : Task = record (task_at s i) { progress = q; status = Ended } in
       let table : IsTable (with_task i t s) = table-set s i t h.sched.table tt in
       rw on (record {
-        sched = rw blocks (on_sched.stands_blocked k.sched s (with_task i t s) i t h.sched l refl refl refl refl table);
+        sched = rw blocks (on_sched.stands_blocked k.sched s (with_task i t s) i t h.sched l refl refl refl refl refl table);
         rest = record {
           progress = progress-set k.progress s.tasks i t h.rest.progress in_table l;
           full = rw length-set h.rest.full;
@@ -185,7 +182,6 @@ module _ (k : Kernel) (s : State) (h : StandsFor k s) (i : ℕ) (l : i < length 
           steps = h.rest.steps;
           stopped = h.rest.stopped;
           nobody_waits = each-set no_task (λ _ u. wait_of u.status ≡ None) s.tasks i t refl h.rest.nobody_waits;
-          free = h.rest.free;
         };
       })
 
@@ -195,8 +191,8 @@ at_written k log new_log s e h told step tick =
     let table : IsTable (write e.what s) = record { tickets = h.stands.sched.table.tickets; few = h.stands.sched.table.few; current = h.stands.sched.table.current } in
     record {
       stands = record {
-        sched = record { ready = h.stands.sched.ready; current = h.stands.sched.current; priorities = h.stands.sched.priorities; table = table };
-        rest = rest_same k s (write e.what s) h.stands.rest refl refl refl refl refl refl table;
+        sched = record { ready = h.stands.sched.ready; current = h.stands.sched.current; priorities = h.stands.sched.priorities; depth = h.stands.sched.depth; table = table };
+        rest = rest_same k s (write e.what s) h.stands.rest refl refl refl refl refl table;
       };
       log = told ∙ rw h.log (ap (λ (x : Event). s.log ++ x ∷ []) (event_same e s.steps (printed s.time) (step ∙ h.stands.rest.steps) (tick ∙ ap printed h.stands.rest.clock.now)));
     } where
@@ -208,6 +204,6 @@ pub stands-told : (k : Kernel) (s : State) → StandsFor k s → (log : List Eve
 stands-told k s h log =
     let table : IsTable (record s { log = log }) = record { tickets = h.sched.table.tickets; few = h.sched.table.few; current = h.sched.table.current } in
     record {
-      sched = record { ready = h.sched.ready; current = h.sched.current; priorities = h.sched.priorities; table = table };
-      rest = rest_same k s (record s { log = log }) h.rest refl refl refl refl refl refl table;
+      sched = record { ready = h.sched.ready; current = h.sched.current; priorities = h.sched.priorities; depth = h.sched.depth; table = table };
+      rest = rest_same k s (record s { log = log }) h.rest refl refl refl refl refl table;
     }

@@ -1,12 +1,14 @@
 -- Who runs: what changes of the processor make of the states that the kernel stands for.
-use Rattle.std.proofs.Common.{◌≡◌, ◌<◌, ℕ, Bool, true, false, not, cond, ◌||◌, List, [], ◌∷◌, ◌++◌, length, Option, Some, None, refl, ap, sym, subst, ◌∙◌, append-nil}
+use Rattle.std.proofs.Common.{◌≡◌, ◌<◌, ◌≤◌, arith, ℕ, Bool, true, false, not, cond, ◌||◌, List, [], ◌∷◌, ◌++◌, length, Option, Some, None, refl, ap, sym, subst, ◌∙◌, append-nil}
+use Rattle.std.specs.Prelude.{if◌then◌else◌}
 use Rattle.std.specs.Option.{IfSome}
 use Rattle.model.specs.declared.event.Event.{Event}
 use Rattle.model.specs.declared.event.What.TheVariants as what
 use Rattle.model.specs.State.{State, printed, for_one}
-use Rattle.model.specs.Switching.{choice, dispatch, choose, yield_now, to_back, make_ready, is_ready, is_outranked, is_sharing, is_same, slice, settle, is_off, write}
+use Rattle.model.specs.Switching.{choice, dispatch, choose, yield_now, to_back, make_ready, is_ready, is_outranked, is_sharing, is_same, slice, settle, is_off, unless_held, write}
 use Rattle.model.specs.Invariant.{IsTable}
 use Rattle.model.proofs.Sorting.{by_test}
+use Rattle.model.proofs.Settled.{when_held, when_free}
 use Rattle.model.proofs.Lists.{eqb-refl}
 use Rattle.sched.specs.StandsFor as sched
 use Rattle.sched.specs.Schedule.{Schedule}
@@ -60,7 +62,7 @@ rest-choose : (k : Kernel) (s : State) → RestStandsFor k s → IsTable (choose
 unfolding choose dispatch
 rest-choose k s h table = by_test (is_same (choice s) s.current)
     (λ t. rw t h)
-    (λ t. rw t (rest_same k s (write (what.Run (choice s)) (record s { current = choice s })) h refl refl refl refl refl refl (rw t at table)))
+    (λ t. rw t (rest_same k s (write (what.Run (choice s)) (record s { current = choice s })) h refl refl refl refl refl (rw t at table)))
 
 rest-back : (k : Kernel) (s : State) (r : Option ℕ) → StandsFor k s → IfSome r (λ i. i < length s.tasks) → RestStandsFor k (for_one to_back r s)
 unfolding to_back
@@ -81,7 +83,7 @@ rest-slice k s h table = by_test (is_outranked s || is_sharing s)
 module _ (k : Kernel) (log new_log : List Event) (s : State) (v : Schedule) (before : Option ℕ) (h : At k log s) (b : before ≡ k.sched.current) (told : new_log ≡ log ++ change k.steps k.clock.now before v.current) where
   changed : (new : State) → sched.StandsFor v new → RestStandsFor k new → Tells s new → At (record k { sched = v }) new_log new
   changed new on rest tells = record {
-    stands = record { sched = on; rest = record { progress = rest.progress; full = rest.full; clock = rest.clock; steps = rest.steps; stopped = rest.stopped; nobody_waits = rest.nobody_waits; free = rest.free } };
+    stands = record { sched = on; rest = record { progress = rest.progress; full = rest.full; clock = rest.clock; steps = rest.steps; stopped = rest.stopped; nobody_waits = rest.nobody_waits } };
     log = told ∙ rw (h.log, b, h.stands.sched.current, h.stands.rest.steps, h.stands.rest.clock.now, on.current) (sym tells);
   }
 
@@ -122,3 +124,19 @@ not_true false t = refl
 pub not_false : (b : Bool) → not b ≡ false → b ≡ true
 not_false true t = refl
 not_false false t = absurd (cc)
+
+-- ---- whether the scheduler is held
+
+held_none : (b : Bool) (depth : ℕ) → depth ≡ (if b then 1 else 0) → depth ≤ 0 → b ≡ false
+held_none false depth e l = refl
+held_none true depth e l = absurd (omega (arith, e, l))
+
+held_some : (b : Bool) (depth : ℕ) → depth ≡ (if b then 1 else 0) → 0 < depth → b ≡ true
+held_some true depth e l = refl
+held_some false depth e l = absurd (omega (arith, e, l))
+
+pub settled_free : (k : Kernel) (log : List Event) (old : Schedule) (s : State) → sched.StandsFor old s → old.depth ≤ 0 → At k log (settle s) → At k log (unless_held settle s)
+settled_free k log old s h none a = subst (At k log) (sym (when_free settle s (held_none s.call_hold old.depth h.depth none))) a
+
+pub settled_held : (k : Kernel) (log : List Event) (s : State) → At k log s → 0 < k.sched.depth → At k log (unless_held settle s)
+settled_held k log s h some = subst (At k log) (sym (when_held settle s (held_some s.call_hold k.sched.depth h.stands.sched.depth some))) h

@@ -116,6 +116,7 @@ module _ (k : Kernel) (log : List Event) (s : State) (h : At k log s) where
     ready = h.stands.sched.ready;
     current = h.stands.sched.current;
     priorities = h.stands.sched.priorities;
+    depth = h.stands.sched.depth;
     table = record { tickets = h.stands.sched.table.tickets; few = h.stands.sched.table.few; current = h.stands.sched.table.current };
   }
 
@@ -135,7 +136,6 @@ module _ (k : Kernel) (log : List Event) (s : State) (h : At k log s) where
             steps = h.stands.rest.steps ∙ sym keep.steps;
             stopped = h.stands.rest.stopped ∙ sym keep.stopped;
             nobody_waits = unwaiting-all_ready due_ones next h.stands.rest.nobody_waits;
-            free = ap (λ (x : Hold). x.held) keep.hold ∙ h.stands.rest.free;
           };
         };
         log = h.log ∙ sym (log-all_ready due_ones next);

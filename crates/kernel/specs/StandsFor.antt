@@ -1,5 +1,5 @@
 -- What a kernel stands for: a state of the definitions, whose tickets it doesn't have.
-use Rattle.std.specs.Prelude.{◌≡◌, ℕ, ◌+◌, ◌≤◌, false, List, [], ◌∷◌, Option, None, length, slice_index_or, slice_set, if◌then◌else◌}
+use Rattle.std.specs.Prelude.{◌≡◌, ℕ, ◌+◌, ◌≤◌, List, [], ◌∷◌, Option, None, length, slice_index_or, slice_set, if◌then◌else◌}
 use Rattle.model.specs.declared.event.Event.{Event}
 use Rattle.model.specs.declared.event.What.TheVariants as what
 use Rattle.model.specs.State.{State, Progress, no_progress, wait_of, status_at, progress_at, printed}
@@ -20,9 +20,8 @@ pub record RestStandsFor (k : Kernel) (s : State) : Type 0 where
   pub clock : clock.StandsFor k.clock s
   pub steps : k.steps ≡ s.steps
   pub stopped : k.stopped ≡ s.stopped
-  -- no task waits yet, and no call holds the scheduler
+  -- no task waits yet
   pub nobody_waits : (task : ℕ) → wait_of (status_at s task) ≡ None
-  pub free : s.call_hold ≡ false
 
 -- Where each task is in its script is kept as it is; the scheduler stands for who is Ready and who runs, the clock for
 -- the time and who sleeps until when.

@@ -1,9 +1,11 @@
 //! The kernel's state, and the parts of which each step is made.
 ghost use Rattle.std.specs.Prelude.{◌≡◌, ◌<◌, ◌+◌, ◌++◌, ◌∷◌, [], length};
-ghost use Rattle.model.specs.State.{no_call, printed};
+ghost use Rattle.model.specs.State.{State, no_call, printed};
+ghost use Rattle.sched.specs.StandsFor.{StandsFor as ScheduleStandsFor};
+ghost use Rattle.clock.specs.StandsFor.{StandsFor as ClockStandsFor};
 ghost use Rattle.model.specs.Switching.{write};
 ghost use Rattle.kernel.specs.Loops.{after_turn, next_turn};
-ghost use Rattle.kernel.specs.StandsFor.{Does, progress_in, with_progress};
+ghost use Rattle.kernel.specs.StandsFor.{StandsFor, Does, progress_in, with_progress};
 
 use crate::log::Log;
 use crate::progress::Progress;
@@ -22,6 +24,20 @@ pub struct Kernel {
 }
 
 impl Kernel {
+    /// The scheduler, as it stands for each state that the kernel stands for.
+    pub fn sched(&self) -> &Sched
+        ensures { (s : State) → StandsFor self.now s → ScheduleStandsFor result.now s }
+    {
+        &self.sched
+    }
+
+    /// The clock, as it stands for each state that the kernel stands for.
+    pub fn clock(&self) -> &Clock
+        ensures { (s : State) → StandsFor self.now s → ClockStandsFor result.now s }
+    {
+        &self.clock
+    }
+
     /// Where a task is in its script.
     pub(crate) fn progress(&self, task: TaskId) -> &Progress
         ensures { result.now ≡ progress_in self.now.progress task }

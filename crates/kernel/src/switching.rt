@@ -2,7 +2,7 @@
 ghost use Rattle.std.specs.Prelude.{◌≡◌, ◌<◌, ◌≤◌, ◌+◌, ◌++◌, length};
 ghost use Rattle.std.specs.List.{AllByRecursion};
 ghost use Rattle.model.specs.State.{State, for_each};
-ghost use Rattle.model.specs.Switching.{choose, is_ready, slice, settle, yield_now, make_ready};
+ghost use Rattle.model.specs.Switching.{choose, is_ready, slice, settle, unless_held, yield_now, make_ready};
 ghost use Rattle.model.specs.Time.{increment_tick, tick_interrupt};
 ghost use Rattle.sched.specs.StandsFor.{StandsFor as ScheduleStandsFor};
 ghost use Rattle.sched.specs.Schedule as schedule;
@@ -80,11 +80,15 @@ impl Kernel {
         self.write_change(before, log);
     }
 
-    /// The end of a step: where the running task isn't Ready any more, the choice runs.
+    /// The end of a step: where the running task isn't Ready any more, the choice runs, unless the scheduler is held.
     pub(crate) fn settle<L: Log>(&mut self, log: &mut L)
         requires { 0 < (L.logged log.old).room }
-        ensures { Does 1 self.old (L.logged log.old) self.new (L.logged log.new) settle }
+        ensures { Does 1 self.old (L.logged log.old) self.new (L.logged log.new)
+            (unless_held settle) }
     {
+        if self.sched.depth() > 0 {
+            return;
+        }
         if let Some(task) = self.sched.current() {
             if !self.is_ready(task) {
                 self.choose(log);

@@ -147,7 +147,7 @@ module _ (app : Application) (formed : IsWellFormed app) where
       next Unlock e = let held = held_in Unlock e refl in still_held _ (unlocked app formed s i o h on there waits held e) (unlocked_held app formed s i o h on there waits held e)
       next Leave e = let held = held_in Leave e refl in settled_at_rest _ (left app formed s i o h on there waits held e) (left_hold app formed s i o h on there waits held e)
 
-    start_only : (op : Op) → awaited (Some op) ≡ None → op_at app i (progress_at s i).op_index ≡ Some op → s.call_hold ≡ false
+    pub start_only : (op : Op) → awaited (Some op) ≡ None → op_at app i (progress_at s i).op_index ≡ Some op → s.call_hold ≡ false
     start_only op w is = free_in (call_at s i).phase refl (only_start (call_at s i).phase (subst (λ object. IsPhaseOf (hold_of s) object (call_at s i).phase) (ap awaited is ∙ w) (h.sound.calls i).phase)) where
       only_start : (phase : Phase) → IsPhaseOf (hold_of s) None phase → holds phase ≡ false
       only_start Start p = refl

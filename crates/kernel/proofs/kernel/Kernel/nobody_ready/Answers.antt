@@ -15,6 +15,7 @@ returns-clause-stands c =
         ready = ap (λ (v : Schedule). v.ready) c.new.ensures.new ∙ sym (none_ready c.args.app.now.start c.args.app.now.tasks);
         current = ap (λ (v : Schedule). v.current) c.new.ensures.new;
         priorities = λ i. rw c.new.ensures.new (c.priorities_of.ensures.priorities i ∙ rw c.tasks-2.ensures (priority_at c.args.app.now.start c.args.app.now.tasks i));
+        depth = ap (λ (v : Schedule). v.depth) c.new.ensures.new;
         table = table;
       };
       rest = record {
@@ -31,6 +32,5 @@ returns-clause-stands c =
         steps = refl;
         stopped = refl;
         nobody_waits = none_waits c.args.app.now.start c.args.app.now.tasks;
-        free = refl;
       };
     }

@@ -1,5 +1,6 @@
+use Rattle.model.specs.Step.{step}
 use Rattle.kernel.proofs.Bounds.{can_act}
-use Rattle.kernel.proofs.Ending.{begun, stepped, stepped_log}
+use Rattle.kernel.proofs.Ending.{begun, stepped}
 use Rattle.kernel.proofs.kernel.Kernel.step_onto.Goals as goal
 
 pub act_current-requires-clause-can : goal.act_current-requires-clause-can
@@ -9,4 +10,5 @@ pub returns-clause-stands : goal.returns-clause-stands
 returns-clause-stands g c = λ s h. stepped c.args.app.now s c.settle.new.self (g.L.Log.logged c.settle.new.log).told c.args.self.now.steps h.rest.steps (c.settle.ensures.at _ (c.act_current.ensures.at _ (begun c.args.self.now (g.L.Log.logged c.args.log.now).told s h c.requires.begun)))
 
 pub returns-clause-told : goal.returns-clause-told
-returns-clause-told g c = λ s h. stepped_log c.args.app.now s c.settle.new.self (g.L.Log.logged c.settle.new.log).told (c.settle.ensures.at _ (c.act_current.ensures.at _ (begun c.args.self.now (g.L.Log.logged c.args.log.now).told s h c.requires.begun)))
+unfolding step
+returns-clause-told g c = λ s h. (c.settle.ensures.at _ (c.act_current.ensures.at _ (begun c.args.self.now (g.L.Log.logged c.args.log.now).told s h c.requires.begun))).log
