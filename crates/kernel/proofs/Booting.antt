@@ -12,7 +12,6 @@ use Rattle.model.specs.Order.{keyed, list_by, tasks_of}
 use Rattle.model.specs.Switching.{make_ready, ready_key, choice, choose, dispatch, is_same}
 use Rattle.model.specs.Time.{delayed_key, due}
 use Rattle.model.specs.Step.{task_at_reset, with_ops, is_empty, reset, nobody_ready, ready_at_reset}
-use Rattle.model.specs.Invariant.{Hold}
 use Rattle.model.proofs.Sorting.{by_test}
 use Rattle.model.proofs.Lists.{eqb-refl, eqb-same, eqb-apart}
 use Rattle.model.proofs.Chosen.{choice_within, each-end}

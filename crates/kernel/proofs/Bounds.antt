@@ -4,7 +4,7 @@ use Rattle.std.proofs.lemmas.Bool.{ltb-true}
 use Rattle.std.proofs.lemmas.Bool.Decides.{nat_tests}
 use Rattle.std.proofs.lemmas.Option.{slice_get_within}
 use Rattle.std.specs.List.{slice_get}
-use Rattle.std.specs.Option.{IfSome, is_some, option_map, unwrap_or}
+use Rattle.std.specs.Option.{is_some, option_map, unwrap_or}
 use Rattle.model.specs.declared.ids.TaskId.{TaskId}
 use Rattle.model.specs.declared.event.End.{End}
 use Rattle.model.specs.declared.event.End.TheVariants as ending

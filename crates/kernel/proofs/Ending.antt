@@ -15,9 +15,7 @@ use Rattle.model.specs.Switching.{ready_key, settle, unless_held}
 use Rattle.model.specs.Time.{delayed_key}
 use Rattle.model.specs.Step.{act_current, step}
 use Rattle.model.specs.Run.{is_ended, are_all_ended, is_stuck, end_of}
-use Rattle.model.specs.Invariant.{IsTable, Hold}
-use Rattle.model.proofs.Frames.{keeps-settle}
-use Rattle.model.proofs.Settled.{when_free}
+use Rattle.model.specs.Invariant.{IsTable}
 use Rattle.model.proofs.Sorting.{length-in_order, by_test}
 use Rattle.model.proofs.Lists.{eqb-apart, eqb-refl, HasKey, list_has}
 use Rattle.lists.specs.Lists.{first_of}

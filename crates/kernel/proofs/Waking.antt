@@ -8,7 +8,6 @@ use Rattle.model.specs.State.{State, Task, Ready, wait_of, task_at, status_at, p
 use Rattle.model.specs.Order.{tasks_of}
 use Rattle.model.specs.Switching.{make_ready}
 use Rattle.model.specs.Time.{due, wake_due, advance, increment_tick}
-use Rattle.model.specs.Invariant.{Hold}
 use Rattle.model.proofs.Sorting.{by_test}
 use Rattle.model.proofs.Sound.{each-set}
 use Rattle.model.proofs.Lists.{eqb-refl}
