@@ -1,5 +1,8 @@
-//! The objects that tasks share: queues (profile: of numbers of 32 bits).
+//! The objects that tasks share: queues (profile: of numbers of 32 bits), and the lists of those who wait at them.
 #![tactic(auto)]
 
 mod items;
-
+mod laws;
+#[cfg(test)]
+mod tests;
+mod waiting_lists;
