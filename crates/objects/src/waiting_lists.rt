@@ -161,8 +161,10 @@ impl WaitingLists {
     {
         self.in_order();
         let mut taken = ArrayVec::new();
+        // The loop reads the list through a reference: a value that it used up could not be there in the next turn.
+        let list = &list;
         for _ in 0..count {
-            if let Some(best) = self.take_best(list) {
+            if let Some(best) = self.take_best(*list) {
                 taken.push(best);
             }
         }
