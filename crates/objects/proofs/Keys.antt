@@ -1,5 +1,5 @@
 -- Where a task stands, by cases on its status and on the list.
-use Rattle.std.proofs.Common.{◌≡◌, ◌≢◌, ℕ, ◌+◌, ◌*◌, ◌<◌, true, false, Option, Some, None, List, [], ◌∷◌, refl, ap, ap₂, sym, ◌∙◌, arith, get_or, length, suc}
+use Rattle.std.proofs.Common.{◌≡◌, ◌≢◌, ℕ, ◌+◌, ◌<◌, true, false, Option, None, List, [], ◌∷◌, refl, ap, ap₂, sym, ◌∙◌, arith, get_or, length, suc}
 use Rattle.std.specs.List.{AllByRecursion, cons_option}
 use Rattle.std.specs.Option.{IfSome, option_and_then, option_map}
 use Rattle.model.specs.declared.call.WaitList.{WaitList}

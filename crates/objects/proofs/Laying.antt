@@ -3,8 +3,8 @@ use Rattle.std.proofs.Common.{◌≡◌, ℕ, ◌+◌, ◌-◌, ◌*◌, ◌<◌
 use Rattle.std.proofs.lemmas.List.{get_or-set_same, get_or-set_other, length-set, length-append, length-replicate, drop-replicate, get_or-replicate, get_or_past, get_or_append_left, get_or-append_right}
 use Rattle.std.proofs.lemmas.Bool.{cases_lt}
 use Rattle.std.specs.Prelude.{All}
-use Rattle.objects.specs.Rings.{Fields, IsItems, ring, place, object_of, objects_of}
-use Rattle.model.specs.State.{Object, no_object}
+use Rattle.objects.specs.Rings.{Fields, IsItems, place, object_of, objects_of}
+use Rattle.model.specs.State.{no_object}
 use Rattle.objects.proofs.Listed.{get_or-listed, listed-none}
 
 -- the first i regions lie one behind the other, and end at `used`

@@ -1,5 +1,5 @@
 -- Laws of the list of a function's first values.
-use Rattle.std.proofs.Common.{◌≡◌, ◌≢◌, ℕ, zero, suc, ◌+◌, ◌-◌, ◌<◌, Some, List, [], ◌∷◌, ◌++◌, get_or, set, length, drop, replicate, ap, ap₂, arith, refl}
+use Rattle.std.proofs.Common.{◌≡◌, ◌≢◌, ℕ, zero, suc, ◌+◌, ◌-◌, ◌<◌, Some, List, [], ◌∷◌, ◌++◌, get_or, set, length, drop, ap, ap₂, arith, refl}
 use Rattle.std.specs.Prelude.{slice_get}
 use Rattle.objects.specs.Rings.{listed}
 

@@ -3,7 +3,7 @@ use Rattle.std.proofs.Common.{◌≡◌, ◌≢◌, ℕ, ◌<◌, false, Option,
 use Rattle.std.specs.Prelude.{nat_lt}
 use Rattle.std.proofs.Math.ListN.{length-set}
 use Rattle.std.proofs.lemmas.Option.{same_Some}
-use Rattle.lists.specs.Lists.{Apart, IsSound, entries_of, has_node, place_of, without}
+use Rattle.lists.specs.Lists.{Apart, IsSound, has_node, place_of, without}
 use Rattle.lists.proofs.Laws.{entries_of-set_other, entries_of-set_same, entries_of-without, has_node-None}
 use Rattle.lists.proofs.Entries.{apart_from_test, without-apart}
 use Rattle.model.specs.declared.call.WaitList.{WaitList}

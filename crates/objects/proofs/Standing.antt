@@ -1,18 +1,17 @@
 -- What a change of the lists is in the definitions.
-use Rattle.std.proofs.Common.{◌≡◌, ℕ, ◌<◌, true, false, Option, Some, None, List, [], ◌∷◌, ◌++◌, set, length, map, sym, ◌∙◌, ap, subst, arith, refl, eqb, ltb}
+use Rattle.std.proofs.Common.{◌≡◌, ℕ, ◌<◌, false, Option, Some, None, List, [], ◌∷◌, ◌++◌, set, length, map, sym, ◌∙◌, ap, subst, arith, refl, eqb, ltb}
 use Rattle.std.specs.List.{AllByRecursion, filter}
 use Rattle.std.specs.Option.{IfSome, option_and_then}
-use Rattle.std.proofs.Math.ListN.{length-set}
 use Rattle.std.proofs.lemmas.Bool.{ltb-false, ltb-true}
 use Rattle.std.proofs.lemmas.Option.{same_Some}
-use Rattle.lists.specs.Lists.{IsSound, entries_of, first_of, place_of, without}
-use Rattle.lists.proofs.Entries.{apart_from_test, none-some, without-apart}
-use Rattle.lists.proofs.Laws.{entries_of-set_other, entries_of-set_same, entries_of-without, has_node-None}
+use Rattle.lists.specs.Lists.{first_of, without}
+use Rattle.lists.proofs.Entries.{none-some}
+use Rattle.lists.proofs.Laws.{entries_of-without}
 use Rattle.model.specs.declared.call.WaitList.{WaitList}
-use Rattle.model.specs.State.{State, Status, Task, Ready, Waiting, task_at, status_at, call_at, progress_at, with_task, take_ticket, for_one, for_each}
+use Rattle.model.specs.State.{State, Status, Task, Ready, task_at, status_at, take_ticket, for_one, for_each}
 use Rattle.model.specs.Order.{Key, Entry, entry, first, key, put, task_of}
 use Rattle.model.specs.Switching.{make_ready}
-use Rattle.model.specs.Waiting.{awaken, awake_status, wake_one, wait_key, is_locked, same_list, waiters, wait_in, wake_best}
+use Rattle.model.specs.Waiting.{awaken, awake_status, wake_one, wait_key, is_locked, waiters, wake_best}
 use Rattle.model.specs.Invariant.{HasTicketBelow, IsTable}
 use Rattle.model.proofs.Sorting.{All-filtered, before_false, before_true, by_test}
 use Rattle.model.proofs.Lists.{HasKey, list-entered, list-gone, list-kept, list_below, list_has, other}
@@ -20,7 +19,7 @@ use Rattle.model.proofs.Tables.{table-set, table-taken, ticket_at}
 use Rattle.sched.specs.StandsFor.{with_priorities}
 use Rattle.objects.specs.WaitingLists.{insert_by_priority, number_of, waiting_in}
 use Rattle.objects.specs.WaitersStand.{AwakeAtLocked, Decider, WaitersStand, standing}
-use Rattle.objects.proofs.Keys.{below_standing, other_number, same_list-refl, same_list-true, standing_key, ticket_of-awake, wait_of-awake, waiters_all}
+use Rattle.objects.proofs.Keys.{below_standing, standing_key, ticket_of-awake, wait_of-awake, waiters_all}
 
 -- lists of entries, as tasks with their priorities
 

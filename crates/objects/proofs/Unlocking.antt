@@ -1,6 +1,5 @@
 -- The unlocking of an object.
-use Rattle.std.proofs.Common.{◌≡◌, ℕ, None, ◌+◌, ◌*◌, Option, Some, List, [], ◌∷◌, ◌++◌, set, take, drop, sym, ◌∙◌, ap, ap₂, arith, refl}
-use Rattle.lists.specs.Lists.{entries_of}
+use Rattle.std.proofs.Common.{◌≡◌, ℕ, None, Option, List, [], ◌∷◌, ◌++◌, set, take, drop, sym, ◌∙◌, ap, ap₂, arith, refl}
 use Rattle.lists.proofs.Laws.{entries_of-set_other}
 use Rattle.model.specs.declared.call.WaitList.TheVariants.{ToReceive, ToSend}
 use Rattle.model.specs.State.{State, for_each, for_one}

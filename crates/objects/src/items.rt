@@ -103,10 +103,7 @@ impl Items {
             (holding (object_in self.old queue) ((object_in self.old queue).items ++ item ∷ [])) }
         ensures sound { IsSound self.new }
     {
-        let at = wrapped(
-            self.lengths[queue],
-            self.heads[queue] + self.counts[queue],
-        );
+        let at = wrapped(self.lengths[queue], self.heads[queue] + self.counts[queue]);
         self.pool[self.bases[queue] as usize + at as usize] = item;
         self.counts[queue] += 1;
     }

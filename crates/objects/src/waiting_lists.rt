@@ -161,7 +161,7 @@ impl WaitingLists {
     {
         self.in_order();
         let mut taken = ArrayVec::new();
-        // The loop reads the list through a reference: a value that it used up could not be there in the next turn.
+        // Through a reference, since the borrow checker takes a value that the loop passes on for moved.
         let list = &list;
         for _ in 0..count {
             if let Some(best) = self.take_best(*list) {

@@ -15,7 +15,6 @@ invariant_of-result c =
     let past = c.loop-queue-test.false in
     fresh_is 8192 refl (omega (arith, end, past)) c.loop-queue.invariant
 
-
 pub returns-clause-empty : goal.returns-clause-empty
 returns-clause-empty c = λ q hq. fresh_object _ _ 8192 q hq
     ∙ ap (λ (sizes : List ℕ). record { size = get_or sizes q 0; items = [] }) (padded c.args.lengths.now c.copy_from_slice.new.self c.copy_from_slice.ensures.after)

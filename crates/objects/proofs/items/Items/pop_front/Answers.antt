@@ -27,7 +27,6 @@ returns-clause-items c =
     let some = c.if-self-queue-eq0.false in
     (taken c.self.invariant c.self.view_is c.args.queue c.wrapped.result c.requires (omega (arith, some)) c.wrapped.ensures.wrapped).items
 
-
 pub returns-clause-sound : goal.returns-clause-sound
 returns-clause-sound c =
     let some = c.if-self-queue-eq0.false in

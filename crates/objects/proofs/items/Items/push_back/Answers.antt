@@ -17,6 +17,5 @@ invariant_of-self c = (put_back c.self.invariant c.self.view_is c.args.queue c.a
 pub returns-clause-items : goal.returns-clause-items
 returns-clause-items c = (put_back c.self.invariant c.self.view_is c.args.queue c.args.item c.wrapped-at.result c.requires.known c.requires.room c.wrapped-at.ensures.wrapped).items
 
-
 pub returns-clause-sound : goal.returns-clause-sound
 returns-clause-sound c = (put_back c.self.invariant c.self.view_is c.args.queue c.args.item c.wrapped-at.result c.requires.known c.requires.room c.wrapped-at.ensures.wrapped).sound

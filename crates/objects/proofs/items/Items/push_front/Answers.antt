@@ -22,6 +22,5 @@ invariant_of-self c = (put_front c.self.invariant c.self.view_is c.args.queue c.
 pub returns-clause-items : goal.returns-clause-items
 returns-clause-items c = (put_front c.self.invariant c.self.view_is c.args.queue c.args.item c.wrapped-head.result c.requires.known c.requires.room c.wrapped-head.ensures.wrapped).items
 
-
 pub returns-clause-sound : goal.returns-clause-sound
 returns-clause-sound c = (put_front c.self.invariant c.self.view_is c.args.queue c.args.item c.wrapped-head.result c.requires.known c.requires.room c.wrapped-head.ensures.wrapped).sound

@@ -10,6 +10,5 @@ invariant_of-self c = (replaced c.self.invariant c.self.view_is c.args.queue c.a
 pub returns-clause-items : goal.returns-clause-items
 returns-clause-items c = (replaced c.self.invariant c.self.view_is c.args.queue c.args.item c.requires.known c.requires.long).items
 
-
 pub returns-clause-sound : goal.returns-clause-sound
 returns-clause-sound c = (replaced c.self.invariant c.self.view_is c.args.queue c.args.item c.requires.known c.requires.long).sound

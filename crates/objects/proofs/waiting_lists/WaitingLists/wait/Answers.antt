@@ -1,4 +1,4 @@
-use Rattle.std.proofs.Common.{◌≡◌, ℕ, ◌-◌, ◌<◌, ◌≤◌, rules, List, None, Some, set, sym, ◌∙◌, ap, subst, arith}
+use Rattle.std.proofs.Common.{◌≡◌, ℕ, ◌<◌, rules, List, None, set, sym, ◌∙◌, ap, subst, arith}
 use Rattle.lists.specs.Lists.{IsSound, entries_of, place_of}
 use Rattle.model.specs.Waiting.{wait_in}
 use Rattle.objects.specs.WaitingLists.{AreWaitingLists, insert_by_priority, mirrored, number_of}
@@ -19,8 +19,8 @@ insert_sorted-requires c =
 pub invariant_of-self : goal.invariant_of-self
 invariant_of-self c =
     let put = c.insert_sorted.ensures.put in
-    let fits : 31 - c.args.priority ≤ 31 = omega arith in
-    subst AreWaitingLists (sym put) (are_waiting_put c.self.invariant c.list_id.result.number c.args.task (31 - c.args.priority) c.list_id.ensures.known fits (subst (IsSound 64 32) put c.insert_sorted.ensures.sound))
+    let known = c.requires.priority in
+    subst AreWaitingLists (sym put) (are_waiting_put c.self.invariant c.list_id.result.number c.args.task _ c.list_id.ensures.known (omega (arith, known)) (subst (IsSound 64 32) put c.insert_sorted.ensures.sound))
 
 pub returns-clause-put : goal.returns-clause-put
 returns-clause-put c =
