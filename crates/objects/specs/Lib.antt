@@ -2,3 +2,4 @@ pub mod Items
 pub mod Rings
 pub mod WaitingLists
 pub mod WaitersStand
+pub mod Queues

@@ -3,6 +3,9 @@
 
 mod items;
 mod laws;
+mod queues;
 #[cfg(test)]
 mod tests;
 mod waiting_lists;
+
+pub use queues::Queues;
