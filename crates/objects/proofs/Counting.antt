@@ -63,7 +63,7 @@ agree_apart : (old new : State) (i : ℕ) → ((j : ℕ) → (j ≡ i → ⊥) �
 agree_apart old new i a [] h = tt
 agree_apart old new i a (e ∷ es) h = (a e.task h.0, agree_apart old new i a es h.1)
 
-awake_apart : (old new : State) (i k : ℕ) (es : List Entry) → ((j : ℕ) → (j ≡ i → ⊥) → is_awake new j ≡ is_awake old j) → AllByRecursion (λ y. y.task ≡ i → ⊥) es → FirstAwake old k es → FirstAwake new k es
+pub awake_apart : (old new : State) (i k : ℕ) (es : List Entry) → ((j : ℕ) → (j ≡ i → ⊥) → is_awake new j ≡ is_awake old j) → AllByRecursion (λ y. y.task ≡ i → ⊥) es → FirstAwake old k es → FirstAwake new k es
 awake_apart old new i k es a h = awake_agree old new k es (agree_apart old new i a es h)
 
 -- The first of those that aren't Awake wakes.
@@ -112,7 +112,7 @@ key_elsewhere q p k w h n = by_test (same_list w.list q)
     subst R (sym e) (rw n refl))
     (λ t. let f = rw t at h in absurd (cc))
 
-stands_once : (q p : WaitList) (k : Key) (u : Status) → option_and_then (wait_key q) (wait_of u) ≡ Some k → same_list q p ≡ false → option_and_then (wait_key p) (wait_of u) ≡ None
+pub stands_once : (q p : WaitList) (k : Key) (u : Status) → option_and_then (wait_key q) (wait_of u) ≡ Some k → same_list q p ≡ false → option_and_then (wait_key p) (wait_of u) ≡ None
 stands_once q p k (Ready n) h e = refl
 stands_once q p k (Awake w) h e = key_elsewhere q p k w h e
 stands_once q p k (Waiting w) h e = key_elsewhere q p k w h e

@@ -4,14 +4,14 @@ use Rattle.std.specs.List.{AllByRecursion, cons_option}
 use Rattle.std.specs.Option.{IfSome, option_and_then, option_map}
 use Rattle.model.specs.declared.call.WaitList.{WaitList}
 use Rattle.model.specs.declared.call.WaitList.TheVariants.{ToReceive, ToSend}
-use Rattle.model.specs.State.{State, Status, Ready, Awake, Waiting, Asleep, Ended, Task, Wait, no_task, wait_of, wait_if_waiting, wait_if_awake, ticket_of}
+use Rattle.model.specs.State.{State, Status, Ready, Awake, Waiting, Asleep, Ended, Task, Wait, no_task, wait_of, wait_if_waiting, wait_if_awake, ticket_of, status_at}
 use Rattle.model.specs.Order.{Key, Entry, entry, in_order, keyed}
 use Rattle.model.specs.Waiting.{same_list, wait_key, waiters, is_locked, awake_status}
 use Rattle.model.specs.Invariant.{AllTicketsBelow, HasTicketBelow}
 use Rattle.model.proofs.Sorting.{by_test}
 use Rattle.model.proofs.Lists.{Below, eqb-refl, eqb-same}
 use Rattle.objects.specs.WaitingLists.{number_of}
-use Rattle.objects.specs.WaitersStand.{AwakeAtLocked, standing}
+use Rattle.objects.specs.WaitersStand.{standing}
 
 -- lists and their numbers
 
@@ -76,6 +76,9 @@ ticket_of-awake (Asleep m b) = refl
 ticket_of-awake Ended = refl
 
 -- where an object isn't locked, all who stand there wait
+
+abbrev pub AwakeAtLocked : State → Type 0
+AwakeAtLocked s = (task : ℕ) → IfSome (wait_if_awake (status_at s task)) (λ w. is_locked s.locked w.list ≡ true)
 
 locked_key : (s : State) (list : WaitList) (w : Wait) → is_locked s.locked list ≡ false → is_locked s.locked w.list ≡ true → wait_key list w ≡ None
 locked_key s list w shut shown = by_test (same_list w.list list)

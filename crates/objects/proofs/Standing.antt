@@ -1,5 +1,5 @@
 -- What a change of the lists is in the definitions.
-use Rattle.std.proofs.Common.{◌≡◌, ℕ, ◌<◌, false, Option, Some, None, List, [], ◌∷◌, ◌++◌, set, length, map, sym, ◌∙◌, ap, subst, arith, refl, eqb, ltb}
+use Rattle.std.proofs.Common.{◌≡◌, ℕ, ◌<◌, false, Option, Some, None, List, [], ◌∷◌, ◌++◌, set, length, map, sym, ◌∙◌, ap, subst, arith, refl, eqb, ltb, get_or}
 use Rattle.std.specs.List.{AllByRecursion, filter}
 use Rattle.std.specs.Option.{IfSome, option_and_then}
 use Rattle.std.proofs.lemmas.Bool.{ltb-false, ltb-true}
@@ -8,18 +8,18 @@ use Rattle.lists.specs.Lists.{first_of, without}
 use Rattle.lists.proofs.Entries.{none-some}
 use Rattle.lists.proofs.Laws.{entries_of-without}
 use Rattle.model.specs.declared.call.WaitList.{WaitList}
-use Rattle.model.specs.State.{State, Status, Task, Ready, task_at, status_at, take_ticket, for_one, for_each}
+use Rattle.model.specs.State.{State, no_task, Status, Task, Ready, task_at, status_at, take_ticket, for_each}
 use Rattle.model.specs.Order.{Key, Entry, entry, first, key, put, task_of}
 use Rattle.model.specs.Switching.{make_ready}
-use Rattle.model.specs.Waiting.{awaken, awake_status, wake_one, wait_key, is_locked, waiters, wake_best}
+use Rattle.model.specs.Waiting.{awaken, awake_status, wait_key, is_locked, waiters}
 use Rattle.model.specs.Invariant.{HasTicketBelow, IsTable}
 use Rattle.model.proofs.Sorting.{All-filtered, before_false, before_true, by_test}
 use Rattle.model.proofs.Lists.{HasKey, list-entered, list-gone, list-kept, list_below, list_has, other}
 use Rattle.model.proofs.Tables.{table-set, table-taken, ticket_at}
 use Rattle.sched.specs.StandsFor.{with_priorities}
 use Rattle.objects.specs.WaitingLists.{insert_by_priority, number_of, waiting_in}
-use Rattle.objects.specs.WaitersStand.{AwakeAtLocked, Decider, WaitersStand, standing}
-use Rattle.objects.proofs.Keys.{below_standing, standing_key, ticket_of-awake, wait_of-awake, waiters_all}
+use Rattle.objects.specs.WaitersStand.{Decider, WaitersStand, standing}
+use Rattle.objects.proofs.Keys.{AwakeAtLocked, below_standing, standing_key, ticket_of-awake, wait_of-awake, waiters_all}
 
 -- lists of entries, as tasks with their priorities
 
@@ -95,24 +95,20 @@ first_within : (f : Task → Option Key) (ts : List Task) (i : ℕ) (es : List E
 first_within f ts i [] h e = absurd (none-some i (sym e))
 first_within f ts i (x ∷ es) h e = subst (λ (k : ℕ). k < length ts) (sym (same_Some i x.task e)) h.0.within
 
-module _ (v : List (List (ℕ × ℕ))) (s : State) (list : WaitList) (h : WaitersStand v None s) where
+first_key : (f : Task → Option Key) (ts : List Task) (i : ℕ) (es : List Entry) → AllByRecursion (HasKey f ts) es → Some i ≡ first_of (with_priorities es) → (k : Key) × (f (get_or ts i no_task) ≡ Some k)
+first_key f ts i [] h e = absurd (none-some i (sym e))
+first_key f ts i (x ∷ es) h e = (x.key, subst (λ (n : ℕ). f (get_or ts n no_task) ≡ Some x.key) (sym (same_Some i x.task e)) h.0.key)
+
+module _ (v : List (List (ℕ × ℕ))) (s : State) (list : WaitList) (h : waiting_in v list ≡ with_priorities (standing s list)) where
   pub head_within : (i : ℕ) → Some i ≡ first_of (waiting_in v list) → i < length s.tasks
-  head_within i e = first_within (standing_key list) s.tasks i (standing s list) (list_has (standing_key list) s.tasks) (e ∙ ap first_of (h.lists list))
+  head_within i e = first_within (standing_key list) s.tasks i (standing s list) (list_has (standing_key list) s.tasks) (e ∙ ap first_of h)
+
+  pub head_key : (i : ℕ) → Some i ≡ first_of (waiting_in v list) → (k : Key) × (standing_key list (task_at s i) ≡ Some k)
+  head_key i e = first_key (standing_key list) s.tasks i (standing s list) (list_has (standing_key list) s.tasks) (e ∙ ap first_of h)
 
   -- the first of the list, where its object isn't locked
   pub best_is : AwakeAtLocked s → is_locked s.locked list ≡ false → first_of (waiting_in v list) ≡ task_of (first (waiters s list))
-  best_is awake shut = ap first_of (h.lists list) ∙ first_priorities (standing s list) ∙ ap (λ (es : List Entry). task_of (first es)) (sym (waiters_all s list shut awake))
-
-  -- It is woken at once.
-  pub stands_woken : (i : ℕ) → AwakeAtLocked s → is_locked s.locked list ≡ false → Some i ≡ first_of (waiting_in v list) → WaitersStand (map (without i) v) None (wake_best list s)
-  unfolding wake_best
-  stands_woken i awake shut e =
-      subst (λ (o : Option ℕ). WaitersStand (map (without i) v) None (for_one (λ task. wake_one task list) o s)) (e ∙ best_is awake shut)
-      (rw shut (stands_readied v s i h (head_within i e)))
-
-  pub stands_unwoken : AwakeAtLocked s → is_locked s.locked list ≡ false → None ≡ first_of (waiting_in v list) → WaitersStand v None (wake_best list s)
-  unfolding wake_best
-  stands_unwoken awake shut e = subst (λ (o : Option ℕ). WaitersStand v None (for_one (λ task. wake_one task list) o s)) (e ∙ best_is awake shut) h
+  best_is awake shut = ap first_of h ∙ first_priorities (standing s list) ∙ ap (λ (es : List Entry). task_of (first es)) (sym (waiters_all s list shut awake))
 
 -- many become Ready, one after another
 

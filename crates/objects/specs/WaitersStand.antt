@@ -37,9 +37,10 @@ pub record WaitersStand (v : List (List (ℕ × ℕ))) (decider : Option Decider
 abbrev pub is_awake : State → ℕ → Bool
 is_awake s task = is_some (wait_if_awake (status_at s task))
 
--- Whoever is Awake waited at the locked object.
-abbrev pub AwakeAtLocked : State → Type 0
-AwakeAtLocked s = (task : ℕ) → IfSome (wait_if_awake (status_at s task)) (λ w. is_locked s.locked w.list ≡ true)
+-- Whoever is Awake waited at the locked object, and the one who is still to be placed, if there is one, will wait there.
+pub record AtLocked (decider : Option Decider) (s : State) : Type 0 where
+  pub awake : (task : ℕ) → IfSome (wait_if_awake (status_at s task)) (λ w. is_locked s.locked w.list ≡ true)
+  pub to_place : IfSome decider (λ d. is_locked s.locked d.list ≡ true)
 
 -- The first so many are Awake (all, if there are fewer), and no other is.
 abbrev pub FirstAwake : State → ℕ → List Entry → Type 0

@@ -1,5 +1,5 @@
 //! The tasks that wait at objects, in lists.
-ghost use Rattle.std.specs.Prelude.{◌≡◌, ◌≢◌, ℕ, ◌<◌, [], ◌++◌, map, replicate, slice_set, take, drop, length, false, Some, None};
+ghost use Rattle.std.specs.Prelude.{◌≡◌, ◌≢◌, ℕ, ◌<◌, [], ◌++◌, map, replicate, slice_set, take, drop, length, false, Option, Some, None};
 ghost use Rattle.std.specs.Option.{is_some};
 ghost use Rattle.lists.specs.Lists.{first_of, has_node, place_of, without, IsSound};
 ghost use Rattle.model.specs.declared.call.WaitList as definitions;
@@ -10,7 +10,7 @@ ghost use Rattle.model.specs.Waiting as waiting;
 ghost use Rattle.model.specs.Waiting.{is_locked, waiters, wait_in, wake_best};
 ghost use Rattle.model.specs.Invariant.{IsTable};
 ghost use Rattle.objects.specs.WaitingLists.{insert_by_priority, number_of, tasks_in, waiting_in};
-ghost use Rattle.objects.specs.WaitersStand.{AwakeAtLocked, Decider, StandLocked, WaitersStand, opened, standing};
+ghost use Rattle.objects.specs.WaitersStand.{AtLocked, Decider, StandLocked, WaitersStand, opened, standing};
 
 use arrayvec::ArrayVec;
 use lists::ListId;
@@ -108,8 +108,10 @@ impl WaitingLists {
     /// The best waiter of a list, its first; `None` where nobody waits there.
     pub(crate) fn best(&self, list: WaitList) -> Option<TaskId>
         ensures best { result ≡ first_of (waiting_in self.now list) }
-        ensures waiter { (s : State) → WaitersStand self.now None s → AwakeAtLocked s
-            → is_locked s.locked list ≡ false → result ≡ order.task_of (order.first (waiters s list)) }
+        // In the definitions it is the best of those who wait there, where its object isn't locked.
+        ensures waiter { (s : State) (decider : Option Decider) → WaitersStand self.now decider s
+            → AtLocked decider s → is_locked s.locked list ≡ false
+            → result ≡ order.task_of (order.first (waiters s list)) }
         ensures sound { IsSound 64 32 self.now }
     {
         self.lists.first(list_id(list))
@@ -121,8 +123,14 @@ impl WaitingLists {
         ensures left { self.new ≡ slice_set self.old (number_of list)
             (drop 1 (waiting_in self.old list)) }
         // In the definitions the best waiter is woken, where its object isn't locked;
-        ensures wakes { (s : State) → WaitersStand self.old None s → AwakeAtLocked s
-            → is_locked s.locked list ≡ false → WaitersStand self.new None (wake_best list s) }
+        ensures wakes { (s : State) (decider : Option Decider) → WaitersStand self.old decider s
+            → AtLocked decider s → is_locked s.locked list ≡ false
+            → WaitersStand self.new decider (wake_best list s) }
+        // and where another object is, its counts stay;
+        ensures counts { (s : State) (decider : Option Decider) (object receivers senders : ℕ)
+            → StandLocked self.old decider object receivers senders s → AtLocked decider s
+            → is_locked s.locked list ≡ false
+            → StandLocked self.new decider object receivers senders (wake_best list s) }
         // and in any case who is taken out becomes Ready.
         ensures woken { (s : State) → WaitersStand self.old None s
             → WaitersStand self.new None (for_one make_ready result s) }
