@@ -1,8 +1,8 @@
 //! The queues: their items, who waits at them, and which one is locked.
-ghost use Rattle.std.specs.Prelude.{◌≡◌, ℕ, ◌-◌, ◌<◌, ◌≤◌, [], All, length, replicate, slice_index_or, None, Option};
-ghost use Rattle.model.specs.State.{State, no_object, object_at};
+ghost use Rattle.std.specs.Prelude.{◌≡◌, ℕ, ◌-◌, ◌<◌, ◌≤◌, [], All, length, replicate, slice_index_or, slice_set, true, None, Option};
+ghost use Rattle.model.specs.State.{State, no_object, object_at, with_object};
 ghost use Rattle.model.specs.Objects as definitions;
-ghost use Rattle.model.specs.Objects.{allows};
+ghost use Rattle.model.specs.Objects.{allows, object_after, reply};
 ghost use Rattle.objects.specs.Items.{object_in};
 ghost use Rattle.objects.specs.WaitersStand.{Decider};
 ghost use Rattle.objects.specs.Queues.{StandsFor};
@@ -78,6 +78,38 @@ impl Queues {
             Access::Send(_) | Access::SendFront(_) => self.spaces(object) > 0,
             Access::Overwrite(_) => true,
             Access::Receive | Access::Peek => self.waiting(object) > 0,
+        }
+    }
+
+    /// Does a possible call (`possible` tells) to the items of a queue whose length isn't 0. It answers what the call
+    /// answers: `receive` and `peek` the first item, and any other 1. Nobody is woken.
+    pub fn carry_out(&mut self, object: ObjectId, access: Access) -> Option<u32>
+        requires possible { allows (object_in self.old.objects object) access ≡ true }
+        requires queue { 0 < (object_in self.old.objects object).size }
+        ensures answer { result ≡ reply (object_in self.old.objects object) access }
+        ensures objects { (caller : Option ℕ) → self.new ≡ record self.old {
+            objects = slice_set self.old.objects object
+            (object_after caller access (object_in self.old.objects object)) } }
+        ensures stands { (s : State) (decider : Option Decider) (caller : Option ℕ)
+            → StandsFor self.old decider s → StandsFor self.new decider
+            (with_object object (object_after caller access (object_at s object)) s) }
+    {
+        let queue = object.number as usize;
+        match access {
+            Access::Send(item) => {
+                self.items.push_back(queue, item);
+                Some(1)
+            }
+            Access::SendFront(item) => {
+                self.items.push_front(queue, item);
+                Some(1)
+            }
+            Access::Overwrite(item) => {
+                self.items.replace(queue, item);
+                Some(1)
+            }
+            Access::Receive => self.items.pop_front(queue),
+            Access::Peek => self.items.first(queue),
         }
     }
 }
