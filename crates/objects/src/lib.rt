@@ -1,4 +1,11 @@
-//! The objects that tasks share: queues (profile: of numbers of 32 bits).
+//! The objects that tasks share: queues (profile: of numbers of 32 bits), and the lists of those who wait at them.
 #![tactic(auto)]
 
 mod items;
+mod laws;
+mod queues;
+#[cfg(test)]
+mod tests;
+mod waiting_lists;
+
+pub use queues::Queues;

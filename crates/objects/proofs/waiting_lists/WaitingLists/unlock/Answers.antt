@@ -1,0 +1,17 @@
+use Rattle.std.proofs.Common.{ℕ, List, None, sym, ◌∙◌, subst}
+use Rattle.model.specs.State.{State, for_each}
+use Rattle.model.specs.Switching.{make_ready}
+use Rattle.objects.specs.WaitersStand.{WaitersStand, opened}
+use Rattle.objects.proofs.Unlocking.{each_append, stands_opened, unlocks}
+use Rattle.objects.proofs.waiting_lists.WaitingLists.unlock.Goals as goal
+
+pub returns-clause-woken : goal.returns-clause-woken
+returns-clause-woken c = λ s h. unlocks c.args.self.now _ s c.args.object c.args.receivers c.args.senders _ _ h c.take-to_receive.ensures.taken c.take-to_receive.ensures.left c.take-to_send.ensures.taken
+
+pub returns-clause-unlocks : goal.returns-clause-unlocks
+returns-clause-unlocks c = λ s h.
+    let is : List ℕ = c.take-to_receive.result.items in
+    let js : List ℕ = c.take-to_send.result.items in
+    let one = c.take-to_receive.ensures.woken (opened s) (stands_opened c.args.self.now s h.stand) in
+    let two = c.take-to_send.ensures.woken (for_each make_ready is (opened s)) one in
+    subst (λ (t : State). WaitersStand c.take-to_send.new.self None t) (sym (returns-clause-woken c s h ∙ each_append is js (opened s))) two

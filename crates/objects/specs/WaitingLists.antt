@@ -1,0 +1,36 @@
+-- What callers see of the waiting lists: for each list its tasks in order, each with its priority.
+use Rattle.std.specs.Prelude.{ℕ, ◌+◌, ◌-◌, ◌*◌, ◌≤◌, nat_lt, if◌then◌else◌, List, [], ◌∷◌, map}
+use Rattle.model.specs.declared.call.WaitList.{WaitList}
+use Rattle.model.specs.declared.call.WaitList.TheVariants.{ToReceive, ToSend}
+use Rattle.lists.specs.Lists.{Each, IsSound, entries_of}
+
+-- the number of a list: there are two for each object
+abbrev pub number_of : WaitList → ℕ
+number_of (ToReceive object) = 2 * object
+number_of (ToSend object) = 2 * object + 1
+
+-- the tasks of a list, each with its priority
+abbrev pub waiting_in : List (List (ℕ × ℕ)) → WaitList → List (ℕ × ℕ)
+waiting_in lists list = entries_of lists (number_of list)
+
+-- a task with its priority put behind all that are not of lower priority (`vListInsert`)
+abbrev pub insert_by_priority : ℕ × ℕ → List (ℕ × ℕ) → List (ℕ × ℕ)
+insert_by_priority e [] = e ∷ []
+insert_by_priority e (f ∷ fs) = if nat_lt f.1 e.1 then e ∷ f ∷ fs else f ∷ insert_by_priority e fs
+
+-- the tasks, without their priorities
+abbrev pub tasks_in : List (ℕ × ℕ) → List ℕ
+tasks_in entries = map (λ (e : ℕ × ℕ). e.0) entries
+
+-- a task with its priority, where a list's entry has the value 31 - priority; and back
+abbrev pub mirror : ℕ × ℕ → ℕ × ℕ
+mirror e = (e.0, 31 - e.1)
+
+-- the lists with priorities in place of values
+abbrev pub mirrored : List (List (ℕ × ℕ)) → List (List (ℕ × ℕ))
+mirrored lists = map (map mirror) lists
+
+-- what is true of the entries between two calls: each value is that of a priority
+pub record AreWaitingLists (lists : List (List (ℕ × ℕ))) : Type 0 where
+  pub sound : IsSound 64 32 lists
+  pub known : (list : ℕ) → Each (λ e. e.1 ≤ 31) (entries_of lists list)
