@@ -31,6 +31,9 @@ pub struct Event {
     pub what: What,
 }
 
+// A run may keep millions of events.
+const _: () = prove!(size_of::<Event>() == 16);
+
 /// How a run ends (profile).
 #[derive(Clone, Copy, Debug, PartialEq, Eq)]
 pub enum End {
