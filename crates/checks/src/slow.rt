@@ -239,7 +239,10 @@ impl SlowKernel {
 
     fn answer(&mut self, app: &App, id: TaskId, answer: Option<u32>) {
         let task = self.task(id);
-        self.write(What::Call(id, task.op_index, answer));
+        self.write(match answer {
+            Some(answer) => What::Call(id, task.op_index, answer),
+            None => What::CallNone(id, task.op_index),
+        });
         self.complete(app, id, Task { answer, ..task });
     }
 

@@ -5,14 +5,14 @@ use Rattle.std.proofs.lemmas.Bool.{lt-ltb, le-ltb, eq-eqb, ne_eqb}
 use Rattle.std.proofs.lemmas.List.{set-set}
 use Rattle.model.specs.declared.loops.Loop.{Loop}
 use Rattle.model.specs.declared.event.Event.{Event}
-use Rattle.model.specs.declared.event.What.TheVariants as what
+use Rattle.model.specs.declared.event.What.{What}
 use Rattle.model.specs.declared.event.End.TheVariants as ending
 use Rattle.model.specs.Application.{Application, op_count}
 use Rattle.model.specs.State.{no_call, State, Task, Progress, wake_time_of, task_at, status_at, progress_at, with_task, no_task}
 use Rattle.model.specs.State as state
 use Rattle.model.specs.Switching.{write, yield_now, is_ready}
 use Rattle.model.specs.Time.{sleep, set_previous_wake}
-use Rattle.model.specs.Ops.{go_to, moved_to, complete, answer, use_up, delay, delay_until, expect, open_loop, turn, close_turn}
+use Rattle.model.specs.Ops.{go_to, moved_to, complete, called, answer, use_up, delay, delay_until, expect, open_loop, turn, close_turn}
 use Rattle.model.proofs.Sorting.{by_test}
 use Rattle.model.proofs.Frames.{keeps-answer, keeps-sleep}
 use Rattle.kernel.specs.Loops.{after_turn, next_turn}
@@ -66,13 +66,14 @@ module _ (app : Application) (k mid new : Kernel) (log : List Event) (s : State)
 
 -- a call is complete, and its event is told
 pub answered : (app : Application) (k mid new : Kernel) (log told : List Event) (s : State) → At k log s → (i : ℕ) → k.sched.current ≡ Some i → (v : Progress) → v ≡ progress_in k.progress i → (a : Option ℕ)
-    → At k told (write (what.Call i v.op_index a) s) → mid ≡ with_progress i (record (progress_in k.progress i) { answer = a }) k → Completes app mid i new → At new told (answer app i a s)
+    → (w : What) → w ≡ called i v.op_index a → At k told (write w s) → mid ≡ with_progress i (record (progress_in k.progress i) { answer = a }) k → Completes app mid i new → At new told (answer app i a s)
 unfolding answer
-answered app k mid new log told s h i r v e a written is g =
+answered app k mid new log told s h i r v e a w one written is g =
     let p : Progress = progress_at s i in
     let same : v ≡ p = e ∙ h.stands.rest.progress i in
-    let W : Progress → Type 0 = λ x. At k told (write (what.Call i x.op_index a) s) in
-    completes app k mid new told (write (what.Call i p.op_index a) s) (subst W same written) i r (record (progress_in k.progress i) { answer = a }) (record p { answer = a }) is
+    let W : What → Type 0 = λ x. At k told (write x s) in
+    let told_is : w ≡ called i p.op_index a = one ∙ ap (λ (x : Progress). called i x.op_index a) same in
+    completes app k mid new told (write (called i p.op_index a) s) (subst W told_is written) i r (record (progress_in k.progress i) { answer = a }) (record p { answer = a }) is
     (ap (λ (x : Progress). record x { answer = a }) (h.stands.rest.progress i)) g
 
 module _ (app : Application) (k new : Kernel) (log : List Event) (s : State) (h : At k log s) (i : ℕ) (r : k.sched.current ≡ Some i) (v : Progress) (e : v ≡ progress_in k.progress i) where

@@ -4,7 +4,7 @@
 //! at most; it does the deed of the definitions.
 ghost use Rattle.std.specs.Prelude.{◌≡◌, ◌≤◌, ◌+◌, Some};
 ghost use Rattle.model.specs.State.{progress_at};
-ghost use Rattle.model.specs.Ops.{go_to, complete, answer};
+ghost use Rattle.model.specs.Ops.{go_to, complete, called, answer};
 ghost use Rattle.model.specs.Step.{act};
 ghost use Rattle.kernel.specs.StandsFor.{Does, Moves};
 ghost use Rattle.kernel.specs.Can.{Runs, Can};
@@ -15,6 +15,16 @@ use model::{App, Op, TaskId, What};
 
 mod script;
 mod time;
+
+// What a complete call tells.
+fn called(task: TaskId, op_index: u16, given: Option<u32>) -> What
+    ensures { result ≡ called task op_index given }
+{
+    match given {
+        Some(answer) => What::Call(task, op_index, answer),
+        None => What::CallNone(task, op_index),
+    }
+}
 
 impl Kernel {
     /// The running task goes on at this op; past its last one it is Ended.
@@ -50,7 +60,7 @@ impl Kernel {
         ensures clock { self.new.clock ≡ self.old.clock }
     {
         let op_index = self.progress(task).op_index;
-        self.write(log, What::Call(task, op_index, given));
+        self.write(log, called(task, op_index, given));
         self.set_answer(task, given);
         self.complete(app, task);
     }

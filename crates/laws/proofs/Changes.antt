@@ -22,7 +22,7 @@ use Rattle.model.specs.Waiting.{waiters, awakened, awake_status, is_locked, wake
 use Rattle.model.specs.Objects.{possible, answer_to, object_after, list_woken, list_for, fulfil, attempt}
 use Rattle.model.specs.Calls.{try, lock, decide, leave_call, await, do_now}
 use Rattle.model.specs.Time.{delayed_key, delayed_list, is_due, due, wake_due, advance, increment_tick, tick_interrupt, sleep, set_previous_wake}
-use Rattle.model.specs.Ops.{go_to, answer, use_up, delay, delay_until, expect, open_loop, turn, close_turn}
+use Rattle.model.specs.Ops.{go_to, called, answer, use_up, delay, delay_until, expect, open_loop, turn, close_turn}
 use Rattle.model.specs.Step.{act, act_if, act_current, step, nobody_ready, ready_at_reset, reset, task_at_reset, with_ops}
 use Rattle.model.specs.Run.{state_after}
 use Rattle.model.proofs.Sorting.{by_test}
@@ -104,7 +104,7 @@ module _ (P : State → Type 0)
   unfolding answer
   kept-answer app i a s h =
       let p : Progress = record (progress_at s i) { answer = a } in
-      let t : State = write (what.Call i p.op_index a) s in
+      let t : State = write (called i p.op_index a) s in
       kept-go_to app i (p.op_index + 1) p t (framed s t refl refl refl h)
 
   kept-use_up : (app : Application) (i n : ℕ) (s : State) → P s → P (use_up app i n s)

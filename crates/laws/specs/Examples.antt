@@ -60,7 +60,7 @@ event_at step tick w = record { step = step; tick = tick; what = w }
 
 -- the op of this index is complete, and answered with this number
 abbrev pub call : ℕ → ℕ → ℕ → What
-call task op_index answer = what.Call task op_index (Some answer)
+call task op_index answer = what.Call task op_index answer
 
 -- the processor goes to this task
 abbrev pub runs : ℕ → What
@@ -177,7 +177,7 @@ times_out = record {
   app = with_queue (a_task (codes "a") (on_queue Receive 5 ∷ Expect None ∷ []) ∷ []);
   run = record {
     events =
-        event_at 4 0 idles ∷ event_at 9 5 (runs a) ∷ event_at 10 5 (what.Call a 0 None) ∷ event_at 11 5 idles ∷ [];
+        event_at 4 0 idles ∷ event_at 9 5 (runs a) ∷ event_at 10 5 (what.CallNone a 0) ∷ event_at 11 5 idles ∷ [];
     steps = 12;
     ticks = 5;
     end = Pass;

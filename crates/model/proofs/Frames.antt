@@ -20,7 +20,7 @@ use Rattle.model.specs.Time.{wake_due, due, advance, increment_tick, tick_interr
 use Rattle.model.specs.Waiting.{waiters, awakened, awake_status, is_locked, wake_one, wake_best, wait_in, set_deadline, is_expired, end_hold, unlock_object, unlock}
 use Rattle.model.specs.Objects.{possible, answer_to, object_after, list_woken, fulfil, attempt}
 use Rattle.model.specs.Calls.{try, decide, leave_call, await, do_now}
-use Rattle.model.specs.Ops.{go_to, moved_to, complete, answer, use_up, delay, delay_until, expect, open_loop, turn, close_turn}
+use Rattle.model.specs.Ops.{go_to, moved_to, complete, called, answer, use_up, delay, delay_until, expect, open_loop, turn, close_turn}
 use Rattle.model.specs.Invariant.{hold_of, awaited}
 use Rattle.model.specs.Step.{act, act_if, act_current, step, reset, nobody_ready, ready_at_reset, with_ops}
 use Rattle.model.proofs.Sorting.{by_test}
@@ -101,7 +101,7 @@ pub keeps-answer : (app : Application) (i : ℕ) (a : Option ℕ) (s : State) �
 unfolding answer
 keeps-answer app i a s =
     let p : Progress = record (progress_at s i) { answer = a } in
-    let k = keeps-go_to app i (p.op_index + 1) p (write (what.Call i p.op_index a) s) in
+    let k = keeps-go_to app i (p.op_index + 1) p (write (called i p.op_index a) s) in
     record { time = k.time; elapsed = k.elapsed; steps = k.steps; stopped = k.stopped; tasks = k.tasks; hold = k.hold }
 
 pub keeps-use_up : (app : Application) (i n : ℕ) (s : State) → Keeps s (use_up app i n s)

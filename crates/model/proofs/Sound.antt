@@ -10,7 +10,6 @@ use Rattle.model.specs.declared.call.CallProgress.{CallProgress}
 use Rattle.model.specs.declared.loops.Loop.{Loop}
 use Rattle.model.specs.declared.event.Event.{Event}
 use Rattle.model.specs.declared.event.End as ending
-use Rattle.model.specs.declared.event.What.TheVariants as what
 use Rattle.model.specs.Application.{Application, script_of, op_at, op_count}
 use Rattle.model.specs.Scripts.{may_stand, nesting_past, Nests, IsWellFormed}
 use Rattle.model.specs.State.{State, Task, Progress, Status, Wait, Ready, Awake, Waiting, Asleep, Ended, ticket_if_ready, wait_of, wait_if_awake, wake_time_of, no_call, task_at, progress_at, status_at, with_task, take_ticket, for_one, for_each, no_task}
@@ -18,7 +17,7 @@ use Rattle.model.specs.Order.{Entry, tasks_of}
 use Rattle.model.specs.Switching.{make_ready, to_back, dispatch, choose, choice, is_same, is_ready, yield_now, is_outranked, is_sharing, preempt, slice, settle, is_off, write}
 use Rattle.model.specs.Waiting.{is_locked}
 use Rattle.model.specs.Time.{wake_due, due, is_due, delayed_list, delayed_key, advance, increment_tick, tick_interrupt, sleep, set_previous_wake}
-use Rattle.model.specs.Ops.{go_to, moved_to, complete, answer, use_up, delay, delay_until, expect, open_loop, turn, close_turn}
+use Rattle.model.specs.Ops.{go_to, moved_to, complete, called, answer, use_up, delay, delay_until, expect, open_loop, turn, close_turn}
 use Rattle.model.specs.Invariant.{HasTicketBelow, IsUsedBy, LoopsNest, IsReckoned, IsAt, Hold, awaited, IsPhaseOf, IsWaitOf, IsCall, IsSound}
 use Rattle.model.proofs.Sorting.{by_test}
 use Rattle.model.proofs.Lists.{eqb-refl, eqb-same}
@@ -302,7 +301,7 @@ module _ (app : Application) (formed : IsWellFormed app) (hold : Hold) where
   module _ (s : State) (i : ℕ) (op : Op) (h : IsSound app hold s) (free : wait_of (status_at s i) ≡ None) (is : op_at app i (progress_at s i).op_index ≡ Some op) where
     pub answered : (a : Option ℕ) → nesting_past (length (progress_at s i).loops) op ≡ length (progress_at s i).loops → IsSound app hold (answer app i a s)
     unfolding answer
-    answered a e = plain (write (what.Call i (progress_at s i).op_index a) s) i (logged s _ s.steps s.stopped h) free op is a e
+    answered a e = plain (write (called i (progress_at s i).op_index a) s) i (logged s _ s.steps s.stopped h) free op is a e
 
     pub used_up : (n : ℕ) → op ≡ Work n → IsSound app hold (use_up app i n s)
     unfolding use_up

@@ -1,8 +1,9 @@
 -- Where a task is in its script: an op is complete, a call answers, loops turn.
-use Rattle.std.specs.Prelude.{ℕ, ◌+◌, ◌-◌, ◌==◌, Bool, List, [], ◌∷◌, Option, Some, nat_lt, nat_le, nat_eq, if◌then◌else◌}
+use Rattle.std.specs.Prelude.{ℕ, ◌+◌, ◌-◌, ◌==◌, Bool, List, [], ◌∷◌, Option, Some, None, nat_lt, nat_le, nat_eq, if◌then◌else◌}
 use Rattle.std.specs.Option.{option_eq}
 use Rattle.model.specs.declared.loops.Loop.{Loop}
-use Rattle.model.specs.declared.event.What.TheVariants.{Call}
+use Rattle.model.specs.declared.event.What.{What}
+use Rattle.model.specs.declared.event.What.TheVariants.{Call, CallNone}
 use Rattle.model.specs.declared.event.End.TheVariants.{Check}
 use Rattle.model.specs.Application.{Application, op_count}
 use Rattle.model.specs.State.{State, Progress, Task, Ended, no_call, task_at, progress_at, with_task, with_progress}
@@ -26,11 +27,16 @@ go_to app task op_index p s = with_task task (moved_to (op_count app task) op_in
 abbrev pub complete : Application → ℕ → Progress → State → State
 complete app task p s = go_to app task (p.op_index + 1) p s
 
+-- what a complete call tells: its answer, or that this is `none`
+abbrev pub called : ℕ → ℕ → Option ℕ → What
+called task op_index (Some n) = Call task op_index n
+called task op_index None = CallNone task op_index
+
 -- The task's call is complete with this answer.
 unfoldable pub answer : Application → ℕ → Option ℕ → State → State
 answer app task a s =
     let p = progress_at s task in
-    complete app task (record p { answer = a }) (write (Call task p.op_index a) s)
+    complete app task (record p { answer = a }) (write (called task p.op_index a) s)
 
 -- the answer of a call that did something, or did nothing
 abbrev pub one_if : Bool → Option ℕ

@@ -4,8 +4,10 @@ use crate::ids::TaskId;
 /// What an event tells.
 #[derive(Clone, Copy, Debug, PartialEq, Eq)]
 pub enum What {
-    /// The task's op of this index is complete, with this answer; `None` is the answer `none`.
-    Call(TaskId, u16, Option<u32>),
+    /// The task's op of this index is complete, with this answer.
+    Call(TaskId, u16, u32),
+    /// The same, with the answer `none`.
+    CallNone(TaskId, u16),
     /// The task told this mark.
     Mark(TaskId, u32),
     /// The processor went to the task, or to idle.
@@ -28,6 +30,9 @@ pub struct Event {
     /// What it was.
     pub what: What,
 }
+
+// A run may keep millions of events.
+const _: () = prove!(size_of::<Event>() == 16);
 
 /// How a run ends (profile).
 #[derive(Clone, Copy, Debug, PartialEq, Eq)]

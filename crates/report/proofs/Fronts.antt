@@ -5,7 +5,8 @@ use Rattle.std.proofs.lemmas.Bool.{cases_lt}
 use Rattle.model.specs.Application.{Application}
 use Rattle.report.specs.declared.label.Label.{Label}
 use Rattle.report.specs.declared.label.CallLabel.{CallLabel}
-use Rattle.report.specs.Fronts.{IsLabel, IsCallLabel, AreLabels, blank, blank_call, call_front, mark_front, run_front}
+use Rattle.report.specs.Text.{call_front}
+use Rattle.report.specs.Fronts.{IsLabel, IsCallLabel, AreLabels, blank, blank_call, mark_front, run_front}
 
 -- A label without text fits every front.
 none_fits : (label : Label) (front : List ℕ) → label.len ≡ 0 → IsLabel label front

@@ -35,7 +35,7 @@ delay_one = app_of (a_task (codes "a") (Delay 1 ∷ Mark 1 ∷ []) ∷ a_task (c
 abbrev pub delay_one_run : Run
 delay_one_run = record {
   events =
-      event_at 0 0 (what.Call a 0 (Some 0)) ∷ event_at 0 0 (what.Run (Some b)) ∷ event_at 1 0 (what.Mark b 2)
+      event_at 0 0 (what.Call a 0 0) ∷ event_at 0 0 (what.Run (Some b)) ∷ event_at 1 0 (what.Mark b 2)
       ∷ event_at 1 0 (what.Run None) ∷ event_at 2 1 (what.Run (Some a)) ∷ event_at 3 1 (what.Mark a 1)
       ∷ event_at 3 1 (what.Run None) ∷ [];
   steps = 4;
@@ -50,8 +50,8 @@ each_form = app_of (a_task (codes "abcdefghijklmnop") (DelayUntil 1 ∷ []) ∷ 
 abbrev pub each_form_run : Run
 each_form_run = record {
   events =
-      event_at 4294967295 4294967295 (what.Call a 0 (Some 4294967295)) ∷ event_at 0 0 (what.Call a 0 None)
-      ∷ event_at 0 0 (what.Call a 1 None) ∷ event_at 1 10 (what.Mark a 4294967295)
+      event_at 4294967295 4294967295 (what.Call a 0 4294967295) ∷ event_at 0 0 (what.CallNone a 0)
+      ∷ event_at 0 0 (what.CallNone a 1) ∷ event_at 1 10 (what.Mark a 4294967295)
       ∷ event_at 1 10 (what.Run (Some a)) ∷ event_at 1 10 (what.Run None) ∷ [];
   steps = 4294967295;
   ticks = 0;

@@ -1,14 +1,9 @@
 -- The front of a line: all of what it tells but its number.
-use Rattle.std.specs.Prelude.{◌≡◌, ℕ, ◌≤◌, ◌<◌, List, ◌++◌, take, decimal, codes, slice_index_or, replicate}
+use Rattle.std.specs.Prelude.{◌≡◌, ℕ, ◌≤◌, ◌<◌, List, ◌++◌, take, codes, slice_index_or, replicate}
 use Rattle.model.specs.Application.{Application, name_of}
-use Rattle.report.specs.Text.{word_at}
+use Rattle.report.specs.Text.{call_front}
 use Rattle.report.specs.declared.label.Label.{Label}
 use Rattle.report.specs.declared.label.CallLabel.{CallLabel}
-
--- what the line of a call says before its answer
-abbrev pub call_front : Application → (task op_index : ℕ) → List ℕ
-call_front app task op_index =
-    codes "call " ++ name_of app task ++ codes " " ++ decimal op_index ++ codes " " ++ word_at app task op_index ++ codes " = "
 
 -- what the line of a mark says before its number
 abbrev pub mark_front : Application → ℕ → List ℕ

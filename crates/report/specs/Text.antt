@@ -13,10 +13,10 @@ use Rattle.model.specs.declared.event.End.TheVariants.{Pass, Check, Ticks, Steps
 abbrev pub word_at : Application → ℕ → ℕ → List ℕ
 word_at app task op_index = unwrap_or (option_map word_of (op_at app task op_index)) []
 
--- an answer: a number, or that there is none
-abbrev pub answer_text : Option ℕ → List ℕ
-answer_text None = codes "none"
-answer_text (Some n) = decimal n
+-- what the line of a call says before its answer
+abbrev pub call_front : Application → (task op_index : ℕ) → List ℕ
+call_front app task op_index =
+    codes "call " ++ name_of app task ++ codes " " ++ decimal op_index ++ codes " " ++ word_at app task op_index ++ codes " = "
 
 -- who runs: a task, or idle
 abbrev pub runner_text : Application → Option ℕ → List ℕ
@@ -25,9 +25,8 @@ runner_text app (Some task) = name_of app task
 
 -- what an event tells
 abbrev pub what_text : Application → What → List ℕ
-what_text app (what.Call task op_index answer) =
-    codes "call " ++ name_of app task ++ codes " " ++ decimal op_index ++ codes " "
-    ++ word_at app task op_index ++ codes " = " ++ answer_text answer
+what_text app (what.Call task op_index answer) = call_front app task op_index ++ decimal answer
+what_text app (what.CallNone task op_index) = call_front app task op_index ++ codes "none"
 what_text app (what.Mark task mark) = codes "mark " ++ name_of app task ++ codes " " ++ decimal mark
 what_text app (what.Run task) = codes "run " ++ runner_text app task
 

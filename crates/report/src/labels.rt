@@ -1,6 +1,7 @@
 //! The fronts of an application's lines, each spelled once.
 ghost use Rattle.std.specs.Prelude.{◌≡◌, ◌<◌, ◌≤◌, ◌+◌, ◌++◌, length};
-ghost use Rattle.report.specs.Fronts.{call_front, mark_front, run_front};
+ghost use Rattle.report.specs.Text.{call_front};
+ghost use Rattle.report.specs.Fronts.{mark_front, run_front};
 
 use crate::label::{CallLabel, Label};
 use crate::text::{push_call_front, push_mark_front, push_run_front};

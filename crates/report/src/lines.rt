@@ -1,7 +1,7 @@
 //! The lines of an application's events, into a page that has room for them.
 ghost use Rattle.std.specs.Prelude.{◌≡◌, ◌≤◌, ◌+◌, ◌*◌, ◌++◌, length, decimal, codes};
 ghost use Rattle.std.specs.List.{flat_map};
-ghost use Rattle.report.specs.Text.{answer_text, what_text, event_text};
+ghost use Rattle.report.specs.Text.{what_text, event_text};
 
 use crate::labels::Labels;
 use crate::tens::Tens;
@@ -69,10 +69,11 @@ impl<'a> Lines<'a> {
         match *what {
             What::Call(task, op_index, answer) => {
                 self.labels.push_call(page, task, op_index);
-                match answer {
-                    None => page.push_array(b"none\n"),
-                    Some(number) => push_number(page, &mut self.number, number),
-                }
+                push_number(page, &mut self.number, answer);
+            }
+            What::CallNone(task, op_index) => {
+                self.labels.push_call(page, task, op_index);
+                page.push_array(b"none\n");
             }
             What::Mark(task, mark) => {
                 self.labels.push_mark(page, task);

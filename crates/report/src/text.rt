@@ -1,8 +1,8 @@
 //! The head line of a run, and the fronts of other lines, into a page that has room for them.
 ghost use Rattle.std.specs.Prelude.{◌≡◌, ◌≤◌, ◌+◌, ◌++◌, length};
 ghost use Rattle.model.specs.Application.{name_of};
-ghost use Rattle.report.specs.Text.{word_at, verdict_text, head_text};
-ghost use Rattle.report.specs.Fronts.{call_front, mark_front, run_front};
+ghost use Rattle.report.specs.Text.{word_at, call_front, verdict_text, head_text};
+ghost use Rattle.report.specs.Fronts.{mark_front, run_front};
 
 use byte_io::Page;
 use model::{App, End, Run, TaskId};
