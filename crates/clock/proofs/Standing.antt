@@ -3,9 +3,10 @@ use Rattle.std.proofs.Common.{◌≡◌, ◌≢◌, ℕ, ◌+◌, ◌<◌, ◌�
 use Rattle.std.specs.Prelude.{◌==◌, ◌||◌, nat_eq, if◌then◌else◌}
 use Rattle.std.specs.List.{AllByRecursion, IsDistinct, filter, list_any}
 use Rattle.std.specs.Option.{is_some, option_eq, option_map}
+use Rattle.std.proofs.Math.ListN.{length-set}
 use Rattle.std.proofs.lemmas.Bool.{cases_eq, cases_lt, eq-eqb, ne_eqb}
 use Rattle.std.proofs.lemmas.List.{get_or-set_other, get_or-set_same}
-use Rattle.model.specs.State.{State, Status, Task, Ready, Awake, Waiting, Asleep, Ended, for_each, no_task, status_at, task_at, ticket_if_ready, ticket_of, wake_time_of}
+use Rattle.model.specs.State.{State, Status, Task, Ready, Awake, Waiting, Asleep, Ended, for_each, no_task, status_at, task_at, progress_at, call_at, with_call, take_ticket, ticket_if_ready, ticket_of, wake_time_of}
 use Rattle.model.specs.Order.{Entry, Key, entry, key, list_by, put, tasks_of}
 use Rattle.model.specs.Switching.{is_ready, make_ready}
 use Rattle.model.specs.Time.{advance, delayed_key, due, increment_tick, sleep, wake_due}
@@ -13,11 +14,15 @@ use Rattle.model.specs.Invariant.{AllTicketsBelow, IsTable}
 use Rattle.model.proofs.Sorting.{IsAfterEntry, by_test, put_last}
 use Rattle.model.proofs.Lists.{HasKey, eqb-refl, filter-without, list-entered, list-gone, list-kept, list_below, list_has, list_without, other}
 use Rattle.model.proofs.Members.{has_task, has_task-key}
-use Rattle.model.proofs.Tables.{below_delayed, table-make_ready, table-taken}
+use Rattle.model.specs.declared.call.CallProgress.{CallProgress}
+use Rattle.model.specs.declared.call.WaitList.{WaitList}
+use Rattle.model.specs.Waiting.{wait_in}
+use Rattle.model.proofs.Sound.{ready_awake}
+use Rattle.model.proofs.Tables.{below_delayed, table-make_ready, table-set, table-taken, ticket_at}
 use Rattle.lists.specs.Lists.{Each, EachOnce, IsSorted, has_node, insert_sorted, without}
 use Rattle.lists.proofs.Entries.{EachOnce-insert_sorted, EachOnce-without, IsSorted-insert_sorted, IsSorted-without, Each-imp, apart_from_test, has_node-other, has_node-same, has_or_not, insert_sorted-after, insert_sorted-before, without-apart, without-same}
 use Rattle.clock.specs.Timeline.{Advances, Timeline, all_until, is_asleep}
-use Rattle.clock.specs.StandsFor.{StandsFor, at_next_tick, at_time, tasks_at}
+use Rattle.clock.specs.StandsFor.{StandsFor, StandsBefore, at_next_tick, at_time, tasks_at, with_deadline}
 
 -- the tasks that sleep until a time
 
@@ -133,15 +138,15 @@ all_before n i [] h = tt
 all_before n i (x ∷ xs) h = (record { low = omega arith; late = λ le. let lt = h.0 in omega (arith, lt) }, all_before n i xs h.1)
 
 -- a task begins to sleep
-due_in-entered : (ts : List Task) (n i m w : ℕ) (u : Task) → AllTicketsBelow n ts → i < length ts → delayed_key (get_or ts i no_task) ≡ None → u.status ≡ Asleep w n → due_in (set ts i u) m ≡ due_in ts m ++ tasks_at m ((i, w) ∷ [])
-due_in-entered ts n i m w u tickets l none is =
+due_in-entered : (ts : List Task) (n i m w : ℕ) (u : Task) → AllTicketsBelow n ts → i < length ts → delayed_key (get_or ts i no_task) ≡ None → wake_time_of u.status ≡ Some w → delayed_status_key u.status ≡ Some (key 0 n) → due_in (set ts i u) m ≡ due_in ts m ++ tasks_at m ((i, w) ∷ [])
+due_in-entered ts n i m w u tickets l none wakes is =
     let b = below_delayed n ts tickets in
     let here : AllByRecursion (λ e. e.task ≡ i → ⊥) (list_by delayed_key ts) = list_without delayed_key i ts none in
     let new : list_by delayed_key (set ts i u) ≡ list_by delayed_key ts ++ entry i (key 0 n) ∷ [] =
-    list-entered delayed_key (key 0 n) i u ts l (ap delayed_status_key is) b
+    list-entered delayed_key (key 0 n) i u ts l is b
     ∙ ap (put (entry i (key 0 n))) (filter-without i (list_by delayed_key ts) here)
     ∙ put_last (entry i (key 0 n)) (list_by delayed_key ts) (all_before n i (list_by delayed_key ts) (list_below delayed_key n ts b)) in
-    let until_now : until (set ts i u) m (entry i (key 0 n)) ≡ (w == m) = ap (λ (t : Task). is_until m t.status) (get_or-set_same ts i u no_task l) ∙ ap (is_until m) is in
+    let until_now : until (set ts i u) m (entry i (key 0 n)) ≡ (w == m) = ap (λ (t : Task). is_until m t.status) (get_or-set_same ts i u no_task l) ∙ ap (λ o. option_eq nat_eq o (Some m)) wakes in
     ap (λ (es : List Entry). tasks_of (filter (until (set ts i u) m) es)) new
     ∙ filter-last (until (set ts i u) m) (list_by delayed_key ts) (entry i (key 0 n))
     ∙ ap₂ (λ (xs ys : List ℕ). xs ++ ys)
@@ -171,9 +176,27 @@ stands_asleep t s i w h awake l ready =
       once = EachOnce-insert_sorted i w t.delayed_list (apart_from_test i t.delayed_list awake) h.once;
       delayed = λ m.
           tasks_at-insert_sorted m i w t.delayed_list h.sorted ∙ ap (λ (ts : List ℕ). ts ++ tasks_at m ((i, w) ∷ [])) (h.delayed m)
-          ∙ sym (due_in-entered s.tasks s.next_ticket i m w u h.table.tickets l none refl);
+          ∙ sym (due_in-entered s.tasks s.next_ticket i m w u h.table.tickets l none refl refl);
       table = table-taken s i (Asleep w) h.table (omega arith);
     })
+
+-- a task that waits until a time already is put into its place
+pub stands_placed : (t new : Timeline) (s : State) (i w : ℕ) → new.now ≡ t.now → new.age ≡ t.age → new.delayed_list ≡ insert_sorted (i, w) t.delayed_list → has_node i t.delayed_list ≡ false → StandsBefore i (Some w) t s → StandsFor new s
+stands_placed t new s i w now age sleepers awake h = record {
+  now = now ∙ h.now;
+  age = age ∙ h.age;
+  sorted = subst IsSorted (sym sleepers) (IsSorted-insert_sorted i w t.delayed_list h.sorted);
+  once = subst EachOnce (sym sleepers) (EachOnce-insert_sorted i w t.delayed_list (apart_from_test i t.delayed_list awake) h.once);
+  delayed = λ m. ap (tasks_at m) sleepers ∙ tasks_at-insert_sorted m i w t.delayed_list h.sorted ∙ h.delayed m;
+  table = h.table;
+}
+
+-- one that waits for ever has no place among the sleepers
+append-none : (xs : List ℕ) → xs ≡ xs ++ []
+append-none xs = sym (append-nil xs)
+
+pub stands_for_ever : (t : Timeline) (s : State) (i : ℕ) → StandsBefore i None t s → StandsFor t s
+stands_for_ever t s i h = record { now = h.now; age = h.age; sorted = h.sorted; once = h.once; delayed = λ m. append-none (tasks_at m t.delayed_list) ∙ h.delayed m; table = h.table }
 
 -- the same of a time of these parts
 same_parts : (t new : Timeline) (s : State) → new.now ≡ t.now → new.age ≡ t.age → new.delayed_list ≡ t.delayed_list → StandsFor t s → StandsFor new s
@@ -426,3 +449,42 @@ sleeper_not_ready Ended t = absurd cc
 -- a task that sleeps isn't Ready
 pub asleep_not_ready : (t : Timeline) (s : State) (i : ℕ) → StandsFor t s → is_asleep t i ≡ true → is_ready s i ≡ false
 asleep_not_ready t s i h asleep = sleeper_not_ready (status_at s i) (sym (asleep_same t s i h) ∙ asleep)
+
+-- ---- a wait begins
+
+-- A Ready task begins to wait, and the sleepers stay until it is placed.
+module _ (t : Timeline) (s : State) (i : ℕ) (h : StandsFor t s) (l : i < length s.tasks) (ready : is_ready s i ≡ true) (list : WaitList) (priority : ℕ) where
+  waiting : Option ℕ → Task
+  waiting deadline = record (task_at s i) { status = Waiting (record { list = list; priority = priority; ticket = s.next_ticket; deadline = deadline }) }
+
+  due-waiting : (deadline : Option ℕ) (m : ℕ) → tasks_at m t.delayed_list ++ tasks_at m (with_deadline i deadline) ≡ due_in (set s.tasks i (waiting deadline)) m
+  unfolding waiting
+  due-waiting None m =
+      let alike : SleepsAlike (waiting None).status (task_at s i).status = record { key = sym (asleep_none (task_at s i).status ready); wake_time = sym (ready_awake (task_at s i).status ready) } in
+      sym (append-none (tasks_at m t.delayed_list)) ∙ h.delayed m ∙ sym (due_in-kept s.tasks i m (waiting None) l alike)
+  due-waiting (Some w) m =
+      ap (λ (ts : List ℕ). ts ++ tasks_at m ((i, w) ∷ [])) (h.delayed m)
+      ∙ sym (due_in-entered s.tasks s.next_ticket i m w (waiting (Some w)) h.table.tickets l (asleep_none (task_at s i).status ready) refl refl)
+
+  waits : (deadline : Option ℕ) → StandsBefore i deadline t (take_ticket i (λ ticket. Waiting (record { list = list; priority = priority; ticket = ticket; deadline = deadline })) s)
+  unfolding waiting
+  waits deadline = record {
+    now = h.now;
+    age = h.age;
+    sorted = h.sorted;
+    once = h.once;
+    delayed = due-waiting deadline;
+    table = table-taken s i (λ ticket. Waiting (record { list = list; priority = priority; ticket = ticket; deadline = deadline })) h.table (omega arith);
+  }
+
+pub stands_waiting : (t : Timeline) (s : State) (i : ℕ) (list : WaitList) → StandsFor t s → i < length s.tasks → is_ready s i ≡ true → StandsBefore i (call_at s i).deadline t (wait_in i list s)
+unfolding wait_in
+stands_waiting t s i list h l ready =
+    let call : CallProgress = record (call_at s i) { list = Some list } in
+    let u : Task = record (task_at s i) { progress = record (progress_at s i) { call = call } } in
+    let s1 : State = with_call i call s in
+    let at : task_at s1 i ≡ u = get_or-set_same s.tasks i u no_task l in
+    let table : IsTable s1 = table-set s i u h.table (ticket_at s.next_ticket i s.tasks h.table.tickets) in
+    let h1 : StandsFor t s1 = stands_kept t s s1 i u h l refl refl refl (record { key = refl; wake_time = refl }) table in
+    let ready1 : is_ready s1 i ≡ true = ap (λ (v : Task). is_some (ticket_if_ready v.status)) at ∙ ready in
+    waits t s1 i h1 (rw length-set l) ready1 list (task_at s i).priority (call_at s i).deadline

@@ -1,6 +1,6 @@
 -- What a clock's timeline stands for: the time and the sleepers of a state of the definitions, whose tickets it does not
 -- have.
-use Rattle.std.specs.Prelude.{◌≡◌, ℕ, ◌+◌, ◌==◌, List, map, filter}
+use Rattle.std.specs.Prelude.{◌≡◌, ℕ, ◌+◌, ◌==◌, List, [], ◌∷◌, ◌++◌, Option, Some, None, map, filter}
 use Rattle.model.specs.State.{State}
 use Rattle.model.specs.Order.{tasks_of}
 use Rattle.model.specs.Time.{due}
@@ -27,4 +27,20 @@ pub record StandsFor (t : Timeline) (s : State) : Type 0 where
   pub sorted : IsSorted t.delayed_list
   pub once : EachOnce t.delayed_list
   pub delayed : (time : ℕ) → tasks_at time t.delayed_list ≡ tasks_of (due (at_time s time))
+  pub table : IsTable s
+
+-- ---- a task that waits, and has still to be placed
+
+-- a task with the time until which it waits, if there is one
+abbrev pub with_deadline : ℕ → Option ℕ → List (ℕ × ℕ)
+with_deadline task None = []
+with_deadline task (Some time) = (task, time) ∷ []
+
+-- The same, but that this task, which waits until this time already, is to be put among the sleepers: it began last.
+pub record StandsBefore (task : ℕ) (deadline : Option ℕ) (t : Timeline) (s : State) : Type 0 where
+  pub now : t.now ≡ s.time
+  pub age : t.age ≡ s.elapsed
+  pub sorted : IsSorted t.delayed_list
+  pub once : EachOnce t.delayed_list
+  pub delayed : (time : ℕ) → tasks_at time t.delayed_list ++ tasks_at time (with_deadline task deadline) ≡ tasks_of (due (at_time s time))
   pub table : IsTable s

@@ -1,12 +1,12 @@
 //! The clock: its tick, and its two lists of sleepers.
-ghost use Rattle.std.specs.Prelude.{◌≡◌, ◌+◌, ◌-◌, ◌*◌, ◌^◌, ◌<◌, ◌≤◌, ◌%◌, [], min, true, false, length, IsTrue, ◌↔◌};
+ghost use Rattle.std.specs.Prelude.{◌≡◌, ◌+◌, ◌-◌, ◌*◌, ◌^◌, ◌<◌, ◌≤◌, ◌%◌, [], min, true, false, length, IsTrue, ◌↔◌, Some};
 ghost use Rattle.lists.specs.Lists.{insert_sorted, without, Each};
 ghost use Rattle.model.specs.State.{State};
 ghost use Rattle.model.specs.Order.{tasks_of};
 ghost use Rattle.model.specs.Switching as switching;
 ghost use Rattle.model.specs.Time as time;
 ghost use Rattle.clock.specs.Timeline.{is_asleep, Advances};
-ghost use Rattle.clock.specs.StandsFor.{StandsFor, at_next_tick};
+ghost use Rattle.clock.specs.StandsFor.{StandsFor, StandsBefore, at_next_tick};
 
 use crate::due::{Due, first_due, take_due};
 use lists::ListId;
@@ -130,6 +130,9 @@ impl Clock {
         ensures stands { (s : State) → StandsFor self.old s → task < length s.tasks
             → IsTrue (switching.is_ready s task)
             → StandsFor self.new (time.sleep task (s.time + ticks) s) }
+        // For a task that waits until then already, it is put into its place.
+        ensures placed { (s : State) → StandsBefore task (Some (self.old.now + ticks)) self.old s
+            → StandsFor self.new s }
     {
         match self.tick.checked_add(ticks) {
             Some(wake_tick) => self.lists.insert_sorted(self.current, task, wake_tick),

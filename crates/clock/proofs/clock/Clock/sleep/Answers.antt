@@ -2,7 +2,7 @@ use Rattle.std.proofs.Common.{◌≡◌, ℕ, ◌<◌, ◌≤◌, ◌+◌, ◌*�
 use Rattle.lists.specs.Lists.{IsSound, insert_sorted}
 use Rattle.clock.specs.Timeline.{Timeline, IsClock, delayed_list_of, is_asleep}
 use Rattle.clock.proofs.Sleeping.{no_place, into_current, into_overflow, delayed-current, delayed-overflow}
-use Rattle.clock.proofs.Standing.{stands_slept}
+use Rattle.clock.proofs.Standing.{stands_placed, stands_slept}
 use Rattle.clock.proofs.clock.Clock.sleep.Goals as goal
 
 pub insert_sorted-requires : goal.insert_sorted-requires
@@ -75,3 +75,15 @@ returns-in-None-clause-stands c = λ s h l ready.
     let now = ap (λ (t : Timeline). t.now) c.self.view_is in
     let age = ap (λ (t : Timeline). t.age) c.self.view_is in
     stands_slept c.args.self.now _ s c.args.task c.args.ticks now age (returns-in-None-clause-delayed c) c.requires.awake h l ready
+
+pub returns-in-Some-clause-placed : goal.returns-in-Some-clause-placed
+returns-in-Some-clause-placed c = λ s h.
+    let now = ap (λ (t : Timeline). t.now) c.self.view_is in
+    let age = ap (λ (t : Timeline). t.age) c.self.view_is in
+    stands_placed c.args.self.now _ s c.args.task (c.args.self.now.now + c.args.ticks) now age (returns-in-Some-clause-delayed c) c.requires.awake h
+
+pub returns-in-None-clause-placed : goal.returns-in-None-clause-placed
+returns-in-None-clause-placed c = λ s h.
+    let now = ap (λ (t : Timeline). t.now) c.self.view_is in
+    let age = ap (λ (t : Timeline). t.age) c.self.view_is in
+    stands_placed c.args.self.now _ s c.args.task (c.args.self.now.now + c.args.ticks) now age (returns-in-None-clause-delayed c) c.requires.awake h
