@@ -239,10 +239,11 @@ impl SlowKernel {
 
     fn answer(&mut self, app: &App, id: TaskId, answer: Option<u32>) {
         let task = self.task(id);
-        self.write(match answer {
-            Some(answer) => What::Call(id, task.op_index, answer),
+        let what = match answer {
+            Some(number) => What::Call(id, task.op_index, number),
             None => What::CallNone(id, task.op_index),
-        });
+        };
+        self.write(what);
         self.complete(app, id, Task { answer, ..task });
     }
 
