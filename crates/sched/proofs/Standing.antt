@@ -1,25 +1,29 @@
 -- Each change of the schedule is a deed of the definitions.
-use Rattle.std.proofs.Common.{◌≡◌, ℕ, ◌<◌, inl, inr, Bool, false, not, Option, Some, None, List, [], ◌∷◌, get_or, set, length, sym, ◌∙◌, ap, ap₂, subst, arith, refl, eqb, ltb}
+use Rattle.std.proofs.Common.{◌≡◌, ℕ, ◌<◌, inl, inr, Bool, true, false, not, Option, Some, None, List, [], ◌∷◌, get_or, set, length, sym, ◌∙◌, ap, ap₂, subst, arith, refl, eqb, ltb}
 use Rattle.std.specs.Prelude.{◌==◌, ◌||◌, ◌&&◌, nat_lt, nat_eq, if◌then◌else◌}
 use Rattle.std.specs.List.{AllByRecursion, filter, list_any}
 use Rattle.std.specs.Option.{IfSome, is_some, option_map}
+use Rattle.std.proofs.Math.ListN.{length-set}
 use Rattle.std.proofs.lemmas.Bool.{cases_eq, ltb-false, ltb-true}
 use Rattle.std.proofs.lemmas.List.{get_or-set_other, get_or-set_same}
-use Rattle.model.specs.State.{State, Status, Task, Ready, Awake, Waiting, Asleep, Ended, no_task, task_at, ticket_if_ready, for_one}
+use Rattle.model.specs.declared.call.CallProgress.{CallProgress}
+use Rattle.model.specs.declared.call.WaitList.{WaitList}
+use Rattle.model.specs.Waiting.{wait_in}
+use Rattle.model.specs.State.{State, Status, Task, Ready, Awake, Waiting, Asleep, Ended, no_task, task_at, progress_at, call_at, with_call, take_ticket, ticket_if_ready, for_one}
 use Rattle.model.specs.Order.{Entry, entry, first, key, list_by, put, task_of}
 use Rattle.model.specs.Switching.{choice, choose, dispatch, is_above, is_beside, is_outranked, is_ready, is_same, is_sharing, make_ready, preempt, ready_key, ready_list, slice, to_back, yield_now}
 use Rattle.model.specs.Invariant.{IsTable}
 use Rattle.model.proofs.Sorting.{All-filtered, before_false, before_true, by_test}
 use Rattle.model.proofs.Lists.{list-entered, list-gone, list-kept, list_below, other}
 use Rattle.model.proofs.Members.{has_task, has_task-key, has_task-none}
-use Rattle.model.proofs.Tables.{below_ready, table-make_ready}
+use Rattle.model.proofs.Tables.{below_ready, table-make_ready, table-set, table-taken, ticket_at}
 use Rattle.model.proofs.Chosen.{choice_within}
 use Rattle.model.proofs.Settled.{same_eq}
 use Rattle.lists.specs.Lists.{first_of, has_node, without}
 use Rattle.lists.proofs.Entries.{apart_from_test, without-apart}
 use Rattle.sched.specs.Schedule as mine
 use Rattle.sched.specs.Schedule.{Schedule, add_to_ready_list, priority_in}
-use Rattle.sched.specs.StandsFor.{Does, StandsFor, with_priorities}
+use Rattle.sched.specs.StandsFor.{Does, StandsFor, StandsBefore, with_priorities}
 
 -- the ready list, as tasks with their priorities
 
@@ -204,3 +208,22 @@ stands_kept v s new i t h l is current held key_same same table = record {
   depth = h.depth ∙ sym (ap (λ b. if b then 1 else 0) held);
   table = table;
 }
+
+-- a task that waits already leaves the Ready tasks
+pub stands_placed : (v : Schedule) (s : State) (i : ℕ) → StandsBefore i v s → StandsFor (mine.block i v) s
+stands_placed v s i h = record { ready = h.ready; current = h.current; priorities = h.priorities; depth = h.depth; table = h.table }
+
+-- A Ready task begins to wait, and stays among the Ready tasks until it is placed.
+pub stands_waiting : (v : Schedule) (s : State) (i : ℕ) (list : WaitList) → StandsFor v s → i < length s.tasks → is_ready s i ≡ true → StandsBefore i v (wait_in i list s)
+unfolding wait_in
+stands_waiting v s i list h l ready =
+    let call : CallProgress = record (call_at s i) { list = Some list } in
+    let u : Task = record (task_at s i) { progress = record (progress_at s i) { call = call } } in
+    let s1 : State = with_call i call s in
+    let table1 : IsTable s1 = table-set s i u h.table (ticket_at s.next_ticket i s.tasks h.table.tickets) in
+    let h1 : StandsFor v s1 = stands_kept v s s1 i u h l refl refl refl refl refl table1 in
+    let status : ℕ → Status = λ ticket. Waiting (record { list = list; priority = (task_at s i).priority; ticket = ticket; deadline = (call_at s i).deadline }) in
+    let w : Task = record (task_at s1 i) { status = status s1.next_ticket } in
+    let table2 : IsTable (take_ticket i status s1) = table-taken s1 i status table1 (omega arith) in
+    let b : StandsFor (mine.block i v) (take_ticket i status s1) = stands_blocked v s1 (take_ticket i status s1) i w h1 (rw length-set l) refl refl refl refl refl table2 in
+    record { ready = b.ready; still = ready_same v s i h ∙ ready; current = b.current; priorities = b.priorities; depth = b.depth; table = table2 }

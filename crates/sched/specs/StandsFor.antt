@@ -1,10 +1,11 @@
 -- What a schedule stands for: a state of the definitions, whose tickets it does not have.
-use Rattle.std.specs.Prelude.{◌≡◌, ℕ, List, map, if◌then◌else◌}
+use Rattle.std.specs.Prelude.{◌≡◌, ℕ, true, List, map, if◌then◌else◌}
 use Rattle.model.specs.State.{State, task_at}
 use Rattle.model.specs.Order.{Entry}
 use Rattle.model.specs.Switching.{ready_list}
 use Rattle.model.specs.Invariant.{IsTable}
-use Rattle.sched.specs.Schedule.{Schedule, priority_in}
+use Rattle.lists.specs.Lists.{without}
+use Rattle.sched.specs.Schedule.{Schedule, priority_in, is_ready}
 
 -- the tasks of a list with their priorities
 abbrev pub with_priorities : List Entry → List (ℕ × ℕ)
@@ -20,6 +21,15 @@ pub record StandsFor (v : Schedule) (s : State) : Type 0 where
   pub ready : v.ready ≡ with_priorities (ready_list s)
   pub current : v.current ≡ s.current
   pub priorities : (task : ℕ) → priority_in v.priorities task ≡ (task_at s task).priority
+  pub depth : v.depth ≡ depth_of s
+  pub table : IsTable s
+
+-- The same, but that this task, which waits already, has still to leave the Ready tasks.
+pub record StandsBefore (task : ℕ) (v : Schedule) (s : State) : Type 0 where
+  pub ready : without task v.ready ≡ with_priorities (ready_list s)
+  pub still : is_ready v task ≡ true
+  pub current : v.current ≡ s.current
+  pub priorities : (other : ℕ) → priority_in v.priorities other ≡ (task_at s other).priority
   pub depth : v.depth ≡ depth_of s
   pub table : IsTable s
 

@@ -6,7 +6,7 @@ ghost use Rattle.model.specs.State.{State};
 ghost use Rattle.model.specs.Switching as switching;
 ghost use Rattle.lists.specs.Lists.{first_of};
 ghost use Rattle.sched.specs.Schedule.{priority_in, is_ready, is_outranked, is_sharing, block, choose, make_ready, preempt, slice, to_back, yield_now};
-ghost use Rattle.sched.specs.StandsFor.{StandsFor, Does};
+ghost use Rattle.sched.specs.StandsFor.{StandsFor, StandsBefore, Does};
 
 use crate::ready_lists::ReadyLists;
 use lists::ListId;
@@ -125,6 +125,8 @@ impl Sched {
     /// Takes a task from the Ready tasks. It stays the running one, if it is, until the next choice.
     pub fn block(&mut self, task: TaskId)
         ensures schedule { self.new ≡ block task self.old }
+        // A task that waits already is then as the definitions have it.
+        ensures placed { (s : State) → StandsBefore task self.old s → StandsFor self.new s }
     {
         self.ready.remove(task);
     }
