@@ -1,5 +1,6 @@
 //! The queues: their items, who waits at them, and which one is locked.
-ghost use Rattle.std.specs.Prelude.{◌≡◌, ℕ, ◌-◌, ◌<◌, ◌≤◌, [], All, length, replicate, slice_index_or, slice_set, ◌++◌, ◌↔◌, if◌then◌else◌, true, Some, None, Option, IsSome, IfSome};
+ghost use Rattle.std.specs.Prelude.{◌≡◌, ℕ, ◌-◌, ◌<◌, ◌≤◌, [], All, length, replicate, slice_index_or, slice_set, map, ◌++◌, ◌↔◌, if◌then◌else◌, true, Some, None, Option, IsSome, IfSome};
+ghost use Rattle.lists.specs.Lists.{place_of, without};
 ghost use Rattle.model.specs.State.{State, no_object, object_at, with_object, status_at, wait_if_awake, for_each};
 ghost use Rattle.model.specs.Order.{first, task_of};
 ghost use Rattle.model.specs.Switching.{make_ready};
@@ -8,6 +9,7 @@ ghost use Rattle.model.specs.Waiting.{is_locked};
 ghost use Rattle.model.specs.Objects as definitions;
 ghost use Rattle.model.specs.Objects.{allows, object_after, reply};
 ghost use Rattle.objects.specs.Items.{object_in};
+ghost use Rattle.objects.specs.WaitingLists.{insert_by_priority, number_of, waiting_in};
 ghost use Rattle.objects.specs.WaitersStand.{AtLocked, Decider, opened};
 ghost use Rattle.objects.specs.Queues.{StandsFor, counted_by};
 
@@ -176,5 +178,30 @@ impl Queues {
         let lock = self.lock?;
         self.lock = None;
         Some(self.waiting.unlock(lock.object, lock.receivers, lock.senders))
+    }
+
+    /// Puts a task that has begun to wait, and is in no list, into its list, with its priority of 0 to 31
+    /// (`vTaskPlaceOnEventList`): behind all that are not of lower priority.
+    pub fn place(&mut self, list: WaitList, task: TaskId, priority: u8)
+        requires priority { priority < 32 }
+        requires free { place_of self.old.waiting task ≡ None }
+        ensures put { self.new ≡ record self.old {
+            waiting = slice_set self.old.waiting (number_of list)
+            (insert_by_priority (task, priority) (waiting_in self.old.waiting list)) } }
+        ensures stands { (s : State)
+            → StandsFor self.old (Some (record { task = task; list = list; priority = priority })) s
+            → StandsFor self.new None s }
+    {
+        self.waiting.wait(list, task, priority);
+    }
+
+    /// Takes a task out of the list that it is in, as its deadline has come. One that is in none stays so.
+    pub fn drop_waiter(&mut self, task: TaskId)
+        ensures gone { self.new ≡ record self.old { waiting = map (without task) self.old.waiting } }
+        // In the definitions nothing is locked then, and it becomes Ready.
+        ensures stands { (s : State) → StandsFor self.old None s → self.old.lock ≡ None
+            → task < length s.tasks → StandsFor self.new None (make_ready task s) }
+    {
+        self.waiting.drop_waiter(task);
     }
 }
