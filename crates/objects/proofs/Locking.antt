@@ -116,10 +116,6 @@ stands_counted objects waiting (Some l) m list d s e h =
       counts = (k.to_receive, k.to_send);
     }
 
-some_counted : (l m : Lock) (list : WaitList) → Some m ≡ counted list l → is_locked (Some l.object) list ≡ true
-some_counted l m (ToReceive o) e = by_test (eqb l.object o) (λ t. t) (λ t. let f = rw t at e in absurd (cc))
-some_counted l m (ToSend o) e = by_test (eqb l.object o) (λ t. t) (λ t. let f = rw t at e in absurd (cc))
-
 none_counted : (l : Lock) (list : WaitList) → None ≡ counted list l → is_locked (Some l.object) list ≡ false
 none_counted l (ToReceive o) e = by_test (eqb l.object o) (λ t. let f = rw t at e in absurd (cc)) (λ t. t)
 none_counted l (ToSend o) e = by_test (eqb l.object o) (λ t. let f = rw t at e in absurd (cc)) (λ t. t)
@@ -127,10 +123,6 @@ none_counted l (ToSend o) e = by_test (eqb l.object o) (λ t. let f = rw t at e 
 none_locked : (list : WaitList) → is_locked None list ≡ false
 none_locked (ToReceive o) = refl
 none_locked (ToSend o) = refl
-
-pub shown_by : (lock : Option Lock) (m : Lock) (list : WaitList) (locked : Option ℕ) → Some m ≡ counted_by list lock → locked_by lock ≡ locked → is_locked locked list ≡ true
-shown_by None m list locked e h = absurd (cc)
-shown_by (Some l) m list locked e h = subst (λ (x : Option ℕ). is_locked x list ≡ true) h (some_counted l m list e)
 
 pub shut_by : (lock : Option Lock) (list : WaitList) (locked : Option ℕ) → None ≡ counted_by list lock → locked_by lock ≡ locked → is_locked locked list ≡ false
 shut_by None list locked e h = subst (λ (x : Option ℕ). is_locked x list ≡ false) h (none_locked list)

@@ -1,5 +1,6 @@
 //! The queues: their items, who waits at them, and which one is locked.
 ghost use Rattle.std.specs.Prelude.{◌≡◌, ℕ, ◌-◌, ◌<◌, ◌≤◌, [], All, length, replicate, slice_index_or, slice_set, map, ◌++◌, ◌↔◌, if◌then◌else◌, true, Some, None, Option, IsSome, IfSome};
+ghost use Rattle.std.specs.Option.{is_some};
 ghost use Rattle.lists.specs.Lists.{place_of, without};
 ghost use Rattle.model.specs.State.{State, no_object, object_at, with_object, status_at, wait_if_awake, for_each};
 ghost use Rattle.model.specs.Order.{first, task_of};
@@ -120,7 +121,23 @@ impl Queues {
         }
     }
 
-    /// Locks an object, where none is (`prvLockQueue`).
+    /// Whether an object is locked.
+    pub fn is_locked(&self) -> bool
+        ensures locked { result ≡ is_some self.now.lock }
+        ensures stands { (s : State) (decider : Option Decider) → StandsFor self.now decider s
+            → result ≡ is_some s.locked }
+    {
+        self.lock.is_some()
+    }
+
+    /// Whether a task is in a waiting list.
+    pub fn is_waiting(&self, task: TaskId) -> bool
+        ensures waiting { result ≡ is_some (place_of self.now.waiting task) }
+    {
+        self.waiting.is_waiting(task)
+    }
+
+    /// Locks an object, where none is (`is_locked` tells; `prvLockQueue`).
     pub fn lock(&mut self, object: ObjectId)
         requires free { self.old.lock ≡ None }
         ensures lock { self.new ≡ record self.old {
@@ -180,8 +197,8 @@ impl Queues {
         Some(self.waiting.unlock(lock.object, lock.receivers, lock.senders))
     }
 
-    /// Puts a task that has begun to wait, and is in no list, into its list, with its priority of 0 to 31
-    /// (`vTaskPlaceOnEventList`): behind all that are not of lower priority.
+    /// Puts a task that has begun to wait, and is in no list (`is_waiting` tells), into its list, with its priority of 0 to
+    /// 31 (`vTaskPlaceOnEventList`): behind all that are not of lower priority.
     pub fn place(&mut self, list: WaitList, task: TaskId, priority: u8)
         requires priority { priority < 32 }
         requires free { place_of self.old.waiting task ≡ None }
