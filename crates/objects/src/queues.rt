@@ -96,8 +96,9 @@ impl Queues {
         requires queue { 0 < (object_in self.old.objects object).size }
         ensures answer { result ≡ reply (object_in self.old.objects object) access }
         ensures objects { (caller : Option ℕ) → self.new ≡ record self.old {
-            objects = slice_set self.old.objects object
-            (object_after caller access (object_in self.old.objects object)) } }
+          objects = slice_set self.old.objects object
+              (object_after caller access (object_in self.old.objects object));
+        } }
         ensures stands { (s : State) (decider : Option Decider) (caller : Option ℕ)
             → StandsFor self.old decider s → StandsFor self.new decider
             (with_object object (object_after caller access (object_at s object)) s) }
@@ -141,7 +142,8 @@ impl Queues {
     pub fn lock(&mut self, object: ObjectId)
         requires free { self.old.lock ≡ None }
         ensures lock { self.new ≡ record self.old {
-            lock = Some (record { object = object; receivers = 0; senders = 0 }) } }
+          lock = Some (record { object = object; receivers = 0; senders = 0 });
+        } }
         // In the definitions nobody is Awake then.
         ensures stands { (s : State) (decider : Option Decider) → StandsFor self.old decider s
             → ((task : ℕ) → wait_if_awake (status_at s task) ≡ None)
@@ -194,7 +196,10 @@ impl Queues {
     {
         let lock = self.lock?;
         self.lock = None;
-        Some(self.waiting.unlock(lock.object, lock.receivers, lock.senders))
+        Some(
+            self.waiting
+                .unlock(lock.object, lock.receivers, lock.senders),
+        )
     }
 
     /// Puts a task that has begun to wait, and is in no list (`is_waiting` tells), into its list, with its priority of 0 to
@@ -203,8 +208,9 @@ impl Queues {
         requires priority { priority < 32 }
         requires free { place_of self.old.waiting task ≡ None }
         ensures put { self.new ≡ record self.old {
-            waiting = slice_set self.old.waiting (number_of list)
-            (insert_by_priority (task, priority) (waiting_in self.old.waiting list)) } }
+          waiting = slice_set self.old.waiting (number_of list)
+              (insert_by_priority (task, priority) (waiting_in self.old.waiting list));
+        } }
         ensures stands { (s : State)
             → StandsFor self.old (Some (record { task = task; list = list; priority = priority })) s
             → StandsFor self.new None s }
