@@ -188,6 +188,8 @@ impl Queues {
     /// first those who waited to receive. `None` where nothing is locked.
     pub fn unlock(&mut self) -> Option<Unlocked>
         ensures locked { IsSome result ↔ IsSome self.old.lock }
+        ensures free { self.new.lock ≡ None }
+        ensures objects { self.new.objects ≡ self.old.objects }
         ensures stands { (s : State) → StandsFor self.old None s
             → StandsFor self.new None (waiting.unlock s) }
         ensures woken { (s : State) → StandsFor self.old None s
