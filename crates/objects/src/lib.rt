@@ -3,9 +3,12 @@
 
 mod items;
 mod laws;
+mod lock;
 mod queues;
 #[cfg(test)]
 mod tests;
 mod waiting_lists;
 
+pub use lock::Lock;
 pub use queues::Queues;
+pub use waiting_lists::{Taken, Unlocked};

@@ -1,15 +1,23 @@
 //! The queues: their items, who waits at them, and which one is locked.
-ghost use Rattle.std.specs.Prelude.{◌≡◌, ℕ, ◌-◌, ◌<◌, ◌≤◌, [], All, length, replicate, slice_index_or, slice_set, true, None, Option};
-ghost use Rattle.model.specs.State.{State, no_object, object_at, with_object};
+ghost use Rattle.std.specs.Prelude.{◌≡◌, ℕ, ◌-◌, ◌<◌, ◌≤◌, [], All, length, replicate, slice_index_or, slice_set, map, ◌++◌, ◌↔◌, if◌then◌else◌, true, Some, None, Option, IsSome, IfSome};
+ghost use Rattle.std.specs.Option.{is_some};
+ghost use Rattle.lists.specs.Lists.{place_of, without};
+ghost use Rattle.model.specs.State.{State, no_object, object_at, with_object, status_at, wait_if_awake, for_each};
+ghost use Rattle.model.specs.Order.{first, task_of};
+ghost use Rattle.model.specs.Switching.{make_ready};
+ghost use Rattle.model.specs.Waiting as waiting;
+ghost use Rattle.model.specs.Waiting.{is_locked};
 ghost use Rattle.model.specs.Objects as definitions;
 ghost use Rattle.model.specs.Objects.{allows, object_after, reply};
 ghost use Rattle.objects.specs.Items.{object_in};
-ghost use Rattle.objects.specs.WaitersStand.{Decider};
-ghost use Rattle.objects.specs.Queues.{StandsFor};
+ghost use Rattle.objects.specs.WaitingLists.{insert_by_priority, number_of, waiting_in};
+ghost use Rattle.objects.specs.WaitersStand.{AtLocked, Decider, opened};
+ghost use Rattle.objects.specs.Queues.{StandsFor, counted_by};
 
 use crate::items::Items;
-use crate::waiting_lists::WaitingLists;
-use model::{Access, ObjectId};
+use crate::lock::Lock;
+use crate::waiting_lists::{Unlocked, WaitingLists};
+use model::{Access, ObjectId, TaskId, WaitList};
 use std::marker::Model;
 
 /// 32 queues and the tasks that wait at them.
@@ -17,7 +25,7 @@ use std::marker::Model;
 pub struct Queues {
     items: Items,
     waiting: WaitingLists,
-    locked: Option<ObjectId>,
+    lock: Option<Lock>,
 }
 
 // Clauses see the objects of the definitions, and for each list its tasks in order.
@@ -26,7 +34,7 @@ impl Model for Queues {
 
     ghost Value = { Exchange };
 
-    ghost view = { λ q. record { objects = q.items; waiting = q.waiting; locked = q.locked } };
+    ghost view = { λ q. record { objects = q.items; waiting = q.waiting; lock = q.lock } };
 }
 
 impl Queues {
@@ -39,12 +47,12 @@ impl Queues {
             → object_in result.objects queue
             ≡ record no_object { size = slice_index_or lengths.now queue 0 } }
         ensures nobody { result.waiting ≡ replicate 64 [] }
-        ensures free { result.locked ≡ None }
+        ensures free { result.lock ≡ None }
     {
         Queues {
             items: Items::new(lengths),
             waiting: WaitingLists::new(),
-            locked: None,
+            lock: None,
         }
     }
 
@@ -88,8 +96,9 @@ impl Queues {
         requires queue { 0 < (object_in self.old.objects object).size }
         ensures answer { result ≡ reply (object_in self.old.objects object) access }
         ensures objects { (caller : Option ℕ) → self.new ≡ record self.old {
-            objects = slice_set self.old.objects object
-            (object_after caller access (object_in self.old.objects object)) } }
+          objects = slice_set self.old.objects object
+              (object_after caller access (object_in self.old.objects object));
+        } }
         ensures stands { (s : State) (decider : Option Decider) (caller : Option ℕ)
             → StandsFor self.old decider s → StandsFor self.new decider
             (with_object object (object_after caller access (object_at s object)) s) }
@@ -111,5 +120,113 @@ impl Queues {
             Access::Receive => self.items.pop_front(queue),
             Access::Peek => self.items.first(queue),
         }
+    }
+
+    /// Whether an object is locked.
+    pub fn is_locked(&self) -> bool
+        ensures locked { result ≡ is_some self.now.lock }
+        ensures stands { (s : State) (decider : Option Decider) → StandsFor self.now decider s
+            → result ≡ is_some s.locked }
+    {
+        self.lock.is_some()
+    }
+
+    /// Whether a task is in a waiting list.
+    pub fn is_waiting(&self, task: TaskId) -> bool
+        ensures waiting { result ≡ is_some (place_of self.now.waiting task) }
+    {
+        self.waiting.is_waiting(task)
+    }
+
+    /// Locks an object, where none is (`is_locked` tells; `prvLockQueue`).
+    pub fn lock(&mut self, object: ObjectId)
+        requires free { self.old.lock ≡ None }
+        ensures lock { self.new ≡ record self.old {
+          lock = Some (record { object = object; receivers = 0; senders = 0 });
+        } }
+        // In the definitions nobody is Awake then.
+        ensures stands { (s : State) (decider : Option Decider) → StandsFor self.old decider s
+            → ((task : ℕ) → wait_if_awake (status_at s task) ≡ None)
+            → StandsFor self.new decider (record s { locked = Some object }) }
+    {
+        self.lock = Some(Lock {
+            object,
+            receivers: 0,
+            senders: 0,
+        });
+    }
+
+    /// Wakes the best waiter of a list (`xTaskRemoveFromEventList`). It answers who becomes Ready; `None` where nobody
+    /// waits there, and where its object is locked: then the wake is counted.
+    pub fn wake_best(&mut self, list: WaitList) -> Option<TaskId>
+        ensures objects { self.new.objects ≡ self.old.objects }
+        ensures stands { (s : State) (decider : Option Decider) → StandsFor self.old decider s
+            → AtLocked decider s → StandsFor self.new decider (waiting.wake_best list s) }
+        ensures ready { (s : State) (decider : Option Decider) → StandsFor self.old decider s
+            → AtLocked decider s → result ≡ if is_locked s.locked list then None
+            else task_of (first (waiting.waiters s list)) }
+    {
+        // Through a reference, since the borrow checker takes a value that is passed on twice for moved.
+        let list = &list;
+        match self.counted(*list) {
+            Some(lock) => {
+                self.lock = Some(lock);
+                None
+            }
+            None => self.waiting.take_best(*list),
+        }
+    }
+
+    /// The lock with one more wake counted, where the list is one of the locked object's; else `None`.
+    fn counted(&self, list: WaitList) -> Option<Lock>
+        ensures counted { result ≡ counted_by list self.now.lock }
+    {
+        self.lock?.counted(list)
+    }
+
+    /// Unlocks the locked object (`prvUnlockQueue`): takes out of its lists those who were woken since, who become Ready,
+    /// first those who waited to receive. `None` where nothing is locked.
+    pub fn unlock(&mut self) -> Option<Unlocked>
+        ensures locked { IsSome result ↔ IsSome self.old.lock }
+        ensures free { self.new.lock ≡ None }
+        ensures objects { self.new.objects ≡ self.old.objects }
+        ensures stands { (s : State) → StandsFor self.old None s
+            → StandsFor self.new None (waiting.unlock s) }
+        ensures woken { (s : State) → StandsFor self.old None s
+            → IfSome result (λ unlocked. waiting.unlock s ≡ for_each make_ready
+            (unlocked.to_receive.items ++ unlocked.to_send.items) (opened s)) }
+    {
+        let lock = self.lock?;
+        self.lock = None;
+        Some(
+            self.waiting
+                .unlock(lock.object, lock.receivers, lock.senders),
+        )
+    }
+
+    /// Puts a task that has begun to wait, and is in no list (`is_waiting` tells), into its list, with its priority of 0 to
+    /// 31 (`vTaskPlaceOnEventList`): behind all that are not of lower priority.
+    pub fn place(&mut self, list: WaitList, task: TaskId, priority: u8)
+        requires priority { priority < 32 }
+        requires free { place_of self.old.waiting task ≡ None }
+        ensures put { self.new ≡ record self.old {
+          waiting = slice_set self.old.waiting (number_of list)
+              (insert_by_priority (task, priority) (waiting_in self.old.waiting list));
+        } }
+        ensures stands { (s : State)
+            → StandsFor self.old (Some (record { task = task; list = list; priority = priority })) s
+            → StandsFor self.new None s }
+    {
+        self.waiting.wait(list, task, priority);
+    }
+
+    /// Takes a task out of the list that it is in, as its deadline has come. One that is in none stays so.
+    pub fn drop_waiter(&mut self, task: TaskId)
+        ensures gone { self.new ≡ record self.old { waiting = map (without task) self.old.waiting } }
+        // In the definitions nothing is locked then, and it becomes Ready.
+        ensures stands { (s : State) → StandsFor self.old None s → self.old.lock ≡ None
+            → task < length s.tasks → StandsFor self.new None (make_ready task s) }
+    {
+        self.waiting.drop_waiter(task);
     }
 }

@@ -1,6 +1,7 @@
-//! Tasks that wait and are woken.
+//! Items that come and go, tasks that wait and are woken.
+use crate::Queues;
 use crate::waiting_lists::WaitingLists;
-use model::{ObjectId, TaskId, WaitList};
+use model::{Access, ObjectId, TaskId, WaitList};
 use std::process::Abort;
 
 const RECEIVERS: WaitList = WaitList::ToReceive(ObjectId { number: 3 });
@@ -67,4 +68,40 @@ fn an_unlock_takes_the_counted_ones(rt: HostRuntime) {
         [TaskId { number: 0 }].as_slice()
     );
     assert!(rt; waiting.is_waiting(TaskId { number: 1 }));
+}
+
+const QUEUE: ObjectId = ObjectId { number: 1 };
+
+#[test]
+fn a_wake_through_the_locked_queue_waits_for_its_unlock(rt: HostRuntime) {
+    let mut queues = Queues::new(&[5, 2]);
+    let task = TaskId { number: 6 };
+    assert!(rt; !queues.is_locked());
+    queues.lock(QUEUE);
+    assert!(rt; !queues.is_waiting(task));
+    queues.place(WaitList::ToReceive(QUEUE), task, 3);
+    assert_eq!(rt; queues.wake_best(WaitList::ToReceive(QUEUE)), None);
+    assert!(rt; queues.is_waiting(task));
+    let Some(unlocked) = queues.unlock() else {
+        panic!(rt; "locked")
+    };
+    assert_eq!(rt; unlocked.to_receive.as_slice(), [task].as_slice());
+    assert!(rt; !queues.is_locked());
+    queues.drop_waiter(task);
+}
+
+#[test]
+fn items_leave_in_order(rt: HostRuntime) {
+    let mut queues = Queues::new(&[5, 2]);
+    send(&rt, &mut queues, Access::Send(8));
+    send(&rt, &mut queues, Access::SendFront(9));
+    assert_eq!(rt; queues.waiting(QUEUE), 2);
+    assert!(rt; !queues.possible(QUEUE, Access::Send(7)));
+}
+
+/// Sends an item to a queue that has room.
+fn send(rt: &impl Abort, queues: &mut Queues, access: Access) {
+    assert!(rt; queues.spaces(QUEUE) > 0);
+    assert!(rt; queues.possible(QUEUE, access));
+    assert_eq!(rt; queues.carry_out(QUEUE, access), Some(1));
 }

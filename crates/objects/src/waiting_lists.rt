@@ -19,11 +19,11 @@ use std::marker::Model;
 use task_lists::TaskLists;
 
 /// Tasks that were taken out of a list, 32 at most, in the order in which they stood there.
-pub(crate) type Taken = ArrayVec<TaskId, 32>;
+pub type Taken = ArrayVec<TaskId, 32>;
 
 /// Tasks that were taken out of the two lists of an object.
 #[derive(Drop)]
-pub(crate) struct Unlocked {
+pub struct Unlocked {
     pub to_receive: Taken,
     pub to_send: Taken,
 }
@@ -122,6 +122,9 @@ impl WaitingLists {
         ensures best { result ≡ first_of (waiting_in self.old list) }
         ensures left { self.new ≡ slice_set self.old (number_of list)
             (drop 1 (waiting_in self.old list)) }
+        ensures waiter { (s : State) (decider : Option Decider) → WaitersStand self.old decider s
+            → AtLocked decider s → is_locked s.locked list ≡ false
+            → result ≡ order.task_of (order.first (waiters s list)) }
         // In the definitions the best waiter is woken, where its object isn't locked;
         ensures wakes { (s : State) (decider : Option Decider) → WaitersStand self.old decider s
             → AtLocked decider s → is_locked s.locked list ≡ false

@@ -1,0 +1,17 @@
+use Rattle.std.proofs.Common.{◌≡◌, rules, Some, None, sym, ◌∙◌, ap, subst}
+use Rattle.objects.specs.Queues.{Exchange, StandsFor}
+use Rattle.objects.proofs.Locking.{standing_locked, stands_unlocked, stands_unlocked_none}
+use Rattle.objects.proofs.queues.Queues.unlock.Goals as goal
+
+pub returns-in_err-lock-clause-stands : goal.returns-in_err-lock-clause-stands
+returns-in_err-lock-clause-stands c = λ s h.
+    let none : c.self.inside.lock ≡ None = search rules in
+    stands_unlocked_none c.args.self.now s h (ap (λ (v : Exchange). v.lock) (sym c.self.view_is) ∙ none)
+
+pub returns-clause-stands : goal.returns-clause-stands
+returns-clause-stands c = λ s h.
+    let q = c.self.inside in
+    let v : Exchange = record { objects = q.items; waiting = q.waiting; lock = q.lock } in
+    let is : q.lock ≡ Some c.in_ok-lock.lock = search rules in
+    let before = subst (λ (v : Exchange). StandsFor v None s) (sym c.self.view_is) h in
+    stands_unlocked v c.unlock.new.self s c.in_ok-lock.lock before is (c.unlock.ensures.unlocks s (standing_locked v None s c.in_ok-lock.lock before is))

@@ -1,0 +1,20 @@
+use Rattle.std.proofs.Common.{◌≡◌, rules, false, Some, None, sym, subst}
+use Rattle.model.specs.Waiting.{is_locked}
+use Rattle.objects.specs.Queues.{Exchange, StandsFor, counted_by}
+use Rattle.objects.proofs.Locking.{shut_by, stands_counted, stands_taken_best}
+use Rattle.objects.proofs.queues.Queues.wake_best.Goals as goal
+
+pub returns-in-Some-clause-stands : goal.returns-in-Some-clause-stands
+returns-in-Some-clause-stands c = λ s d h at.
+    let q = c.self.inside in
+    let e : Some c.in-Some.lock ≡ counted_by c.args.list q.lock = search rules in
+    stands_counted q.items q.waiting q.lock c.in-Some.lock c.args.list d s e (subst (λ (v : Exchange). StandsFor v d s) (sym c.self.view_is) h)
+
+pub returns-in-None-clause-stands : goal.returns-in-None-clause-stands
+returns-in-None-clause-stands c = λ s d h at.
+    let q = c.self.inside in
+    let e : None ≡ counted_by c.args.list q.lock = search rules in
+    let before : StandsFor (record { objects = q.items; waiting = q.waiting; lock = q.lock }) d s = subst (λ (v : Exchange). StandsFor v d s) (sym c.self.view_is) h in
+    let shut : is_locked s.locked c.args.list ≡ false = shut_by q.lock c.args.list s.locked e before.locked in
+    stands_taken_best q.items q.waiting c.take_best.new.self q.lock c.args.list d s before (c.take_best.ensures.wakes s d before.waiters at shut)
+    (λ o receivers senders k. c.take_best.ensures.counts s d o receivers senders k at shut)
