@@ -78,7 +78,8 @@ impl Dice {
         tasks.push(self.task(alloc, "d")?).ok()?;
         let start = u32::MAX - self.roll(8);
         let limits = Limits::new(10 + self.roll(50), 20 + self.roll(200))?;
-        Some(App::new(start, limits, tasks))
+        let objects = Vec::new(alloc);
+        Some(App::new(start, limits, objects, tasks))
     }
 }
 

@@ -1,11 +1,35 @@
 //! An application as a file, so that one can run it.
 
-use model::{App, Op, TaskDefinition};
+use model::{Access, App, ObjectId, ObjectKind, Op, TaskDefinition};
 use std::alloc::{AllocError, Global};
 
-fn push_op(file: &mut String, alloc: Global, op: Op) -> Result<(), AllocError> {
+// The first word of a call, and the name of its queue.
+fn queue_text(alloc: Global, word: &str, queue: ObjectId) -> Result<String, AllocError> {
+    let number = queue.number;
+    format!(in alloc; "{word} q{number}")
+}
+
+// How long a call waits, as a word.
+fn wait_text(alloc: Global, ticks: Option<u32>) -> Result<String, AllocError> {
+    match ticks {
+        Some(ticks) => format!(in alloc; "{ticks}"),
+        None => String::from_str(alloc, "forever"),
+    }
+}
+
+// The item that a call puts in, as a word with a space before it.
+fn item_text(alloc: Global, access: Access) -> Result<String, AllocError> {
+    match access {
+        Access::Send(item) | Access::SendFront(item) | Access::Overwrite(item) => {
+            format!(in alloc; " {item}")
+        }
+        Access::Receive | Access::Peek => Ok(String::new(alloc)),
+    }
+}
+
+fn push_op(file: &mut String, alloc: Global, op: &Op) -> Result<(), AllocError> {
     let word = op.word();
-    let text = match op {
+    let text = match *op {
         Op::Work(number) | Op::Delay(number) | Op::DelayUntil(number) | Op::Mark(number) => {
             format!(in alloc; "{word} {number}")?
         }
@@ -13,13 +37,35 @@ fn push_op(file: &mut String, alloc: Global, op: Op) -> Result<(), AllocError> {
         Op::Expect(Some(number)) => format!(in alloc; "{word} {number}")?,
         Op::Expect(None) => format!(in alloc; "{word} none")?,
         Op::Yield | Op::Time | Op::End => String::from_str(alloc, word)?,
-        // no application has objects yet
-        Op::Await(..) | Op::Do(..) | Op::MessagesWaiting(_) | Op::SpacesAvailable(_) => {
-            String::from_str(alloc, word)?
+        Op::Await(object, access, ticks) => {
+            let queue = queue_text(alloc, word, object)?;
+            let item = item_text(alloc, access)?;
+            let wait = wait_text(alloc, ticks)?;
+            format!(in alloc; "{queue}{item} {wait}")?
+        }
+        Op::Do(object, access) => {
+            let queue = queue_text(alloc, word, object)?;
+            let item = item_text(alloc, access)?;
+            format!(in alloc; "{queue}{item}")?
+        }
+        Op::MessagesWaiting(object) | Op::SpacesAvailable(object) => {
+            queue_text(alloc, word, object)?
         }
     };
     let quoted = format!(in alloc; "'{text}', ")?;
     file.push_str(quoted.as_str())
+}
+
+// The object of this index, which is called q and its index.
+fn push_object(
+    file: &mut String,
+    alloc: Global,
+    index: usize,
+    kind: ObjectKind,
+) -> Result<(), AllocError> {
+    let ObjectKind::Queue(length) = kind;
+    let text = format!(in alloc; "\n[[queue]]\nname = 'q{index}'\nlength = {length}\n")?;
+    file.push_str(text.as_str())
 }
 
 fn push_task(file: &mut String, alloc: Global, task: &TaskDefinition) -> Result<(), AllocError> {
@@ -28,7 +74,7 @@ fn push_task(file: &mut String, alloc: Global, task: &TaskDefinition) -> Result<
     let head = format!(in alloc; "\n[[task]]\nname = '{name}'\npriority = {priority}\nscript = [")?;
     file.push_str(head.as_str())?;
     for op in task.ops() {
-        push_op(file, alloc, *op)?;
+        push_op(file, alloc, op)?;
     }
     file.push_str("]\n")
 }
@@ -42,6 +88,9 @@ pub(crate) fn file_of(alloc: Global, app: &App) -> Result<String, AllocError> {
     let mut file = format!(in alloc;
         "start = {start}\nlimits = {{ ticks = {ticks}, steps = {steps} }}\n"
     )?;
+    for (index, kind) in app.objects().iter().enumerate() {
+        push_object(&mut file, alloc, index, *kind)?;
+    }
     for task in app.tasks() {
         push_task(&mut file, alloc, task)?;
     }

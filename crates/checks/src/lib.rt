@@ -9,6 +9,8 @@ mod dice;
 #[cfg(test)]
 mod file;
 #[cfg(test)]
+mod loading;
+#[cfg(test)]
 mod random;
 #[cfg(test)]
 mod refused;

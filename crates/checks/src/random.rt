@@ -48,7 +48,7 @@ fn the_slow_program_agrees(rt: HostRuntime) {
 }
 
 /// The application that a file describes.
-fn loaded(rt: &impl Abort, alloc: Global, file: &str) -> App {
+pub(crate) fn loaded(rt: &impl Abort, alloc: Global, file: &str) -> App {
     let document = toml::table_from_str(alloc, file)
         .ok()
         .expect(rt, "a document");
@@ -66,6 +66,7 @@ fn an_application_that_is_shown_as_a_file_is_loaded_as_it_was(rt: HostRuntime) {
         let back = loaded(&rt, rt.alloc(), file.as_str());
         assert_eq!(rt; back.start(), app.start(), "{file}");
         assert_eq!(rt; back.limits(), app.limits(), "{file}");
+        assert_eq!(rt; back.objects(), app.objects(), "{file}");
         assert_eq!(rt; back.tasks().len(), app.tasks().len(), "{file}");
         for (one, other) in back.tasks().iter().zip(app.tasks()) {
             assert_eq!(rt; one.name(), other.name(), "{file}");

@@ -9,7 +9,7 @@ struct Case {
     line: &'static str,
 }
 
-const CASES: [Case; 25] = [
+const CASES: [Case; 46] = [
     Case {
         file: b"",
         line: "rtosim: 1 Missing: task\n",
@@ -171,6 +171,190 @@ priority = 1
 script = ['repeat 1', 'repeat 1', 'repeat 1', 'repeat 1', 'repeat 1']
 ",
         line: "rtosim: 7 BadNesting: task 0 script 4\n",
+    },
+    Case {
+        file: b"queue = 1
+",
+        line: "rtosim: 2 WrongKind: queue\n",
+    },
+    Case {
+        file: b"queue = [1]
+",
+        line: "rtosim: 2 WrongKind: queue 0\n",
+    },
+    Case {
+        file: b"queue = [{}, {}, {}, {}, {}, {}, {}, {}, {}, {}, {}, {}, {}, {}, {}, {}, {}, {}, {}, {}, {}, {}, {}, {}, {}, {}, {}, {}, {}, {}, {}, {}, {}, ]
+",
+        line: "rtosim: 9 TooMany: queue\n",
+    },
+    Case {
+        file: b"queue = [{}, {}, {}, {}, {}, {}, {}, {}, {}, {}, {}, {}, {}, {}, {}, {}, {}, {}, {}, {}, {}, {}, {}, {}, {}, {}, {}, {}, {}, {}, {}, {}, ]
+",
+        line: "rtosim: 1 Missing: queue 0 name\n",
+    },
+    Case {
+        file: b"queue = [{ name = 'q' }]
+",
+        line: "rtosim: 1 Missing: queue 0 length\n",
+    },
+    Case {
+        file: b"queue = [{ name = 'q', length = 0 }]
+",
+        line: "rtosim: 3 OutOfRange: queue 0 length\n",
+    },
+    Case {
+        file: b"queue = [{ name = 'q', length = 257 }]
+",
+        line: "rtosim: 3 OutOfRange: queue 0 length\n",
+    },
+    Case {
+        file: b"queue = [{ name = 'q', length = 256 }, { name = 'q', length = 0 }]
+",
+        line: "rtosim: 6 DoubleName: queue 1 name\n",
+    },
+    Case {
+        file: b"limits = { ticks = 0 }
+queue = 1
+",
+        line: "rtosim: 3 OutOfRange: limits ticks\n",
+    },
+    Case {
+        file: b"task = 1
+queue = [{ name = 'q', length = true }]
+",
+        line: "rtosim: 2 WrongKind: queue 0 length\n",
+    },
+    Case {
+        file: b"[[queue]]
+name = 'q'
+length = 2
+
+[[task]]
+name = 'q'
+priority = 1
+script = []
+",
+        line: "rtosim: 6 DoubleName: task 0 name\n",
+    },
+    Case {
+        file: b"[[queue]]
+name = 'q'
+length = 2
+
+[[task]]
+name = 'a'
+priority = 1
+script = ['send q 1']
+",
+        line: "rtosim: 4 BadOp: task 0 script 0\n",
+    },
+    Case {
+        file: b"[[queue]]
+name = 'q'
+length = 2
+
+[[task]]
+name = 'a'
+priority = 1
+script = ['send 9q 1 0']
+",
+        line: "rtosim: 4 BadOp: task 0 script 0\n",
+    },
+    Case {
+        file: b"[[queue]]
+name = 'q'
+length = 2
+
+[[task]]
+name = 'a'
+priority = 1
+script = ['send nobody 1']
+",
+        line: "rtosim: 4 BadOp: task 0 script 0\n",
+    },
+    Case {
+        file: b"[[queue]]
+name = 'q'
+length = 2
+
+[[task]]
+name = 'a'
+priority = 1
+script = ['receive q 4294967295']
+",
+        line: "rtosim: 4 BadOp: task 0 script 0\n",
+    },
+    Case {
+        file: b"[[queue]]
+name = 'q'
+length = 2
+
+[[task]]
+name = 'a'
+priority = 1
+script = ['peek q never']
+",
+        line: "rtosim: 4 BadOp: task 0 script 0\n",
+    },
+    Case {
+        file: b"[[queue]]
+name = 'q'
+length = 2
+
+[[task]]
+name = 'a'
+priority = 1
+script = ['overwrite q 1 0']
+",
+        line: "rtosim: 4 BadOp: task 0 script 0\n",
+    },
+    Case {
+        file: b"[[queue]]
+name = 'q'
+length = 2
+
+[[task]]
+name = 'a'
+priority = 1
+script = ['waiting q', 'send_front nobody 1 forever', 'work 0']
+",
+        line: "rtosim: 5 UnknownName: task 0 script 1\n",
+    },
+    Case {
+        file: b"[[queue]]
+name = 'q'
+length = 2
+
+[[task]]
+name = 'a'
+priority = 1
+script = ['receive a 0']
+",
+        line: "rtosim: 5 UnknownName: task 0 script 0\n",
+    },
+    Case {
+        file: b"[[queue]]
+name = 'q'
+length = 2
+
+[[task]]
+name = 'a'
+priority = 1
+script = ['spaces q', 'overwrite q 1', 'end']
+",
+        line: "rtosim: 8 OverwriteLength: task 0 script 1\n",
+    },
+    Case {
+        file: b"[[queue]]
+name = 'q'
+length = 2
+
+[[task]]
+name = 'a'
+priority = 1
+script = ['end', 'overwrite q 1']
+",
+        line: "rtosim: 7 BadNesting: task 0 script 0\n",
     },
 ];
 

@@ -263,6 +263,18 @@ stands_kept t s new i u h l is time elapsed same table = record {
   table = table;
 }
 
+-- the same while a task is still to be placed
+pub stands_before_kept : (t : Timeline) (s new : State) (i j : ℕ) (deadline : Option ℕ) (u : Task) → StandsBefore i deadline t s → j < length s.tasks → new.tasks ≡ set s.tasks j u → new.time ≡ s.time → new.elapsed ≡ s.elapsed → SleepsAlike u.status (task_at s j).status → IsTable new → StandsBefore i deadline t new
+stands_before_kept t s new i j deadline u h l is time elapsed same table = record {
+  now = h.now ∙ sym time;
+  age = h.age ∙ sym elapsed;
+  sorted = h.sorted;
+  once = h.once;
+  delayed = λ m. h.delayed m ∙ sym (ap (λ (ts : List Task). due_in ts m) is ∙ due_in-kept s.tasks j m u l same);
+  awake = h.awake;
+  table = table;
+}
+
 -- a tick passes
 
 first_due : (ts : List Task) (p : Entry → Bool) (d : ℕ) (ds : List ℕ) (es : List Entry) → AllByRecursion (HasKey delayed_key ts) es → tasks_of (filter p es) ≡ d ∷ ds → d < length ts
@@ -474,6 +486,7 @@ module _ (t : Timeline) (s : State) (i : ℕ) (h : StandsFor t s) (l : i < lengt
     sorted = h.sorted;
     once = h.once;
     delayed = due-waiting deadline;
+    awake = asleep_same t s i h ∙ ap (λ (o : Option ℕ). is_some o) (ready_awake (status_at s i) ready);
     table = table-taken s i (λ ticket. Waiting (record { list = list; priority = priority; ticket = ticket; deadline = deadline })) h.table (omega arith);
   }
 
@@ -488,3 +501,10 @@ stands_waiting t s i list h l ready =
     let h1 : StandsFor t s1 = stands_kept t s s1 i u h l refl refl refl (record { key = refl; wake_time = refl }) table in
     let ready1 : is_ready s1 i ≡ true = ap (λ (v : Task). is_some (ticket_if_ready v.status)) at ∙ ready in
     waits t s1 i h1 (rw length-set l) ready1 list (task_at s i).priority (call_at s i).deadline
+
+-- a task becomes Ready, and is asleep no more
+pub stands_made_ready : (old new : Timeline) (s : State) (i : ℕ) → new.now ≡ old.now → new.age ≡ old.age → new.delayed_list ≡ without i old.delayed_list → StandsFor old s → i < length s.tasks → StandsFor new (make_ready i s)
+stands_made_ready old new s i now age sleepers h l =
+    let u : Task = record (task_at s i) { status = Ready s.next_ticket } in
+    same_parts (record old { delayed_list = without i old.delayed_list }) new (make_ready i s) now age sleepers
+    (stands_woken old s (make_ready i s) i u h l refl refl refl refl (table-make_ready s i h.table))

@@ -1,12 +1,12 @@
 -- What a clock's timeline stands for: the time and the sleepers of a state of the definitions, whose tickets it does not
 -- have.
-use Rattle.std.specs.Prelude.{◌≡◌, ℕ, ◌+◌, ◌==◌, List, [], ◌∷◌, ◌++◌, Option, Some, None, map, filter}
+use Rattle.std.specs.Prelude.{◌≡◌, ℕ, ◌+◌, ◌==◌, false, List, [], ◌∷◌, ◌++◌, Option, Some, None, map, filter}
 use Rattle.model.specs.State.{State}
 use Rattle.model.specs.Order.{tasks_of}
 use Rattle.model.specs.Time.{due}
 use Rattle.model.specs.Invariant.{IsTable}
 use Rattle.lists.specs.Lists.{EachOnce, IsSorted}
-use Rattle.clock.specs.Timeline.{Timeline}
+use Rattle.clock.specs.Timeline.{Timeline, is_asleep}
 
 -- the tasks that sleep until this time, in order
 abbrev pub tasks_at : ℕ → List (ℕ × ℕ) → List ℕ
@@ -43,4 +43,5 @@ pub record StandsBefore (task : ℕ) (deadline : Option ℕ) (t : Timeline) (s :
   pub sorted : IsSorted t.delayed_list
   pub once : EachOnce t.delayed_list
   pub delayed : (time : ℕ) → tasks_at time t.delayed_list ++ tasks_at time (with_deadline task deadline) ≡ tasks_of (due (at_time s time))
+  pub awake : is_asleep t task ≡ false
   pub table : IsTable s

@@ -148,6 +148,9 @@ impl Clock {
         ensures now { self.new.now ≡ self.old.now }
         ensures age { self.new.age ≡ self.old.age }
         ensures delayed { self.new.delayed_list ≡ without task self.old.delayed_list }
+        // In the definitions it becomes Ready.
+        ensures stands { (s : State) → StandsFor self.old s → task < length s.tasks
+            → StandsFor self.new (switching.make_ready task s) }
     {
         self.lists.remove(task);
     }

@@ -23,8 +23,10 @@ fn label(fault: LoadFault) -> &'static str
         LoadFault::WrongKind(_) => "WrongKind:",
         LoadFault::OutOfRange(_) => "OutOfRange:",
         LoadFault::BadOp(_) => "BadOp:",
+        LoadFault::UnknownName(_) => "UnknownName:",
         LoadFault::DoubleName(_) => "DoubleName:",
         LoadFault::BadNesting(_) => "BadNesting:",
+        LoadFault::OverwriteLength(_) => "OverwriteLength:",
         LoadFault::TooMany(_) => "TooMany:",
         LoadFault::Memory => "Memory:",
     }

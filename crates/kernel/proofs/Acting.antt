@@ -1,14 +1,15 @@
 -- What the ops make of the states that the kernel stands for.
-use Rattle.std.proofs.Common.{◌≡◌, ◌<◌, ◌≤◌, ◌+◌, ◌-◌, ℕ, true, false, eqb, leb, ltb, set, List, [], ◌∷◌, length, get_or-set_same, Option, Some, None, refl, ap, sym, subst, ◌∙◌, arith}
+use Rattle.std.proofs.Common.{◌≡◌, ◌≢◌, ◌<◌, ◌≤◌, ◌+◌, ◌-◌, ℕ, true, false, eqb, leb, ltb, set, List, [], ◌∷◌, length, get_or-set_same, Option, Some, None, refl, ap, sym, subst, ◌∙◌, arith}
 use Rattle.std.specs.Option.{IfSome, option_eq}
 use Rattle.std.proofs.lemmas.Bool.{lt-ltb, le-ltb, eq-eqb, ne_eqb}
 use Rattle.std.proofs.lemmas.List.{set-set}
+use Rattle.model.specs.declared.call.Phase.TheVariants.{Place}
 use Rattle.model.specs.declared.loops.Loop.{Loop}
 use Rattle.model.specs.declared.event.Event.{Event}
 use Rattle.model.specs.declared.event.What.{What}
 use Rattle.model.specs.declared.event.End.TheVariants as ending
 use Rattle.model.specs.Application.{Application, op_count}
-use Rattle.model.specs.State.{no_call, State, Task, Progress, wake_time_of, task_at, status_at, progress_at, with_task, no_task}
+use Rattle.model.specs.State.{no_call, State, Task, Progress, task_at, progress_at, with_task, no_task}
 use Rattle.model.specs.State as state
 use Rattle.model.specs.Switching.{write, yield_now, is_ready}
 use Rattle.model.specs.Time.{sleep, set_previous_wake}
@@ -18,18 +19,23 @@ use Rattle.model.proofs.Frames.{keeps-answer, keeps-sleep}
 use Rattle.kernel.specs.Loops.{after_turn, next_turn}
 use Rattle.kernel.specs.declared.kernel.Kernel.{Kernel}
 use Rattle.sched.specs.Schedule.{Schedule, block}
+use Rattle.sched.proofs.Standing as on_sched
 use Rattle.clock.specs.Timeline.{Timeline}
+use Rattle.objects.specs.Queues.{Exchange, SameWaits}
+use Rattle.objects.proofs.Kept.{stands_same}
+use Rattle.objects.proofs.Awake.{at_locked_same}
+use Rattle.model.specs.Invariant.{IsTable}
 use Rattle.kernel.specs.StandsFor.{progress_in, At, Moves, with_progress}
 use Rattle.kernel.specs.Can.{Agrees, Runs, CanTick}
-use Rattle.kernel.proofs.Parts.{asleep_is, none_if_not, stands-changed, stands-gone, stands-ended, stands-told}
+use Rattle.kernel.proofs.Parts.{clock-same, same_parts, stands-changed, stands-gone, stands-ended, stands-told}
 
 -- the kernel's running task is a task
 pub within : (k : Kernel) (log : List Event) (s : State) → At k log s → (i : ℕ) → k.sched.current ≡ Some i → i < length s.tasks
 within k log s h i r = let L : Option ℕ → Type 0 = λ o. IfSome o (λ j. j < length s.tasks) in subst L (sym h.stands.sched.current ∙ r) h.stands.sched.table.current
 
 -- A task's progress changes, in the kernel and in its state.
-pub changed : (k : Kernel) (log : List Event) (s : State) → At k log s → (i : ℕ) → i < length s.tasks → (p : Progress) → At (with_progress i p k) log (state.with_progress i p s)
-changed k log s h i l p = record { stands = stands-changed k s h.stands i l p; log = h.log }
+pub changed : (k : Kernel) (log : List Event) (s : State) → At k log s → (i : ℕ) → i < length s.tasks → (p : Progress) → p.call.phase ≢ Place → At (with_progress i p k) log (state.with_progress i p s)
+changed k log s h i l p off = record { stands = stands-changed k s h.stands i l p off; log = h.log }
 
 -- To change a task's progress and let it go on is to let it go on with the changed progress.
 go_to_after : (app : Application) (s : State) (i op_index : ℕ) (p : Progress) → i < length s.tasks → go_to app i op_index (progress_at (state.with_progress i p s) i) (state.with_progress i p s) ≡ go_to app i op_index p s
@@ -50,9 +56,9 @@ abbrev pub Completes : Application → Kernel → ℕ → Kernel → Type 0
 Completes app k i new = (log : List Event) (s : State) → At k log s → At new log (complete app i (progress_at s i) s)
 
 -- The running task of the kernel makes progress, and then goes on.
-module _ (app : Application) (k mid new : Kernel) (log : List Event) (s : State) (h : At k log s) (i : ℕ) (r : k.sched.current ≡ Some i) (p q : Progress) (is : mid ≡ with_progress i p k) (same : p ≡ q) where
+module _ (app : Application) (k mid new : Kernel) (log : List Event) (s : State) (h : At k log s) (i : ℕ) (r : k.sched.current ≡ Some i) (p q : Progress) (is : mid ≡ with_progress i p k) (same : p ≡ q) (off : p.call.phase ≢ Place) where
   pub at_mid : At mid log (state.with_progress i q s)
-  at_mid = let Q : Progress → Type 0 = λ x. At mid log (state.with_progress i x s) in subst Q same (rw is (changed k log s h i (within k log s h i r) p))
+  at_mid = let Q : Progress → Type 0 = λ x. At mid log (state.with_progress i x s) in subst Q same (rw is (changed k log s h i (within k log s h i r) p off))
 
   pub goes : (op_index : ℕ) → Goes app mid i op_index new → At new log (go_to app i op_index q s)
   goes op_index g = subst (λ (x : State). At new log x) (go_to_after app s i op_index q (within k log s h i r)) (g log (state.with_progress i q s) at_mid)
@@ -74,11 +80,14 @@ answered app k mid new log told s h i r v e a w one written is g =
     let W : What → Type 0 = λ x. At k told (write x s) in
     let told_is : w ≡ called i p.op_index a = one ∙ ap (λ (x : Progress). called i x.op_index a) same in
     completes app k mid new told (write (called i p.op_index a) s) (subst W told_is written) i r (record (progress_in k.progress i) { answer = a }) (record p { answer = a }) is
-    (ap (λ (x : Progress). record x { answer = a }) (h.stands.rest.progress i)) g
+    (ap (λ (x : Progress). record x { answer = a }) (h.stands.rest.progress i)) (h.stands.rest.placed i) g
 
 module _ (app : Application) (k new : Kernel) (log : List Event) (s : State) (h : At k log s) (i : ℕ) (r : k.sched.current ≡ Some i) (v : Progress) (e : v ≡ progress_in k.progress i) where
   same : v ≡ progress_at s i
   same = e ∙ h.stands.rest.progress i
+
+  placed : v.call.phase ≢ Place
+  placed = let P : Progress → Type 0 = λ p. p.call.phase ≢ Place in subst P (sym e) (h.stands.rest.placed i)
 
   pub used_last : (n : ℕ) → v.used + 1 ≡ n → Completes app k i new → At new log (use_up app i n s)
   unfolding use_up
@@ -89,7 +98,7 @@ module _ (app : Application) (k new : Kernel) (log : List Event) (s : State) (h 
   used_more n l is =
       rw (ne_eqb ((progress_at s i).used + 1) n (λ q. l (ap (λ (p : Progress). p.used + 1) same ∙ q)))
       (at_mid app k new new log s h i r (record (progress_in k.progress i) { used = v.used + 1 }) (record (progress_at s i) { used = (progress_at s i).used + 1 }) is
-      (ap (λ (p : Progress). record p { used = v.used + 1 }) (h.stands.rest.progress i) ∙ ap (λ (p : Progress). record (progress_at s i) { used = p.used + 1 }) same))
+      (ap (λ (p : Progress). record p { used = v.used + 1 }) (h.stands.rest.progress i) ∙ ap (λ (p : Progress). record (progress_at s i) { used = p.used + 1 }) same) (h.stands.rest.placed i))
 
   pub expect_same : (a : Option ℕ) → option_eq eqb v.answer a ≡ true → Completes app k i new → At new log (expect app i a s)
   unfolding expect
@@ -97,26 +106,33 @@ module _ (app : Application) (k new : Kernel) (log : List Event) (s : State) (h 
 
   pub expect_other : (a : Option ℕ) → option_eq eqb v.answer a ≡ false → At (record k { stopped = Some (ending.Check i v.op_index) }) log (expect app i a s)
   unfolding expect
-  expect_other a t = let u : option_eq eqb (progress_at s i).answer a ≡ false = ap (λ (p : Progress). option_eq eqb p.answer a) (sym same) ∙ t in rw u (record {
-    stands = record {
-      sched = record { ready = h.stands.sched.ready; current = h.stands.sched.current; priorities = h.stands.sched.priorities; depth = h.stands.sched.depth; table = record { tickets = h.stands.sched.table.tickets; few = h.stands.sched.table.few; current = h.stands.sched.table.current } };
-      rest = record {
-        progress = h.stands.rest.progress;
-        full = h.stands.rest.full;
-        clock = record { now = h.stands.rest.clock.now; age = h.stands.rest.clock.age; sorted = h.stands.rest.clock.sorted; once = h.stands.rest.clock.once; delayed = h.stands.rest.clock.delayed; table = record { tickets = h.stands.rest.clock.table.tickets; few = h.stands.rest.clock.table.few; current = h.stands.rest.clock.table.current } };
-        steps = h.stands.rest.steps;
-        stopped = ap (λ (p : Progress). Some (ending.Check i p.op_index)) same;
-        nobody_waits = h.stands.rest.nobody_waits;
-      };
-    };
-    log = h.log;
-  })
+  expect_other a t =
+      let u : option_eq eqb (progress_at s i).answer a ≡ false = ap (λ (p : Progress). option_eq eqb p.answer a) (sym same) ∙ t in
+      let new : State = record s { stopped = Some (ending.Check i (progress_at s i).op_index) } in
+      let table : IsTable new = record { tickets = h.stands.sched.table.tickets; few = h.stands.sched.table.few; current = h.stands.sched.table.current } in
+      let alike : SameWaits s new = same_parts s new refl refl refl in
+      rw u (record {
+        stands = record {
+          sched = record { ready = h.stands.sched.ready; current = h.stands.sched.current; priorities = h.stands.sched.priorities; depth = h.stands.sched.depth; table = table };
+          rest = record {
+            progress = h.stands.rest.progress;
+            full = h.stands.rest.full;
+            clock = clock-same k.clock s new h.stands.rest.clock refl refl refl table;
+            queues = stands_same s new alike k.queues None h.stands.rest.queues table;
+            awake = at_locked_same None s new alike h.stands.rest.awake;
+            steps = h.stands.rest.steps;
+            stopped = ap (λ (p : Progress). Some (ending.Check i p.op_index)) same;
+            placed = h.stands.rest.placed;
+          };
+        };
+        log = h.log;
+      })
 
   pub loop_opened : (mid : Kernel) (n : ℕ) → mid ≡ with_progress i (record v { loops = record { start = v.op_index + 1; left = n } ∷ v.loops }) k → Completes app mid i new → At new log (open_loop app i n s)
   unfolding open_loop
   loop_opened mid n is g =
       let opened : Progress → Progress = λ (p : Progress). record p { loops = record { start = p.op_index + 1; left = n } ∷ p.loops } in
-      completes app k mid new log s h i r (opened v) (opened (progress_at s i)) is (ap opened same) g
+      completes app k mid new log s h i r (opened v) (opened (progress_at s i)) is (ap opened same) placed g
 
   -- the innermost loop ends a turn
   module _ (mid : Kernel) (is : mid ≡ with_progress i (record v { loops = after_turn v.loops }) k) where
@@ -140,14 +156,14 @@ module _ (app : Application) (k new : Kernel) (log : List Event) (s : State) (h 
     turn_last n g =
         let m : next_turn (progress_at s i).loops ≡ None = ap (λ (p : Progress). next_turn p.loops) (sym same) ∙ n in
         rw (none_left (progress_at s i) (progress_at s i).loops refl m)
-        (completes app k mid new log s h i r (record v { loops = after_turn v.loops }) (record (progress_at s i) { loops = after_turn (progress_at s i).loops }) is mid_is g)
+        (completes app k mid new log s h i r (record v { loops = after_turn v.loops }) (record (progress_at s i) { loops = after_turn (progress_at s i).loops }) is mid_is placed g)
 
     pub turn_next : (start : ℕ) → next_turn v.loops ≡ Some start → Goes app mid i start new → At new log (close_turn app i s)
     unfolding close_turn
     turn_next start n g =
         let m : next_turn (progress_at s i).loops ≡ Some start = ap (λ (p : Progress). next_turn p.loops) (sym same) ∙ n in
         rw (one_left (progress_at s i) (progress_at s i).loops start m)
-        (goes app k mid new log s h i r (record v { loops = after_turn v.loops }) (record (progress_at s i) { loops = after_turn (progress_at s i).loops }) is mid_is start g)
+        (goes app k mid new log s h i r (record v { loops = after_turn v.loops }) (record (progress_at s i) { loops = after_turn (progress_at s i).loops }) is mid_is placed start g)
 
 -- an answer takes no time
 pub time-answer : (app : Application) (i : ℕ) (a : Option ℕ) (s : State) → (answer app i a s).time ≡ s.time
@@ -196,9 +212,10 @@ agrees_after k new log new_log a deed does =
     let s : State = record (a.0) { log = log } in
     (deed s, (does s (record { stands = stands-told k a.0 a.1 log; log = refl })).stands)
 
-pub can_tick_still : (k new : Kernel) → CanTick k → new.clock ≡ k.clock → (deed : State → State) → Moves k new deed → CanTick new
-can_tick_still k new c same deed does = record {
+pub can_tick_still : (k new : Kernel) → CanTick k → new.clock ≡ k.clock → new.queues ≡ k.queues → (deed : State → State) → Moves k new deed → CanTick new
+can_tick_still k new c same queues deed does = record {
   agrees = agrees_after k new [] [] c.agrees deed (λ s h. does [] s h);
+  free = ap (λ (q : Exchange). q.lock) queues ∙ c.free;
   age = let e = ap (λ (t : Timeline). t.age) same in let l = c.age in omega arith;
 }
 
@@ -211,8 +228,8 @@ module _ (app : Application) (k moved : Kernel) (log : List Event) (s : State) (
   p_is : progress_in k.progress i ≡ progress_at s i
   p_is = h.stands.rest.progress i
 
-  awake : wake_time_of (status_at s i) ≡ None
-  awake = none_if_not (wake_time_of (status_at s i)) (sym (asleep_is k.clock s h.stands.rest.clock i) ∙ r.awake)
+  ready : is_ready s i ≡ true
+  ready = sym (on_sched.ready_same k.sched s i h.stands.sched) ∙ r.ready
 
   pub goes_on : (op_index ≡ count → ⊥) → At moved log (go_to app i op_index (progress_at s i) s)
   unfolding go_to
@@ -225,7 +242,7 @@ module _ (app : Application) (k moved : Kernel) (log : List Event) (s : State) (
   ends on v blocks =
       let Q : Kernel → Type 0 = λ m. v ≡ block i m.sched → At (record m { sched = v }) log (with_task i (moved_to (op_count app i) op_index (progress_at s i) (task_at s i)) s) in
       let P : Progress → Type 0 = λ p. At (record k { progress = set k.progress i (record p { op_index = op_index; used = 0; call = no_call }); sched = v }) log (with_task i (moved_to (op_count app i) op_index (progress_at s i) (task_at s i)) s) in
-      subst Q (sym is) (λ b. subst P (sym p_is) (rw (← many) (record { stands = stands-ended k s h.stands i l count op_index (progress_at s i) (eq-eqb op_index count on) awake v b; log = h.log }))) blocks
+      subst Q (sym is) (λ b. subst P (sym p_is) (rw (← many) (record { stands = stands-ended k s h.stands i l count op_index (progress_at s i) (eq-eqb op_index count on) ready v b; log = h.log }))) blocks
 
 -- ---- sleep
 
@@ -242,7 +259,7 @@ pub counts : (k new : Kernel) (log : List Event) (s : State) → At k log s → 
 unfolding set_previous_wake
 counts k new log s h i l time is =
     let P : Progress → Type 0 = λ p. At (with_progress i (record p { previous_wake = time }) k) log (state.with_progress i (record (progress_at s i) { previous_wake = time }) s) in
-    rw is (subst P (sym (h.stands.rest.progress i)) (changed k log s h i l (record (progress_at s i) { previous_wake = time })))
+    rw is (subst P (sym (h.stands.rest.progress i)) (changed k log s h i l (record (progress_at s i) { previous_wake = time }) (let Q : Progress → Type 0 = λ p. p.call.phase ≢ Place in subst Q (h.stands.rest.progress i) (h.stands.rest.placed i))))
 
 -- the running task is a task after it has answered, and when it sleeps
 pub still_task : (app : Application) (k : Kernel) (log : List Event) (s : State) → At k log s → (i : ℕ) → k.sched.current ≡ Some i → (n : ℕ) → i < length (answer app i (Some n) s).tasks

@@ -4,10 +4,11 @@ use Rattle.std.specs.List.{AllByRecursion}
 use Rattle.std.proofs.lemmas.List.{take_more, map-append, length-map, get_or_past}
 use Rattle.std.proofs.lemmas.Bool.{cases_lt}
 use Rattle.std.proofs.Common.{inl, inr}
+use Rattle.model.specs.declared.call.Phase.TheVariants.{Place}
 use Rattle.model.specs.declared.op.Op.{Op}
 use Rattle.model.specs.Application.{Application, Definition}
 use Rattle.model.specs.Scripts.{IsDefinition, IsWellFormed}
-use Rattle.model.specs.State.{State, Task, Progress, Ready, wait_of, wake_time_of, no_task, no_progress, task_at, status_at, for_each}
+use Rattle.model.specs.State.{State, Task, Progress, Object, no_object, no_call, Ready, wake_time_of, no_task, no_progress, task_at, status_at, for_each}
 use Rattle.model.specs.Order.{keyed, list_by, tasks_of}
 use Rattle.model.specs.Switching.{make_ready, ready_key, choice, choose, dispatch, is_same}
 use Rattle.model.specs.Time.{delayed_key, due}
@@ -33,7 +34,17 @@ use Rattle.kernel.specs.declared.kernel.Kernel.{Kernel}
 use Rattle.kernel.specs.StandsFor.{progress_in, StandsFor}
 use Rattle.kernel.specs.Boot.{priorities_in, HasNoneFrom}
 use Rattle.kernel.proofs.Parts.{clock-same, ready_alike}
-use Rattle.kernel.proofs.Waking.{has_node-added, progress-all_ready, unwaiting-all_ready}
+use Rattle.kernel.proofs.Waking.{has_node-added, progress-all_ready}
+use Rattle.model.specs.Invariant.{Hold, IsTable}
+use Rattle.model.proofs.Reached.{call-reset}
+use Rattle.model.proofs.Sound.{free_unwoken}
+use Rattle.objects.specs.Queues as queues
+use Rattle.objects.specs.Queues.{Exchange, SameWaits}
+use Rattle.objects.specs.WaitersStand.{AtLocked}
+use Rattle.objects.proofs.Awake.{at_locked-nobody, at_locked_same}
+use Rattle.objects.proofs.Kept.{stands_same}
+use Rattle.objects.proofs.Locking.{objects-all_ready}
+use Rattle.objects.proofs.Resetting.{nobody_waits-reset}
 
 pub zeros : (n i : ℕ) → let nothing : ℕ = 0 in get_or (replicate n nothing) i nothing ≡ nothing
 zeros zero i = refl
@@ -200,11 +211,6 @@ awake-ready s i h j = by_index s.tasks i j h where
   by_index (u ∷ us) (suc i) zero h = h 0
   by_index (u ∷ us) (suc i) (suc j) h = by_index us i j (λ k. h (suc k))
 
-pub none_waits : (start : ℕ) (ds : List Definition) (i : ℕ) → wait_of (get_or (map (task_at_reset start) ds) i no_task).status ≡ None
-none_waits start [] i = refl
-none_waits start (d ∷ ds) zero = refl
-none_waits start (d ∷ ds) (suc i) = none_waits start ds i
-
 ended_at_reset : (start : ℕ) (ds : List Definition) (i : ℕ) → wake_time_of (get_or (map (task_at_reset start) ds) i no_task).status ≡ None
 ended_at_reset start [] i = refl
 ended_at_reset start (d ∷ ds) zero = refl
@@ -221,6 +227,29 @@ clock-all_ready t (i ∷ is) s h none l =
       still_within [] a = tt
       still_within (j ∷ js) a = (rw length-set a.0, still_within js a.1)
 
+-- Nobody waits, before the tasks become Ready and after.
+module _ (app : Application) where
+  same_at_reset : SameWaits (nobody_ready app) (reset app)
+  unfolding nobody_ready reset ready_at_reset
+  same_at_reset = record {
+    objects = λ o. ap (λ (os : List Object). get_or os o no_object) (objects-all_ready (with_ops 0 app.tasks) (nobody_ready app));
+    waits = λ i. nobody_waits-reset app i ∙ sym (call-reset app.start i app.tasks).1;
+    awake = λ i. free_unwoken _ (nobody_waits-reset app i) ∙ sym (free_unwoken _ (call-reset app.start i app.tasks).1);
+    locked = ap (λ (hold : Hold). hold.locked) (keeps-all_ready (with_ops 0 app.tasks) (nobody_ready app)).hold;
+  }
+
+  pub queues_at_reset : (v : Exchange) → queues.StandsFor v None (reset app) → IsTable (nobody_ready app) → queues.StandsFor v None (nobody_ready app)
+  queues_at_reset v h table =
+      let same = same_at_reset in
+      stands_same (reset app) (nobody_ready app) (record { objects = λ o. sym (same.objects o); waits = λ i. sym (same.waits i); awake = λ i. sym (same.awake i); locked = sym same.locked }) v None h table
+
+  pub nobody_awake-reset : AtLocked None (nobody_ready app)
+  unfolding nobody_ready
+  nobody_awake-reset = at_locked-nobody (nobody_ready app) (λ i. free_unwoken _ (call-reset app.start i app.tasks).1)
+
+  pub none_placing : (ps : List Progress) → ((i : ℕ) → progress_in ps i ≡ (get_or (map (task_at_reset app.start) app.tasks) i no_task).progress) → (i : ℕ) → (progress_in ps i).call.phase ≢ Place
+  none_placing ps h i q = let e : (progress_in ps i).call ≡ no_call = ap (λ (p : Progress). p.call) (h i) ∙ (call-reset app.start i app.tasks).0 in let f = rw e at q in absurd (cc)
+
 pub booted : (app : Application) → IsWellFormed app → (k : Kernel) (v w : Schedule) → StandsFor k (nobody_ready app)
     → sched.StandsFor v (for_each make_ready (with_ops 0 app.tasks) (nobody_ready app))
     → ((s : State) → sched.StandsFor v s → sched.StandsFor w (choose s))
@@ -234,6 +263,7 @@ booted app formed k v w h ready chooses =
     let awake : (i : ℕ) → wake_time_of (status_at none i) ≡ None = ended_at_reset app.start app.tasks in
     let on = sched_chosen w s (chooses s ready) in
     let keep = keeps-all_ready is none in
+    let same : SameWaits none (reset app) = same_at_reset app in
     let c : clock.StandsFor k.clock s = clock-all_ready k.clock is none h.rest.clock awake low in
     record {
       sched = on;
@@ -241,8 +271,10 @@ booted app formed k v w h ready chooses =
         progress = λ i. h.rest.progress i ∙ sym (progress-all_ready is none i);
         full = h.rest.full;
         clock = clock-same k.clock s (record s { current = choice s }) c refl refl refl on.table;
+        queues = stands_same none (reset app) same k.queues None h.rest.queues on.table;
+        awake = at_locked_same None none (reset app) same h.rest.awake;
         steps = h.rest.steps ∙ sym keep.steps;
         stopped = h.rest.stopped ∙ sym keep.stopped;
-        nobody_waits = unwaiting-all_ready is none h.rest.nobody_waits;
+        placed = h.rest.placed;
       };
     }

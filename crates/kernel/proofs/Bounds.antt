@@ -1,32 +1,35 @@
 -- A kernel whose run goes on keeps within the numbers of the code.
-use Rattle.std.proofs.Common.{◌≡◌, ◌<◌, ◌≤◌, ◌+◌, ℕ, Bool, true, false, cond, leb, ◌&&◌, List, [], length, Option, Some, None, refl, ap, sym, subst, ◌∙◌, arith}
+use Rattle.std.proofs.Common.{◌≡◌, ◌≢◌, ◌<◌, ◌≤◌, ◌+◌, ℕ, Bool, true, false, cond, leb, ◌&&◌, length, Option, Some, None, refl, ap, sym, subst, ◌∙◌, arith}
+use Rattle.std.specs.Prelude.{if◌then◌else◌}
 use Rattle.std.proofs.lemmas.Bool.{ltb-true}
 use Rattle.std.proofs.lemmas.Bool.Decides.{nat_tests}
-use Rattle.std.proofs.lemmas.Option.{slice_get_within}
-use Rattle.std.specs.List.{slice_get}
-use Rattle.std.specs.Option.{is_some, option_map, unwrap_or}
+use Rattle.std.proofs.lemmas.Option.{same_Some, slice_get_within}
+use Rattle.std.specs.Option.{IfSome}
 use Rattle.model.specs.declared.ids.TaskId.{TaskId}
+use Rattle.model.specs.declared.call.Phase.{Phase}
+use Rattle.model.specs.declared.call.Phase.TheVariants.{Start, Try, Decide, Place, Unlock, Leave}
 use Rattle.model.specs.declared.event.End.{End}
 use Rattle.model.specs.declared.event.End.TheVariants as ending
+use Rattle.model.specs.declared.op.Access.{Access}
 use Rattle.model.specs.declared.op.Op.{Op}
 use Rattle.model.specs.declared.op.Op.TheVariants.{Work, Delay, DelayUntil, Yield, Time, Mark, Expect, Repeat, End as EndLoop, Await, Do, MessagesWaiting, SpacesAvailable}
 use Rattle.model.specs.Application.{Application, Limits, script_of, op_at}
-use Rattle.model.specs.declared.object.ObjectKind.{ObjectKind}
-use Rattle.model.specs.declared.op.Access.{Access}
-use Rattle.model.specs.declared.op.Access.TheVariants.{Receive}
-use Rattle.model.specs.Scripts.{may_stand, fits, fits_object, knows, IsWellFormed}
-use Rattle.model.specs.State.{State, Progress, progress_at, status_at}
-use Rattle.model.specs.Switching.{is_ready}
+use Rattle.model.specs.Scripts.{may_stand, fits_object, is_wait, knows, IsWellFormed}
+use Rattle.model.specs.State.{State, Progress, Wait, wait_of, task_at, progress_at, call_at, status_at}
 use Rattle.model.specs.Run.{end_of, or_else, are_all_ended, is_stuck, state_after}
-use Rattle.model.specs.Invariant.{IsState, IsUsedBy, IsRunning, RunsIn, awaited}
-use Rattle.model.proofs.InScripts.{script_formed, stands_at, known_at}
-use Rattle.model.proofs.Sound.{ready_reckoned, ready_awake}
+use Rattle.model.specs.Invariant.{IsState, IsUsedBy, IsRunning, IsPlacing, IsWaitOf, RunsIn, awaited, hold_of, holds}
+use Rattle.model.proofs.InScripts.{script_formed, stands_at, known_at, range_at}
+use Rattle.model.proofs.Sound.{ready_reckoned}
 use Rattle.model.proofs.Reached.{reached_after, start_only}
-use Rattle.clock.specs.Timeline.{is_asleep}
+use Rattle.sched.proofs.Standing as on_sched
+use Rattle.objects.specs.declared.lock.Lock.{Lock}
+use Rattle.objects.specs.Queues.{locked_by}
+use Rattle.objects.proofs.Sizes.{can_hold_in}
 use Rattle.kernel.specs.declared.kernel.Kernel.{Kernel}
-use Rattle.kernel.specs.StandsFor.{progress_in}
-use Rattle.kernel.specs.Can.{HasLoopRoom, HasNoObject, CanTick, Can, CanAct, CanStep}
-use Rattle.kernel.proofs.Parts.{asleep_is}
+use Rattle.kernel.specs.StandsFor.{StandsFor, StandsBefore, Stands, progress_in}
+use Rattle.kernel.specs.StandsFor.Stands.{Placed, Placing}
+use Rattle.kernel.specs.Can.{Runs, HasLoopRoom, HasLength, HasObject, CanTick, Can, IsAhead, IsInCall, CanTry, IsShort, CanPlace, CanGoOn, CanOp, CanAct, CanStep}
+use Rattle.kernel.proofs.Either.{age_is, now_is, current_is, progress_is}
 
 leb-less : (a b : ℕ) → leb a b ≡ false → b < a
 leb-less a b e = grind (arith, nat_tests)
@@ -62,42 +65,42 @@ and_left : (a b : Bool) → (a && b) ≡ true → a ≡ true
 and_left true b t = refl
 and_left false b t = absurd (cc)
 
-no_fit : (app : Application) (o : ℕ) (a : Access) → app.objects ≡ [] → fits_object app o a ≡ true → ⊥
-no_fit app o a none t =
-    let F : List ObjectKind → Type 0 = λ kinds. unwrap_or (option_map (λ kind. fits kind a) (slice_get kinds o)) false ≡ true in
-    let f : false ≡ true = subst F none t in absurd (cc)
+-- an op that doesn't wait
+abbrev IsBrief : Op → Type 0
+IsBrief op = awaited (Some op) ≡ None
 
-no_object : (app : Application) (op : Op) → app.objects ≡ [] → knows app op ≡ true → HasNoObject op
-no_object app (Work n) none t = tt
-no_object app (Delay n) none t = tt
-no_object app (DelayUntil n) none t = tt
-no_object app Yield none t = tt
-no_object app Time none t = tt
-no_object app (Mark n) none t = tt
-no_object app (Expect a) none t = tt
-no_object app (Repeat n) none t = tt
-no_object app EndLoop none t = tt
-no_object app (Await o a w) none t = no_fit app o a none (and_left (fits_object app o a) _ t)
-no_object app (Do o a) none t = no_fit app o a none (and_left (fits_object app o a) _ t)
-no_object app (MessagesWaiting o) none t = no_fit app o Receive none t
-no_object app (SpacesAvailable o) none t = no_fit app o Receive none t
+known_object : (app : Application) (op : Op) → IsBrief op → knows app op ≡ true → (k : Kernel) → ((object : ℕ) (access : Access) → fits_object app object access ≡ true → HasLength k object) → HasObject k op
+known_object app (Work n) brief t k long = tt
+known_object app (Delay n) brief t k long = tt
+known_object app (DelayUntil n) brief t k long = tt
+known_object app Yield brief t k long = tt
+known_object app Time brief t k long = tt
+known_object app (Mark n) brief t k long = tt
+known_object app (Expect a) brief t k long = tt
+known_object app (Repeat n) brief t k long = tt
+known_object app EndLoop brief t k long = tt
+known_object app (Await o a w) brief t k long = absurd (cc)
+known_object app (Do o a) brief t k long = long o a (and_left (fits_object app o a) _ t)
+known_object app (MessagesWaiting o) brief t k long = tt
+known_object app (SpacesAvailable o) brief t k long = tt
 
-no_wait : (op : Op) → HasNoObject op → awaited (Some op) ≡ None
-no_wait (Work n) h = refl
-no_wait (Delay n) h = refl
-no_wait (DelayUntil n) h = refl
-no_wait Yield h = refl
-no_wait Time h = refl
-no_wait (Mark n) h = refl
-no_wait (Expect a) h = refl
-no_wait (Repeat n) h = refl
-no_wait EndLoop h = refl
-no_wait (Await o a w) h = absurd h
-no_wait (Do o a) h = refl
-no_wait (MessagesWaiting o) h = refl
-no_wait (SpacesAvailable o) h = refl
+short : (ticks : Option ℕ) → is_wait ticks ≡ true → IsShort ticks
+short None t = tt
+short (Some n) t = let l = ltb-true n 4294967295 t in omega arith
 
-module _ (app : Application) (formed : IsWellFormed app) (none : app.objects ≡ []) (k : Kernel) (c : CanStep app k) where
+unlocked : (lock : Option Lock) (locked : Option ℕ) → locked_by lock ≡ locked → locked ≡ None → lock ≡ None
+unlocked None locked e none = refl
+unlocked (Some l) locked e none = let f = e ∙ none in absurd (cc)
+
+none_held : (b : Bool) (depth : ℕ) → depth ≡ (if b then 1 else 0) → b ≡ false → depth ≡ 0
+none_held true depth e t = absurd (cc)
+none_held false depth e t = e
+
+some_held : (b : Bool) (depth : ℕ) → depth ≡ (if b then 1 else 0) → b ≡ true → 0 < depth
+some_held true depth e t = omega arith
+some_held false depth e t = absurd (cc)
+
+module _ (app : Application) (formed : IsWellFormed app) (k : Kernel) (c : CanStep app k) where
   abbrev state : State
   state = state_after app c.steps
 
@@ -105,65 +108,175 @@ module _ (app : Application) (formed : IsWellFormed app) (none : app.objects ≡
   reached = reached_after app formed c.steps
 
   age_low : k.clock.age < 1000000
-  age_low = let e = c.stands.rest.clock.age in let l = (below_limits c.limits state c.goes_on).0 in let m = c.tick_limit in omega arith
+  age_low = let e = age_is k state c.stands in let l = (below_limits c.limits state c.goes_on).0 in let m = c.tick_limit in omega arith
 
   time_low : k.clock.now < 4294967296 + 1000000
-  time_low = let e = c.stands.rest.clock.now in let f = c.stands.rest.clock.age in let l = age_low in let m = reached.sound.time in let n = formed.start in omega arith
+  time_low = let e = now_is k state c.stands in let f = age_is k state c.stands in let l = age_low in let m = reached.sound.time in let n = formed.start in omega arith
 
-  can_tick : CanTick k
-  can_tick = record { agrees = (state, c.stands); age = let l = age_low in omega arith }
+  -- nobody holds the scheduler
+  module _ (free : state.call_hold ≡ false) where
+    placed : StandsFor k state
+    placed = by_stands c.stands where
+      by_stands : Stands k state → StandsFor k state
+      by_stands (Placed h) = h
+      by_stands (Placing task list b) = let held = b.held in absurd (cc)
 
-  module _ (task : TaskId) (op : Op) (runs : k.sched.current ≡ Some task) (is : op_at app task (progress_in k.progress task).op_index ≡ Some op) where
+    no_lock : k.queues.lock ≡ None
+    no_lock = unlocked k.queues.lock state.locked placed.rest.queues.locked (reached.locked free)
+
+    not_held : k.sched.depth ≡ 0
+    not_held = none_held state.call_hold k.sched.depth placed.sched.depth free
+
+    can_tick : CanTick k
+    can_tick = record { agrees = (state, placed); free = no_lock; age = let l = age_low in omega arith }
+
+    long : (object : ℕ) (access : Access) → fits_object app object access ≡ true → HasLength k object
+    long object access fit = can_hold_in app (hold_of state) k.queues None state object access formed reached.sound placed.rest.queues fit
+
+  idle_free : k.sched.current ≡ None → state.call_hold ≡ false
+  idle_free idle = subst (RunsIn state) (sym (current_is k state c.stands) ∙ idle) reached.runs
+
+  module _ (task : TaskId) (runs : k.sched.current ≡ Some task) where
     same : progress_in k.progress task ≡ progress_at state task
-    same = c.stands.rest.progress task
+    same = progress_is k state c.stands task
 
-    at_op : op_at app task (progress_at state task).op_index ≡ Some op
-    at_op = let P : Progress → Type 0 = λ p. op_at app task p.op_index ≡ Some op in subst P same is
+    on : state.current ≡ Some task
+    on = sym (current_is k state c.stands) ∙ runs
 
-    -- The op waits for nothing, so no call holds the scheduler, and the running task is Ready.
-    is_on : is_ready state task ≡ true
-    is_on =
-        let on : state.current ≡ Some task = sym c.stands.sched.current ∙ runs in
-        let waits : awaited (Some op) ≡ None = no_wait op (no_object app op none (known_at app formed task (progress_at state task).op_index op at_op)) in
-        let running : IsRunning state task = subst (RunsIn state) on reached.runs in
-        running.ready (start_only app formed state task reached on op waits at_op)
+    running : IsRunning state task
+    running = subst (RunsIn state) on reached.runs
 
-    is_awake : is_asleep k.clock task ≡ false
-    is_awake = asleep_is k.clock state c.stands.rest.clock task ∙ ap (λ (o : Option ℕ). is_some o) (ready_awake (status_at state task) is_on)
+    module _ (op : Op) (is : op_at app task (progress_in k.progress task).op_index ≡ Some op) where
+      at_op : op_at app task (progress_at state task).op_index ≡ Some op
+      at_op = let P : Progress → Type 0 = λ p. op_at app task p.op_index ≡ Some op in subst P same is
 
-    low : (progress_in k.progress task).op_index < 256
-    low =
-        let w = slice_get_within (script_of app task) (progress_in k.progress task).op_index op is in
-        let n = (script_formed app formed task).few in omega arith
+      known : knows app op ≡ true
+      known = known_at app formed task (progress_at state task).op_index op at_op
 
-    used : IsUsedBy (progress_in k.progress task).used (Some op)
-    used =
-        let W : Option Op → Type 0 = λ o. IsUsedBy (progress_at state task).used o in
-        let U : Progress → Type 0 = λ p. IsUsedBy p.used (Some op) in
-        subst U (sym same) (subst W at_op (reached.sound.progress task).used)
+      low : (progress_in k.progress task).op_index < 256
+      low =
+          let w = slice_get_within (script_of app task) (progress_in k.progress task).op_index op is in
+          let n = (script_formed app formed task).few in omega arith
 
-    nesting : HasLoopRoom op (length (progress_in k.progress task).loops)
-    nesting =
-        let may = stands_at (length (progress_at state task).loops) (progress_at state task).op_index (script_of app task) op (reached.sound.progress task).nests at_op in
-        let H : Progress → Type 0 = λ p. HasLoopRoom op (length p.loops) in
-        subst H (sym same) (loop_room op (length (progress_at state task).loops) may)
+      used : IsUsedBy (progress_in k.progress task).used (Some op)
+      used =
+          let W : Option Op → Type 0 = λ o. IsUsedBy (progress_at state task).used o in
+          let U : Progress → Type 0 = λ p. IsUsedBy p.used (Some op) in
+          subst U (sym same) (subst W at_op (reached.sound.progress task).used)
 
-    previous : (progress_in k.progress task).previous_wake ≤ k.clock.now
-    previous =
-        let lower = ready_reckoned state.time (progress_at state task).previous_wake (status_at state task) (reached.sound.progress task).reckoned is_on in
-        let H : Progress → Type 0 = λ p. p.previous_wake ≤ k.clock.now in
-        subst H (sym same) (rw c.stands.rest.clock.now lower)
+      nesting : HasLoopRoom op (length (progress_in k.progress task).loops)
+      nesting =
+          let may = stands_at (length (progress_at state task).loops) (progress_at state task).op_index (script_of app task) op (reached.sound.progress task).nests at_op in
+          let H : Progress → Type 0 = λ p. HasLoopRoom op (length p.loops) in
+          subst H (sym same) (loop_room op (length (progress_at state task).loops) may)
 
-    can : Can k task op
-    can = record {
-      runs = record { current = runs; awake = is_awake; op_index = low };
-      tick = can_tick;
-      used = used;
-      nesting = nesting;
-      no_object = no_object app op none (known_at app formed task (progress_at state task).op_index op at_op);
-      previous_wake = previous;
-      time = let l = time_low in omega arith;
-    }
+      -- the running task is Ready where nobody holds the scheduler
+      module _ (free : state.call_hold ≡ false) where
+        runs_on : Runs k task
+        runs_on = record { current = runs; ready = on_sched.ready_same k.sched state task (placed free).sched ∙ running.ready free; op_index = low }
+
+        previous : (progress_in k.progress task).previous_wake ≤ k.clock.now
+        previous =
+            let lower = ready_reckoned state.time (progress_at state task).previous_wake (status_at state task) (reached.sound.progress task).reckoned (running.ready free) in
+            let H : Progress → Type 0 = λ p. p.previous_wake ≤ k.clock.now in
+            subst H (sym same) (rw (now_is k state c.stands) lower)
+
+        can : IsBrief op → Can k task op
+        can brief = record {
+          runs = runs_on;
+          tick = can_tick free;
+          used = used;
+          nesting = nesting;
+          object = known_object app op brief known k (long free);
+          previous_wake = previous;
+          time = let l = time_low in omega arith;
+        }
+
+      brief_can : IsBrief op → Can k task op
+      brief_can brief = can (start_only app formed state task reached on op brief at_op) brief
+
+    -- a call that waits
+    module _ (object : ℕ) (access : Access) (ticks : Option ℕ) (is : op_at app task (progress_in k.progress task).op_index ≡ Some (Await object access ticks)) where
+      free_in : (phase : Phase) → (call_at state task).phase ≡ phase → holds phase ≡ false → state.call_hold ≡ false
+      free_in phase e off = sym running.holding ∙ ap holds e ∙ off
+
+      held_in : (phase : Phase) → (call_at state task).phase ≡ phase → holds phase ≡ true → state.call_hold ≡ true
+      held_in phase e t = sym running.holding ∙ ap holds e ∙ t
+
+      fit : fits_object app object access ≡ true
+      fit = and_left (fits_object app object access) _ (known (Await object access ticks) is)
+
+      can_try : state.call_hold ≡ false → CanTry k task object
+      can_try free = record { runs = runs_on (Await object access ticks) is free; agrees = (state, placed free); free = no_lock free; length = long free object access fit }
+
+      in_state : (wait : Option Wait) (deadline : Option ℕ) → IfSome wait (λ w. IsWaitOf (op_at app task (progress_at state task).op_index) deadline w) → IsPlacing state.time (task_at state task) wait → IfSome deadline (λ d. d < state.time + 4294967296) → IsAhead state.time deadline
+      in_state None deadline w p near = absurd p
+      in_state (Some w) None of p near = tt
+      in_state (Some w) (Some d) of p near =
+          let later : state.time < d = subst (λ (o : Option ℕ). IfSome o (λ time. state.time < time)) of.deadline p.2 in
+          (later, omega arith)
+
+      deadline_near : (call_at state task).phase ≡ Place → IsAhead k.clock.now (progress_in k.progress task).call.deadline
+      deadline_near e =
+          let D : Progress → Type 0 = λ p. IsAhead k.clock.now p.call.deadline in
+          subst D (sym same) (subst (λ (now : ℕ). IsAhead now (call_at state task).deadline) (sym (now_is k state c.stands)) (in_state (wait_of (status_at state task)) (call_at state task).deadline (reached.sound.calls task).wait (running.placing e) (reached.sound.calls task).near))
+
+      -- where it is to be placed, it is this task
+      before : (call_at state task).phase ≡ Place → CanPlace k task
+      before e = by_stands c.stands where
+        by_stands : Stands k state → CanPlace k task
+        by_stands (Placed h) = absurd (h.rest.placed task (ap (λ (p : Progress). p.call.phase) (h.rest.progress task) ∙ e))
+        by_stands (Placing other list b) =
+            let one : other ≡ task = same_Some other task (sym b.current ∙ on) in
+            record {
+              state = state;
+              list = list;
+              stands = subst (λ (i : ℕ). StandsBefore i list k state) one b;
+              deadline = deadline_near e;
+            }
+
+      -- where it is to be unlocked or left, every task is placed
+      in_call : (phase : Phase) → (call_at state task).phase ≡ phase → phase ≢ Place → IsInCall k task
+      in_call phase e off = by_stands c.stands where
+        by_stands : Stands k state → IsInCall k task
+        by_stands (Placed h) = record { current = runs; agrees = (state, h) }
+        by_stands (Placing other list b) =
+            let one : other ≡ task = same_Some other task (sym b.current ∙ on) in
+            let there : (call_at state task).phase ≡ Place = subst (λ (i : ℕ). (call_at state i).phase ≡ Place) one b.phase in
+            absurd (off (sym e ∙ there))
+
+      depth_in : IsInCall k task → state.call_hold ≡ true → 0 < k.sched.depth
+      depth_in _ held = by_stands c.stands where
+        by_stands : Stands k state → 0 < k.sched.depth
+        by_stands (Placed h) = some_held state.call_hold k.sched.depth h.sched.depth held
+        by_stands (Placing other list b) = some_held state.call_hold k.sched.depth b.sched.depth held
+
+      goes_on : (phase : Phase) → (call_at state task).phase ≡ phase → CanGoOn k task object ticks phase
+      goes_on Start e = (can_try (free_in Start e refl), short ticks (range_at (progress_at state task).op_index (script_of app task) (Await object access ticks) (script_formed app formed task).ranges (at_op (Await object access ticks) is)), let l = time_low in omega arith)
+      goes_on Try e = can_try (free_in Try e refl)
+      goes_on Decide e =
+          let free = free_in Decide e refl in
+          record { runs = runs_on (Await object access ticks) is free; agrees = (state, placed free); free = no_lock free; depth = not_held free }
+      goes_on Place e = before e
+      goes_on Unlock e = in_call Unlock e (λ q. absurd (cc))
+      goes_on Leave e =
+          let there = in_call Leave e (λ q. absurd (cc)) in
+          record { call = there; held = depth_in there (held_in Leave e refl) }
+
+    can_op : (op : Op) → op_at app task (progress_in k.progress task).op_index ≡ Some op → CanOp k task op
+    can_op (Work n) is = brief_can (Work n) is refl
+    can_op (Delay n) is = brief_can (Delay n) is refl
+    can_op (DelayUntil n) is = brief_can (DelayUntil n) is refl
+    can_op Yield is = brief_can Yield is refl
+    can_op Time is = brief_can Time is refl
+    can_op (Mark n) is = brief_can (Mark n) is refl
+    can_op (Expect a) is = brief_can (Expect a) is refl
+    can_op (Repeat n) is = brief_can (Repeat n) is refl
+    can_op EndLoop is = brief_can EndLoop is refl
+    can_op (Await o a w) is = subst (λ (p : Progress). CanGoOn k task o w p.call.phase) (sym same) (goes_on o a w is (call_at state task).phase refl)
+    can_op (Do o a) is = brief_can (Do o a) is refl
+    can_op (MessagesWaiting o) is = brief_can (MessagesWaiting o) is refl
+    can_op (SpacesAvailable o) is = brief_can (SpacesAvailable o) is refl
 
   pub can_act : CanAct app k
-  can_act = record { tick = can_tick; op = can }
+  can_act = record { tick = λ idle. can_tick (idle_free idle); op = λ task op runs is. can_op task runs op is }

@@ -1,31 +1,42 @@
 -- When a run ends.
-use Rattle.std.proofs.Common.{◌≡◌, ◌+◌, ◌<◌, ◌≤◌, ℕ, suc, Bool, true, false, not, ◌&&◌, ◌||◌, eqb, leb, List, [], ◌∷◌, length, get_or, Option, Some, None, refl, ap, sym, subst, ◌∙◌, arith}
+use Rattle.std.proofs.Common.{◌≡◌, ◌+◌, ◌<◌, ◌≤◌, ℕ, suc, Bool, true, false, not, ◌&&◌, ◌||◌, eqb, leb, ltb, List, [], ◌∷◌, length, get_or, Option, Some, None, refl, ap, sym, ◌∙◌, arith}
 use Rattle.std.proofs.lemmas.Bool.Decides.{nat_tests}
 use Rattle.std.specs.List.{list_all, list_any, filter, AllByRecursion}
 use Rattle.std.specs.Prelude.{IsTrue, ◌↔◌, if◌then◌else◌}
-use Rattle.std.specs.Option.{option_eq, is_none, is_some}
+use Rattle.std.specs.Option.{option_eq, option_and_then, is_none, is_some}
 use Rattle.std.proofs.lemmas.List.{length-map}
 use Rattle.model.specs.declared.event.Event.{Event}
 use Rattle.model.specs.declared.event.End.{End}
 use Rattle.model.specs.declared.event.End.TheVariants.{Pass, Ticks, Steps, Stuck}
 use Rattle.model.specs.Application.{Application, Limits}
-use Rattle.model.specs.State.{State, Task, Status, Ready, Awake, Waiting, Asleep, Ended, wait_of, wake_time_of, no_task}
-use Rattle.model.specs.Order.{Key, Entry, key, keyed, list_by, tasks_of}
+use Rattle.model.specs.State.{State, Task, Status, Ready, Awake, Waiting, Asleep, Ended, wait_of, wake_time_of, task_at, no_task}
+use Rattle.model.specs.Order.{Key, Entry, key, keyed, list_by, in_order, tasks_of}
 use Rattle.model.specs.Switching.{ready_key, settle, unless_held}
+use Rattle.model.specs.declared.call.WaitList.{WaitList}
+use Rattle.model.specs.Waiting.{same_list, wait_key}
 use Rattle.model.specs.Time.{delayed_key}
 use Rattle.model.specs.Step.{act_current, step}
 use Rattle.model.specs.Run.{is_ended, are_all_ended, is_stuck, end_of}
 use Rattle.model.specs.Invariant.{IsTable}
 use Rattle.model.proofs.Sorting.{length-in_order, by_test}
 use Rattle.model.proofs.Lists.{eqb-apart, eqb-refl, HasKey, list_has}
-use Rattle.lists.specs.Lists.{first_of}
+use Rattle.lists.specs.Lists.{first_of, has_node}
 use Rattle.sched.specs.StandsFor.{with_priorities}
 use Rattle.clock.specs.StandsFor as clock
 use Rattle.clock.specs.StandsFor.{tasks_at}
 use Rattle.clock.specs.Timeline.{Timeline}
+use Rattle.objects.specs.WaitingLists.{insert_by_priority, waiting_in}
+use Rattle.objects.specs.WaitersStand.{joined_by, standing}
+use Rattle.objects.proofs.Keys.{same_list-refl}
 use Rattle.kernel.specs.declared.kernel.Kernel.{Kernel}
-use Rattle.kernel.specs.StandsFor.{StandsFor, At}
-use Rattle.kernel.proofs.Parts.{rest_same, clock-same}
+use Rattle.kernel.specs.StandsFor.{StandsFor, StandsBefore, Stands, AtAny, decider}
+use Rattle.kernel.specs.StandsFor.Stands.{Placed, Placing}
+use Rattle.objects.specs.Queues as queues
+use Rattle.objects.specs.Queues.{SameWaits}
+use Rattle.objects.proofs.Kept.{stands_same}
+use Rattle.objects.proofs.Awake.{at_locked_same}
+use Rattle.kernel.proofs.Parts.{clock-same, same_parts}
+use Rattle.kernel.proofs.Either.{steps_are}
 
 leb-yes : (a b : ℕ) → a ≤ b → leb a b ≡ true
 leb-yes a b e = grind (arith, nat_tests)
@@ -84,29 +95,30 @@ module _ (t : Timeline) (s : State) (h : clock.StandsFor t s) where
       (λ v. let none : list_by delayed_key s.tasks ≡ [] = none_delayed (is.0 v) in let w : eqb (length (list_by delayed_key s.tasks)) 0 ≡ false = rw long u in let x = rw none at w in absurd (cc))
       (λ v. v ∙ sym u))
 
-and_false : (b : Bool) → b && false ≡ false
-and_false true = refl
-and_false false = refl
+and_false : (a b : Bool) → a && false && b ≡ false
+and_false true b = refl
+and_false false b = refl
 
-Unwaiting : Task → Type 0
-Unwaiting t = wait_of t.status ≡ None
+-- a task that waits, or has been woken and isn't Ready yet
+abbrev waits : Task → Bool
+waits t = is_some (wait_of t.status)
 
-over : (o : ℕ) (ts : List Task) → AllByRecursion Unwaiting ts → eqb (length (keyed ready_key o ts)) 0 && eqb (length (keyed delayed_key o ts)) 0 ≡ list_all (λ (t : Task). is_ended t.status) ts
-unfolding Unwaiting
-over o [] h = refl
-over o (t ∷ ts) h = by_status t t.status h.0 (over (o + 1) ts h.1) where
-  by_status : (t : Task) (u : Status) → wait_of u ≡ None → eqb (length (keyed ready_key (o + 1) ts)) 0 && eqb (length (keyed delayed_key (o + 1) ts)) 0 ≡ list_all (λ (t : Task). is_ended t.status) ts
-      → eqb (length (keyed ready_key o (record t { status = u } ∷ ts))) 0 && eqb (length (keyed delayed_key o (record t { status = u } ∷ ts))) 0 ≡ is_ended u && list_all (λ (v : Task). is_ended v.status) ts
-  by_status t (Ready n) w later = rw (some (length (keyed ready_key (o + 1) ts))) refl
-  by_status t (Awake x) w later = absurd (cc)
-  by_status t (Waiting x) w later = absurd (cc)
-  by_status t (Asleep x n) w later = rw (some (length (keyed delayed_key (o + 1) ts))) (and_false (eqb (length (keyed ready_key (o + 1) ts)) 0))
-  by_status t Ended w later = later
+and_not_true : (a b : Bool) → a && b && not true ≡ false
+and_not_true true true = refl
+and_not_true true false = refl
+and_not_true false b = refl
 
-all_unwaiting : (ts : List Task) → ((i : ℕ) → wait_of (get_or ts i no_task).status ≡ None) → AllByRecursion Unwaiting ts
-unfolding Unwaiting
-all_unwaiting [] h = tt
-all_unwaiting (t ∷ ts) h = (h 0, all_unwaiting ts (λ i. h (suc i)))
+-- Nobody is Ready, sleeps or waits where everybody is Ended.
+over : (o : ℕ) (ts : List Task) → eqb (length (keyed ready_key o ts)) 0 && eqb (length (keyed delayed_key o ts)) 0 && not (list_any waits ts) ≡ list_all (λ (t : Task). is_ended t.status) ts
+over o [] = refl
+over o (t ∷ ts) = by_status t t.status (over (o + 1) ts) where
+  by_status : (t : Task) (u : Status) → eqb (length (keyed ready_key (o + 1) ts)) 0 && eqb (length (keyed delayed_key (o + 1) ts)) 0 && not (list_any waits ts) ≡ list_all (λ (t : Task). is_ended t.status) ts
+      → eqb (length (keyed ready_key o (record t { status = u } ∷ ts))) 0 && eqb (length (keyed delayed_key o (record t { status = u } ∷ ts))) 0 && not (is_some (wait_of u) || list_any waits ts) ≡ is_ended u && list_all (λ (v : Task). is_ended v.status) ts
+  by_status t (Ready n) later = rw (some (length (keyed ready_key (o + 1) ts))) refl
+  by_status t (Awake x) later = and_not_true (eqb (length (keyed ready_key (o + 1) ts)) 0) (eqb (length (keyed delayed_key o (record t { status = Awake x } ∷ ts))) 0)
+  by_status t (Waiting x) later = and_not_true (eqb (length (keyed ready_key (o + 1) ts)) 0) (eqb (length (keyed delayed_key o (record t { status = Waiting x } ∷ ts))) 0)
+  by_status t (Asleep x n) later = rw (some (length (keyed delayed_key (o + 1) ts))) (and_false (eqb (length (keyed ready_key (o + 1) ts)) 0) (not (list_any waits ts)))
+  by_status t Ended later = later
 
 asleep : (o : ℕ) (ts : List Task) → eqb (length (keyed delayed_key o ts)) 0 ≡ not (list_any (λ (t : Task). is_some (wake_time_of t.status)) ts)
 asleep o [] = refl
@@ -123,51 +135,73 @@ asleep o (t ∷ ts) = by_status t t.status (asleep (o + 1) ts) where
 abbrev is_quiet : State → Bool
 is_quiet s = eqb (length (keyed delayed_key 0 s.tasks)) 0
 
--- What the parts of the kernel say of an end where nobody sleeps.
+-- What the parts of the kernel say of an end.
 module _ (k : Kernel) (s : State) (h : StandsFor k s) where
-  over_is : not (is_some (first_of k.sched.ready)) && is_quiet s ≡ are_all_ended s
-  over_is = rw (none_first k.sched.ready, h.sched.ready, length-ready s.tasks) (over 0 s.tasks (all_unwaiting s.tasks h.rest.nobody_waits))
+  over_is : not (is_some (first_of k.sched.ready)) && is_quiet s && not (list_any waits s.tasks) ≡ are_all_ended s
+  over_is = rw (none_first k.sched.ready, h.sched.ready, length-ready s.tasks) (over 0 s.tasks)
 
   stuck_is : is_none k.sched.current && is_quiet s ≡ is_stuck s
   stuck_is = rw (h.sched.current, asleep 0 s.tasks) refl
 
-  still_is : not (is_some (first_of k.sched.ready)) && is_quiet s || is_none k.sched.current && is_quiet s ≡ are_all_ended s || is_stuck s
-  still_is = subst (λ e. not (is_some (first_of k.sched.ready)) && is_quiet s || is_none k.sched.current && is_quiet s ≡ e || is_stuck s) over_is (ap (λ e. not (is_some (first_of k.sched.ready)) && is_quiet s || e) stuck_is)
+  is_over : (ready q w : Bool) → ready ≡ is_some (first_of k.sched.ready) → (IsTrue q ↔ (k.clock.delayed_list ≡ [])) → w ≡ list_any waits s.tasks → not ready && q && not w ≡ are_all_ended s
+  is_over ready q w r is waiting = rw (r, quiet k.clock s h.rest.clock q is, waiting) over_is
 
-  -- idle runs
-  pub still_idle : (q : Bool) → (IsTrue q ↔ (k.clock.delayed_list ≡ [])) → is_some k.sched.current ≡ false → q ≡ are_all_ended s || is_stuck s
-  still_idle q is idle = quiet k.clock s h.rest.clock q is ∙ rw idle (either (not (is_some (first_of k.sched.ready))) (is_quiet s)) ∙ still_is where
-    either : (a b : Bool) → b ≡ a && b || true && b
-    either true true = refl
-    either true false = refl
-    either false b = refl
+  not_over : is_some (first_of k.sched.ready) ≡ true → false ≡ are_all_ended s
+  not_over some = rw some at over_is
 
-  -- nobody is Ready
-  pub still_over : (q : Bool) → (IsTrue q ↔ (k.clock.delayed_list ≡ [])) → is_some (first_of k.sched.ready) ≡ false → q ≡ are_all_ended s || is_stuck s
-  still_over q is none = quiet k.clock s h.rest.clock q is ∙ rw none (either (is_none k.sched.current) (is_quiet s)) ∙ still_is where
-    either : (a b : Bool) → b ≡ true && b || a && b
-    either a true = refl
-    either true false = refl
-    either false false = refl
+  is_stuck_by : (idle q : Bool) → idle ≡ is_none k.sched.current → (IsTrue q ↔ (k.clock.delayed_list ≡ [])) → idle && q ≡ is_stuck s
+  is_stuck_by idle q n is = rw (n, quiet k.clock s h.rest.clock q is) stuck_is
 
-  pub still_not : is_some k.sched.current ≡ true → is_some (first_of k.sched.ready) ≡ true → false ≡ are_all_ended s || is_stuck s
-  still_not runs some = rw (runs, some) refl ∙ still_is
+-- A task is still to be placed, and so waits.
+standing_none : (list : WaitList) (o : ℕ) (ts : List Task) → list_all (λ (t : Task). is_ended t.status) ts ≡ true → keyed (λ (t : Task). option_and_then (wait_key list) (wait_of t.status)) o ts ≡ []
+standing_none list o [] t = refl
+standing_none list o (u ∷ us) t = by_status u.status refl (standing_none list (o + 1) us) where
+  by_status : (v : Status) → u.status ≡ v → (list_all (λ (t : Task). is_ended t.status) us ≡ true → keyed (λ (t : Task). option_and_then (wait_key list) (wait_of t.status)) (o + 1) us ≡ []) → keyed (λ (t : Task). option_and_then (wait_key list) (wait_of t.status)) o (u ∷ us) ≡ []
+  by_status (Ready n) e later = absurd (let f = rw e at t in cc)
+  by_status (Awake w) e later = absurd (let f = rw e at t in cc)
+  by_status (Waiting w) e later = absurd (let f = rw e at t in cc)
+  by_status (Asleep w n) e later = absurd (let f = rw e at t in cc)
+  by_status Ended e later = rw e (later (rw e at t))
 
-  pub over_not : is_some (first_of k.sched.ready) ≡ true → are_all_ended s ≡ false
-  over_not some = sym over_is ∙ rw some refl
+put_in_some : (e : ℕ × ℕ) (es : List (ℕ × ℕ)) → insert_by_priority e es ≡ [] → ⊥
+put_in_some e [] h = absurd (cc)
+put_in_some e (f ∷ fs) h = by_test (ltb f.1 e.1) (λ t. let g = rw t at h in absurd (cc)) (λ t. let g = rw t at h in absurd (cc))
 
-  pub over_now : are_all_ended s || is_stuck s ≡ true → is_some (first_of k.sched.ready) ≡ false → are_all_ended s ≡ true
-  over_now still none = sym over_is ∙ rw none (by_quiet (is_none k.sched.current) (is_quiet s) (rw none at (still_is ∙ still))) where
-    by_quiet : (a b : Bool) → true && b || a && b ≡ true → true && b ≡ true
-    by_quiet a true t = refl
-    by_quiet true false t = t
-    by_quiet false false t = t
+waits_before : (k : Kernel) (s : State) (task : ℕ) (list : WaitList) → StandsBefore task list k s → false ≡ are_all_ended s
+waits_before k s task list b = by_test (are_all_ended s)
+    (λ t.
+    let none : standing s list ≡ [] = ap in_order (standing_none list 0 s.tasks t) in
+    let joined : joined_by (Some (decider task list s)) list (waiting_in k.queues.waiting list) ≡ [] = b.queues.waiters.lists list ∙ ap with_priorities none in
+    let own : same_list list list ≡ true = same_list-refl list in
+    absurd (put_in_some (task, (task_at s task).priority) (waiting_in k.queues.waiting list) (rw own at joined)))
+    (λ t. sym t)
 
-pub over_before : (s : State) → are_all_ended s || is_stuck s ≡ false → are_all_ended s ≡ false
-over_before s t = neither (are_all_ended s) (is_stuck s) t where
-  neither : (a b : Bool) → a || b ≡ false → a ≡ false
-  neither true b t = absurd (cc)
-  neither false b t = refl
+ready_before : (k : Kernel) (s : State) (task : ℕ) (list : WaitList) → StandsBefore task list k s → is_some (first_of k.sched.ready) ≡ true
+ready_before k s task list b = by_entries k.sched.ready b.sched.still where
+  by_entries : (es : List (ℕ × ℕ)) → has_node task es ≡ true → is_some (first_of es) ≡ true
+  by_entries [] t = absurd (cc)
+  by_entries (e ∷ es) t = refl
+
+runs_before : (k : Kernel) (s : State) (task : ℕ) (list : WaitList) → StandsBefore task list k s → false ≡ is_stuck s
+runs_before k s task list b = rw b.current refl
+
+-- Whether or not a task is still to be placed.
+module _ (k : Kernel) (s : State) (ready q : Bool) (r : ready ≡ is_some (first_of k.sched.ready)) (is : IsTrue q ↔ (k.clock.delayed_list ≡ [])) where
+  pub over_by : Stands k s → ready ≡ false → q ≡ true → (w : Bool) → (queues.StandsFor k.queues None s → w ≡ list_any waits s.tasks) → not w ≡ are_all_ended s
+  over_by (Placed h) none still w waiting = let e = is_over k s h ready q w r is (waiting h.rest.queues) in rw (none, still) at e
+  over_by (Placing task list b) none still w waiting = let some : ready ≡ true = r ∙ ready_before k s task list b in absurd (cc)
+
+  pub on_by : Stands k s → not ready && q ≡ false → are_all_ended s ≡ false
+  on_by (Placed h) on = let e = is_over k s h ready q (list_any waits s.tasks) r is refl in sym (rw on at e)
+  on_by (Placing task list b) on = sym (waits_before k s task list b)
+
+pub not_over_by : (k : Kernel) (s : State) (ready : Bool) → ready ≡ is_some (first_of k.sched.ready) → Stands k s → ready ≡ true → are_all_ended s ≡ false
+not_over_by k s ready r (Placed h) some = sym (not_over k s h (sym r ∙ some))
+not_over_by k s ready r (Placing task list b) some = sym (waits_before k s task list b)
+
+pub stuck_by : (k : Kernel) (s : State) (idle q : Bool) → Stands k s → idle ≡ is_none k.sched.current → (IsTrue q ↔ (k.clock.delayed_list ≡ [])) → idle && q ≡ is_stuck s
+stuck_by k s idle q (Placed h) n is = is_stuck_by k s h idle q n is
+stuck_by k s idle q (Placing task list b) n is = let e : idle ≡ false = n ∙ ap is_none (b.sched.current ∙ b.current) in rw e (runs_before k s task list b)
 
 pub not_stopped : (o : Option End) → is_some o ≡ false → o ≡ None
 not_stopped None t = refl
@@ -186,38 +220,65 @@ module _ (limits : Limits) (s : State) (none : s.stopped ≡ None) where
       pub ends_steps : limits.steps ≤ s.steps → Some Steps ≡ end_of limits s
       ends_steps le = rw (none, on, leb-no limits.ticks s.elapsed early, leb-yes limits.steps s.steps le) refl
 
-      pub ends_stuck : s.steps < limits.steps → are_all_ended s || is_stuck s ≡ true → Some Stuck ≡ end_of limits s
-      ends_stuck few still =
-          let stuck : is_stuck s ≡ true = rw on at still in
-          rw (none, on, leb-no limits.ticks s.elapsed early, leb-no limits.steps s.steps few, stuck) refl
+      module _ (few : s.steps < limits.steps) where
+        pub ends_stuck : is_stuck s ≡ true → Some Stuck ≡ end_of limits s
+        ends_stuck stuck = rw (none, on, leb-no limits.ticks s.elapsed early, leb-no limits.steps s.steps few, stuck) refl
+
+        pub ends_not : is_stuck s ≡ false → None ≡ end_of limits s
+        ends_not moves = rw (none, on, leb-no limits.ticks s.elapsed early, leb-no limits.steps s.steps few, moves) refl
 
 -- A step begins with no event told, and ends with one step more.
-pub begun : (k : Kernel) (log : List Event) (s : State) → StandsFor k s → log ≡ [] → At k log (record s { log = [] })
-begun k log s h e =
-    let table : IsTable (record s { log = [] }) = record { tickets = h.sched.table.tickets; few = h.sched.table.few; current = h.sched.table.current } in
+
+begun_before : (k : Kernel) (s : State) (task : ℕ) (list : WaitList) → StandsBefore task list k s → (log : List Event) (steps : ℕ) (n : ℕ) → n ≡ steps → StandsBefore task list (record k { steps = n }) (record s { log = log; steps = steps })
+begun_before k s task list b log steps n e =
+    let new : State = record s { log = log; steps = steps } in
+    let table : IsTable new = record { tickets = b.sched.table.tickets; few = b.sched.table.few; current = b.sched.table.current } in
+    let same : SameWaits s new = same_parts s new refl refl refl in
     record {
-      stands = record {
-        sched = record { ready = h.sched.ready; current = h.sched.current; priorities = h.sched.priorities; depth = h.sched.depth; table = table };
-        rest = rest_same k s (record s { log = [] }) h.rest refl refl refl refl refl table;
-      };
-      log = e;
+      sched = record { ready = b.sched.ready; still = b.sched.still; current = b.sched.current; priorities = b.sched.priorities; depth = b.sched.depth; table = table };
+      clock = record { now = b.clock.now; age = b.clock.age; sorted = b.clock.sorted; once = b.clock.once; delayed = b.clock.delayed; awake = b.clock.awake; table = table };
+      queues = stands_same s new same k.queues (Some (decider task list s)) b.queues table;
+      awake = at_locked_same (Some (decider task list s)) s new same b.awake;
+      progress = b.progress;
+      full = b.full;
+      steps = e;
+      stopped = b.stopped;
+      current = b.current;
+      held = b.held;
+      phase = b.phase;
+      waits = b.waits;
+      placed = b.placed;
     }
 
-pub stepped : (app : Application) (s : State) (k : Kernel) (log : List Event) (n : ℕ) → n ≡ s.steps → At k log (unless_held settle (act_current app s.current (record s { log = [] }))) → StandsFor (record k { steps = n + 1 }) (step app s)
-unfolding step
-stepped app s k log n e a =
-    let acted : State = act_current app s.current (record s { log = [] }) in
-    let new : State = unless_held settle acted in
-    let h = a.stands in
-    let table : IsTable (record new { steps = s.steps + 1 }) = record { tickets = h.sched.table.tickets; few = h.sched.table.few; current = h.sched.table.current } in
+begun_at : (k : Kernel) (s : State) → StandsFor k s → (log : List Event) (steps : ℕ) (n : ℕ) → n ≡ steps → StandsFor (record k { steps = n }) (record s { log = log; steps = steps })
+begun_at k s h log steps n e =
+    let new : State = record s { log = log; steps = steps } in
+    let table : IsTable new = record { tickets = h.sched.table.tickets; few = h.sched.table.few; current = h.sched.table.current } in
+    let same : SameWaits s new = same_parts s new refl refl refl in
     record {
       sched = record { ready = h.sched.ready; current = h.sched.current; priorities = h.sched.priorities; depth = h.sched.depth; table = table };
       rest = record {
         progress = h.rest.progress;
         full = h.rest.full;
-        clock = clock-same k.clock new (record new { steps = s.steps + 1 }) h.rest.clock refl refl refl table;
-        steps = ap (λ m. m + 1) e;
+        clock = clock-same k.clock s new h.rest.clock refl refl refl table;
+        queues = stands_same s new same k.queues None h.rest.queues table;
+        awake = at_locked_same None s new same h.rest.awake;
+        steps = e;
         stopped = h.rest.stopped;
-        nobody_waits = h.rest.nobody_waits;
+        placed = h.rest.placed;
       };
     }
+
+-- steps and events are another's
+renewed : (k : Kernel) (s : State) → Stands k s → (log : List Event) (steps : ℕ) (n : ℕ) → n ≡ steps → Stands (record k { steps = n }) (record s { log = log; steps = steps })
+renewed k s (Placed h) log steps n e = Placed (begun_at k s h log steps n e)
+renewed k s (Placing task list b) log steps n e = Placing task list (begun_before k s task list b log steps n e)
+
+pub begun : (k : Kernel) (log : List Event) (s : State) → Stands k s → log ≡ [] → AtAny k log (record s { log = [] })
+begun k log s h e = record { stands = renewed k s h [] s.steps k.steps (steps_are k s h); log = e }
+
+pub stepped : (app : Application) (s : State) (k : Kernel) (log : List Event) (n : ℕ) → n ≡ s.steps → AtAny k log (unless_held settle (act_current app s.current (record s { log = [] }))) → Stands (record k { steps = n + 1 }) (step app s)
+unfolding step
+stepped app s k log n e a =
+    let new : State = unless_held settle (act_current app s.current (record s { log = [] })) in
+    renewed k new a.stands new.log (s.steps + 1) (n + 1) (ap (λ m. m + 1) e)

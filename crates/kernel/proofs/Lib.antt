@@ -1,5 +1,6 @@
 pub mod Looping
 pub mod Parts
+pub mod Either
 pub mod Waking
 pub mod Switches
 pub mod Acting
@@ -7,3 +8,6 @@ pub mod Bounds
 pub mod Ending
 pub mod Running
 pub mod Booting
+pub mod Waits
+pub mod Deciding
+pub mod Unlocking

@@ -3,8 +3,9 @@ use Rattle.std.proofs.Common.{◌≡◌, ◌≢◌, ◌<◌, ℕ, zero, suc, tru
 use Rattle.std.specs.List.{filter}
 use Rattle.std.specs.Option.{option_eq, is_some}
 use Rattle.std.proofs.Math.ListN.{length-set}
+use Rattle.model.specs.declared.call.Phase.TheVariants.{Place}
 use Rattle.model.specs.declared.event.Event.{Event}
-use Rattle.model.specs.State.{State, Task, Progress, Status, Ready, Awake, Waiting, Asleep, Ended, ticket_if_ready, wait_of, wake_time_of, no_call, no_task, no_progress, task_at, status_at, progress_at, with_task, printed}
+use Rattle.model.specs.State.{State, Task, Progress, Status, Ready, Awake, Waiting, Asleep, Ended, Object, ticket_if_ready, wait_of, wait_if_awake, wake_time_of, no_call, no_task, no_object, no_progress, task_at, status_at, progress_at, with_task, printed}
 use Rattle.model.specs.State as state
 use Rattle.model.specs.Order.{Entry, list_by, tasks_of}
 use Rattle.model.specs.Switching.{is_ready, make_ready, write}
@@ -14,7 +15,7 @@ use Rattle.model.specs.Invariant.{IsTable}
 use Rattle.model.proofs.Sorting.{by_test}
 use Rattle.model.proofs.Lists.{eqb-refl, eqb-same}
 use Rattle.model.proofs.Tables.{ticket_at, table-set, table-taken, table-make_ready}
-use Rattle.model.proofs.Sound.{ready_awake, each-set}
+use Rattle.model.proofs.Sound.{ready_awake, ready_free, each-set}
 use Rattle.sched.specs.Schedule.{Schedule, block}
 use Rattle.sched.specs.Schedule as schedule
 use Rattle.sched.proofs.Standing as on_sched
@@ -22,13 +23,16 @@ use Rattle.clock.specs.StandsFor as clock
 use Rattle.clock.specs.Timeline.{Timeline, is_asleep}
 use Rattle.clock.proofs.Standing as on_clock
 use Rattle.clock.proofs.Standing.{SleepsAlike, asleep_same}
+use Rattle.objects.specs.Queues.{SameWaits}
+use Rattle.objects.proofs.Kept.{stands_same, same_free, same_ticket, same_progress, same_ready}
+use Rattle.objects.proofs.Awake.{at_locked_same}
 use Rattle.kernel.specs.declared.kernel.Kernel.{Kernel}
 use Rattle.kernel.specs.StandsFor.{progress_in, RestStandsFor, StandsFor, At, with_progress}
 
 -- ---- each task's progress
 
 -- The progress of a task changes alike on both sides.
-progress-set : (ps : List Progress) (ts : List Task) (i : ℕ) (t : Task) → ((j : ℕ) → progress_in ps j ≡ (get_or ts j no_task).progress) → i < length ps → i < length ts → (j : ℕ) → progress_in (set ps i t.progress) j ≡ (get_or (set ts i t) j no_task).progress
+pub progress-set : (ps : List Progress) (ts : List Task) (i : ℕ) (t : Task) → ((j : ℕ) → progress_in ps j ≡ (get_or ts j no_task).progress) → i < length ps → i < length ts → (j : ℕ) → progress_in (set ps i t.progress) j ≡ (get_or (set ts i t) j no_task).progress
 progress-set ps ts i t h l m j = by_test (eqb j i)
     (λ u. let same : j ≡ i = eqb-same j i u in
     rw (same, get_or-set_same ps i t.progress no_progress l, get_or-set_same ts i t no_task m) refl)
@@ -36,7 +40,7 @@ progress-set ps ts i t h l m j = by_test (eqb j i)
     rw (get_or-set_other ps i j t.progress no_progress apart, get_or-set_other ts i j t no_task apart) (h j))
 
 -- A task changes, but not its progress.
-progress-same : (ps : List Progress) (ts : List Task) (i : ℕ) (t : Task) → ((j : ℕ) → progress_in ps j ≡ (get_or ts j no_task).progress) → i < length ts → t.progress ≡ (get_or ts i no_task).progress → (j : ℕ) → progress_in ps j ≡ (get_or (set ts i t) j no_task).progress
+pub progress-same : (ps : List Progress) (ts : List Task) (i : ℕ) (t : Task) → ((j : ℕ) → progress_in ps j ≡ (get_or ts j no_task).progress) → i < length ts → t.progress ≡ (get_or ts i no_task).progress → (j : ℕ) → progress_in ps j ≡ (get_or (set ts i t) j no_task).progress
 progress-same ps ts i t h m e j = by_test (eqb j i)
     (λ u. let same : j ≡ i = eqb-same j i u in
     rw (same, get_or-set_same ts i t no_task m) (h i ∙ sym e))
@@ -64,7 +68,7 @@ clock-same t s new h tasks time elapsed table = record {
 pub asleep_is : (t : Timeline) (s : State) → clock.StandsFor t s → (i : ℕ) → is_asleep t i ≡ is_some (wake_time_of (status_at s i))
 asleep_is t s h i = asleep_same t s i h
 
-same_alike : (a b : Status) → a ≡ b → SleepsAlike a b
+pub same_alike : (a b : Status) → a ≡ b → SleepsAlike a b
 same_alike a b e = subst (SleepsAlike a) e (record { key = refl; wake_time = refl })
 
 pub ready_alike : (u : Status) (n : ℕ) → wake_time_of u ≡ None → SleepsAlike (Ready n) u
@@ -98,15 +102,28 @@ apart_back k s h i t = by_test (schedule.is_ready k.sched i)
 
 -- ---- all but the scheduler
 
-pub rest_same : (k : Kernel) (s new : State) → RestStandsFor k s → new.tasks ≡ s.tasks → new.time ≡ s.time → new.elapsed ≡ s.elapsed → new.steps ≡ s.steps → new.stopped ≡ s.stopped → IsTable new → RestStandsFor k new
-rest_same k s new h tasks time elapsed steps stopped table = record {
-  progress = λ i. h.progress i ∙ ap (λ ts. (get_or ts i no_task).progress) (sym tasks);
-  full = h.full;
-  clock = clock-same k.clock s new h.clock tasks time elapsed table;
-  steps = h.steps ∙ sym steps;
-  stopped = h.stopped ∙ sym stopped;
-  nobody_waits = λ i. ap (λ ts. wait_of (get_or ts i no_task).status) tasks ∙ h.nobody_waits i;
+-- the same tasks, the same objects
+pub same_parts : (s new : State) → new.tasks ≡ s.tasks → new.objects ≡ s.objects → new.locked ≡ s.locked → SameWaits s new
+same_parts s new tasks objects locked = record {
+  objects = λ o. ap (λ (os : List Object). get_or os o no_object) objects;
+  waits = λ i. ap (λ ts. wait_of (get_or ts i no_task).status) tasks;
+  awake = λ i. ap (λ ts. wait_if_awake (get_or ts i no_task).status) tasks;
+  locked = locked;
 }
+
+pub rest_same : (k : Kernel) (s new : State) → RestStandsFor k s → new.tasks ≡ s.tasks → new.time ≡ s.time → new.elapsed ≡ s.elapsed → new.steps ≡ s.steps → new.stopped ≡ s.stopped → new.objects ≡ s.objects → new.locked ≡ s.locked → IsTable new → RestStandsFor k new
+rest_same k s new h tasks time elapsed steps stopped objects locked table =
+    let same = same_parts s new tasks objects locked in
+    record {
+      progress = λ i. h.progress i ∙ ap (λ ts. (get_or ts i no_task).progress) (sym tasks);
+      full = h.full;
+      clock = clock-same k.clock s new h.clock tasks time elapsed table;
+      queues = stands_same s new same k.queues None h.queues table;
+      awake = at_locked_same None s new same h.awake;
+      steps = h.steps ∙ sym steps;
+      stopped = h.stopped ∙ sym stopped;
+      placed = h.placed;
+    }
 
 -- a Ready task is a task
 pub ready_within : (s : State) (i : ℕ) → is_ready s i ≡ true → i < length s.tasks
@@ -117,20 +134,24 @@ ready_within s i t = by_index s.tasks i t where
   by_index (u ∷ us) (suc i) t = let l = by_index us i t in omega arith
 
 module _ (k : Kernel) (s : State) (h : StandsFor k s) (i : ℕ) (l : i < length s.tasks) where
-  in_table : i < length k.progress
+  pub in_table : i < length k.progress
   in_table = let n = h.rest.full in let m = h.sched.table.few in omega arith
 
   -- a Ready task goes behind its equals
   pub rest-made_ready : is_ready s i ≡ true → RestStandsFor k (make_ready i s)
   rest-made_ready on =
       let t : Task = record (task_at s i) { status = Ready s.next_ticket } in
+      let table : IsTable (make_ready i s) = table-make_ready s i h.sched.table in
+      let same = same_ready i s (ready_free (status_at s i) on) in
       record {
         progress = progress-same k.progress s.tasks i t h.rest.progress l refl;
         full = h.rest.full;
-        clock = on_clock.stands_kept k.clock s (make_ready i s) i t h.rest.clock l refl refl refl (ready_alike (status_at s i) s.next_ticket (ready_awake (status_at s i) on)) (table-make_ready s i h.sched.table);
+        clock = on_clock.stands_kept k.clock s (make_ready i s) i t h.rest.clock l refl refl refl (ready_alike (status_at s i) s.next_ticket (ready_awake (status_at s i) on)) table;
+        queues = stands_same s (make_ready i s) same k.queues None h.rest.queues table;
+        awake = at_locked_same None s (make_ready i s) same h.rest.awake;
         steps = h.rest.steps;
         stopped = h.rest.stopped;
-        nobody_waits = each-set no_task (λ _ u. wait_of u.status ≡ None) s.tasks i t refl h.rest.nobody_waits;
+        placed = h.rest.placed;
       }
 
   -- a Ready task begins to sleep
@@ -141,47 +162,67 @@ module _ (k : Kernel) (s : State) (h : StandsFor k s) (i : ℕ) (l : i < length 
       let new : State = state.take_ticket i (Asleep wake_time) s in
       let table : IsTable new = table-taken s i (Asleep wake_time) h.sched.table (omega arith) in
       let c : clock.StandsFor t new = rw on at slept in
+      let same = same_ticket i (Asleep wake_time) s refl (ready_free (status_at s i) on) in
       rw on (record {
         sched = rw blocks (on_sched.stands_blocked k.sched s new i u h.sched l refl refl refl refl refl table);
-        rest = record { progress = progress-same k.progress s.tasks i u h.rest.progress l refl; full = h.rest.full; clock = c; steps = h.rest.steps; stopped = h.rest.stopped; nobody_waits = each-set no_task (λ _ v. wait_of v.status ≡ None) s.tasks i u refl h.rest.nobody_waits };
+        rest = record {
+          progress = progress-same k.progress s.tasks i u h.rest.progress l refl;
+          full = h.rest.full;
+          clock = c;
+          queues = stands_same s new same k.queues None h.rest.queues table;
+          awake = at_locked_same None s new same h.rest.awake;
+          steps = h.rest.steps;
+          stopped = h.rest.stopped;
+          placed = h.rest.placed;
+        };
       })
 
+  -- no other progress is in Place than before
+  pub still_placed : (p : Progress) → p.call.phase ≢ Place → (j : ℕ) → (progress_in (set k.progress i p) j).call.phase ≢ Place
+  still_placed p off j = each-set no_progress (λ _ (q : Progress). q.call.phase ≢ Place) k.progress i p off h.rest.placed j
+
   -- a task's progress changes
-  pub stands-changed : (p : Progress) → StandsFor (with_progress i p k) (state.with_progress i p s)
-  stands-changed p =
+  pub stands-changed : (p : Progress) → p.call.phase ≢ Place → StandsFor (with_progress i p k) (state.with_progress i p s)
+  stands-changed p off =
       let t : Task = record (task_at s i) { progress = p } in
       let table : IsTable (with_task i t s) = table-set s i t h.sched.table (ticket_at s.next_ticket i s.tasks h.sched.table.tickets) in
+      let same = same_progress i p s in
       record {
         sched = on_sched.stands_kept k.sched s (with_task i t s) i t h.sched l refl refl refl refl refl table;
         rest = record {
           progress = progress-set k.progress s.tasks i t h.rest.progress in_table l;
           full = rw length-set h.rest.full;
           clock = on_clock.stands_kept k.clock s (with_task i t s) i t h.rest.clock l refl refl refl (same_alike (status_at s i) (status_at s i) refl) table;
+          queues = stands_same s (with_task i t s) same k.queues None h.rest.queues table;
+          awake = at_locked_same None s (with_task i t s) same h.rest.awake;
           steps = h.rest.steps;
           stopped = h.rest.stopped;
-          nobody_waits = each-set no_task (λ _ u. wait_of u.status ≡ None) s.tasks i t (h.rest.nobody_waits i) h.rest.nobody_waits;
+          placed = still_placed p off;
         };
       }
 
   -- it goes on at an op of so many, which isn't past the last one
   pub stands-gone : (count op_index : ℕ) (p : Progress) → eqb op_index count ≡ false → StandsFor (with_progress i (record p { op_index = op_index; used = 0; call = no_call }) k) (with_task i (moved_to count op_index p (task_at s i)) s)
-  stands-gone count op_index p off = rw off (stands-changed (record p { op_index = op_index; used = 0; call = no_call }))
+  stands-gone count op_index p off = rw off (stands-changed (record p { op_index = op_index; used = 0; call = no_call }) (λ e. absurd (cc)))
 
   -- or is Ended
-  pub stands-ended : (count op_index : ℕ) (p : Progress) → eqb op_index count ≡ true → wake_time_of (status_at s i) ≡ None → (v : Schedule) → v ≡ block i k.sched → StandsFor (record k { progress = set k.progress i (record p { op_index = op_index; used = 0; call = no_call }); sched = v }) (with_task i (moved_to count op_index p (task_at s i)) s)
-  stands-ended count op_index p on awake v blocks =
+  pub stands-ended : (count op_index : ℕ) (p : Progress) → eqb op_index count ≡ true → is_ready s i ≡ true → (v : Schedule) → v ≡ block i k.sched → StandsFor (record k { progress = set k.progress i (record p { op_index = op_index; used = 0; call = no_call }); sched = v }) (with_task i (moved_to count op_index p (task_at s i)) s)
+  stands-ended count op_index p on ready v blocks =
       let q : Progress = record p { op_index = op_index; used = 0; call = no_call } in
       let t : Task = record (task_at s i) { progress = q; status = Ended } in
       let table : IsTable (with_task i t s) = table-set s i t h.sched.table tt in
+      let same = same_free i t s refl (ready_free (status_at s i) ready) in
       rw on (record {
         sched = rw blocks (on_sched.stands_blocked k.sched s (with_task i t s) i t h.sched l refl refl refl refl refl table);
         rest = record {
           progress = progress-set k.progress s.tasks i t h.rest.progress in_table l;
           full = rw length-set h.rest.full;
-          clock = on_clock.stands_kept k.clock s (with_task i t s) i t h.rest.clock l refl refl refl (ended_alike (status_at s i) awake) table;
+          clock = on_clock.stands_kept k.clock s (with_task i t s) i t h.rest.clock l refl refl refl (ended_alike (status_at s i) (ready_awake (status_at s i) ready)) table;
+          queues = stands_same s (with_task i t s) same k.queues None h.rest.queues table;
+          awake = at_locked_same None s (with_task i t s) same h.rest.awake;
           steps = h.rest.steps;
           stopped = h.rest.stopped;
-          nobody_waits = each-set no_task (λ _ u. wait_of u.status ≡ None) s.tasks i t refl h.rest.nobody_waits;
+          placed = still_placed q (λ e. absurd (cc));
         };
       })
 
@@ -192,7 +233,7 @@ at_written k log new_log s e h told step tick =
     record {
       stands = record {
         sched = record { ready = h.stands.sched.ready; current = h.stands.sched.current; priorities = h.stands.sched.priorities; depth = h.stands.sched.depth; table = table };
-        rest = rest_same k s (write e.what s) h.stands.rest refl refl refl refl refl table;
+        rest = rest_same k s (write e.what s) h.stands.rest refl refl refl refl refl refl refl table;
       };
       log = told ∙ rw h.log (ap (λ (x : Event). s.log ++ x ∷ []) (event_same e s.steps (printed s.time) (step ∙ h.stands.rest.steps) (tick ∙ ap printed h.stands.rest.clock.now)));
     } where
@@ -205,5 +246,5 @@ stands-told k s h log =
     let table : IsTable (record s { log = log }) = record { tickets = h.sched.table.tickets; few = h.sched.table.few; current = h.sched.table.current } in
     record {
       sched = record { ready = h.sched.ready; current = h.sched.current; priorities = h.sched.priorities; depth = h.sched.depth; table = table };
-      rest = rest_same k s (record s { log = log }) h.rest refl refl refl refl refl table;
+      rest = rest_same k s (record s { log = log }) h.rest refl refl refl refl refl refl refl table;
     }

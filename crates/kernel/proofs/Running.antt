@@ -1,19 +1,22 @@
 -- A run, step by step.
-use Rattle.std.proofs.Common.{◌≡◌, ◌≢◌, ◌<◌, ◌≤◌, ℕ, zero, suc, true, false, eqb, leb, List, [], ◌++◌, None, refl, sym, subst, ◌∙◌, arith, length, length-append}
+use Rattle.std.proofs.Common.{◌≡◌, ◌≢◌, ◌<◌, ◌≤◌, ℕ, zero, suc, true, false, eqb, leb, List, [], ◌++◌, Option, Some, None, refl, ap, sym, subst, ◌∙◌, arith, length, length-append}
 use Rattle.std.proofs.lemmas.List.{append_assoc}
 use Rattle.std.proofs.lemmas.Bool.Decides.{nat_tests}
 use Rattle.model.proofs.Sorting.{by_test}
 use Rattle.model.proofs.Lists.{eqb-refl, eqb-same}
 use Rattle.model.specs.declared.event.Event.{Event}
-use Rattle.model.specs.Application.{Application, Limits, AreLimits}
+use Rattle.model.specs.declared.op.Op.{Op}
+use Rattle.model.specs.Application.{Application, Limits, AreLimits, op_at}
 use Rattle.model.specs.Scripts.{IsWellFormed}
-use Rattle.model.specs.State.{State}
-use Rattle.model.specs.Step.{step, reset, ready_at_reset, nobody_ready, with_ops}
+use Rattle.model.specs.State.{State, Progress, progress_at}
+use Rattle.model.specs.Step.{act, act_if, act_current, step, reset, ready_at_reset, nobody_ready, with_ops}
 use Rattle.model.specs.Run.{Run, IsRun, end_of, state_after, events_after}
 use Rattle.model.proofs.Frames.{elapsed-reset, elapsed-step, keeps-all_ready}
 use Rattle.kernel.specs.declared.kernel.Kernel.{Kernel}
-use Rattle.kernel.specs.StandsFor.{StandsFor}
+use Rattle.kernel.specs.Logged.{Logged, all_of}
+use Rattle.kernel.specs.StandsFor.{Stands, AtAny, DoesAny, progress_in}
 use Rattle.kernel.specs.Can.{CanStep, IsUnderWay}
+use Rattle.kernel.proofs.Either.{steps_are, age_is, current_is, progress_is}
 use Rattle.kernel.proofs.Bounds.{below_limits}
 
 leb-le : (a b : ℕ) → leb a b ≡ true → a ≤ b
@@ -22,21 +25,51 @@ leb-le a b e = grind (arith, nat_tests)
 leb-less : (a b : ℕ) → leb a b ≡ false → b < a
 leb-less a b e = grind (arith, nat_tests)
 
+-- ---- the running task does its op
+
+module _ (app : Application) (k : Kernel) (task : ℕ) (runs : k.sched.current ≡ Some task) where
+  its_op : (s : State) → Stands k s → (o : Option Op) → op_at app task (progress_in k.progress task).op_index ≡ o → act_current app s.current s ≡ act_if app task o s
+  its_op s h o at =
+      let current : s.current ≡ Some task = sym (current_is k s h) ∙ runs in
+      let op : op_at app task (progress_at s task).op_index ≡ o = ap (λ (p : Progress). op_at app task p.op_index) (sym (progress_is k s h task)) ∙ at in
+      ap (λ c. act_current app c s) current ∙ ap (λ o. act_if app task o s) op
+
+  pub acts : (op : Op) → op_at app task (progress_in k.progress task).op_index ≡ Some op → (new : Kernel) (old_log new_log : Logged) → DoesAny 2 k old_log new new_log (act app task op) → DoesAny 2 k old_log new new_log (λ s. act_current app s.current s)
+  acts op at new old_log new_log does = record {
+    at = λ s h. subst (AtAny new new_log.told) (sym (its_op s h.stands (Some op) at)) (does.at s h);
+    few = does.few;
+    before = does.before;
+  }
+
+  -- it has none
+  pub rests : op_at app task (progress_in k.progress task).op_index ≡ None → (log : Logged) → DoesAny 2 k log k log (λ s. act_current app s.current s)
+  rests at log = record {
+    at = λ s h. subst (AtAny k log.told) (sym (its_op s h.stands None at)) h;
+    few = omega arith;
+    before = refl;
+  }
+
+-- a log after a step: what it had before, and what the step tells
+pub told_after : (log : Logged) (before told : List Event) → log.before ≡ before → log.told ≡ told → all_of log ≡ before ++ told
+told_after log before told e f = rw (e, f) refl
+
+-- ---- from step to step
+
 -- the kernel at reset
 steps-reset : (app : Application) → (reset app).steps ≡ 0
 unfolding reset ready_at_reset nobody_ready
 steps-reset app = (keeps-all_ready (with_ops 0 app.tasks) (nobody_ready app)).steps
 
-pub steps_begin : (app : Application) (k : Kernel) → StandsFor k (reset app) → k.steps ≡ 0
-steps_begin app k h = h.rest.steps ∙ steps-reset app
+pub steps_begin : (app : Application) (k : Kernel) → Stands k (reset app) → k.steps ≡ 0
+steps_begin app k h = steps_are k (reset app) h ∙ steps-reset app
 
-pub begins : (app : Application) (limits : Limits) (k : Kernel) → StandsFor k (reset app) → IsUnderWay app limits k
+pub begins : (app : Application) (limits : Limits) (k : Kernel) → Stands k (reset app) → IsUnderWay app limits k
 begins app limits k h = record {
-  stands = let Q : ℕ → Type 0 = λ n. StandsFor k (state_after app n) in subst Q (sym (steps_begin app k h)) h;
+  stands = let Q : ℕ → Type 0 = λ n. Stands k (state_after app n) in subst Q (sym (steps_begin app k h)) h;
   goes_on = λ n l. let e = steps_begin app k h in absurd (omega arith);
 }
 
-pub no_events : (app : Application) (k : Kernel) → StandsFor k (reset app) → events_after app k.steps ≡ []
+pub no_events : (app : Application) (k : Kernel) → Stands k (reset app) → events_after app k.steps ≡ []
 no_events app k h = rw (steps_begin app k h) refl
 
 module _ (app : Application) (formed : IsWellFormed app) (limits : Limits) (are : AreLimits limits.ticks limits.steps) (k : Kernel) (h : IsUnderWay app limits k) (on : end_of limits (state_after app k.steps) ≡ None) where
@@ -44,13 +77,13 @@ module _ (app : Application) (formed : IsWellFormed app) (limits : Limits) (are 
   can_step = record { steps = k.steps; stands = h.stands; limits = limits; tick_limit = are.1; step_limit = are.3; goes_on = on }
 
   pub steps_below : k.steps < limits.steps
-  steps_below = let e = h.stands.rest.steps in let l = (below_limits limits (state_after app k.steps) on).1 in omega arith
+  steps_below = let e = steps_are k (state_after app k.steps) h.stands in let l = (below_limits limits (state_after app k.steps) on).1 in omega arith
 
   -- one step more
-  module _ (next : Kernel) (stands : (s : State) → StandsFor k s → StandsFor next (step app s)) where
+  module _ (next : Kernel) (stands : (s : State) → Stands k s → Stands next (step app s)) where
     pub steps_more : next.steps ≡ suc k.steps
     unfolding step
-    steps_more = let e = (stands (state_after app k.steps) h.stands).rest.steps in let f = h.stands.rest.steps in omega arith
+    steps_more = let e = steps_are next (step app (state_after app k.steps)) (stands (state_after app k.steps) h.stands) in let f = steps_are k (state_after app k.steps) h.stands in omega arith
 
     by_last : (n : ℕ) → n < suc k.steps → end_of limits (state_after app n) ≡ None
     by_last n l = by_test (eqb n k.steps)
@@ -59,7 +92,7 @@ module _ (app : Application) (formed : IsWellFormed app) (limits : Limits) (are 
 
     pub goes_on : IsUnderWay app limits next
     goes_on = record {
-      stands = let Q : ℕ → Type 0 = λ n. StandsFor next (state_after app n) in subst Q (sym steps_more) (stands (state_after app k.steps) h.stands);
+      stands = let Q : ℕ → Type 0 = λ n. Stands next (state_after app n) in subst Q (sym steps_more) (stands (state_after app k.steps) h.stands);
       goes_on = λ n l. let m : n < suc k.steps = rw steps_more at l in by_last n m;
     }
 
@@ -81,7 +114,7 @@ ticks_by app limits are (suc n) g =
     omega arith
 
 pub ticks_low : (app : Application) (limits : Limits) → AreLimits limits.ticks limits.steps → (k : Kernel) → IsUnderWay app limits k → k.clock.age ≤ 1000000
-ticks_low app limits are k h = rw h.stands.rest.clock.age (ticks_by app limits are k.steps h.goes_on)
+ticks_low app limits are k h = rw (age_is k (state_after app k.steps) h.stands) (ticks_by app limits are k.steps h.goes_on)
 
 -- ---- a run that is broken off has come no further than the run
 

@@ -1,19 +1,21 @@
 -- Who runs: what changes of the processor make of the states that the kernel stands for.
-use Rattle.std.proofs.Common.{◌≡◌, ◌<◌, ◌≤◌, arith, ℕ, Bool, true, false, not, cond, ◌||◌, List, [], ◌∷◌, ◌++◌, length, Option, Some, None, refl, ap, sym, subst, ◌∙◌, append-nil}
-use Rattle.std.specs.Prelude.{if◌then◌else◌}
+use Rattle.std.proofs.Common.{◌≡◌, ◌<◌, ℕ, Bool, true, false, not, cond, ◌||◌, List, [], ◌∷◌, ◌++◌, length, Option, Some, None, refl, ap, sym, subst, ◌∙◌, append-nil}
 use Rattle.std.specs.Option.{IfSome}
+use Rattle.std.proofs.lemmas.Option.{same_Some}
+use Rattle.model.specs.declared.call.WaitList.{WaitList}
 use Rattle.model.specs.declared.event.Event.{Event}
 use Rattle.model.specs.declared.event.What.TheVariants as what
 use Rattle.model.specs.State.{State, printed, for_one}
-use Rattle.model.specs.Switching.{choice, dispatch, choose, yield_now, to_back, make_ready, is_ready, is_outranked, is_sharing, is_same, slice, settle, is_off, unless_held, write}
+use Rattle.model.specs.Switching.{choice, dispatch, choose, yield_now, to_back, make_ready, is_ready, is_outranked, is_sharing, is_same, preempt, slice, settle, is_off, unless_held, write}
 use Rattle.model.specs.Invariant.{IsTable}
 use Rattle.model.proofs.Sorting.{by_test}
 use Rattle.model.proofs.Settled.{when_held, when_free}
 use Rattle.model.proofs.Lists.{eqb-refl}
 use Rattle.sched.specs.StandsFor as sched
+use Rattle.sched.specs.Schedule as schedule
 use Rattle.sched.specs.Schedule.{Schedule}
 use Rattle.kernel.specs.declared.kernel.Kernel.{Kernel}
-use Rattle.kernel.specs.StandsFor.{RestStandsFor, StandsFor, At, change}
+use Rattle.kernel.specs.StandsFor.{RestStandsFor, StandsFor, StandsBefore, At, AtAny, change}
 use Rattle.kernel.proofs.Parts.{rest_same, rest-made_ready}
 
 same_self : (r : Option ℕ) → is_same r r ≡ true
@@ -56,13 +58,19 @@ log-slice s = by_test (is_outranked s || is_sharing s)
     (λ t. rw t (log-yield_now s))
     (λ t. rw t (sym (append-nil s.log) ∙ ap (λ l. s.log ++ l) (sym (same_runs s))))
 
+log-preempt : (s : State) → Tells s (preempt s)
+unfolding preempt
+log-preempt s = by_test (is_outranked s)
+    (λ t. rw t (log-yield_now s))
+    (λ t. rw t (sym (append-nil s.log) ∙ ap (λ l. s.log ++ l) (sym (same_runs s))))
+
 -- all but the scheduler stands as it stood
 
 rest-choose : (k : Kernel) (s : State) → RestStandsFor k s → IsTable (choose s) → RestStandsFor k (choose s)
 unfolding choose dispatch
 rest-choose k s h table = by_test (is_same (choice s) s.current)
     (λ t. rw t h)
-    (λ t. rw t (rest_same k s (write (what.Run (choice s)) (record s { current = choice s })) h refl refl refl refl refl (rw t at table)))
+    (λ t. rw t (rest_same k s (write (what.Run (choice s)) (record s { current = choice s })) h refl refl refl refl refl refl refl (rw t at table)))
 
 rest-back : (k : Kernel) (s : State) (r : Option ℕ) → StandsFor k s → IfSome r (λ i. i < length s.tasks) → RestStandsFor k (for_one to_back r s)
 unfolding to_back
@@ -79,11 +87,17 @@ rest-slice k s h table = by_test (is_outranked s || is_sharing s)
     (λ t. rw t (rest-yield_now k s h (rw t at table)))
     (λ t. rw t h.rest)
 
+rest-preempt : (k : Kernel) (s : State) → StandsFor k s → IsTable (preempt s) → RestStandsFor k (preempt s)
+unfolding preempt
+rest-preempt k s h table = by_test (is_outranked s)
+    (λ t. rw t (rest-yield_now k s h (rw t at table)))
+    (λ t. rw t h.rest)
+
 -- The scheduler has changed, and the event that tells of it is written.
 module _ (k : Kernel) (log new_log : List Event) (s : State) (v : Schedule) (before : Option ℕ) (h : At k log s) (b : before ≡ k.sched.current) (told : new_log ≡ log ++ change k.steps k.clock.now before v.current) where
   changed : (new : State) → sched.StandsFor v new → RestStandsFor k new → Tells s new → At (record k { sched = v }) new_log new
   changed new on rest tells = record {
-    stands = record { sched = on; rest = record { progress = rest.progress; full = rest.full; clock = rest.clock; steps = rest.steps; stopped = rest.stopped; nobody_waits = rest.nobody_waits } };
+    stands = record { sched = on; rest = record { progress = rest.progress; full = rest.full; clock = rest.clock; steps = rest.steps; stopped = rest.stopped; queues = rest.queues; awake = rest.awake; placed = rest.placed } };
     log = told ∙ rw (h.log, b, h.stands.sched.current, h.stands.rest.steps, h.stands.rest.clock.now, on.current) (sym tells);
   }
 
@@ -92,6 +106,9 @@ module _ (k : Kernel) (log new_log : List Event) (s : State) (v : Schedule) (bef
 
   pub yielded : sched.StandsFor v (yield_now s) → At (record k { sched = v }) new_log (yield_now s)
   yielded on = changed (yield_now s) on (rest-yield_now k s h.stands on.table) (log-yield_now s)
+
+  pub preempted : sched.StandsFor v (preempt s) → At (record k { sched = v }) new_log (preempt s)
+  preempted on = changed (preempt s) on (rest-preempt k s h.stands on.table) (log-preempt s)
 
   pub sliced : sched.StandsFor v (slice s) → At (record k { sched = v }) new_log (slice s)
   sliced on = changed (slice s) on (rest-slice k s h.stands on.table) (log-slice s)
@@ -127,16 +144,23 @@ not_false false t = absurd (cc)
 
 -- ---- whether the scheduler is held
 
-held_none : (b : Bool) (depth : ℕ) → depth ≡ (if b then 1 else 0) → depth ≤ 0 → b ≡ false
-held_none false depth e l = refl
-held_none true depth e l = absurd (omega (arith, e, l))
+pub settled_free : (k : Kernel) (log : List Event) (s : State) → s.call_hold ≡ false → At k log (settle s) → At k log (unless_held settle s)
+settled_free k log s none a = subst (At k log) (sym (when_free settle s none)) a
 
-held_some : (b : Bool) (depth : ℕ) → depth ≡ (if b then 1 else 0) → 0 < depth → b ≡ true
-held_some true depth e l = refl
-held_some false depth e l = absurd (omega (arith, e, l))
+pub settled_held : (k : Kernel) (log : List Event) (s : State) → s.call_hold ≡ true → At k log s → At k log (unless_held settle s)
+settled_held k log s held a = subst (At k log) (sym (when_held settle s held)) a
 
-pub settled_free : (k : Kernel) (log : List Event) (old : Schedule) (s : State) → sched.StandsFor old s → old.depth ≤ 0 → At k log (settle s) → At k log (unless_held settle s)
-settled_free k log old s h none a = subst (At k log) (sym (when_free settle s (held_none s.call_hold old.depth h.depth none))) a
+-- Where it stands for the state, and for that settled, it is all one.
+pub settled_either : (k : Kernel) (log : List Event) (s : State) → At k log s → At k log (settle s) → At k log (unless_held settle s)
+settled_either k log s held free = by_test s.call_hold (λ t. settled_held k log s t held) (λ t. settled_free k log s t free)
 
-pub settled_held : (k : Kernel) (log : List Event) (s : State) → At k log s → 0 < k.sched.depth → At k log (unless_held settle s)
-settled_held k log s h some = subst (At k log) (sym (when_held settle s (held_some s.call_hold k.sched.depth h.stands.sched.depth some))) h
+-- While a task is still to be placed the scheduler is held, and nothing switches.
+pub settled_before : (k : Kernel) (log : List Event) (s : State) → AtAny k log s → (task : ℕ) (list : WaitList) → StandsBefore task list k s → AtAny k log (unless_held settle s)
+settled_before k log s h task list b = subst (AtAny k log) (sym (when_held settle s b.held)) h
+
+runs_before : (k : Kernel) (s : State) (task i : ℕ) (list : WaitList) → StandsBefore task list k s → k.sched.current ≡ Some i → task ≡ i
+runs_before k s task i list b r = same_Some task i (sym b.current ∙ sym b.sched.current ∙ r)
+
+-- It is Ready in the scheduler, and it runs.
+pub ready_before : (k : Kernel) (s : State) (task i : ℕ) (list : WaitList) → StandsBefore task list k s → k.sched.current ≡ Some i → schedule.is_ready k.sched i ≡ true
+ready_before k s task i list b r = subst (λ (j : ℕ). schedule.is_ready k.sched j ≡ true) (runs_before k s task i list b r) b.sched.still

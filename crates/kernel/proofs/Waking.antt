@@ -4,12 +4,11 @@ use Rattle.std.specs.List.{AllByRecursion, IsDistinct}
 use Rattle.std.proofs.lemmas.List.{take_more}
 use Rattle.std.proofs.lemmas.Bool.{ne_eqb}
 use Rattle.model.specs.declared.event.Event.{Event}
-use Rattle.model.specs.State.{State, Task, Ready, wait_of, task_at, status_at, progress_at, for_each, no_task}
+use Rattle.model.specs.State.{State, Task, Ready, task_at, progress_at, for_each, no_task}
 use Rattle.model.specs.Order.{tasks_of}
 use Rattle.model.specs.Switching.{make_ready}
 use Rattle.model.specs.Time.{due, wake_due, advance, increment_tick}
 use Rattle.model.proofs.Sorting.{by_test}
-use Rattle.model.proofs.Sound.{each-set}
 use Rattle.model.proofs.Lists.{eqb-refl}
 use Rattle.model.proofs.Chosen.{each-end}
 use Rattle.model.proofs.Frames.{keeps-all_ready}
@@ -21,10 +20,15 @@ use Rattle.clock.specs.StandsFor as clock
 use Rattle.clock.specs.StandsFor.{at_next_tick}
 use Rattle.clock.specs.Timeline.{Timeline, Advances, is_asleep}
 use Rattle.clock.proofs.Standing.{due_asleep, due_once}
+use Rattle.objects.specs.WaitersStand.{AtLocked}
+use Rattle.objects.specs.Queues as queues
+use Rattle.objects.specs.Queues.{Exchange}
+use Rattle.objects.proofs.Kept.{stands_same}
+use Rattle.objects.proofs.Awake.{at_locked-all_ready}
 use Rattle.kernel.specs.declared.kernel.Kernel.{Kernel}
 use Rattle.kernel.specs.StandsFor.{StandsFor, At}
 use Rattle.kernel.specs.Can.{AreToWake}
-use Rattle.kernel.proofs.Parts.{apart_back}
+use Rattle.kernel.proofs.Parts.{apart_back, same_parts}
 
 -- ---- the tasks that are to wake
 
@@ -69,15 +73,22 @@ module _ (v : Schedule) (ts : List ℕ) (j : ℕ) (i : ℕ) (l : j < length ts) 
       let P : Schedule → Type 0 = λ x. AreToWake x (drop (j + 1) ts) in
       subst P (sym is) (still_to_wake v i (drop (j + 1) ts) w.1 w.2)
 
+  -- and of others after them
+  pub more_left : (more : List ℕ) → AreToWake v (drop j ts ++ more) → (new : Schedule) → new ≡ schedule.make_ready i v → AreToWake new (drop (j + 1) ts ++ more)
+  more_left more h new is =
+      let w : AreToWake v (i ∷ (drop (j + 1) ts ++ more)) = subst (λ (us : List ℕ). AreToWake v (us ++ more)) drop_one h in
+      let P : Schedule → Type 0 = λ x. AreToWake x (drop (j + 1) ts ++ more) in
+      subst P (sym is) (still_to_wake v i (drop (j + 1) ts ++ more) w.1 w.2)
+
 at_within : (n : ℕ) (ts : List ℕ) (j : ℕ) (d : ℕ) → j < length ts → AllByRecursion (λ i. i < n) ts → get_or ts j d < n
 at_within n [] j d l h = absurd (omega arith)
 at_within n (t ∷ ts) zero d l h = h.0
 at_within n (t ∷ ts) (suc j) d l h = at_within n ts j d (omega arith) h.1
 
--- The schedule stands for one more of the tasks made Ready.
-pub ready_more : (new : Schedule) (s : State) (ts : List ℕ) (j i : ℕ) → j < length ts → i ≡ get_or ts j i → AllByRecursion (λ n. n < length s.tasks) ts
-    → (i < length (for_each make_ready (take j ts) s).tasks → sched.StandsFor new (make_ready i (for_each make_ready (take j ts) s))) → sched.StandsFor new (for_each make_ready (take (j + 1) ts) s)
-ready_more new s ts j i l e within goes =
+-- What holds after one more of the tasks was made Ready.
+pub ready_more : (P : State → Type 0) (s : State) (ts : List ℕ) (j i : ℕ) → j < length ts → i ≡ get_or ts j i → AllByRecursion (λ n. n < length s.tasks) ts
+    → (i < length (for_each make_ready (take j ts) s).tasks → P (make_ready i (for_each make_ready (take j ts) s))) → P (for_each make_ready (take (j + 1) ts) s)
+ready_more P s ts j i l e within goes =
     let so : State = for_each make_ready (take j ts) s in
     let low : i < length s.tasks = rw e (at_within (length s.tasks) ts j i l within) in
     let here : i < length so.tasks = rw (keeps-all_ready (take j ts) s).tasks low in
@@ -87,7 +98,7 @@ ready_more new s ts j i l e within goes =
 -- ---- a tick
 
 -- A task's progress stays as it becomes Ready.
-progress-ready : (s : State) (i j : ℕ) → progress_at (make_ready i s) j ≡ progress_at s j
+pub progress-ready : (s : State) (i j : ℕ) → progress_at (make_ready i s) j ≡ progress_at s j
 progress-ready s i j = by_index s.tasks i j (record (task_at s i) { status = Ready s.next_ticket }) refl where
   by_index : (ts : List Task) (i j : ℕ) (t : Task) → t.progress ≡ (get_or ts i no_task).progress → (get_or (set ts i t) j no_task).progress ≡ (get_or ts j no_task).progress
   by_index [] i j t e = refl
@@ -96,15 +107,11 @@ progress-ready s i j = by_index s.tasks i j (record (task_at s i) { status = Rea
   by_index (u ∷ us) (suc i) zero t e = refl
   by_index (u ∷ us) (suc i) (suc j) t e = by_index us i j t e
 
-pub unwaiting-all_ready : (is : List ℕ) (s : State) → ((i : ℕ) → wait_of (status_at s i) ≡ None) → (i : ℕ) → wait_of (status_at (for_each make_ready is s) i) ≡ None
-unwaiting-all_ready [] s h i = h i
-unwaiting-all_ready (j ∷ is) s h i = unwaiting-all_ready is (make_ready j s) (each-set no_task (λ _ u. wait_of u.status ≡ None) s.tasks j (record (task_at s j) { status = Ready s.next_ticket }) refl h) i
-
 pub progress-all_ready : (is : List ℕ) (s : State) (j : ℕ) → progress_at (for_each make_ready is s) j ≡ progress_at s j
 progress-all_ready [] s j = refl
 progress-all_ready (i ∷ is) s j = progress-all_ready is (make_ready i s) j ∙ progress-ready s i j
 
-log-all_ready : (is : List ℕ) (s : State) → (for_each make_ready is s).log ≡ s.log
+pub log-all_ready : (is : List ℕ) (s : State) → (for_each make_ready is s).log ≡ s.log
 log-all_ready [] s = refl
 log-all_ready (i ∷ is) s = log-all_ready is (make_ready i s)
 
@@ -119,12 +126,16 @@ module _ (k : Kernel) (log : List Event) (s : State) (h : At k log s) where
     table = record { tickets = h.stands.sched.table.tickets; few = h.stands.sched.table.few; current = h.stands.sched.table.current };
   }
 
-  pub woken : (ds : List ℕ) (v : Schedule) (t : Timeline) → ds ≡ tasks_of (due (at_next_tick s)) → sched.StandsFor v (for_each make_ready ds (at_next_tick s)) → clock.StandsFor t (increment_tick s) → At (record k { sched = v; clock = t }) log (increment_tick s)
+  pub queues-ticked : queues.StandsFor k.queues None (at_next_tick s)
+  queues-ticked = stands_same s (at_next_tick s) (same_parts s (at_next_tick s) refl refl refl) k.queues None h.stands.rest.queues sched-ticked.table
+
+  pub woken : (ds : List ℕ) (v : Schedule) (q : Exchange) (t : Timeline) → ds ≡ tasks_of (due (at_next_tick s)) → sched.StandsFor v (for_each make_ready ds (at_next_tick s)) → queues.StandsFor q None (for_each make_ready ds (at_next_tick s)) → clock.StandsFor t (increment_tick s) → At (record k { sched = v; clock = t; queues = q }) log (increment_tick s)
   unfolding increment_tick advance wake_due
-  woken ds v t is ready awake =
+  woken ds v q t is ready left awake =
       let next : State = at_next_tick s in
       let due_ones : List ℕ = tasks_of (due next) in
       let keep = keeps-all_ready due_ones next in
+      let ticked : AtLocked None next = record { awake = h.stands.rest.awake.awake; to_place = tt } in
       record {
         stands = record {
           sched = let P : List ℕ → Type 0 = λ ds. sched.StandsFor v (for_each make_ready ds next) in subst P is ready;
@@ -132,9 +143,11 @@ module _ (k : Kernel) (log : List Event) (s : State) (h : At k log s) where
             progress = λ i. h.stands.rest.progress i ∙ sym (progress-all_ready due_ones next i);
             full = h.stands.rest.full;
             clock = awake;
+            queues = let P : List ℕ → Type 0 = λ ds. queues.StandsFor q None (for_each make_ready ds next) in subst P is left;
+            awake = at_locked-all_ready None due_ones next ticked;
             steps = h.stands.rest.steps ∙ sym keep.steps;
             stopped = h.stands.rest.stopped ∙ sym keep.stopped;
-            nobody_waits = unwaiting-all_ready due_ones next h.stands.rest.nobody_waits;
+            placed = h.stands.rest.placed;
           };
         };
         log = h.log ∙ sym (log-all_ready due_ones next);

@@ -1,26 +1,29 @@
 -- What a deed of the kernel asks of it: that the numbers of the code suffice, and that the parts agree.
-use Rattle.std.specs.Prelude.{◌≡◌, ◌≢◌, ◌<◌, ◌≤◌, ℕ, ◌+◌, ◌^◌, false, List, [], ◌∷◌, Some, None, length}
+use Rattle.std.specs.Prelude.{◌≡◌, ◌≢◌, ◌<◌, ◌≤◌, ℕ, ◌+◌, ◌^◌, true, false, List, [], ◌∷◌, Option, Some, None, IfSome, length}
 use Rattle.std.specs.List.{AllByRecursion}
 use Rattle.model.specs.declared.op.Op.{Op}
-use Rattle.model.specs.declared.op.Op.TheVariants.{Repeat, Await, Do, MessagesWaiting, SpacesAvailable}
+use Rattle.model.specs.declared.op.Op.TheVariants.{Repeat, Await, Do}
+use Rattle.model.specs.declared.call.Phase.{Phase}
+use Rattle.model.specs.declared.call.Phase.TheVariants.{Start, Try, Decide, Place, Unlock, Leave}
+use Rattle.model.specs.declared.call.WaitList.{WaitList}
 use Rattle.model.specs.declared.ids.TaskId.{TaskId}
 use Rattle.model.specs.Application.{Application, Limits, op_at}
 use Rattle.model.specs.State.{State}
 use Rattle.model.specs.Run.{end_of, state_after}
 use Rattle.model.specs.Invariant.{IsUsedBy}
 use Rattle.sched.specs.Schedule.{Schedule, is_ready}
-use Rattle.clock.specs.Timeline.{is_asleep}
+use Rattle.objects.specs.Items.{object_in}
 use Rattle.kernel.specs.declared.kernel.Kernel.{Kernel}
-use Rattle.kernel.specs.StandsFor.{StandsFor, progress_in}
+use Rattle.kernel.specs.StandsFor.{StandsFor, StandsBefore, Stands, progress_in}
 
--- The parts of the kernel agree: it stands for some state.
+-- The parts of the kernel agree: it stands for some state, in which each task is in its lists.
 abbrev pub Agrees : Kernel → Type 0
 Agrees k = (s : State) × StandsFor k s
 
--- The task is the running one, and doesn't sleep; it is at one of 256 ops at most.
+-- The task is the running one, and Ready; it is at one of 256 ops at most.
 pub record Runs (k : Kernel) (task : ℕ) : Type 0 where
   pub current : k.sched.current ≡ Some task
-  pub awake : is_asleep k.clock task ≡ false
+  pub ready : is_ready k.sched task ≡ true
   pub op_index : (progress_in k.progress task).op_index < 256
 
 -- There is room for one more loop.
@@ -28,38 +31,95 @@ abbrev pub HasLoopRoom : Op → ℕ → Type 0
 HasLoopRoom (Repeat n) nesting = nesting < 4
 HasLoopRoom _ nesting = Unit {0}
 
--- The op speaks of no object: no application has any yet.
-abbrev pub HasNoObject : Op → Type 0
-HasNoObject (Await object access ticks) = ⊥
-HasNoObject (Do object access) = ⊥
-HasNoObject (MessagesWaiting object) = ⊥
-HasNoObject (SpacesAvailable object) = ⊥
-HasNoObject _ = Unit {0}
+-- The object has room for an item at least, where nothing is in it.
+abbrev pub HasLength : Kernel → ℕ → Type 0
+HasLength k object = 0 < (object_in k.queues.objects object).size
+
+-- The op speaks of such an object, if of any.
+abbrev pub HasObject : Kernel → Op → Type 0
+HasObject k (Do object access) = HasLength k object
+HasObject k _ = Unit {0}
 
 -- One tick can come.
 pub record CanTick (k : Kernel) : Type 0 where
   pub agrees : Agrees k
+  pub free : k.queues.lock ≡ None
   pub age : k.clock.age < 2 ^ 62
 
--- The task runs and can do this op.
+-- The task runs and can do this op, which is none that waits.
 pub record Can (k : Kernel) (task : ℕ) (op : Op) : Type 0 where
   pub runs : Runs k task
   pub tick : CanTick k
   pub used : IsUsedBy (progress_in k.progress task).used (Some op)
   pub nesting : HasLoopRoom op (length (progress_in k.progress task).loops)
-  pub no_object : HasNoObject op
+  pub object : HasObject k op
   pub previous_wake : (progress_in k.progress task).previous_wake ≤ k.clock.now
   pub time : k.clock.now + 2 ^ 32 < 2 ^ 63
 
+-- ---- a call that waits
+
+-- The task is the running one, and each task is in its lists.
+pub record IsInCall (k : Kernel) (task : ℕ) : Type 0 where
+  pub current : k.sched.current ≡ Some task
+  pub agrees : Agrees k
+
+-- The task runs, and can try its call.
+pub record CanTry (k : Kernel) (task object : ℕ) : Type 0 where
+  pub runs : Runs k task
+  pub agrees : Agrees k
+  pub free : k.queues.lock ≡ None
+  pub length : HasLength k object
+
+-- Its call may wait for less than 2^32 ticks, or for ever.
+abbrev pub IsShort : Option ℕ → Type 0
+IsShort ticks = IfSome ticks (λ n. n < 2 ^ 32)
+
+-- It can decide: nothing is held.
+pub record CanDecide (k : Kernel) (task : ℕ) : Type 0 where
+  pub runs : Runs k task
+  pub agrees : Agrees k
+  pub free : k.queues.lock ≡ None
+  pub depth : k.sched.depth ≡ 0
+
+-- A deadline, if there is one, is still to come, less than 2^32 ticks away.
+abbrev pub IsAhead : ℕ → Option ℕ → Type 0
+IsAhead now deadline = IfSome deadline (λ time. (now < time) × (time < now + 2 ^ 32))
+
+-- It can be placed.
+pub record CanPlace (k : Kernel) (task : ℕ) : Type 0 where
+  pub state : State
+  pub list : WaitList
+  pub stands : StandsBefore task list k state
+  pub deadline : IsAhead k.clock.now (progress_in k.progress task).call.deadline
+
+-- The hold can end.
+pub record CanLeave (k : Kernel) (task : ℕ) : Type 0 where
+  pub call : IsInCall k task
+  pub held : 0 < k.sched.depth
+
+-- What the call can do next in this phase.
+abbrev pub CanGoOn : Kernel → ℕ → ℕ → Option ℕ → Phase → Type 0
+CanGoOn k task object ticks Start = CanTry k task object × IsShort ticks × (k.clock.now + 2 ^ 32 < 2 ^ 63)
+CanGoOn k task object ticks Try = CanTry k task object
+CanGoOn k task object ticks Decide = CanDecide k task
+CanGoOn k task object ticks Place = CanPlace k task
+CanGoOn k task object ticks Unlock = IsInCall k task
+CanGoOn k task object ticks Leave = CanLeave k task
+
+-- The running task can do what its op is to do next.
+abbrev pub CanOp : Kernel → ℕ → Op → Type 0
+CanOp k task (Await object access ticks) = CanGoOn k task object ticks (progress_in k.progress task).call.phase
+CanOp k task op = Can k task op
+
 -- The running task can do its op, and idle can let a tick pass.
 pub record CanAct (app : Application) (k : Kernel) : Type 0 where
-  pub tick : CanTick k
-  pub op : (task : TaskId) (op : Op) → k.sched.current ≡ Some task → op_at app task (progress_in k.progress task).op_index ≡ Some op → Can k task op
+  pub tick : k.sched.current ≡ None → CanTick k
+  pub op : (task : TaskId) (op : Op) → k.sched.current ≡ Some task → op_at app task (progress_in k.progress task).op_index ≡ Some op → CanOp k task op
 
 -- The kernel stands for the state of the run after some steps, and the run goes on under some limits.
 pub record CanStep (app : Application) (k : Kernel) : Type 0 where
   pub steps : ℕ
-  pub stands : StandsFor k (state_after app steps)
+  pub stands : Stands k (state_after app steps)
   pub limits : Limits
   pub tick_limit : limits.ticks ≤ 1000000
   pub step_limit : limits.steps ≤ 1000000
@@ -68,7 +128,7 @@ pub record CanStep (app : Application) (k : Kernel) : Type 0 where
 -- A run of which so many steps are done is under way: the kernel stands for the state after them, and none of them came
 -- after the end.
 pub record IsUnderWay (app : Application) (limits : Limits) (k : Kernel) : Type 0 where
-  pub stands : StandsFor k (state_after app k.steps)
+  pub stands : Stands k (state_after app k.steps)
   pub goes_on : (n : ℕ) → n < k.steps → end_of limits (state_after app n) ≡ None
 
 -- These tasks can become Ready: none is so already, and none comes twice.

@@ -1,16 +1,19 @@
 //! The kernel's state, and the parts of which each step is made.
-ghost use Rattle.std.specs.Prelude.{◌≡◌, ◌<◌, ◌+◌, ◌++◌, ◌∷◌, [], length};
-ghost use Rattle.model.specs.State.{State, no_call, printed};
-ghost use Rattle.sched.specs.StandsFor.{StandsFor as ScheduleStandsFor};
-ghost use Rattle.clock.specs.StandsFor.{StandsFor as ClockStandsFor};
+ghost use Rattle.std.specs.Prelude.{◌≡◌, ℕ, ◌<◌, ◌+◌, ◌++◌, ◌∷◌, [], Some, None, length};
+ghost use Rattle.model.specs.declared.call.WaitList as definitions;
+ghost use Rattle.model.specs.State.{State, call_at, no_call, printed};
+ghost use Rattle.sched.specs.StandsFor.{StandsFor as ScheduleStandsFor, StandsBefore as ScheduleStandsBefore};
+ghost use Rattle.clock.specs.StandsFor.{StandsFor as ClockStandsFor, StandsBefore as ClockStandsBefore};
+ghost use Rattle.objects.specs.Queues.{StandsFor as QueuesStandFor};
 ghost use Rattle.model.specs.Switching.{write};
 ghost use Rattle.kernel.specs.Loops.{after_turn, next_turn};
-ghost use Rattle.kernel.specs.StandsFor.{StandsFor, Does, progress_in, with_progress};
+ghost use Rattle.kernel.specs.StandsFor.{StandsFor, StandsBefore, Does, decider, progress_in, with_progress};
 
 use crate::log::Log;
 use crate::progress::Progress;
 use clock::Clock;
-use model::{End, Event, Loop, TaskId, What};
+use model::{CallProgress, End, Event, Loop, TaskId, What};
+use objects::Queues;
 use sched::Sched;
 
 /// A kernel between two steps: FreeRTOS's scheduler and its tick, over tasks that follow scripts (profile).
@@ -19,23 +22,41 @@ pub struct Kernel {
     pub(crate) progress: [Progress; 32],
     pub(crate) sched: Sched,
     pub(crate) clock: Clock,
+    pub(crate) queues: Queues,
     pub(crate) steps: u32,
     pub(crate) stopped: Option<End>,
 }
 
 impl Kernel {
-    /// The scheduler, as it stands for each state that the kernel stands for.
+    /// The scheduler, as it stands for each state that the kernel stands for. A task that is still to be placed is among
+    /// its Ready tasks.
     pub fn sched(&self) -> &Sched
-        ensures { (s : State) → StandsFor self.now s → ScheduleStandsFor result.now s }
+        ensures stands { (s : State) → StandsFor self.now s → ScheduleStandsFor result.now s }
+        ensures before { (task : ℕ) (list : definitions.WaitList) (s : State)
+            → StandsBefore task list self.now s → ScheduleStandsBefore task result.now s }
     {
         &self.sched
     }
 
-    /// The clock, as it stands for each state that the kernel stands for.
+    /// The clock, as it stands for each state that the kernel stands for. A task that is still to be placed does not sleep.
     pub fn clock(&self) -> &Clock
-        ensures { (s : State) → StandsFor self.now s → ClockStandsFor result.now s }
+        ensures stands { (s : State) → StandsFor self.now s → ClockStandsFor result.now s }
+        ensures before { (task : ℕ) (list : definitions.WaitList) (s : State)
+            → StandsBefore task list self.now s
+            → ClockStandsBefore task (call_at s task).deadline result.now s }
     {
         &self.clock
+    }
+
+    /// The queues, as they stand for each state that the kernel stands for. A task that is still to be placed is in no
+    /// waiting list.
+    pub fn queues(&self) -> &Queues
+        ensures stands { (s : State) → StandsFor self.now s → QueuesStandFor result.now None s }
+        ensures before { (task : ℕ) (list : definitions.WaitList) (s : State)
+            → StandsBefore task list self.now s
+            → QueuesStandFor result.now (Some (decider task list s)) s }
+    {
+        &self.queues
     }
 
     /// Where a task is in its script.
@@ -68,6 +89,15 @@ impl Kernel {
         let progress = &mut self.progress[task.number as usize];
         progress.op_index = op_index;
         progress.used = 0;
+        progress.call = CallProgress::default();
+    }
+
+    /// A task's call has come so far.
+    pub(crate) fn set_call(&mut self, task: TaskId, call: CallProgress)
+        ensures { self.new ≡ with_progress task (record (progress_in self.old.progress task) { call = call }) self.old }
+    {
+        let progress = &mut self.progress[task.number as usize];
+        progress.call = call;
     }
 
     /// So much is used up of a task's `work`.

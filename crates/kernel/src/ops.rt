@@ -6,13 +6,15 @@ ghost use Rattle.std.specs.Prelude.{◌≡◌, ◌≤◌, ◌+◌, Some};
 ghost use Rattle.model.specs.State.{progress_at};
 ghost use Rattle.model.specs.Ops.{go_to, complete, called, answer};
 ghost use Rattle.model.specs.Step.{act};
-ghost use Rattle.kernel.specs.StandsFor.{Does, Moves};
-ghost use Rattle.kernel.specs.Can.{Runs, Can};
+ghost use Rattle.kernel.specs.StandsFor.{Does, DoesAny, Moves};
+ghost use Rattle.kernel.specs.Can.{Runs, CanOp};
 
 use crate::kernel::Kernel;
 use crate::log::Log;
 use model::{App, Op, TaskId, What};
 
+mod calls;
+mod queues;
 mod script;
 mod time;
 
@@ -33,6 +35,7 @@ impl Kernel {
         ensures does { Moves self.old self.new
             (λ s. go_to app.now task op_index (progress_at s task) s) }
         ensures clock { self.new.clock ≡ self.old.clock }
+        ensures queues { self.new.queues ≡ self.old.queues }
     {
         self.set_op_index(task, op_index);
         if op_index as usize == app.op_count(task) {
@@ -46,6 +49,7 @@ impl Kernel {
         ensures does { Moves self.old self.new
             (λ s. complete app.now task (progress_at s task) s) }
         ensures clock { self.new.clock ≡ self.old.clock }
+        ensures queues { self.new.queues ≡ self.old.queues }
     {
         let next = self.progress(task).op_index + 1;
         self.go_to(app, task, next);
@@ -58,6 +62,7 @@ impl Kernel {
         ensures does { Does 1 self.old (L.logged log.old) self.new (L.logged log.new)
             (answer app.now task given) }
         ensures clock { self.new.clock ≡ self.old.clock }
+        ensures queues { self.new.queues ≡ self.old.queues }
     {
         let op_index = self.progress(task).op_index;
         self.write(log, called(task, op_index, given));
@@ -68,8 +73,8 @@ impl Kernel {
     /// What the running task's op does.
     pub(crate) fn act<L: Log>(&mut self, app: &App, task: TaskId, op: Op, log: &mut L)
         requires room { 2 ≤ (L.logged log.old).room }
-        requires can { Can self.old task op }
-        ensures { Does 2 self.old (L.logged log.old) self.new (L.logged log.new) (act app.now task op) }
+        requires can { CanOp self.old task op }
+        ensures { DoesAny 2 self.old (L.logged log.old) self.new (L.logged log.new) (act app.now task op) }
     {
         match op {
             Op::Work(ticks) => self.work(app, task, ticks, log),
@@ -81,8 +86,12 @@ impl Kernel {
             Op::Expect(wanted) => self.expect(app, task, wanted),
             Op::Repeat(turns) => self.open_loop(app, task, turns),
             Op::End => self.close_turn(app, task),
-            // no application has objects yet
-            Op::Await(..) | Op::Do(..) | Op::MessagesWaiting(_) | Op::SpacesAvailable(_) => {}
+            Op::Await(object, access, ticks) => {
+                self.go_on_waiting(app, task, object, access, ticks, log)
+            }
+            Op::Do(object, access) => self.do_now(app, task, object, access, log),
+            Op::MessagesWaiting(object) => self.messages_waiting(app, task, object, log),
+            Op::SpacesAvailable(object) => self.spaces_available(app, task, object, log),
         }
     }
 }

@@ -1,5 +1,6 @@
 //! Where a task is in its script.
 use crate::loops::Loops;
+use model::CallProgress;
 use std::marker::Model;
 
 /// Where a task is in its script, and what it keeps there.
@@ -14,16 +15,17 @@ pub(crate) struct Progress {
     pub(crate) answer: Option<u32>,
     /// The time from which `delay_until` counts, in ticks without bound.
     pub(crate) previous_wake: u64,
+    /// How far the call of this op has come, if it is one that may wait.
+    pub(crate) call: CallProgress,
 }
 
-// Clauses see the definitions' progress, in which no call has begun: none waits yet.
+// Clauses see the definitions' progress.
 impl Model for Progress {
     ghost use Rattle.model.specs.State as state;
-    ghost use Rattle.model.specs.State.{no_call};
 
     ghost Value = { state.Progress };
 
-    ghost view = { λ p. record { op_index = p.op_index; used = p.used; loops = p.loops; answer = p.answer; previous_wake = p.previous_wake; call = no_call } };
+    ghost view = { λ p. record { op_index = p.op_index; used = p.used; loops = p.loops; answer = p.answer; previous_wake = p.previous_wake; call = p.call } };
 }
 
 impl Progress {
@@ -40,6 +42,7 @@ impl Progress {
             loops: Loops::new(),
             answer: None,
             previous_wake: start,
+            call: CallProgress::default(),
         }
     }
 }

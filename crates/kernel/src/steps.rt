@@ -5,7 +5,7 @@ ghost use Rattle.model.specs.Step.{act_current, step, reset};
 ghost use Rattle.model.specs.Run as definition;
 ghost use Rattle.model.specs.Run.{end_of, IsRun, state_after, events_after, are_all_ended, is_stuck};
 ghost use Rattle.kernel.specs.Logged.{all_of};
-ghost use Rattle.kernel.specs.StandsFor.{StandsFor, Does};
+ghost use Rattle.kernel.specs.StandsFor.{Stands, DoesAny};
 ghost use Rattle.kernel.specs.Can.{CanAct, CanStep, IsUnderWay};
 
 use crate::kernel::Kernel;
@@ -19,7 +19,7 @@ impl Kernel {
     fn act_current<L: Log>(&mut self, app: &App, log: &mut L)
         requires room { 2 ≤ (L.logged log.old).room }
         requires can { CanAct app.now self.old }
-        ensures { Does 2 self.old (L.logged log.old) self.new (L.logged log.new)
+        ensures { DoesAny 2 self.old (L.logged log.old) self.new (L.logged log.new)
             (λ s. act_current app.now s.current s) }
     {
         let Some(task) = self.sched.current() else {
@@ -38,14 +38,13 @@ impl Kernel {
         requires meter { meter.old < 2 ^ 63 }
         requires begun { (L.logged log.old).told ≡ [] }
         requires room { 128 ≤ (L.logged log.old).room }
-        ensures stands { (s : State) → StandsFor self.old s → StandsFor self.new (step app.now s) }
-        ensures told { (s : State) → StandsFor self.old s
+        ensures stands { (s : State) → Stands self.old s → Stands self.new (step app.now s) }
+        ensures told { (s : State) → Stands self.old s
             → (L.logged log.new).told ≡ (step app.now s).log }
         ensures before { (L.logged log.new).before ≡ (L.logged log.old).before }
         ensures meter { meter.new ≡ meter.old + 1 }
     {
         app.well_formed();
-        app.without_objects();
         let steps = self.steps;
         self.act_current(app, log);
         self.settle(log);
@@ -62,8 +61,8 @@ impl Kernel {
         requires handlers { handlers.now ≡ [] }
         requires going { CanStep app.now self.old }
         requires meter { meter.old < 2 ^ 63 }
-        ensures stands { (s : State) → StandsFor self.old s → StandsFor self.new (step app.now s) }
-        ensures log { (s : State) → StandsFor self.old s
+        ensures stands { (s : State) → Stands self.old s → Stands self.new (step app.now s) }
+        ensures log { (s : State) → Stands self.old s
             → log.new.items ≡ (step app.now s).log }
         ensures meter { meter.new ≡ meter.old + 1 }
     {
@@ -72,26 +71,29 @@ impl Kernel {
         self.step_onto(app, meter, log);
     }
 
-    /// Whether every task is Ended, or they are stuck: nobody sleeps, and nobody is Ready or idle runs.
-    fn is_still(&self) -> bool
-        ensures { (s : State) → StandsFor self.now s → result ≡ are_all_ended s || is_stuck s }
+    /// Whether every task is Ended: nobody is Ready, sleeps or waits.
+    fn are_all_ended(&self) -> bool
+        ensures { (s : State) → Stands self.now s → result ≡ are_all_ended s }
     {
-        if self.sched.current().is_some() && self.sched.has_ready() {
-            return false;
-        }
-        self.clock.is_quiet()
+        !self.sched.has_ready() && self.clock.is_quiet() && !self.queues.has_waiter()
+    }
+
+    /// Whether idle runs, and no task will wake by itself.
+    fn is_stuck(&self) -> bool
+        ensures { (s : State) → Stands self.now s → result ≡ is_stuck s }
+    {
+        self.sched.current().is_none() && self.clock.is_quiet()
     }
 
     /// The end of the run before its next step, under these limits: the first that holds of a failed `expect`, every task
     /// Ended, the ticks, the steps, stuck (profile). `None` where the run goes on.
     pub fn ended(&self, _app: &App, limits: &Limits) -> Option<End>
-        ensures { (s : State) → StandsFor self.now s → result ≡ end_of limits.now s }
+        ensures { (s : State) → Stands self.now s → result ≡ end_of limits.now s }
     {
         if self.stopped.is_some() {
             return self.stopped;
         }
-        let is_still = self.is_still();
-        if is_still && !self.sched.has_ready() {
+        if self.are_all_ended() {
             return Some(End::Pass);
         }
         if limits.ticks as u64 <= self.clock.age() {
@@ -100,7 +102,7 @@ impl Kernel {
         if limits.steps <= self.steps {
             return Some(End::Steps);
         }
-        if is_still {
+        if self.is_stuck() {
             return Some(End::Stuck);
         }
         None
@@ -120,12 +122,12 @@ fn step_in_little_room(
     requires going { CanStep app.now kernel.old }
     requires meter { meter.old < 2 ^ 63 }
     requires begun { trail.old.told ≡ [] }
-    ensures stands { (s : State) → StandsFor kernel.old s → StandsFor kernel.new (step app.now s) }
-    ensures told { OnOk result ((s : State) → StandsFor kernel.old s
+    ensures stands { (s : State) → Stands kernel.old s → Stands kernel.new (step app.now s) }
+    ensures told { OnOk result ((s : State) → Stands kernel.old s
         → trail.new.told ≡ (step app.now s).log) }
     ensures before { trail.new.before ≡ trail.old.before }
     ensures meter { meter.new ≡ meter.old + 1 }
-    ensures memory { OnErr result ((s : State) → StandsFor kernel.old s
+    ensures memory { OnErr result ((s : State) → Stands kernel.old s
         → 0 < length (step app.now s).log) }
 {
     let mut log = StepLog::new();
@@ -143,11 +145,11 @@ fn step_along(
 ) -> Result<(), Memory>
     requires going { CanStep app.now kernel.old }
     requires meter { meter.old < 2 ^ 63 }
-    ensures stands { (s : State) → StandsFor kernel.old s → StandsFor kernel.new (step app.now s) }
-    ensures told { OnOk result ((s : State) → StandsFor kernel.old s
+    ensures stands { (s : State) → Stands kernel.old s → Stands kernel.new (step app.now s) }
+    ensures told { OnOk result ((s : State) → Stands kernel.old s
         → all_of trail.new ≡ all_of trail.old ++ (step app.now s).log) }
     ensures meter { meter.new ≡ meter.old + 1 }
-    ensures memory { OnErr result ((s : State) → StandsFor kernel.old s
+    ensures memory { OnErr result ((s : State) → Stands kernel.old s
         → 0 < length (step app.now s).log) }
 {
     if trail.begin().is_err() {
@@ -165,7 +167,7 @@ fn finish(
     meter: &mut Meter,
     trail: &mut Trail,
 ) -> Result<End, Memory>
-    requires stands { StandsFor kernel.old (reset app.now) }
+    requires stands { Stands kernel.old (reset app.now) }
     requires meter { meter.old < 2 ^ 62 }
     ensures way { IsUnderWay app.now limits.now kernel.new }
     ensures events { OnOk result

@@ -1,28 +1,55 @@
 //! Who runs: each way in which the processor changes.
-ghost use Rattle.std.specs.Prelude.{◌≡◌, ◌<◌, ◌≤◌, ◌+◌, ◌++◌, length};
+ghost use Rattle.std.specs.Prelude.{◌≡◌, ℕ, ◌<◌, ◌≤◌, ◌+◌, ◌++◌, List, None, length};
 ghost use Rattle.std.specs.List.{AllByRecursion};
 ghost use Rattle.model.specs.State.{State, for_each};
-ghost use Rattle.model.specs.Switching.{choose, is_ready, slice, settle, unless_held, yield_now, make_ready};
+ghost use Rattle.model.specs.Switching.{choose, is_held, is_ready, preempt, slice, settle, unless_held, yield_now, make_ready};
 ghost use Rattle.model.specs.Time.{increment_tick, tick_interrupt};
 ghost use Rattle.sched.specs.StandsFor.{StandsFor as ScheduleStandsFor};
 ghost use Rattle.sched.specs.Schedule as schedule;
-ghost use Rattle.kernel.specs.StandsFor.{StandsFor, Does, Moves, change};
+ghost use Rattle.clock.specs.StandsFor.{StandsFor as ClockStandsFor};
+ghost use Rattle.objects.specs.Queues.{StandsFor as QueuesStandFor};
+ghost use Rattle.kernel.specs.StandsFor.{StandsFor, Does, DoesAny, Moves, change};
 ghost use Rattle.kernel.specs.Can.{CanTick, AreToWake};
 
 use crate::kernel::Kernel;
 use crate::log::Log;
+use clock::Clock;
 use model::{TaskId, What};
+use objects::Queues;
 use sched::Sched;
 
-/// Each of these tasks becomes Ready, one after the other.
-fn make_all_ready(sched: &mut Sched, tasks: &[TaskId])
+/// Each of these tasks wakes at its time: it becomes Ready, one after the other, and no longer waits, if it did.
+fn make_all_ready(sched: &mut Sched, queues: &mut Queues, tasks: &[TaskId])
+    requires free { AreToWake sched.old tasks.now }
+    requires unlocked { queues.old.lock ≡ None }
+    ensures ready { (s : State) → ScheduleStandsFor sched.old s
+        → AllByRecursion (λ i. i < length s.tasks) tasks.now
+        → ScheduleStandsFor sched.new (for_each make_ready tasks.now s) }
+    ensures left { (s : State) → QueuesStandFor queues.old None s
+        → AllByRecursion (λ i. i < length s.tasks) tasks.now
+        → QueuesStandFor queues.new None (for_each make_ready tasks.now s) }
+    ensures current { sched.new.current ≡ sched.old.current }
+{
+    for task in tasks {
+        queues.drop_waiter(*task);
+        sched.make_ready(*task);
+    }
+}
+
+/// Each of these tasks, which stand in no waiting list any more, is woken before its time: it becomes Ready, one after the
+/// other, and no longer sleeps, if it has a deadline.
+pub(crate) fn wake_all(sched: &mut Sched, clock: &mut Clock, tasks: &[TaskId])
     requires { AreToWake sched.old tasks.now }
     ensures ready { (s : State) → ScheduleStandsFor sched.old s
         → AllByRecursion (λ i. i < length s.tasks) tasks.now
         → ScheduleStandsFor sched.new (for_each make_ready tasks.now s) }
-    ensures current { sched.new.current ≡ sched.old.current }
+    ensures woken { (s : State) → ClockStandsFor clock.old s
+        → AllByRecursion (λ i. i < length s.tasks) tasks.now
+        → ClockStandsFor clock.new (for_each make_ready tasks.now s) }
+    ensures rest { (more : List ℕ) → AreToWake sched.old (tasks.now ++ more) → AreToWake sched.new more }
 {
     for task in tasks {
+        clock.wake(*task);
         sched.make_ready(*task);
     }
 }
@@ -50,8 +77,15 @@ impl Kernel {
         self.sched.is_ready(task)
     }
 
+    /// Whether the scheduler is held.
+    fn is_held(&self) -> bool
+        ensures held { (s : State) → StandsFor self.now s → result ≡ is_held s }
+    {
+        self.sched.depth() > 0
+    }
+
     /// The choice runs.
-    fn choose<L: Log>(&mut self, log: &mut L)
+    pub(crate) fn choose<L: Log>(&mut self, log: &mut L)
         requires { 0 < (L.logged log.old).room }
         ensures { Does 1 self.old (L.logged log.old) self.new (L.logged log.new) choose }
     {
@@ -80,19 +114,30 @@ impl Kernel {
         self.write_change(before, log);
     }
 
+    /// A task above the running one runs, if there is one.
+    pub(crate) fn preempt<L: Log>(&mut self, log: &mut L)
+        requires { 0 < (L.logged log.old).room }
+        ensures { Does 1 self.old (L.logged log.old) self.new (L.logged log.new) preempt }
+    {
+        let before = self.sched.current();
+        self.sched.preempt();
+        self.write_change(before, log);
+    }
+
     /// The end of a step: where the running task isn't Ready any more, the choice runs, unless the scheduler is held.
     pub(crate) fn settle<L: Log>(&mut self, log: &mut L)
         requires { 0 < (L.logged log.old).room }
-        ensures { Does 1 self.old (L.logged log.old) self.new (L.logged log.new)
+        ensures { DoesAny 1 self.old (L.logged log.old) self.new (L.logged log.new)
             (unless_held settle) }
     {
-        if self.sched.depth() > 0 {
+        let Some(task) = self.sched.current() else {
+            return;
+        };
+        if self.is_ready(task) {
             return;
         }
-        if let Some(task) = self.sched.current() {
-            if !self.is_ready(task) {
-                self.choose(log);
-            }
+        if !self.is_held() {
+            self.choose(log);
         }
     }
 
@@ -116,7 +161,7 @@ impl Kernel {
     {
         let mut due = clock::Due::new();
         self.clock.advance_into(&mut due);
-        make_all_ready(&mut self.sched, due.as_slice());
+        make_all_ready(&mut self.sched, &mut self.queues, due.as_slice());
     }
 
     /// The tick interrupt: one tick, and then a switch if one is due.

@@ -198,7 +198,7 @@ module _ (app : Application) (formed : IsWellFormed app) where
 
 -- ---- reset
 
-none_taken : (start : ℕ) (ds : List Definition) → AllTicketsBelow 0 (map (task_at_reset start) ds)
+pub none_taken : (start : ℕ) (ds : List Definition) → AllTicketsBelow 0 (map (task_at_reset start) ds)
 none_taken start [] = tt
 none_taken start (d ∷ ds) = (tt, none_taken start ds)
 
@@ -207,7 +207,7 @@ progress-reset start i [] h = record { nests = refl; loops = tt; used = tt; reck
 progress-reset start zero (d ∷ ds) h = record { nests = h.0.script.nests; loops = tt; used = used_none 0 d.script h.0.script.ranges; reckoned = tt }
 progress-reset start (suc i) (d ∷ ds) h = progress-reset start i ds h.1
 
-call-reset : (start i : ℕ) (ds : List Definition) → ((get_or (map (task_at_reset start) ds) i no_task).progress.call ≡ no_call) × (wait_of (get_or (map (task_at_reset start) ds) i no_task).status ≡ None)
+pub call-reset : (start i : ℕ) (ds : List Definition) → ((get_or (map (task_at_reset start) ds) i no_task).progress.call ≡ no_call) × (wait_of (get_or (map (task_at_reset start) ds) i no_task).status ≡ None)
 call-reset start i [] = (refl, refl)
 call-reset start zero (d ∷ ds) = (refl, refl)
 call-reset start (suc i) (d ∷ ds) = call-reset start i ds

@@ -1,11 +1,12 @@
 //! An application: its tasks, its limits, the time at reset.
-ghost use Rattle.std.specs.Prelude.{◌≡◌, ◌<◌, ◌≤◌, [], length, string_bytes};
+ghost use Rattle.std.specs.Prelude.{◌≡◌, ◌<◌, ◌≤◌, length, string_bytes};
 ghost use Rattle.std.specs.List.{AllByRecursion};
 ghost use Rattle.model.specs.Application.{op_at, op_count, name_of};
-ghost use Rattle.model.specs.Scripts.{IsScript, IsDefinition, IsWellFormed, KnowsAll};
+ghost use Rattle.model.specs.Scripts.{IsObjectKind, IsScript, IsDefinition, IsWellFormed, KnowsAll, most_objects};
 
 use crate::ids::TaskId;
 use crate::limits::Limits;
+use crate::object::ObjectKind;
 use crate::op::Op;
 use crate::script::Script;
 use std::marker::Model;
@@ -65,39 +66,62 @@ impl TaskDefinition {
     }
 }
 
-/// An application: what a run starts from. That it has 1 to 32 tasks is profile. It has no objects yet.
+/// An application: what a run starts from. That it has 1 to 32 tasks and at most 32 objects is profile.
 #[derive(Drop)]
 pub struct App {
     start: u32,
     limits: Limits,
+    objects: Vec<ObjectKind>,
     tasks: Vec<TaskDefinition>,
 }
 
 impl Model for App {
-    ghost use Rattle.std.specs.Prelude.{[]};
     ghost use Rattle.model.specs.Application.{Application};
     ghost use Rattle.model.specs.Scripts.{IsWellFormed};
 
     ghost Value = { Application };
 
-    ghost view = { λ a. record { start = a.start; limits = a.limits; objects = []; tasks = a.tasks.items } };
+    ghost view = { λ a. record {
+      start = a.start;
+      limits = a.limits;
+      objects = a.objects.items;
+      tasks = a.tasks.items;
+    } };
 
-    ghost invariant = { λ a. IsWellFormed (record { start = a.start; limits = a.limits; objects = []; tasks = a.tasks.items }) };
+    ghost invariant = { λ a. IsWellFormed (record {
+      start = a.start;
+      limits = a.limits;
+      objects = a.objects.items;
+      tasks = a.tasks.items;
+    }) };
 }
 
 impl App {
-    /// An application of these tasks, 1 to 32 of them, whose time at reset is `start`.
-    pub fn new(start: u32, limits: Limits, tasks: Vec<TaskDefinition>) -> Self
+    /// The most objects, of all kinds together (profile).
+    pub const MOST_OBJECTS: usize = 32;
+
+    /// An application of these objects, 32 at most, and these tasks, 1 to 32 of them, whose time at reset is `start`. Each
+    /// op speaks of objects that are there and allow it.
+    pub fn new(
+        start: u32,
+        limits: Limits,
+        objects: Vec<ObjectKind>,
+        tasks: Vec<TaskDefinition>,
+    ) -> Self
+        requires kinds { AllByRecursion IsObjectKind objects.items }
+        requires few_objects { length objects.items ≤ most_objects }
         requires some { 1 ≤ length tasks.items }
         requires few { length tasks.items ≤ 32 }
         requires formed { AllByRecursion IsDefinition tasks.items }
-        requires known { AllByRecursion (KnowsAll (record { start = start; limits = limits; objects = []; tasks = tasks.items }))
+        requires known { AllByRecursion
+            (KnowsAll (record { start = start; limits = limits; objects = objects.items; tasks = tasks.items }))
             tasks.items }
-        ensures { result ≡ record { start = start; limits = limits; objects = []; tasks = tasks.items } }
+        ensures { result ≡ record { start = start; limits = limits; objects = objects.items; tasks = tasks.items } }
     {
         App {
             start,
             limits,
+            objects,
             tasks,
         }
     }
@@ -105,13 +129,6 @@ impl App {
     /// Does nothing: its contract tells callers what holds of every application.
     pub fn well_formed(&self)
         ensures { IsWellFormed self.now }
-    {
-        let _ = &self.start;
-    }
-
-    /// Does nothing: its contract tells callers that no application has objects yet.
-    pub fn without_objects(&self)
-        ensures { self.now.objects ≡ [] }
     {
         let _ = &self.start;
     }
@@ -128,6 +145,13 @@ impl App {
         ensures { result ≡ self.now.limits }
     {
         self.limits
+    }
+
+    /// The objects, in the order of the file.
+    pub fn objects(&self) -> &[ObjectKind]
+        ensures { result.now ≡ self.now.objects }
+    {
+        self.objects.as_slice()
     }
 
     /// The tasks, in the order of the file.

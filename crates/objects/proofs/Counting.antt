@@ -25,7 +25,7 @@ places f i (t ∷ ts) =
     let later = All-weaker (λ e. i + 1 ≤ e.task) (λ e. i ≤ e.task) (λ e le. omega arith) (keyed f (i + 1) ts) (places f (i + 1) ts) in
     elim (f t) as (λ o. AllByRecursion (λ e. i ≤ e.task) (cons_option (option_map (entry i) o) (keyed f (i + 1) ts))) [ None ↦ later | Some n ↦ (omega arith, later) ]
 
-abbrev Distinct : List Entry → Type 0
+abbrev pub Distinct : List Entry → Type 0
 Distinct [] = Unit {0}
 Distinct (x ∷ xs) = AllByRecursion (λ e. e.task ≡ x.task → ⊥) xs × Distinct xs
 
@@ -35,7 +35,7 @@ Distinct-put e (f ∷ fs) h d = by_test (before e.key f.key)
     (λ t. rw t (h, d))
     (λ t. rw t (All-put (λ x. x.task ≡ f.task → ⊥) e fs (λ s. h.0 (sym s)) d.0, Distinct-put e fs h.1 d.1))
 
-distinct_from : (f : Task → Option Key) (o : ℕ) (ts : List Task) → Distinct (in_order (keyed f o ts))
+pub distinct_from : (f : Task → Option Key) (o : ℕ) (ts : List Task) → Distinct (in_order (keyed f o ts))
 distinct_from f o [] = tt
 distinct_from f o (t ∷ ts) =
     let xs = in_order (keyed f (o + 1) ts) in
@@ -54,7 +54,7 @@ length-list f ts = omega (arith, length-in_order (keyed f 0 ts), length-keyed f 
 
 -- the first of a list are Awake
 
-awake_agree : (old new : State) (k : ℕ) (es : List Entry) → AllByRecursion (λ e. is_awake new e.task ≡ is_awake old e.task) es → FirstAwake old k es → FirstAwake new k es
+pub awake_agree : (old new : State) (k : ℕ) (es : List Entry) → AllByRecursion (λ e. is_awake new e.task ≡ is_awake old e.task) es → FirstAwake old k es → FirstAwake new k es
 awake_agree old new k [] a h = tt
 awake_agree old new zero (e ∷ es) a h = (a.0 ∙ h.0, awake_agree old new zero es a.1 h.1)
 awake_agree old new (suc k) (e ∷ es) a h = (a.0 ∙ h.0, awake_agree old new k es a.1 h.1)

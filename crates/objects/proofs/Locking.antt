@@ -8,6 +8,8 @@ use Rattle.model.specs.State.{State, Object, status_at, wait_if_awake, for_each,
 use Rattle.model.specs.Order.{Entry, first, task_of, tasks_of}
 use Rattle.model.specs.Switching.{make_ready}
 use Rattle.model.specs.Waiting.{awakened, is_locked, unlock, unlock_object, waiters, wake_best, wake_one}
+use Rattle.model.specs.Invariant.{Hold}
+use Rattle.model.proofs.Frames.{keeps-all_ready}
 use Rattle.model.proofs.Sorting.{by_test}
 use Rattle.model.proofs.Lists.{eqb-same}
 use Rattle.objects.specs.declared.lock.Lock.{Lock}
@@ -41,13 +43,9 @@ standing_locked v d s l h e =
 
 -- it is unlocked
 
-objects-all_ready : (js : List ℕ) (s : State) → (for_each make_ready js s).objects ≡ s.objects
+pub objects-all_ready : (js : List ℕ) (s : State) → (for_each make_ready js s).objects ≡ s.objects
 objects-all_ready [] s = refl
 objects-all_ready (j ∷ js) s = objects-all_ready js (make_ready j s)
-
-locked-all_ready : (js : List ℕ) (s : State) → (for_each make_ready js s).locked ≡ s.locked
-locked-all_ready [] s = refl
-locked-all_ready (j ∷ js) s = locked-all_ready js (make_ready j s)
 
 pub stands_unlocked_none : (v : Exchange) (s : State) → StandsFor v None s → v.lock ≡ None → StandsFor v None (unlock s)
 unfolding unlock
@@ -62,7 +60,7 @@ stands_unlocked v w s l h e stand =
     let one : StandsFor (record { objects = v.objects; waiting = w; lock = None }) None (unlock_object l.object s) = record {
       objects = λ k. h.objects k ∙ sym (ap (λ (os : List Object). object_in os k) (objects-all_ready js (opened s)));
       waiters = own;
-      locked = sym (locked-all_ready js (opened s));
+      locked = sym (ap (λ (hold : Hold). hold.locked) (keeps-all_ready js (opened s)).hold);
       counts = tt;
     } in
     subst (λ (x : Option ℕ). StandsFor (record { objects = v.objects; waiting = w; lock = None }) None (for_one unlock_object x s)) is one

@@ -19,9 +19,9 @@ use Rattle.objects.proofs.Keys.{other_number, same_list-refl, same_list-true}
 use Rattle.objects.proofs.Standing.{stands_kept, standing-joined, standing-left}
 
 -- It begins to wait: the lists stay.
-module _ (v : List (List (ℕ × ℕ))) (i : ℕ) (sound : IsSound 64 32 v) (free : place_of v i ≡ None) where
+module _ (v : List (List (ℕ × ℕ))) (i : ℕ) (absent : (list : WaitList) → Apart (Some i) (waiting_in v list)) where
   without_free : (list : WaitList) → without i (waiting_in v list) ≡ waiting_in v list
-  without_free list = without-apart i (waiting_in v list) (apart_from_test i (waiting_in v list) (has_node-None sound i (number_of list) free))
+  without_free list = without-apart i (waiting_in v list) (absent list)
 
   takes : (s : State) (q : WaitList) (p : ℕ) (deadline : Option ℕ) → WaitersStand v None s → i < length s.tasks
       → WaitersStand v (Some (record { task = i; list = q; priority = p })) (take_ticket i (λ ticket. Waiting (record { list = q; priority = p; ticket = ticket; deadline = deadline })) s)
@@ -74,7 +74,8 @@ pub stands_begun : (v : List (List (ℕ × ℕ))) (s : State) (q : WaitList) (p 
     → WaitersStand (set v (number_of q) (insert_by_priority (i, p) (waiting_in v q))) None (wait_in i q s)
 stands_begun v s q p i sound free known h l priority =
     stands_placed v (wait_in i q s) q p i sound.as_many known
-    (subst (λ (k : ℕ). WaitersStand v (Some (record { task = i; list = q; priority = k })) (wait_in i q s)) priority (stands_decided v i sound free s q h l))
+    (subst (λ (k : ℕ). WaitersStand v (Some (record { task = i; list = q; priority = k })) (wait_in i q s)) priority
+    (stands_decided v i (λ list. apart_from_test i (waiting_in v list) (has_node-None sound i (number_of list) free)) s q h l))
 
 -- Meanwhile a task may be woken through another object: it leaves its list.
 

@@ -7,7 +7,7 @@ use Rattle.model.specs.Order.{tasks_of}
 use Rattle.model.specs.Switching.{make_ready}
 use Rattle.model.specs.Waiting.{awakened, unlock, unlock_object}
 use Rattle.objects.specs.WaitingLists.{number_of, tasks_in, waiting_in}
-use Rattle.objects.specs.WaitersStand.{StandLocked, WaitersStand, opened}
+use Rattle.objects.specs.WaitersStand.{AreAwakened, StandLocked, WaitersStand, opened}
 use Rattle.objects.proofs.Parts.{awakened_tasks}
 
 pub each_append : (is js : List ℕ) (s : State) → for_each make_ready (is ++ js) s ≡ for_each make_ready js (for_each make_ready is s)
@@ -28,6 +28,9 @@ module _ (v w : List (List (ℕ × ℕ))) (s : State) (o receivers senders : ℕ
       ∙ ap (λ (ls : List (List (ℕ × ℕ))). take senders (tasks_in (waiting_in ls (ToSend o)))) left
       ∙ ap (λ (es : List (ℕ × ℕ)). take senders (tasks_in es)) (entries_of-set_other v (number_of (ToReceive o)) (number_of (ToSend o)) (drop receivers (waiting_in v (ToReceive o))) (λ e. omega (arith, e)) ∙ h.stand.lists (ToSend o))
       ∙ sym (awakened_tasks s (ToSend o) senders h.to_send)
+
+  pub awakened_are : AreAwakened s o is js
+  awakened_are = (those_to_receive, those_to_send)
 
   -- the tasks that become Ready
   pub unlocks : unlock s ≡ for_each make_ready (is ++ js) (opened s)

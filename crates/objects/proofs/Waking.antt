@@ -35,11 +35,11 @@ unjoined s (Some d) list es a shut = by_test (same_list d.list list)
     (λ t. absurd (let e : is_locked s.locked d.list ≡ is_locked s.locked list = ap (is_locked s.locked) (same_list-true d.list list t) in cc (e, a, shut)))
     (λ t. rw t refl)
 
-apart_priorities : (i : ℕ) (es : List Entry) → AllByRecursion (λ e. e.task ≡ i → ⊥) es → Apart (Some i) (with_priorities es)
+pub apart_priorities : (i : ℕ) (es : List Entry) → AllByRecursion (λ e. e.task ≡ i → ⊥) es → Apart (Some i) (with_priorities es)
 apart_priorities i [] h = tt
 apart_priorities i (e ∷ es) h = ((λ q. h.0 (sym (same_Some i e.task q))), apart_priorities i es h.1)
 
-apart_inserted : (i : ℕ) (e : ℕ × ℕ) (xs : List (ℕ × ℕ)) → Apart (Some i) (insert_by_priority e xs) → (Some i ≢ Some e.0) × Apart (Some i) xs
+pub apart_inserted : (i : ℕ) (e : ℕ × ℕ) (xs : List (ℕ × ℕ)) → Apart (Some i) (insert_by_priority e xs) → (Some i ≢ Some e.0) × Apart (Some i) xs
 apart_inserted i e [] h = (h.0, tt)
 apart_inserted i e (x ∷ xs) h = by_test (nat_lt x.1 e.1)
     (λ t. let k = rw t at h in (k.0, k.1))

@@ -1,8 +1,10 @@
 -- What callers see of the queues, and the states that it stands for.
-use Rattle.std.specs.Prelude.{◌≡◌, ℕ, ◌==◌, if◌then◌else◌, List, Option, Some, None, option_map, option_and_then, IfSome}
+use Rattle.std.specs.Prelude.{◌≡◌, ℕ, ◌==◌, if◌then◌else◌, List, Option, Some, None, map, option_map, option_and_then, slice_index_or, IfSome}
 use Rattle.model.specs.declared.call.WaitList.{WaitList}
 use Rattle.model.specs.declared.call.WaitList.TheVariants.{ToReceive, ToSend}
-use Rattle.model.specs.State.{State, Object, object_at}
+use Rattle.model.specs.Application.{Application}
+use Rattle.model.specs.State.{State, Object, no_object, object_at, wait_of, wait_if_awake, status_at}
+use Rattle.model.specs.Step.{object_at_reset}
 use Rattle.objects.specs.declared.lock.Lock.{Lock}
 use Rattle.objects.specs.Items.{object_in}
 use Rattle.objects.specs.WaitersStand.{Decider, FirstAwake, WaitersStand, one_more, standing}
@@ -35,6 +37,10 @@ abbrev pub Counts : State → Lock → Type 0
 Counts s lock =
     FirstAwake s lock.receivers (standing s (ToReceive lock.object)) × FirstAwake s lock.senders (standing s (ToSend lock.object))
 
+-- No wake was counted since the object was locked, if one is.
+abbrev pub CountsNobody : Exchange → Type 0
+CountsNobody v = IfSome v.lock (λ (l : Lock). (l.receivers ≡ 0) × (l.senders ≡ 0))
+
 -- The objects are the state's, the waiting lists are the tasks that stand there, together with the one who is still to be
 -- placed, if there is one, the same object is locked, and its wakes are counted.
 pub record StandsFor (v : Exchange) (decider : Option Decider) (s : State) : Type 0 where
@@ -42,3 +48,14 @@ pub record StandsFor (v : Exchange) (decider : Option Decider) (s : State) : Typ
   pub waiters : WaitersStand v.waiting decider s
   pub locked : locked_by v.lock ≡ s.locked
   pub counts : IfSome v.lock (Counts s)
+
+-- the size that an object of the application has at reset; 0 where there is none
+abbrev pub size_in : Application → ℕ → ℕ
+size_in app object = (slice_index_or (map object_at_reset app.objects) object no_object).size
+
+-- The objects are the same, the same tasks wait or are Awake, each in the same way, and the same object is locked.
+pub record SameWaits (old new : State) : Type 0 where
+  pub objects : (object : ℕ) → object_at new object ≡ object_at old object
+  pub waits : (task : ℕ) → wait_of (status_at new task) ≡ wait_of (status_at old task)
+  pub awake : (task : ℕ) → wait_if_awake (status_at new task) ≡ wait_if_awake (status_at old task)
+  pub locked : new.locked ≡ old.locked

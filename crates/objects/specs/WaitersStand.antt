@@ -3,8 +3,8 @@ use Rattle.std.specs.Prelude.{◌≡◌, ℕ, zero, suc, ◌+◌, Bool, true, fa
 use Rattle.model.specs.declared.call.WaitList.{WaitList}
 use Rattle.model.specs.declared.call.WaitList.TheVariants.{ToReceive, ToSend}
 use Rattle.model.specs.State.{State, Task, wait_of, wait_if_awake, status_at}
-use Rattle.model.specs.Order.{Entry, list_by}
-use Rattle.model.specs.Waiting.{is_locked, same_list, wait_key}
+use Rattle.model.specs.Order.{Entry, list_by, tasks_of}
+use Rattle.model.specs.Waiting.{awakened, is_locked, same_list, wait_key}
 use Rattle.model.specs.Invariant.{IsTable}
 use Rattle.sched.specs.StandsFor.{with_priorities}
 use Rattle.objects.specs.WaitingLists.{insert_by_priority, waiting_in}
@@ -59,6 +59,12 @@ pub record StandLocked (v : List (List (ℕ × ℕ))) (decider : Option Decider)
   pub locked : s.locked ≡ Some object
   pub to_receive : FirstAwake s receivers (standing s (ToReceive object))
   pub to_send : FirstAwake s senders (standing s (ToSend object))
+
+-- Those who waited to receive from an object until it woke them while it was locked are these, in order, and those who
+-- waited to send are those.
+abbrev pub AreAwakened : State → ℕ → List ℕ → List ℕ → Type 0
+AreAwakened s object receivers senders =
+    (receivers ≡ tasks_of (awakened s (ToReceive object))) × (senders ≡ tasks_of (awakened s (ToSend object)))
 
 -- the state, with nothing locked
 abbrev pub opened : State → State

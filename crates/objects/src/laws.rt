@@ -1,11 +1,17 @@
-//! What leaves the waiting lists as they are. These functions do nothing: their contracts tell.
-ghost use Rattle.std.specs.Prelude.{◌≡◌, ℕ, ◌<◌, List, Option, Some, None, length};
-ghost use Rattle.lists.specs.Lists.{place_of, IsSound};
+//! What leaves the queues as they are. These functions do nothing: their contracts tell.
+ghost use Rattle.std.specs.Prelude.{◌≡◌, ◌||◌, ℕ, ◌<◌, length, List, Bool, true, false, Option, Some, None, IfSome};
+ghost use Rattle.lists.specs.Lists.{place_of};
 ghost use Rattle.model.specs.declared.call.WaitList.{WaitList};
 ghost use Rattle.model.specs.declared.call.WaitList.TheVariants.{ToReceive, ToSend};
-ghost use Rattle.model.specs.State.{State, task_at};
-ghost use Rattle.model.specs.Waiting.{awaken, wait_in, wake_best};
-ghost use Rattle.objects.specs.WaitersStand.{Decider, StandLocked, WaitersStand, one_more};
+ghost use Rattle.model.specs.declared.event.End.{End};
+ghost use Rattle.model.specs.declared.event.Event.{Event};
+ghost use Rattle.model.specs.declared.op.Access.{Access};
+ghost use Rattle.model.specs.State.{Progress, State, status_at, task_at, wait_of, with_progress};
+ghost use Rattle.model.specs.Objects.{list_for, possible};
+ghost use Rattle.model.specs.Calls.{decide};
+ghost use Rattle.model.specs.Waiting.{awaken, is_expired, wait_in, wake_best};
+ghost use Rattle.objects.specs.WaitersStand.{Decider, StandLocked, one_more};
+ghost use Rattle.objects.specs.Queues.{Counts, CountsNobody, Exchange, StandsFor};
 
 /// A wake through the locked object leaves the lists as they are, and is counted.
 pub(crate) fn wakes_count()
@@ -19,14 +25,46 @@ pub(crate) fn wakes_count()
         → StandLocked v decider object receivers (one_more senders) (wake_best (ToSend object) s) }
 {}
 
-/// A task that is in no list and begins to wait leaves the lists as they are until it is placed, and so does whoever is
-/// woken through the locked object.
-pub(crate) fn decides()
-    ensures decided { (v : List (List (ℕ × ℕ))) (task : ℕ) → IsSound 64 32 v → place_of v task ≡ None
-        → (s : State) (list : WaitList) → WaitersStand v None s → task < length s.tasks
-        → WaitersStand v
-        (Some (record { task = task; list = list; priority = (task_at s task).priority }))
+/// A task that begins to wait leaves the queues as they are until it is placed.
+pub fn decides()
+    // Who doesn't wait is in no list, and who is still to be placed is in none yet.
+    ensures free { (v : Exchange) (s : State) (task : ℕ) → StandsFor v None s
+        → wait_of (status_at s task) ≡ None → place_of v.waiting task ≡ None }
+    ensures still_free { (v : Exchange) (s : State) (decider : Decider)
+        → StandsFor v (Some decider) s → place_of v.waiting decider.task ≡ None }
+    // A task that doesn't wait begins to wait before any wake is counted, and is still to be placed then.
+    ensures begins { (v : Exchange) (s : State) (task : ℕ) (list : WaitList) → StandsFor v None s
+        → task < length s.tasks → wait_of (status_at s task) ≡ None → CountsNobody v
+        → StandsFor v (Some (record { task = task; list = list; priority = (task_at s task).priority }))
         (wait_in task list s) }
-    ensures awakened { (v : List (List (ℕ × ℕ))) (decider : Option Decider) (s : State) (task : ℕ)
-        → WaitersStand v decider s → WaitersStand v decider (awaken task s) }
+    // Its object is locked by then: with that, the definition's decision is that it waits,
+    ensures decides { (v : Exchange) (s : State) (task object : ℕ) (access : Access)
+        → StandsFor v None (record s { locked = Some object })
+        → task < length s.tasks → wait_of (status_at s task) ≡ None → CountsNobody v
+        → (possible s object access || is_expired s task) ≡ false → StandsFor v
+        (Some (record { task = task; list = list_for object access; priority = (task_at s task).priority }))
+        (decide task object access s) }
+    // or that it doesn't.
+    ensures declines { (v : Exchange) (s : State) (task object : ℕ) (access : Access)
+        → StandsFor v None (record s { locked = Some object })
+        → (possible s object access || is_expired s task) ≡ true
+        → StandsFor v None (decide task object access s) }
+    // A task goes on with its call, or in its script.
+    ensures stays { (v : Exchange) (decider : Option Decider) (s : State) (task : ℕ) (progress : Progress)
+        → StandsFor v decider s → StandsFor v decider (with_progress task progress s) }
+    // Who is woken through the locked object stays in its list, if only the wake is counted.
+    ensures awakened { (v : Exchange) (decider : Option Decider) (s : State) (task : ℕ)
+        → StandsFor v decider s → IfSome v.lock (Counts (awaken task s))
+        → StandsFor v decider (awaken task s) }
+    // Time, steps and events are nothing to the queues, nor is whether the scheduler is held.
+    ensures unseen { (v : Exchange) (decider : Option Decider) (s : State) (time elapsed steps : ℕ)
+        (held : Bool) (stopped : Option End) (log : List Event) → StandsFor v decider s
+        → StandsFor v decider (record s {
+          time = time;
+          elapsed = elapsed;
+          call_hold = held;
+          steps = steps;
+          stopped = stopped;
+          log = log;
+        }) }
 {}

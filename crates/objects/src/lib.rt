@@ -2,7 +2,7 @@
 #![tactic(auto)]
 
 mod items;
-mod laws;
+pub mod laws;
 mod lock;
 mod queues;
 #[cfg(test)]

@@ -1,18 +1,21 @@
 //! The queues: their items, who waits at them, and which one is locked.
-ghost use Rattle.std.specs.Prelude.{◌≡◌, ℕ, ◌-◌, ◌<◌, ◌≤◌, [], All, length, replicate, slice_index_or, slice_set, map, ◌++◌, ◌↔◌, if◌then◌else◌, true, Some, None, Option, IsSome, IfSome};
+ghost use Rattle.std.specs.Prelude.{◌≡◌, ◌==◌, ◌&&◌, not, ℕ, ◌-◌, ◌<◌, ◌≤◌, [], All, length, replicate, slice_index_or, slice_set, map, ◌++◌, ◌↔◌, if◌then◌else◌, true, Some, None, Option, IsSome, IfSome};
+ghost use Rattle.std.specs.List.{list_any};
 ghost use Rattle.std.specs.Option.{is_some};
 ghost use Rattle.lists.specs.Lists.{place_of, without};
-ghost use Rattle.model.specs.State.{State, no_object, object_at, with_object, status_at, wait_if_awake, for_each};
+ghost use Rattle.model.specs.Application.{Application};
+ghost use Rattle.model.specs.State.{State, Task, no_object, object_at, with_object, status_at, wait_of, wait_if_awake, for_each};
 ghost use Rattle.model.specs.Order.{first, task_of};
 ghost use Rattle.model.specs.Switching.{make_ready};
 ghost use Rattle.model.specs.Waiting as waiting;
 ghost use Rattle.model.specs.Waiting.{is_locked};
+ghost use Rattle.model.specs.Step.{reset};
 ghost use Rattle.model.specs.Objects as definitions;
 ghost use Rattle.model.specs.Objects.{allows, object_after, reply};
 ghost use Rattle.objects.specs.Items.{object_in};
 ghost use Rattle.objects.specs.WaitingLists.{insert_by_priority, number_of, waiting_in};
-ghost use Rattle.objects.specs.WaitersStand.{AtLocked, Decider, opened};
-ghost use Rattle.objects.specs.Queues.{StandsFor, counted_by};
+ghost use Rattle.objects.specs.WaitersStand.{AreAwakened, AtLocked, Decider, opened};
+ghost use Rattle.objects.specs.Queues.{StandsFor, counted_by, size_in};
 
 use crate::items::Items;
 use crate::lock::Lock;
@@ -48,6 +51,10 @@ impl Queues {
             ≡ record no_object { size = slice_index_or lengths.now queue 0 } }
         ensures nobody { result.waiting ≡ replicate 64 [] }
         ensures free { result.lock ≡ None }
+        // They are those of an application whose queues have these lengths.
+        ensures stands { (app : Application) → length app.tasks ≤ 32
+            → ((object : ℕ) → size_in app object ≡ slice_index_or lengths.now object 0)
+            → StandsFor result None (reset app) }
     {
         Queues {
             items: Items::new(lengths),
@@ -61,6 +68,7 @@ impl Queues {
         ensures waiting { result ≡ length (object_in self.now.objects queue).items }
         ensures stands { (s : State) (decider : Option Decider) → StandsFor self.now decider s
             → result ≡ length (object_at s queue).items }
+        ensures small { result ≤ 256 }
     {
         self.items.len(queue.number as usize)
     }
@@ -71,6 +79,7 @@ impl Queues {
             - length (object_in self.now.objects queue).items }
         ensures stands { (s : State) (decider : Option Decider) → StandsFor self.now decider s
             → result ≡ (object_at s queue).size - length (object_at s queue).items }
+        ensures small { result ≤ 256 }
     {
         self.items.room(queue.number as usize)
     }
@@ -134,8 +143,28 @@ impl Queues {
     /// Whether a task is in a waiting list.
     pub fn is_waiting(&self, task: TaskId) -> bool
         ensures waiting { result ≡ is_some (place_of self.now.waiting task) }
+        // In the definitions it waits, or has been woken and isn't Ready yet.
+        ensures stands { (s : State) → StandsFor self.now None s
+            → result ≡ is_some (wait_of (status_at s task)) }
+        // Who is still to be placed is in none, and any other where it waits.
+        ensures placing { (s : State) (decider : Decider) → StandsFor self.now (Some decider) s
+            → result ≡ not (task == decider.task) && is_some (wait_of (status_at s task)) }
     {
         self.waiting.is_waiting(task)
+    }
+
+    /// Whether any task is in a waiting list.
+    pub fn has_waiter(&self) -> bool
+        // In the definitions some task waits, or has been woken and isn't Ready yet.
+        ensures stands { (s : State) → StandsFor self.now None s
+            → result ≡ list_any (λ (t : Task). is_some (wait_of t.status)) s.tasks }
+    {
+        for number in 0..32 {
+            if self.is_waiting(TaskId { number }) {
+                return true;
+            }
+        }
+        false
     }
 
     /// Locks an object, where none is (`is_locked` tells; `prvLockQueue`).
@@ -192,6 +221,10 @@ impl Queues {
         ensures objects { self.new.objects ≡ self.old.objects }
         ensures stands { (s : State) → StandsFor self.old None s
             → StandsFor self.new None (waiting.unlock s) }
+        // They are the Awake tasks, in their order.
+        ensures awakened { (s : State) → StandsFor self.old None s
+            → IfSome result (λ unlocked. (object : ℕ) × (s.locked ≡ Some object)
+            × AreAwakened s object unlocked.to_receive.items unlocked.to_send.items) }
         ensures woken { (s : State) → StandsFor self.old None s
             → IfSome result (λ unlocked. waiting.unlock s ≡ for_each make_ready
             (unlocked.to_receive.items ++ unlocked.to_send.items) (opened s)) }

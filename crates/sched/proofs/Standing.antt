@@ -1,5 +1,5 @@
 -- Each change of the schedule is a deed of the definitions.
-use Rattle.std.proofs.Common.{◌≡◌, ℕ, ◌<◌, inl, inr, Bool, true, false, not, Option, Some, None, List, [], ◌∷◌, get_or, set, length, sym, ◌∙◌, ap, ap₂, subst, arith, refl, eqb, ltb}
+use Rattle.std.proofs.Common.{◌≡◌, ◌+◌, ℕ, ◌<◌, inl, inr, Bool, true, false, not, Option, Some, None, List, [], ◌∷◌, get_or, set, length, sym, ◌∙◌, ap, ap₂, subst, arith, refl, eqb, ltb}
 use Rattle.std.specs.Prelude.{◌==◌, ◌||◌, ◌&&◌, nat_lt, nat_eq, if◌then◌else◌}
 use Rattle.std.specs.List.{AllByRecursion, filter, list_any}
 use Rattle.std.specs.Option.{IfSome, is_some, option_map}
@@ -72,7 +72,7 @@ stands_made_ready v s i h l free = subst (λ (r : List (ℕ × ℕ)). StandsFor 
 
 -- whether a task is Ready
 
-has_node-with_priorities : (i : ℕ) (es : List Entry) → has_node i (with_priorities es) ≡ has_task i es
+pub has_node-with_priorities : (i : ℕ) (es : List Entry) → has_node i (with_priorities es) ≡ has_task i es
 has_node-with_priorities i [] = refl
 has_node-with_priorities i (e ∷ es) = ap (λ (b : Bool). e.task == i || b) (has_node-with_priorities i es)
 
@@ -227,3 +227,22 @@ stands_waiting v s i list h l ready =
     let table2 : IsTable (take_ticket i status s1) = table-taken s1 i status table1 (omega arith) in
     let b : StandsFor (mine.block i v) (take_ticket i status s1) = stands_blocked v s1 (take_ticket i status s1) i w h1 (rw length-set l) refl refl refl refl refl table2 in
     record { ready = b.ready; still = ready_same v s i h ∙ ready; current = b.current; priorities = b.priorities; depth = b.depth; table = table2 }
+
+-- A task that is still to be placed, or another, keeps its key.
+pub stands_before_kept : (v : Schedule) (s new : State) (i j : ℕ) (t : Task) → StandsBefore i v s → j < length s.tasks → new.tasks ≡ set s.tasks j t → new.current ≡ s.current → new.call_hold ≡ s.call_hold → ready_key t ≡ ready_key (task_at s j) → t.priority ≡ (task_at s j).priority → IsTable new → StandsBefore i v new
+stands_before_kept v s new i j t h l is current held key_same same table =
+    let b : StandsFor (mine.block i v) new = stands_kept (mine.block i v) s new j t (stands_placed v s i h) l is current held key_same same table in
+    record { ready = b.ready; still = h.still; current = b.current; priorities = b.priorities; depth = b.depth; table = table }
+
+-- A call holds the scheduler, where none did.
+pub stands_before_held : (v : Schedule) (s new : State) (i : ℕ) → StandsBefore i v s → s.call_hold ≡ false → new.tasks ≡ s.tasks → new.current ≡ s.current → new.call_hold ≡ true → IsTable new → StandsBefore i (record v { depth = v.depth + 1 }) new
+stands_before_held v s new i h free tasks current held table =
+    let none : v.depth ≡ 0 = h.depth ∙ ap (λ b. if b then 1 else 0) free in
+    record {
+      ready = h.ready ∙ sym (ap (λ ts. with_priorities (list_by ready_key ts)) tasks);
+      still = h.still;
+      current = h.current ∙ sym current;
+      priorities = λ j. h.priorities j ∙ sym (ap (λ (ts : List Task). (get_or ts j no_task).priority) tasks);
+      depth = ap (λ (n : ℕ). n + 1) none ∙ sym (ap (λ b. if b then 1 else 0) held);
+      table = table;
+    }

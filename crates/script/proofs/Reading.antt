@@ -8,10 +8,10 @@ use Rattle.std.proofs.lemmas.Bool.{and_parts, not-true}
 use Rattle.model.specs.declared.op.Op.{Op}
 use Rattle.model.specs.Application.{word_of}
 use Rattle.model.specs.Scripts.{is_in_range, InRange}
-use Rattle.script.specs.Grammar.{Word, Form, Done, Number, Answer, forms, number_of, answer_of, Writes, WritesBy, Spells, read, form_word, read_by, if_in_range, op_of}
+use Rattle.script.specs.Grammar.{Word, Naming, Form, Done, Number, Answer, Wait, Object, forms, number_of, answer_of, wait_of, Writes, WritesBy, Spells, read, form_word, read_by, if_in_range, op_of}
 
 -- which branch of a test it was
-chosen : {X : Type 0} (b : Bool) (x y z : X) → cond b x y ≡ z
+pub chosen : {X : Type 0} (b : Bool) (x y z : X) → cond b x y ≡ z
     → ((b ≡ true) × (x ≡ z)) ⊎ ((b ≡ false) × (y ≡ z))
 chosen true x y z e = inl (refl, e)
 chosen false x y z e = inr (refl, e)
@@ -26,25 +26,37 @@ taken (Some x) ws next op e = (x, refl, e)
 
 -- ---- what is read by a form, its words write, and back
 
-read_sound : (form : Form) (ws : List Word) (op : Op) → read form ws ≡ Some op → Writes form ws op
-read_sound (Done made) [] op e = cc
-read_sound (Done made) (w ∷ ws) op e = cc
-read_sound (Number next) [] op e = cc
-read_sound (Number next) (w ∷ ws) op e =
-    let t = taken (number_of w) ws (λ r. read (next r.0) r.1) op e in
-    (t.0, t.1, read_sound (next t.0) ws op t.2)
-read_sound (Answer next) [] op e = cc
-read_sound (Answer next) (w ∷ ws) op e =
-    let t = taken (answer_of w) ws (λ r. read (next r.0) r.1) op e in
-    (t.0, t.1, read_sound (next t.0) ws op t.2)
+read_sound : (named : Naming) (form : Form) (ws : List Word) (op : Op) → read named form ws ≡ Some op → Writes named form ws op
+read_sound named (Done made) [] op e = cc
+read_sound named (Done made) (w ∷ ws) op e = cc
+read_sound named (Number next) [] op e = cc
+read_sound named (Number next) (w ∷ ws) op e =
+    let t = taken (number_of w) ws (λ r. read named (next r.0) r.1) op e in
+    (t.0, t.1, read_sound named (next t.0) ws op t.2)
+read_sound named (Answer next) [] op e = cc
+read_sound named (Answer next) (w ∷ ws) op e =
+    let t = taken (answer_of w) ws (λ r. read named (next r.0) r.1) op e in
+    (t.0, t.1, read_sound named (next t.0) ws op t.2)
+read_sound named (Wait next) [] op e = cc
+read_sound named (Wait next) (w ∷ ws) op e =
+    let t = taken (wait_of w) ws (λ r. read named (next r.0) r.1) op e in
+    (t.0, t.1, read_sound named (next t.0) ws op t.2)
+read_sound named (Object next) [] op e = cc
+read_sound named (Object next) (w ∷ ws) op e =
+    let t = taken (named w) ws (λ r. read named (next r.0) r.1) op e in
+    (t.0, t.1, read_sound named (next t.0) ws op t.2)
 
-read_complete : (form : Form) (ws : List Word) (op : Op) → Writes form ws op → read form ws ≡ Some op
-read_complete (Done made) [] op h = ap Some h
-read_complete (Done made) (w ∷ ws) op h = absurd h
-read_complete (Number next) [] op h = absurd h
-read_complete (Number next) (w ∷ ws) op h = rw h.1 (read_complete (next h.0) ws op h.2)
-read_complete (Answer next) [] op h = absurd h
-read_complete (Answer next) (w ∷ ws) op h = rw h.1 (read_complete (next h.0) ws op h.2)
+read_complete : (named : Naming) (form : Form) (ws : List Word) (op : Op) → Writes named form ws op → read named form ws ≡ Some op
+read_complete named (Done made) [] op h = ap Some h
+read_complete named (Done made) (w ∷ ws) op h = absurd h
+read_complete named (Number next) [] op h = absurd h
+read_complete named (Number next) (w ∷ ws) op h = rw h.1 (read_complete named (next h.0) ws op h.2)
+read_complete named (Answer next) [] op h = absurd h
+read_complete named (Answer next) (w ∷ ws) op h = rw h.1 (read_complete named (next h.0) ws op h.2)
+read_complete named (Wait next) [] op h = absurd h
+read_complete named (Wait next) (w ∷ ws) op h = rw h.1 (read_complete named (next h.0) ws op h.2)
+read_complete named (Object next) [] op h = absurd h
+read_complete named (Object next) (w ∷ ws) op h = rw h.1 (read_complete named (next h.0) ws op h.2)
 
 -- ---- each form comes to ops of its own word alone
 
@@ -52,16 +64,22 @@ abbrev HasWord : Word → Form → Type 0
 HasWord w (Done op) = word_of op ≡ w
 HasWord w (Number next) = (n : ℕ) → HasWord w (next n)
 HasWord w (Answer next) = (a : Option ℕ) → HasWord w (next a)
+HasWord w (Wait next) = (ticks : Option ℕ) → HasWord w (next ticks)
+HasWord w (Object next) = (object : ℕ) → HasWord w (next object)
 
 -- where it makes an op, this is of its word
-word_written : (w : Word) (form : Form) (ws : List Word) (op : Op)
-    → HasWord w form → Writes form ws op → word_of op ≡ w
-word_written w (Done made) [] op has h = subst (λ (o : Op). word_of o ≡ w) h has
-word_written w (Done made) (v ∷ ws) op has h = absurd h
-word_written w (Number next) [] op has h = absurd h
-word_written w (Number next) (v ∷ ws) op has h = word_written w (next h.0) ws op (has h.0) h.2
-word_written w (Answer next) [] op has h = absurd h
-word_written w (Answer next) (v ∷ ws) op has h = word_written w (next h.0) ws op (has h.0) h.2
+word_written : (named : Naming) (w : Word) (form : Form) (ws : List Word) (op : Op)
+    → HasWord w form → Writes named form ws op → word_of op ≡ w
+word_written named w (Done made) [] op has h = subst (λ (o : Op). word_of o ≡ w) h has
+word_written named w (Done made) (v ∷ ws) op has h = absurd h
+word_written named w (Number next) [] op has h = absurd h
+word_written named w (Number next) (v ∷ ws) op has h = word_written named w (next h.0) ws op (has h.0) h.2
+word_written named w (Answer next) [] op has h = absurd h
+word_written named w (Answer next) (v ∷ ws) op has h = word_written named w (next h.0) ws op (has h.0) h.2
+word_written named w (Wait next) [] op has h = absurd h
+word_written named w (Wait next) (v ∷ ws) op has h = word_written named w (next h.0) ws op (has h.0) h.2
+word_written named w (Object next) [] op has h = absurd h
+word_written named w (Object next) (v ∷ ws) op has h = word_written named w (next h.0) ws op (has h.0) h.2
 
 abbrev HasOwnWord : Form → Type 0
 HasOwnWord form = HasWord (form_word form) form
@@ -83,36 +101,36 @@ forms_distinct = refl
 
 -- ---- the first form of a word, and the form by which words write an op
 
-by_sound : (fs : List Form) → AllByRecursion HasOwnWord fs → (w : Word) (ws : List Word) (op : Op)
-    → read_by fs w ws ≡ Some op → (w ≡ word_of op) × WritesBy fs ws op
-by_sound [] own w ws op e = cc
-by_sound (form ∷ others) own w ws op e = elim (chosen (bytes_eq w (form_word form)) _ _ _ e) [
+by_sound : (named : Naming) (fs : List Form) → AllByRecursion HasOwnWord fs → (w : Word) (ws : List Word) (op : Op)
+    → read_by named fs w ws ≡ Some op → (w ≡ word_of op) × WritesBy named fs ws op
+by_sound named [] own w ws op e = cc
+by_sound named (form ∷ others) own w ws op e = elim (chosen (bytes_eq w (form_word form)) _ _ _ e) [
   | inl here ↦
-      let written : Writes form ws op = read_sound form ws op here.1 in
-      let named : w ≡ form_word form = (bytes_eq-Decides w (form_word form)).0 here.0 in
-      (named ∙ sym (word_written (form_word form) form ws op own.0 written), inl written)
-  | inr later ↦ let l = by_sound others own.1 w ws op later.1 in (l.0, inr l.1)
+      let written : Writes named form ws op = read_sound named form ws op here.1 in
+      let own_word : w ≡ form_word form = (bytes_eq-Decides w (form_word form)).0 here.0 in
+      (own_word ∙ sym (word_written named (form_word form) form ws op own.0 written), inl written)
+  | inr later ↦ let l = by_sound named others own.1 w ws op later.1 in (l.0, inr l.1)
 ]
 
-other_word : (fs : List Form) → AllByRecursion HasOwnWord fs → (v : Word) (ws : List Word) (op : Op)
-    → list_all (differs_from v) fs ≡ true → WritesBy fs ws op → bytes_eq (word_of op) v ≡ false
-other_word [] own v ws op differ h = absurd h
-other_word (form ∷ others) own v ws op differ (inl h) =
-    rw (word_written (form_word form) form ws op own.0 h) (not-true _ (and_parts (differs_from v form) _ differ).0)
-other_word (form ∷ others) own v ws op differ (inr h) =
-    other_word others own.1 v ws op (and_parts (differs_from v form) _ differ).1 h
+other_word : (named : Naming) (fs : List Form) → AllByRecursion HasOwnWord fs → (v : Word) (ws : List Word) (op : Op)
+    → list_all (differs_from v) fs ≡ true → WritesBy named fs ws op → bytes_eq (word_of op) v ≡ false
+other_word named [] own v ws op differ h = absurd h
+other_word named (form ∷ others) own v ws op differ (inl h) =
+    rw (word_written named (form_word form) form ws op own.0 h) (not-true _ (and_parts (differs_from v form) _ differ).0)
+other_word named (form ∷ others) own v ws op differ (inr h) =
+    other_word named others own.1 v ws op (and_parts (differs_from v form) _ differ).1 h
 
-by_complete : (fs : List Form) → AllByRecursion HasOwnWord fs → are_distinct fs ≡ true
-    → (ws : List Word) (op : Op) → WritesBy fs ws op → read_by fs (word_of op) ws ≡ Some op
-by_complete [] own distinct ws op h = absurd h
-by_complete (form ∷ others) own distinct ws op (inl h) =
-    let named : bytes_eq (word_of op) (form_word form) ≡ true =
-    (bytes_eq-Decides (word_of op) (form_word form)).1 (word_written (form_word form) form ws op own.0 h) in
-    rw named (read_complete form ws op h)
-by_complete (form ∷ others) own distinct ws op (inr h) =
+by_complete : (named : Naming) (fs : List Form) → AllByRecursion HasOwnWord fs → are_distinct fs ≡ true
+    → (ws : List Word) (op : Op) → WritesBy named fs ws op → read_by named fs (word_of op) ws ≡ Some op
+by_complete named [] own distinct ws op h = absurd h
+by_complete named (form ∷ others) own distinct ws op (inl h) =
+    let own_word : bytes_eq (word_of op) (form_word form) ≡ true =
+    (bytes_eq-Decides (word_of op) (form_word form)).1 (word_written named (form_word form) form ws op own.0 h) in
+    rw own_word (read_complete named form ws op h)
+by_complete named (form ∷ others) own distinct ws op (inr h) =
     let parts = and_parts (list_all (differs_from (form_word form)) others) (are_distinct others) distinct in
-    let other = other_word others own.1 (form_word form) ws op parts.0 h in
-    rw other (by_complete others own.1 parts.1 ws op h)
+    let other = other_word named others own.1 (form_word form) ws op parts.0 h in
+    rw other (by_complete named others own.1 parts.1 ws op h)
 
 -- ---- the ranges
 
@@ -123,13 +141,13 @@ ranged (Some made) op e = elim (chosen (is_in_range made) _ _ _ e) [
   | inr out ↦ cc
 ]
 
-pub sound : (ws : List Word) (op : Op) → op_of ws ≡ Some op → Spells op ws
-sound [] op e = cc
-sound (w ∷ ws) op e =
-    let r = ranged (read_by forms w ws) op e in
-    let b = by_sound forms own_words w ws op r.0 in
+pub sound : (named : Naming) (ws : List Word) (op : Op) → op_of named ws ≡ Some op → Spells named op ws
+sound named [] op e = cc
+sound named (w ∷ ws) op e =
+    let r = ranged (read_by named forms w ws) op e in
+    let b = by_sound named forms own_words w ws op r.0 in
     (b.0, b.1, r.1)
 
-pub complete : (ws : List Word) (op : Op) → Spells op ws → op_of ws ≡ Some op
-complete [] op h = absurd h
-complete (w ∷ ws) op h = rw (h.0, by_complete forms own_words forms_distinct ws op h.1, h.2) refl
+pub complete : (named : Naming) (ws : List Word) (op : Op) → Spells named op ws → op_of named ws ≡ Some op
+complete named [] op h = absurd h
+complete named (w ∷ ws) op h = rw (h.0, by_complete named forms own_words forms_distinct ws op h.1, h.2) refl

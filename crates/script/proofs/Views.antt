@@ -2,7 +2,7 @@
 use Rattle.std.proofs.Common.{◌≡◌, suc, List, [], ◌∷◌, length, refl, ap}
 use Rattle.toml.specs.View.{items_view}
 use Rattle.toml.specs.declared.value.Value.{Value}
-use Rattle.script.specs.Tasks.{items_len}
+use Rattle.script.specs.Values.{items_len}
 
 pub items_len_view : (vs : List Value) → items_len (items_view vs) ≡ length vs
 items_len_view [] = refl

@@ -2,7 +2,7 @@
 use Rattle.std.specs.Prelude.{◌≡◌, ℕ, Bool, List, [], ◌∷◌, Option, Some, None, Result, Ok, Err, codes, ◌++◌, option_map, option_to_list, if◌then◌else◌}
 use Rattle.std.specs.Fmt.{decimal}
 use Rattle.script.specs.declared.fault.LoadFault.{LoadFault}
-use Rattle.script.specs.declared.fault.LoadFault.TheVariants.{Missing, WrongKind, OutOfRange, BadOp, DoubleName, BadNesting, TooMany, Memory}
+use Rattle.script.specs.declared.fault.LoadFault.TheVariants.{Missing, WrongKind, OutOfRange, BadOp, UnknownName, DoubleName, BadNesting, OverwriteLength, TooMany, Memory}
 use Rattle.script.specs.declared.place.Place.{Place}
 use Rattle.script.specs.declared.place.PlaceWord.{PlaceWord}
 use Rattle.script.specs.declared.place.PlaceWord.TheVariants.{Name, Index}
@@ -39,6 +39,7 @@ at_element p n = record p { index = Some n }
 abbrev pub section_word : Section → List ℕ
 section_word section.Start = codes "start"
 section_word section.Limits = codes "limits"
+section_word section.Queue = codes "queue"
 section_word section.Task = codes "task"
 
 -- the name of a key in the file
@@ -46,6 +47,7 @@ abbrev pub key_word : Key → List ℕ
 key_word key.Ticks = codes "ticks"
 key_word key.Steps = codes "steps"
 key_word key.Name = codes "name"
+key_word key.Length = codes "length"
 key_word key.Priority = codes "priority"
 key_word key.Script = codes "script"
 
@@ -75,8 +77,10 @@ fault_code (Missing p) = 1
 fault_code (WrongKind p) = 2
 fault_code (OutOfRange p) = 3
 fault_code (BadOp p) = 4
+fault_code (UnknownName p) = 5
 fault_code (DoubleName p) = 6
 fault_code (BadNesting p) = 7
+fault_code (OverwriteLength p) = 8
 fault_code (TooMany p) = 9
 fault_code Memory = 10
 
@@ -86,8 +90,10 @@ fault_name (Missing p) = codes "Missing"
 fault_name (WrongKind p) = codes "WrongKind"
 fault_name (OutOfRange p) = codes "OutOfRange"
 fault_name (BadOp p) = codes "BadOp"
+fault_name (UnknownName p) = codes "UnknownName"
 fault_name (DoubleName p) = codes "DoubleName"
 fault_name (BadNesting p) = codes "BadNesting"
+fault_name (OverwriteLength p) = codes "OverwriteLength"
 fault_name (TooMany p) = codes "TooMany"
 fault_name Memory = codes "Memory"
 
@@ -97,8 +103,10 @@ fault_place (Missing p) = Some p
 fault_place (WrongKind p) = Some p
 fault_place (OutOfRange p) = Some p
 fault_place (BadOp p) = Some p
+fault_place (UnknownName p) = Some p
 fault_place (DoubleName p) = Some p
 fault_place (BadNesting p) = Some p
+fault_place (OverwriteLength p) = Some p
 fault_place (TooMany p) = Some p
 fault_place Memory = None
 

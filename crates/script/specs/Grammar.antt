@@ -4,8 +4,9 @@ use Rattle.std.specs.Char.{is_ascii_digit}
 use Rattle.std.specs.List.{list_all, slice_split}
 use Rattle.std.specs.Str.{bytes_eq}
 use Rattle.std.specs.Str.Parse.{digits_value}
+use Rattle.model.specs.declared.op.Access.TheVariants.{Send, SendFront, Overwrite, Receive, Peek}
 use Rattle.model.specs.declared.op.Op.{Op}
-use Rattle.model.specs.declared.op.Op.TheVariants.{Work, Delay, DelayUntil, Yield, Time, Mark, Expect, Repeat, End}
+use Rattle.model.specs.declared.op.Op.TheVariants.{Work, Delay, DelayUntil, Yield, Time, Mark, Expect, Repeat, End, Await, Do, MessagesWaiting, SpacesAvailable}
 use Rattle.model.specs.Application.{word_of}
 use Rattle.model.specs.Scripts.{is_in_range, InRange}
 
@@ -39,14 +40,36 @@ number_of w =
 abbrev pub answer_of : Word → Option (Option ℕ)
 answer_of w = if bytes_eq w (codes "none") then Some None else option_map Some (number_of w)
 
+-- how long a word has a call wait: so many ticks, or for ever
+abbrev pub wait_of : Word → Option (Option ℕ)
+wait_of w = if bytes_eq w (codes "forever") then Some None else option_map Some (number_of w)
+
+-- which object a word names, where it names one
+abbrev pub Naming : Type 0
+Naming = Word → Option ℕ
+
 -- ---- the grammar
 
--- How an op's text goes on after its own word (profile): it is over, or a word writes a number or an answer, and with
--- this it goes on.
+-- How an op's text goes on after its own word (profile): it is over, or a word writes a number, an answer or a wait, or
+-- names an object, and with this it goes on.
 pub data Form : Type 0 where
   Done : (op : Op) → Form
   Number : (next : ℕ → Form) → Form
   Answer : (next : Option ℕ → Form) → Form
+  Wait : (next : Option ℕ → Form) → Form
+  Object : (next : ℕ → Form) → Form
+
+-- the arguments of each op on a queue
+abbrev pub queue_forms : List Form
+queue_forms =
+    Object (λ queue. Number (λ n. Wait (λ ticks. Done (Await queue (Send n) ticks))))
+    ∷ Object (λ queue. Number (λ n. Wait (λ ticks. Done (Await queue (SendFront n) ticks))))
+    ∷ Object (λ queue. Number (λ n. Done (Do queue (Overwrite n))))
+    ∷ Object (λ queue. Wait (λ ticks. Done (Await queue Receive ticks)))
+    ∷ Object (λ queue. Wait (λ ticks. Done (Await queue Peek ticks)))
+    ∷ Object (λ queue. Done (MessagesWaiting queue))
+    ∷ Object (λ queue. Done (SpacesAvailable queue))
+    ∷ []
 
 -- the arguments of each op
 abbrev pub forms : List Form
@@ -60,24 +83,26 @@ forms =
     ∷ Answer (λ a. Done (Expect a))
     ∷ Number (λ n. Done (Repeat n))
     ∷ Done End
-    ∷ []
+    ∷ queue_forms
 
--- The words write the arguments of the op, by this form.
-abbrev pub Writes : Form → List Word → Op → Type 0
-Writes (Done made) [] op = made ≡ op
-Writes (Number next) (w ∷ ws) op = (n : ℕ) × (number_of w ≡ Some n) × Writes (next n) ws op
-Writes (Answer next) (w ∷ ws) op = (a : Option ℕ) × (answer_of w ≡ Some a) × Writes (next a) ws op
-Writes _ _ op = ⊥
+-- The words write the arguments of the op, by this form, where names are read so.
+abbrev pub Writes : Naming → Form → List Word → Op → Type 0
+Writes named (Done made) [] op = made ≡ op
+Writes named (Number next) (w ∷ ws) op = (n : ℕ) × (number_of w ≡ Some n) × Writes named (next n) ws op
+Writes named (Answer next) (w ∷ ws) op = (a : Option ℕ) × (answer_of w ≡ Some a) × Writes named (next a) ws op
+Writes named (Wait next) (w ∷ ws) op = (ticks : Option ℕ) × (wait_of w ≡ Some ticks) × Writes named (next ticks) ws op
+Writes named (Object next) (w ∷ ws) op = (object : ℕ) × (named w ≡ Some object) × Writes named (next object) ws op
+Writes named _ _ op = ⊥
 
 -- the same, by one of these forms
-abbrev pub WritesBy : List Form → List Word → Op → Type 0
-WritesBy [] ws op = ⊥
-WritesBy (form ∷ others) ws op = Writes form ws op ⊎ WritesBy others ws op
+abbrev pub WritesBy : Naming → List Form → List Word → Op → Type 0
+WritesBy named [] ws op = ⊥
+WritesBy named (form ∷ others) ws op = Writes named form ws op ⊎ WritesBy named others ws op
 
--- Words spell an op: its own word, and then its arguments; its numbers are in their ranges.
-abbrev pub Spells : Op → List Word → Type 0
-Spells op [] = ⊥
-Spells op (w ∷ ws) = (w ≡ word_of op) × WritesBy forms ws op × InRange op
+-- Words spell an op, where names are read so: its own word, and then its arguments; its numbers are in their ranges.
+abbrev pub Spells : Naming → Op → List Word → Type 0
+Spells named op [] = ⊥
+Spells named op (w ∷ ws) = (w ≡ word_of op) × WritesBy named forms ws op × InRange op
 
 -- ---- the same as a reading
 
@@ -87,29 +112,33 @@ take_by says [] = None
 take_by says (w ∷ ws) = option_map (λ x. (x, ws)) (says w)
 
 -- the op whose arguments the words write, by this form
-abbrev pub read : Form → List Word → Option Op
-read (Done op) [] = Some op
-read (Done op) (w ∷ ws) = None
-read (Number next) ws = option_and_then (λ r. read (next r.0) r.1) (take_by number_of ws)
-read (Answer next) ws = option_and_then (λ r. read (next r.0) r.1) (take_by answer_of ws)
+abbrev pub read : Naming → Form → List Word → Option Op
+read named (Done op) [] = Some op
+read named (Done op) (w ∷ ws) = None
+read named (Number next) ws = option_and_then (λ r. read named (next r.0) r.1) (take_by number_of ws)
+read named (Answer next) ws = option_and_then (λ r. read named (next r.0) r.1) (take_by answer_of ws)
+read named (Wait next) ws = option_and_then (λ r. read named (next r.0) r.1) (take_by wait_of ws)
+read named (Object next) ws = option_and_then (λ r. read named (next r.0) r.1) (take_by named ws)
 
 -- the word of the op, whatever its arguments
 abbrev pub form_word : Form → Word
 form_word (Done op) = word_of op
 form_word (Number next) = form_word (next 0)
 form_word (Answer next) = form_word (next None)
+form_word (Wait next) = form_word (next None)
+form_word (Object next) = form_word (next 0)
 
 -- the same by the first of these forms whose word it is
-abbrev pub read_by : List Form → Word → List Word → Option Op
-read_by [] w ws = None
-read_by (form ∷ others) w ws =
-    if bytes_eq w (form_word form) then read form ws else read_by others w ws
+abbrev pub read_by : Naming → List Form → Word → List Word → Option Op
+read_by named [] w ws = None
+read_by named (form ∷ others) w ws =
+    if bytes_eq w (form_word form) then read named form ws else read_by named others w ws
 
 -- the op, where its numbers are in their ranges
 abbrev pub if_in_range : Op → Option Op
 if_in_range op = if is_in_range op then Some op else None
 
--- the op that words spell
-abbrev pub op_of : List Word → Option Op
-op_of [] = None
-op_of (w ∷ ws) = option_and_then if_in_range (read_by forms w ws)
+-- the op that words spell, where names are read so
+abbrev pub op_of : Naming → List Word → Option Op
+op_of named [] = None
+op_of named (w ∷ ws) = option_and_then if_in_range (read_by named forms w ws)

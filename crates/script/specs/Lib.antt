@@ -2,6 +2,8 @@ pub mod Faults
 pub mod Grammar
 pub mod Names
 pub mod Values
+pub mod Queues
+pub mod Finding
 pub mod Tasks
 pub mod Ops
 pub mod Load

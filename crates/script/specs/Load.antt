@@ -1,5 +1,5 @@
 -- All checks of a document in their order, and the application that it names.
-use Rattle.std.specs.Prelude.{ℕ, [], ◌∷◌, codes, map, Option, Some, None, option_and_then}
+use Rattle.std.specs.Prelude.{ℕ, List, [], ◌∷◌, ◌++◌, codes, map, Option, Some, None, option_and_then}
 use Rattle.toml.specs.Data.{Data, Members, as_table, get_member}
 use Rattle.model.specs.Application.{Application, Limits}
 use Rattle.script.specs.declared.fault.LoadFault.{LoadFault}
@@ -8,7 +8,9 @@ use Rattle.script.specs.declared.place.Section.TheVariants as section
 use Rattle.script.specs.declared.place.Key.TheVariants as key
 use Rattle.script.specs.Faults.{first_fault, at_section, at_key}
 use Rattle.script.specs.Values.{member_of, optional_fault, optional_named}
-use Rattle.script.specs.Tasks.{section_fault, section_named}
+use Rattle.script.specs.Names.{task_names}
+use Rattle.script.specs.Queues.{Named, names_of, kinds_of, objects_fault, objects_named}
+use Rattle.script.specs.Tasks.{Raw, section_fault, section_named}
 use Rattle.script.specs.Ops.{scripts_fault, with_ops}
 
 -- the most ticks and steps that a file may ask for, and where it says nothing (profile)
@@ -35,13 +37,22 @@ limits_named d = record {
   steps = optional_named most_limit (member_of (codes "steps") (option_and_then as_table d));
 }
 
+-- the objects of a document
+abbrev pub objects_of : Members → List Named
+objects_of document = objects_named (get_member (codes "queue") document)
+
+-- its tasks
+abbrev pub tasks_of : Members → List Raw
+tasks_of document = section_named (get_member (codes "task") document)
+
 -- the fault of the first check that fails: pass one, and then the scripts of the tasks that it names (profile)
 abbrev pub load_fault : Members → Option LoadFault
 load_fault document = first_fault (
     optional_fault (at_section section.Start) 0 4294967295 (get_member (codes "start") document)
     ∷ limits_fault (get_member (codes "limits") document)
-    ∷ section_fault (get_member (codes "task") document)
-    ∷ scripts_fault 0 (section_named (get_member (codes "task") document))
+    ∷ objects_fault (get_member (codes "queue") document)
+    ∷ section_fault (names_of (objects_of document)) (get_member (codes "task") document)
+    ∷ scripts_fault (objects_of document) 0 (tasks_of document)
     ∷ [])
 
 -- the application that a document names in which no check fails
@@ -49,6 +60,10 @@ abbrev pub app_named : Members → Application
 app_named document = record {
   start = optional_named 0 (get_member (codes "start") document);
   limits = limits_named (get_member (codes "limits") document);
-  objects = [];
-  tasks = map with_ops (section_named (get_member (codes "task") document));
+  objects = kinds_of (objects_of document);
+  tasks = map (with_ops (objects_of document)) (tasks_of document);
 }
+
+-- the names of a document: those of its objects, and of the tasks of its application
+abbrev pub document_names : Members → List (List ℕ)
+document_names document = names_of (objects_of document) ++ task_names (app_named document)

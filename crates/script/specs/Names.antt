@@ -19,6 +19,6 @@ is_name (b ∷ bs) =
 abbrev pub task_names : Application → List (List ℕ)
 task_names app = map (λ (d : Definition). d.name) app.tasks
 
--- Each task has a name of its own: no two of them have the same.
-abbrev pub HasDistinctNames : Application → Type 0
-HasDistinctNames app = AllPairs (λ name other. name ≢ other) (task_names app)
+-- No two of them are the same.
+abbrev pub AreDistinct : List (List ℕ) → Type 0
+AreDistinct names = AllPairs (λ name other. name ≢ other) names

@@ -1,5 +1,5 @@
 -- The tasks of a document in pass one, which leaves the ops of their scripts as they stand.
-use Rattle.std.specs.Prelude.{ℕ, not, ◌==◌, nat_lt, suc, ◌+◌, ◌-◌, List, [], ◌∷◌, ◌++◌, codes, Option, Some, None, option_and_then, unwrap_or, is_some}
+use Rattle.std.specs.Prelude.{ℕ, not, ◌==◌, nat_lt, ◌+◌, ◌-◌, List, [], ◌∷◌, ◌++◌, codes, Option, Some, None, is_some}
 use Rattle.toml.specs.Data.{Data, Items, no_items, item, Members, as_str, as_table, as_array, get_member}
 use Rattle.toml.specs.View.{items_view}
 use Rattle.model.specs.Scripts.{most_tasks, priorities, most_ops}
@@ -10,12 +10,7 @@ use Rattle.script.specs.declared.place.Section.TheVariants as section
 use Rattle.script.specs.declared.place.Key.TheVariants as key
 use Rattle.script.specs.declared.raw_task.RawTask.{RawTask}
 use Rattle.script.specs.Faults.{first_fault, fails_if, at_section, at_entry, at_field, at_element}
-use Rattle.script.specs.Values.{member_of, required_fault, required_named, name_fault, name_named}
-
--- how many they are
-abbrev pub items_len : Items → ℕ
-items_len no_items = 0
-items_len (item d ds) = suc (items_len ds)
+use Rattle.script.specs.Values.{items_len, items_named, member_of, required_fault, required_named, name_fault, name_named}
 
 -- ---- an array of texts, at a place
 
@@ -43,10 +38,6 @@ array_fault most p (Some ds) = few_texts_fault most p ds
 abbrev pub script_fault : ℕ → Place → Option Data → Option LoadFault
 script_fault most p None = Some (Missing p)
 script_fault most p (Some d) = array_fault most p (as_array d)
-
--- what stands in an array
-abbrev pub items_named : Option Data → Items
-items_named d = unwrap_or (option_and_then as_array d) no_items
 
 -- ---- a task
 
@@ -96,23 +87,23 @@ abbrev pub tasks_named : Items → List Raw
 tasks_named no_items = []
 tasks_named (item d ds) = task_named d ∷ tasks_named ds
 
--- one task to the most that there may be
-abbrev pub entries_fault : Items → Option LoadFault
-entries_fault ds = first_fault (
+-- one task to the most that there may be, after these names
+abbrev pub entries_fault : List (List ℕ) → Items → Option LoadFault
+entries_fault names ds = first_fault (
     fails_if (items_len ds == 0) (Missing (at_section section.Task))
     ∷ fails_if (nat_lt most_tasks (items_len ds)) (TooMany (at_section section.Task))
-    ∷ tasks_fault [] 0 ds
+    ∷ tasks_fault names 0 ds
     ∷ [])
 
 -- It is an array of tasks.
-abbrev pub section_array_fault : Option Items → Option LoadFault
-section_array_fault None = Some (WrongKind (at_section section.Task))
-section_array_fault (Some ds) = entries_fault ds
+abbrev pub section_array_fault : List (List ℕ) → Option Items → Option LoadFault
+section_array_fault names None = Some (WrongKind (at_section section.Task))
+section_array_fault names (Some ds) = entries_fault names ds
 
 -- An array of tasks must be there.
-abbrev pub section_fault : Option Data → Option LoadFault
-section_fault None = Some (Missing (at_section section.Task))
-section_fault (Some d) = section_array_fault (as_array d)
+abbrev pub section_fault : List (List ℕ) → Option Data → Option LoadFault
+section_fault names None = Some (Missing (at_section section.Task))
+section_fault names (Some d) = section_array_fault names (as_array d)
 
 -- the tasks of the section
 abbrev pub section_named : Option Data → List Raw

@@ -1,10 +1,11 @@
--- What stands at the keys of a document: numbers and names, each with its checks and the value that it names.
+-- What stands at the keys of a document: arrays, numbers and names, the last two with their checks and the value that
+-- they name.
 -- Where a check fails the value is a default, which no one sees.
-use Rattle.std.specs.Prelude.{ℕ, ℤ, pos, negsuc, not, ◌||◌, nat_lt, List, [], ◌∷◌, Option, Some, None, option_map, option_and_then, unwrap_or}
+use Rattle.std.specs.Prelude.{ℕ, suc, ℤ, pos, negsuc, not, ◌||◌, nat_lt, List, [], ◌∷◌, Option, Some, None, option_map, option_and_then, unwrap_or}
 use Rattle.std.specs.List.{list_any}
 use Rattle.std.specs.Str.{bytes_eq}
 use Rattle.std.specs.Borrow.{Bor}
-use Rattle.toml.specs.Data.{Data, Members, as_integer, as_str, get_member}
+use Rattle.toml.specs.Data.{Data, Items, no_items, item, Members, as_integer, as_str, as_array, get_member}
 use Rattle.toml.specs.View.{view}
 use Rattle.toml.specs.declared.value.Value.{Value}
 use Rattle.script.specs.declared.fault.LoadFault.{LoadFault}
@@ -20,6 +21,17 @@ data_of value = option_map (λ v. view v.now) value
 -- what stands at a key of a table, where it is one
 abbrev pub member_of : List ℕ → Option Members → Option Data
 member_of k members = option_and_then (get_member k) members
+
+-- ---- arrays
+
+-- what stands in an array
+abbrev pub items_named : Option Data → Items
+items_named d = unwrap_or (option_and_then as_array d) no_items
+
+-- how many they are
+abbrev pub items_len : Items → ℕ
+items_len no_items = 0
+items_len (item d ds) = suc (items_len ds)
 
 -- ---- numbers
 

@@ -1,18 +1,24 @@
 //! An application from a document.
-ghost use Rattle.std.specs.Prelude.{Option};
+ghost use Rattle.std.specs.Prelude.{◌≡◌, ◌≤◌, map, length, None, Option};
+ghost use Rattle.std.specs.List.{AllByRecursion};
 ghost use Rattle.toml.specs.Data.{Members};
 ghost use Rattle.toml.specs.View.{table_view};
+ghost use Rattle.model.specs.Application.{Application};
+ghost use Rattle.model.specs.Scripts.{IsObjectKind, IsDefinition, KnowsAll};
 ghost use Rattle.script.specs.declared.fault.LoadFault.{LoadFault};
 ghost use Rattle.script.specs.Faults.{Judges, Loads};
 ghost use Rattle.script.specs.Values.{data_of};
+ghost use Rattle.script.specs.Queues.{named_view, kinds_of};
 ghost use Rattle.script.specs.Load.{limits_fault, limits_named, load_fault, app_named};
 
 use crate::fault::LoadFault;
+use crate::named_object::Objects;
 use crate::ops::{check_scripts, with_scripts};
 use crate::place::{Key, Place, Section};
+use crate::queues::{kinds_of, objects};
 use crate::tasks::raw_tasks;
 use crate::values::{member, optional_number};
-use model::{App, Limits};
+use model::{App, Limits, TaskDefinition};
 use std::alloc::Global;
 use toml::{Table, Value};
 
@@ -34,6 +40,31 @@ fn limits(value: Option<&Value>) -> Result<Limits, LoadFault>
     let place = Place::key(Section::Limits, Key::Steps);
     let steps = optional_number(member(table, "steps"), place, 1, Limits::MOST, Limits::MOST)?;
     Ok(Limits { ticks, steps })
+}
+
+// The application of these parts.
+fn app_of(
+    alloc: Global,
+    start: u32,
+    limits: Limits,
+    objects: &Objects<'_>,
+    tasks: Vec<TaskDefinition>,
+) -> Result<App, LoadFault>
+    requires kinds { AllByRecursion IsObjectKind (kinds_of (map named_view objects.now.items)) }
+    requires some { 1 ≤ length tasks.items }
+    requires few { length tasks.items ≤ 32 }
+    requires formed { AllByRecursion IsDefinition tasks.items }
+    requires known { (app : Application)
+        → app.objects ≡ kinds_of (map named_view objects.now.items) → AllByRecursion (KnowsAll app) tasks.items }
+    ensures { Loads result None (record {
+      start = start;
+      limits = limits;
+      objects = kinds_of (map named_view objects.now.items);
+      tasks = tasks.items;
+    }) }
+{
+    let kinds = kinds_of(alloc, objects.as_slice())?;
+    Ok(App::new(start, limits, kinds, tasks))
 }
 
 /// What a document describes.
@@ -60,9 +91,10 @@ impl FromDocument for App {
         let place = Place::section(Section::Start);
         let start = optional_number(member(document, "start"), place, 0, u32::MAX, 0)?;
         let limits = limits(member(document, "limits"))?;
-        let tasks = raw_tasks(member(document, "task"))?;
-        check_scripts(tasks.as_slice())?;
-        let tasks = with_scripts(alloc, tasks.as_slice())?;
-        Ok(App::new(start, limits, tasks))
+        let objects = objects(member(document, "queue"))?;
+        let tasks = raw_tasks(member(document, "task"), objects.as_slice())?;
+        check_scripts(&objects, tasks.as_slice())?;
+        let tasks = with_scripts(alloc, &objects, tasks.as_slice())?;
+        app_of(alloc, start, limits, &objects, tasks)
     }
 }

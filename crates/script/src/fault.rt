@@ -16,10 +16,14 @@ pub enum LoadFault {
     OutOfRange(Place),
     /// A text that spells no op.
     BadOp(Place),
+    /// An op names what no entry is.
+    UnknownName(Place),
     /// A name that an earlier entry has.
     DoubleName(Place),
     /// An `end` without a `repeat`, a fifth open `repeat`, or one that is never closed.
     BadNesting(Place),
+    /// An `overwrite` of a queue whose length isn't 1.
+    OverwriteLength(Place),
     /// More entries than there may be.
     TooMany(Place),
     /// There was no memory.
@@ -39,8 +43,10 @@ impl LoadFault {
             LoadFault::WrongKind(_) => 2,
             LoadFault::OutOfRange(_) => 3,
             LoadFault::BadOp(_) => 4,
+            LoadFault::UnknownName(_) => 5,
             LoadFault::DoubleName(_) => 6,
             LoadFault::BadNesting(_) => 7,
+            LoadFault::OverwriteLength(_) => 8,
             LoadFault::TooMany(_) => 9,
             LoadFault::Memory => 10,
         }
@@ -55,8 +61,10 @@ impl LoadFault {
             | LoadFault::WrongKind(place)
             | LoadFault::OutOfRange(place)
             | LoadFault::BadOp(place)
+            | LoadFault::UnknownName(place)
             | LoadFault::DoubleName(place)
             | LoadFault::BadNesting(place)
+            | LoadFault::OverwriteLength(place)
             | LoadFault::TooMany(place) => Some(place),
             LoadFault::Memory => None,
         }

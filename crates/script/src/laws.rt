@@ -1,11 +1,11 @@
 //! Laws of the definitions: each is the contract of a function that does nothing.
 ghost use Rattle.std.specs.Prelude.{◌≡◌, None};
 ghost use Rattle.toml.specs.Data.{Members};
-ghost use Rattle.script.specs.Load.{load_fault, app_named};
-ghost use Rattle.script.specs.Names.{HasDistinctNames};
+ghost use Rattle.script.specs.Load.{load_fault, document_names};
+ghost use Rattle.script.specs.Names.{AreDistinct};
 
-/// In a document that is taken, each task has a name of its own.
+/// In a document that is taken, each object and each task has a name of its own.
 pub fn names_differ()
     ensures { (document : Members)
-        → load_fault document ≡ None → HasDistinctNames (app_named document) }
+        → load_fault document ≡ None → AreDistinct (document_names document) }
 {}

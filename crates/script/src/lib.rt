@@ -3,11 +3,14 @@
 
 mod document;
 mod fault;
+mod finding;
 mod laws;
 mod name;
+mod named_object;
 mod op_text;
 mod ops;
 mod place;
+mod queues;
 mod raw_task;
 mod tasks;
 mod values;
@@ -16,5 +19,5 @@ mod words;
 pub use document::FromDocument;
 pub use fault::LoadFault;
 pub use laws::names_differ;
-pub use op_text::{grammar, op_of};
+pub use op_text::grammar;
 pub use place::{Key, Place, PlaceWord, Section};

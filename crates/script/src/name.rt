@@ -19,10 +19,9 @@ fn are_name_bytes(bytes: &[u8]) -> bool
 const MOST_BYTES: usize = 16;
 
 // One to sixteen letters, digits and underscores, the first of them a letter.
-pub(crate) fn is_name(text: &str) -> bool
-    ensures { result ≡ is_name text.now }
+pub(crate) fn is_name(bytes: &[u8]) -> bool
+    ensures { result ≡ is_name bytes.now }
 {
-    let bytes = text.as_bytes();
     match bytes {
         [] => false,
         [first, ..] => bytes.len() <= MOST_BYTES

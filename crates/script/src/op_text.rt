@@ -3,10 +3,12 @@ ghost use Rattle.std.specs.Prelude.{◌≡◌, List, ℕ, None, Some, IfSome, Ma
 ghost use Rattle.std.specs.Str.{bytes_eq};
 ghost use Rattle.model.specs.declared.op.Op.{Op};
 ghost use Rattle.model.specs.Scripts.{InRange};
-ghost use Rattle.script.specs.Grammar.{words_of, Done, forms, read, read_by, if_in_range, op_of, Spells};
+ghost use Rattle.script.specs.Finding.{found_by};
+ghost use Rattle.script.specs.Grammar.{Naming, words_of, Done, forms, queue_forms, read, read_by, if_in_range, op_of, Spells};
 
+use crate::finding::Finding;
 use crate::words::Words;
-use model::Op;
+use model::{Access, Op};
 
 fn is(word: &[u8], name: &str) -> bool
     ensures { result ≡ bytes_eq word.now name.now }
@@ -14,12 +16,47 @@ fn is(word: &[u8], name: &str) -> bool
     word == name.as_bytes()
 }
 
+// The op of this word on a queue, whose arguments are the next words.
+fn queue_op_after(word: &[u8], words: &mut Words<'_>, finding: Finding<'_>) -> Option<Op>
+    // What is still to be read is whether the text ends here.
+    ensures { MatchOption result
+        (read_by (found_by finding.entry) queue_forms word.now words.old ≡ None)
+        (λ op. read_by (found_by finding.entry) queue_forms word.now words.old
+        ≡ read (found_by finding.entry) (Done op) words.new) }
+{
+    if is(word, "send") {
+        let queue = words.object(finding)?;
+        let access = Access::Send(words.number()?);
+        Some(Op::Await(queue, access, words.wait()?))
+    } else if is(word, "send_front") {
+        let queue = words.object(finding)?;
+        let access = Access::SendFront(words.number()?);
+        Some(Op::Await(queue, access, words.wait()?))
+    } else if is(word, "overwrite") {
+        let queue = words.object(finding)?;
+        Some(Op::Do(queue, Access::Overwrite(words.number()?)))
+    } else if is(word, "receive") {
+        let queue = words.object(finding)?;
+        Some(Op::Await(queue, Access::Receive, words.wait()?))
+    } else if is(word, "peek") {
+        let queue = words.object(finding)?;
+        Some(Op::Await(queue, Access::Peek, words.wait()?))
+    } else if is(word, "waiting") {
+        Some(Op::MessagesWaiting(words.object(finding)?))
+    } else if is(word, "spaces") {
+        Some(Op::SpacesAvailable(words.object(finding)?))
+    } else {
+        None
+    }
+}
+
 // The op of this word, whose arguments are the next words.
-fn op_after(word: &[u8], words: &mut Words<'_>) -> Option<Op>
+fn op_after(word: &[u8], words: &mut Words<'_>, finding: Finding<'_>) -> Option<Op>
     // What is still to be read is whether the text ends here; a number past what the code can hold is out of range.
     ensures { MatchOption result
-        (option_and_then if_in_range (read_by forms word.now words.old) ≡ None)
-        (λ op. read_by forms word.now words.old ≡ read (Done op) words.new) }
+        (option_and_then if_in_range (read_by (found_by finding.entry) forms word.now words.old) ≡ None)
+        (λ op. read_by (found_by finding.entry) forms word.now words.old
+        ≡ read (found_by finding.entry) (Done op) words.new) }
 {
     if is(word, "work") {
         Some(Op::Work(words.number()?))
@@ -40,18 +77,18 @@ fn op_after(word: &[u8], words: &mut Words<'_>) -> Option<Op>
     } else if is(word, "end") {
         Some(Op::End)
     } else {
-        None
+        queue_op_after(word, words, finding)
     }
 }
 
-/// The op that a text spells; `None` where it spells none.
-pub fn op_of(text: &[u8]) -> Option<Op>
-    ensures op { result ≡ op_of (words_of text.now) }
+/// The op that a text spells, where names are read so; `None` where it spells none.
+pub(crate) fn op_of(text: &[u8], finding: Finding<'_>) -> Option<Op>
+    ensures op { result ≡ op_of (found_by finding.entry) (words_of text.now) }
     ensures range { IfSome result InRange }
 {
     let mut words = Words::new(text);
     let word = words.next()?;
-    let op = op_after(word, &mut words)?;
+    let op = op_after(word, &mut words, finding)?;
     if words.is_at_end() && op.is_in_range() {
         Some(op)
     } else {
@@ -59,8 +96,10 @@ pub fn op_of(text: &[u8]) -> Option<Op>
     }
 }
 
-/// What the reader of ops takes is what the grammar spells.
+/// However names are read, what the reader of ops takes is what the grammar spells.
 pub fn grammar()
-    ensures sound { (ws : List (List ℕ)) (op : Op) → op_of ws ≡ Some op → Spells op ws }
-    ensures complete { (ws : List (List ℕ)) (op : Op) → Spells op ws → op_of ws ≡ Some op }
+    ensures sound { (named : Naming) (ws : List (List ℕ)) (op : Op)
+        → op_of named ws ≡ Some op → Spells named op ws }
+    ensures complete { (named : Naming) (ws : List (List ℕ)) (op : Op)
+        → Spells named op ws → op_of named ws ≡ Some op }
 {}

@@ -5,6 +5,7 @@
 pub enum Section {
     Start,
     Limits,
+    Queue,
     Task,
 }
 
@@ -19,6 +20,7 @@ impl Section {
         match self {
             Section::Start => "start",
             Section::Limits => "limits",
+            Section::Queue => "queue",
             Section::Task => "task",
         }
     }
@@ -30,6 +32,7 @@ pub enum Key {
     Ticks,
     Steps,
     Name,
+    Length,
     Priority,
     Script,
 }
@@ -46,6 +49,7 @@ impl Key {
             Key::Ticks => "ticks",
             Key::Steps => "steps",
             Key::Name => "name",
+            Key::Length => "length",
             Key::Priority => "priority",
             Key::Script => "script",
         }

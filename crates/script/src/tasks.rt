@@ -1,12 +1,15 @@
 //! The tasks of a document in pass one, which leaves the ops of their scripts as they stand.
-ghost use Rattle.std.specs.Prelude.{◌≡◌, ◌≤◌, [], map, length, IfOk};
+ghost use Rattle.std.specs.Prelude.{◌≡◌, ◌≤◌, map, length, IfOk};
 ghost use Rattle.toml.specs.View.{view, items_view};
-ghost use Rattle.model.specs.Scripts.{most_tasks};
+ghost use Rattle.arrayvec.specs.ArrayVec.{array_vec_len};
+ghost use Rattle.model.specs.Scripts.{most_tasks, most_objects};
 ghost use Rattle.script.specs.Faults.{Judges, JudgesBy};
-ghost use Rattle.script.specs.Values.{data_of};
-ghost use Rattle.script.specs.Tasks.{texts_fault, few_texts_fault, script_fault, items_named, task_fault, task_named, raw_view, tasks_fault, tasks_named, entries_fault, section_fault, section_named};
+ghost use Rattle.script.specs.Values.{data_of, items_named};
+ghost use Rattle.script.specs.Queues.{named_view, names_of};
+ghost use Rattle.script.specs.Tasks.{texts_fault, few_texts_fault, script_fault, task_fault, task_named, raw_view, tasks_fault, tasks_named, entries_fault, section_fault, section_named};
 
 use crate::fault::LoadFault;
+use crate::named_object::NamedObject;
 use crate::place::{Key, Place, Section};
 use crate::raw_task::RawTask;
 use crate::values::{member, new_name, required_number};
@@ -19,6 +22,12 @@ const MOST_TASKS: usize = 32;
 
 // The highest priority (profile).
 const HIGHEST_PRIORITY: u32 = 31;
+
+// The most names of tasks and objects.
+const MOST_NAMES: usize = 64;
+
+// Names of objects and tasks.
+type Names<'a> = ArrayVec<&'a str, MOST_NAMES>;
 
 /// The tasks of a document, whose ops are still texts.
 pub(crate) type RawTasks<'a> = ArrayVec<RawTask<'a>, MOST_TASKS>;
@@ -85,14 +94,29 @@ fn task<'a>(value: &'a Value, entry: usize, names: &[&str]) -> Result<RawTask<'a
     })
 }
 
-// Each of these tasks in order.
-fn tasks_of(values: &[Value]) -> Result<RawTasks<'_>, LoadFault>
-    requires { length values.now ≤ most_tasks }
+// The names of objects.
+fn names_of<'a>(objects: &[NamedObject<'a>]) -> Names<'a>
+    requires { length objects.now ≤ most_objects }
+    ensures names { map (λ n. n.now) result.items ≡ names_of (map named_view objects.now) }
+    ensures count { array_vec_len result ≡ length objects.now }
+{
+    let mut names = ArrayVec::new();
+    for object in objects {
+        names.push(object.name);
+    }
+    names
+}
+
+// Each of these tasks in order, after these objects.
+fn tasks_of<'a>(values: &'a [Value], objects: &[NamedObject<'a>]) -> Result<RawTasks<'a>, LoadFault>
+    requires tasks { length values.now ≤ most_tasks }
+    requires objects { length objects.now ≤ most_objects }
     ensures checks { JudgesBy (λ v. map raw_view v.items) result
-        (tasks_fault [] 0 (items_view values.now)) (tasks_named (items_view values.now)) }
+        (tasks_fault (names_of (map named_view objects.now)) 0 (items_view values.now))
+        (tasks_named (items_view values.now)) }
     ensures count { IfOk result (λ v. length v.items ≡ length values.now) }
 {
-    let mut names = ArrayVec::<&str, MOST_TASKS>::new();
+    let mut names = names_of(objects);
     let mut tasks = ArrayVec::new();
     for (entry, value) in values.iter().enumerate() {
         let task = task(value, entry, names.as_slice())?;
@@ -102,11 +126,16 @@ fn tasks_of(values: &[Value]) -> Result<RawTasks<'_>, LoadFault>
     Ok(tasks)
 }
 
-// One task to the most that there may be.
+// One task to the most that there may be, after these objects.
 #[tactic(auto, using(crate::proofs::Views::items_len_view))]
-fn some_tasks(values: &[Value]) -> Result<RawTasks<'_>, LoadFault>
+fn some_tasks<'a>(
+    values: &'a [Value],
+    objects: &[NamedObject<'a>],
+) -> Result<RawTasks<'a>, LoadFault>
+    requires { length objects.now ≤ most_objects }
     ensures checks { JudgesBy (λ v. map raw_view v.items) result
-        (entries_fault (items_view values.now)) (tasks_named (items_view values.now)) }
+        (entries_fault (names_of (map named_view objects.now)) (items_view values.now))
+        (tasks_named (items_view values.now)) }
     ensures some { IfOk result (λ v. 1 ≤ length v.items) }
     ensures few { IfOk result (λ v. length v.items ≤ most_tasks) }
 {
@@ -116,13 +145,18 @@ fn some_tasks(values: &[Value]) -> Result<RawTasks<'_>, LoadFault>
     if values.len() > MOST_TASKS {
         return Err(LoadFault::TooMany(Place::section(Section::Task)));
     }
-    tasks_of(values)
+    tasks_of(values, objects)
 }
 
-/// The tasks of the section, 1 to 32, whose ops are still texts. It takes no memory.
-pub(crate) fn raw_tasks(value: Option<&Value>) -> Result<RawTasks<'_>, LoadFault>
+/// The tasks of the section, 1 to 32, whose ops are still texts, after these objects. It takes no memory.
+pub(crate) fn raw_tasks<'a>(
+    value: Option<&'a Value>,
+    objects: &[NamedObject<'a>],
+) -> Result<RawTasks<'a>, LoadFault>
+    requires { length objects.now ≤ most_objects }
     ensures checks { JudgesBy (λ v. map raw_view v.items) result
-        (section_fault (data_of value.entry)) (section_named (data_of value.entry)) }
+        (section_fault (names_of (map named_view objects.now)) (data_of value.entry))
+        (section_named (data_of value.entry)) }
     ensures some { IfOk result (λ v. 1 ≤ length v.items) }
     ensures few { IfOk result (λ v. length v.items ≤ most_tasks) }
 {
@@ -132,5 +166,5 @@ pub(crate) fn raw_tasks(value: Option<&Value>) -> Result<RawTasks<'_>, LoadFault
     let Some(values) = value.as_array() else {
         return Err(LoadFault::WrongKind(Place::section(Section::Task)));
     };
-    some_tasks(values.as_slice())
+    some_tasks(values.as_slice(), objects)
 }

@@ -100,7 +100,7 @@ pub(crate) fn new_name<'a>(
     let Some(name) = value.as_str() else {
         return Err(LoadFault::WrongKind(place));
     };
-    if !is_name(name) {
+    if !is_name(name.as_bytes()) {
         return Err(LoadFault::OutOfRange(place));
     }
     if is_among(name, names) {

@@ -3,8 +3,11 @@ ghost use Rattle.std.specs.Prelude.{◌≡◌, ◌==◌, ◌↔◌, ◌⊎◌, �
 ghost use Rattle.std.specs.Char.{is_ascii_digit};
 ghost use Rattle.std.specs.List.{list_all, position_or_len};
 ghost use Rattle.std.specs.Str.Parse.{digits_value};
-ghost use Rattle.script.specs.Grammar.{words_of, is_number, number_of, answer_of, take_by};
+ghost use Rattle.script.specs.Finding.{found_by};
+ghost use Rattle.script.specs.Grammar.{words_of, is_number, number_of, answer_of, wait_of, take_by};
 
+use crate::finding::Finding;
+use model::ObjectId;
 use std::marker::Model;
 
 // The text from its first word on.
@@ -80,6 +83,17 @@ fn answer_of(word: &[u8]) -> Option<Option<u32>>
     }
 }
 
+// How long a word has a call wait: so many ticks, or for ever.
+fn wait_of(word: &[u8]) -> Option<Option<u32>>
+    ensures { result ≡ wait_of word.now }
+{
+    if word == b"forever".as_slice() {
+        Some(None)
+    } else {
+        number_of(word).map(Some)
+    }
+}
+
 /// The words of a text that are still to be read.
 #[derive(Drop)]
 pub(crate) struct Words<'a> {
@@ -131,6 +145,22 @@ impl<'a> Words<'a> {
             (λ a. take_by answer_of self.old ≡ Some (a, self.new)) }
     {
         answer_of(self.next()?)
+    }
+
+    /// How long the next word has a call wait.
+    pub(crate) fn wait(&mut self) -> Option<Option<u32>>
+        ensures { MatchOption result (take_by wait_of self.old ≡ None)
+            (λ ticks. take_by wait_of self.old ≡ Some (ticks, self.new)) }
+    {
+        wait_of(self.next()?)
+    }
+
+    /// The object that the next word names.
+    pub(crate) fn object(&mut self, finding: Finding<'_>) -> Option<ObjectId>
+        ensures { MatchOption result (take_by (found_by finding.entry) self.old ≡ None)
+            (λ object. take_by (found_by finding.entry) self.old ≡ Some (object, self.new)) }
+    {
+        finding.object(self.next()?)
     }
 
     /// Whether no word is left.

@@ -19,6 +19,7 @@ impl Kernel {
         requires { Can self.old task (op.Work ticks) }
         ensures does { Moves self.old self.new (use_up app.now task ticks) }
         ensures clock { self.new.clock ≡ self.old.clock }
+        ensures queues { self.new.queues ≡ self.old.queues }
     {
         let used = self.progress(task).used + 1;
         if used == ticks {

@@ -48,3 +48,15 @@ returns-in_err-step_along-clause-meter c =
 pub returns-in_err-step_along-clause-memory : goal.returns-in_err-step_along-clause-memory
 returns-in_err-step_along-clause-memory c =
     let p = err_from_is_err_and c.from_residual.result c.from_residual.ensures.1 in rw p.1 (told_more c.args.app.now c.well_formed-2.ensures c.args.limits.now c.well_formed-3.ensures c.steps.kernel c.steps.invariant.way (sym (c.in_default.ensures _ c.steps.invariant.way.stands)) c.step_along.new.kernel c.in_err-step_along.ensures.stands (c.in_err-step_along.ensures.memory _ c.steps.invariant.way.stands))
+
+pub returns-in-Some-clause-ended : goal.returns-in-Some-clause-ended
+returns-in-Some-clause-ended c = sym (c.ended.ensures _ c.steps.invariant.way.stands) ∙ c.in-Some.is
+
+pub step_along-requires-clause-meter : goal.step_along-requires-clause-meter
+step_along-requires-clause-meter c =
+    let on : end_of c.args.limits.now (state_after c.args.app.now c.steps.kernel.steps) ≡ None = sym (c.in_default.ensures _ c.steps.invariant.way.stands) in
+    let l = steps_below c.args.app.now c.well_formed-2.ensures c.args.limits.now c.well_formed-3.ensures c.steps.kernel c.steps.invariant.way on in
+    let most = c.well_formed-3.ensures.3 in
+    let low = c.requires.meter in
+    let f = c.steps.invariant.meter in
+    omega arith

@@ -1,5 +1,6 @@
 use Rattle.std.proofs.Common.{refl, ◌∙◌, arith}
 use Rattle.std.proofs.lemmas.Result.{err_from_is_err_and}
+use Rattle.kernel.proofs.Either.{age_is}
 use Rattle.kernel.proofs.Running.{ticks_low, no_further, told_some}
 use Rattle.kernel.proofs.steps.run.Goals as goal
 
@@ -12,7 +13,7 @@ overflow_cast-result c =
 pub returns-clause-run : goal.returns-clause-run
 returns-clause-run c =
     let e = c.in_ok-end.ensures in
-    record { goes_on = e.way.goes_on; ends = e.ended; trace = c.into_events.ensures ∙ e.events ∙ rw (c.new-trail.ensures.before, c.new-trail.ensures.told) refl; elapsed = c.age.ensures.age ∙ e.way.stands.rest.clock.age }
+    record { goes_on = e.way.goes_on; ends = e.ended; trace = c.into_events.ensures ∙ e.events ∙ rw (c.new-trail.ensures.before, c.new-trail.ensures.told) refl; elapsed = c.age.ensures.age ∙ age_is c.finish.new.kernel _ e.way.stands }
 
 pub returns-in_err-end-clause-refused : goal.returns-in_err-end-clause-refused
 returns-in_err-end-clause-refused c = let p = err_from_is_err_and c.from_residual.result c.from_residual.ensures.1 in rw p.1 (λ run is.

@@ -1,7 +1,8 @@
 use Rattle.std.proofs.Common.{ℕ, List, subst, sym, ◌*◌, ◌^◌, ◌∙◌, ap}
 use Rattle.lists.specs.Lists.{IsSound, without}
-use Rattle.clock.specs.Timeline.{Timeline, IsClock, delayed_list_of}
+use Rattle.clock.specs.Timeline.{Timeline, IsClock, delayed_list_of, timeline_of}
 use Rattle.clock.proofs.Sleeping.{delayed-without, out_of_lists}
+use Rattle.clock.proofs.Standing.{stands_made_ready}
 use Rattle.clock.proofs.clock.Clock.wake.Goals as goal
 
 pub invariant_of-self : goal.invariant_of-self
@@ -19,3 +20,9 @@ returns-clause-delayed c =
     ap (λ (ls : List (List (ℕ × ℕ))). delayed_list_of ls base q.current.number q.overflow.number) c.remove.ensures.removed
     ∙ delayed-without n base q.current.number q.overflow.number q.lists
     ∙ ap (λ (t : Timeline). without n t.delayed_list) c.self.view_is
+
+pub returns-clause-stands : goal.returns-clause-stands
+returns-clause-stands c = λ s h l.
+    let q = c.self.inside in
+    let new : Timeline = timeline_of c.remove.new.self q.start (2 ^ 32 * q.overflows) q.tick q.current.number q.overflow.number in
+    stands_made_ready c.args.self.now new s c.args.task (ap (λ (t : Timeline). t.now) c.self.view_is) (ap (λ (t : Timeline). t.age) c.self.view_is) (returns-clause-delayed c) h l

@@ -1,5 +1,5 @@
 use Rattle.std.proofs.Common.{[]}
-use Rattle.kernel.proofs.Waking.{sched-ticked, woken}
+use Rattle.kernel.proofs.Waking.{sched-ticked, queues-ticked, woken}
 use Rattle.kernel.proofs.kernel.Kernel.increment_tick.Goals as goal
 
 pub returns-then-not-advance_if_none_due : goal.returns-then-not-advance_if_none_due
@@ -9,4 +9,4 @@ pub returns-else-not-advance_if_none_due : goal.returns-else-not-advance_if_none
 returns-else-not-advance_if_none_due c = λ log s h.
     let none = c.if-not-advance_if_none_due.false in
     let now = c.advance_if_none_due.ensures in
-    woken c.args.self.now log s h [] c.args.self.now.sched c.advance_if_none_due.new.self (now.due s none h.stands.rest.clock) (sched-ticked c.args.self.now log s h) (now.woken s none h.stands.rest.clock)
+    woken c.args.self.now log s h [] c.args.self.now.sched c.args.self.now.queues c.advance_if_none_due.new.self (now.due s none h.stands.rest.clock) (sched-ticked c.args.self.now log s h) (queues-ticked c.args.self.now log s h) (now.woken s none h.stands.rest.clock)

@@ -3,7 +3,7 @@ use Rattle.sched.specs.Schedule.{Schedule}
 use Rattle.clock.specs.StandsFor.{tasks_at}
 use Rattle.model.specs.Step.{nobody_ready}
 use Rattle.model.proofs.Reached.{reached_nobody}
-use Rattle.kernel.proofs.Booting.{none_ready, none_due, none_waits, priority_at}
+use Rattle.kernel.proofs.Booting.{none_ready, none_due, priority_at, queues_at_reset, nobody_awake-reset, none_placing}
 use Rattle.kernel.proofs.kernel.Kernel.nobody_ready.Goals as goal
 
 pub returns-clause-stands : goal.returns-clause-stands
@@ -31,6 +31,8 @@ returns-clause-stands c =
         };
         steps = refl;
         stopped = refl;
-        nobody_waits = none_waits c.args.app.now.start c.args.app.now.tasks;
+        queues = queues_at_reset c.args.app.now c.new-3.result (c.new-3.ensures.stands c.args.app.now c.well_formed-2.ensures.few c.lengths_of.ensures.lengths) table;
+        awake = nobody_awake-reset c.args.app.now;
+        placed = none_placing c.args.app.now c.progress_of.result (λ i. c.progress_of.ensures.progress i ∙ rw (c.tasks.ensures, c.start.ensures) refl);
       };
     }

@@ -15,3 +15,12 @@ returns-clause-stands c = λ s h.
     let is : q.lock ≡ Some c.in_ok-lock.lock = search rules in
     let before = subst (λ (v : Exchange). StandsFor v None s) (sym c.self.view_is) h in
     stands_unlocked v c.unlock.new.self s c.in_ok-lock.lock before is (c.unlock.ensures.unlocks s (standing_locked v None s c.in_ok-lock.lock before is))
+
+pub returns-clause-awakened : goal.returns-clause-awakened
+returns-clause-awakened c = λ s h.
+    let q = c.self.inside in
+    let v : Exchange = record { objects = q.items; waiting = q.waiting; lock = q.lock } in
+    let is : q.lock ≡ Some c.in_ok-lock.lock = search rules in
+    let before = subst (λ (v : Exchange). StandsFor v None s) (sym c.self.view_is) h in
+    let locked = standing_locked v None s c.in_ok-lock.lock before is in
+    (c.in_ok-lock.lock.object, locked.locked, c.unlock.ensures.awakened s locked)

@@ -2,8 +2,11 @@ use Rattle.std.proofs.Common.{ℕ, List, None, sym, ◌∙◌, subst}
 use Rattle.model.specs.State.{State, for_each}
 use Rattle.model.specs.Switching.{make_ready}
 use Rattle.objects.specs.WaitersStand.{WaitersStand, opened}
-use Rattle.objects.proofs.Unlocking.{each_append, stands_opened, unlocks}
+use Rattle.objects.proofs.Unlocking.{awakened_are, each_append, stands_opened, unlocks}
 use Rattle.objects.proofs.waiting_lists.WaitingLists.unlock.Goals as goal
+
+pub returns-clause-awakened : goal.returns-clause-awakened
+returns-clause-awakened c = λ s h. awakened_are c.args.self.now _ s c.args.object c.args.receivers c.args.senders _ _ h c.take-to_receive.ensures.taken c.take-to_receive.ensures.left c.take-to_send.ensures.taken
 
 pub returns-clause-woken : goal.returns-clause-woken
 returns-clause-woken c = λ s h. unlocks c.args.self.now _ s c.args.object c.args.receivers c.args.senders _ _ h c.take-to_receive.ensures.taken c.take-to_receive.ensures.left c.take-to_send.ensures.taken

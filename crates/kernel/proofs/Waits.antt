@@ -1,0 +1,272 @@
+-- Calls that wait: what a wake and each phase make of the states that the kernel stands for.
+use Rattle.std.proofs.Common.{◌≡◌, ◌≢◌, ◌<◌, ◌+◌, ℕ, Bool, true, false, List, [], ◌∷◌, length, Option, Some, None, refl, ap, sym, subst, ◌∙◌}
+use Rattle.std.specs.Prelude.{if◌then◌else◌}
+use Rattle.std.specs.List.{AllByRecursion}
+use Rattle.std.specs.Option.{is_some, option_map, option_and_then}
+use Rattle.model.specs.declared.call.CallProgress.{CallProgress}
+use Rattle.model.specs.declared.call.Phase.{Phase}
+use Rattle.model.specs.declared.call.Phase.TheVariants.{Decide, Place, Try}
+use Rattle.model.specs.declared.call.WaitList.{WaitList}
+use Rattle.model.specs.declared.op.Access.{Access}
+use Rattle.model.specs.declared.event.Event.{Event}
+use Rattle.model.specs.Application.{Application}
+use Rattle.model.specs.State.{State, Task, Progress, Object, Status, Ready, Awake, Waiting, Asleep, Ended, ticket_if_ready, wait_if_waiting, task_at, status_at, progress_at, call_at, object_at, with_call, with_object, go_on, for_one, no_task}
+use Rattle.model.specs.State as state
+use Rattle.model.specs.Order.{Key, Entry, first, task_of}
+use Rattle.model.specs.Switching.{is_ready, make_ready, preempt, choose}
+use Rattle.model.specs.Ops.{answer}
+use Rattle.model.specs.Waiting.{wait_key, waiters, awake_status, awaken, is_locked, wake_one, wake_best, set_deadline, is_expired, end_hold}
+use Rattle.model.specs.Objects.{object_after, list_woken, possible, answer_to, fulfil, attempt}
+use Rattle.model.specs.Calls.{try, do_now, leave_call}
+use Rattle.model.specs.Invariant.{IsTable}
+use Rattle.model.proofs.Sorting.{by_test}
+use Rattle.model.proofs.Lists.{HasKey, list_has}
+use Rattle.sched.specs.StandsFor as sched
+use Rattle.sched.specs.Schedule as schedule
+use Rattle.sched.specs.Schedule.{Schedule}
+use Rattle.sched.proofs.Standing as on_sched
+use Rattle.clock.specs.StandsFor as clock
+use Rattle.clock.specs.Timeline.{Timeline}
+use Rattle.clock.proofs.Standing as on_clock
+use Rattle.clock.proofs.Standing.{SleepsAlike}
+use Rattle.objects.specs.WaitersStand.{AtLocked}
+use Rattle.objects.specs.Queues as queues
+use Rattle.objects.specs.Queues.{Exchange, SameWaits}
+use Rattle.objects.proofs.Awake.{at_locked-stored, at_locked-wake_best}
+use Rattle.kernel.specs.declared.kernel.Kernel.{Kernel}
+use Rattle.kernel.specs.StandsFor.{StandsFor, At, progress_in, with_progress}
+use Rattle.kernel.specs.Can.{Runs}
+use Rattle.kernel.proofs.Parts.{clock-same, progress-same}
+use Rattle.kernel.proofs.Waking.{has_node-added, progress-ready}
+use Rattle.kernel.proofs.Acting.{within, changed}
+
+-- ---- a task's call goes on
+
+module _ (k new : Kernel) (log : List Event) (s : State) (h : At k log s) (i : ℕ) (r : k.sched.current ≡ Some i) where
+  pub not_placing : (call_at s i).phase ≢ Place
+  not_placing e = h.stands.rest.placed i (ap (λ (p : Progress). p.call.phase) (h.stands.rest.progress i) ∙ e)
+
+  pub recalled : (c d : CallProgress) → new ≡ with_progress i (record (progress_in k.progress i) { call = c }) k → c ≡ d → d.phase ≢ Place → At new log (with_call i d s)
+  recalled c d is e off =
+      let P : Progress → Type 0 = λ p. At (with_progress i (record p { call = d }) k) log (state.with_progress i (record (progress_at s i) { call = d }) s) in
+      rw (is, e) (subst P (sym (h.stands.rest.progress i)) (changed k log s h i (within k log s h i r) (record (progress_at s i) { call = d }) off))
+
+  pub gone_on : (phase : Phase) → new ≡ with_progress i (record (progress_in k.progress i) { call = record (progress_in k.progress i).call { phase = phase } }) k → phase ≢ Place → At new log (go_on i phase s)
+  gone_on phase is off = recalled (record (progress_in k.progress i).call { phase = phase }) (record (call_at s i) { phase = phase }) is (ap (λ (p : Progress). record p.call { phase = phase }) (h.stands.rest.progress i)) off
+
+  pub dated : (v : Progress) → v ≡ progress_in k.progress i → (deadline ticks : Option ℕ) → deadline ≡ option_map (λ n. k.clock.now + n) ticks → new ≡ with_progress i (record (progress_in k.progress i) { call = record v.call { deadline = deadline } }) k → At new log (set_deadline i ticks s)
+  unfolding set_deadline
+  dated v e deadline ticks d is =
+      let now : deadline ≡ option_map (λ n. s.time + n) ticks = d ∙ ap (λ (m : ℕ). option_map (λ n. m + n) ticks) h.stands.rest.clock.now in
+      recalled (record v.call { deadline = deadline }) (record (call_at s i) { deadline = option_map (λ n. s.time + n) ticks }) is
+      (ap (λ (p : Progress). record p.call { deadline = deadline }) (e ∙ h.stands.rest.progress i) ∙ ap (λ (o : Option ℕ). record (call_at s i) { deadline = o }) now)
+      not_placing
+
+-- ---- a wake
+
+-- who would be woken, if anyone
+abbrev best : State → WaitList → Option ℕ
+best s list = task_of (first (waiters s list))
+
+-- a task that waits in a list
+record WaitsThere (s : State) (i : ℕ) : Type 0 where
+  within : i < length s.tasks
+  unready : is_ready s i ≡ false
+
+waits_key : WaitList → Task → Option Key
+waits_key list t = option_and_then (wait_key list) (wait_if_waiting t.status)
+
+unready_by : (list : WaitList) (u : Status) (k : Key) → option_and_then (wait_key list) (wait_if_waiting u) ≡ Some k → is_some (ticket_if_ready u) ≡ false
+unready_by list (Ready n) k e = absurd (cc)
+unready_by list (Awake w) k e = refl
+unready_by list (Waiting w) k e = refl
+unready_by list (Asleep w n) k e = refl
+unready_by list Ended k e = absurd (cc)
+
+best_waits : (s : State) (list : WaitList) (i : ℕ) → Some i ≡ best s list → WaitsThere s i
+unfolding waits_key
+best_waits s list i is = by_entries (waiters s list) (list_has (waits_key list) s.tasks) is where
+  by_entries : (es : List Entry) → AllByRecursion (HasKey (waits_key list) s.tasks) es → Some i ≡ task_of (first es) → WaitsThere s i
+  by_entries [] has e = absurd (cc)
+  by_entries (x ∷ xs) has e =
+      let same : i ≡ x.task = cc in
+      record { within = rw same has.0.within; unready = rw same (unready_by list (status_at s x.task) x.key has.0.key) }
+
+-- the answer where someone becomes Ready
+open_then : (b : Bool) (o : Option ℕ) (i : ℕ) → Some i ≡ (if b then None else o) → (b ≡ false) × (Some i ≡ o)
+open_then true o i e = absurd (cc)
+open_then false o i e = (refl, e)
+
+module _ (k : Kernel) (s : State) (h : StandsFor k s) (list : WaitList) (i : ℕ) (is : Some i ≡ (if is_locked s.locked list then None else best s list)) where
+  opened : is_locked s.locked list ≡ false
+  opened = (open_then (is_locked s.locked list) (best s list) i is).0
+
+  waits_there : WaitsThere s i
+  waits_there = best_waits s list i (open_then (is_locked s.locked list) (best s list) i is).1
+
+  wakes_it : wake_best list s ≡ make_ready i s
+  unfolding wake_best
+  wakes_it = subst (λ (o : Option ℕ). for_one (λ task. wake_one task list) o s ≡ make_ready i s) (open_then (is_locked s.locked list) (best s list) i is).1 (rw opened refl)
+
+  pub woken_free : schedule.is_ready k.sched i ≡ false
+  woken_free = on_sched.ready_same k.sched s i h.sched ∙ waits_there.unready
+
+  pub woken_at : (log : List Event) → log ≡ s.log → (v : Schedule) (t : Timeline) (q : Exchange) → (i < length s.tasks → sched.StandsFor v (make_ready i s)) → (i < length s.tasks → clock.StandsFor t (make_ready i s)) → queues.StandsFor q None (wake_best list s)
+      → At (record k { sched = v; clock = t; queues = q }) log (wake_best list s)
+  woken_at log same v t q on awake left =
+      let l = waits_there.within in
+      let P : State → Type 0 = λ x. At (record k { sched = v; clock = t; queues = q }) log x in
+      subst P (sym wakes_it) (record {
+        stands = record {
+          sched = on l;
+          rest = record {
+            progress = λ j. h.rest.progress j ∙ sym (progress-ready s i j);
+            full = h.rest.full;
+            clock = awake l;
+            queues = subst (queues.StandsFor q None) wakes_it left;
+            awake = subst (AtLocked None) wakes_it (at_locked-wake_best None list s h.rest.awake);
+            steps = h.rest.steps;
+            stopped = h.rest.stopped;
+            placed = h.rest.placed;
+          };
+        };
+        log = same;
+      })
+
+-- nobody becomes Ready: nobody waits there, or the one is Awake until the unlock
+
+awake_unready : (u : Status) → ticket_if_ready (awake_status u) ≡ ticket_if_ready u
+awake_unready (Ready n) = refl
+awake_unready (Awake w) = refl
+awake_unready (Waiting w) = refl
+awake_unready (Asleep w n) = refl
+awake_unready Ended = refl
+
+awake_alike : (u : Status) → SleepsAlike (awake_status u) u
+awake_alike (Ready n) = record { key = refl; wake_time = refl }
+awake_alike (Awake w) = record { key = refl; wake_time = refl }
+awake_alike (Waiting w) = record { key = refl; wake_time = refl }
+awake_alike (Asleep w n) = record { key = refl; wake_time = refl }
+awake_alike Ended = record { key = refl; wake_time = refl }
+
+module _ (k : Kernel) (log : List Event) (s : State) (h : At k log s) (list : WaitList) (is : None ≡ (if is_locked s.locked list then None else best s list)) (q : Exchange) (left : queues.StandsFor q None (wake_best list s)) where
+  awakened_at : (i : ℕ) → i < length s.tasks → queues.StandsFor q None (awaken i s) → AtLocked None (awaken i s) → At (record k { queues = q }) log (awaken i s)
+  awakened_at i l there locked =
+      let t : Task = record (task_at s i) { status = awake_status (status_at s i) } in
+      let table : IsTable (awaken i s) = there.waiters.table in
+      record {
+        stands = record {
+          sched = on_sched.stands_kept k.sched s (awaken i s) i t h.stands.sched l refl refl refl (ap (λ (o : Option ℕ). option_map (λ n. record { priority = (task_at s i).priority; ticket = n }) o) (awake_unready (status_at s i))) refl table;
+          rest = record {
+            progress = progress-same k.progress s.tasks i t h.stands.rest.progress l refl;
+            full = h.stands.rest.full;
+            clock = on_clock.stands_kept k.clock s (awaken i s) i t h.stands.rest.clock l refl refl refl (awake_alike (status_at s i)) table;
+            queues = there;
+            awake = locked;
+            steps = h.stands.rest.steps;
+            stopped = h.stands.rest.stopped;
+            placed = h.stands.rest.placed;
+          };
+        };
+        log = h.log;
+      }
+
+  none_open : (o : Option ℕ) → is_locked s.locked list ≡ false → None ≡ (if is_locked s.locked list then None else o) → o ≡ None
+  none_open o t e = sym (rw t at e)
+
+  wakes : (o : Option ℕ) → best s list ≡ o → wake_best list s ≡ for_one (λ task. wake_one task list) o s
+  unfolding wake_best
+  wakes o e = ap (λ (x : Option ℕ). for_one (λ task. wake_one task list) x s) e
+
+  pub unwoken_at : At (record k { queues = q }) log (wake_best list s)
+  unwoken_at = by_best (best s list) refl where
+    in_place : (t : State) → wake_best list s ≡ t → queues.StandsFor q None t
+    in_place t e = subst (queues.StandsFor q None) e left
+
+    locked_in : (t : State) → wake_best list s ≡ t → AtLocked None t
+    locked_in t e = subst (AtLocked None) e (at_locked-wake_best None list s h.stands.rest.awake)
+
+    by_best : (o : Option ℕ) → best s list ≡ o → At (record k { queues = q }) log (wake_best list s)
+    by_best None e = subst (At (record k { queues = q }) log) (sym (wakes None e)) (record {
+      stands = record {
+        sched = h.stands.sched;
+        rest = record { progress = h.stands.rest.progress; full = h.stands.rest.full; clock = h.stands.rest.clock; queues = in_place s (wakes None e); awake = h.stands.rest.awake; steps = h.stands.rest.steps; stopped = h.stands.rest.stopped; placed = h.stands.rest.placed };
+      };
+      log = h.log;
+    })
+    by_best (Some i) e = by_test (is_locked s.locked list)
+        (λ t.
+        let one : wake_best list s ≡ awaken i s = wakes (Some i) e ∙ rw t refl in
+        subst (At (record k { queues = q }) log) (sym one) (awakened_at i (best_waits s list i (sym e)).within (in_place (awaken i s) one) (locked_in (awaken i s) one)))
+        (λ t. let none = sym e ∙ none_open (best s list) t is in absurd (cc))
+
+-- one task more is Ready, and the running one is as before
+pub still_runs : (k new : Kernel) (i j : ℕ) → Runs k j → schedule.is_ready k.sched i ≡ false → new.sched ≡ schedule.make_ready i k.sched → new.progress ≡ k.progress → Runs new j
+still_runs k new i j r off on same =
+    let apart : j ≢ i = (λ e. let f : schedule.is_ready k.sched i ≡ true = subst (λ (n : ℕ). schedule.is_ready k.sched n ≡ true) e r.ready in absurd (cc)) in
+    record {
+      current = ap (λ (v : Schedule). v.current) on ∙ r.current;
+      ready = ap (λ (v : Schedule). schedule.is_ready v j) on ∙ has_node-added j (i, schedule.priority_in k.sched.priorities i) k.sched.ready apart ∙ r.ready;
+      op_index = subst (λ (ps : List Progress). (progress_in ps j).op_index < 256) (sym same) r.op_index;
+    }
+
+-- ---- a call is done
+
+-- an object changes
+pub stored_at : (k : Kernel) (log : List Event) (s : State) → At k log s → (o : ℕ) (x : Object) (q : Exchange) → queues.StandsFor q None (with_object o x s) → At (record k { queues = q }) log (with_object o x s)
+stored_at k log s h o x q there =
+    let new : State = with_object o x s in
+    let table : IsTable new = there.waiters.table in
+    record {
+      stands = record {
+        sched = record { ready = h.stands.sched.ready; current = h.stands.sched.current; priorities = h.stands.sched.priorities; depth = h.stands.sched.depth; table = table };
+        rest = record {
+          progress = h.stands.rest.progress;
+          full = h.stands.rest.full;
+          clock = clock-same k.clock s new h.stands.rest.clock refl refl refl table;
+          queues = there;
+          awake = at_locked-stored None o x s h.stands.rest.awake;
+          steps = h.stands.rest.steps;
+          stopped = h.stands.rest.stopped;
+          placed = h.stands.rest.placed;
+        };
+      };
+      log = h.log;
+    }
+
+pub fulfilled : (new : Kernel) (log : List Event) (s : State) (i o : ℕ) (a : Access) (list : WaitList) → Some list ≡ list_woken (Some i) o a → At new log (wake_best list (with_object o (object_after (Some i) a (object_at s o)) s)) → At new log (fulfil (Some i) o a s)
+unfolding fulfil
+fulfilled new log s i o a list is h = subst (λ (x : Option WaitList). At new log (for_one wake_best x (with_object o (object_after (Some i) a (object_at s o)) s))) is h
+
+-- a try
+module _ (app : Application) (new : Kernel) (log : List Event) (s : State) (i o : ℕ) (a : Access) where
+  pub tried : possible s o a ≡ true → At new log (preempt (answer app i (answer_to s o a) (fulfil (Some i) o a s))) → At new log (try app i o a s)
+  unfolding try
+  tried t h = rw t h
+
+  module _ (not : possible s o a ≡ false) where
+    pub tried_late : is_expired s i ≡ true → At new log (answer app i (answer_to s o a) s) → At new log (try app i o a s)
+    unfolding try
+    tried_late t h = rw (not, t) h
+
+    pub tried_on : is_expired s i ≡ false → At new log (go_on i Decide s) → At new log (try app i o a s)
+    unfolding try
+    tried_on t h = rw (not, t) h
+
+  -- a call that doesn't wait
+  pub did : possible s o a ≡ true → At new log (preempt (answer app i (answer_to s o a) (fulfil (Some i) o a s))) → At new log (do_now app i o a s)
+  unfolding do_now attempt
+  did t h = rw t h
+
+  pub did_not : possible s o a ≡ false → At new log (preempt (answer app i (answer_to s o a) s)) → At new log (do_now app i o a s)
+  unfolding do_now attempt
+  did_not t h = rw t h
+
+-- the hold ends
+pub left_after : (new : Kernel) (log : List Event) (s : State) (i : ℕ) → is_some (call_at s i).list ≡ true → At new log (choose (end_hold i Try s)) → At new log (leave_call i s)
+unfolding leave_call
+left_after new log s i t h = rw t h
+
+pub left_before : (new : Kernel) (log : List Event) (s : State) (i : ℕ) → is_some (call_at s i).list ≡ false → At new log (preempt (end_hold i Try s)) → At new log (leave_call i s)
+unfolding leave_call
+left_before new log s i t h = rw t h

@@ -1,0 +1,246 @@
+//! Calls on queues that may wait, phase by phase.
+ghost use Rattle.std.specs.Prelude.{◌≡◌, ◌<◌, ◌≤◌, ◌+◌, ◌^◌, ◌||◌, ℕ, false, List, Some, None};
+ghost use Rattle.std.specs.Option.{option_map};
+ghost use Rattle.model.specs.declared.event.Event.{Event};
+ghost use Rattle.model.specs.declared.op.Op.TheVariants as op;
+ghost use Rattle.model.specs.State.{State, go_on};
+ghost use Rattle.model.specs.Waiting as waiting;
+ghost use Rattle.model.specs.Waiting.{set_deadline, unlock};
+ghost use Rattle.model.specs.declared.call.WaitList as declared;
+ghost use Rattle.model.specs.Objects as definitions;
+ghost use Rattle.model.specs.declared.call.Phase.TheVariants as phase;
+ghost use Rattle.model.specs.Calls.{try, decide, leave_call};
+ghost use Rattle.model.specs.Step.{act};
+ghost use Rattle.lists.specs.Lists.{place_of};
+ghost use Rattle.clock.specs.Timeline.{is_asleep};
+ghost use Rattle.clock.specs.StandsFor.{StandsFor as ClockStandsFor, StandsBefore as ClockStandsBefore};
+ghost use Rattle.objects.specs.Queues.{StandsFor as QueuesStandFor};
+ghost use Rattle.kernel.specs.StandsFor.{StandsFor, At, AtAny, Does, DoesAny, Moves, progress_in, with_progress};
+ghost use Rattle.kernel.specs.Can.{CanTry, CanDecide, CanPlace, CanLeave, CanGoOn, IsAhead, IsInCall, IsShort};
+
+use super::queues::refusal;
+use crate::kernel::Kernel;
+use crate::log::Log;
+use crate::switching::wake_all;
+use clock::Clock;
+use model::{Access, App, CallProgress, ObjectId, Phase, TaskId, WaitList};
+use objects::Queues;
+
+/// The list in which a call waits.
+fn list_for(object: ObjectId, access: Access) -> WaitList
+    ensures { result ≡ definitions.list_for object access }
+{
+    match access {
+        Access::Send(_) | Access::SendFront(_) => WaitList::ToSend(object),
+        Access::Overwrite(_) | Access::Receive | Access::Peek => WaitList::ToReceive(object),
+    }
+}
+
+/// The time so many ticks after this one; `None` where a call waits for ever.
+fn deadline_after(now: u64, ticks: Option<u32>) -> Option<u64>
+    requires { now + 2 ^ 32 < 2 ^ 63 }
+    ensures { result ≡ option_map (λ n. now + n) ticks }
+{
+    Some(now + ticks? as u64)
+}
+
+/// A task that has begun to wait is put into its list, with its priority of 0 to 31.
+fn place_waiter(queues: &mut Queues, list: Option<WaitList>, task: TaskId, priority: u8)
+    requires priority { priority < 32 }
+    requires free { place_of queues.old.waiting task ≡ None }
+    ensures { (s : State) (in_list : declared.WaitList) → list ≡ Some in_list
+        → QueuesStandFor queues.old (Some (record { task = task; list = in_list; priority = priority })) s
+        → QueuesStandFor queues.new None s }
+{
+    if let Some(list) = list {
+        queues.place(list, task, priority);
+    }
+}
+
+/// A task that has begun to wait until a deadline, if there is one, is put among those who wake by themselves.
+fn place_sleeper(clock: &mut Clock, deadline: Option<u64>, task: TaskId)
+    requires awake { is_asleep clock.old task ≡ false }
+    requires ahead { IsAhead clock.old.now deadline }
+    ensures { (s : State) → ClockStandsBefore task deadline clock.old s → ClockStandsFor clock.new s }
+{
+    if let Some(deadline) = deadline {
+        let ticks = deadline - clock.mark().moment;
+        clock.sleep(task, ticks as u32);
+    }
+}
+
+impl Kernel {
+    /// A task's call goes on with this phase.
+    fn set_phase(&mut self, task: TaskId, phase: Phase)
+        ensures { let p = progress_in self.old.progress task in
+            self.new ≡ with_progress task (record p { call = record p.call { phase = phase } }) self.old }
+    {
+        let call = self.progress(task).call;
+        self.set_call(task, CallProgress { phase, ..call });
+    }
+
+    /// The call of the running task, which begins, may wait for so many ticks from now, or for ever.
+    fn set_deadline(&mut self, task: TaskId, ticks: Option<u32>)
+        requires can { IsInCall self.old task }
+        requires time { self.old.clock.now + 2 ^ 32 < 2 ^ 63 }
+        ensures does { Moves self.old self.new (set_deadline task ticks) }
+        ensures parts { (self.new.sched ≡ self.old.sched) × (self.new.queues ≡ self.old.queues) }
+        ensures op_index { (progress_in self.new.progress task).op_index ≡ (progress_in self.old.progress task).op_index }
+    {
+        let deadline = deadline_after(self.clock.mark().moment, ticks);
+        let call = self.progress(task).call;
+        self.set_call(task, CallProgress { deadline, ..call });
+    }
+
+    /// Whether the deadline of a task's call has come.
+    fn is_expired(&self, task: TaskId) -> bool
+        ensures { (s : State) → StandsFor self.now s → result ≡ waiting.is_expired s task }
+    {
+        match self.progress(task).call.deadline {
+            None => false,
+            Some(deadline) => deadline <= self.clock.mark().moment,
+        }
+    }
+
+    /// The call is done where it is possible; it fails where its deadline has come; else it decides next.
+    fn try_call<L: Log>(
+        &mut self,
+        app: &App,
+        task: TaskId,
+        object: ObjectId,
+        access: Access,
+        log: &mut L,
+    )
+        requires room { 2 ≤ (L.logged log.old).room }
+        requires can { CanTry self.old task object }
+        ensures { Does 2 self.old (L.logged log.old) self.new (L.logged log.new)
+            (try app.now task object access) }
+    {
+        if self.queues.possible(object, access) {
+            let answer = self.fulfil(task, object, access);
+            self.answer(app, task, answer, log);
+            self.preempt(log);
+        } else if self.is_expired(task) {
+            self.answer(app, task, refusal(access), log);
+        } else {
+            self.set_phase(task, Phase::Decide);
+        }
+    }
+
+    /// Whether a call is possible by now, or its deadline has come.
+    fn need_not_wait(&self, task: TaskId, object: ObjectId, access: Access) -> bool
+        ensures { (s : State) → StandsFor self.now s
+            → result ≡ definitions.possible s object access || waiting.is_expired s task }
+    {
+        self.queues.possible(object, access) || self.is_expired(task)
+    }
+
+    /// The scheduler is held and the queue locked, and the task begins to wait, where its call still isn't possible and its
+    /// deadline hasn't come.
+    fn decide(&mut self, task: TaskId, object: ObjectId, access: Access)
+        requires { CanDecide self.old task }
+        ensures { (log : List Event) (s : State) → At self.old log s
+            → AtAny self.new log (decide task object access s) }
+    {
+        let goes_on = self.need_not_wait(task, object, access);
+        self.sched.hold();
+        self.queues.lock(object);
+        if goes_on {
+            self.set_phase(task, Phase::Unlock);
+        } else {
+            let call = self.progress(task).call;
+            self.set_call(
+                task,
+                CallProgress {
+                    phase: Phase::Place,
+                    list: Some(list_for(object, access)),
+                    ..call
+                },
+            );
+        }
+    }
+
+    /// The task is put into its waiting list and, if it waits until a deadline, among those who wake by themselves.
+    fn place(&mut self, task: TaskId)
+        requires { CanPlace self.old task }
+        ensures { (log : List Event) (s : State) → AtAny self.old log s
+            → At self.new log (go_on task phase.Unlock s) }
+    {
+        let call = self.progress(task).call;
+        self.sched.block(task);
+        place_waiter(&mut self.queues, call.list, task, self.sched.priority(task));
+        place_sleeper(&mut self.clock, call.deadline, task);
+        self.set_phase(task, Phase::Unlock);
+    }
+
+    /// The queue is unlocked, and who was woken meanwhile becomes Ready.
+    fn unlock(&mut self, task: TaskId)
+        requires { IsInCall self.old task }
+        ensures { Moves self.old self.new (λ s. go_on task phase.Leave (unlock s)) }
+    {
+        if let Some(unlocked) = self.queues.unlock() {
+            wake_all(
+                &mut self.sched,
+                &mut self.clock,
+                unlocked.to_receive.as_slice(),
+            );
+            wake_all(
+                &mut self.sched,
+                &mut self.clock,
+                unlocked.to_send.as_slice(),
+            );
+        }
+        self.set_phase(task, Phase::Leave);
+    }
+
+    /// The hold ends, and the call will try again: after a wait has begun the choice runs, else a higher task may run.
+    fn leave_call<L: Log>(&mut self, task: TaskId, log: &mut L)
+        requires room { 1 ≤ (L.logged log.old).room }
+        requires can { CanLeave self.old task }
+        ensures { Does 1 self.old (L.logged log.old) self.new (L.logged log.new) (leave_call task) }
+    {
+        self.sched.unhold();
+        let call = self.progress(task).call;
+        self.set_call(
+            task,
+            CallProgress {
+                phase: Phase::Try,
+                list: None,
+                ..call
+            },
+        );
+        if call.list.is_some() {
+            self.choose(log);
+        } else {
+            self.preempt(log);
+        }
+    }
+
+    /// The next phase of a call that may wait for so many ticks, or for ever.
+    pub(crate) fn go_on_waiting<L: Log>(
+        &mut self,
+        app: &App,
+        task: TaskId,
+        object: ObjectId,
+        access: Access,
+        ticks: Option<u32>,
+        log: &mut L,
+    )
+        requires room { 2 ≤ (L.logged log.old).room }
+        requires can { CanGoOn self.old task object ticks (progress_in self.old.progress task).call.phase }
+        ensures { DoesAny 2 self.old (L.logged log.old) self.new (L.logged log.new)
+            (act app.now task (op.Await object access ticks)) }
+    {
+        match self.progress(task).call.phase {
+            Phase::Start => {
+                self.set_deadline(task, ticks);
+                self.try_call(app, task, object, access, log);
+            }
+            Phase::Try => self.try_call(app, task, object, access, log),
+            Phase::Decide => self.decide(task, object, access),
+            Phase::Place => self.place(task),
+            Phase::Unlock => self.unlock(task),
+            Phase::Leave => self.leave_call(task, log),
+        }
+    }
+}

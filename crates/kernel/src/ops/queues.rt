@@ -1,0 +1,122 @@
+//! Calls on queues that don't wait, and the parts of those that do.
+ghost use Rattle.std.specs.Prelude.{◌≡◌, ◌≤◌, ◌+◌, ℕ, Some, true, false};
+ghost use Rattle.model.specs.declared.op.Op.TheVariants as op;
+ghost use Rattle.model.specs.State.{State, Object};
+ghost use Rattle.model.specs.Waiting.{wake_best};
+ghost use Rattle.model.specs.Objects as definitions;
+ghost use Rattle.model.specs.Objects.{allows, answer_to, fulfil, reply};
+ghost use Rattle.model.specs.Step.{act};
+ghost use Rattle.objects.specs.Items.{object_in};
+ghost use Rattle.kernel.specs.StandsFor.{StandsFor, Does, Moves};
+ghost use Rattle.kernel.specs.Can.{Agrees, HasLength, Runs, Can};
+
+use crate::kernel::Kernel;
+use crate::log::Log;
+use model::{Access, App, ObjectId, TaskId, WaitList};
+
+/// What a call answers that isn't possible.
+pub(crate) fn refusal(access: Access) -> Option<u32>
+    ensures { (o : Object) → allows o access ≡ false → result ≡ reply o access }
+{
+    match access {
+        Access::Send(_) | Access::SendFront(_) | Access::Overwrite(_) => Some(0),
+        Access::Receive | Access::Peek => None,
+    }
+}
+
+/// The list of which a possible call of a task wakes the best waiter.
+fn list_woken(object: ObjectId, access: Access) -> WaitList
+    ensures { (task : ℕ) → Some result ≡ definitions.list_woken (Some task) object access }
+{
+    match access {
+        Access::Receive => WaitList::ToSend(object),
+        Access::Send(_) | Access::SendFront(_) | Access::Overwrite(_) | Access::Peek => {
+            WaitList::ToReceive(object)
+        }
+    }
+}
+
+impl Kernel {
+    /// The best waiter of a list is woken, if anyone waits there.
+    fn wake_best(&mut self, list: WaitList)
+        requires { Agrees self.old }
+        ensures does { Moves self.old self.new (wake_best list) }
+        ensures runs { (task : ℕ) → Runs self.old task → Runs self.new task }
+    {
+        if let Some(task) = self.queues.wake_best(list) {
+            self.clock.wake(task);
+            self.sched.make_ready(task);
+        }
+    }
+
+    /// A possible call of a task is done: the queue changes, and one waiter is woken. It answers what the call answers.
+    pub(crate) fn fulfil(&mut self, task: TaskId, object: ObjectId, access: Access) -> Option<u32>
+        requires agrees { Agrees self.old }
+        requires possible { allows (object_in self.old.queues.objects object) access ≡ true }
+        requires length { HasLength self.old object }
+        ensures does { Moves self.old self.new (fulfil (Some task) object access) }
+        ensures answer { (s : State) → StandsFor self.old s → result ≡ answer_to s object access }
+        ensures runs { (task : ℕ) → Runs self.old task → Runs self.new task }
+    {
+        let answer = self.queues.carry_out(object, access);
+        self.wake_best(list_woken(object, access));
+        answer
+    }
+
+    /// `overwrite`: the call is done if it is possible, and answers.
+    pub(crate) fn do_now<L: Log>(
+        &mut self,
+        app: &App,
+        task: TaskId,
+        object: ObjectId,
+        access: Access,
+        log: &mut L,
+    )
+        requires room { 2 ≤ (L.logged log.old).room }
+        requires can { Can self.old task (op.Do object access) }
+        ensures { Does 2 self.old (L.logged log.old) self.new (L.logged log.new)
+            (act app.now task (op.Do object access)) }
+    {
+        if self.queues.possible(object, access) {
+            let answer = self.fulfil(task, object, access);
+            self.answer(app, task, answer, log);
+        } else {
+            self.answer(app, task, refusal(access), log);
+        }
+        self.preempt(log);
+    }
+
+    /// `waiting`: the number of items in a queue is the answer.
+    pub(crate) fn messages_waiting<L: Log>(
+        &mut self,
+        app: &App,
+        task: TaskId,
+        queue: ObjectId,
+        log: &mut L,
+    )
+        requires room { 1 ≤ (L.logged log.old).room }
+        requires can { Can self.old task (op.MessagesWaiting queue) }
+        ensures { Does 1 self.old (L.logged log.old) self.new (L.logged log.new)
+            (act app.now task (op.MessagesWaiting queue)) }
+    {
+        let waiting = self.queues.waiting(queue) as u32;
+        self.answer(app, task, Some(waiting), log);
+    }
+
+    /// `spaces`: the number of items that a queue still has room for is the answer.
+    pub(crate) fn spaces_available<L: Log>(
+        &mut self,
+        app: &App,
+        task: TaskId,
+        queue: ObjectId,
+        log: &mut L,
+    )
+        requires room { 1 ≤ (L.logged log.old).room }
+        requires can { Can self.old task (op.SpacesAvailable queue) }
+        ensures { Does 1 self.old (L.logged log.old) self.new (L.logged log.new)
+            (act app.now task (op.SpacesAvailable queue)) }
+    {
+        let spaces = self.queues.spaces(queue) as u32;
+        self.answer(app, task, Some(spaces), log);
+    }
+}

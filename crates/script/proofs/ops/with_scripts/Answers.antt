@@ -1,0 +1,16 @@
+use Rattle.std.proofs.Common.{◌≡◌, sym, subst, map, arith}
+use Rattle.std.specs.List.{AllByRecursion}
+use Rattle.model.specs.Scripts.{KnowsAll}
+use Rattle.script.specs.Queues.{named_view}
+use Rattle.std.proofs.lemmas.Grind.{common_steps}
+use Rattle.script.specs.Tasks.{raw_view}
+use Rattle.script.specs.Ops.{with_ops}
+use Rattle.script.proofs.Known.{known_tasks}
+use Rattle.script.proofs.ops.with_scripts.Goals as goal
+
+pub returns-clause-known : goal.returns-clause-known
+returns-clause-known c app same =
+    let objects = map named_view c.args.objects.now.items in
+    let raws = map raw_view c.args.tasks.now in
+    let built : c.loop-entry.definitions.items ≡ map (with_ops objects) raws = grind (arith, common_steps) in
+    subst (AllByRecursion (KnowsAll app)) (sym built) (known_tasks app objects same 0 raws c.requires)

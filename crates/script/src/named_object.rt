@@ -1,0 +1,23 @@
+//! Objects as the file has them.
+use arrayvec::ArrayVec;
+use model::{App, ObjectKind};
+
+/// An object and its name.
+#[derive(Clone, Copy, Drop)]
+pub(crate) struct NamedObject<'a> {
+    pub(crate) name: &'a str,
+    pub(crate) kind: ObjectKind,
+}
+
+// What stands in an array of objects where none has been put yet.
+impl Default for NamedObject<'_> {
+    fn default() -> Self {
+        NamedObject {
+            name: "",
+            kind: ObjectKind::Queue(1),
+        }
+    }
+}
+
+/// The objects of a document, in their order.
+pub(crate) type Objects<'a> = ArrayVec<NamedObject<'a>, { App::MOST_OBJECTS }>;
