@@ -11,6 +11,8 @@ mod file;
 #[cfg(test)]
 mod loading;
 #[cfg(test)]
+mod queue_runs;
+#[cfg(test)]
 mod random;
 #[cfg(test)]
 mod refused;

@@ -14,8 +14,19 @@ fn fail(rt: &impl Abort, alloc: Global, seed: u32, app: &App, what: &str) {
     panic!(rt; "seed {seed}: other {what} than the slow program, on this file\n{file}");
 }
 
-/// Runs both, and compares what they tell. Answers whether the tick wrapped.
-fn compare(rt: &impl Abort, alloc: Global, seed: u32, app: &App) -> bool {
+/// How many of the runs have what they are for.
+#[derive(Debug, Default, Drop)]
+struct Seen {
+    /// The tick wrapped.
+    wraps: usize,
+    /// A call woke one who waited.
+    wakes: usize,
+    /// A wait ended at its deadline.
+    timeouts: usize,
+}
+
+/// Runs both, and compares what they tell.
+fn compare(rt: &impl Abort, alloc: Global, seed: u32, app: &App, seen: &mut Seen) {
     let plan = Plan::new(Vec::new(alloc)).expect(rt, "a plan without points");
     let limits = app.limits();
     let mut meter = Meter::new();
@@ -31,20 +42,22 @@ fn compare(rt: &impl Abort, alloc: Global, seed: u32, app: &App) -> bool {
     if meter.steps() != run.steps as u64 {
         fail(rt, alloc, seed, app, "metered steps");
     }
-    run.ticks > u32::MAX - app.start()
+    let has_wrapped = run.ticks > u32::MAX - app.start();
+    seen.wraps = seen.wraps.saturating_add(has_wrapped as usize);
+    seen.wakes = seen.wakes.saturating_add((slow.wakes > 0) as usize);
+    seen.timeouts = seen.timeouts.saturating_add((slow.timeouts > 0) as usize);
 }
 
 #[test]
 fn the_slow_program_agrees(rt: HostRuntime) {
-    let mut wrapped = 0_usize;
-    for seed in 0..4_000 {
+    let mut seen = Seen::default();
+    for seed in 0..40_000 {
         let mut dice = Dice { state: seed };
         let app = dice.app(rt.alloc()).expect(&rt, "memory");
-        if compare(&rt, rt.alloc(), seed, &app) {
-            wrapped = wrapped.saturating_add(1);
-        }
+        compare(&rt, rt.alloc(), seed, &app, &mut seen);
     }
-    assert!(rt; wrapped > 2_000, "{wrapped} of the runs cross the wrap");
+    let has_all = seen.wraps > 20_000 && seen.wakes > 7_500 && seen.timeouts > 10_000;
+    assert!(rt; has_all, "{seen:?}");
 }
 
 /// The application that a file describes.

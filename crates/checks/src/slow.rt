@@ -1,15 +1,38 @@
-//! The kernel as its definitions tell it: one table of tasks, each with its ticket. Every question is a search of the table.
-//! It is slow, and says plainly what the kernel over lists has to do.
+//! The kernel as its definitions tell it: one table of tasks, each with its ticket, and one of queues. Every question is a
+//! search of the tables. It is slow, and says plainly what the kernel over lists has to do.
 
-use model::{App, End, Event, Limits, Loop, Op, TaskId, What};
+use model::{App, End, Event, Limits, Loop, Op, Phase, TaskId, What};
+use queues::{Queue, Side};
 use std::alloc::Global;
+
+mod queues;
+
+/// A wait that has begun: at which side of which queue, with the priority that the task had then.
+#[derive(Clone, Copy, Debug)]
+struct Wait {
+    queue: u8,
+    side: Side,
+    priority: u8,
+    deadline: Option<u64>,
+    ticket: u64,
+}
 
 #[derive(Clone, Copy, Debug)]
 enum Status {
     /// In the ready list, with this ticket.
     Ready(u64),
     Asleep { wake_time: u64, ticket: u64 },
+    Waiting(Wait),
     Ended,
+}
+
+/// How far a call that may wait has come.
+#[derive(Clone, Copy, Debug, Default)]
+struct Call {
+    phase: Phase,
+    deadline: Option<u64>,
+    /// Whether its last Decide began a wait.
+    has_waited: bool,
 }
 
 #[derive(Clone, Copy, Debug)]
@@ -21,19 +44,26 @@ struct Task {
     nesting: usize,
     answer: Option<u32>,
     previous_wake: u64,
+    call: Call,
     status: Status,
 }
 
 #[derive(Drop)]
 pub(crate) struct SlowKernel {
     tasks: [Task; 32],
+    queues: Vec<Queue>,
     time: u64,
     pub(crate) elapsed: u32,
     current: Option<TaskId>,
+    /// Whether a call holds the scheduler.
+    is_held: bool,
     next_ticket: u64,
     pub(crate) steps: u32,
     stopped: Option<End>,
     pub(crate) events: Vec<Event>,
+    /// How many waits another's call ended, and how many their deadline.
+    pub(crate) wakes: u32,
+    pub(crate) timeouts: u32,
     is_out_of_memory: bool,
 }
 
@@ -48,19 +78,25 @@ impl SlowKernel {
             nesting: 0,
             answer: None,
             previous_wake: app.start() as u64,
+            call: Call::default(),
             status: Status::Ended,
         };
         let mut kernel = SlowKernel {
             tasks: [no_task; 32],
+            queues: Vec::new(alloc),
             time: app.start() as u64,
             elapsed: 0,
             current: None,
+            is_held: false,
             next_ticket: 0,
             steps: 0,
             stopped: None,
             events: Vec::new(alloc),
+            wakes: 0,
+            timeouts: 0,
             is_out_of_memory: false,
         };
+        kernel.make_queues(alloc, app);
         kernel.make_all_ready(app);
         kernel.current = kernel.choice();
         kernel
@@ -151,18 +187,14 @@ impl SlowKernel {
         }
     }
 
-    /// Whether a Ready task is above the running one, or another has its priority.
-    fn is_slice_over(&self) -> bool {
+    /// Whether another task than the running one is Ready and has at least this priority.
+    fn is_any_ready_from(&self, priority: u8) -> bool {
         for number in 0..32 {
             let other = TaskId { number };
-            if !self.is_ready(other) {
-                continue;
-            }
-            let Some(task) = self.current else {
-                return true;
-            };
-            let (mine, its) = (self.task(task).priority, self.task(other).priority);
-            if its > mine || (its == mine && other != task) {
+            if self.is_ready(other)
+                && Some(other) != self.current
+                && self.task(other).priority >= priority
+            {
                 return true;
             }
         }
@@ -177,18 +209,42 @@ impl SlowKernel {
         self.choose();
     }
 
-    /// The end of a tick.
-    fn slice(&mut self) {
-        if self.is_slice_over() {
+    /// The priority of the running task; of idle it is below all others, which count from 1 here.
+    fn rank(&self) -> u8 {
+        match self.current {
+            None => 0,
+            Some(task) => self.task(task).priority.saturating_add(1),
+        }
+    }
+
+    /// A task of higher priority runs, if there is one.
+    fn preempt(&mut self) {
+        if self.is_any_ready_from(self.rank()) {
             self.yield_now();
         }
     }
 
-    /// The sleeper whose wake time is now that began first.
+    /// The end of a tick: equals take turns too.
+    fn slice(&mut self) {
+        if self.is_any_ready_from(self.rank().saturating_sub(1)) {
+            self.yield_now();
+        }
+    }
+
+    /// When a task wakes by itself, if it does, and its ticket.
+    fn alarm(&self, task: TaskId) -> Option<(u64, u64)> {
+        match self.task(task).status {
+            Status::Asleep { wake_time, ticket } => Some((wake_time, ticket)),
+            Status::Waiting(wait) => Some((wait.deadline?, wait.ticket)),
+            Status::Ready(_) | Status::Ended => None,
+        }
+    }
+
+    /// Of those who wake now, the one that began first.
     fn first_due(&self) -> Option<TaskId> {
         let mut best = None;
         for number in 0..32 {
-            let Status::Asleep { wake_time, ticket } = self.task(TaskId { number }).status else {
+            let Some((wake_time, ticket)) = self.alarm(TaskId { number }) else {
                 continue;
             };
             if wake_time != self.time {
@@ -207,6 +263,9 @@ impl SlowKernel {
             let Some(task) = self.first_due() else {
                 return;
             };
+            if let Status::Waiting(_) = self.task(task).status {
+                self.timeouts = self.timeouts.saturating_add(1);
+            }
             self.make_ready(task);
         }
     }
@@ -227,6 +286,7 @@ impl SlowKernel {
             Task {
                 op_index,
                 used: 0,
+                call: Call::default(),
                 status,
                 ..task
             },
@@ -355,8 +415,18 @@ impl SlowKernel {
             Op::Expect(wanted) => self.expect(app, id, wanted),
             Op::Repeat(turns) => self.open_loop(app, id, turns),
             Op::End => self.close_turn(app, id),
-            // no application has objects yet
-            Op::Await(..) | Op::Do(..) | Op::MessagesWaiting(_) | Op::SpacesAvailable(_) => {}
+            Op::Await(object, access, ticks) => {
+                self.go_on_waiting(app, id, object.number, access, ticks);
+            }
+            Op::Do(object, access) => self.act_at_once(app, id, object.number, access),
+            Op::MessagesWaiting(object) => {
+                let (items, _) = self.fill(object.number);
+                self.answer(app, id, Some(items));
+            }
+            Op::SpacesAvailable(object) => {
+                let (_, room) = self.fill(object.number);
+                self.answer(app, id, Some(room));
+            }
         }
     }
 
@@ -369,16 +439,19 @@ impl SlowKernel {
                 }
             }
         }
-        if self.current.is_some_and(|id| !self.is_ready(id)) {
+        if !self.is_held && self.current.is_some_and(|id| !self.is_ready(id)) {
             self.choose();
         }
         self.steps = self.steps.wrapping_add(1);
     }
 
-    fn is_any_asleep(&self) -> bool {
-        self.tasks
-            .iter()
-            .any(|task| matches!(task.status, Status::Asleep { .. }))
+    fn will_any_wake(&self) -> bool {
+        for number in 0..32 {
+            if self.alarm(TaskId { number }).is_some() {
+                return true;
+            }
+        }
+        false
     }
 
     fn are_all_ended(&self) -> bool {
@@ -397,7 +470,7 @@ impl SlowKernel {
             Some(End::Ticks)
         } else if self.steps >= limits.steps {
             Some(End::Steps)
-        } else if self.current.is_none() && !self.is_any_asleep() {
+        } else if self.current.is_none() && !self.will_any_wake() {
             Some(End::Stuck)
         } else {
             None

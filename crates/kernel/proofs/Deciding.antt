@@ -1,16 +1,16 @@
 -- Where a call decides to wait, and is placed: what that makes of the states that the kernel stands for.
-use Rattle.std.proofs.Common.{◌≡◌, ◌≢◌, ◌<◌, ◌+◌, ◌||◌, ℕ, Bool, true, false, eqb, set, List, length, get_or, get_or-set_same, get_or-set_other, Option, Some, None, refl, ap, sym, subst, ◌∙◌, arith}
+use Rattle.std.proofs.Common.{◌≡◌, ◌≢◌, ◌<◌, ◌+◌, ◌-◌, ◌||◌, ℕ, Bool, true, false, eqb, set, List, length, get_or, get_or-set_same, get_or-set_other, Option, Some, None, refl, ap, sym, subst, ◌∙◌, arith}
 use Rattle.std.specs.Prelude.{if◌then◌else◌}
-use Rattle.std.specs.Option.{IfSome}
+use Rattle.std.specs.Option.{IfSome, is_some}
 use Rattle.std.proofs.Math.ListN.{length-set}
 use Rattle.model.specs.declared.call.CallProgress.{CallProgress}
-use Rattle.model.specs.declared.call.Phase.TheVariants.{Place, Unlock}
+use Rattle.model.specs.declared.call.Phase.TheVariants.{Place, Try, Unlock}
 use Rattle.model.specs.declared.call.WaitList.{WaitList}
 use Rattle.model.specs.declared.op.Access.{Access}
 use Rattle.model.specs.declared.event.Event.{Event}
 use Rattle.model.specs.State.{State, Task, Progress, Waiting, Wait, wait_if_awake, task_at, status_at, progress_at, call_at, with_task, go_on, no_task}
 use Rattle.model.specs.Switching.{is_ready}
-use Rattle.model.specs.Waiting.{wait_in, is_expired}
+use Rattle.model.specs.Waiting.{wait_in, is_expired, end_hold}
 use Rattle.model.specs.Objects.{possible, list_for}
 use Rattle.model.specs.Calls.{decide}
 use Rattle.model.specs.Invariant.{IsTable}
@@ -33,15 +33,16 @@ use Rattle.objects.proofs.Deciding.{stands_deciding}
 use Rattle.kernel.specs.declared.kernel.Kernel.{Kernel}
 use Rattle.kernel.specs.StandsFor.{StandsBefore, At, AtAny, decider, progress_in, with_progress}
 use Rattle.kernel.specs.StandsFor.Stands.{Placed, Placing}
-use Rattle.kernel.specs.Can.{CanDecide}
+use Rattle.kernel.specs.Can.{CanDecide, CanLeave}
 use Rattle.kernel.proofs.Parts.{clock-same, progress-set, same_parts, same_alike}
 use Rattle.kernel.proofs.Acting.{within}
+use Rattle.kernel.proofs.Waits.{recalled}
 
 not_held : (b : Bool) (depth : ℕ) → depth ≡ (if b then 1 else 0) → depth ≡ 0 → b ≡ false
 not_held true depth e z = absurd (cc)
 not_held false depth e z = refl
 
-pub is_held : (b : Bool) (depth : ℕ) → depth ≡ (if b then 1 else 0) → 0 < depth → b ≡ true
+is_held : (b : Bool) (depth : ℕ) → depth ≡ (if b then 1 else 0) → 0 < depth → b ≡ true
 is_held true depth e l = refl
 is_held false depth e l = absurd (omega (arith, e, l))
 
@@ -337,7 +338,7 @@ module _ (k : Kernel) (log : List Event) (s : State) (i : ℕ) (list : WaitList)
 
 -- ---- the hold ends
 
-pub unheld_at : (k : Kernel) (log : List Event) (s : State) → At k log s → (v : Schedule) → sched.StandsFor v (record s { call_hold = false }) → At (record k { sched = v }) log (record s { call_hold = false })
+unheld_at : (k : Kernel) (log : List Event) (s : State) → At k log s → (v : Schedule) → sched.StandsFor v (record s { call_hold = false }) → At (record k { sched = v }) log (record s { call_hold = false })
 unheld_at k log s h v on =
     let new : State = record s { call_hold = false } in
     let same : SameWaits s new = same_parts s new refl refl refl in
@@ -357,3 +358,17 @@ unheld_at k log s h v on =
       };
       log = h.log;
     }
+
+-- The task's call has let go of the scheduler, and will try again.
+module _ (k new : Kernel) (log : List Event) (s : State) (h : At k log s) (i : ℕ) (c : CanLeave k i) (w : Schedule) (unhold : s.call_hold ≡ true → sched.StandsFor w (record s { call_hold = false })) (less : w ≡ record k.sched { depth = k.sched.depth - 1 })
+    (v : Progress) (view : v ≡ progress_in k.progress i) (is : new ≡ with_progress i (record (progress_in k.progress i) { call = record v.call { phase = Try; list = None } }) (record k { sched = w })) where
+  same : v ≡ progress_at s i
+  same = view ∙ h.stands.rest.progress i
+
+  pub freed : At new log (end_hold i Try s)
+  freed = recalled (record k { sched = w }) new log (record s { call_hold = false }) (unheld_at k log s h w (unhold (is_held s.call_hold k.sched.depth h.stands.sched.depth c.held))) i
+      (ap (λ (x : Schedule). x.current) less ∙ c.call.current)
+      (record v.call { phase = Try; list = None }) (record (call_at s i) { phase = Try; list = None }) is (ap (λ (p : Progress). record p.call { phase = Try; list = None }) same) (λ e. absurd (cc))
+
+  pub waited : is_some (call_at s i).list ≡ is_some v.call.list
+  waited = ap (λ (p : Progress). is_some p.call.list) (sym same)

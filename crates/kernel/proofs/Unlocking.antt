@@ -1,11 +1,11 @@
 -- A queue is unlocked, and whoever is Awake becomes Ready.
 use Rattle.std.proofs.Common.{◌≡◌, ◌≢◌, ◌<◌, ℕ, true, false, List, [], ◌∷◌, ◌++◌, length, Option, Some, None, IsSome, refl, ap, sym, subst, ◌∙◌}
 use Rattle.std.specs.List.{AllByRecursion}
-use Rattle.std.specs.Option.{is_some, option_and_then}
+use Rattle.std.specs.Option.{option_and_then}
 use Rattle.model.specs.declared.call.WaitList.{WaitList}
 use Rattle.model.specs.declared.call.WaitList.TheVariants.{ToReceive, ToSend}
 use Rattle.model.specs.declared.event.Event.{Event}
-use Rattle.model.specs.State.{State, Task, Status, Ready, Awake, Waiting, Asleep, Ended, ticket_if_ready, wait_if_awake, status_at, for_one, for_each}
+use Rattle.model.specs.State.{State, Task, Status, Ready, Awake, Waiting, Asleep, Ended, wait_if_awake, status_at, for_one, for_each}
 use Rattle.model.specs.Order.{Key, Entry, tasks_of}
 use Rattle.model.specs.Switching.{is_ready, make_ready}
 use Rattle.model.specs.Waiting.{awakened, wait_key, unlock, unlock_object}
@@ -29,18 +29,12 @@ use Rattle.kernel.specs.StandsFor.{StandsFor, At}
 use Rattle.kernel.specs.Can.{AreToWake}
 use Rattle.kernel.proofs.Parts.{clock-same}
 use Rattle.kernel.proofs.Waking.{progress-all_ready, log-all_ready}
+use Rattle.kernel.proofs.Waits.{unready_awake}
 
 -- ---- those who are Awake can all become Ready
 
 awake_key : WaitList → Task → Option Key
 awake_key list t = option_and_then (wait_key list) (wait_if_awake t.status)
-
-unready_by : (list : WaitList) (u : Status) (k : Key) → option_and_then (wait_key list) (wait_if_awake u) ≡ Some k → is_some (ticket_if_ready u) ≡ false
-unready_by list (Ready n) k e = absurd (cc)
-unready_by list (Awake w) k e = refl
-unready_by list (Waiting w) k e = refl
-unready_by list (Asleep w n) k e = refl
-unready_by list Ended k e = absurd (cc)
 
 -- nobody was woken from both lists
 in_one : (o : ℕ) (u : Status) (k m : Key) → option_and_then (wait_key (ToReceive o)) (wait_if_awake u) ≡ Some k → option_and_then (wait_key (ToSend o)) (wait_if_awake u) ≡ Some m → ⊥
@@ -77,12 +71,12 @@ module _ (k : Kernel) (s : State) (h : StandsFor k s) (o : ℕ) where
   senders_wake : (fs : List Entry) → AllByRecursion Sends fs → Distinct fs → AreToWake k.sched (tasks_of fs)
   unfolding Sends awake_key
   senders_wake [] has d = tt
-  senders_wake (f ∷ fs) has d = (unready f.task (unready_by (ToSend o) (status_at s f.task) f.key has.0.key), apart_in f fs d.0, senders_wake fs has.1 d.1)
+  senders_wake (f ∷ fs) has d = (unready f.task (unready_awake (ToSend o) (status_at s f.task) f.key has.0.key), apart_in f fs d.0, senders_wake fs has.1 d.1)
 
   all_wake : (es fs : List Entry) → AllByRecursion Receives es → Distinct es → AllByRecursion Sends fs → Distinct fs → AreToWake k.sched (tasks_of es ++ tasks_of fs)
   unfolding Receives awake_key
   all_wake [] fs has d more c = senders_wake fs more c
-  all_wake (e ∷ es) fs has d more c = (unready e.task (unready_by (ToReceive o) (status_at s e.task) e.key has.0.key), apart_from e has.0 es fs d.0 more, all_wake es fs has.1 d.1 more c)
+  all_wake (e ∷ es) fs has d more c = (unready e.task (unready_awake (ToReceive o) (status_at s e.task) e.key has.0.key), apart_from e has.0 es fs d.0 more, all_wake es fs has.1 d.1 more c)
 
   within_by : (list : WaitList) (es : List Entry) → AllByRecursion (HasKey (awake_key list) s.tasks) es → AllByRecursion (λ i. i < length s.tasks) (tasks_of es)
   within_by list [] has = tt

@@ -10,7 +10,7 @@ use Rattle.model.specs.declared.call.WaitList.{WaitList}
 use Rattle.model.specs.declared.op.Access.{Access}
 use Rattle.model.specs.declared.event.Event.{Event}
 use Rattle.model.specs.Application.{Application}
-use Rattle.model.specs.State.{State, Task, Progress, Object, Status, Ready, Awake, Waiting, Asleep, Ended, ticket_if_ready, wait_if_waiting, task_at, status_at, progress_at, call_at, object_at, with_call, with_object, go_on, for_one, no_task}
+use Rattle.model.specs.State.{State, Task, Progress, Object, Status, Wait, Ready, Awake, Waiting, Asleep, Ended, ticket_if_ready, wait_if_waiting, wait_if_awake, wait_of, task_at, status_at, progress_at, call_at, object_at, with_call, with_object, go_on, for_one, no_task}
 use Rattle.model.specs.State as state
 use Rattle.model.specs.Order.{Key, Entry, first, task_of}
 use Rattle.model.specs.Switching.{is_ready, make_ready, preempt, choose}
@@ -76,12 +76,37 @@ record WaitsThere (s : State) (i : ℕ) : Type 0 where
 waits_key : WaitList → Task → Option Key
 waits_key list t = option_and_then (wait_key list) (wait_if_waiting t.status)
 
-unready_by : (list : WaitList) (u : Status) (k : Key) → option_and_then (wait_key list) (wait_if_waiting u) ≡ Some k → is_some (ticket_if_ready u) ≡ false
-unready_by list (Ready n) k e = absurd (cc)
-unready_by list (Awake w) k e = refl
-unready_by list (Waiting w) k e = refl
-unready_by list (Asleep w n) k e = refl
-unready_by list Ended k e = absurd (cc)
+-- who waits isn't Ready
+unready : (u : Status) → is_some (wait_of u) ≡ true → is_some (ticket_if_ready u) ≡ false
+unready (Ready n) e = absurd (cc)
+unready (Awake w) e = refl
+unready (Waiting w) e = refl
+unready (Asleep w n) e = refl
+unready Ended e = refl
+
+some_wait : (list : WaitList) (o : Option Wait) (k : Key) → option_and_then (wait_key list) o ≡ Some k → is_some o ≡ true
+some_wait list None k e = absurd (cc)
+some_wait list (Some w) k e = refl
+
+waiting_waits : (u : Status) → is_some (wait_if_waiting u) ≡ true → is_some (wait_of u) ≡ true
+waiting_waits (Ready n) e = absurd (cc)
+waiting_waits (Awake w) e = refl
+waiting_waits (Waiting w) e = refl
+waiting_waits (Asleep w n) e = absurd (cc)
+waiting_waits Ended e = absurd (cc)
+
+awake_waits : (u : Status) → is_some (wait_if_awake u) ≡ true → is_some (wait_of u) ≡ true
+awake_waits (Ready n) e = absurd (cc)
+awake_waits (Awake w) e = refl
+awake_waits (Waiting w) e = refl
+awake_waits (Asleep w n) e = absurd (cc)
+awake_waits Ended e = absurd (cc)
+
+pub unready_waiting : (list : WaitList) (u : Status) (k : Key) → option_and_then (wait_key list) (wait_if_waiting u) ≡ Some k → is_some (ticket_if_ready u) ≡ false
+unready_waiting list u k e = unready u (waiting_waits u (some_wait list (wait_if_waiting u) k e))
+
+pub unready_awake : (list : WaitList) (u : Status) (k : Key) → option_and_then (wait_key list) (wait_if_awake u) ≡ Some k → is_some (ticket_if_ready u) ≡ false
+unready_awake list u k e = unready u (awake_waits u (some_wait list (wait_if_awake u) k e))
 
 best_waits : (s : State) (list : WaitList) (i : ℕ) → Some i ≡ best s list → WaitsThere s i
 unfolding waits_key
@@ -90,7 +115,7 @@ best_waits s list i is = by_entries (waiters s list) (list_has (waits_key list) 
   by_entries [] has e = absurd (cc)
   by_entries (x ∷ xs) has e =
       let same : i ≡ x.task = cc in
-      record { within = rw same has.0.within; unready = rw same (unready_by list (status_at s x.task) x.key has.0.key) }
+      record { within = rw same has.0.within; unready = rw same (unready_waiting list (status_at s x.task) x.key has.0.key) }
 
 -- the answer where someone becomes Ready
 open_then : (b : Bool) (o : Option ℕ) (i : ℕ) → Some i ≡ (if b then None else o) → (b ≡ false) × (Some i ≡ o)

@@ -55,8 +55,10 @@ impl Kernel {
         self.go_to(app, task, next);
     }
 
-    /// A call of the running task is complete with this answer.
-    fn answer<L: Log>(&mut self, app: &App, task: TaskId, given: Option<u32>, log: &mut L)
+    /// A call of the running task is complete with this answer, or with `none`.
+    // Apart from `answer`, since most calls answer a number, and the step is faster where that is known.
+    #[inline(always)]
+    fn answer_given<L: Log>(&mut self, app: &App, task: TaskId, given: Option<u32>, log: &mut L)
         requires room { 1 ≤ (L.logged log.old).room }
         requires runs { Runs self.old task }
         ensures does { Does 1 self.old (L.logged log.old) self.new (L.logged log.new)
@@ -68,6 +70,18 @@ impl Kernel {
         self.write(log, called(task, op_index, given));
         self.set_answer(task, given);
         self.complete(app, task);
+    }
+
+    /// A call of the running task is complete with this number as its answer.
+    fn answer<L: Log>(&mut self, app: &App, task: TaskId, number: u32, log: &mut L)
+        requires room { 1 ≤ (L.logged log.old).room }
+        requires runs { Runs self.old task }
+        ensures does { Does 1 self.old (L.logged log.old) self.new (L.logged log.new)
+            (answer app.now task (Some number)) }
+        ensures clock { self.new.clock ≡ self.old.clock }
+        ensures queues { self.new.queues ≡ self.old.queues }
+    {
+        self.answer_given(app, task, Some(number), log);
     }
 
     /// What the running task's op does.

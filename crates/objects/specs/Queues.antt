@@ -1,5 +1,6 @@
 -- What callers see of the queues, and the states that it stands for.
 use Rattle.std.specs.Prelude.{◌≡◌, ℕ, ◌==◌, if◌then◌else◌, List, Option, Some, None, map, option_map, option_and_then, slice_index_or, IfSome}
+use Rattle.lists.specs.Lists.{first_of}
 use Rattle.model.specs.declared.call.WaitList.{WaitList}
 use Rattle.model.specs.declared.call.WaitList.TheVariants.{ToReceive, ToSend}
 use Rattle.model.specs.Application.{Application}
@@ -7,6 +8,7 @@ use Rattle.model.specs.State.{State, Object, no_object, object_at, wait_of, wait
 use Rattle.model.specs.Step.{object_at_reset}
 use Rattle.objects.specs.declared.lock.Lock.{Lock}
 use Rattle.objects.specs.Items.{object_in}
+use Rattle.objects.specs.WaitingLists.{waiting_in, without_best, without_woken}
 use Rattle.objects.specs.WaitersStand.{Decider, FirstAwake, WaitersStand, one_more, standing}
 
 pub record Exchange : Type 0 where
@@ -31,6 +33,22 @@ counted (ToSend object) lock =
 -- the same of the lock, if there is one
 abbrev pub counted_by : WaitList → Option Lock → Option Lock
 counted_by list lock = option_and_then (counted list) lock
+
+-- A wake of a list changes this lock, which counts it, or else the list, whose best waiter is taken out.
+abbrev pub after_wake : Option Lock → WaitList → Exchange → Exchange
+after_wake (Some lock) list v = record v { lock = Some lock }
+after_wake None list v = record v { waiting = without_best list 1 v.waiting }
+
+-- Who becomes Ready by it: nobody where a lock counts it.
+abbrev pub readied_by : Option Lock → WaitList → Exchange → Option ℕ
+readied_by (Some lock) list v = None
+readied_by None list v = first_of (waiting_in v.waiting list)
+
+-- The lock ends, if there is one, and as many as it has counted are taken out of the lists of its object.
+abbrev pub after_unlock : Option Lock → Exchange → Exchange
+after_unlock (Some lock) v =
+    record v { lock = None; waiting = without_woken lock.object lock.receivers lock.senders v.waiting }
+after_unlock None v = v
 
 -- So many of the object's lists are Awake as the lock counts, and stand first.
 abbrev pub Counts : State → Lock → Type 0

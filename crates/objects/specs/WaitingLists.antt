@@ -1,5 +1,5 @@
 -- What callers see of the waiting lists: for each list its tasks in order, each with its priority.
-use Rattle.std.specs.Prelude.{ℕ, ◌+◌, ◌-◌, ◌*◌, ◌≤◌, nat_lt, if◌then◌else◌, List, [], ◌∷◌, map}
+use Rattle.std.specs.Prelude.{ℕ, ◌+◌, ◌-◌, ◌*◌, ◌≤◌, nat_lt, if◌then◌else◌, List, [], ◌∷◌, map, drop, slice_set}
 use Rattle.model.specs.declared.call.WaitList.{WaitList}
 use Rattle.model.specs.declared.call.WaitList.TheVariants.{ToReceive, ToSend}
 use Rattle.lists.specs.Lists.{Each, IsSound, entries_of}
@@ -12,6 +12,15 @@ number_of (ToSend object) = 2 * object + 1
 -- the tasks of a list, each with its priority
 abbrev pub waiting_in : List (List (ℕ × ℕ)) → WaitList → List (ℕ × ℕ)
 waiting_in lists list = entries_of lists (number_of list)
+
+-- So many of the best waiters are taken out of a list.
+abbrev pub without_best : WaitList → ℕ → List (List (ℕ × ℕ)) → List (List (ℕ × ℕ))
+without_best list count lists = slice_set lists (number_of list) (drop count (waiting_in lists list))
+
+-- So many are taken out of the two lists of an object, of those who wait to receive and of those who wait to send.
+abbrev pub without_woken : ℕ → ℕ → ℕ → List (List (ℕ × ℕ)) → List (List (ℕ × ℕ))
+without_woken object receivers senders lists =
+    without_best (ToSend object) senders (without_best (ToReceive object) receivers lists)
 
 -- a task with its priority put behind all that are not of lower priority (`vListInsert`)
 abbrev pub insert_by_priority : ℕ × ℕ → List (ℕ × ℕ) → List (ℕ × ℕ)

@@ -15,7 +15,7 @@ ghost use Rattle.model.specs.Objects.{allows, object_after, reply};
 ghost use Rattle.objects.specs.Items.{object_in};
 ghost use Rattle.objects.specs.WaitingLists.{insert_by_priority, number_of, waiting_in};
 ghost use Rattle.objects.specs.WaitersStand.{AreAwakened, AtLocked, Decider, opened};
-ghost use Rattle.objects.specs.Queues.{StandsFor, counted_by, size_in};
+ghost use Rattle.objects.specs.Queues.{StandsFor, after_unlock, after_wake, counted_by, readied_by, size_in};
 
 use crate::items::Items;
 use crate::lock::Lock;
@@ -189,6 +189,8 @@ impl Queues {
     /// waits there, and where its object is locked: then the wake is counted.
     pub fn wake_best(&mut self, list: WaitList) -> Option<TaskId>
         ensures objects { self.new.objects ≡ self.old.objects }
+        ensures woken { self.new ≡ after_wake (counted_by list self.old.lock) list self.old }
+        ensures best { result ≡ readied_by (counted_by list self.old.lock) list self.old }
         ensures stands { (s : State) (decider : Option Decider) → StandsFor self.old decider s
             → AtLocked decider s → StandsFor self.new decider (waiting.wake_best list s) }
         ensures ready { (s : State) (decider : Option Decider) → StandsFor self.old decider s
@@ -217,6 +219,7 @@ impl Queues {
     /// first those who waited to receive. `None` where nothing is locked.
     pub fn unlock(&mut self) -> Option<Unlocked>
         ensures locked { IsSome result ↔ IsSome self.old.lock }
+        ensures left { self.new ≡ after_unlock self.old.lock self.old }
         ensures free { self.new.lock ≡ None }
         ensures objects { self.new.objects ≡ self.old.objects }
         ensures stands { (s : State) → StandsFor self.old None s

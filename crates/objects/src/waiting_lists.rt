@@ -9,7 +9,7 @@ ghost use Rattle.model.specs.Switching.{make_ready};
 ghost use Rattle.model.specs.Waiting as waiting;
 ghost use Rattle.model.specs.Waiting.{is_locked, waiters, wait_in, wake_best};
 ghost use Rattle.model.specs.Invariant.{IsTable};
-ghost use Rattle.objects.specs.WaitingLists.{insert_by_priority, number_of, tasks_in, waiting_in};
+ghost use Rattle.objects.specs.WaitingLists.{insert_by_priority, number_of, tasks_in, waiting_in, without_woken};
 ghost use Rattle.objects.specs.WaitersStand.{AreAwakened, AtLocked, Decider, StandLocked, WaitersStand, opened, standing};
 
 use arrayvec::ArrayVec;
@@ -185,6 +185,7 @@ impl WaitingLists {
     /// Takes those out of the lists of an object that were woken while it was locked: so many of those who wait to
     /// receive, and of those who wait to send. They become Ready, the former first.
     pub(crate) fn unlock(&mut self, object: ObjectId, receivers: u8, senders: u8) -> Unlocked
+        ensures left { self.new ≡ without_woken object receivers senders self.old }
         ensures awakened { (s : State) → StandLocked self.old None object receivers senders s
             → AreAwakened s object result.to_receive.items result.to_send.items }
         ensures woken { (s : State) → StandLocked self.old None object receivers senders s

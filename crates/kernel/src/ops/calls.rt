@@ -118,10 +118,10 @@ impl Kernel {
     {
         if self.queues.possible(object, access) {
             let answer = self.fulfil(task, object, access);
-            self.answer(app, task, answer, log);
+            self.answer_given(app, task, answer, log);
             self.preempt(log);
         } else if self.is_expired(task) {
-            self.answer(app, task, refusal(access), log);
+            self.answer_given(app, task, refusal(access), log);
         } else {
             self.set_phase(task, Phase::Decide);
         }

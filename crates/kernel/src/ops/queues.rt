@@ -79,9 +79,9 @@ impl Kernel {
     {
         if self.queues.possible(object, access) {
             let answer = self.fulfil(task, object, access);
-            self.answer(app, task, answer, log);
+            self.answer_given(app, task, answer, log);
         } else {
-            self.answer(app, task, refusal(access), log);
+            self.answer_given(app, task, refusal(access), log);
         }
         self.preempt(log);
     }
@@ -100,7 +100,7 @@ impl Kernel {
             (act app.now task (op.MessagesWaiting queue)) }
     {
         let waiting = self.queues.waiting(queue) as u32;
-        self.answer(app, task, Some(waiting), log);
+        self.answer(app, task, waiting, log);
     }
 
     /// `spaces`: the number of items that a queue still has room for is the answer.
@@ -117,6 +117,6 @@ impl Kernel {
             (act app.now task (op.SpacesAvailable queue)) }
     {
         let spaces = self.queues.spaces(queue) as u32;
-        self.answer(app, task, Some(spaces), log);
+        self.answer(app, task, spaces, log);
     }
 }

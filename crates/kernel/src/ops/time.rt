@@ -59,7 +59,7 @@ impl Kernel {
         ensures { Does 2 self.old (L.logged log.old) self.new (L.logged log.new)
             (act app.now task (op.Delay ticks)) }
     {
-        self.answer(app, task, Some(0), log);
+        self.answer(app, task, 0, log);
         if ticks == 0 {
             self.yield_now(log);
         } else {
@@ -78,11 +78,11 @@ impl Kernel {
         let wake_time = self.progress(task).previous_wake + ticks as u64;
         let now = self.clock.mark().moment;
         if now < wake_time {
-            self.answer(app, task, Some(1), log);
+            self.answer(app, task, 1, log);
             self.sleep(task, (wake_time - now) as u32);
             self.set_previous_wake(task, wake_time);
         } else {
-            self.answer(app, task, Some(0), log);
+            self.answer(app, task, 0, log);
             self.set_previous_wake(task, wake_time);
         }
     }
@@ -94,7 +94,7 @@ impl Kernel {
         ensures { Does 2 self.old (L.logged log.old) self.new (L.logged log.new)
             (act app.now task op.Yield) }
     {
-        self.answer(app, task, Some(0), log);
+        self.answer(app, task, 0, log);
         self.yield_now(log);
     }
 
@@ -106,6 +106,6 @@ impl Kernel {
             (act app.now task op.Time) }
     {
         let tick = self.clock.tick();
-        self.answer(app, task, Some(tick), log);
+        self.answer(app, task, tick, log);
     }
 }

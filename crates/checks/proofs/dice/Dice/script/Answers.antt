@@ -5,8 +5,8 @@ use Rattle.checks.proofs.dice.Dice.script.Goals as goal
 pub loop-preserved : goal.loop-preserved
 loop-preserved c = (
   (let few = c.loop.invariant.0 in let more = few-pushed c.loop.script c.push.new.self _ c.push.result c.push.ensures.ok c.push.ensures.err in omega (arith, few, more)),
-  known-pushed c.loop.script c.push.new.self _ c.push.result c.push.ensures.ok c.push.ensures.err c.loop.invariant.1 c.op.ensures.known,
+  known-pushed _ c.loop.script c.push.new.self _ c.push.result c.push.ensures.ok c.push.ensures.err c.loop.invariant.1 c.op.ensures.known,
 )
 
 pub returns-clause-known : goal.returns-clause-known
-returns-clause-known c = known-finished c.finish.result _ c.finish.ensures.script c.close.ensures
+returns-clause-known c = known-finished _ c.finish.result _ c.finish.ensures.script c.close.ensures

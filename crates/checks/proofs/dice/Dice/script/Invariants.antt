@@ -3,4 +3,4 @@ use Rattle.checks.specs.Known.{AreKnown}
 use Rattle.checks.proofs.dice.Dice.script.Given as goal
 
 abbrev pub invariant-loop : goal.invariant-loop
-invariant-loop l = (length l.script ≤ l.counter) × AreKnown l.script
+invariant-loop l = (length l.script ≤ l.counter) × AreKnown l.objects l.script

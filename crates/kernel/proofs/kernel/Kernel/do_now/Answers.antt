@@ -15,21 +15,21 @@ returns g c = record {
       let told = (g.L.Log.logged c.preempt.new.log).told in
       elim c.if-possible.branch [
         | then-possible w ↦
-            let there = w.answer.ensures.does.at _ (w.fulfil-answer.ensures.does _ s h) in
-            let same = subst (λ (a : Option ℕ). At w.answer.new.self (g.L.Log.logged w.answer.new.log).told (answer app i a (fulfil (Some i) c.args.object c.args.access s))) (w.fulfil-answer.ensures.answer s h.stands) there in
+            let there = w.answer_given.ensures.does.at _ (w.fulfil-answer.ensures.does _ s h) in
+            let same = subst (λ (a : Option ℕ). At w.answer_given.new.self (g.L.Log.logged w.answer_given.new.log).told (answer app i a (fulfil (Some i) c.args.object c.args.access s))) (w.fulfil-answer.ensures.answer s h.stands) there in
             did app c.preempt.new.self told s i c.args.object c.args.access (sym (c.possible.ensures.stands s None h.stands.rest.queues) ∙ w.if-possible.true)
             (c.preempt.ensures.at _ (rw (w.self-is, w.log-is) same))
         | else-possible w ↦
             let not = sym (c.possible.ensures.stands s None h.stands.rest.queues) ∙ w.if-possible.false in
-            let same = subst (λ (a : Option ℕ). At w.answer-else-possible.new.self (g.L.Log.logged w.answer-else-possible.new.log).told (answer app i a s)) (w.refusal.ensures (object_at s c.args.object) not) (w.answer-else-possible.ensures.does.at s h) in
+            let same = subst (λ (a : Option ℕ). At w.answer_given-else-possible.new.self (g.L.Log.logged w.answer_given-else-possible.new.log).told (answer app i a s)) (w.refusal.ensures (object_at s c.args.object) not) (w.answer_given-else-possible.ensures.does.at s h) in
             did_not app c.preempt.new.self told s i c.args.object c.args.access not (c.preempt.ensures.at _ (rw (w.self-is, w.log-is) same))
       ];
   few = let b = c.preempt.ensures.few in elim c.if-possible.branch [
-    | then-possible w ↦ let a = w.answer.ensures.does.few in let l = w.log-is in omega (arith, ap (λ x. (g.L.Log.logged x).room) l)
-    | else-possible w ↦ let a = w.answer-else-possible.ensures.does.few in let l = w.log-is in omega (arith, ap (λ x. (g.L.Log.logged x).room) l)
+    | then-possible w ↦ let a = w.answer_given.ensures.does.few in let l = w.log-is in omega (arith, ap (λ x. (g.L.Log.logged x).room) l)
+    | else-possible w ↦ let a = w.answer_given-else-possible.ensures.does.few in let l = w.log-is in omega (arith, ap (λ x. (g.L.Log.logged x).room) l)
   ];
   before = c.preempt.ensures.before ∙ elim c.if-possible.branch [
-    | then-possible w ↦ rw w.log-is w.answer.ensures.does.before
-    | else-possible w ↦ rw w.log-is w.answer-else-possible.ensures.does.before
+    | then-possible w ↦ rw w.log-is w.answer_given.ensures.does.before
+    | else-possible w ↦ rw w.log-is w.answer_given-else-possible.ensures.does.before
   ];
 }

@@ -14,11 +14,11 @@ returns-then-possible g c = record {
       let app = c.args.app.now in
       let i : ℕ = c.args.task in
       let told = (g.L.Log.logged c.preempt.new.log).told in
-      let there = c.preempt.ensures.at _ (c.answer.ensures.does.at _ (c.fulfil-answer.ensures.does _ s h)) in
+      let there = c.preempt.ensures.at _ (c.answer_given.ensures.does.at _ (c.fulfil-answer.ensures.does _ s h)) in
       tried app c.preempt.new.self told s i c.args.object c.args.access (sym (c.possible.ensures.stands s None h.stands.rest.queues) ∙ c.if-possible.true)
       (subst (λ (a : Option ℕ). At c.preempt.new.self told (preempt (answer app i a (fulfil (Some i) c.args.object c.args.access s)))) (c.fulfil-answer.ensures.answer s h.stands) there);
-  few = let a = c.answer.ensures.does.few in let b = c.preempt.ensures.few in omega arith;
-  before = c.preempt.ensures.before ∙ c.answer.ensures.does.before;
+  few = let a = c.answer_given.ensures.does.few in let b = c.preempt.ensures.few in omega arith;
+  before = c.preempt.ensures.before ∙ c.answer_given.ensures.does.before;
 }
 
 pub returns-then-is_expired : goal.returns-then-is_expired
@@ -26,12 +26,12 @@ returns-then-is_expired g c = record {
   at = λ s h.
       let app = c.args.app.now in
       let i : ℕ = c.args.task in
-      let told = (g.L.Log.logged c.answer-then-is_expired.new.log).told in
+      let told = (g.L.Log.logged c.answer_given-then-is_expired.new.log).told in
       let not = sym (c.possible.ensures.stands s None h.stands.rest.queues) ∙ c.if-possible.false in
-      tried_late app c.answer-then-is_expired.new.self told s i c.args.object c.args.access not (sym (c.is_expired.ensures s h.stands) ∙ c.if-is_expired.true)
-      (subst (λ (a : Option ℕ). At c.answer-then-is_expired.new.self told (answer app i a s)) (c.refusal.ensures (object_at s c.args.object) not) (c.answer-then-is_expired.ensures.does.at s h));
-  few = let a = c.answer-then-is_expired.ensures.does.few in omega arith;
-  before = c.answer-then-is_expired.ensures.does.before;
+      tried_late app c.answer_given-then-is_expired.new.self told s i c.args.object c.args.access not (sym (c.is_expired.ensures s h.stands) ∙ c.if-is_expired.true)
+      (subst (λ (a : Option ℕ). At c.answer_given-then-is_expired.new.self told (answer app i a s)) (c.refusal.ensures (object_at s c.args.object) not) (c.answer_given-then-is_expired.ensures.does.at s h));
+  few = let a = c.answer_given-then-is_expired.ensures.does.few in omega arith;
+  before = c.answer_given-then-is_expired.ensures.does.before;
 }
 
 pub returns-else-is_expired : goal.returns-else-is_expired

@@ -1,5 +1,5 @@
 use Rattle.std.proofs.Common.{◌≡◌, rules, Some, None, sym, ◌∙◌, ap, subst}
-use Rattle.objects.specs.Queues.{Exchange, StandsFor}
+use Rattle.objects.specs.Queues.{Exchange, StandsFor, after_unlock}
 use Rattle.objects.proofs.Locking.{standing_locked, stands_unlocked, stands_unlocked_none}
 use Rattle.objects.proofs.queues.Queues.unlock.Goals as goal
 
@@ -24,3 +24,17 @@ returns-clause-awakened c = λ s h.
     let before = subst (λ (v : Exchange). StandsFor v None s) (sym c.self.view_is) h in
     let locked = standing_locked v None s c.in_ok-lock.lock before is in
     (c.in_ok-lock.lock.object, locked.locked, c.unlock.ensures.awakened s locked)
+
+pub returns-in_err-lock-clause-left : goal.returns-in_err-lock-clause-left
+returns-in_err-lock-clause-left c =
+    let none : c.self.inside.lock ≡ None = search rules in
+    sym (ap (λ l. after_unlock l c.args.self.now) (ap (λ (v : Exchange). v.lock) (sym c.self.view_is) ∙ none))
+
+pub returns-clause-left : goal.returns-clause-left
+returns-clause-left c =
+    let q = c.self.inside in
+    let v : Exchange = record { objects = q.items; waiting = q.waiting; lock = q.lock } in
+    let is : q.lock ≡ Some c.in_ok-lock.lock = search rules in
+    subst (λ (w : Exchange). record v { lock = None; waiting = c.unlock.new.self } ≡ after_unlock w.lock w)
+    c.self.view_is
+    (ap (λ w. record v { lock = None; waiting = w }) c.unlock.ensures.left ∙ ap (λ l. after_unlock l v) (sym is))

@@ -1,6 +1,8 @@
-use Rattle.std.proofs.Common.{ℕ, List, None, sym, ◌∙◌, subst}
+use Rattle.std.proofs.Common.{ℕ, List, None, sym, ◌∙◌, ap, subst}
 use Rattle.model.specs.State.{State, for_each}
 use Rattle.model.specs.Switching.{make_ready}
+use Rattle.model.specs.declared.call.WaitList.TheVariants.{ToSend}
+use Rattle.objects.specs.WaitingLists.{without_best}
 use Rattle.objects.specs.WaitersStand.{WaitersStand, opened}
 use Rattle.objects.proofs.Unlocking.{awakened_are, each_append, stands_opened, unlocks}
 use Rattle.objects.proofs.waiting_lists.WaitingLists.unlock.Goals as goal
@@ -18,3 +20,7 @@ returns-clause-unlocks c = λ s h.
     let one = c.take-to_receive.ensures.woken (opened s) (stands_opened c.args.self.now s h.stand) in
     let two = c.take-to_send.ensures.woken (for_each make_ready is (opened s)) one in
     subst (λ (t : State). WaitersStand c.take-to_send.new.self None t) (sym (returns-clause-woken c s h ∙ each_append is js (opened s))) two
+
+pub returns-clause-left : goal.returns-clause-left
+returns-clause-left c =
+    c.take-to_send.ensures.left ∙ ap (without_best (ToSend c.args.object) c.args.senders) c.take-to_receive.ensures.left

@@ -1,7 +1,7 @@
 use Rattle.std.proofs.Common.{◌∙◌}
 use Rattle.kernel.specs.contracts.progress.Progress.{the_view}
 use Rattle.kernel.proofs.Acting.{answered}
-use Rattle.kernel.proofs.kernel.Kernel.answer.Goals as goal
+use Rattle.kernel.proofs.kernel.Kernel.answer_given.Goals as goal
 
 pub returns-clause-does : goal.returns-clause-does
 returns-clause-does g c = record {

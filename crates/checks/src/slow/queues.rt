@@ -1,0 +1,263 @@
+//! Queues, and the calls on them.
+
+use super::{Call, SlowKernel, Status, Task, Wait};
+use model::{Access, App, ObjectKind, Phase, TaskId};
+use std::alloc::{AllocError, Global};
+use std::collections::VecDeque;
+
+/// What a task waits for at a queue: an item, or room.
+#[derive(Clone, Copy, Debug, PartialEq, Eq)]
+pub(super) enum Side {
+    Receivers,
+    Senders,
+}
+
+#[derive(Drop)]
+pub(super) struct Queue {
+    length: usize,
+    items: VecDeque<u32>,
+}
+
+impl Queue {
+    fn is_possible(&self, access: Access) -> bool {
+        match access {
+            Access::Send(_) | Access::SendFront(_) => self.items.len() < self.length,
+            Access::Overwrite(_) => true,
+            Access::Receive | Access::Peek => !self.items.is_empty(),
+        }
+    }
+
+    /// What a possible call does. It answers as the call.
+    fn act(&mut self, access: Access) -> Result<Option<u32>, AllocError> {
+        match access {
+            Access::Receive => return Ok(self.items.pop_front()),
+            Access::Peek => return Ok(self.items.front().copied()),
+            Access::Send(item) => self.items.push_back(item)?,
+            Access::SendFront(item) => self.items.push_front(item)?,
+            Access::Overwrite(item) => {
+                self.items.clear();
+                self.items.push_back(item)?;
+            }
+        }
+        Ok(Some(1))
+    }
+}
+
+/// What a call answers that fails.
+fn failure(access: Access) -> Option<u32> {
+    match access {
+        Access::Receive | Access::Peek => None,
+        Access::Send(_) | Access::SendFront(_) | Access::Overwrite(_) => Some(0),
+    }
+}
+
+/// Where a call waits.
+fn own_side(access: Access) -> Side {
+    match access {
+        Access::Receive | Access::Peek => Side::Receivers,
+        Access::Send(_) | Access::SendFront(_) | Access::Overwrite(_) => Side::Senders,
+    }
+}
+
+/// Where a call wakes one who waits. A peek leaves the item to the next one.
+fn woken_side(access: Access) -> Side {
+    match access {
+        Access::Receive => Side::Senders,
+        Access::Peek | Access::Send(_) | Access::SendFront(_) | Access::Overwrite(_) => {
+            Side::Receivers
+        }
+    }
+}
+
+impl SlowKernel {
+    pub(super) fn make_queues(&mut self, alloc: Global, app: &App) {
+        for ObjectKind::Queue(length) in app.objects() {
+            let queue = Queue {
+                length: *length as usize,
+                items: VecDeque::new(alloc),
+            };
+            self.is_out_of_memory |= self.queues.push(queue).is_err();
+        }
+    }
+
+    /// How many items a queue has, and for how many more it has room.
+    pub(super) fn fill(&self, queue: u8) -> (u32, u32) {
+        let Some(queue) = self.queues.get(queue as usize) else {
+            return (0, 0);
+        };
+        let items = queue.items.len();
+        let room = queue.length.saturating_sub(items);
+        let [items, room] = [items, room].map(|n| u32::try_from(n).unwrap_or(u32::MAX));
+        (items, room)
+    }
+
+    fn is_possible(&self, queue: u8, access: Access) -> bool {
+        self.queues
+            .get(queue as usize)
+            .is_some_and(|queue| queue.is_possible(access))
+    }
+
+    /// The wait of a task that waits at this side of a queue.
+    fn wait_at(&self, task: TaskId, queue: u8, side: Side) -> Option<Wait> {
+        match self.task(task).status {
+            Status::Waiting(wait) if wait.queue == queue && wait.side == side => Some(wait),
+            _ => None,
+        }
+    }
+
+    /// Of those who wait at this side of a queue, the one of highest priority then, among equals the first that came.
+    fn best_waiter(&self, queue: u8, side: Side) -> Option<TaskId> {
+        let mut best = None;
+        for number in 0..32 {
+            let Some(wait) = self.wait_at(TaskId { number }, queue, side) else {
+                continue;
+            };
+            let key = (wait.priority, wait.ticket);
+            if best.is_none_or(|(_, other)| Self::is_before(key, other)) {
+                best = Some((number, key));
+            }
+        }
+        let (number, _) = best?;
+        TaskId::new(number)
+    }
+
+    /// A possible call is done, and wakes one task. It answers as the call.
+    fn fulfil(&mut self, queue: u8, access: Access) -> Option<u32> {
+        let done = self.queues.get_mut(queue as usize)?.act(access);
+        if let Some(task) = self.best_waiter(queue, woken_side(access)) {
+            self.wakes = self.wakes.saturating_add(1);
+            self.make_ready(task);
+        }
+        match done {
+            Ok(answer) => answer,
+            Err(_) => {
+                self.is_out_of_memory = true;
+                None
+            }
+        }
+    }
+
+    /// A call that doesn't wait.
+    pub(super) fn act_at_once(&mut self, app: &App, id: TaskId, queue: u8, access: Access) {
+        if self.is_possible(queue, access) {
+            let answer = self.fulfil(queue, access);
+            self.answer(app, id, answer);
+        } else {
+            self.answer(app, id, failure(access));
+        }
+        self.preempt();
+    }
+
+    fn set_call(&mut self, id: TaskId, call: Call) {
+        self.set(
+            id,
+            Task {
+                call,
+                ..self.task(id)
+            },
+        );
+    }
+
+    fn set_phase(&mut self, id: TaskId, phase: Phase) {
+        let call = self.task(id).call;
+        self.set_call(id, Call { phase, ..call });
+    }
+
+    fn is_expired(&self, id: TaskId) -> bool {
+        let deadline = self.task(id).call.deadline;
+        deadline.is_some_and(|deadline| deadline <= self.time)
+    }
+
+    fn start(&mut self, id: TaskId, ticks: Option<u32>) {
+        let deadline = match ticks {
+            None => None,
+            Some(ticks) => Some(self.time.wrapping_add(ticks as u64)),
+        };
+        let call = self.task(id).call;
+        self.set_call(id, Call { deadline, ..call });
+    }
+
+    fn try_again(&mut self, app: &App, id: TaskId, queue: u8, access: Access) {
+        if self.is_possible(queue, access) {
+            self.act_at_once(app, id, queue, access);
+        } else if self.is_expired(id) {
+            self.answer(app, id, failure(access));
+        } else {
+            self.set_phase(id, Phase::Decide);
+        }
+    }
+
+    fn decide(&mut self, id: TaskId, queue: u8, access: Access) {
+        self.is_held = true;
+        if self.is_possible(queue, access) || self.is_expired(id) {
+            self.set_phase(id, Phase::Unlock);
+        } else {
+            self.wait(id, queue, own_side(access));
+            self.set_phase(id, Phase::Place);
+        }
+    }
+
+    fn wait(&mut self, id: TaskId, queue: u8, side: Side) {
+        let task = self.task(id);
+        let wait = Wait {
+            queue,
+            side,
+            priority: task.priority,
+            deadline: task.call.deadline,
+            ticket: self.take_ticket(),
+        };
+        let call = Call {
+            has_waited: true,
+            ..task.call
+        };
+        let status = Status::Waiting(wait);
+        self.set(
+            id,
+            Task {
+                call,
+                status,
+                ..task
+            },
+        );
+    }
+
+    fn leave(&mut self, id: TaskId) {
+        let call = self.task(id).call;
+        self.is_held = false;
+        self.set_call(
+            id,
+            Call {
+                phase: Phase::Try,
+                has_waited: false,
+                ..call
+            },
+        );
+        if call.has_waited {
+            self.choose();
+        } else {
+            self.preempt();
+        }
+    }
+
+    /// A call that may wait does its next phase. With no handlers nobody is woken while a queue is locked.
+    pub(super) fn go_on_waiting(
+        &mut self,
+        app: &App,
+        id: TaskId,
+        queue: u8,
+        access: Access,
+        ticks: Option<u32>,
+    ) {
+        match self.task(id).call.phase {
+            Phase::Start => {
+                self.start(id, ticks);
+                self.try_again(app, id, queue, access);
+            }
+            Phase::Try => self.try_again(app, id, queue, access),
+            Phase::Decide => self.decide(id, queue, access),
+            Phase::Place => self.set_phase(id, Phase::Unlock),
+            Phase::Unlock => self.set_phase(id, Phase::Leave),
+            Phase::Leave => self.leave(id),
+        }
+    }
+}
