@@ -41,7 +41,7 @@ pub record IsReportOf (bytes report : List ℕ) (end : End) : Type 0 where
   pub app : Application
   pub file : IsFileOf bytes app
   pub run : Run
-  pub runs : IsRun app app.limits run
+  pub runs : IsRun app [] app.limits run
   pub ends : run.end ≡ end
   pub text : report ≡ run_text app run
 

@@ -1,5 +1,5 @@
 //! From the bytes of a file to the text of its run.
-ghost use Rattle.std.specs.Prelude.{◌≡◌, ℕ, List, false, IfOk, MatchResult};
+ghost use Rattle.std.specs.Prelude.{◌≡◌, ℕ, List, [], false, IfOk, MatchResult};
 ghost use Rattle.model.specs.Run.{IsRun};
 ghost use Rattle.jobs.specs.Serving.{IsFileOf, HasFault, is_read_fault, is_write_fault, Known, Serves};
 ghost use Rattle.jobs.specs.declared.serve.ServeFault.TheVariants as fault;
@@ -86,7 +86,7 @@ fn app_of<R: Source>(alloc: Global, reader: &mut R) -> Result<App, ServeFault>
 
 // The run of an application under its own limits.
 fn run_of(alloc: Global, app: &App) -> Result<Run, Memory>
-    ensures { IfOk result (λ run. IsRun app.now app.now.limits run) }
+    ensures { IfOk result (λ run. IsRun app.now [] app.now.limits run) }
 {
     let Ok(plan) = Plan::new(Vec::new(alloc)) else {
         unreachable!()

@@ -41,9 +41,9 @@ unended None false true p k h = absurd (cc)
 unended None false false true k h = absurd (cc)
 unended None false false false k h = (refl, refl)
 
-pub below_limits : (limits : Limits) (s : State) → end_of limits s ≡ None → (s.elapsed < limits.ticks) × (s.steps < limits.steps)
-below_limits limits s h =
-    let u = unended s.stopped (are_all_ended s) (leb limits.ticks s.elapsed) (leb limits.steps s.steps) (is_stuck s) h in
+pub below_limits : (app : Application) (limits : Limits) (s : State) → end_of app limits s ≡ None → (s.elapsed < limits.ticks) × (s.steps < limits.steps)
+below_limits app limits s h =
+    let u = unended s.stopped (are_all_ended s) (leb limits.ticks s.elapsed) (leb limits.steps s.steps) (is_stuck app s) h in
     (leb-less limits.ticks s.elapsed u.0, leb-less limits.steps s.steps u.1)
 
 loop_room : (op : Op) (nesting : ℕ) → may_stand nesting op ≡ true → HasLoopRoom op nesting
@@ -102,13 +102,13 @@ some_held false depth e t = absurd (cc)
 
 module _ (app : Application) (formed : IsWellFormed app) (k : Kernel) (c : CanStep app k) where
   abbrev state : State
-  state = state_after app c.steps
+  state = state_after app c.plan c.steps
 
   reached : IsState app state
-  reached = reached_after app formed c.steps
+  reached = reached_after app formed c.plan c.steps
 
   age_low : k.clock.age < 1000000
-  age_low = let e = age_is k state c.stands in let l = (below_limits c.limits state c.goes_on).0 in let m = c.tick_limit in omega arith
+  age_low = let e = age_is k state c.stands in let l = (below_limits app c.limits state c.goes_on).0 in let m = c.tick_limit in omega arith
 
   time_low : k.clock.now < 4294967296 + 1000000
   time_low = let e = now_is k state c.stands in let f = age_is k state c.stands in let l = age_low in let m = reached.sound.time in let n = formed.start in omega arith

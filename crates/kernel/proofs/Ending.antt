@@ -15,8 +15,8 @@ use Rattle.model.specs.Switching.{ready_key, settle, unless_held}
 use Rattle.model.specs.declared.call.WaitList.{WaitList}
 use Rattle.model.specs.Waiting.{same_list, wait_key}
 use Rattle.model.specs.Time.{delayed_key}
-use Rattle.model.specs.Step.{act_current, step}
-use Rattle.model.specs.Run.{is_ended, are_all_ended, is_stuck, end_of}
+use Rattle.model.specs.Step.{act_current, before_step, step}
+use Rattle.model.specs.Run.{is_ended, are_all_ended, will_wake, is_stuck, end_of}
 use Rattle.model.specs.Invariant.{IsTable}
 use Rattle.model.proofs.Sorting.{length-in_order, by_test}
 use Rattle.model.proofs.Lists.{eqb-apart, eqb-refl, HasKey, list_has}
@@ -131,6 +131,11 @@ asleep o (t ∷ ts) = by_status t t.status (asleep (o + 1) ts) where
   by_status t (Asleep w n) later = some (length (keyed delayed_key (o + 1) ts))
   by_status t Ended later = later
 
+and_true : (a b : Bool) → (a && b) ≡ (a && b && true)
+and_true true true = refl
+and_true true false = refl
+and_true false b = refl
+
 -- whether nobody sleeps
 abbrev is_quiet : State → Bool
 is_quiet s = eqb (length (keyed delayed_key 0 s.tasks)) 0
@@ -140,8 +145,8 @@ module _ (k : Kernel) (s : State) (h : StandsFor k s) where
   over_is : not (is_some (first_of k.sched.ready)) && is_quiet s && not (list_any waits s.tasks) ≡ are_all_ended s
   over_is = rw (none_first k.sched.ready, h.sched.ready, length-ready s.tasks) (over 0 s.tasks)
 
-  stuck_is : is_none k.sched.current && is_quiet s ≡ is_stuck s
-  stuck_is = rw (h.sched.current, asleep 0 s.tasks) refl
+  stuck_is : (app : Application) → app.interrupts ≡ [] → is_none k.sched.current && is_quiet s ≡ is_stuck app s
+  stuck_is app none = rw (h.sched.current, asleep 0 s.tasks, none) (and_true (is_none s.current) (not (will_wake s)))
 
   is_over : (ready q w : Bool) → ready ≡ is_some (first_of k.sched.ready) → (IsTrue q ↔ (k.clock.delayed_list ≡ [])) → w ≡ list_any waits s.tasks → not ready && q && not w ≡ are_all_ended s
   is_over ready q w r is waiting = rw (r, quiet k.clock s h.rest.clock q is, waiting) over_is
@@ -149,8 +154,8 @@ module _ (k : Kernel) (s : State) (h : StandsFor k s) where
   not_over : is_some (first_of k.sched.ready) ≡ true → false ≡ are_all_ended s
   not_over some = rw some at over_is
 
-  is_stuck_by : (idle q : Bool) → idle ≡ is_none k.sched.current → (IsTrue q ↔ (k.clock.delayed_list ≡ [])) → idle && q ≡ is_stuck s
-  is_stuck_by idle q n is = rw (n, quiet k.clock s h.rest.clock q is) stuck_is
+  is_stuck_by : (idle q : Bool) → idle ≡ is_none k.sched.current → (IsTrue q ↔ (k.clock.delayed_list ≡ [])) → (app : Application) → app.interrupts ≡ [] → idle && q ≡ is_stuck app s
+  is_stuck_by idle q n is app none = rw (n, quiet k.clock s h.rest.clock q is) (stuck_is app none)
 
 -- A task is still to be placed, and so waits.
 standing_none : (list : WaitList) (o : ℕ) (ts : List Task) → list_all (λ (t : Task). is_ended t.status) ts ≡ true → keyed (λ (t : Task). option_and_then (wait_key list) (wait_of t.status)) o ts ≡ []
@@ -182,8 +187,8 @@ ready_before k s task list b = by_entries k.sched.ready b.sched.still where
   by_entries [] t = absurd (cc)
   by_entries (e ∷ es) t = refl
 
-runs_before : (k : Kernel) (s : State) (task : ℕ) (list : WaitList) → StandsBefore task list k s → false ≡ is_stuck s
-runs_before k s task list b = rw b.current refl
+runs_before : (app : Application) (k : Kernel) (s : State) (task : ℕ) (list : WaitList) → StandsBefore task list k s → false ≡ is_stuck app s
+runs_before app k s task list b = rw b.current refl
 
 -- Whether or not a task is still to be placed.
 module _ (k : Kernel) (s : State) (ready q : Bool) (r : ready ≡ is_some (first_of k.sched.ready)) (is : IsTrue q ↔ (k.clock.delayed_list ≡ [])) where
@@ -199,32 +204,32 @@ pub not_over_by : (k : Kernel) (s : State) (ready : Bool) → ready ≡ is_some 
 not_over_by k s ready r (Placed h) some = sym (not_over k s h (sym r ∙ some))
 not_over_by k s ready r (Placing task list b) some = sym (waits_before k s task list b)
 
-pub stuck_by : (k : Kernel) (s : State) (idle q : Bool) → Stands k s → idle ≡ is_none k.sched.current → (IsTrue q ↔ (k.clock.delayed_list ≡ [])) → idle && q ≡ is_stuck s
-stuck_by k s idle q (Placed h) n is = is_stuck_by k s h idle q n is
-stuck_by k s idle q (Placing task list b) n is = let e : idle ≡ false = n ∙ ap is_none (b.sched.current ∙ b.current) in rw e (runs_before k s task list b)
+pub stuck_by : (app : Application) → app.interrupts ≡ [] → (k : Kernel) (s : State) (idle q : Bool) → Stands k s → idle ≡ is_none k.sched.current → (IsTrue q ↔ (k.clock.delayed_list ≡ [])) → idle && q ≡ is_stuck app s
+stuck_by app none k s idle q (Placed h) n is = is_stuck_by k s h idle q n is app none
+stuck_by app none k s idle q (Placing task list b) n is = let e : idle ≡ false = n ∙ ap is_none (b.sched.current ∙ b.current) in rw e (runs_before app k s task list b)
 
 pub not_stopped : (o : Option End) → is_some o ≡ false → o ≡ None
 not_stopped None t = refl
 not_stopped (Some end) t = absurd (cc)
 
 -- Which end it is.
-module _ (limits : Limits) (s : State) (none : s.stopped ≡ None) where
-  pub ends_pass : are_all_ended s ≡ true → Some Pass ≡ end_of limits s
+module _ (app : Application) (limits : Limits) (s : State) (none : s.stopped ≡ None) where
+  pub ends_pass : are_all_ended s ≡ true → Some Pass ≡ end_of app limits s
   ends_pass over = rw (none, over) refl
 
   module _ (on : are_all_ended s ≡ false) where
-    pub ends_ticks : limits.ticks ≤ s.elapsed → Some Ticks ≡ end_of limits s
+    pub ends_ticks : limits.ticks ≤ s.elapsed → Some Ticks ≡ end_of app limits s
     ends_ticks le = rw (none, on, leb-yes limits.ticks s.elapsed le) refl
 
     module _ (early : s.elapsed < limits.ticks) where
-      pub ends_steps : limits.steps ≤ s.steps → Some Steps ≡ end_of limits s
+      pub ends_steps : limits.steps ≤ s.steps → Some Steps ≡ end_of app limits s
       ends_steps le = rw (none, on, leb-no limits.ticks s.elapsed early, leb-yes limits.steps s.steps le) refl
 
       module _ (few : s.steps < limits.steps) where
-        pub ends_stuck : is_stuck s ≡ true → Some Stuck ≡ end_of limits s
+        pub ends_stuck : is_stuck app s ≡ true → Some Stuck ≡ end_of app limits s
         ends_stuck stuck = rw (none, on, leb-no limits.ticks s.elapsed early, leb-no limits.steps s.steps few, stuck) refl
 
-        pub ends_not : is_stuck s ≡ false → None ≡ end_of limits s
+        pub ends_not : is_stuck app s ≡ false → None ≡ end_of app limits s
         ends_not moves = rw (none, on, leb-no limits.ticks s.elapsed early, leb-no limits.steps s.steps few, moves) refl
 
 -- A step begins with no event told, and ends with one step more.
@@ -277,8 +282,8 @@ renewed k s (Placing task list b) log steps n e = Placing task list (begun_befor
 pub begun : (k : Kernel) (log : List Event) (s : State) → Stands k s → log ≡ [] → AtAny k log (record s { log = [] })
 begun k log s h e = record { stands = renewed k s h [] s.steps k.steps (steps_are k s h); log = e }
 
-pub stepped : (app : Application) (s : State) (k : Kernel) (log : List Event) (n : ℕ) → n ≡ s.steps → AtAny k log (unless_held settle (act_current app s.current (record s { log = [] }))) → Stands (record k { steps = n + 1 }) (step app s)
-unfolding step
+pub stepped : (app : Application) (s : State) (k : Kernel) (log : List Event) (n : ℕ) → n ≡ s.steps → AtAny k log (unless_held settle (act_current app s.current (record s { log = [] }))) → Stands (record k { steps = n + 1 }) (step app [] s)
+unfolding step before_step
 stepped app s k log n e a =
     let new : State = unless_held settle (act_current app s.current (record s { log = [] })) in
     renewed k new a.stands new.log (s.steps + 1) (n + 1) (ap (λ m. m + 1) e)

@@ -10,7 +10,8 @@ use Rattle.model.specs.Application.{Application, Limits, AreLimits, op_at}
 use Rattle.model.specs.Scripts.{IsWellFormed}
 use Rattle.model.specs.State.{State, Progress, progress_at}
 use Rattle.model.specs.Step.{act, act_if, act_current, step, reset, ready_at_reset, nobody_ready, with_ops}
-use Rattle.model.specs.Run.{Run, IsRun, end_of, state_after, events_after}
+use Rattle.model.specs.declared.plan.Point.{Point}
+use Rattle.model.specs.Run.{Run, IsRun, end_of, injected, state_after, events_after}
 use Rattle.model.proofs.Frames.{elapsed-reset, elapsed-step, keeps-all_ready}
 use Rattle.kernel.specs.declared.kernel.Kernel.{Kernel}
 use Rattle.kernel.specs.Logged.{Logged, all_of}
@@ -63,74 +64,74 @@ steps-reset app = (keeps-all_ready (with_ops 0 app.tasks) (nobody_ready app)).st
 pub steps_begin : (app : Application) (k : Kernel) → Stands k (reset app) → k.steps ≡ 0
 steps_begin app k h = steps_are k (reset app) h ∙ steps-reset app
 
-pub begins : (app : Application) (limits : Limits) (k : Kernel) → Stands k (reset app) → IsUnderWay app limits k
-begins app limits k h = record {
-  stands = let Q : ℕ → Type 0 = λ n. Stands k (state_after app n) in subst Q (sym (steps_begin app k h)) h;
+pub begins : (app : Application) (plan : List Point) (limits : Limits) (k : Kernel) → Stands k (reset app) → IsUnderWay app plan limits k
+begins app plan limits k h = record {
+  stands = let Q : ℕ → Type 0 = λ n. Stands k (state_after app plan n) in subst Q (sym (steps_begin app k h)) h;
   goes_on = λ n l. let e = steps_begin app k h in absurd (omega arith);
 }
 
-pub no_events : (app : Application) (k : Kernel) → Stands k (reset app) → events_after app k.steps ≡ []
-no_events app k h = rw (steps_begin app k h) refl
+pub no_events : (app : Application) (plan : List Point) (k : Kernel) → Stands k (reset app) → events_after app plan k.steps ≡ []
+no_events app plan k h = rw (steps_begin app k h) refl
 
-module _ (app : Application) (formed : IsWellFormed app) (limits : Limits) (are : AreLimits limits.ticks limits.steps) (k : Kernel) (h : IsUnderWay app limits k) (on : end_of limits (state_after app k.steps) ≡ None) where
+module _ (app : Application) (formed : IsWellFormed app) (plan : List Point) (limits : Limits) (are : AreLimits limits.ticks limits.steps) (k : Kernel) (h : IsUnderWay app plan limits k) (on : end_of app limits (state_after app plan k.steps) ≡ None) where
   pub can_step : CanStep app k
-  can_step = record { steps = k.steps; stands = h.stands; limits = limits; tick_limit = are.1; step_limit = are.3; goes_on = on }
+  can_step = record { plan = plan; steps = k.steps; stands = h.stands; limits = limits; tick_limit = are.1; step_limit = are.3; goes_on = on }
 
   pub steps_below : k.steps < limits.steps
-  steps_below = let e = steps_are k (state_after app k.steps) h.stands in let l = (below_limits limits (state_after app k.steps) on).1 in omega arith
+  steps_below = let e = steps_are k (state_after app plan k.steps) h.stands in let l = (below_limits app limits (state_after app plan k.steps) on).1 in omega arith
 
   -- one step more
-  module _ (next : Kernel) (stands : (s : State) → Stands k s → Stands next (step app s)) where
+  module _ (next : Kernel) (stands : (s : State) → Stands k s → Stands next (step app (injected plan k.steps) s)) where
     pub steps_more : next.steps ≡ suc k.steps
     unfolding step
-    steps_more = let e = steps_are next (step app (state_after app k.steps)) (stands (state_after app k.steps) h.stands) in let f = steps_are k (state_after app k.steps) h.stands in omega arith
+    steps_more = let e = steps_are next (step app (injected plan k.steps) (state_after app plan k.steps)) (stands (state_after app plan k.steps) h.stands) in let f = steps_are k (state_after app plan k.steps) h.stands in omega arith
 
-    by_last : (n : ℕ) → n < suc k.steps → end_of limits (state_after app n) ≡ None
+    by_last : (n : ℕ) → n < suc k.steps → end_of app limits (state_after app plan n) ≡ None
     by_last n l = by_test (eqb n k.steps)
         (λ t. let same : n ≡ k.steps = eqb-same n k.steps t in rw same on)
         (λ t. h.goes_on n (let apart : n ≢ k.steps = (λ q. let w : eqb n k.steps ≡ true = rw q (eqb-refl k.steps) in absurd (cc)) in omega arith))
 
-    pub goes_on : IsUnderWay app limits next
+    pub goes_on : IsUnderWay app plan limits next
     goes_on = record {
-      stands = let Q : ℕ → Type 0 = λ n. Stands next (state_after app n) in subst Q (sym steps_more) (stands (state_after app k.steps) h.stands);
+      stands = let Q : ℕ → Type 0 = λ n. Stands next (state_after app plan n) in subst Q (sym steps_more) (stands (state_after app plan k.steps) h.stands);
       goes_on = λ n l. let m : n < suc k.steps = rw steps_more at l in by_last n m;
     }
 
     -- and its events
-    pub more_events : (first events all : List Event) → events ≡ first ++ events_after app k.steps → all ≡ events ++ (step app (state_after app k.steps)).log → all ≡ first ++ events_after app next.steps
-    more_events first events all e g = rw (g, steps_more, e) (append_assoc first (events_after app k.steps) (step app (state_after app k.steps)).log)
+    pub more_events : (first events all : List Event) → events ≡ first ++ events_after app plan k.steps → all ≡ events ++ (step app (injected plan k.steps) (state_after app plan k.steps)).log → all ≡ first ++ events_after app plan next.steps
+    more_events first events all e g = rw (g, steps_more, e) (append_assoc first (events_after app plan k.steps) (step app (injected plan k.steps) (state_after app plan k.steps)).log)
 
     -- where the step tells something, so has the run
-    pub told_more : 0 < length (step app (state_after app k.steps)).log → 0 < length (events_after app next.steps)
-    told_more one = rw steps_more (omega (arith, length-append (events_after app k.steps) (step app (state_after app k.steps)).log))
+    pub told_more : 0 < length (step app (injected plan k.steps) (state_after app plan k.steps)).log → 0 < length (events_after app plan next.steps)
+    told_more one = rw steps_more (omega (arith, length-append (events_after app plan k.steps) (step app (injected plan k.steps) (state_after app plan k.steps)).log))
 
 -- The ticks of a run, as far as it has gone
-ticks_by : (app : Application) (limits : Limits) → AreLimits limits.ticks limits.steps → (n : ℕ) → ((m : ℕ) → m < n → end_of limits (state_after app m) ≡ None) → (state_after app n).elapsed ≤ 1000000
-ticks_by app limits are zero g = let e = elapsed-reset app in omega arith
-ticks_by app limits are (suc n) g =
-    let low = (below_limits limits (state_after app n) (g n (omega arith))).0 in
-    let one = elapsed-step app (state_after app n) in
+ticks_by : (app : Application) (plan : List Point) (limits : Limits) → AreLimits limits.ticks limits.steps → (n : ℕ) → ((m : ℕ) → m < n → end_of app limits (state_after app plan m) ≡ None) → (state_after app plan n).elapsed ≤ 1000000
+ticks_by app plan limits are zero g = let e = elapsed-reset app in omega arith
+ticks_by app plan limits are (suc n) g =
+    let low = (below_limits app limits (state_after app plan n) (g n (omega arith))).0 in
+    let one = elapsed-step app (injected plan n) (state_after app plan n) in
     let most = are.1 in
     omega arith
 
-pub ticks_low : (app : Application) (limits : Limits) → AreLimits limits.ticks limits.steps → (k : Kernel) → IsUnderWay app limits k → k.clock.age ≤ 1000000
-ticks_low app limits are k h = rw (age_is k (state_after app k.steps) h.stands) (ticks_by app limits are k.steps h.goes_on)
+pub ticks_low : (app : Application) (plan : List Point) (limits : Limits) → AreLimits limits.ticks limits.steps → (k : Kernel) → IsUnderWay app plan limits k → k.clock.age ≤ 1000000
+ticks_low app plan limits are k h = rw (age_is k (state_after app plan k.steps) h.stands) (ticks_by app plan limits are k.steps h.goes_on)
 
 -- ---- a run that is broken off has come no further than the run
 
-module _ (app : Application) (limits : Limits) (k : Kernel) (way : IsUnderWay app limits k) (run : Run) (is : IsRun app limits run) where
+module _ (app : Application) (plan : List Point) (limits : Limits) (k : Kernel) (way : IsUnderWay app plan limits k) (run : Run) (is : IsRun app plan limits run) where
   pub no_further : k.steps ≤ run.steps
   no_further = by_test (leb k.steps run.steps)
       (λ t. leb-le k.steps run.steps t)
       (λ t. let none = way.goes_on run.steps (leb-less k.steps run.steps t) in let end = is.ends in absurd (cc))
 
-  pub told_some : 0 < length (events_after app k.steps) → 0 < length run.events
+  pub told_some : 0 < length (events_after app plan k.steps) → 0 < length run.events
   told_some l = rw is.trace (grows k.steps run.steps no_further l) where
-    grows : (n m : ℕ) → n ≤ m → 0 < length (events_after app n) → 0 < length (events_after app m)
+    grows : (n m : ℕ) → n ≤ m → 0 < length (events_after app plan n) → 0 < length (events_after app plan m)
     grows n zero le l = let z : n ≡ 0 = omega arith in rw z at l
     grows n (suc m) le l = by_test (eqb n (suc m))
         (λ t. let same : n ≡ suc m = eqb-same n (suc m) t in rw same at l)
         (λ t.
         let apart : n ≢ suc m = (λ q. let w : eqb n (suc m) ≡ true = rw q (eqb-refl (suc m)) in absurd (cc)) in
         let less = grows n m (omega arith) l in
-        omega (arith, length-append (events_after app m) (state_after app (suc m)).log))
+        omega (arith, length-append (events_after app plan m) (state_after app plan (suc m)).log))

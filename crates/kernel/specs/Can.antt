@@ -7,6 +7,7 @@ use Rattle.model.specs.declared.call.Phase.{Phase}
 use Rattle.model.specs.declared.call.Phase.TheVariants.{Start, Try, Decide, Place, Unlock, Leave}
 use Rattle.model.specs.declared.call.WaitList.{WaitList}
 use Rattle.model.specs.declared.ids.TaskId.{TaskId}
+use Rattle.model.specs.declared.plan.Point.{Point}
 use Rattle.model.specs.Application.{Application, Limits, op_at}
 use Rattle.model.specs.State.{State}
 use Rattle.model.specs.Run.{end_of, state_after}
@@ -116,20 +117,21 @@ pub record CanAct (app : Application) (k : Kernel) : Type 0 where
   pub tick : k.sched.current ≡ None → CanTick k
   pub op : (task : TaskId) (op : Op) → k.sched.current ≡ Some task → op_at app task (progress_in k.progress task).op_index ≡ Some op → CanOp k task op
 
--- The kernel stands for the state of the run after some steps, and the run goes on under some limits.
+-- The kernel stands for the state of a run after some steps, and the run goes on under some limits.
 pub record CanStep (app : Application) (k : Kernel) : Type 0 where
+  pub plan : List Point
   pub steps : ℕ
-  pub stands : Stands k (state_after app steps)
+  pub stands : Stands k (state_after app plan steps)
   pub limits : Limits
   pub tick_limit : limits.ticks ≤ 1000000
   pub step_limit : limits.steps ≤ 1000000
-  pub goes_on : end_of limits (state_after app steps) ≡ None
+  pub goes_on : end_of app limits (state_after app plan steps) ≡ None
 
 -- A run of which so many steps are done is under way: the kernel stands for the state after them, and none of them came
 -- after the end.
-pub record IsUnderWay (app : Application) (limits : Limits) (k : Kernel) : Type 0 where
-  pub stands : Stands k (state_after app k.steps)
-  pub goes_on : (n : ℕ) → n < k.steps → end_of limits (state_after app n) ≡ None
+pub record IsUnderWay (app : Application) (plan : List Point) (limits : Limits) (k : Kernel) : Type 0 where
+  pub stands : Stands k (state_after app plan k.steps)
+  pub goes_on : (n : ℕ) → n < k.steps → end_of app limits (state_after app plan n) ≡ None
 
 -- These tasks can become Ready: none is so already, and none comes twice.
 abbrev pub AreToWake : Schedule → List ℕ → Type 0

@@ -23,7 +23,7 @@ impl Kernel {
             (λ s. act_current app.now s.current s) }
     {
         let Some(task) = self.sched.current() else {
-            self.tick_interrupt(log);
+            self.tick_interrupt(app, log);
             return;
         };
         let op_index = self.progress(task).op_index;
@@ -38,9 +38,9 @@ impl Kernel {
         requires meter { meter.old < 2 ^ 63 }
         requires begun { (L.logged log.old).told ≡ [] }
         requires room { 128 ≤ (L.logged log.old).room }
-        ensures stands { (s : State) → Stands self.old s → Stands self.new (step app.now s) }
+        ensures stands { (s : State) → Stands self.old s → Stands self.new (step app.now [] s) }
         ensures told { (s : State) → Stands self.old s
-            → (L.logged log.new).told ≡ (step app.now s).log }
+            → (L.logged log.new).told ≡ (step app.now [] s).log }
         ensures before { (L.logged log.new).before ≡ (L.logged log.old).before }
         ensures meter { meter.new ≡ meter.old + 1 }
     {
@@ -61,9 +61,9 @@ impl Kernel {
         requires handlers { handlers.now ≡ [] }
         requires going { CanStep app.now self.old }
         requires meter { meter.old < 2 ^ 63 }
-        ensures stands { (s : State) → Stands self.old s → Stands self.new (step app.now s) }
+        ensures stands { (s : State) → Stands self.old s → Stands self.new (step app.now [] s) }
         ensures log { (s : State) → Stands self.old s
-            → log.new.items ≡ (step app.now s).log }
+            → log.new.items ≡ (step app.now [] s).log }
         ensures meter { meter.new ≡ meter.old + 1 }
     {
         let _ = handlers;
@@ -78,17 +78,18 @@ impl Kernel {
         !self.sched.has_ready() && self.clock.is_quiet() && !self.queues.has_waiter()
     }
 
-    /// Whether idle runs, and no task will wake by itself.
-    fn is_stuck(&self) -> bool
-        ensures { (s : State) → Stands self.now s → result ≡ is_stuck s }
+    /// Whether idle runs, and no task will wake by itself. No application has base interrupts yet.
+    fn is_stuck(&self, app: &App) -> bool
+        ensures { (s : State) → Stands self.now s → result ≡ is_stuck app.now s }
     {
+        app.without_handlers();
         self.sched.current().is_none() && self.clock.is_quiet()
     }
 
     /// The end of the run before its next step, under these limits: the first that holds of a failed `expect`, every task
     /// Ended, the ticks, the steps, stuck (profile). `None` where the run goes on.
-    pub fn ended(&self, _app: &App, limits: &Limits) -> Option<End>
-        ensures { (s : State) → Stands self.now s → result ≡ end_of limits.now s }
+    pub fn ended(&self, app: &App, limits: &Limits) -> Option<End>
+        ensures { (s : State) → Stands self.now s → result ≡ end_of app.now limits.now s }
     {
         if self.stopped.is_some() {
             return self.stopped;
@@ -102,7 +103,7 @@ impl Kernel {
         if limits.steps <= self.steps {
             return Some(End::Steps);
         }
-        if self.is_stuck() {
+        if self.is_stuck(app) {
             return Some(End::Stuck);
         }
         None
@@ -122,13 +123,13 @@ fn step_in_little_room(
     requires going { CanStep app.now kernel.old }
     requires meter { meter.old < 2 ^ 63 }
     requires begun { trail.old.told ≡ [] }
-    ensures stands { (s : State) → Stands kernel.old s → Stands kernel.new (step app.now s) }
+    ensures stands { (s : State) → Stands kernel.old s → Stands kernel.new (step app.now [] s) }
     ensures told { OnOk result ((s : State) → Stands kernel.old s
-        → trail.new.told ≡ (step app.now s).log) }
+        → trail.new.told ≡ (step app.now [] s).log) }
     ensures before { trail.new.before ≡ trail.old.before }
     ensures meter { meter.new ≡ meter.old + 1 }
     ensures memory { OnErr result ((s : State) → Stands kernel.old s
-        → 0 < length (step app.now s).log) }
+        → 0 < length (step app.now [] s).log) }
 {
     let mut log = StepLog::new();
     kernel.step_onto(app, meter, &mut log);
@@ -145,12 +146,12 @@ fn step_along(
 ) -> Result<(), Memory>
     requires going { CanStep app.now kernel.old }
     requires meter { meter.old < 2 ^ 63 }
-    ensures stands { (s : State) → Stands kernel.old s → Stands kernel.new (step app.now s) }
+    ensures stands { (s : State) → Stands kernel.old s → Stands kernel.new (step app.now [] s) }
     ensures told { OnOk result ((s : State) → Stands kernel.old s
-        → all_of trail.new ≡ all_of trail.old ++ (step app.now s).log) }
+        → all_of trail.new ≡ all_of trail.old ++ (step app.now [] s).log) }
     ensures meter { meter.new ≡ meter.old + 1 }
     ensures memory { OnErr result ((s : State) → Stands kernel.old s
-        → 0 < length (step app.now s).log) }
+        → 0 < length (step app.now [] s).log) }
 {
     if trail.begin().is_err() {
         return step_in_little_room(kernel, app, meter, trail);
@@ -169,14 +170,14 @@ fn finish(
 ) -> Result<End, Memory>
     requires stands { Stands kernel.old (reset app.now) }
     requires meter { meter.old < 2 ^ 62 }
-    ensures way { IsUnderWay app.now limits.now kernel.new }
+    ensures way { IsUnderWay app.now [] limits.now kernel.new }
     ensures events { OnOk result
-        (all_of trail.new ≡ all_of trail.old ++ events_after app.now kernel.new.steps) }
+        (all_of trail.new ≡ all_of trail.old ++ events_after app.now [] kernel.new.steps) }
     ensures ended { IfOk result
-        (λ end. end_of limits.now (state_after app.now kernel.new.steps) ≡ Some end) }
+        (λ end. end_of app.now limits.now (state_after app.now [] kernel.new.steps) ≡ Some end) }
     ensures meter { meter.new ≡ meter.old + kernel.new.steps }
     // memory is asked for events alone
-    ensures memory { OnErr result (0 < length (events_after app.now kernel.new.steps)) }
+    ensures memory { OnErr result (0 < length (events_after app.now [] kernel.new.steps)) }
 {
     app.well_formed();
     limits.well_formed();
@@ -188,7 +189,7 @@ fn finish(
     }
 }
 
-/// The run of an application from reset to its end under these limits. No application has handlers yet, so the plan
+/// The run of an application with this plan, from reset to its end under these limits. No application has handlers yet, so the plan
 /// is empty.
 ///
 /// The meter, which is below 2^62, rises by the steps of the run. At `Err(Memory)`, answered only where a growth was
@@ -202,10 +203,10 @@ pub fn run(
 ) -> Result<Run, Memory>
     requires plan { plan.now ≡ [] }
     requires meter { meter.old < 2 ^ 62 }
-    ensures run { IfOk result (λ run. IsRun app.now limits run) }
+    ensures run { IfOk result (λ run. IsRun app.now plan.now limits run) }
     ensures meter { IfOk result (λ run. meter.new ≡ meter.old + run.steps) }
     ensures rises { meter.old ≤ meter.new }
-    ensures refused { OnErr result ((run : definition.Run) → IsRun app.now limits run
+    ensures refused { OnErr result ((run : definition.Run) → IsRun app.now plan.now limits run
         → (meter.new ≤ meter.old + run.steps) × (0 < length run.events)) }
 {
     let _ = plan;

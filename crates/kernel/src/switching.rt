@@ -3,7 +3,8 @@ ghost use Rattle.std.specs.Prelude.{◌≡◌, ℕ, ◌<◌, ◌≤◌, ◌+◌,
 ghost use Rattle.std.specs.List.{AllByRecursion};
 ghost use Rattle.model.specs.State.{State, for_each};
 ghost use Rattle.model.specs.Switching.{choose, is_held, is_ready, preempt, slice, settle, unless_held, yield_now, make_ready};
-ghost use Rattle.model.specs.Time.{increment_tick, tick_interrupt};
+ghost use Rattle.model.specs.Time.{increment_tick};
+ghost use Rattle.model.specs.Handlers.{tick_interrupt};
 ghost use Rattle.sched.specs.StandsFor.{StandsFor as ScheduleStandsFor};
 ghost use Rattle.sched.specs.Schedule as schedule;
 ghost use Rattle.clock.specs.StandsFor.{StandsFor as ClockStandsFor};
@@ -14,7 +15,7 @@ ghost use Rattle.kernel.specs.Can.{CanTick, AreToWake};
 use crate::kernel::Kernel;
 use crate::log::Log;
 use clock::Clock;
-use model::{TaskId, What};
+use model::{App, TaskId, What};
 use objects::Queues;
 use sched::Sched;
 
@@ -164,14 +165,16 @@ impl Kernel {
         make_all_ready(&mut self.sched, &mut self.queues, due.as_slice());
     }
 
-    /// The tick interrupt: one tick, and then a switch if one is due.
+    /// The tick interrupt: one tick, and then a switch if one is due. No application has base interrupts yet.
     // Most steps are ticks, and a call would cost a tenth of one.
     #[inline(always)]
-    pub(crate) fn tick_interrupt<L: Log>(&mut self, log: &mut L)
+    pub(crate) fn tick_interrupt<L: Log>(&mut self, app: &App, log: &mut L)
         requires room { 0 < (L.logged log.old).room }
         requires can { CanTick self.old }
-        ensures { Does 1 self.old (L.logged log.old) self.new (L.logged log.new) tick_interrupt }
+        ensures { Does 1 self.old (L.logged log.old) self.new (L.logged log.new)
+            (tick_interrupt app.now) }
     {
+        app.without_handlers();
         self.increment_tick();
         self.slice(log);
     }

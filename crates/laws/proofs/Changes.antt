@@ -12,19 +12,24 @@ use Rattle.model.specs.declared.call.Phase.{Phase}
 use Rattle.model.specs.declared.call.Phase.TheVariants.{Start, Try, Decide, Place, Unlock, Leave}
 use Rattle.model.specs.declared.call.WaitList.{WaitList}
 use Rattle.model.specs.declared.call.WaitList.TheVariants.{ToReceive, ToSend}
+use Rattle.model.specs.declared.event.What.{What}
 use Rattle.model.specs.declared.event.What.TheVariants as what
 use Rattle.model.specs.declared.loops.Loop.{Loop}
-use Rattle.model.specs.Application.{Application, Definition, op_at, op_count}
+use Rattle.model.specs.Application.{Application, Definition, op_at, op_count, ops_of, interrupts_at}
 use Rattle.model.specs.State.{State, Task, Progress, Status, Ready, Awake, Waiting, Asleep, Ended, ticket_of, wake_time_of, no_call, task_at, progress_at, status_at, call_at, object_at, with_task, with_call, with_object, take_ticket, for_one, for_each, no_task, printed}
 use Rattle.model.specs.Order.{Entry, Key, key, entry, keyed, tasks_of, task_of, first}
 use Rattle.model.specs.Switching.{make_ready, to_back, dispatch, choose, choice, is_same, is_ready, yield_now, is_outranked, is_sharing, preempt, slice, settle, is_off, unless_held, write}
 use Rattle.model.specs.Waiting.{waiters, awakened, awake_status, is_locked, wake_one, wake_best, wait_in, set_deadline, is_expired, end_hold, unlock_object, unlock}
 use Rattle.model.specs.Objects.{possible, answer_to, object_after, list_woken, list_for, fulfil, attempt}
 use Rattle.model.specs.Calls.{try, lock, decide, leave_call, await, do_now}
-use Rattle.model.specs.Time.{delayed_key, delayed_list, is_due, due, wake_due, advance, increment_tick, tick_interrupt, sleep, set_previous_wake}
+use Rattle.model.specs.Time.{delayed_key, delayed_list, is_due, due, wake_due, advance, increment_tick, sleep, set_previous_wake}
+use Rattle.model.specs.declared.plan.Point.{Point}
+use Rattle.model.specs.declared.op.IsrOp.{IsrOp}
+use Rattle.model.specs.declared.op.IsrOp.TheVariants as isr_op
+use Rattle.model.specs.Handlers.{isr_told, isr, isr_each, handle, inject, interrupt, tick_interrupt}
 use Rattle.model.specs.Ops.{go_to, called, answer, use_up, delay, delay_until, expect, open_loop, turn, close_turn}
-use Rattle.model.specs.Step.{act, act_if, act_current, step, nobody_ready, ready_at_reset, reset, task_at_reset, with_ops}
-use Rattle.model.specs.Run.{state_after}
+use Rattle.model.specs.Step.{act, act_if, act_current, before_step, step, nobody_ready, ready_at_reset, reset, task_at_reset, with_ops}
+use Rattle.model.specs.Run.{injected, state_after}
 use Rattle.model.proofs.Sorting.{by_test}
 use Rattle.model.proofs.Lists.{eqb-refl, eqb-same}
 use Rattle.model.proofs.Settled.{when_held, when_free}
@@ -87,12 +92,6 @@ module _ (P : State → Type 0)
   kept-settle : (s : State) → P s → P (settle s)
   unfolding settle
   kept-settle s h = by_test (is_off s s.current) (λ t. rw t (kept-choose s h)) (λ t. rw t h)
-
-  kept-tick : (s : State) → P s → P (tick_interrupt s)
-  unfolding tick_interrupt increment_tick advance
-  kept-tick s h =
-      let t : State = record s { elapsed = s.elapsed + 1 } in
-      kept-slice (wake_due (record t { time = t.time + 1 })) (passed t (framed s t refl refl refl h))
 
   kept-go_to : (app : Application) (i op_index : ℕ) (p : Progress) (s : State) → P s → P (go_to app i op_index p s)
   unfolding go_to
@@ -242,9 +241,52 @@ module _ (P : State → Type 0)
   unfolding do_now
   kept-do_now app i o a s h = kept-preempt _ (kept-answer app i (answer_to s o a) _ (kept-attempt (Some i) o a s h))
 
+  -- ---- handlers
+
+  kept-write : (w : What) (s : State) → P s → P (write w s)
+  kept-write w s h = framed s (write w s) refl refl refl h
+
+  kept-isr : (handler op_index : ℕ) (op : IsrOp) (s : State) → P s → P (isr handler op_index op s)
+  kept-isr handler op_index (isr_op.Do o a) s h = kept-write (isr_told handler op_index (answer_to s o a)) (attempt None o a s) (kept-attempt None o a s h)
+  kept-isr handler op_index (isr_op.Mark n) s h = kept-write (what.IsrMark handler n) s h
+
+  kept-isr_each : (handler op_index : ℕ) (ops : List IsrOp) (s : State) → P s → P (isr_each handler op_index ops s)
+  kept-isr_each handler op_index [] s h = h
+  kept-isr_each handler op_index (op ∷ ops) s h = kept-isr_each handler (op_index + 1) ops (isr handler op_index op s) (kept-isr handler op_index op s h)
+
+  kept-handle : (app : Application) (handler : ℕ) (s : State) → P s → P (handle app handler s)
+  unfolding handle
+  kept-handle app handler s h = kept-isr_each handler 0 (ops_of app handler) s h
+
+  kept-each : {A : Type 0} (deed : A → State → State) (k : (a : A) (s : State) → P s → P (deed a s)) (ones : List A) (s : State) → P s → P (for_each deed ones s)
+  kept-each deed k [] s h = h
+  kept-each deed k (a ∷ ones) s h = kept-each deed k ones (deed a s) (k a s h)
+
+  kept-unless_held : (deed : State → State) (k : (s : State) → P s → P (deed s)) (s : State) → P s → P (unless_held deed s)
+  kept-unless_held deed k s h = by_test s.call_hold
+      (λ t. subst P (sym (when_held deed s t)) h)
+      (λ t. subst P (sym (when_free deed s t)) (k s h))
+
+  kept-inject : (app : Application) (handler : ℕ) (s : State) → P s → P (inject app handler s)
+  unfolding inject
+  kept-inject app handler s h = kept-unless_held preempt kept-preempt (handle app handler s) (kept-handle app handler s h)
+
+  kept-before_step : (app : Application) (handlers : List ℕ) (s : State) → P s → P (before_step app handlers s)
+  unfolding before_step
+  kept-before_step app handlers s h = let t : State = record s { log = [] } in kept-each (inject app) (kept-inject app) handlers t (framed s t refl refl refl h)
+
+  kept-tick : (app : Application) (s : State) → P s → P (tick_interrupt app s)
+  unfolding tick_interrupt interrupt increment_tick advance
+  kept-tick app s h =
+      let t : State = record s { elapsed = s.elapsed + 1 } in
+      let woken : State = wake_due (record t { time = t.time + 1 }) in
+      kept-slice _ (kept-each (handle app) (kept-handle app) (interrupts_at app woken.elapsed) woken (passed t (framed s t refl refl refl h)))
+
+  -- ---- a step, and a run
+
   kept-act : (app : Application) (i : ℕ) (op : Op) (s : State) → P s → P (act app i op s)
   unfolding open_loop close_turn
-  kept-act app i (Work n) s h = kept-tick (use_up app i n s) (kept-use_up app i n s h)
+  kept-act app i (Work n) s h = kept-tick app (use_up app i n s) (kept-use_up app i n s h)
   kept-act app i (Delay n) s h = kept-delay app i n s h
   kept-act app i (DelayUntil n) s h = kept-delay_until app i ((progress_at s i).previous_wake + n) s h
   kept-act app i Yield s h = kept-yield_now (answer app i (Some 0) s) (kept-answer app i (Some 0) s h)
@@ -265,20 +307,15 @@ module _ (P : State → Type 0)
   kept-act_if app i (Some op) s h = kept-act app i op s h
 
   kept-act_current : (app : Application) (r : Option ℕ) (s : State) → P s → P (act_current app r s)
-  kept-act_current app None s h = kept-tick s h
+  kept-act_current app None s h = kept-tick app s h
   kept-act_current app (Some i) s h = kept-act_if app i (op_at app i (progress_at s i).op_index) s h
 
-  kept-unless_held : (s : State) → P s → P (unless_held settle s)
-  kept-unless_held s h = by_test s.call_hold
-      (λ t. subst P (sym (when_held settle s t)) h)
-      (λ t. subst P (sym (when_free settle s t)) (kept-settle s h))
-
-  kept-step : (app : Application) (s : State) → P s → P (step app s)
+  kept-step : (app : Application) (handlers : List ℕ) (s : State) → P s → P (step app handlers s)
   unfolding step
-  kept-step app s h =
-      let begun : State = record s { log = [] } in
-      let acted : State = unless_held settle (act_current app s.current begun) in
-      framed acted (record acted { steps = s.steps + 1 }) refl refl refl (kept-unless_held (act_current app s.current begun) (kept-act_current app s.current begun (framed s begun refl refl refl h)))
+  kept-step app handlers s h =
+      let begun : State = before_step app handlers s in
+      let acted : State = unless_held settle (act_current app begun.current begun) in
+      framed acted (record acted { steps = s.steps + 1 }) refl refl refl (kept-unless_held settle kept-settle (act_current app begun.current begun) (kept-act_current app begun.current begun (kept-before_step app handlers s h)))
 
   kept-reset : (app : Application) → P (nobody_ready app) → P (reset app)
   unfolding reset ready_at_reset
@@ -286,9 +323,9 @@ module _ (P : State → Type 0)
       let s : State = for_each make_ready (with_ops 0 app.tasks) (nobody_ready app) in
       framed s (record s { current = choice s }) refl refl refl (kept-all_ready (with_ops 0 app.tasks) (nobody_ready app) h)
 
-  kept_after : (app : Application) → P (nobody_ready app) → (n : ℕ) → P (state_after app n)
-  kept_after app h zero = kept-reset app h
-  kept_after app h (suc n) = kept-step app (state_after app n) (kept_after app h n)
+  kept_after : (app : Application) → P (nobody_ready app) → (plan : List Point) (n : ℕ) → P (state_after app plan n)
+  kept_after app h plan zero = kept-reset app h
+  kept_after app h plan (suc n) = kept-step app (injected plan n) (state_after app plan n) (kept_after app h plan n)
 
 -- ---- a change of one task
 
@@ -419,9 +456,9 @@ later-passed s h i =
           subst Q (sym kept.0) (subst R (sym now) later)
     ]
 
-pub wake_later : (app : Application) (n task : ℕ) → Later (state_after app n).time (status_at (state_after app n) task)
+pub wake_later : (app : Application) (plan : List Point) (n task : ℕ) → Later (state_after app plan n).time (status_at (state_after app plan n) task)
 unfolding nobody_ready
-wake_later app n task = kept_after WakeLater later-framed later-moved later-taken later-passed app (λ i. subst (Later app.start) (sym (ended_at_reset app.start app.tasks i)) tt) n task
+wake_later app plan n task = kept_after WakeLater later-framed later-moved later-taken later-passed app (λ i. subst (Later app.start) (sym (ended_at_reset app.start app.tasks i)) tt) plan n task
 
 -- ---- two tasks have two tickets
 
@@ -529,5 +566,5 @@ apart-nobody app =
       apart = λ i j ticket a b. let f = none i in absurd (let g : None ≡ Some ticket = sym f ∙ a in cc);
     }
 
-pub tickets_apart : (app : Application) (n a b ticket : ℕ) → ticket_of (status_at (state_after app n) a) ≡ Some ticket → ticket_of (status_at (state_after app n) b) ≡ Some ticket → a ≡ b
-tickets_apart app n a b ticket = (kept_after TicketsApart apart-framed apart-moved apart-taken apart-passed app (apart-nobody app) n).apart a b ticket
+pub tickets_apart : (app : Application) (plan : List Point) (n a b ticket : ℕ) → ticket_of (status_at (state_after app plan n) a) ≡ Some ticket → ticket_of (status_at (state_after app plan n) b) ≡ Some ticket → a ≡ b
+tickets_apart app plan n a b ticket = (kept_after TicketsApart apart-framed apart-moved apart-taken apart-passed app (apart-nobody app) plan n).apart a b ticket

@@ -16,10 +16,12 @@ use Rattle.model.specs.Switching.{to_back, dispatch, choose, choice, is_same, is
 use Rattle.model.specs.Waiting.{wait_in, set_deadline, is_expired, end_hold, unlock_object, unlock}
 use Rattle.model.specs.Objects.{possible, answer_to, list_for}
 use Rattle.model.specs.Calls.{try, lock, decide, leave_call, await, do_now}
-use Rattle.model.specs.Time.{increment_tick, tick_interrupt, sleep, set_previous_wake}
+use Rattle.model.specs.declared.plan.Point.{Point}
+use Rattle.model.specs.Handlers.{interrupt, tick_interrupt}
+use Rattle.model.specs.Time.{increment_tick, sleep, set_previous_wake}
 use Rattle.model.specs.Ops.{go_to, answer, use_up, delay, delay_until, expect, open_loop, turn, close_turn}
-use Rattle.model.specs.Step.{act, act_if, act_current, step, ready_at_reset, reset}
-use Rattle.model.specs.Run.{state_after}
+use Rattle.model.specs.Step.{act, act_if, act_current, before_step, step, ready_at_reset, reset}
+use Rattle.model.specs.Run.{injected, state_after}
 use Rattle.model.proofs.Sorting.{by_test, Falls, Falls-in_order, IsAfter}
 use Rattle.model.proofs.Lists.{HasKey, list_has}
 use Rattle.model.proofs.Settled.{same_eq, when_held, when_free}
@@ -67,9 +69,9 @@ idle-preempt s = by_test (is_outranked s)
     (λ t. rw t (idle-yield_now s))
     (λ t. rw t (idle_below s t))
 
-idle-tick : (s : State) → IdleAlone (tick_interrupt s)
+idle-tick : (app : Application) (s : State) → IdleAlone (tick_interrupt app s)
 unfolding tick_interrupt
-idle-tick s = idle-slice (increment_tick s)
+idle-tick app s = idle-slice (interrupt app (increment_tick s))
 
 idle-settle : (s : State) → IdleAlone s → IdleAlone (settle s)
 unfolding settle
@@ -145,7 +147,7 @@ idle-do_now app i o a s = idle-preempt _
 
 idle-act : (app : Application) (i : ℕ) (op : Op) (s : State) → s.current ≡ Some i → IdleAlone (act app i op s)
 unfolding answer go_to open_loop close_turn
-idle-act app i (Work n) s r = idle-tick (use_up app i n s)
+idle-act app i (Work n) s r = idle-tick app (use_up app i n s)
 idle-act app i (Delay n) s r = idle-delay app i n s r
 idle-act app i (DelayUntil n) s r = still_runs i s (delay_until app i ((progress_at s i).previous_wake + n) s) r (current-delay_until app i ((progress_at s i).previous_wake + n) s)
 idle-act app i Yield s r = idle-yield_now (answer app i (Some 0) s)
@@ -164,14 +166,15 @@ idle-act_if app i None s r = still_runs i s s r refl
 idle-act_if app i (Some op) s r = idle-act app i op s r
 
 idle-act_current : (app : Application) (r : Option ℕ) (s : State) → s.current ≡ r → IdleAlone (act_current app r s)
-idle-act_current app None s e = idle-tick s
+idle-act_current app None s e = idle-tick app s
 idle-act_current app (Some i) s e = idle-act_if app i (op_at app i (progress_at s i).op_index) s e
 
-idle-step : (app : Application) (s : State) → IdleAlone (step app s)
+idle-step : (app : Application) (handlers : List ℕ) (s : State) → IdleAlone (step app handlers s)
 unfolding step
-idle-step app s =
-    let t : State = act_current app s.current (record s { log = [] }) in
-    let h : IdleAlone t = idle-act_current app s.current (record s { log = [] }) refl in
+idle-step app handlers s =
+    let r : State = before_step app handlers s in
+    let t : State = act_current app r.current r in
+    let h : IdleAlone t = idle-act_current app r.current r refl in
     by_test t.call_hold
     (λ q. subst IdleAlone (sym (when_held settle t q)) h)
     (λ q. subst IdleAlone (sym (when_free settle t q)) (idle-settle t h))
@@ -180,12 +183,12 @@ idle-reset : (app : Application) → IdleAlone (reset app)
 unfolding reset
 idle-reset app = λ e. chosen_none (ready_at_reset app) e
 
-idle_all : (app : Application) (n : ℕ) → IdleAlone (state_after app n)
-idle_all app zero = idle-reset app
-idle_all app (suc n) = idle-step app (state_after app n)
+idle_all : (app : Application) (plan : List Point) (n : ℕ) → IdleAlone (state_after app plan n)
+idle_all app plan zero = idle-reset app
+idle_all app plan (suc n) = idle-step app (injected plan n) (state_after app plan n)
 
-pub idle_after : (app : Application) (n task : ℕ) → (state_after app n).current ≡ None → is_ready (state_after app n) task ≡ false
-idle_after app n task e = idle_all app n e task
+pub idle_after : (app : Application) (plan : List Point) (n task : ℕ) → (state_after app plan n).current ≡ None → is_ready (state_after app plan n) task ≡ false
+idle_after app plan n task e = idle_all app plan n e task
 
 -- ---- after a tick
 
@@ -218,6 +221,6 @@ top-slice s = by_test (is_outranked s || is_sharing s)
     (λ t. rw t (top-choose (for_one to_back s.current s)))
     (λ t. rw t (or_false (is_outranked s) (is_sharing s) t))
 
-pub not_outranked-tick : (s : State) → is_outranked (tick_interrupt s) ≡ false
+pub not_outranked-tick : (app : Application) (s : State) → is_outranked (tick_interrupt app s) ≡ false
 unfolding tick_interrupt
-not_outranked-tick s = top-slice (increment_tick s)
+not_outranked-tick app s = top-slice (interrupt app (increment_tick s))

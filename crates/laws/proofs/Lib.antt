@@ -3,3 +3,4 @@ pub mod ExampleRuns
 pub mod OneRun
 pub mod Idle
 pub mod Changes
+pub mod Held

@@ -24,7 +24,7 @@ a_task name script = record { name = name; priority = 1; script = script }
 
 -- an application that starts at this time, without objects
 abbrev pub the_application : ℕ → List Definition → Application
-the_application start tasks = record { start = start; limits = wide; objects = []; tasks = tasks }
+the_application start tasks = record { start = start; limits = wide; objects = []; handlers = []; interrupts = []; tasks = tasks }
 
 -- a task of this priority
 abbrev pub a_task_of : ℕ → List ℕ → List Op → Definition
@@ -32,7 +32,7 @@ a_task_of priority name script = record { name = name; priority = priority; scri
 
 -- an application that starts at 0, with one queue of length 1
 abbrev pub with_queue : List Definition → Application
-with_queue tasks = record { start = 0; limits = wide; objects = Queue 1 ∷ []; tasks = tasks }
+with_queue tasks = record { start = 0; limits = wide; objects = Queue 1 ∷ []; handlers = []; interrupts = []; tasks = tasks }
 
 -- a call on that queue, which may wait for so many ticks
 abbrev pub on_queue : Access → ℕ → Op
@@ -75,9 +75,9 @@ pub record Example : Type 0 where
   pub app : Application
   pub run : Run
 
--- The application's run comes to that.
+-- The application's run, into which nothing is injected, comes to that.
 abbrev pub Runs : Example → Type 0
-Runs e = IsRun e.app e.app.limits e.run
+Runs e = IsRun e.app [] e.app.limits e.run
 
 -- ---- the table
 

@@ -1,2 +1,3 @@
 pub mod Choice
 pub mod Examples
+pub mod HandlerExamples

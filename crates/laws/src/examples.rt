@@ -1,10 +1,23 @@
 //! Worked examples.
 ghost use Rattle.std.specs.List.{AllByRecursion};
 ghost use Rattle.laws.specs.Examples.{examples, Runs};
+ghost use Rattle.laws.specs.HandlerExamples.{injected_examples, RunsWith, rows, RowIs};
 
 /// Each application of the table of worked examples runs as the table says: round robin, `delay 0` that yields, `delay 1`
 /// that sleeps, sleepers of one time past the wrap of the tick; a receive that times out, a peek that passes a wake on, a send
 /// that wakes a higher reader, two writers on a full queue.
 pub fn examples_run()
     ensures { AllByRecursion Runs examples }
+{}
+
+/// Each application of the table of examples with handlers runs as the table says: wakes through a locked queue lined up at
+/// its unlock, for fewer and for more items than waiters; room that is taken again; a base interrupt that wakes a task which
+/// finds nothing, and one for which a run goes on; what the ops of a handler answer.
+pub fn examples_with_handlers_run()
+    ensures { AllByRecursion RunsWith injected_examples }
+{}
+
+/// One handler at each phase of one receive, and after them: the rows of these points.
+pub fn rows_of_one_receive()
+    ensures { AllByRecursion RowIs rows }
 {}

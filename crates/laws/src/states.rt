@@ -1,10 +1,11 @@
 //! What is true of the states that a run comes to.
-ghost use Rattle.std.specs.Prelude.{◌≡◌, ◌<◌, ◌+◌, ℕ, true, false, Some, None, IfSome};
+ghost use Rattle.std.specs.Prelude.{◌≡◌, ◌<◌, ◌+◌, ℕ, true, false, List, Some, None, IfSome};
+ghost use Rattle.model.specs.declared.plan.Point.{Point};
 ghost use Rattle.model.specs.Application.{Application};
 ghost use Rattle.model.specs.Scripts.{IsWellFormed};
 ghost use Rattle.model.specs.State.{State, status_at, ticket_of, wake_time_of};
 ghost use Rattle.model.specs.Switching.{choice, is_ready, is_outranked};
-ghost use Rattle.model.specs.Time.{tick_interrupt};
+ghost use Rattle.model.specs.Handlers.{inject, tick_interrupt};
 ghost use Rattle.model.specs.Run.{state_after};
 ghost use Rattle.model.specs.Invariant.{IsState};
 ghost use Rattle.laws.specs.Choice.{IsChoice};
@@ -15,45 +16,52 @@ pub fn choice_in_words()
     ensures { (s : State) → IsChoice s (choice s) }
 {}
 
-/// Every state that a run of a well formed application comes to keeps to what the code's numbers need.
+/// Every state that a run of a well formed application comes to, whatever handlers a plan injects, keeps to what the code's
+/// numbers need.
 pub fn states_are_sound()
-    ensures { (app : Application) → IsWellFormed app → (n : ℕ) → IsState app (state_after app n) }
+    ensures { (app : Application) → IsWellFormed app → (plan : List Point) (n : ℕ) → IsState app (state_after app plan n) }
 {}
 
 /// Between two steps the running task is Ready, where no call of it holds the scheduler.
 pub fn running_task_is_ready()
-    ensures { (app : Application) (n : ℕ) → (state_after app n).call_hold ≡ false
-        → IfSome (state_after app n).current (λ task. is_ready (state_after app n) task ≡ true) }
+    ensures { (app : Application) (plan : List Point) (n : ℕ) → (state_after app plan n).call_hold ≡ false
+        → IfSome (state_after app plan n).current (λ task. is_ready (state_after app plan n) task ≡ true) }
 {}
 
 /// Idle runs only where no task is Ready.
 pub fn idle_runs_alone()
-    ensures { (app : Application) (n task : ℕ) → (state_after app n).current ≡ None
-        → is_ready (state_after app n) task ≡ false }
+    ensures { (app : Application) (plan : List Point) (n task : ℕ) → (state_after app plan n).current ≡ None
+        → is_ready (state_after app plan n) task ≡ false }
 {}
 
 /// After a tick no Ready task is of higher priority than the running one, and idle doesn't run beside a Ready task.
 pub fn no_one_outranks_after_a_tick()
-    ensures { (s : State) → is_outranked (tick_interrupt s) ≡ false }
+    ensures { (app : Application) (s : State) → is_outranked (tick_interrupt app s) ≡ false }
 {}
 
 /// The time at which a task wakes by itself is after now: a sleeper's, and that at which a wait ends at the latest.
 pub fn sleepers_wake_later()
-    ensures { (app : Application) (n task : ℕ)
-        → IfSome (wake_time_of (status_at (state_after app n) task))
-        (λ wake_time. (state_after app n).time < wake_time) }
+    ensures { (app : Application) (plan : List Point) (n task : ℕ)
+        → IfSome (wake_time_of (status_at (state_after app plan n) task))
+        (λ wake_time. (state_after app plan n).time < wake_time) }
 {}
 
 /// The time is the start and the elapsed ticks.
 pub fn time_is_start_and_elapsed()
-    ensures { (app : Application) → IsWellFormed app → (n : ℕ)
-        → (state_after app n).time ≡ app.start + (state_after app n).elapsed }
+    ensures { (app : Application) → IsWellFormed app → (plan : List Point) (n : ℕ)
+        → (state_after app plan n).time ≡ app.start + (state_after app plan n).elapsed }
 {}
 
 /// Two tasks have two tickets, so that none is chosen by a tie.
 pub fn tickets_differ()
-    ensures { (app : Application) (n a b ticket : ℕ)
-        → ticket_of (status_at (state_after app n) a) ≡ Some ticket
-        → ticket_of (status_at (state_after app n) b) ≡ Some ticket
+    ensures { (app : Application) (plan : List Point) (n a b ticket : ℕ)
+        → ticket_of (status_at (state_after app plan n) a) ≡ Some ticket
+        → ticket_of (status_at (state_after app plan n) b) ≡ Some ticket
         → a ≡ b }
+{}
+
+/// While a call holds the scheduler, a handler that comes before a step switches nothing: the same task runs.
+pub fn no_switch_while_held()
+    ensures { (app : Application) (handler : ℕ) (s : State) → s.call_hold ≡ true
+        → (inject app handler s).current ≡ s.current }
 {}

@@ -32,7 +32,7 @@ use Rattle.model.proofs.Sound.{IsKept, each-set, each-set_but, changed, taken, m
 
 -- ---- lists of those who wait
 
-same_list_eq : (a b : WaitList) → same_list a b ≡ true → a ≡ b
+pub same_list_eq : (a b : WaitList) → same_list a b ≡ true → a ≡ b
 same_list_eq (ToReceive a) (ToReceive b) t = ap ToReceive (eqb-same a b t)
 same_list_eq (ToReceive a) (ToSend b) t = absurd (cc)
 same_list_eq (ToSend a) (ToReceive b) t = absurd (cc)
@@ -44,7 +44,7 @@ pub record WaitsIn (list : WaitList) (u : Status) : Type 0 where
   pub is : u ≡ Waiting wait
   pub there : same_list wait.list list ≡ true
 
-waits_in : (list : WaitList) (u : Status) (k : Key) → option_and_then (wait_key list) (wait_if_waiting u) ≡ Some k → WaitsIn list u
+pub waits_in : (list : WaitList) (u : Status) (k : Key) → option_and_then (wait_key list) (wait_if_waiting u) ≡ Some k → WaitsIn list u
 waits_in list (Ready n) k e = absurd (cc)
 waits_in list (Awake w) k e = absurd (cc)
 waits_in list (Waiting w) k e = by_test (same_list w.list list)
@@ -53,7 +53,7 @@ waits_in list (Waiting w) k e = by_test (same_list w.list list)
 waits_in list (Asleep v n) k e = absurd (cc)
 waits_in list Ended k e = absurd (cc)
 
-waits_key : WaitList → Task → Option Key
+unfoldable pub waits_key : WaitList → Task → Option Key
 waits_key list t = option_and_then (wait_key list) (wait_if_waiting t.status)
 
 ready_waits : (u : Status) (list : WaitList) → is_some (ticket_if_ready u) ≡ true → WaitsIn list u → ⊥
@@ -147,7 +147,7 @@ module _ (app : Application) (formed : IsWellFormed app) (hold : Hold) where
 ready_apart : (s : State) (i j : ℕ) (list : WaitList) → is_ready s i ≡ true → WaitsIn list (status_at s j) → i ≢ j
 ready_apart s i j list r w = λ e. ready_waits (status_at s j) list (subst (λ k. is_ready s k ≡ true) e r) w
 
-spared_one : (s : State) (i j : ℕ) (list : WaitList) → is_ready s i ≡ true → WaitsIn list (status_at s j) → task_at (wake_one j list s) i ≡ task_at s i
+pub spared_one : (s : State) (i j : ℕ) (list : WaitList) → is_ready s i ≡ true → WaitsIn list (status_at s j) → task_at (wake_one j list s) i ≡ task_at s i
 spared_one s i j list r w =
     let ne : i ≢ j = ready_apart s i j list r w in
     by_test (is_locked s.locked list)

@@ -11,18 +11,22 @@ use Rattle.model.specs.declared.call.Phase.TheVariants.{Start, Try, Decide, Plac
 use Rattle.model.specs.declared.call.WaitList.{WaitList}
 use Rattle.model.specs.declared.call.WaitList.TheVariants.{ToReceive, ToSend}
 use Rattle.model.specs.declared.loops.Loop.{Loop}
+use Rattle.model.specs.declared.event.What.{What}
 use Rattle.model.specs.declared.event.What.TheVariants as what
-use Rattle.model.specs.Application.{Application, op_at, op_count}
+use Rattle.model.specs.declared.op.IsrOp.{IsrOp}
+use Rattle.model.specs.declared.op.IsrOp.TheVariants as isr_op
+use Rattle.model.specs.Application.{Application, op_at, op_count, ops_of, interrupts_at}
 use Rattle.model.specs.State.{State, Task, Progress, Status, Ready, Asleep, task_at, status_at, progress_at, call_at, object_at, with_task, with_call, with_object, take_ticket, for_one, for_each, printed}
 use Rattle.model.specs.Order.{tasks_of, task_of, first}
 use Rattle.model.specs.Switching.{make_ready, to_back, dispatch, choose, choice, is_same, is_ready, yield_now, is_outranked, is_sharing, preempt, slice, settle, unless_held, is_off, write}
-use Rattle.model.specs.Time.{wake_due, due, advance, increment_tick, tick_interrupt, sleep, set_previous_wake}
+use Rattle.model.specs.Time.{wake_due, due, advance, increment_tick, sleep, set_previous_wake}
 use Rattle.model.specs.Waiting.{waiters, awakened, awake_status, is_locked, wake_one, wake_best, wait_in, set_deadline, is_expired, end_hold, unlock_object, unlock}
 use Rattle.model.specs.Objects.{possible, answer_to, object_after, list_woken, fulfil, attempt}
 use Rattle.model.specs.Calls.{try, decide, leave_call, await, do_now}
 use Rattle.model.specs.Ops.{go_to, moved_to, complete, called, answer, use_up, delay, delay_until, expect, open_loop, turn, close_turn}
 use Rattle.model.specs.Invariant.{hold_of, awaited}
-use Rattle.model.specs.Step.{act, act_if, act_current, step, reset, nobody_ready, ready_at_reset, with_ops}
+use Rattle.model.specs.Handlers.{isr_told, isr, isr_each, handle, inject, interrupt, tick_interrupt}
+use Rattle.model.specs.Step.{act, act_if, act_current, before_step, step, reset, nobody_ready, ready_at_reset, with_ops}
 use Rattle.model.proofs.Sorting.{by_test}
 use Rattle.model.proofs.Settled.{when_held, when_free}
 
@@ -205,6 +209,49 @@ keeps-do_now app i o a s =
     let u : State = answer app i (answer_to s o a) t in
     keeps_both s t (preempt u) (keeps-attempt (Some i) o a s) (keeps_both t u (preempt u) (keeps-answer app i (answer_to s o a) t) (keeps-preempt u))
 
+-- ---- handlers
+
+pub keeps-write : (w : What) (s : State) → Keeps s (write w s)
+keeps-write w s = record { time = refl; elapsed = refl; steps = refl; stopped = refl; tasks = refl; hold = refl }
+
+pub keeps-isr : (handler op_index : ℕ) (op : IsrOp) (s : State) → Keeps s (isr handler op_index op s)
+keeps-isr handler op_index (isr_op.Do o a) s =
+    let t : State = attempt None o a s in
+    let w : What = isr_told handler op_index (answer_to s o a) in
+    keeps_both s t (write w t) (keeps-attempt None o a s) (keeps-write w t)
+keeps-isr handler op_index (isr_op.Mark n) s = keeps-write (what.IsrMark handler n) s
+
+keeps-isr_each : (handler op_index : ℕ) (ops : List IsrOp) (s : State) → Keeps s (isr_each handler op_index ops s)
+keeps-isr_each handler op_index [] s = keeps s
+keeps-isr_each handler op_index (op ∷ ops) s =
+    let t : State = isr handler op_index op s in
+    keeps_both s t (isr_each handler (op_index + 1) ops t) (keeps-isr handler op_index op s) (keeps-isr_each handler (op_index + 1) ops t)
+
+pub keeps-handle : (app : Application) (handler : ℕ) (s : State) → Keeps s (handle app handler s)
+unfolding handle
+keeps-handle app handler s = keeps-isr_each handler 0 (ops_of app handler) s
+
+keeps-each : {A : Type 0} (deed : A → State → State) (k : (a : A) (s : State) → Keeps s (deed a s)) (ones : List A) (s : State) → Keeps s (for_each deed ones s)
+keeps-each deed k [] s = keeps s
+keeps-each deed k (a ∷ ones) s = keeps_both s (deed a s) (for_each deed ones (deed a s)) (k a s) (keeps-each deed k ones (deed a s))
+
+pub keeps-inject : (app : Application) (handler : ℕ) (s : State) → Keeps s (inject app handler s)
+unfolding inject
+keeps-inject app handler s =
+    let t : State = handle app handler s in
+    keeps_both s t (unless_held preempt t) (keeps-handle app handler s) (keeps-unless_held preempt t keeps-preempt)
+
+pub keeps-interrupt : (app : Application) (s : State) → Keeps s (interrupt app s)
+unfolding interrupt
+keeps-interrupt app s = keeps-each (handle app) (keeps-handle app) (interrupts_at app s.elapsed) s
+
+-- what a step begins with
+pub keeps-before_step : (app : Application) (handlers : List ℕ) (s : State) → Keeps s (before_step app handlers s)
+unfolding before_step
+keeps-before_step app handlers s =
+    let k : Keeps (record s { log = [] }) (for_each (inject app) handlers (record s { log = [] })) = keeps-each (inject app) (keeps-inject app) handlers (record s { log = [] }) in
+    record { time = k.time; elapsed = k.elapsed; steps = k.steps; stopped = k.stopped; tasks = k.tasks; hold = k.hold }
+
 elapsed-unlock : (s : State) → (unlock s).elapsed ≡ s.elapsed
 unfolding unlock
 elapsed-unlock s = by_locked s.locked where
@@ -234,17 +281,20 @@ elapsed-await app i o a ticks Leave s = elapsed-leave_call i s
 
 -- ---- the tick: it alone lets time pass
 
-pub elapsed-tick : (s : State) → (tick_interrupt s).elapsed ≡ s.elapsed + 1
+-- from when it has come on, no more time passes
+keeps-tick : (app : Application) (s : State) → Keeps (record s { time = s.time + 1; elapsed = s.elapsed + 1 }) (tick_interrupt app s)
 unfolding tick_interrupt increment_tick advance
-elapsed-tick s =
+keeps-tick app s =
     let later : State = record s { time = s.time + 1; elapsed = s.elapsed + 1 } in
-    (keeps-slice (wake_due later)).elapsed ∙ (keeps-wake_due later).elapsed
+    let woken : State = wake_due later in
+    let told : State = interrupt app woken in
+    keeps_both later woken (slice told) (keeps-wake_due later) (keeps_both woken told (slice told) (keeps-interrupt app woken) (keeps-slice told))
 
-pub hold-tick : (s : State) → hold_of (tick_interrupt s) ≡ hold_of s
-unfolding tick_interrupt increment_tick advance
-hold-tick s =
-    let later : State = record s { time = s.time + 1; elapsed = s.elapsed + 1 } in
-    (keeps-slice (wake_due later)).hold ∙ (keeps-wake_due later).hold
+pub elapsed-tick : (app : Application) (s : State) → (tick_interrupt app s).elapsed ≡ s.elapsed + 1
+elapsed-tick app s = (keeps-tick app s).elapsed
+
+pub hold-tick : (app : Application) (s : State) → hold_of (tick_interrupt app s) ≡ hold_of s
+hold-tick app s = (keeps-tick app s).hold
 
 hold-expect : (app : Application) (i : ℕ) (a : Option ℕ) (s : State) → hold_of (expect app i a s) ≡ hold_of s
 unfolding expect
@@ -254,7 +304,7 @@ hold-expect app i a s = by_test (option_eq eqb (progress_at s i).answer a)
 
 -- an op that doesn't wait
 pub hold-act : (app : Application) (i : ℕ) (op : Op) (s : State) → awaited (Some op) ≡ None → hold_of (act app i op s) ≡ hold_of s
-hold-act app i (Work n) s w = hold-tick (use_up app i n s) ∙ (keeps-use_up app i n s).hold
+hold-act app i (Work n) s w = hold-tick app (use_up app i n s) ∙ (keeps-use_up app i n s).hold
 hold-act app i (Delay n) s w = (keeps-delay app i n s).hold
 hold-act app i (DelayUntil n) s w = (keeps-delay_until app i ((progress_at s i).previous_wake + n) s).hold
 hold-act app i Yield s w = let t : State = answer app i (Some 0) s in (keeps-yield_now t).hold ∙ (keeps-answer app i (Some 0) s).hold
@@ -275,7 +325,7 @@ elapsed-expect app i a s = by_test (option_eq eqb (progress_at s i).answer a)
     (λ t. rw t refl)
 
 elapsed-act : (app : Application) (i : ℕ) (op : Op) (s : State) → (act app i op s).elapsed ≤ s.elapsed + 1
-elapsed-act app i (Work n) s = let e = elapsed-tick (use_up app i n s) in let f = (keeps-use_up app i n s).elapsed in omega arith
+elapsed-act app i (Work n) s = let e = elapsed-tick app (use_up app i n s) in let f = (keeps-use_up app i n s).elapsed in omega arith
 elapsed-act app i (Delay n) s = let e = (keeps-delay app i n s).elapsed in omega arith
 elapsed-act app i (DelayUntil n) s = let e = (keeps-delay_until app i ((progress_at s i).previous_wake + n) s).elapsed in omega arith
 elapsed-act app i Yield s =
@@ -298,17 +348,18 @@ elapsed-act_if app i None s = omega arith
 elapsed-act_if app i (Some op) s = elapsed-act app i op s
 
 elapsed-act_current : (app : Application) (r : Option ℕ) (s : State) → (act_current app r s).elapsed ≤ s.elapsed + 1
-elapsed-act_current app None s = let e = elapsed-tick s in omega arith
+elapsed-act_current app None s = let e = elapsed-tick app s in omega arith
 elapsed-act_current app (Some i) s = elapsed-act_if app i (op_at app i (progress_at s i).op_index) s
 
 -- ---- a step, and reset
 
-pub elapsed-step : (app : Application) (s : State) → (step app s).elapsed ≤ s.elapsed + 1
+pub elapsed-step : (app : Application) (handlers : List ℕ) (s : State) → (step app handlers s).elapsed ≤ s.elapsed + 1
 unfolding step
-elapsed-step app s =
-    let begun : State = record s { log = [] } in
-    let e : (unless_held settle (act_current app s.current begun)).elapsed ≡ (act_current app s.current begun).elapsed = (keeps-unless_held settle (act_current app s.current begun) keeps-settle).elapsed in
-    let le : (act_current app s.current begun).elapsed ≤ s.elapsed + 1 = elapsed-act_current app s.current begun in
+elapsed-step app handlers s =
+    let begun : State = before_step app handlers s in
+    let b : begun.elapsed ≡ s.elapsed = (keeps-before_step app handlers s).elapsed in
+    let e : (unless_held settle (act_current app begun.current begun)).elapsed ≡ (act_current app begun.current begun).elapsed = (keeps-unless_held settle (act_current app begun.current begun) keeps-settle).elapsed in
+    let le : (act_current app begun.current begun).elapsed ≤ begun.elapsed + 1 = elapsed-act_current app begun.current begun in
     omega arith
 
 elapsed-nobody : (app : Application) → (nobody_ready app).elapsed ≡ 0

@@ -4,8 +4,9 @@ use Rattle.std.specs.List.{AllByRecursion, slice_get}
 use Rattle.std.specs.Option.{option_map, unwrap_or}
 use Rattle.model.specs.declared.op.Op.{Op}
 use Rattle.model.specs.declared.op.Op.TheVariants.{Work, Delay, DelayUntil, Yield, Time, Mark, Expect, Repeat, End, Await, Do, MessagesWaiting, SpacesAvailable}
-use Rattle.model.specs.Application.{Application, Definition, script_of, op_at}
-use Rattle.model.specs.Scripts.{InRange, may_stand, nesting_past, Nests, IsScript, IsDefinition, IsWellFormed, knows, KnowsAll}
+use Rattle.model.specs.declared.op.IsrOp.{IsrOp}
+use Rattle.model.specs.Application.{Application, Handler, Definition, script_of, op_at, ops_of}
+use Rattle.model.specs.Scripts.{InRange, may_stand, nesting_past, Nests, IsScript, IsDefinition, IsHandler, IsWellFormed, knows, KnowsAll, knows_isr}
 use Rattle.model.specs.Invariant.{IsUsedBy}
 use Rattle.model.proofs.Nesting.{least_work}
 
@@ -70,3 +71,12 @@ known_of app (suc i) p (d ∷ ds) op h e = known_of app i p ds op h.1 e
 -- the application has what it speaks of
 pub known_at : (app : Application) → IsWellFormed app → (i p : ℕ) (op : Op) → op_at app i p ≡ Some op → knows app op ≡ true
 known_at app formed i p op e = known_of app i p app.tasks op formed.known e
+
+isr_known_of : (app : Application) (i : ℕ) (hs : List Handler) → AllByRecursion (IsHandler app) hs → AllByRecursion (λ (op : IsrOp). knows_isr app op ≡ true) (unwrap_or (option_map (λ (h : Handler). h.ops) (slice_get hs i)) [])
+isr_known_of app i [] a = tt
+isr_known_of app zero (h ∷ hs) a = a.0.known
+isr_known_of app (suc i) (h ∷ hs) a = isr_known_of app i hs a.1
+
+-- the same of the ops of a handler
+pub isr_known : (app : Application) → IsWellFormed app → (handler : ℕ) → AllByRecursion (λ (op : IsrOp). knows_isr app op ≡ true) (ops_of app handler)
+isr_known app formed handler = isr_known_of app handler app.handlers formed.handlers

@@ -9,6 +9,7 @@ pub mod InScripts
 pub mod Settled
 pub mod Sound
 pub mod Called
+pub mod Handled
 pub mod Unlocking
 pub mod Phases
 pub mod Reached

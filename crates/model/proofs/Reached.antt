@@ -12,22 +12,25 @@ use Rattle.model.specs.declared.op.Access.{Access}
 use Rattle.model.specs.declared.call.Phase.{Phase}
 use Rattle.model.specs.declared.call.Phase.TheVariants.{Start, Try, Decide, Place, Unlock, Leave}
 use Rattle.model.specs.declared.event.Event.{Event}
+use Rattle.model.specs.declared.plan.Point.{Point}
 use Rattle.model.specs.declared.event.What.TheVariants as what
 use Rattle.model.specs.Application.{Application, Definition, script_of, op_at}
 use Rattle.model.specs.Scripts.{IsDefinition, IsWellFormed, fits_object, is_wait}
 use Rattle.model.specs.State.{State, wait_of, progress_at, status_at, call_at, no_call, no_task, no_object, for_each}
-use Rattle.model.specs.Switching.{make_ready, choice, is_ready, settle, unless_held, write}
+use Rattle.model.specs.Switching.{make_ready, choice, is_ready, preempt, settle, unless_held, write}
 use Rattle.model.specs.Waiting.{set_deadline}
 use Rattle.model.specs.Calls.{await}
-use Rattle.model.specs.Step.{act, act_if, act_current, step, reset, nobody_ready, ready_at_reset, task_at_reset, object_at_reset, with_ops, is_empty}
-use Rattle.model.specs.Run.{state_after}
+use Rattle.model.specs.Handlers.{handle, inject}
+use Rattle.model.specs.Step.{act, act_if, act_current, before_step, step, reset, nobody_ready, ready_at_reset, task_at_reset, object_at_reset, with_ops, is_empty}
+use Rattle.model.specs.Run.{injected, state_after}
 use Rattle.model.specs.Invariant.{AllTicketsBelow, IsAt, Hold, hold_of, awaited, IsPhaseOf, IsObject, IsSound, holds, IsRunning, RunsIn, IsState}
 use Rattle.model.proofs.Sorting.{by_test}
 use Rattle.model.proofs.Chosen.{choice_within}
-use Rattle.model.proofs.Settled.{IsSettled, settled-settle, settled-reset, when_held, when_free}
+use Rattle.model.proofs.Settled.{IsSettled, settled-settle, settled-preempt, settled-reset, when_held, when_free}
 use Rattle.model.proofs.InScripts.{script_formed, used_none, range_at, known_at}
-use Rattle.model.proofs.Frames.{keeps-settle, keeps-try, keeps-set_deadline, keeps-all_ready, hold-tick, hold-act}
-use Rattle.model.proofs.Sound.{CanBeReady, all_made_ready, runs, logged, settled, ticked, yielded, answered, used_up, expected, opened, closed, plain, delayed, delayed_until, ready_free, call_none}
+use Rattle.model.proofs.Frames.{keeps-settle, keeps-try, keeps-set_deadline, keeps-all_ready, keeps-use_up, keeps-preempt, hold-tick, hold-act}
+use Rattle.model.proofs.Sound.{CanBeReady, all_made_ready, runs, logged, settled, preempted, yielded, answered, used_up, expected, opened, closed, plain, delayed, delayed_until, ready_free, call_none}
+use Rattle.model.proofs.Handled.{ticked, handled_between}
 use Rattle.model.proofs.Called.{tried, done_now, dated, dated_at, phase_free}
 use Rattle.model.proofs.Phases.{free, decided, decided_held, placed, unlocked, unlocked_held, left, left_hold}
 
@@ -73,7 +76,7 @@ module _ (app : Application) (formed : IsWellFormed app) where
 
   -- an op that doesn't wait
   acted : (s : State) (i : ℕ) (op : Op) → IsSound app free s → s.locked ≡ None → i < length s.tasks → is_ready s i ≡ true → op_at app i (progress_at s i).op_index ≡ Some op → awaited (Some op) ≡ None → IsSound app free (act app i op s)
-  acted s i (Work n) h u l r is w = ticked app formed free _ (used_up app formed free s i (Work n) h (ready_free (status_at s i) r) is n refl)
+  acted s i (Work n) h u l r is w = ticked app formed free _ (used_up app formed free s i (Work n) h (ready_free (status_at s i) r) is n refl) (ap (λ (x : Hold). x.locked) (keeps-use_up app i n s).hold ∙ u)
   acted s i (Delay n) h u l r is w = delayed app formed free s i n h l r is
   acted s i (DelayUntil n) h u l r is w = delayed_until app formed free s i n h l r is
   acted s i Yield h u l r is w = yielded app formed free _ (answered app formed free s i Yield h (ready_free (status_at s i) r) is (Some 0) refl)
@@ -182,7 +185,7 @@ module _ (app : Application) (formed : IsWellFormed app) where
   current_done : (s : State) (r : Option ℕ) → IsState app s → s.current ≡ r → IsState app (unless_held settle (act_current app r s))
   current_done s None h on =
       let none : s.call_hold ≡ false = subst (RunsIn s) on h.runs in
-      settled_at_rest _ (ticked app formed free s (sound_free_idle none)) (hold-tick s ∙ hold_none_idle none) where
+      settled_at_rest _ (ticked app formed free s (sound_free_idle none) (h.locked none)) (hold-tick app s ∙ hold_none_idle none) where
         hold_none_idle : s.call_hold ≡ false → hold_of s ≡ free
         hold_none_idle none = ap (λ l. record { held = s.call_hold; locked = l }) (h.locked none) ∙ ap (λ b. record { held = b; locked = None }) none
 
@@ -190,11 +193,41 @@ module _ (app : Application) (formed : IsWellFormed app) where
         sound_free_idle none = subst (λ x. IsSound app x s) (hold_none_idle none) h.sound
   current_done s (Some i) h on = act_if_done s i h on (op_at app i (progress_at s i).op_index) refl
 
-  pub reached_step : (s : State) → IsState app s → IsState app (step app s)
+  -- ---- handlers before a step
+
+  -- an injected handler
+  pub injected_between : (handler : ℕ) (s : State) → IsState app s → IsState app (inject app handler s)
+  unfolding inject
+  injected_between handler s h = by_test t.call_hold
+      (λ held. subst (IsState app) (sym (when_held preempt t held)) k)
+      (λ none. subst (IsState app) (sym (when_free preempt t none)) (preempted_at_rest none)) where
+        t : State
+        t = handle app handler s
+
+        k : IsState app t
+        k = handled_between app formed handler s h
+
+        preempted_at_rest : t.call_hold ≡ false → IsState app (preempt t)
+        preempted_at_rest none =
+            let same : hold_of t ≡ free = ap (λ l. record { held = t.call_hold; locked = l }) (k.locked none) ∙ ap (λ b. record { held = b; locked = None }) none in
+            at_rest (preempt t) (preempted app formed free t (subst (λ x. IsSound app x t) same k.sound)) ((keeps-preempt t).hold ∙ same) (settled-preempt t (by_current t.current k.runs none)) where
+              by_current : (r : Option ℕ) → RunsIn t r → t.call_hold ≡ false → IfSome r (λ task. is_ready t task ≡ true)
+              by_current None r none = tt
+              by_current (Some i) r none = r.ready none
+
+  all_injected : (handlers : List ℕ) (s : State) → IsState app s → IsState app (for_each (inject app) handlers s)
+  all_injected [] s h = h
+  all_injected (handler ∷ handlers) s h = all_injected handlers (inject app handler s) (injected_between handler s h)
+
+  pub reached_before_step : (handlers : List ℕ) (s : State) → IsState app s → IsState app (before_step app handlers s)
+  unfolding before_step
+  reached_before_step handlers s h = all_injected handlers (record s { log = [] }) (told s [] s.steps h)
+
+  pub reached_step : (handlers : List ℕ) (s : State) → IsState app s → IsState app (step app handlers s)
   unfolding step
-  reached_step s h =
-      let t : State = record s { log = [] } in
-      told _ _ (s.steps + 1) (current_done t s.current (told s [] s.steps h) refl)
+  reached_step handlers s h =
+      let r : State = before_step app handlers s in
+      told _ _ (s.steps + 1) (current_done r r.current (reached_before_step handlers s h) refl)
 
 -- ---- reset
 
@@ -263,6 +296,6 @@ module _ (app : Application) (formed : IsWellFormed app) where
   reached_reset = at_rest app formed _ (runs app formed free (ready_at_reset app) (choice (ready_at_reset app)) reached_ready (choice_within (ready_at_reset app))) reset_hold (settled-reset app)
 
   -- every state of a run
-  pub reached_after : (n : ℕ) → IsState app (state_after app n)
-  reached_after zero = reached_reset
-  reached_after (suc n) = reached_step app formed (state_after app n) (reached_after n)
+  pub reached_after : (plan : List Point) (n : ℕ) → IsState app (state_after app plan n)
+  reached_after plan zero = reached_reset
+  reached_after plan (suc n) = reached_step app formed (injected plan n) (state_after app plan n) (reached_after plan n)

@@ -4,11 +4,12 @@ use Rattle.std.specs.List.{AllByRecursion}
 use Rattle.std.specs.Prelude.{Bool, if◌then◌else◌}
 use Rattle.std.specs.Option.{IfSome, is_some, option_map}
 use Rattle.model.specs.Application.{Application}
-use Rattle.model.specs.State.{State, Status, Ready, Awake, Waiting, Asleep, Ended, ticket_if_ready, task_at}
+use Rattle.model.specs.State.{State, Status, Ready, Awake, Waiting, Asleep, Ended, ticket_if_ready, task_at, for_one}
 use Rattle.model.specs.Order.{Key, Entry, key, first, task_of}
-use Rattle.model.specs.Switching.{ready_key, ready_list, is_ready, choice, is_same, choose, dispatch, is_off, settle, unless_held}
-use Rattle.model.specs.Step.{act_current, step, ready_at_reset, reset}
-use Rattle.model.specs.Run.{state_after}
+use Rattle.model.specs.Switching.{ready_key, ready_list, is_ready, to_back, choice, is_same, choose, dispatch, yield_now, is_outranked, preempt, is_off, settle, unless_held}
+use Rattle.model.specs.declared.plan.Point.{Point}
+use Rattle.model.specs.Step.{act_current, before_step, step, ready_at_reset, reset}
+use Rattle.model.specs.Run.{injected, state_after}
 use Rattle.model.proofs.Sorting.{by_test}
 use Rattle.model.proofs.Lists.{HasKey, eqb-same, list_has}
 
@@ -52,6 +53,12 @@ settled-settle s = by_test (is_off s s.current)
     (λ t. rw t (settled-choose s))
     (λ t. rw t (still_on s s.current t))
 
+pub settled-preempt : (s : State) → IsSettled s → IsSettled (preempt s)
+unfolding preempt yield_now
+settled-preempt s h = by_test (is_outranked s)
+    (λ t. rw t (settled-choose (for_one to_back s.current s)))
+    (λ t. rw t h)
+
 -- ---- whether the scheduler is held
 
 if_true : {A : Type 0} (b : Bool) (x y : A) → b ≡ true → (if b then x else y) ≡ x
@@ -67,18 +74,18 @@ pub when_free : (deed : State → State) (s : State) → s.call_hold ≡ false �
 when_free deed s free = if_false s.call_hold s (deed s) free
 
 -- where it isn't held
-pub settled-step : (app : Application) (s : State) → (step app s).call_hold ≡ false → IsSettled (step app s)
+pub settled-step : (app : Application) (handlers : List ℕ) (s : State) → (step app handlers s).call_hold ≡ false → IsSettled (step app handlers s)
 unfolding step
-settled-step app s free = by_test t.call_hold
+settled-step app handlers s free = by_test t.call_hold
     (λ held. let same : (unless_held settle t).call_hold ≡ t.call_hold = ap (λ (u : State). u.call_hold) (when_held settle t held) in absurd (cc))
     (λ none. subst IsSettled (sym (when_free settle t none)) (settled-settle t)) where
       t : State
-      t = act_current app s.current (record s { log = [] })
+      t = let r : State = before_step app handlers s in act_current app r.current r
 
 pub settled-reset : (app : Application) → IsSettled (reset app)
 unfolding reset
 settled-reset app = choice_ready (ready_at_reset app)
 
-pub settled_after : (app : Application) (n : ℕ) → (state_after app n).call_hold ≡ false → IsSettled (state_after app n)
-settled_after app zero free = settled-reset app
-settled_after app (suc n) free = settled-step app (state_after app n) free
+pub settled_after : (app : Application) (plan : List Point) (n : ℕ) → (state_after app plan n).call_hold ≡ false → IsSettled (state_after app plan n)
+settled_after app plan zero free = settled-reset app
+settled_after app plan (suc n) free = settled-step app (injected plan n) (state_after app plan n) free

@@ -16,7 +16,7 @@ use Rattle.model.specs.State.{State, Task, Progress, Status, Wait, Ready, Awake,
 use Rattle.model.specs.Order.{Entry, tasks_of}
 use Rattle.model.specs.Switching.{make_ready, to_back, dispatch, choose, choice, is_same, is_ready, yield_now, is_outranked, is_sharing, preempt, slice, settle, is_off, write}
 use Rattle.model.specs.Waiting.{is_locked}
-use Rattle.model.specs.Time.{wake_due, due, is_due, delayed_list, delayed_key, advance, increment_tick, tick_interrupt, sleep, set_previous_wake}
+use Rattle.model.specs.Time.{wake_due, due, is_due, delayed_list, delayed_key, sleep, set_previous_wake}
 use Rattle.model.specs.Ops.{go_to, moved_to, complete, called, answer, use_up, delay, delay_until, expect, open_loop, turn, close_turn}
 use Rattle.model.specs.Invariant.{HasTicketBelow, IsUsedBy, LoopsNest, IsReckoned, IsAt, Hold, awaited, IsPhaseOf, IsWaitOf, IsCall, IsSound}
 use Rattle.model.proofs.Sorting.{by_test}
@@ -243,7 +243,7 @@ module _ (app : Application) (formed : IsWellFormed app) (hold : Hold) where
   unfolding yield_now
   yielded s h = chosen (for_one to_back s.current s) (went_back s s.current h h.table.current)
 
-  sliced : (s : State) → IsSound app hold s → IsSound app hold (slice s)
+  pub sliced : (s : State) → IsSound app hold s → IsSound app hold (slice s)
   unfolding slice
   sliced s h = by_test (is_outranked s || is_sharing s) (λ t. rw t (yielded s h)) (λ t. rw t h)
 
@@ -255,11 +255,11 @@ module _ (app : Application) (formed : IsWellFormed app) (hold : Hold) where
   unfolding settle
   settled s h = by_test (is_off s s.current) (λ t. rw t (chosen s h)) (λ t. rw t h)
 
-  woken : (s : State) → IsSound app hold s → IsSound app hold (wake_due s)
+  pub woken : (s : State) → IsSound app hold s → IsSound app hold (wake_due s)
   unfolding wake_due
   woken s h = all_made_ready s (tasks_of (due s)) h (due_can s (λ i. (h.progress i).reckoned) (delayed_list s) (list_within delayed_key s.tasks))
 
-  later : (s : State) → IsSound app hold s → IsSound app hold (record s { time = s.time + 1; elapsed = s.elapsed + 1 })
+  pub later : (s : State) → IsSound app hold s → IsSound app hold (record s { time = s.time + 1; elapsed = s.elapsed + 1 })
   later s h = let e = h.time in record {
     table = record { tickets = h.table.tickets; few = h.table.few; current = h.table.current };
     tasks = h.tasks;
@@ -269,10 +269,6 @@ module _ (app : Application) (formed : IsWellFormed app) (hold : Hold) where
     contents = h.contents;
     time = omega arith;
   }
-
-  pub ticked : (s : State) → IsSound app hold s → IsSound app hold (tick_interrupt s)
-  unfolding tick_interrupt increment_tick advance
-  ticked s h = sliced _ (woken _ (later s h))
 
   -- The task of the state, which doesn't wait, is at an op, which does something and goes on.
   module _ (s : State) (i : ℕ) (h : IsSound app hold s) (free : wait_of (status_at s i) ≡ None) where

@@ -1,16 +1,28 @@
 -- An application, as its file has it.
-use Rattle.std.specs.Prelude.{ℕ, ◌≤◌, List, [], length, Option, slice_get, option_map, unwrap_or, codes}
+use Rattle.std.specs.Prelude.{ℕ, ◌≤◌, ◌==◌, List, [], length, map, filter, Option, slice_get, option_map, unwrap_or, codes}
 use Rattle.model.specs.declared.object.ObjectKind.{ObjectKind}
 use Rattle.model.specs.declared.op.Access.{Access}
 use Rattle.model.specs.declared.op.Access.TheVariants.{Send, SendFront, Overwrite, Receive, Peek}
 use Rattle.model.specs.declared.op.Op.{Op}
 use Rattle.model.specs.declared.op.Op.TheVariants.{Work, Delay, DelayUntil, Yield, Time, Mark, Expect, Repeat, End, Await, Do, MessagesWaiting, SpacesAvailable}
+use Rattle.model.specs.declared.op.IsrOp.{IsrOp}
+use Rattle.model.specs.declared.op.IsrOp.TheVariants as isr
 
 -- a task of the file
 pub record Definition : Type 0 where
   pub name : List ℕ
   pub priority : ℕ
   pub script : List Op
+
+-- an interrupt handler of the file
+pub record Handler : Type 0 where
+  pub name : List ℕ
+  pub ops : List IsrOp
+
+-- a base interrupt of the file: at this elapsed tick the handler runs (profile)
+pub record Interrupt : Type 0 where
+  pub tick : ℕ
+  pub handler : ℕ
 
 -- where a run ends at the latest: elapsed ticks, and steps (profile)
 pub record Limits : Type 0 where
@@ -27,6 +39,8 @@ pub record Application : Type 0 where
   pub start : ℕ
   pub limits : Limits
   pub objects : List ObjectKind
+  pub handlers : List Handler
+  pub interrupts : List Interrupt
   pub tasks : List Definition
 
 -- the task of this number, as the file has it
@@ -48,6 +62,26 @@ op_count app task = length (script_of app task)
 -- the name of a task
 abbrev pub name_of : Application → ℕ → List ℕ
 name_of app task = unwrap_or (option_map (λ (d : Definition). d.name) (definition_of app task)) []
+
+-- the handler of this number, as the file has it
+abbrev pub handler_of : Application → ℕ → Option Handler
+handler_of app handler = slice_get app.handlers handler
+
+-- the ops of a handler
+abbrev pub ops_of : Application → ℕ → List IsrOp
+ops_of app handler = unwrap_or (option_map (λ (h : Handler). h.ops) (handler_of app handler)) []
+
+-- the op of this index of a handler
+abbrev pub isr_op_at : Application → ℕ → ℕ → Option IsrOp
+isr_op_at app handler op_index = slice_get (ops_of app handler) op_index
+
+-- the name of a handler
+abbrev pub handler_name_of : Application → ℕ → List ℕ
+handler_name_of app handler = unwrap_or (option_map (λ (h : Handler). h.name) (handler_of app handler)) []
+
+-- the handlers of the base interrupts at an elapsed tick, in the order of the file
+abbrev pub interrupts_at : Application → ℕ → List ℕ
+interrupts_at app tick = map (λ (i : Interrupt). i.handler) (filter (λ (i : Interrupt). i.tick == tick) app.interrupts)
 
 -- the first word of a call's text
 abbrev pub word_of_access : Access → List ℕ
@@ -72,3 +106,8 @@ word_of (Await object access ticks) = word_of_access access
 word_of (Do object access) = word_of_access access
 word_of (MessagesWaiting object) = codes "waiting"
 word_of (SpacesAvailable object) = codes "spaces"
+
+-- the first word of the text of a handler's op
+abbrev pub word_of_isr : IsrOp → List ℕ
+word_of_isr (isr.Do object access) = word_of_access access
+word_of_isr (isr.Mark n) = codes "mark"

@@ -124,7 +124,8 @@ holds Unlock = true
 holds Leave = true
 holds _ = false
 
--- A task that is to be placed has begun to wait, with the priority that it has, and its deadline is still to come.
+-- A task that is to be placed has begun to wait, with the priority that it has, and its deadline is still to come. A handler
+-- may have woken it already.
 abbrev pub IsPlacing : ℕ → Task → Option Wait → Type 0
 IsPlacing now t None = ⊥
 IsPlacing now t (Some w) = (t.progress.call.list ≡ Some w.list) × (w.priority ≡ t.priority) × IfSome w.deadline (λ deadline. now < deadline)

@@ -8,6 +8,7 @@ pub mod Time
 pub mod Ops
 pub mod Objects
 pub mod Calls
+pub mod Handlers
 pub mod Step
 pub mod Run
 pub mod Invariant

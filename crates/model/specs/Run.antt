@@ -1,10 +1,11 @@
--- A run of the kernel, from reset to its end.
-use Rattle.std.specs.Prelude.{◌≡◌, ℕ, zero, suc, ◌<◌, ◌&&◌, Bool, true, false, not, List, [], ◌++◌, Option, Some, None, is_some, is_none, nat_le, if◌then◌else◌}
+-- A run of the kernel, from reset to its end, with handlers injected by a plan.
+use Rattle.std.specs.Prelude.{◌≡◌, ℕ, zero, suc, ◌<◌, ◌==◌, ◌&&◌, Bool, true, false, not, List, [], ◌∷◌, ◌++◌, map, filter, Option, Some, None, is_some, is_none, nat_lt, nat_le, if◌then◌else◌}
 use Rattle.std.specs.List.{list_any, list_all}
 use Rattle.model.specs.declared.event.Event.{Event}
 use Rattle.model.specs.declared.event.End.{End}
 use Rattle.model.specs.declared.event.End.TheVariants.{Pass, Ticks, Steps, Stuck}
-use Rattle.model.specs.Application.{Application, Limits}
+use Rattle.model.specs.declared.plan.Point.{Point}
+use Rattle.model.specs.Application.{Application, Interrupt, Limits}
 use Rattle.model.specs.State.{State, Task, Status, Ended, wake_time_of}
 use Rattle.model.specs.Step.{step, reset}
 
@@ -17,9 +18,17 @@ is_ended _ = false
 abbrev pub are_all_ended : State → Bool
 are_all_ended s = list_all (λ (t : Task). is_ended t.status) s.tasks
 
--- Idle runs, and no task will wake by itself.
-abbrev pub is_stuck : State → Bool
-is_stuck s = is_none s.current && not (list_any (λ (t : Task). is_some (wake_time_of t.status)) s.tasks)
+-- Some task will wake by itself.
+abbrev pub will_wake : State → Bool
+will_wake s = list_any (λ (t : Task). is_some (wake_time_of t.status)) s.tasks
+
+-- Some base interrupt is still to come.
+abbrev pub is_interrupt_to_come : Application → State → Bool
+is_interrupt_to_come app s = list_any (λ (i : Interrupt). nat_lt s.elapsed i.tick) app.interrupts
+
+-- Idle runs, no task will wake by itself, and no interrupt is to come.
+abbrev pub is_stuck : Application → State → Bool
+is_stuck app s = is_none s.current && not (will_wake s) && not (is_interrupt_to_come app s)
 
 -- the first end, if there is one, else the other
 abbrev pub or_else : Option End → Option End → Option End
@@ -27,23 +36,27 @@ or_else None other = other
 or_else (Some end) other = Some end
 
 -- the end of a run before the next step: the first of these that holds (profile)
-abbrev pub end_of : Limits → State → Option End
-end_of limits s = or_else s.stopped (
+abbrev pub end_of : Application → Limits → State → Option End
+end_of app limits s = or_else s.stopped (
     if are_all_ended s then Some Pass
     else if nat_le limits.ticks s.elapsed then Some Ticks
     else if nat_le limits.steps s.steps then Some Steps
-    else if is_stuck s then Some Stuck
+    else if is_stuck app s then Some Stuck
     else None)
 
+-- the handlers that a plan injects before the step of this number, in its order
+abbrev pub injected : List Point → ℕ → List ℕ
+injected plan n = map (λ (p : Point). p.handler) (filter (λ (p : Point). p.step == n) plan)
+
 -- the state after so many steps
-abbrev pub state_after : Application → ℕ → State
-state_after app zero = reset app
-state_after app (suc n) = step app (state_after app n)
+abbrev pub state_after : Application → List Point → ℕ → State
+state_after app plan zero = reset app
+state_after app plan (suc n) = step app (injected plan n) (state_after app plan n)
 
 -- the events of the first steps
-abbrev pub events_after : Application → ℕ → List Event
-events_after app zero = []
-events_after app (suc n) = events_after app n ++ (state_after app (suc n)).log
+abbrev pub events_after : Application → List Point → ℕ → List Event
+events_after app plan zero = []
+events_after app plan (suc n) = events_after app plan n ++ (state_after app plan (suc n)).log
 
 -- what a run comes to: its events, steps and elapsed ticks, and its end
 pub record Run : Type 0 where
@@ -52,9 +65,21 @@ pub record Run : Type 0 where
   pub ticks : ℕ
   pub end : End
 
--- The run of the application under these limits comes to this.
-pub record IsRun (app : Application) (limits : Limits) (run : Run) : Type 0 where
-  pub goes_on : (n : ℕ) → n < run.steps → end_of limits (state_after app n) ≡ None
-  pub ends : end_of limits (state_after app run.steps) ≡ Some run.end
-  pub trace : run.events ≡ events_after app run.steps
-  pub elapsed : run.ticks ≡ (state_after app run.steps).elapsed
+-- The run of the application with this plan, under these limits, comes to this.
+pub record IsRun (app : Application) (plan : List Point) (limits : Limits) (run : Run) : Type 0 where
+  pub goes_on : (n : ℕ) → n < run.steps → end_of app limits (state_after app plan n) ≡ None
+  pub ends : end_of app limits (state_after app plan run.steps) ≡ Some run.end
+  pub trace : run.events ≡ events_after app plan run.steps
+  pub elapsed : run.ticks ≡ (state_after app plan run.steps).elapsed
+
+-- the plan of a row: its point, if it is reached
+abbrev pub plan_of : Bool → Point → List Point
+plan_of reached point = if reached then point ∷ [] else []
+
+-- A row. Its point is reached where the base run, into which nothing is injected, gets beyond the point's step. It is the
+-- run with the point then, and else the base run.
+pub record IsRow (app : Application) (limits : Limits) (point : Point) (reached : Bool) (row : Run) : Type 0 where
+  pub base : Run
+  pub is_base : IsRun app [] limits base
+  pub is_reached : reached ≡ nat_lt point.step base.steps
+  pub is_row : IsRun app (plan_of reached point) limits row

@@ -1,4 +1,4 @@
--- Which scripts and applications are well formed.
+-- Which scripts, handlers and applications are well formed.
 use Rattle.std.specs.Prelude.{◌≡◌, ◌<◌, ◌≤◌, ℕ, ◌+◌, ◌-◌, ◌&&◌, ◌==◌, nat_lt, nat_le, Bool, true, false, not, List, [], ◌∷◌, length, Option, Some, None, slice_get, option_map, unwrap_or}
 use Rattle.std.specs.List.{AllByRecursion}
 use Rattle.model.specs.declared.object.ObjectKind.{ObjectKind}
@@ -7,7 +7,9 @@ use Rattle.model.specs.declared.op.Access.{Access}
 use Rattle.model.specs.declared.op.Access.TheVariants.{Overwrite, Receive}
 use Rattle.model.specs.declared.op.Op.{Op}
 use Rattle.model.specs.declared.op.Op.TheVariants.{Work, DelayUntil, Repeat, End, Await, Do, MessagesWaiting, SpacesAvailable}
-use Rattle.model.specs.Application.{Application, Definition}
+use Rattle.model.specs.declared.op.IsrOp.{IsrOp}
+use Rattle.model.specs.declared.op.IsrOp.TheVariants as isr
+use Rattle.model.specs.Application.{Application, Handler, Interrupt, Definition, interrupts_at}
 
 -- ---- how many there may be (profile)
 
@@ -38,6 +40,26 @@ most_ops = 256
 -- of loops that are open at once
 abbrev pub most_loops : ℕ
 most_loops = 4
+
+-- of handlers of an application
+abbrev pub most_handlers : ℕ
+most_handlers = 16
+
+-- of ops of a handler
+abbrev pub most_handler_ops : ℕ
+most_handler_ops = 16
+
+-- of base interrupts of an application
+abbrev pub most_interrupts : ℕ
+most_interrupts = 1024
+
+-- of base interrupts at one elapsed tick
+abbrev pub most_at_once : ℕ
+most_at_once = 4
+
+-- the last elapsed tick at which a base interrupt may come
+abbrev pub last_interrupt : ℕ
+last_interrupt = 1000000
 
 -- ---- numbers
 
@@ -132,11 +154,29 @@ knows app _ = true
 abbrev pub KnowsAll : Application → Definition → Type 0
 KnowsAll app task = AllByRecursion (λ op. knows app op ≡ true) task.script
 
+-- the same of an op of a handler, which may make each call, as none waits there
+abbrev pub knows_isr : Application → IsrOp → Bool
+knows_isr app (isr.Do object access) = fits_object app object access
+knows_isr app (isr.Mark n) = true
+
 -- ---- the application
 
 -- an object that an application may have (profile: its limits)
 abbrev pub IsObjectKind : ObjectKind → Type 0
 IsObjectKind (Queue size) = (1 ≤ size) × (size ≤ most_items)
+
+-- a handler that an application may have (profile: its limits)
+pub record IsHandler (app : Application) (handler : Handler) : Type 0 where
+  pub name : length handler.name ≤ most_name_bytes
+  pub few : length handler.ops ≤ most_handler_ops
+  -- each op speaks of what there is
+  pub known : AllByRecursion (λ op. knows_isr app op ≡ true) handler.ops
+
+-- a base interrupt that an application may have (profile: its limits)
+pub record IsInterrupt (app : Application) (interrupt : Interrupt) : Type 0 where
+  pub first : 1 ≤ interrupt.tick
+  pub last : interrupt.tick ≤ last_interrupt
+  pub handler : interrupt.handler < length app.handlers
 
 -- a task that an application may have (profile: its limits)
 pub record IsDefinition (task : Definition) : Type 0 where
@@ -151,6 +191,11 @@ pub record IsWellFormed (app : Application) : Type 0 where
   pub tasks : AllByRecursion IsDefinition app.tasks
   pub objects : AllByRecursion IsObjectKind app.objects
   pub few_objects : length app.objects ≤ most_objects
+  pub handlers : AllByRecursion (IsHandler app) app.handlers
+  pub few_handlers : length app.handlers ≤ most_handlers
+  pub interrupts : AllByRecursion (IsInterrupt app) app.interrupts
+  pub few_interrupts : length app.interrupts ≤ most_interrupts
+  pub few_at_once : (tick : ℕ) → length (interrupts_at app tick) ≤ most_at_once
   -- each op speaks of what there is
   pub known : AllByRecursion (KnowsAll app) app.tasks
   pub start : app.start < 4294967296

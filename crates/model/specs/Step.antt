@@ -1,4 +1,4 @@
--- One step of the kernel: what the running task's op does, or idle.
+-- One step of the kernel: what the running task's op does, or idle, after the handlers that are injected.
 use Rattle.std.specs.Prelude.{ℕ, ◌+◌, ◌-◌, Bool, true, false, List, [], ◌∷◌, Option, Some, None, if◌then◌else◌, map, length}
 use Rattle.model.specs.declared.object.ObjectKind.{ObjectKind}
 use Rattle.model.specs.declared.object.ObjectKind.TheVariants.{Queue}
@@ -8,13 +8,13 @@ use Rattle.model.specs.declared.event.What.TheVariants as what
 use Rattle.model.specs.Application.{Application, Definition, op_at}
 use Rattle.model.specs.State.{State, Task, Object, Ended, no_progress, no_object, progress_at, call_at, object_at, for_each, printed}
 use Rattle.model.specs.Switching.{write, make_ready, choice, yield_now, settle, unless_held}
-use Rattle.model.specs.Time.{tick_interrupt}
 use Rattle.model.specs.Ops.{complete, answer, use_up, delay, delay_until, expect, open_loop, close_turn}
 use Rattle.model.specs.Calls.{await, do_now}
+use Rattle.model.specs.Handlers.{inject, tick_interrupt}
 
 -- what each op does; that yield answers 0, and all of mark, is profile
 abbrev pub act : Application → ℕ → Op → State → State
-act app task (Work n) s = tick_interrupt (use_up app task n s)
+act app task (Work n) s = tick_interrupt app (use_up app task n s)
 act app task (Delay n) s = delay app task n s
 act app task (DelayUntil n) s = delay_until app task ((progress_at s task).previous_wake + n) s
 act app task Yield s = yield_now (answer app task (Some 0) s)
@@ -38,14 +38,19 @@ act_if app task (Some op) s = act app task op s
 
 -- The running task does its op; idle lets a tick pass.
 abbrev pub act_current : Application → Option ℕ → State → State
-act_current app None s = tick_interrupt s
+act_current app None s = tick_interrupt app s
 act_current app (Some task) s = act_if app task (op_at app task (progress_at s task).op_index) s
 
--- A step: the running task or idle acts, and where that leaves the running task not Ready, the choice runs, unless the
--- scheduler is held.
-unfoldable pub step : Application → State → State
-step app s =
-    let t = unless_held settle (act_current app s.current (record s { log = [] })) in
+-- These handlers come, one after another, before a step that has told nothing yet.
+unfoldable pub before_step : Application → List ℕ → State → State
+before_step app handlers s = for_each (inject app) handlers (record s { log = [] })
+
+-- A step: the injected handlers run; then the running task or idle acts, and where that leaves the running task not
+-- Ready, the choice runs, unless the scheduler is held.
+unfoldable pub step : Application → List ℕ → State → State
+step app handlers s =
+    let r = before_step app handlers s in
+    let t = unless_held settle (act_current app r.current r) in
     record t { steps = s.steps + 1 }
 
 -- ---- reset

@@ -3,7 +3,7 @@ use Rattle.std.specs.Prelude.{ℕ, ◌+◌, Bool, List, Option, Some, None, is_s
 use Rattle.std.specs.Option.{option_eq}
 use Rattle.model.specs.State.{State, Task, Asleep, ticket_of, wake_time_of, status_at, progress_at, take_ticket, with_progress, for_each}
 use Rattle.model.specs.Order.{Key, Entry, key, list_by, tasks_of}
-use Rattle.model.specs.Switching.{is_ready, make_ready, slice}
+use Rattle.model.specs.Switching.{is_ready, make_ready}
 
 -- ---- who is due
 
@@ -37,10 +37,6 @@ advance s = wake_due (record s { time = s.time + 1 })
 -- One tick comes, and time advances (`xTaskIncrementTick`).
 unfoldable pub increment_tick : State → State
 increment_tick s = advance (record s { elapsed = s.elapsed + 1 })
-
--- The tick interrupt: one tick comes, and then a switch if one is due (a port's `xPortSysTickHandler`).
-unfoldable pub tick_interrupt : State → State
-tick_interrupt s = slice (increment_tick s)
 
 -- ---- sleep
 

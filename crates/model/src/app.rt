@@ -1,13 +1,13 @@
 //! An application: its tasks, its limits, the time at reset.
-ghost use Rattle.std.specs.Prelude.{◌≡◌, ◌<◌, ◌≤◌, length, string_bytes};
+ghost use Rattle.std.specs.Prelude.{◌≡◌, ◌<◌, ◌≤◌, [], length, string_bytes};
 ghost use Rattle.std.specs.List.{AllByRecursion};
-ghost use Rattle.model.specs.Application.{op_at, op_count, name_of};
+ghost use Rattle.model.specs.Application.{op_at, op_count, name_of, handler_name_of, isr_op_at};
 ghost use Rattle.model.specs.Scripts.{IsObjectKind, IsScript, IsDefinition, IsWellFormed, KnowsAll, most_objects};
 
-use crate::ids::TaskId;
+use crate::ids::{HandlerId, TaskId};
 use crate::limits::Limits;
 use crate::object::ObjectKind;
-use crate::op::Op;
+use crate::op::{IsrOp, Op};
 use crate::script::Script;
 use std::marker::Model;
 
@@ -76,6 +76,7 @@ pub struct App {
 }
 
 impl Model for App {
+    ghost use Rattle.std.specs.Prelude.{[]};
     ghost use Rattle.model.specs.Application.{Application};
     ghost use Rattle.model.specs.Scripts.{IsWellFormed};
 
@@ -85,6 +86,8 @@ impl Model for App {
       start = a.start;
       limits = a.limits;
       objects = a.objects.items;
+      handlers = [];
+      interrupts = [];
       tasks = a.tasks.items;
     } };
 
@@ -92,6 +95,8 @@ impl Model for App {
       start = a.start;
       limits = a.limits;
       objects = a.objects.items;
+      handlers = [];
+      interrupts = [];
       tasks = a.tasks.items;
     }) };
 }
@@ -114,9 +119,9 @@ impl App {
         requires few { length tasks.items ≤ 32 }
         requires formed { AllByRecursion IsDefinition tasks.items }
         requires known { AllByRecursion
-            (KnowsAll (record { start = start; limits = limits; objects = objects.items; tasks = tasks.items }))
+            (KnowsAll (record { start = start; limits = limits; objects = objects.items; handlers = []; interrupts = []; tasks = tasks.items }))
             tasks.items }
-        ensures { result ≡ record { start = start; limits = limits; objects = objects.items; tasks = tasks.items } }
+        ensures { result ≡ record { start = start; limits = limits; objects = objects.items; handlers = []; interrupts = []; tasks = tasks.items } }
     {
         App {
             start,
@@ -129,6 +134,14 @@ impl App {
     /// Does nothing: its contract tells callers what holds of every application.
     pub fn well_formed(&self)
         ensures { IsWellFormed self.now }
+    {
+        let _ = &self.start;
+    }
+
+    /// Does nothing: its contract tells callers that no application has handlers yet, nor base interrupts.
+    pub fn without_handlers(&self)
+        ensures handlers { self.now.handlers ≡ [] }
+        ensures interrupts { self.now.interrupts ≡ [] }
     {
         let _ = &self.start;
     }
@@ -187,5 +200,22 @@ impl App {
             None => "",
             Some(definition) => definition.name(),
         }
+    }
+
+    /// The op of this index of a handler; `None` past its end, or where there is no such handler. No application has handlers
+    /// yet.
+    pub fn isr_op(&self, _handler: HandlerId, _op_index: u16) -> Option<IsrOp>
+        ensures { result ≡ isr_op_at self.now _handler _op_index }
+    {
+        self.without_handlers();
+        None
+    }
+
+    /// The name of a handler; empty where there is no such handler. No application has handlers yet.
+    pub fn handler_name(&self, _handler: HandlerId) -> &str
+        ensures { result.now ≡ handler_name_of self.now _handler }
+    {
+        self.without_handlers();
+        ""
     }
 }

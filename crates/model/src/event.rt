@@ -1,5 +1,5 @@
 //! What a run tells: its events, each of which is a line of the report, and how it ends.
-use crate::ids::TaskId;
+use crate::ids::{HandlerId, TaskId};
 
 /// What an event tells.
 #[derive(Clone, Copy, Debug, PartialEq, Eq)]
@@ -10,6 +10,12 @@ pub enum What {
     CallNone(TaskId, u16),
     /// The task told this mark.
     Mark(TaskId, u32),
+    /// The handler did its op of this index, with this answer.
+    Isr(HandlerId, u16, u32),
+    /// The same, with the answer `none`.
+    IsrNone(HandlerId, u16),
+    /// The handler told this mark.
+    IsrMark(HandlerId, u32),
     /// The processor went to the task, or to idle.
     Run(Option<TaskId>),
 }

@@ -21,7 +21,7 @@ pub use ids::{HandlerId, ObjectId, TaskId};
 pub use limits::{Limits, Meter};
 pub use loops::Loop;
 pub use object::ObjectKind;
-pub use op::{Access, Op};
+pub use op::{Access, IsrOp, Op};
 pub use plan::{BadPlan, Plan, Point};
 pub use run::{Memory, Run};
 pub use script::{NestingFault, Script, ScriptBuilder};

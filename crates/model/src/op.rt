@@ -1,4 +1,4 @@
-//! The ops of a task's script.
+//! The ops of a task's script, and those of a handler.
 use crate::ids::ObjectId;
 
 /// What a call asks of an object.
@@ -88,6 +88,31 @@ impl Op {
             Op::Await(_, access, _) | Op::Do(_, access) => access.word(),
             Op::MessagesWaiting(_) => "waiting",
             Op::SpacesAvailable(_) => "spaces",
+        }
+    }
+}
+
+/// An op of an interrupt handler, which never waits.
+#[derive(Clone, Copy, Debug, PartialEq, Eq)]
+pub enum IsrOp {
+    /// A call on an object, done if it is possible: send, send_front, overwrite, receive or peek (`xQueueSendFromISR` and the
+    /// like).
+    Do(ObjectId, Access),
+    /// Writes a mark line with this number, 0 to 4,294,967,295 (profile).
+    Mark(u32),
+}
+
+impl IsrOp {
+    ghost use Rattle.std.specs.Prelude.{◌≡◌};
+    ghost use Rattle.model.specs.Application.{word_of_isr};
+
+    /// The first word of the op's text.
+    pub fn word(&self) -> &'static str
+        ensures { result.now ≡ word_of_isr self.now }
+    {
+        match *self {
+            IsrOp::Do(_, access) => access.word(),
+            IsrOp::Mark(_) => "mark",
         }
     }
 }

@@ -5,13 +5,16 @@ use Rattle.std.specs.Option.{IfSome, option_and_then}
 use Rattle.model.specs.declared.call.Phase.TheVariants.{Place, Unlock}
 use Rattle.model.specs.declared.call.WaitList.{WaitList}
 use Rattle.model.specs.declared.op.Access.{Access}
-use Rattle.model.specs.declared.op.Access.TheVariants.{Send, SendFront, Overwrite, Receive, Peek}
-use Rattle.model.specs.Application.{Application}
+use Rattle.model.specs.declared.op.IsrOp.{IsrOp}
+use Rattle.model.specs.declared.op.IsrOp.TheVariants as isr_op
+use Rattle.model.specs.declared.event.What.TheVariants as what
+use Rattle.model.specs.Application.{Application, interrupts_at, ops_of}
 use Rattle.model.specs.State.{State, Object, Status, Task, Wait, Ready, Awake, Waiting, Asleep, Ended, no_task, wait_if_awake, wait_if_waiting, status_at, task_at, object_at, with_object, go_on, for_one, for_each}
 use Rattle.model.specs.Order.{Entry, Key, first, task_of, tasks_of}
-use Rattle.model.specs.Switching.{make_ready, slice}
-use Rattle.model.specs.Time.{advance, due, increment_tick, tick_interrupt, wake_due}
-use Rattle.model.specs.Objects.{attempt, fulfil, list_for, list_woken, object_after, possible}
+use Rattle.model.specs.Switching.{make_ready, slice, write}
+use Rattle.model.specs.Time.{advance, due, increment_tick, wake_due}
+use Rattle.model.specs.Handlers.{handle, interrupt, isr, isr_each, isr_told, tick_interrupt}
+use Rattle.model.specs.Objects.{answer_to, attempt, fulfil, list_for, list_woken, object_after, possible}
 use Rattle.model.specs.Calls.{decide}
 use Rattle.model.specs.Waiting.{awaken, awake_status, is_expired, is_locked, same_list, unlock, unlock_object, wait_in, wait_key, waiters, wake_best, wake_one}
 use Rattle.model.specs.Invariant.{IsSound, hold_of}
@@ -19,12 +22,13 @@ use Rattle.model.proofs.Sorting.{by_test}
 use Rattle.model.proofs.Lists.{HasKey, eqb-refl, eqb-same, list_has}
 use Rattle.model.proofs.Sound.{each-set}
 use Rattle.model.proofs.Called.{none_awake}
+use Rattle.model.proofs.Handled.{is_locked-own}
 use Rattle.model.proofs.Unlocking.{none_left}
 use Rattle.objects.specs.WaitersStand.{AtLocked, Decider}
 use Rattle.objects.specs.Queues.{SameWaits}
 use Rattle.objects.proofs.Deciding.{others_as_before, waits_now}
 use Rattle.objects.proofs.Keys.{same_list-true, waiting_key}
-use Rattle.objects.proofs.Kept.{same_go_on, same_slice}
+use Rattle.objects.proofs.Kept.{same_go_on, same_slice, same_write}
 
 -- a wait of the locked object, if it is one
 abbrev WokenAt : Option ℕ → Option Wait → Type 0
@@ -107,23 +111,36 @@ pub at_locked-attempt : (d : Option Decider) (caller : Option ℕ) (o : ℕ) (a 
 unfolding attempt
 at_locked-attempt d caller o a s h = by_test (possible s o a) (λ t. rw t (at_locked-fulfil d caller o a s h)) (λ t. rw t h)
 
--- ---- a tick
+-- ---- a handler, and a tick
 
-pub at_locked-tick : (d : Option Decider) (s : State) → AtLocked d s → AtLocked d (tick_interrupt s)
-unfolding tick_interrupt increment_tick advance wake_due
-at_locked-tick d s h =
+pub at_locked-isr : (d : Option Decider) (handler op_index : ℕ) (op : IsrOp) (s : State) → AtLocked d s → AtLocked d (isr handler op_index op s)
+at_locked-isr d handler op_index (isr_op.Do o a) s h =
+    let t : State = attempt None o a s in
+    let w = isr_told handler op_index (answer_to s o a) in
+    at_locked_same d t (write w t) (same_write w t) (at_locked-attempt d None o a s h)
+at_locked-isr d handler op_index (isr_op.Mark n) s h = let w = what.IsrMark handler n in at_locked_same d s (write w s) (same_write w s) h
+
+at_locked-isr_each : (d : Option Decider) (handler op_index : ℕ) (ops : List IsrOp) (s : State) → AtLocked d s → AtLocked d (isr_each handler op_index ops s)
+at_locked-isr_each d handler op_index [] s h = h
+at_locked-isr_each d handler op_index (op ∷ ops) s h = at_locked-isr_each d handler (op_index + 1) ops (isr handler op_index op s) (at_locked-isr d handler op_index op s h)
+
+pub at_locked-handle : (d : Option Decider) (app : Application) (handler : ℕ) (s : State) → AtLocked d s → AtLocked d (handle app handler s)
+unfolding handle
+at_locked-handle d app handler s h = at_locked-isr_each d handler 0 (ops_of app handler) s h
+
+at_locked-handles : (d : Option Decider) (app : Application) (handlers : List ℕ) (s : State) → AtLocked d s → AtLocked d (for_each (handle app) handlers s)
+at_locked-handles d app [] s h = h
+at_locked-handles d app (handler ∷ handlers) s h = at_locked-handles d app handlers (handle app handler s) (at_locked-handle d app handler s h)
+
+pub at_locked-tick : (d : Option Decider) (app : Application) (s : State) → AtLocked d s → AtLocked d (tick_interrupt app s)
+unfolding tick_interrupt interrupt increment_tick advance wake_due
+at_locked-tick d app s h =
     let later : State = record s { time = s.time + 1; elapsed = s.elapsed + 1 } in
     let woken : State = for_each make_ready (tasks_of (due later)) later in
-    at_locked_same d woken (slice woken) (same_slice woken) (at_locked-all_ready d (tasks_of (due later)) later (record { awake = h.awake; to_place = h.to_place }))
+    let told : State = for_each (handle app) (interrupts_at app woken.elapsed) woken in
+    at_locked_same d told (slice told) (same_slice told) (at_locked-handles d app (interrupts_at app woken.elapsed) woken (at_locked-all_ready d (tasks_of (due later)) later (record { awake = h.awake; to_place = h.to_place })))
 
 -- ---- a decision, and an unlock
-
-is_locked-own : (o : ℕ) (a : Access) → is_locked (Some o) (list_for o a) ≡ true
-is_locked-own o (Send item) = eqb-refl o
-is_locked-own o (SendFront item) = eqb-refl o
-is_locked-own o (Overwrite item) = eqb-refl o
-is_locked-own o Receive = eqb-refl o
-is_locked-own o Peek = eqb-refl o
 
 -- the object is locked, while nothing was
 pub at_locked-locked : (s : State) (o : ℕ) → s.locked ≡ None → AtLocked None s → AtLocked None (record s { locked = Some o })

@@ -4,7 +4,9 @@ use Rattle.model.specs.declared.op.Op.{Op}
 use Rattle.model.specs.declared.op.Op.TheVariants.{Work, Delay, DelayUntil, Yield, Time, Mark, Expect, Repeat, End, Await, Do, MessagesWaiting, SpacesAvailable}
 use Rattle.model.specs.declared.op.Access.{Access}
 use Rattle.model.specs.declared.op.Access.TheVariants.{Send, SendFront, Overwrite, Receive, Peek}
-use Rattle.model.specs.Application.{word_of, word_of_access}
+use Rattle.model.specs.declared.op.IsrOp.{IsrOp}
+use Rattle.model.specs.declared.op.IsrOp.TheVariants as isr_op
+use Rattle.model.specs.Application.{word_of, word_of_access, word_of_isr}
 
 access_short : (a : Access) → length (word_of_access a) ≤ 11
 access_short (Send v) = lit≤ tt
@@ -28,3 +30,8 @@ word_short (Await o a ticks) = access_short a
 word_short (Do o a) = access_short a
 word_short (MessagesWaiting o) = lit≤ tt
 word_short (SpacesAvailable o) = lit≤ tt
+
+-- So has that of an op of a handler.
+pub isr_word_short : (op : IsrOp) → length (word_of_isr op) ≤ 11
+isr_word_short (isr_op.Do o a) = access_short a
+isr_word_short (isr_op.Mark n) = lit≤ tt

@@ -1,9 +1,11 @@
 -- Runs whose texts are compared letter by letter.
 use Rattle.std.specs.Prelude.{ℕ, List, [], ◌∷◌, Some, None, codes}
-use Rattle.model.specs.Application.{Application, Definition}
+use Rattle.model.specs.Application.{Application, Definition, Handler}
 use Rattle.model.specs.Run.{Run}
 use Rattle.model.specs.declared.op.Op.{Op}
 use Rattle.model.specs.declared.op.Op.TheVariants.{Delay, DelayUntil, Mark}
+use Rattle.model.specs.declared.op.Access.TheVariants.{SendFront}
+use Rattle.model.specs.declared.op.IsrOp.TheVariants as isr_op
 use Rattle.model.specs.declared.event.Event.{Event}
 use Rattle.model.specs.declared.event.What.{What}
 use Rattle.model.specs.declared.event.What.TheVariants as what
@@ -11,7 +13,7 @@ use Rattle.model.specs.declared.event.End.TheVariants.{Pass, Check}
 
 -- an application of these tasks, from tick 0 and under no limits but the most
 abbrev pub app_of : List Definition → Application
-app_of tasks = record { start = 0; limits = record { ticks = 1000000; steps = 1000000 }; objects = []; tasks = tasks }
+app_of tasks = record { start = 0; limits = record { ticks = 1000000; steps = 1000000 }; objects = []; handlers = []; interrupts = []; tasks = tasks }
 
 -- a task of priority 1
 abbrev pub a_task : List ℕ → List Op → Definition
@@ -43,16 +45,22 @@ delay_one_run = record {
   end = Pass;
 }
 
+-- a handler that sends an item to the front of a queue
+abbrev pub a_handler : Handler
+a_handler = record { name = codes "ABCDEFGHIJKLMNOP"; ops = isr_op.Do 0 (SendFront 1) ∷ [] }
+
 -- one event of each form, with the largest numbers; no run tells these events
 abbrev pub each_form : Application
-each_form = app_of (a_task (codes "abcdefghijklmnop") (DelayUntil 1 ∷ []) ∷ [])
+each_form = record (app_of (a_task (codes "abcdefghijklmnop") (DelayUntil 1 ∷ []) ∷ [])) { handlers = a_handler ∷ [] }
 
 abbrev pub each_form_run : Run
 each_form_run = record {
   events =
       event_at 4294967295 4294967295 (what.Call a 0 4294967295) ∷ event_at 0 0 (what.CallNone a 0)
       ∷ event_at 0 0 (what.CallNone a 1) ∷ event_at 1 10 (what.Mark a 4294967295)
-      ∷ event_at 1 10 (what.Run (Some a)) ∷ event_at 1 10 (what.Run None) ∷ [];
+      ∷ event_at 1 10 (what.Run (Some a)) ∷ event_at 1 10 (what.Run None)
+      ∷ event_at 1 10 (what.Isr 0 0 4294967295) ∷ event_at 1 10 (what.IsrNone 0 0) ∷ event_at 1 10 (what.IsrNone 0 1)
+      ∷ event_at 1 10 (what.IsrMark 0 4294967295) ∷ [];
   steps = 4294967295;
   ticks = 0;
   end = Check a 65535;

@@ -1,6 +1,6 @@
 -- The front of a line: all of what it tells but its number.
 use Rattle.std.specs.Prelude.{◌≡◌, ℕ, ◌≤◌, ◌<◌, List, ◌++◌, take, codes, slice_index_or, replicate}
-use Rattle.model.specs.Application.{Application, name_of}
+use Rattle.model.specs.Application.{Application, name_of, handler_name_of}
 use Rattle.report.specs.Text.{call_front}
 use Rattle.report.specs.declared.label.Label.{Label}
 use Rattle.report.specs.declared.label.CallLabel.{CallLabel}
@@ -8,6 +8,10 @@ use Rattle.report.specs.declared.label.CallLabel.{CallLabel}
 -- what the line of a mark says before its number
 abbrev pub mark_front : Application → ℕ → List ℕ
 mark_front app task = codes "mark " ++ name_of app task ++ codes " "
+
+-- the same of a handler's mark
+abbrev pub isr_mark_front : Application → ℕ → List ℕ
+isr_mark_front app handler = codes "mark " ++ handler_name_of app handler ++ codes " "
 
 -- all that the line of a task that runs says, with its end
 abbrev pub run_front : Application → ℕ → List ℕ

@@ -1,7 +1,7 @@
 -- The text of a run.
 use Rattle.std.specs.Prelude.{ℕ, List, [], ◌++◌, codes, decimal, Option, Some, None, option_map, unwrap_or}
 use Rattle.std.specs.List.{flat_map}
-use Rattle.model.specs.Application.{Application, op_at, word_of, name_of}
+use Rattle.model.specs.Application.{Application, op_at, word_of, name_of, isr_op_at, word_of_isr, handler_name_of}
 use Rattle.model.specs.Run.{Run}
 use Rattle.model.specs.declared.event.Event.{Event}
 use Rattle.model.specs.declared.event.What.{What}
@@ -18,6 +18,16 @@ abbrev pub call_front : Application → (task op_index : ℕ) → List ℕ
 call_front app task op_index =
     codes "call " ++ name_of app task ++ codes " " ++ decimal op_index ++ codes " " ++ word_at app task op_index ++ codes " = "
 
+-- the first word of a handler's op of this index; empty where no op is
+abbrev pub isr_word_at : Application → ℕ → ℕ → List ℕ
+isr_word_at app handler op_index = unwrap_or (option_map word_of_isr (isr_op_at app handler op_index)) []
+
+-- what the line of a handler's op says before its answer
+abbrev pub isr_front : Application → (handler op_index : ℕ) → List ℕ
+isr_front app handler op_index =
+    codes "isr " ++ handler_name_of app handler ++ codes " " ++ decimal op_index ++ codes " "
+    ++ isr_word_at app handler op_index ++ codes " = "
+
 -- who runs: a task, or idle
 abbrev pub runner_text : Application → Option ℕ → List ℕ
 runner_text app None = codes "-"
@@ -28,6 +38,9 @@ abbrev pub what_text : Application → What → List ℕ
 what_text app (what.Call task op_index answer) = call_front app task op_index ++ decimal answer
 what_text app (what.CallNone task op_index) = call_front app task op_index ++ codes "none"
 what_text app (what.Mark task mark) = codes "mark " ++ name_of app task ++ codes " " ++ decimal mark
+what_text app (what.Isr handler op_index answer) = isr_front app handler op_index ++ decimal answer
+what_text app (what.IsrNone handler op_index) = isr_front app handler op_index ++ codes "none"
+what_text app (what.IsrMark handler mark) = codes "mark " ++ handler_name_of app handler ++ codes " " ++ decimal mark
 what_text app (what.Run task) = codes "run " ++ runner_text app task
 
 -- the line of an event: step, tick, and what it tells

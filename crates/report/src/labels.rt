@@ -1,12 +1,14 @@
 //! The fronts of an application's lines, each spelled once.
 ghost use Rattle.std.specs.Prelude.{◌≡◌, ◌<◌, ◌≤◌, ◌+◌, ◌++◌, length};
-ghost use Rattle.report.specs.Text.{call_front};
-ghost use Rattle.report.specs.Fronts.{mark_front, run_front};
+ghost use Rattle.report.specs.Text.{call_front, isr_front};
+ghost use Rattle.report.specs.Fronts.{mark_front, isr_mark_front, run_front};
 
 use crate::label::{CallLabel, Label};
-use crate::text::{push_call_front, push_mark_front, push_run_front};
+use crate::text::{
+    push_call_front, push_isr_front, push_isr_mark_front, push_mark_front, push_run_front,
+};
 use byte_io::Page;
-use model::{App, TaskId};
+use model::{App, HandlerId, TaskId};
 use std::marker::Model;
 
 // How many calls are kept at once.
@@ -104,6 +106,24 @@ impl<'a> Labels<'a> {
         } else {
             page.push_front(&call.label.text, call.label.len as usize);
         }
+    }
+
+    /// Adds what the line of a handler's op says before its answer. It isn't kept.
+    pub(crate) fn push_isr(&self, page: &mut Page, handler: HandlerId, op_index: u16)
+        requires { length page.old + 48 ≤ Page.SIZE }
+        ensures text { page.new ≡ page.old ++ isr_front self.now handler op_index }
+        ensures size { length page.new ≤ length page.old + 48 }
+    {
+        push_isr_front(page, self.app, handler, op_index);
+    }
+
+    /// Adds what the line of a handler's mark says before its number. It isn't kept.
+    pub(crate) fn push_isr_mark(&self, page: &mut Page, handler: HandlerId)
+        requires { length page.old + 48 ≤ Page.SIZE }
+        ensures text { page.new ≡ page.old ++ isr_mark_front self.now handler }
+        ensures size { length page.new ≤ length page.old + 48 }
+    {
+        push_isr_mark_front(page, self.app, handler);
     }
 
     // Spells and keeps the front of a task that runs.

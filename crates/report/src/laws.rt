@@ -25,5 +25,9 @@ pub fn report_of_each_form()
         ++ codes "0 0 call abcdefghijklmnop 1  = none\n"
         ++ codes "1 10 mark abcdefghijklmnop 4294967295\n"
         ++ codes "1 10 run abcdefghijklmnop\n"
-        ++ codes "1 10 run -\n" }
+        ++ codes "1 10 run -\n"
+        ++ codes "1 10 isr ABCDEFGHIJKLMNOP 0 send_front = 4294967295\n"
+        ++ codes "1 10 isr ABCDEFGHIJKLMNOP 0 send_front = none\n"
+        ++ codes "1 10 isr ABCDEFGHIJKLMNOP 1  = none\n"
+        ++ codes "1 10 mark ABCDEFGHIJKLMNOP 4294967295\n" }
 {}

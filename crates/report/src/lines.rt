@@ -45,6 +45,16 @@ fn push_number(page: &mut Page, tens: &mut Tens, number: u32)
     }
 }
 
+// Adds the answer `none`, and the line's end.
+#[inline]
+fn push_none(page: &mut Page)
+    requires { length page.old + 16 ≤ Page.SIZE }
+    ensures text { page.new ≡ page.old ++ codes "none" ++ codes "\n" }
+    ensures size { length page.new ≤ length page.old + 12 }
+{
+    page.push_array(b"none\n");
+}
+
 impl<'a> Lines<'a> {
     /// For lines of the application.
     pub(crate) fn new(app: &'a App) -> Lines<'a>
@@ -73,10 +83,22 @@ impl<'a> Lines<'a> {
             }
             What::CallNone(task, op_index) => {
                 self.labels.push_call(page, task, op_index);
-                page.push_array(b"none\n");
+                push_none(page);
             }
             What::Mark(task, mark) => {
                 self.labels.push_mark(page, task);
+                push_number(page, &mut self.number, mark);
+            }
+            What::Isr(handler, op_index, answer) => {
+                self.labels.push_isr(page, handler, op_index);
+                push_number(page, &mut self.number, answer);
+            }
+            What::IsrNone(handler, op_index) => {
+                self.labels.push_isr(page, handler, op_index);
+                push_none(page);
+            }
+            What::IsrMark(handler, mark) => {
+                self.labels.push_isr_mark(page, handler);
                 push_number(page, &mut self.number, mark);
             }
             What::Run(None) => page.push_array(b"run -\n"),

@@ -1,11 +1,11 @@
 //! The head line of a run, and the fronts of other lines, into a page that has room for them.
 ghost use Rattle.std.specs.Prelude.{◌≡◌, ◌≤◌, ◌+◌, ◌++◌, length};
-ghost use Rattle.model.specs.Application.{name_of};
-ghost use Rattle.report.specs.Text.{word_at, call_front, verdict_text, head_text};
-ghost use Rattle.report.specs.Fronts.{mark_front, run_front};
+ghost use Rattle.model.specs.Application.{name_of, handler_name_of};
+ghost use Rattle.report.specs.Text.{word_at, call_front, isr_word_at, isr_front, verdict_text, head_text};
+ghost use Rattle.report.specs.Fronts.{mark_front, isr_mark_front, run_front};
 
 use byte_io::Page;
-use model::{App, End, Run, TaskId};
+use model::{App, End, HandlerId, Run, TaskId};
 
 // The room that a line needs at most. The longest is that of a call: two numbers of 10 digits, two spaces, at most 64 bytes of
 // what happened, and a line feed. Texts that are copied whole end at most 88 bytes after the line's beginning. A head has its
@@ -28,6 +28,27 @@ fn word(app: &App, task: TaskId, op_index: u16) -> &'static [u8]
     ensures size { length result.now ≤ 11 }
 {
     match app.op(task, op_index) {
+        None => b"",
+        Some(op) => op.word().as_bytes(),
+    }
+}
+
+// The name of a handler.
+fn handler_name(app: &App, handler: HandlerId) -> &[u8]
+    ensures text { result.now ≡ handler_name_of app.now handler }
+    ensures size { length result.now ≤ 16 }
+{
+    app.well_formed();
+    app.handler_name(handler).as_bytes()
+}
+
+// The first word of a handler's op of this index.
+#[tactic(auto, using(crate::proofs::Short::isr_word_short))]
+fn isr_word(app: &App, handler: HandlerId, op_index: u16) -> &'static [u8]
+    ensures text { result.now ≡ isr_word_at app.now handler op_index }
+    ensures size { length result.now ≤ 11 }
+{
+    match app.isr_op(handler, op_index) {
         None => b"",
         Some(op) => op.word().as_bytes(),
     }
@@ -56,6 +77,32 @@ pub(crate) fn push_mark_front(page: &mut Page, app: &App, task: TaskId)
 {
     page.push_text(b"mark ");
     page.push_text(name(app, task));
+    page.push_text(b" ");
+}
+
+/// Adds what the line of a handler's op says before its answer.
+pub(crate) fn push_isr_front(page: &mut Page, app: &App, handler: HandlerId, op_index: u16)
+    requires { length page.old + 48 ≤ Page.SIZE }
+    ensures text { page.new ≡ page.old ++ isr_front app.now handler op_index }
+    ensures size { length page.new ≤ length page.old + 48 }
+{
+    page.push_text(b"isr ");
+    page.push_text(handler_name(app, handler));
+    page.push_text(b" ");
+    page.push_number(op_index as u32);
+    page.push_text(b" ");
+    page.push_text(isr_word(app, handler, op_index));
+    page.push_text(b" = ");
+}
+
+/// Adds what the line of a handler's mark says before its number.
+pub(crate) fn push_isr_mark_front(page: &mut Page, app: &App, handler: HandlerId)
+    requires { length page.old + 48 ≤ Page.SIZE }
+    ensures text { page.new ≡ page.old ++ isr_mark_front app.now handler }
+    ensures size { length page.new ≤ length page.old + 48 }
+{
+    page.push_text(b"mark ");
+    page.push_text(handler_name(app, handler));
     page.push_text(b" ");
 }
 

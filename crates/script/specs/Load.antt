@@ -61,6 +61,8 @@ app_named document = record {
   start = optional_named 0 (get_member (codes "start") document);
   limits = limits_named (get_member (codes "limits") document);
   objects = kinds_of (objects_of document);
+  handlers = [];
+  interrupts = [];
   tasks = map (with_ops (objects_of document)) (tasks_of document);
 }
 

@@ -1,5 +1,5 @@
 //! An application from a document.
-ghost use Rattle.std.specs.Prelude.{◌≡◌, ◌≤◌, map, length, None, Option};
+ghost use Rattle.std.specs.Prelude.{◌≡◌, ◌≤◌, [], map, length, None, Option};
 ghost use Rattle.std.specs.List.{AllByRecursion};
 ghost use Rattle.toml.specs.Data.{Members};
 ghost use Rattle.toml.specs.View.{table_view};
@@ -60,6 +60,8 @@ fn app_of(
       start = start;
       limits = limits;
       objects = kinds_of (map named_view objects.now.items);
+      handlers = [];
+      interrupts = [];
       tasks = tasks.items;
     }) }
 {

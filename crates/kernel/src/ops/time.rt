@@ -37,7 +37,7 @@ impl Kernel {
             (act app.now task (op.Work ticks)) }
     {
         self.use_up(app, task, ticks);
-        self.tick_interrupt(log);
+        self.tick_interrupt(app, log);
     }
 
     /// The running task sleeps for some ticks, where it is still Ready.

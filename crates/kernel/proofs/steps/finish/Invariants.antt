@@ -1,4 +1,4 @@
-use Rattle.std.proofs.Common.{◌≡◌, ◌+◌, ◌-◌, ◌++◌}
+use Rattle.std.proofs.Common.{◌≡◌, ◌+◌, ◌-◌, ◌++◌, []}
 use Rattle.model.specs.Run.{events_after}
 use Rattle.kernel.specs.Logged.{all_of}
 use Rattle.kernel.specs.Can.{IsUnderWay}
@@ -6,8 +6,8 @@ use Rattle.kernel.proofs.steps.finish.Given as goal
 
 abbrev pub invariant-steps : goal.invariant-steps
 invariant-steps l = record {
-  way : IsUnderWay l.app l.limits l.kernel;
-  events : all_of l.trail ≡ all_of l.fn.trail ++ events_after l.app l.kernel.steps;
+  way : IsUnderWay l.app [] l.limits l.kernel;
+  events : all_of l.trail ≡ all_of l.fn.trail ++ events_after l.app [] l.kernel.steps;
   meter : l.meter ≡ l.fn.meter + l.kernel.steps;
 }
 

@@ -1,4 +1,4 @@
-use Rattle.std.proofs.Common.{◌≡◌, subst, map}
+use Rattle.std.proofs.Common.{◌≡◌, [], subst, map}
 use Rattle.model.specs.Application.{Application}
 use Rattle.script.specs.Queues.{named_view, kinds_of}
 use Rattle.script.proofs.document.app_of.Goals as goal
@@ -9,6 +9,8 @@ new-requires-clause-known c =
       start = c.args.start;
       limits = c.args.limits;
       objects = c.in_ok-kinds.kinds.items;
+      handlers = [];
+      interrupts = [];
       tasks = c.args.tasks.items;
     } in
     let same : c.in_ok-kinds.kinds.items ≡ kinds_of (map named_view c.args.objects.now.items) =

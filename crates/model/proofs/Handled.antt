@@ -1,0 +1,255 @@
+-- What a handler keeps of a state, and what it spares.
+use Rattle.std.proofs.Common.{◌≡◌, ◌<◌, ◌+◌, ℕ, true, get_or, set, List, [], ◌∷◌, Option, Some, None, refl, ap, sym, subst, ◌∙◌}
+use Rattle.std.specs.List.{AllByRecursion}
+use Rattle.std.specs.Option.{IfSome, is_some}
+use Rattle.model.specs.declared.op.Op.{Op}
+use Rattle.model.specs.declared.op.Op.TheVariants.{Work, Delay, DelayUntil, Yield, Time, Mark, Expect, Repeat, End, Await, Do, MessagesWaiting, SpacesAvailable}
+use Rattle.model.specs.declared.op.IsrOp.{IsrOp}
+use Rattle.model.specs.declared.op.IsrOp.TheVariants as isr_op
+use Rattle.model.specs.declared.op.Access.{Access}
+use Rattle.model.specs.declared.op.Access.TheVariants.{Send, SendFront, Overwrite, Receive, Peek}
+use Rattle.model.specs.declared.call.Phase.TheVariants.{Place}
+use Rattle.model.specs.declared.call.WaitList.{WaitList}
+use Rattle.model.specs.declared.event.What.{What}
+use Rattle.model.specs.declared.event.What.TheVariants as what
+use Rattle.model.specs.Application.{Application, op_at, ops_of, interrupts_at}
+use Rattle.model.specs.Scripts.{IsWellFormed, knows_isr}
+use Rattle.model.specs.State.{State, Task, Progress, Object, Status, Wait, Ready, Awake, Waiting, Asleep, Ended, ticket_if_ready, wait_of, task_at, status_at, progress_at, call_at, object_at, with_object, for_one, for_each, no_task}
+use Rattle.model.specs.Order.{Entry, first, task_of}
+use Rattle.model.specs.Switching.{is_ready, write}
+use Rattle.model.specs.Waiting.{waiters, awake_status, is_locked, wake_one, wake_best}
+use Rattle.model.specs.Time.{wake_due, advance, increment_tick}
+use Rattle.model.specs.Objects.{possible, answer_to, object_after, list_woken, list_for, fulfil, attempt}
+use Rattle.model.specs.Handlers.{isr_told, isr, isr_each, handle, interrupt, tick_interrupt}
+use Rattle.model.specs.Invariant.{Hold, hold_of, awaited, list_of_op, IsPhaseOf, IsWaitOf, IsSound, holds, IsPlacing, RunsIn, IsState}
+use Rattle.model.proofs.Sorting.{by_test}
+use Rattle.model.proofs.Lists.{HasKey, eqb-refl, list_has}
+use Rattle.model.proofs.InScripts.{isr_known}
+use Rattle.model.proofs.Frames.{Keeps, keeps, keeps_both, keeps-wake_one, keeps-isr, keeps-handle, keeps-wake_due, keeps-write}
+use Rattle.model.proofs.Sound.{each-set, logged, sliced, woken, later}
+use Rattle.model.proofs.Called.{WaitsIn, waits_in, waits_key, same_list_eq, attempted, spared_one}
+
+-- ---- what is kept, while this is held and locked
+
+module _ (app : Application) (formed : IsWellFormed app) (hold : Hold) where
+  isr_done : (s : State) (handler op_index : ℕ) (op : IsrOp) → knows_isr app op ≡ true → IsSound app hold s → s.locked ≡ hold.locked → IsSound app hold (isr handler op_index op s)
+  isr_done s handler op_index (isr_op.Do o a) known h same = let t : State = attempt None o a s in logged app formed hold t _ t.steps t.stopped (attempted app formed hold s None o a h same known)
+  isr_done s handler op_index (isr_op.Mark n) known h same = logged app formed hold s _ s.steps s.stopped h
+
+  each_done : (ops : List IsrOp) (s : State) (handler op_index : ℕ) → AllByRecursion (λ (op : IsrOp). knows_isr app op ≡ true) ops → IsSound app hold s → s.locked ≡ hold.locked → IsSound app hold (isr_each handler op_index ops s)
+  each_done [] s handler op_index known h same = h
+  each_done (op ∷ ops) s handler op_index known h same =
+      let t : State = isr handler op_index op s in
+      each_done ops t handler (op_index + 1) known.1 (isr_done s handler op_index op known.0 h same) (ap (λ (x : Hold). x.locked) (keeps-isr handler op_index op s).hold ∙ same)
+
+  pub handled : (s : State) (handler : ℕ) → IsSound app hold s → s.locked ≡ hold.locked → IsSound app hold (handle app handler s)
+  unfolding handle
+  handled s handler h same = each_done (ops_of app handler) s handler 0 (isr_known app formed handler) h same
+
+  all_handled : (handlers : List ℕ) (s : State) → IsSound app hold s → s.locked ≡ hold.locked → IsSound app hold (for_each (handle app) handlers s)
+  all_handled [] s h same = h
+  all_handled (handler ∷ handlers) s h same = all_handled handlers (handle app handler s) (handled s handler h same) (ap (λ (x : Hold). x.locked) (keeps-handle app handler s).hold ∙ same)
+
+  interrupted : (s : State) → IsSound app hold s → s.locked ≡ hold.locked → IsSound app hold (interrupt app s)
+  unfolding interrupt
+  interrupted s h same = all_handled (interrupts_at app s.elapsed) s h same
+
+  -- a tick, and its base interrupts
+  pub ticked : (s : State) → IsSound app hold s → s.locked ≡ hold.locked → IsSound app hold (tick_interrupt app s)
+  unfolding tick_interrupt increment_tick advance
+  ticked s h same =
+      let now : State = record s { time = s.time + 1; elapsed = s.elapsed + 1 } in
+      sliced app formed hold _ (interrupted (wake_due now) (woken app formed hold now (later app formed hold s h)) (ap (λ (x : Hold). x.locked) (keeps-wake_due now).hold ∙ same))
+
+-- ---- what is spared
+
+-- The same task runs. Each task is where it was in its script, one who was Ready is so still, and one who waited for the
+-- locked object has the same wait, though it may be Awake by now.
+pub record Spares (old new : State) : Type 0 where
+  pub kept : Keeps old new
+  pub current : new.current ≡ old.current
+  pub at : (i : ℕ) → task_at new i ≡ record (task_at old i) { status = status_at new i }
+  pub ready : (i : ℕ) → is_ready old i ≡ true → task_at new i ≡ task_at old i
+  pub waits : (i : ℕ) (w : Wait) → wait_of (status_at old i) ≡ Some w → is_locked old.locked w.list ≡ true → wait_of (status_at new i) ≡ Some w
+
+pub spares : (s : State) → Spares s s
+spares s = record { kept = keeps s; current = refl; at = λ i. refl; ready = λ i r. refl; waits = λ i w e l. e }
+
+pub spares_both : (a b c : State) → Spares a b → Spares b c → Spares a c
+spares_both a b c h k = record {
+  kept = keeps_both a b c h.kept k.kept;
+  current = k.current ∙ h.current;
+  at = λ i. k.at i ∙ ap (λ (t : Task). record t { status = status_at c i }) (h.at i);
+  ready = λ i r. k.ready i (subst (λ (t : Task). is_some (ticket_if_ready t.status) ≡ true) (sym (h.ready i r)) r) ∙ h.ready i r;
+  waits = λ i w e l. k.waits i w (h.waits i w e l) (subst (λ (o : Option ℕ). is_locked o w.list ≡ true) (sym (ap (λ (x : Hold). x.locked) h.kept.hold)) l);
+}
+
+-- an event more
+spares-write : (w : What) (s : State) → Spares s (write w s)
+spares-write w s = record { kept = keeps-write w s; current = refl; at = λ i. refl; ready = λ i r. refl; waits = λ i v e l. e }
+
+-- ---- a wake spares
+
+same_wait : (u : Status) → wait_of (awake_status u) ≡ wait_of u
+same_wait (Ready n) = refl
+same_wait (Awake w) = refl
+same_wait (Waiting w) = refl
+same_wait (Asleep v n) = refl
+same_wait Ended = refl
+
+-- a task that gets a status, and no other
+at_status : (s : State) (j : ℕ) (u : Status) (i : ℕ) → get_or (set s.tasks j (record (task_at s j) { status = u })) i no_task ≡ record (task_at s i) { status = (get_or (set s.tasks j (record (task_at s j) { status = u })) i no_task).status }
+at_status s j u i =
+    let P : ℕ → Task → Type 0 = λ k t. k ≡ i → t ≡ record (task_at s i) { status = t.status } in
+    each-set no_task P s.tasks j (record (task_at s j) { status = u })
+    (λ e. ap (λ (k : ℕ). record (task_at s k) { status = u }) e)
+    (λ k e. ap (λ (m : ℕ). record (task_at s m) { status = status_at s k }) e) i refl
+
+-- one who waits for the locked object is woken in one way only
+one_waits : (s : State) (j : ℕ) (list : WaitList) (i : ℕ) (w : Wait) → WaitsIn list (status_at s j) → wait_of (status_at s i) ≡ Some w → is_locked s.locked w.list ≡ true → wait_of (status_at (wake_one j list s) i) ≡ Some w
+one_waits s j list i w in_list e l =
+    let P : ℕ → Task → Type 0 = λ k t. k ≡ i → wait_of t.status ≡ Some w in
+    let others : (k : ℕ) → k ≡ i → wait_of (status_at s k) ≡ Some w = λ k q. ap (λ (m : ℕ). wait_of (status_at s m)) q ∙ e in
+    by_test (is_locked s.locked list)
+    (λ t. rw t (each-set no_task P s.tasks j (record (task_at s j) { status = awake_status (status_at s j) }) (λ q. same_wait (status_at s j) ∙ others j q) others i refl))
+    (λ t. rw t (each-set no_task P s.tasks j (record (task_at s j) { status = Ready s.next_ticket }) (λ q.
+    let waiting : wait_of (status_at s j) ≡ Some in_list.wait = ap wait_of in_list.is in
+    let f : Some in_list.wait ≡ Some w = sym waiting ∙ others j q in
+    let same : in_list.wait ≡ w = cc in
+    let there : w.list ≡ list = ap (λ (v : Wait). v.list) (sym same) ∙ same_list_eq in_list.wait.list list in_list.there in
+    let locked : is_locked s.locked list ≡ true = subst (λ x. is_locked s.locked x ≡ true) there l in
+    absurd (cc)) others i refl))
+
+spares-wake_one : (s : State) (j : ℕ) (list : WaitList) → WaitsIn list (status_at s j) → Spares s (wake_one j list s)
+spares-wake_one s j list in_list = record {
+  kept = keeps-wake_one j list s;
+  current = by_test (is_locked s.locked list) (λ t. rw t refl) (λ t. rw t refl);
+  at = λ i. by_test (is_locked s.locked list)
+      (λ t. rw t (at_status s j (awake_status (status_at s j)) i))
+      (λ t. rw t (at_status s j (Ready s.next_ticket) i));
+  ready = λ i r. spared_one s i j list r in_list;
+  waits = λ i w. one_waits s j list i w in_list;
+}
+
+first_spares : (s : State) (list : WaitList) (es : List Entry) → AllByRecursion (HasKey (waits_key list) s.tasks) es → Spares s (for_one (λ j. wake_one j list) (task_of (first es)) s)
+unfolding waits_key
+first_spares s list [] has = spares s
+first_spares s list (e ∷ es) has = spares-wake_one s e.task list (waits_in list (status_at s e.task) e.key has.0.key)
+
+spares-wake_best : (list : WaitList) (s : State) → Spares s (wake_best list s)
+unfolding wake_best waits_key
+spares-wake_best list s = first_spares s list (waiters s list) (list_has (waits_key list) s.tasks)
+
+spares-for : (o : Option WaitList) (s : State) → Spares s (for_one wake_best o s)
+spares-for None s = spares s
+spares-for (Some list) s = spares-wake_best list s
+
+spares-object : (o : ℕ) (x : Object) (s : State) → Spares s (with_object o x s)
+spares-object o x s = record { kept = record { time = refl; elapsed = refl; steps = refl; stopped = refl; tasks = refl; hold = refl }; current = refl; at = λ i. refl; ready = λ i r. refl; waits = λ i w e l. e }
+
+spares-attempt : (caller : Option ℕ) (o : ℕ) (a : Access) (s : State) → Spares s (attempt caller o a s)
+unfolding attempt fulfil
+spares-attempt caller o a s =
+    let t : State = with_object o (object_after caller a (object_at s o)) s in
+    by_test (possible s o a)
+    (λ p. rw p (spares_both s t (for_one wake_best (list_woken caller o a) t) (spares-object o (object_after caller a (object_at s o)) s) (spares-for (list_woken caller o a) t)))
+    (λ p. rw p (spares s))
+
+spares-isr : (handler op_index : ℕ) (op : IsrOp) (s : State) → Spares s (isr handler op_index op s)
+spares-isr handler op_index (isr_op.Do o a) s =
+    let t : State = attempt None o a s in
+    let w : What = isr_told handler op_index (answer_to s o a) in
+    spares_both s t (write w t) (spares-attempt None o a s) (spares-write w t)
+spares-isr handler op_index (isr_op.Mark n) s = spares-write (what.IsrMark handler n) s
+
+spares-isr_each : (handler op_index : ℕ) (ops : List IsrOp) (s : State) → Spares s (isr_each handler op_index ops s)
+spares-isr_each handler op_index [] s = spares s
+spares-isr_each handler op_index (op ∷ ops) s =
+    let t : State = isr handler op_index op s in
+    spares_both s t (isr_each handler (op_index + 1) ops t) (spares-isr handler op_index op s) (spares-isr_each handler (op_index + 1) ops t)
+
+pub spares-handle : (app : Application) (handler : ℕ) (s : State) → Spares s (handle app handler s)
+unfolding handle
+spares-handle app handler s = spares-isr_each handler 0 (ops_of app handler) s
+
+-- ---- so every state stays one of a run
+
+pub is_locked-own : (o : ℕ) (a : Access) → is_locked (Some o) (list_for o a) ≡ true
+is_locked-own o (Send v) = eqb-refl o
+is_locked-own o (SendFront v) = eqb-refl o
+is_locked-own o (Overwrite v) = eqb-refl o
+is_locked-own o Receive = eqb-refl o
+is_locked-own o Peek = eqb-refl o
+
+-- who is to be placed waits for the locked object
+place_locked : (hold : Hold) (op : Option Op) (list : WaitList) → IsPhaseOf hold (awaited op) Place → list_of_op op ≡ Some list → is_locked hold.locked list ≡ true
+place_locked hold None list p e = absurd p
+place_locked hold (Some (Work n)) list p e = absurd p
+place_locked hold (Some (Delay n)) list p e = absurd p
+place_locked hold (Some (DelayUntil n)) list p e = absurd p
+place_locked hold (Some Yield) list p e = absurd p
+place_locked hold (Some Time) list p e = absurd p
+place_locked hold (Some (Mark n)) list p e = absurd p
+place_locked hold (Some (Expect a)) list p e = absurd p
+place_locked hold (Some (Repeat n)) list p e = absurd p
+place_locked hold (Some End) list p e = absurd p
+place_locked hold (Some (Await o a ticks)) list p e =
+    let same : list_for o a ≡ list = cc in
+    let P : Option ℕ → WaitList → Type 0 = λ l x. is_locked l x ≡ true in
+    subst (P hold.locked) same (subst (λ l. P l (list_for o a)) (sym p.1) (is_locked-own o a))
+place_locked hold (Some (Do o a)) list p e = absurd p
+place_locked hold (Some (MessagesWaiting o)) list p e = absurd p
+place_locked hold (Some (SpacesAvailable o)) list p e = absurd p
+
+module _ (app : Application) (formed : IsWellFormed app) (s t : State) (h : IsState app s) (sound : IsSound app (hold_of s) t) (sp : Spares s t) where
+  same_progress : (i : ℕ) → progress_at t i ≡ progress_at s i
+  same_progress i = ap (λ (u : Task). u.progress) (sp.at i)
+
+  same_phase : (i : ℕ) → (call_at t i).phase ≡ (call_at s i).phase
+  same_phase i = ap (λ (p : Progress). p.call.phase) (same_progress i)
+
+  same_held : t.call_hold ≡ s.call_hold
+  same_held = ap (λ (x : Hold). x.held) sp.kept.hold
+
+  placing_still : (i : ℕ) → (call_at s i).phase ≡ Place → IsPlacing s.time (task_at s i) (wait_of (status_at s i)) → IsPlacing t.time (task_at t i) (wait_of (status_at t i))
+  placing_still i is placing = by_wait (wait_of (status_at s i)) refl placing where
+    phase : IsPhaseOf (hold_of s) (awaited (op_at app i (progress_at s i).op_index)) Place
+    phase = subst (IsPhaseOf (hold_of s) (awaited (op_at app i (progress_at s i).op_index))) is (h.sound.calls i).phase
+
+    by_wait : (o : Option Wait) → wait_of (status_at s i) ≡ o → IsPlacing s.time (task_at s i) o → IsPlacing t.time (task_at t i) (wait_of (status_at t i))
+    by_wait None e p = absurd p
+    by_wait (Some w) e p =
+        let W : Option Wait → Type 0 = λ o. IfSome o (λ x. IsWaitOf (op_at app i (progress_at s i).op_index) (call_at s i).deadline x) in
+        let of_op : IsWaitOf (op_at app i (progress_at s i).op_index) (call_at s i).deadline w = subst W e (h.sound.calls i).wait in
+        let locked : is_locked s.locked w.list ≡ true = place_locked (hold_of s) (op_at app i (progress_at s i).op_index) w.list phase of_op.list in
+        let L : Task → Type 0 = λ u. (u.progress.call.list ≡ Some w.list) × (w.priority ≡ u.priority) in
+        let there : L (task_at t i) = subst L (sym (sp.at i)) (p.0, p.1) in
+        let D : ℕ → Type 0 = λ now. IfSome w.deadline (λ deadline. now < deadline) in
+        let later : D t.time = subst D (sym sp.kept.time) p.2 in
+        subst (IsPlacing t.time (task_at t i)) (sym (sp.waits i w e locked)) (there.0, there.1, later)
+
+  runs_still : (r : Option ℕ) → RunsIn s r → RunsIn t r
+  runs_still None r = same_held ∙ r
+  runs_still (Some i) r = record {
+    holding = ap holds (same_phase i) ∙ r.holding ∙ sym same_held;
+    ready = λ none. let was : is_ready s i ≡ true = r.ready (sym same_held ∙ none) in subst (λ (u : Task). is_some (ticket_if_ready u.status) ≡ true) (sym (sp.ready i was)) was;
+    placing = λ is. let was : (call_at s i).phase ≡ Place = sym (same_phase i) ∙ is in placing_still i was (r.placing was);
+  }
+
+  pub state_still : IsState app t
+  state_still = record {
+    sound = subst (λ x. IsSound app x t) (sym sp.kept.hold) sound;
+    runs = subst (RunsIn t) (sym sp.current) (runs_still s.current h.runs);
+    alone = λ i on. sp.current ∙ h.alone i (ap holds (sym (same_phase i)) ∙ on);
+    locked = λ none. ap (λ (x : Hold). x.locked) sp.kept.hold ∙ h.locked (sym same_held ∙ none);
+  }
+
+-- a handler that comes between two steps
+pub handled_between : (app : Application) → IsWellFormed app → (handler : ℕ) (s : State) → IsState app s → IsState app (handle app handler s)
+handled_between app formed handler s h = state_still app formed s (handle app handler s) h (handled app formed (hold_of s) s handler h.sound refl) (spares-handle app handler s)
+
+-- ---- without base interrupts
+
+pub uninterrupted : (app : Application) → app.interrupts ≡ [] → (s : State) → interrupt app s ≡ s
+unfolding interrupt
+uninterrupted app none s = rw none refl

@@ -1,0 +1,45 @@
+-- Interrupt handlers: they do their ops without waiting, before a step or at a tick.
+use Rattle.std.specs.Prelude.{ℕ, ◌+◌, List, [], ◌∷◌, Option, Some, None}
+use Rattle.model.specs.declared.op.IsrOp.{IsrOp}
+use Rattle.model.specs.declared.op.IsrOp.TheVariants.{Do, Mark}
+use Rattle.model.specs.declared.event.What.{What}
+use Rattle.model.specs.declared.event.What.TheVariants.{Isr, IsrNone, IsrMark}
+use Rattle.model.specs.Application.{Application, ops_of, interrupts_at}
+use Rattle.model.specs.State.{State, for_each}
+use Rattle.model.specs.Switching.{write, preempt, slice, unless_held}
+use Rattle.model.specs.Time.{increment_tick}
+use Rattle.model.specs.Objects.{answer_to, attempt}
+
+-- what an op of a handler tells: its answer, or that this is `none`
+abbrev pub isr_told : ℕ → ℕ → Option ℕ → What
+isr_told handler op_index (Some n) = Isr handler op_index n
+isr_told handler op_index None = IsrNone handler op_index
+
+-- what each op of a handler does, and its event: a call is done if it is possible (`xQueueSendFromISR` and the like); a
+-- mark is profile
+abbrev pub isr : ℕ → ℕ → IsrOp → State → State
+isr handler op_index (Do object access) s =
+    write (isr_told handler op_index (answer_to s object access)) (attempt None object access s)
+isr handler op_index (Mark n) s = write (IsrMark handler n) s
+
+-- ops of a handler, one after another; the first is the one of this index
+abbrev pub isr_each : ℕ → ℕ → List IsrOp → State → State
+isr_each handler op_index [] s = s
+isr_each handler op_index (op ∷ ops) s = isr_each handler (op_index + 1) ops (isr handler op_index op s)
+
+-- The handler runs.
+unfoldable pub handle : Application → ℕ → State → State
+handle app handler s = isr_each handler 0 (ops_of app handler) s
+
+-- An injected handler runs, and a higher task may run after it (`portYIELD_FROM_ISR`).
+unfoldable pub inject : Application → ℕ → State → State
+inject app handler s = unless_held preempt (handle app handler s)
+
+-- The base interrupts of this tick come, in the order of the file.
+unfoldable pub interrupt : Application → State → State
+interrupt app s = for_each (handle app) (interrupts_at app s.elapsed) s
+
+-- The tick interrupt: one tick comes, then its base interrupts, and then a switch if one is due (a port's
+-- `xPortSysTickHandler`).
+unfoldable pub tick_interrupt : Application → State → State
+tick_interrupt app s = slice (interrupt app (increment_tick s))
