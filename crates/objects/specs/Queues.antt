@@ -8,7 +8,7 @@ use Rattle.model.specs.State.{State, Object, no_object, object_at, wait_of, wait
 use Rattle.model.specs.Step.{object_at_reset}
 use Rattle.objects.specs.declared.lock.Lock.{Lock}
 use Rattle.objects.specs.Items.{object_in}
-use Rattle.objects.specs.WaitingLists.{waiting_in, without_best, without_woken}
+use Rattle.objects.specs.WaitingLists.{best_of, waiting_in, without_best, without_woken}
 use Rattle.objects.specs.WaitersStand.{Decider, FirstAwake, WaitersStand, one_more, standing}
 
 pub record Exchange : Type 0 where
@@ -49,6 +49,13 @@ abbrev pub after_unlock : Option Lock → Exchange → Exchange
 after_unlock (Some lock) v =
     record v { lock = None; waiting = without_woken lock.object lock.receivers lock.senders v.waiting }
 after_unlock None v = v
+
+-- The best of those who wait to receive from the locked object, as many as its lock has counted, are these, in order, and
+-- the best of those who wait to send to it are those.
+abbrev pub AreCounted : Lock → Exchange → List ℕ → List ℕ → Type 0
+AreCounted lock v receivers senders =
+    (receivers ≡ best_of (ToReceive lock.object) lock.receivers v.waiting)
+    × (senders ≡ best_of (ToSend lock.object) lock.senders v.waiting)
 
 -- So many of the object's lists are Awake as the lock counts, and stand first.
 abbrev pub Counts : State → Lock → Type 0

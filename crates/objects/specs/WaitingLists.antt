@@ -1,5 +1,5 @@
 -- What callers see of the waiting lists: for each list its tasks in order, each with its priority.
-use Rattle.std.specs.Prelude.{ℕ, ◌+◌, ◌-◌, ◌*◌, ◌≤◌, nat_lt, if◌then◌else◌, List, [], ◌∷◌, map, drop, slice_set}
+use Rattle.std.specs.Prelude.{ℕ, ◌+◌, ◌-◌, ◌*◌, ◌≤◌, nat_lt, if◌then◌else◌, List, [], ◌∷◌, map, take, drop, slice_set}
 use Rattle.model.specs.declared.call.WaitList.{WaitList}
 use Rattle.model.specs.declared.call.WaitList.TheVariants.{ToReceive, ToSend}
 use Rattle.lists.specs.Lists.{Each, IsSound, entries_of}
@@ -12,6 +12,14 @@ number_of (ToSend object) = 2 * object + 1
 -- the tasks of a list, each with its priority
 abbrev pub waiting_in : List (List (ℕ × ℕ)) → WaitList → List (ℕ × ℕ)
 waiting_in lists list = entries_of lists (number_of list)
+
+-- the tasks, without their priorities
+abbrev pub tasks_in : List (ℕ × ℕ) → List ℕ
+tasks_in entries = map (λ (e : ℕ × ℕ). e.0) entries
+
+-- so many of the best waiters of a list, in order, or all where there are fewer
+abbrev pub best_of : WaitList → ℕ → List (List (ℕ × ℕ)) → List ℕ
+best_of list count lists = take count (tasks_in (waiting_in lists list))
 
 -- So many of the best waiters are taken out of a list.
 abbrev pub without_best : WaitList → ℕ → List (List (ℕ × ℕ)) → List (List (ℕ × ℕ))
@@ -26,10 +34,6 @@ without_woken object receivers senders lists =
 abbrev pub insert_by_priority : ℕ × ℕ → List (ℕ × ℕ) → List (ℕ × ℕ)
 insert_by_priority e [] = e ∷ []
 insert_by_priority e (f ∷ fs) = if nat_lt f.1 e.1 then e ∷ f ∷ fs else f ∷ insert_by_priority e fs
-
--- the tasks, without their priorities
-abbrev pub tasks_in : List (ℕ × ℕ) → List ℕ
-tasks_in entries = map (λ (e : ℕ × ℕ). e.0) entries
 
 -- a task with its priority, where a list's entry has the value 31 - priority; and back
 abbrev pub mirror : ℕ × ℕ → ℕ × ℕ

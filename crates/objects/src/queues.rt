@@ -15,7 +15,7 @@ ghost use Rattle.model.specs.Objects.{allows, object_after, reply};
 ghost use Rattle.objects.specs.Items.{object_in};
 ghost use Rattle.objects.specs.WaitingLists.{insert_by_priority, number_of, waiting_in};
 ghost use Rattle.objects.specs.WaitersStand.{AreAwakened, AtLocked, Decider, opened};
-ghost use Rattle.objects.specs.Queues.{StandsFor, after_unlock, after_wake, counted_by, readied_by, size_in};
+ghost use Rattle.objects.specs.Queues.{AreCounted, StandsFor, after_unlock, after_wake, counted_by, readied_by, size_in};
 
 use crate::items::Items;
 use crate::lock::Lock;
@@ -220,6 +220,9 @@ impl Queues {
     pub fn unlock(&mut self) -> Option<Unlocked>
         ensures locked { IsSome result ↔ IsSome self.old.lock }
         ensures left { self.new ≡ after_unlock self.old.lock self.old }
+        // Whom it answers are the first of the two lists, in order, as many of each as the lock has counted.
+        ensures counted { IfSome result (λ unlocked. IfSome self.old.lock (λ lock.
+            AreCounted lock self.old unlocked.to_receive.items unlocked.to_send.items)) }
         ensures free { self.new.lock ≡ None }
         ensures objects { self.new.objects ≡ self.old.objects }
         ensures stands { (s : State) → StandsFor self.old None s

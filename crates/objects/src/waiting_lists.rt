@@ -3,13 +3,14 @@ ghost use Rattle.std.specs.Prelude.{◌≡◌, ◌≢◌, ℕ, ◌<◌, [], ◌+
 ghost use Rattle.std.specs.Option.{is_some};
 ghost use Rattle.lists.specs.Lists.{first_of, has_node, place_of, without, IsSound};
 ghost use Rattle.model.specs.declared.call.WaitList as definitions;
+ghost use Rattle.model.specs.declared.call.WaitList.TheVariants.{ToReceive, ToSend};
 ghost use Rattle.model.specs.State.{State, task_at, for_one, for_each};
 ghost use Rattle.model.specs.Order as order;
 ghost use Rattle.model.specs.Switching.{make_ready};
 ghost use Rattle.model.specs.Waiting as waiting;
 ghost use Rattle.model.specs.Waiting.{is_locked, waiters, wait_in, wake_best};
 ghost use Rattle.model.specs.Invariant.{IsTable};
-ghost use Rattle.objects.specs.WaitingLists.{insert_by_priority, number_of, tasks_in, waiting_in, without_woken};
+ghost use Rattle.objects.specs.WaitingLists.{best_of, insert_by_priority, number_of, tasks_in, waiting_in, without_woken};
 ghost use Rattle.objects.specs.WaitersStand.{AreAwakened, AtLocked, Decider, StandLocked, WaitersStand, opened, standing};
 
 use arrayvec::ArrayVec;
@@ -186,6 +187,8 @@ impl WaitingLists {
     /// receive, and of those who wait to send. They become Ready, the former first.
     pub(crate) fn unlock(&mut self, object: ObjectId, receivers: u8, senders: u8) -> Unlocked
         ensures left { self.new ≡ without_woken object receivers senders self.old }
+        ensures to_receive { result.to_receive.items ≡ best_of (ToReceive object) receivers self.old }
+        ensures to_send { result.to_send.items ≡ best_of (ToSend object) senders self.old }
         ensures awakened { (s : State) → StandLocked self.old None object receivers senders s
             → AreAwakened s object result.to_receive.items result.to_send.items }
         ensures woken { (s : State) → StandLocked self.old None object receivers senders s

@@ -1,5 +1,7 @@
-use Rattle.std.proofs.Common.{◌≡◌, rules, Some, None, sym, ◌∙◌, ap, subst}
-use Rattle.objects.specs.Queues.{Exchange, StandsFor, after_unlock}
+use Rattle.std.proofs.Common.{◌≡◌, rules, Option, Some, None, sym, ◌∙◌, ap, subst}
+use Rattle.std.specs.Option.{IfSome}
+use Rattle.objects.specs.declared.lock.Lock.{Lock}
+use Rattle.objects.specs.Queues.{AreCounted, Exchange, StandsFor, after_unlock}
 use Rattle.objects.proofs.Locking.{standing_locked, stands_unlocked, stands_unlocked_none}
 use Rattle.objects.proofs.queues.Queues.unlock.Goals as goal
 
@@ -24,6 +26,15 @@ returns-clause-awakened c = λ s h.
     let before = subst (λ (v : Exchange). StandsFor v None s) (sym c.self.view_is) h in
     let locked = standing_locked v None s c.in_ok-lock.lock before is in
     (c.in_ok-lock.lock.object, locked.locked, c.unlock.ensures.awakened s locked)
+
+pub returns-clause-counted : goal.returns-clause-counted
+returns-clause-counted c =
+    let q = c.self.inside in
+    let v : Exchange = record { objects = q.items; waiting = q.waiting; lock = q.lock } in
+    let is : q.lock ≡ Some c.in_ok-lock.lock = search rules in
+    let counted = λ (w : Exchange). λ (lock : Lock). AreCounted lock w c.unlock.result.to_receive.items c.unlock.result.to_send.items in
+    subst (λ (w : Exchange). IfSome w.lock (counted w)) c.self.view_is
+    (subst (λ (l : Option Lock). IfSome l (counted v)) (sym is) (c.unlock.ensures.to_receive, c.unlock.ensures.to_send))
 
 pub returns-in_err-lock-clause-left : goal.returns-in_err-lock-clause-left
 returns-in_err-lock-clause-left c =

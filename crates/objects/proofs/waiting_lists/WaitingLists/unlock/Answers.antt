@@ -2,16 +2,22 @@ use Rattle.std.proofs.Common.{ℕ, List, None, sym, ◌∙◌, ap, subst}
 use Rattle.model.specs.State.{State, for_each}
 use Rattle.model.specs.Switching.{make_ready}
 use Rattle.model.specs.declared.call.WaitList.TheVariants.{ToSend}
-use Rattle.objects.specs.WaitingLists.{without_best}
+use Rattle.objects.specs.WaitingLists.{best_of, without_best}
 use Rattle.objects.specs.WaitersStand.{WaitersStand, opened}
-use Rattle.objects.proofs.Unlocking.{awakened_are, each_append, stands_opened, unlocks}
+use Rattle.objects.proofs.Unlocking.{awakened_are, each_append, senders_stay, stands_opened, unlocks}
 use Rattle.objects.proofs.waiting_lists.WaitingLists.unlock.Goals as goal
 
+pub returns-clause-to_send : goal.returns-clause-to_send
+returns-clause-to_send c =
+    c.take-to_send.ensures.taken
+    ∙ ap (best_of (ToSend c.args.object) c.args.senders) c.take-to_receive.ensures.left
+    ∙ senders_stay c.args.self.now c.args.object c.args.receivers c.args.senders
+
 pub returns-clause-awakened : goal.returns-clause-awakened
-returns-clause-awakened c = λ s h. awakened_are c.args.self.now _ s c.args.object c.args.receivers c.args.senders _ _ h c.take-to_receive.ensures.taken c.take-to_receive.ensures.left c.take-to_send.ensures.taken
+returns-clause-awakened c = λ s h. awakened_are c.args.self.now s c.args.object c.args.receivers c.args.senders _ _ h c.take-to_receive.ensures.taken (returns-clause-to_send c)
 
 pub returns-clause-woken : goal.returns-clause-woken
-returns-clause-woken c = λ s h. unlocks c.args.self.now _ s c.args.object c.args.receivers c.args.senders _ _ h c.take-to_receive.ensures.taken c.take-to_receive.ensures.left c.take-to_send.ensures.taken
+returns-clause-woken c = λ s h. unlocks c.args.self.now s c.args.object c.args.receivers c.args.senders _ _ h c.take-to_receive.ensures.taken (returns-clause-to_send c)
 
 pub returns-clause-unlocks : goal.returns-clause-unlocks
 returns-clause-unlocks c = λ s h.
