@@ -1,6 +1,9 @@
 //! An application as a file, so that one can run it.
 
-use model::{Access, App, ObjectId, ObjectKind, Op, TaskDefinition};
+use model::{
+    Access, App, HandlerDefinition, Interrupt, IsrOp, ObjectId, ObjectKind, Op, Point,
+    TaskDefinition,
+};
 use std::alloc::{AllocError, Global};
 
 // The first word of a call, and the name of its queue.
@@ -79,6 +82,46 @@ fn push_task(file: &mut String, alloc: Global, task: &TaskDefinition) -> Result<
     file.push_str("]\n")
 }
 
+fn push_isr_op(file: &mut String, alloc: Global, op: &IsrOp) -> Result<(), AllocError> {
+    let word = op.word();
+    let text = match *op {
+        IsrOp::Mark(number) => format!(in alloc; "{word} {number}")?,
+        IsrOp::Do(object, access) => {
+            let queue = queue_text(alloc, word, object)?;
+            let item = item_text(alloc, access)?;
+            format!(in alloc; "{queue}{item}")?
+        }
+    };
+    let quoted = format!(in alloc; "'{text}', ")?;
+    file.push_str(quoted.as_str())
+}
+
+fn push_handler(
+    file: &mut String,
+    alloc: Global,
+    handler: &HandlerDefinition,
+) -> Result<(), AllocError> {
+    let name = handler.name();
+    let head = format!(in alloc; "\n[[handler]]\nname = '{name}'\nops = [")?;
+    file.push_str(head.as_str())?;
+    for op in handler.ops() {
+        push_isr_op(file, alloc, op)?;
+    }
+    file.push_str("]\n")
+}
+
+fn push_interrupt(
+    file: &mut String,
+    alloc: Global,
+    app: &App,
+    interrupt: &Interrupt,
+) -> Result<(), AllocError> {
+    let tick = interrupt.tick;
+    let name = app.handler_name(interrupt.handler);
+    let text = format!(in alloc; "\n[[interrupt]]\ntick = {tick}\nhandler = '{name}'\n")?;
+    file.push_str(text.as_str())
+}
+
 /// A file that describes this application.
 pub(crate) fn file_of(alloc: Global, app: &App) -> Result<String, AllocError> {
     let start = app.start();
@@ -91,8 +134,30 @@ pub(crate) fn file_of(alloc: Global, app: &App) -> Result<String, AllocError> {
     for (index, kind) in app.objects().iter().enumerate() {
         push_object(&mut file, alloc, index, *kind)?;
     }
+    for handler in app.handlers() {
+        push_handler(&mut file, alloc, handler)?;
+    }
+    for interrupt in app.interrupts() {
+        push_interrupt(&mut file, alloc, app, interrupt)?;
+    }
     for task in app.tasks() {
         push_task(&mut file, alloc, task)?;
     }
     Ok(file)
+}
+
+/// The points of a plan, as words.
+pub(crate) fn points_text(
+    alloc: Global,
+    app: &App,
+    points: &[Point],
+) -> Result<String, AllocError> {
+    let mut text = String::new(alloc);
+    for point in points {
+        let step = point.step;
+        let name = app.handler_name(point.handler);
+        let word = format!(in alloc; " {step} {name},")?;
+        text.push_str(word.as_str())?;
+    }
+    Ok(text)
 }

@@ -9,13 +9,19 @@ mod dice;
 #[cfg(test)]
 mod file;
 #[cfg(test)]
+mod handler_runs;
+#[cfg(test)]
 mod loading;
+#[cfg(test)]
+mod planner;
 #[cfg(test)]
 mod queue_runs;
 #[cfg(test)]
 mod random;
 #[cfg(test)]
 mod refused;
+#[cfg(test)]
+mod rows;
 #[cfg(test)]
 mod runs;
 #[cfg(test)]

@@ -1,7 +1,8 @@
 //! Runs of the kernel beside runs of the slow program, on many small applications.
 
 use crate::dice::Dice;
-use crate::file::file_of;
+use crate::file::{file_of, points_text};
+use crate::planner::{Planner, Points};
 use crate::slow::SlowKernel;
 use model::{App, Meter, Plan};
 use script::FromDocument;
@@ -9,9 +10,12 @@ use std::alloc::Global;
 use std::process::Abort;
 
 /// Fails the test, and shows the application as a file.
-fn fail(rt: &impl Abort, alloc: Global, seed: u32, app: &App, what: &str) {
+fn fail(rt: &impl Abort, alloc: Global, seed: u32, app: &App, plan: &Plan, what: &str) {
     let file = file_of(alloc, app).expect(rt, "memory");
-    panic!(rt; "seed {seed}: other {what} than the slow program, on this file\n{file}");
+    let points = points_text(alloc, app, plan.points()).expect(rt, "memory");
+    panic!(rt;
+        "seed {seed}: other {what} than the slow program, with points{points} on this file\n{file}"
+    );
 }
 
 /// How many of the runs have what they are for.
@@ -19,45 +23,106 @@ fn fail(rt: &impl Abort, alloc: Global, seed: u32, app: &App, what: &str) {
 struct Seen {
     /// The tick wrapped.
     wraps: usize,
-    /// A call woke one who waited.
+    /// A call or a handler woke one who waited.
     wakes: usize,
     /// A wait ended at its deadline.
     timeouts: usize,
+    /// A task whose call had locked the queue was Awake.
+    own_awakenings: usize,
+    /// Another was.
+    other_awakenings: usize,
+    /// Tasks of both waiting lists were Awake when their queue was unlocked.
+    mixed_unlocks: usize,
+    points: Points,
 }
 
-/// Runs both, and compares what they tell.
-fn compare(rt: &impl Abort, alloc: Global, seed: u32, app: &App, seen: &mut Seen) {
-    let plan = Plan::new(Vec::new(alloc)).expect(rt, "a plan without points");
+impl Seen {
+    fn count(&mut self, slow: &SlowKernel, has_wrapped: bool, points: &Points) {
+        let tally = slow.tally;
+        add(&mut self.wraps, has_wrapped as usize);
+        add(&mut self.wakes, (tally.wakes > 0) as usize);
+        add(&mut self.timeouts, (tally.timeouts > 0) as usize);
+        add(
+            &mut self.own_awakenings,
+            (tally.own_awakenings > 0) as usize,
+        );
+        add(
+            &mut self.other_awakenings,
+            (tally.other_awakenings > 0) as usize,
+        );
+        add(&mut self.mixed_unlocks, (tally.mixed_unlocks > 0) as usize);
+        add(&mut self.points.all, points.all);
+        add(&mut self.points.inside_calls, points.inside_calls);
+        add(&mut self.points.locked, points.locked);
+        add(&mut self.points.late, points.late);
+    }
+}
+
+fn add(count: &mut usize, more: usize) {
+    *count = count.saturating_add(more);
+}
+
+/// Runs both, the slow program first, with the plan that is made meanwhile, and compares what they tell.
+fn compare(
+    rt: &impl Abort,
+    alloc: Global,
+    seed: u32,
+    app: &App,
+    mut planner: Planner,
+    seen: &mut Seen,
+) {
     let limits = app.limits();
+    let mut slow = SlowKernel::boot(alloc, app);
+    let end = planner.run(&mut slow, app, &limits).expect(rt, "memory");
+    let made = planner.made;
+    let plan = Plan::new(planner.points).ok().expect(rt, "a plan");
     let mut meter = Meter::new();
     let run = kernel::run(alloc, app, &plan, limits, &mut meter).expect(rt, "memory");
-    let mut slow = SlowKernel::boot(alloc, app);
-    let end = slow.run(app, &limits).expect(rt, "memory");
     if run.events.as_slice() != slow.events.as_slice() {
-        fail(rt, alloc, seed, app, "events");
+        fail(rt, alloc, seed, app, &plan, "events");
     }
     if (run.end, run.steps, run.ticks) != (end, slow.steps, slow.elapsed) {
-        fail(rt, alloc, seed, app, "end, steps or ticks");
+        fail(rt, alloc, seed, app, &plan, "end, steps or ticks");
     }
     if meter.steps() != run.steps as u64 {
-        fail(rt, alloc, seed, app, "metered steps");
+        fail(rt, alloc, seed, app, &plan, "metered steps");
     }
     let has_wrapped = run.ticks > u32::MAX - app.start();
-    seen.wraps = seen.wraps.saturating_add(has_wrapped as usize);
-    seen.wakes = seen.wakes.saturating_add((slow.wakes > 0) as usize);
-    seen.timeouts = seen.timeouts.saturating_add((slow.timeouts > 0) as usize);
+    seen.count(&slow, has_wrapped, &made);
 }
 
 #[test]
 fn the_slow_program_agrees(rt: HostRuntime) {
     let mut seen = Seen::default();
     for seed in 0..40_000 {
-        let mut dice = Dice { state: seed };
+        let mut dice = Dice::new(seed);
         let app = dice.app(rt.alloc()).expect(&rt, "memory");
-        compare(&rt, rt.alloc(), seed, &app, &mut seen);
+        let planner = Planner::idle(rt.alloc());
+        compare(&rt, rt.alloc(), seed, &app, planner, &mut seen);
     }
     let has_all = seen.wraps > 20_000 && seen.wakes > 7_500 && seen.timeouts > 10_000;
     assert!(rt; has_all, "{seen:?}");
+}
+
+#[test]
+fn the_slow_program_agrees_where_handlers_are_injected(rt: HostRuntime) {
+    let mut seen = Seen::default();
+    for seed in 0..40_000 {
+        let mut dice = if seed % 2 == 0 {
+            Dice::new(seed)
+        } else {
+            Dice::crowding(seed)
+        };
+        let app = dice.app(rt.alloc()).expect(&rt, "memory");
+        let planner = Planner::new(rt.alloc(), u32::MAX - seed);
+        compare(&rt, rt.alloc(), seed, &app, planner, &mut seen);
+    }
+    let points = seen.points;
+    let has_points = points.all > 100_000 && points.late > 10_000;
+    let has_inside = points.inside_calls > points.all / 3 && points.locked > points.all / 6;
+    assert!(rt; has_points && has_inside, "{seen:?}");
+    let has_awakenings = seen.own_awakenings > 5_000 && seen.other_awakenings > 1_000;
+    assert!(rt; has_awakenings && seen.mixed_unlocks > 100, "{seen:?}");
 }
 
 /// The application that a file describes.
@@ -73,13 +138,19 @@ pub(crate) fn loaded(rt: &impl Abort, alloc: Global, file: &str) -> App {
 #[test]
 fn an_application_that_is_shown_as_a_file_is_loaded_as_it_was(rt: HostRuntime) {
     for seed in 0..200 {
-        let mut dice = Dice { state: seed };
+        let mut dice = Dice::new(seed);
         let app = dice.app(rt.alloc()).expect(&rt, "memory");
         let file = file_of(rt.alloc(), &app).expect(&rt, "memory");
         let back = loaded(&rt, rt.alloc(), file.as_str());
         assert_eq!(rt; back.start(), app.start(), "{file}");
         assert_eq!(rt; back.limits(), app.limits(), "{file}");
         assert_eq!(rt; back.objects(), app.objects(), "{file}");
+        assert_eq!(rt; back.interrupts(), app.interrupts(), "{file}");
+        assert_eq!(rt; back.handlers().len(), app.handlers().len(), "{file}");
+        for (one, other) in back.handlers().iter().zip(app.handlers()) {
+            assert_eq!(rt; one.name(), other.name(), "{file}");
+            assert_eq!(rt; one.ops(), other.ops(), "{file}");
+        }
         assert_eq!(rt; back.tasks().len(), app.tasks().len(), "{file}");
         for (one, other) in back.tasks().iter().zip(app.tasks()) {
             assert_eq!(rt; one.name(), other.name(), "{file}");

@@ -110,18 +110,31 @@ pub(crate) struct Answer {
     pub(crate) told: Holder,
 }
 
-/// Runs a file, over sinks that take so many bytes a call.
-pub(crate) fn serve(alloc: Global, file: &[u8], at_once: usize) -> Answer {
+/// The job that writes the base run of this file.
+pub(crate) fn base_run_of(file: &str) -> Job<'_> {
+    Job::Run {
+        file,
+        at: None,
+        handler: None,
+    }
+}
+
+/// Does a job over a file, and sinks that take so many bytes a call.
+pub(crate) fn serve_job(alloc: Global, job: &Job<'_>, file: &[u8], at_once: usize) -> Answer {
     let mut written = Holder::wide(alloc, at_once);
     let mut told = Holder::wide(alloc, at_once);
-    let job = Job::Run { file: "app.toml" };
     let mut reader = FromReader::new(file);
-    let status = act(alloc, &job, &mut reader, &mut written, &mut told);
+    let status = act(alloc, job, &mut reader, &mut written, &mut told);
     Answer {
         status,
         written,
         told,
     }
+}
+
+/// Runs a file, over sinks that take so many bytes a call.
+pub(crate) fn serve(alloc: Global, file: &[u8], at_once: usize) -> Answer {
+    serve_job(alloc, &base_run_of("app.toml"), file, at_once)
 }
 
 /// Compares a text with the one that is wanted, and shows both where they differ.

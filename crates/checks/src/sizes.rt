@@ -1,9 +1,9 @@
 //! Large files and long runs, and the bounds of a file.
 ghost use Rattle.std.specs.Prelude.{◌<◌};
 
-use crate::sinks::{check_text, serve};
+use crate::sinks::{base_run_of, check_text, serve};
 use byte_io::{Failed, FromReader, Sink, ToWriter};
-use jobs::{Job, act, serve_run};
+use jobs::{act, serve_run};
 use model::End;
 use std::alloc::{AllocError, Global};
 use std::process::Abort;
@@ -92,7 +92,7 @@ fn a_report_of_several_pages(rt: HostRuntime) -> Result<(), AllocError> {
     assert!(rt; report.len() > 3 * 8192);
     let mut written = Vec::new(rt.alloc());
     let mut told = Vec::new(rt.alloc());
-    let job = Job::Run { file: "app.toml" };
+    let job = base_run_of("app.toml");
     let status = act(
         rt.alloc(),
         &job,
@@ -206,7 +206,7 @@ fn a_run_of_more_than_a_million_lines(rt: HostRuntime) -> Result<(), AllocError>
     }
     let mut written = Counter::new();
     let mut reader = FromReader::new(file.as_bytes());
-    let end = serve_run(alloc, &mut reader, &mut written);
+    let end = serve_run(alloc, &mut reader, &mut written, None);
     assert!(rt; end == Ok(End::Pass));
     // The numbers are those of an independent program.
     assert_eq!(rt; written.lines, 1_016_003);

@@ -1,10 +1,11 @@
 //! The kernel as its definitions tell it: one table of tasks, each with its ticket, and one of queues. Every question is a
 //! search of the tables. It is slow, and says plainly what the kernel over lists has to do.
 
-use model::{App, End, Event, Limits, Loop, Op, Phase, TaskId, What};
+use model::{App, End, Event, Limits, Loop, Op, Phase, Point, TaskId, What};
 use queues::{Queue, Side};
 use std::alloc::Global;
 
+mod handlers;
 mod queues;
 
 /// A wait that has begun: at which side of which queue, with the priority that the task had then.
@@ -21,6 +22,8 @@ struct Wait {
 enum Status {
     /// In the ready list, with this ticket.
     Ready(u64),
+    /// Woken from this wait through the locked queue, and Ready when that is unlocked.
+    Awake(Wait),
     Asleep { wake_time: u64, ticket: u64 },
     Waiting(Wait),
     Ended,
@@ -48,6 +51,20 @@ struct Task {
     status: Status,
 }
 
+/// How often something happened that runs are to have.
+#[derive(Clone, Copy, Debug, Default)]
+pub(crate) struct Tally {
+    /// A wait ended by a call or by a handler.
+    pub(crate) wakes: u32,
+    /// A wait ended at its deadline.
+    pub(crate) timeouts: u32,
+    /// A task became Awake: one whose own call had locked the queue, or another.
+    pub(crate) own_awakenings: u32,
+    pub(crate) other_awakenings: u32,
+    /// A queue was unlocked where some who waited for an item and some who waited for room were Awake.
+    pub(crate) mixed_unlocks: u32,
+}
+
 #[derive(Drop)]
 pub(crate) struct SlowKernel {
     tasks: [Task; 32],
@@ -57,14 +74,14 @@ pub(crate) struct SlowKernel {
     current: Option<TaskId>,
     /// Whether a call holds the scheduler.
     is_held: bool,
+    /// The queue that a call has locked.
+    locked: Option<u8>,
     next_ticket: u64,
     pub(crate) steps: u32,
     stopped: Option<End>,
     pub(crate) events: Vec<Event>,
-    /// How many waits another's call ended, and how many their deadline.
-    pub(crate) wakes: u32,
-    pub(crate) timeouts: u32,
-    is_out_of_memory: bool,
+    pub(crate) tally: Tally,
+    pub(crate) is_out_of_memory: bool,
 }
 
 impl SlowKernel {
@@ -88,12 +105,12 @@ impl SlowKernel {
             elapsed: 0,
             current: None,
             is_held: false,
+            locked: None,
             next_ticket: 0,
             steps: 0,
             stopped: None,
             events: Vec::new(alloc),
-            wakes: 0,
-            timeouts: 0,
+            tally: Tally::default(),
             is_out_of_memory: false,
         };
         kernel.make_queues(alloc, app);
@@ -235,7 +252,7 @@ impl SlowKernel {
     fn alarm(&self, task: TaskId) -> Option<(u64, u64)> {
         match self.task(task).status {
             Status::Asleep { wake_time, ticket } => Some((wake_time, ticket)),
-            Status::Waiting(wait) => Some((wait.deadline?, wait.ticket)),
+            Status::Waiting(wait) | Status::Awake(wait) => Some((wait.deadline?, wait.ticket)),
             Status::Ready(_) | Status::Ended => None,
         }
     }
@@ -264,16 +281,18 @@ impl SlowKernel {
                 return;
             };
             if let Status::Waiting(_) = self.task(task).status {
-                self.timeouts = self.timeouts.saturating_add(1);
+                self.tally.timeouts = self.tally.timeouts.saturating_add(1);
             }
             self.make_ready(task);
         }
     }
 
-    fn tick(&mut self) {
+    /// The tick interrupt: time advances, the base interrupts of this tick come, and then there is one switch for all of it.
+    fn tick(&mut self, app: &App) {
         self.time = self.time.wrapping_add(1);
         self.elapsed = self.elapsed.wrapping_add(1);
         self.wake_due();
+        self.interrupt(app);
         self.slice();
     }
 
@@ -335,7 +354,7 @@ impl SlowKernel {
         } else {
             self.set(id, Task { used, ..task });
         }
-        self.tick();
+        self.tick(app);
     }
 
     fn delay(&mut self, app: &App, id: TaskId, ticks: u32) {
@@ -430,15 +449,23 @@ impl SlowKernel {
         }
     }
 
-    fn step(&mut self, app: &App) {
+    fn act_current(&mut self, app: &App) {
         match self.current {
-            None => self.tick(),
+            None => self.tick(app),
             Some(id) => {
                 if let Some(op) = app.op(id, self.task(id).op_index) {
                     self.act(app, id, op);
                 }
             }
         }
+    }
+
+    /// A step, before which the handlers of these points are injected.
+    pub(crate) fn step(&mut self, app: &App, points: &[Point]) {
+        for point in points {
+            self.inject(app, point.handler);
+        }
+        self.act_current(app);
         if !self.is_held && self.current.is_some_and(|id| !self.is_ready(id)) {
             self.choose();
         }
@@ -460,8 +487,25 @@ impl SlowKernel {
             .all(|task| matches!(task.status, Status::Ended))
     }
 
+    /// Whether the running task has tried its call in vain: its next phase is Decide, Place, Unlock or Leave.
+    pub(crate) fn is_inside_call(&self) -> bool {
+        let phase = match self.current {
+            None => Phase::Start,
+            Some(task) => self.task(task).call.phase,
+        };
+        !matches!(phase, Phase::Start | Phase::Try)
+    }
+
+    pub(crate) fn is_locked(&self) -> bool {
+        self.locked.is_some()
+    }
+
+    fn is_stuck(&self, app: &App) -> bool {
+        self.current.is_none() && !self.will_any_wake() && !self.is_interrupt_to_come(app)
+    }
+
     /// The end of the run before its next step; `None` where it goes on.
-    fn end(&self, limits: &Limits) -> Option<End> {
+    pub(crate) fn end(&self, app: &App, limits: &Limits) -> Option<End> {
         if self.stopped.is_some() {
             self.stopped
         } else if self.are_all_ended() {
@@ -470,24 +514,10 @@ impl SlowKernel {
             Some(End::Ticks)
         } else if self.steps >= limits.steps {
             Some(End::Steps)
-        } else if self.current.is_none() && !self.will_any_wake() {
+        } else if self.is_stuck(app) {
             Some(End::Stuck)
         } else {
             None
         }
-    }
-
-    /// Goes on to the end of the run; `None` where no memory is left.
-    pub(crate) fn run(&mut self, app: &App, limits: &Limits) -> Option<End> {
-        for _ in 0..limits.steps {
-            if let Some(end) = self.end(limits) {
-                return Some(end);
-            }
-            self.step(app);
-            if self.is_out_of_memory {
-                return None;
-            }
-        }
-        Some(self.end(limits).unwrap_or(End::Steps))
     }
 }

@@ -1,8 +1,8 @@
 //! Readers and writers that fail, at once or in mid-stream.
 
-use crate::sinks::{Breaking, Holder, check_text};
+use crate::sinks::{Breaking, Holder, base_run_of, check_text};
 use byte_io::FromReader;
-use jobs::{Job, act};
+use jobs::act;
 use std::alloc::Global;
 use std::process::Abort;
 
@@ -25,7 +25,7 @@ fn check_full_writer(
     room: usize,
     is_polite: bool,
 ) -> Holder {
-    let job = Job::Run { file: "app.toml" };
+    let job = base_run_of("app.toml");
     let mut reader = FromReader::new(file.as_bytes());
     let mut written = Holder::new(alloc, 4096, room, is_polite);
     let mut told = Holder::wide(alloc, 4096);
@@ -57,7 +57,7 @@ fn a_writer_is_full_after_some_pages(rt: HostRuntime) {
 
 /// Runs a file whose reader fails after so many reads, over a sink of faults with so much room.
 fn check_broken_reader(rt: &impl Abort, alloc: Global, calls: u32, room: usize) {
-    let job = Job::Run { file: "a folder" };
+    let job = base_run_of("a folder");
     let mut reader = Breaking::new(ONE_MARK.as_bytes(), calls);
     let mut written = Holder::wide(alloc, 4096);
     let mut told = Holder::new(alloc, 4096, room, false);

@@ -1,6 +1,6 @@
 //! The words of the command line, and what the program does for them.
 
-use crate::sinks::{Holder, check_text};
+use crate::sinks::{Holder, base_run_of, check_text};
 use clap::error::ErrorKind;
 use jobs::{Job, job_named, obey, open_and_act};
 use std::alloc::Global;
@@ -19,7 +19,7 @@ fn a_file_that_cannot_be_read(rt: HostRuntime) {
     for (file, line) in UNREADABLE {
         let mut written = Holder::wide(rt.alloc(), 4096);
         let mut told = Holder::wide(rt.alloc(), 4096);
-        let job = Job::Run { file };
+        let job = base_run_of(file);
         let status = open_and_act(rt.alloc(), &rt, &job, &mut written, &mut told);
         assert_eq!(rt; status, 3, "{file}");
         check_text(&rt, rt.alloc(), file, written.bytes(), "");
@@ -27,19 +27,90 @@ fn a_file_that_cannot_be_read(rt: HostRuntime) {
     }
 }
 
-/// What is said of some words: the file that they name, or the kind of the error.
-fn answer<'a>(alloc: Global, words: &'a [&'a str]) -> Result<&'a str, ErrorKind> {
+/// What is said of some words: the job that they name, or the kind of the error.
+fn answer<'a>(alloc: Global, words: &'a [&'a str]) -> Result<Job<'a>, ErrorKind> {
     match job_named(alloc, words) {
-        Ok(job) => Ok(job.file()),
+        Ok(job) => Ok(job),
         Err(error) => Err(error.kind()),
     }
 }
 
+/// The words of `run` that name a job, and the job.
+#[derive(Clone, Copy)]
+struct Named {
+    words: &'static [&'static str],
+    file: &'static str,
+    at: Option<u32>,
+    handler: Option<&'static str>,
+}
+
+const NAMED: [Named; 9] = [
+    Named {
+        words: &["rtosim", "run", "app.toml"],
+        file: "app.toml",
+        at: None,
+        handler: None,
+    },
+    Named {
+        words: &["rtosim", "run", "--", "-a"],
+        file: "-a",
+        at: None,
+        handler: None,
+    },
+    Named {
+        words: &["rtosim", "run", "-"],
+        file: "-",
+        at: None,
+        handler: None,
+    },
+    Named {
+        words: &["rtosim", "run", "a", "--at", "3", "--handler", "h"],
+        file: "a",
+        at: Some(3),
+        handler: Some("h"),
+    },
+    Named {
+        words: &["rtosim", "run", "--handler=H_1", "--at=1000000", "a"],
+        file: "a",
+        at: Some(1_000_000),
+        handler: Some("H_1"),
+    },
+    Named {
+        words: &["rtosim", "run", "--at", "010", "a", "--handler", ""],
+        file: "a",
+        at: Some(10),
+        handler: Some(""),
+    },
+    Named {
+        words: &["rtosim", "run", "a", "--at=-0"],
+        file: "a",
+        at: Some(0),
+        handler: None,
+    },
+    Named {
+        words: &["rtosim", "run", "a", "--at", "+7"],
+        file: "a",
+        at: Some(7),
+        handler: None,
+    },
+    Named {
+        words: &["rtosim", "run", "a", "--handler", "h"],
+        file: "a",
+        at: None,
+        handler: Some("h"),
+    },
+];
+
 #[test]
 fn words_that_name_a_job(rt: HostRuntime) {
-    assert!(rt; answer(rt.alloc(), &["rtosim", "run", "app.toml"]) == Ok("app.toml"));
-    assert!(rt; answer(rt.alloc(), &["rtosim", "run", "--", "-a"]) == Ok("-a"));
-    assert!(rt; answer(rt.alloc(), &["rtosim", "run", "-"]) == Ok("-"));
+    for named in NAMED {
+        let job = Job::Run {
+            file: named.file,
+            at: named.at,
+            handler: named.handler,
+        };
+        assert_eq!(rt; answer(rt.alloc(), named.words), Ok(job));
+    }
 }
 
 const HELP: &str = r"Simulates the scheduling of a FreeRTOS-style kernel, step by step
@@ -57,7 +128,7 @@ Options:
 Exit status:
   0  the run passes, or help or the version was asked for
   1  the run ends in another way: its head line says how
-  2  the words of the command line are refused
+  2  the words of the command line are refused, or no handler has the name
   3  the file can't be read, is not TOML, or describes no application
   4  no memory is left
   5  the trace can't be written
@@ -65,18 +136,20 @@ Exit status:
 
 const HELP_OF_RUN: &str = r"Runs an application from reset to its end, and writes the trace
 
-Usage: rtosim run <FILE>
+Usage: rtosim run [OPTIONS] <FILE>
 
 Arguments:
   <FILE>  The application, a TOML file
 
 Options:
-  -h, --help  Print help
+      --at <STEP>          The step, 0 to 1000000, before which the handler is injected
+      --handler <HANDLER>  The handler that is injected, by its name in the file
+  -h, --help               Print help
 
 Exit status:
   0  the run passes, or help or the version was asked for
   1  the run ends in another way: its head line says how
-  2  the words of the command line are refused
+  2  the words of the command line are refused, or no handler has the name
   3  the file can't be read, is not TOML, or describes no application
   4  no memory is left
   5  the trace can't be written
@@ -92,7 +165,7 @@ struct Case {
     told: &'static str,
 }
 
-const CASES: [Case; 8] = [
+const CASES: [Case; 14] = [
     Case {
         words: &["rtosim", "--help"],
         kind: ErrorKind::DisplayHelp,
@@ -159,21 +232,87 @@ For more information, try '--help'.
         written: "",
         told: r"error: unexpected argument 'b' found
 
+Usage: rtosim run [OPTIONS] <FILE>
+
+For more information, try '--help'.
+",
+    },
+    Case {
+        words: &["rtosim", "run", "a", "--each", "1"],
+        kind: ErrorKind::UnknownArgument,
+        status: 2,
+        written: "",
+        told: r"error: unexpected argument '--each' found
+
+  tip: to pass '--each' as a value, use '-- --each'
+
 Usage: rtosim run <FILE>
 
 For more information, try '--help'.
 ",
     },
     Case {
-        words: &["rtosim", "run", "a", "--at", "1"],
+        words: &["rtosim", "run", "a", "--at", "1000001", "--handler", "h"],
+        kind: ErrorKind::ValueValidation,
+        status: 2,
+        written: "",
+        told: r"error: invalid value '1000001' for '--at <STEP>': 1000001 is not in 0..=1000000
+
+For more information, try '--help'.
+",
+    },
+    Case {
+        words: &["rtosim", "run", "a", "--at=-1", "--handler", "h"],
+        kind: ErrorKind::ValueValidation,
+        status: 2,
+        written: "",
+        told: r"error: invalid value '-1' for '--at <STEP>': -1 is not in 0..=1000000
+
+For more information, try '--help'.
+",
+    },
+    Case {
+        words: &["rtosim", "run", "a", "--at", "-1", "--handler", "h"],
         kind: ErrorKind::UnknownArgument,
         status: 2,
         written: "",
-        told: r"error: unexpected argument '--at' found
+        told: r"error: unexpected argument '-1' found
 
-  tip: to pass '--at' as a value, use '-- --at'
+  tip: to pass '-1' as a value, use '-- -1'
 
-Usage: rtosim run <FILE>
+Usage: rtosim run [OPTIONS] <FILE>
+
+For more information, try '--help'.
+",
+    },
+    Case {
+        words: &["rtosim", "run", "a", "--at", "1 0", "--handler", "h"],
+        kind: ErrorKind::ValueValidation,
+        status: 2,
+        written: "",
+        told: r"error: invalid value '1 0' for '--at <STEP>': invalid digit found in string
+
+For more information, try '--help'.
+",
+    },
+    Case {
+        words: &["rtosim", "run", "a", "--at", "1", "--at", "1"],
+        kind: ErrorKind::ArgumentConflict,
+        status: 2,
+        written: "",
+        told: r"error: the argument '--at <STEP>' cannot be used multiple times
+
+Usage: rtosim run [OPTIONS] <FILE>
+
+For more information, try '--help'.
+",
+    },
+    Case {
+        words: &["rtosim", "run", "a", "--handler"],
+        kind: ErrorKind::InvalidValue,
+        status: 2,
+        written: "",
+        told: r"error: a value is required for '--handler <HANDLER>' but none was supplied
 
 For more information, try '--help'.
 ",

@@ -6,6 +6,7 @@ use Rattle.std.specs.Option.{is_some, option_eq, option_map}
 use Rattle.std.proofs.Math.ListN.{length-set}
 use Rattle.std.proofs.lemmas.Bool.{cases_eq, cases_lt, eq-eqb, ne_eqb}
 use Rattle.std.proofs.lemmas.List.{get_or-set_other, get_or-set_same}
+use Rattle.std.proofs.lemmas.List.Elements.{filter-append}
 use Rattle.model.specs.State.{State, Status, Task, Ready, Awake, Waiting, Asleep, Ended, for_each, no_task, status_at, task_at, progress_at, call_at, with_call, take_ticket, ticket_if_ready, ticket_of, wake_time_of}
 use Rattle.model.specs.Order.{Entry, Key, entry, key, list_by, put, tasks_of}
 use Rattle.model.specs.Switching.{is_ready, make_ready}
@@ -20,7 +21,7 @@ use Rattle.model.specs.Waiting.{wait_in}
 use Rattle.model.proofs.Sound.{ready_awake}
 use Rattle.model.proofs.Tables.{below_delayed, table-make_ready, table-set, table-taken, ticket_at}
 use Rattle.lists.specs.Lists.{Each, EachOnce, IsSorted, has_node, insert_sorted, without}
-use Rattle.lists.proofs.Entries.{EachOnce-insert_sorted, EachOnce-without, IsSorted-insert_sorted, IsSorted-without, Each-imp, apart_from_test, has_node-other, has_node-same, has_or_not, insert_sorted-after, insert_sorted-before, without-apart, without-same}
+use Rattle.lists.proofs.Entries.{EachOnce-insert_sorted, EachOnce-without, IsSorted-insert_sorted, IsSorted-without, Each-imp, apart_from_test, has_node-other, has_node-same, has_node-without_other, has_or_not, insert_sorted-after, insert_sorted-before, without-apart, without-same}
 use Rattle.clock.specs.Timeline.{Advances, Timeline, all_until, is_asleep}
 use Rattle.clock.specs.StandsFor.{StandsFor, StandsBefore, at_next_tick, at_time, tasks_at, with_deadline}
 
@@ -508,3 +509,30 @@ stands_made_ready old new s i now age sleepers h l =
     let u : Task = record (task_at s i) { status = Ready s.next_ticket } in
     same_parts (record old { delayed_list = without i old.delayed_list }) new (make_ready i s) now age sleepers
     (stands_woken old s (make_ready i s) i u h l refl refl refl refl (table-make_ready s i h.table))
+
+-- the same while another is still to be placed
+without_apart : (i j m : ℕ) (deadline : Option ℕ) → i ≢ j → but j (tasks_at m (with_deadline i deadline)) ≡ tasks_at m (with_deadline i deadline)
+without_apart i j m None ne = refl
+without_apart i j m (Some w) ne = by_test (eqb w m)
+    (λ t. rw (t, ne_eqb i j ne) refl)
+    (λ t. rw t refl)
+
+pub stands_before_made_ready : (old new : Timeline) (s : State) (i j : ℕ) (deadline : Option ℕ) → new.now ≡ old.now → new.age ≡ old.age → new.delayed_list ≡ without j old.delayed_list → StandsBefore i deadline old s → i ≢ j → j < length s.tasks
+    → StandsBefore i deadline new (make_ready j s)
+stands_before_made_ready old new s i j deadline now age sleepers h ne l =
+    let u : Task = record (task_at s j) { status = Ready s.next_ticket } in
+    record {
+      now = now ∙ h.now;
+      age = age ∙ h.age;
+      sorted = subst IsSorted (sym sleepers) (IsSorted-without j old.delayed_list h.sorted);
+      once = subst EachOnce (sym sleepers) (EachOnce-without j old.delayed_list h.once);
+      delayed = λ m.
+          let own : List ℕ = tasks_at m (with_deadline i deadline) in
+          ap (λ (es : List (ℕ × ℕ)). tasks_at m es ++ own) sleepers
+          ∙ ap₂ (λ (xs ys : List ℕ). xs ++ ys) (tasks_at-without m j old.delayed_list) (sym (without_apart i j m deadline ne))
+          ∙ sym (filter-append (λ t. not (eqb t j)) (tasks_at m old.delayed_list) own)
+          ∙ ap (but j) (h.delayed m)
+          ∙ sym (due_in-gone s.tasks j m u l refl);
+      awake = ap (has_node i) sleepers ∙ has_node-without_other j i old.delayed_list ne ∙ h.awake;
+      table = table-make_ready s j h.table;
+    }

@@ -1,5 +1,5 @@
 //! The clock: its tick, and its two lists of sleepers.
-ghost use Rattle.std.specs.Prelude.{◌≡◌, ◌+◌, ◌-◌, ◌*◌, ◌^◌, ◌<◌, ◌≤◌, ◌%◌, [], min, true, false, length, IsTrue, ◌↔◌, Some};
+ghost use Rattle.std.specs.Prelude.{◌≡◌, ◌+◌, ◌-◌, ◌*◌, ◌^◌, ◌<◌, ◌≤◌, ◌%◌, [], min, true, false, length, IsTrue, ◌↔◌, Some, ◌≢◌, ℕ, Option};
 ghost use Rattle.lists.specs.Lists.{insert_sorted, without, Each};
 ghost use Rattle.model.specs.State.{State};
 ghost use Rattle.model.specs.Order.{tasks_of};
@@ -148,9 +148,13 @@ impl Clock {
         ensures now { self.new.now ≡ self.old.now }
         ensures age { self.new.age ≡ self.old.age }
         ensures delayed { self.new.delayed_list ≡ without task self.old.delayed_list }
-        // In the definitions it becomes Ready.
+        // In the definitions it becomes Ready,
         ensures stands { (s : State) → StandsFor self.old s → task < length s.tasks
             → StandsFor self.new (switching.make_ready task s) }
+        // also while another is still to be placed.
+        ensures placing { (s : State) (other : ℕ) (deadline : Option ℕ)
+            → StandsBefore other deadline self.old s → other ≢ task → task < length s.tasks
+            → StandsBefore other deadline self.new (switching.make_ready task s) }
     {
         self.lists.remove(task);
     }

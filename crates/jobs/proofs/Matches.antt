@@ -1,10 +1,12 @@
 -- What the matches of the words say of the job.
-use Rattle.std.proofs.Common.{◌≡◌, ◌∙◌, ap, refl, subst, true, List, ℕ, Option}
-use Rattle.clap.specs.Words.{App, Row, is_simple, takes, fault_of, is_simple_and_free, Kinds, subcommand_of, subcommand_rows_of, HasMatchesOf}
+use Rattle.std.proofs.Common.{◌≡◌, ◌∙◌, ap, refl, sym, subst, true, List, ℕ, Option, Some, None, Result, Ok, Err, option_map}
+use Rattle.std.specs.Prelude.{MatchResult}
+use Rattle.std.specs.Str.Parse.{ParsesUnsigned}
+use Rattle.clap.specs.Words.{TriesOne, App, Row, is_simple, takes, fault_of, is_simple_and_free, Kinds, subcommand_of, subcommand_rows_of, HasMatchesOf}
 use Rattle.clap.specs.declared.parser.matches.ArgMatches.{ArgMatches}
 use Rattle.clap.proofs.OnLiterals.{clap_on_literals}
 use Rattle.jobs.specs.declared.acting.Job.{Job}
-use Rattle.jobs.specs.Words.{IsJobOf, rtosim_app}
+use Rattle.jobs.specs.Words.{IsJobOf, IsNoNumber, number_of, rtosim_app}
 
 pub taken_as : (a b : App) (words : List (List ℕ)) (P : Type 0) → a ≡ b → (takes a words ≡ true → P) → takes b words ≡ true → P
 taken_as a b words P same gives took = gives (rw same took)
@@ -27,3 +29,13 @@ is_free-rtosim = refl
 pub kinds_as : (a : App) (words : List (List ℕ)) (P : Kinds → Type 0) → a ≡ rtosim_app
     → (is_simple_and_free a ≡ true → P (fault_of a words)) → P (fault_of rtosim_app words)
 kinds_as a words P same gives = subst (λ (x : App). is_simple_and_free x ≡ true → P (fault_of x words)) same gives is_free-rtosim
+
+-- A text that is read as a number is one.
+pub number_read : {E : Type 0} (gives : List ℕ → Result ℕ E → Type 0) (text : Option (List ℕ)) (r : Result (Option ℕ) E)
+    → ((t : List ℕ) (q : Result ℕ E) → gives t q → ParsesUnsigned 32 10 t q)
+    → (text ≡ None → r ≡ Ok None) → ((t : List ℕ) → text ≡ Some t → TriesOne gives t r)
+    → MatchResult r (λ n. option_map number_of text ≡ n) (λ _. IsNoNumber text)
+number_read gives None r parses none some = rw (none refl) refl
+number_read gives (Some t) (Ok (Some n)) parses none some = ap Some (sym (parses t (Ok n) (some t refl)).1)
+number_read gives (Some t) (Ok None) parses none some = absurd (some t refl)
+number_read gives (Some t) (Err e) parses none some = parses t (Err e) (some t refl)

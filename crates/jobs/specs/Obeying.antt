@@ -1,15 +1,15 @@
 -- What the program does for the words of its command line.
-use Rattle.std.specs.Prelude.{◌≡◌, ◌≢◌, ◌⊎◌, ℕ, Bool, true, false, List, [], Option, None, Result}
+use Rattle.std.specs.Prelude.{◌≡◌, ◌≢◌, ◌⊎◌, ℕ, Bool, true, false, List, [], Option, Result}
 use Rattle.std.specs.Io.KnownBytes.{Keeps}
 use Rattle.clap.specs.Words.{IsAmong, fault_of, subcommand_of}
 use Rattle.clap.specs.declared.error.kind.ErrorKind.{ErrorKind}
 use Rattle.clap.specs.declared.error.kind.ErrorKind.TheVariants.{DisplayHelp, DisplayVersion, OutOfMemory}
 use Rattle.model.specs.declared.event.End.{End}
 use Rattle.jobs.specs.declared.acting.Job.{Job}
-use Rattle.jobs.specs.declared.serve.ServeFault.{ServeFault}
+use Rattle.jobs.specs.declared.acting.JobFault.{JobFault}
+use Rattle.jobs.specs.declared.acting.JobFault.TheVariants.{Serve}
 use Rattle.jobs.specs.declared.serve.ServeFault.TheVariants.{Memory, Write}
-use Rattle.jobs.specs.Serving.{Serves}
-use Rattle.jobs.specs.Acting.{Tells, fault_line, file_of, status_of, told}
+use Rattle.jobs.specs.Acting.{OpensAndDoes, Tells, fault_line, status_of, told}
 use Rattle.jobs.specs.Words.{IsJobOf, rtosim_app}
 
 -- ---- words that name no job
@@ -26,7 +26,7 @@ shown_status true = 5
 -- what is told then: nothing, or that it can't be written
 abbrev pub ShownTells : (write_failed : Bool) → (old new : Option (List ℕ)) → (failed : Bool) → Type 0
 ShownTells false old new failed = Keeps old new × (failed ≡ false)
-ShownTells true old new failed = Tells old new failed (fault_line [] Write)
+ShownTells true old new failed = Tells old new failed (fault_line [] (Serve Write))
 
 -- Help or the version was asked for: a text is written.
 pub record Shows (kind : ErrorKind) (old new : Option (List ℕ)) (write_failed : Bool)
@@ -50,7 +50,7 @@ pub record RefusesWords (kind : ErrorKind) (old new : Option (List ℕ)) (write_
 -- No memory is left: this is told, and nothing is written.
 pub record LacksMemory (old new : Option (List ℕ)) (write_failed : Bool)
     (faults_old faults_new : Option (List ℕ)) (tell_failed : Bool) (status : ℕ) : Type 0 where
-  pub tells : Tells faults_old faults_new tell_failed (fault_line [] Memory)
+  pub tells : Tells faults_old faults_new tell_failed (fault_line [] (Serve Memory))
   pub keeps : Keeps old new
   pub working : write_failed ≡ false
   pub ends : status ≡ 4
@@ -71,10 +71,9 @@ pub record DoesJob (words : List (List ℕ)) (old new : Option (List ℕ)) (writ
   pub job : Job
   pub named : IsJobOf (subcommand_of rtosim_app words) job
   pub taken : fault_of rtosim_app words ≡ []
-  pub outcome : Result End ServeFault
-  pub read_failed : Bool
-  pub serves : Serves None read_failed old new write_failed outcome
-  pub tells : Tells faults_old faults_new tell_failed (told (file_of job) outcome)
+  pub outcome : Result End JobFault
+  pub does : OpensAndDoes job old new write_failed outcome
+  pub tells : Tells faults_old faults_new tell_failed (told job outcome)
   pub ends : status ≡ status_of outcome
 
 -- The words name no job, and are of this kind; or no memory is left.

@@ -1,9 +1,11 @@
 -- The words that the program takes.
-use Rattle.std.specs.Prelude.{◌≡◌, true, false, ℕ, List, map, codes, Option, Some, None}
+use Rattle.std.specs.Prelude.{◌≡◌, ◌<◌, ◌^◌, ◌⊎◌, true, false, ℕ, List, map, codes, pos, Option, Some, None, option_map}
 use Rattle.std.specs.Borrow.{Bor}
-use Rattle.clap.specs.Words.{App, Row, Rule, Text, new_app, new_rule, with_rule, with_subcommand, first_of, app_of, rule_of}
+use Rattle.std.specs.Str.Parse.{IsNumeral, digits_value, without_leading_plus}
+use Rattle.clap.specs.Words.{App, Row, Rule, Text, new_app, new_rule, with_rule, with_subcommand, first_of, one_of, app_of, rule_of}
 use Rattle.clap.specs.Simple.{on_top}
 use Rattle.clap.specs.declared.builder.ArgAction.TheVariants.{Set}
+use Rattle.clap.specs.declared.builder.value_parser.ValueParser.TheVariants.{Signed}
 use Rattle.clap.specs.declared.builder.arg.Arg.{Arg}
 use Rattle.clap.specs.declared.builder.command.Command.{Command}
 use Rattle.clap.specs.declared.builder.command.Command.TheViews.{out-Command as fields_of}
@@ -15,8 +17,21 @@ use Rattle.jobs.specs.declared.acting.Job.TheVariants.{Run}
 abbrev pub file_rule : Rule
 file_rule = record (new_rule (codes "FILE")) { required = true; action = Some Set }
 
+-- a number from 0 to 1000000
+abbrev pub at_rule : Rule
+at_rule = record (new_rule (codes "at")) {
+  long = Some (codes "at");
+  value_names = 1;
+  action = Some Set;
+  parser = Some (Signed (pos 0) (pos 1000000));
+}
+
+-- any text
+abbrev pub handler_rule : Rule
+handler_rule = record (new_rule (codes "handler")) { long = Some (codes "handler"); value_names = 1; action = Some Set }
+
 abbrev pub run_app : App
-run_app = with_rule (new_app (codes "run")) file_rule
+run_app = with_rule (with_rule (with_rule (new_app (codes "run")) file_rule) at_rule) handler_rule
 
 -- the program without its commands: one of them has to be named
 abbrev pub rtosim_top : App
@@ -40,20 +55,36 @@ texts_of words = map (λ word. word.now) words
 
 -- ---- the job
 
--- The job is to run the file that the words of `run` name.
+-- the number that a text reads as
+abbrev pub number_of : Text → ℕ
+number_of text = digits_value 10 (without_leading_plus text)
+
+-- The text is decimal digits, after a plus or not, of a number of 32 bits.
+abbrev pub IsNumber : Text → Type 0
+IsNumber text = IsNumeral 10 (without_leading_plus text) × (number_of text < 2 ^ 32)
+
+-- The job is to run the file that the words of `run` name, with the step and the handler that they name.
 abbrev pub IsRunOf : List Row → Job → Type 0
-IsRunOf rows (Run file) = first_of (codes "FILE") rows ≡ Some file.now
+IsRunOf rows (Run file at handler) =
+    (first_of (codes "FILE") rows ≡ Some file.now)
+    × (option_map number_of (one_of (codes "at") rows) ≡ at)
+    × (first_of (codes "handler") rows ≡ option_map (λ name. name.now) handler)
 
 -- The job is what the words name, by the command and its own words.
 abbrev pub IsJobOf : Option (Text × List Row) → Job → Type 0
 IsJobOf None job = ⊥
 IsJobOf (Some named) job = (named.0 ≡ codes "run") × IsRunOf named.1 job
 
--- The words of `run` name no file.
-abbrev pub NamesNoFile : List Row → Type 0
-NamesNoFile rows = first_of (codes "FILE") rows ≡ None
+-- There is a text, and it is no number.
+abbrev pub IsNoNumber : Option Text → Type 0
+IsNoNumber None = ⊥
+IsNoNumber (Some text) = IsNumber text → ⊥
+
+-- The words of `run` name no file, or a step that is no number.
+abbrev pub NamesNoRun : List Row → Type 0
+NamesNoRun rows = (first_of (codes "FILE") rows ≡ None) ⊎ IsNoNumber (one_of (codes "at") rows)
 
 -- The words name no job.
 abbrev pub NamesNoJob : Option (Text × List Row) → Type 0
 NamesNoJob None = Unit {0}
-NamesNoJob (Some named) = named.0 ≡ codes "run" → NamesNoFile named.1
+NamesNoJob (Some named) = named.0 ≡ codes "run" → NamesNoRun named.1

@@ -1,11 +1,13 @@
 //! A job of the program, over a source and two sinks.
-ghost use Rattle.std.specs.Prelude.{◌≡◌, ◌≢◌, ◌⊎◌, false, Bool, None, Result, Err};
+ghost use Rattle.std.specs.Prelude.{◌≡◌, ◌≢◌, ◌⊎◌, true, false, [], Result, Err, MatchResult};
 ghost use Rattle.std.specs.IoError.{error_kind};
 ghost use Rattle.model.specs.declared.event.End.{End};
 ghost use Rattle.jobs.specs.declared.serve.ServeFault.{ServeFault};
-ghost use Rattle.jobs.specs.Serving.{Serves};
-ghost use Rattle.jobs.specs.Acting.{Tells, fault_line, file_of, told, status_of};
+ghost use Rattle.jobs.specs.declared.acting.JobFault.{JobFault};
+ghost use Rattle.jobs.specs.declared.acting.JobFault.TheVariants as job_fault;
+ghost use Rattle.jobs.specs.Acting.{Does, OpensAndDoes, Tells, fault_line, is_unpaired, told, status_of};
 
+use crate::at::At;
 use crate::fault_line::tell;
 use crate::serve::{ServeFault, serve_run};
 use byte_io::{FromReader, Sink, Source};
@@ -18,64 +20,142 @@ use std::rt::Files;
 /// What the program is to do.
 #[derive(Clone, Copy, Debug, PartialEq, Eq)]
 pub enum Job<'a> {
-    /// Write the report of the run of this file's application.
-    Run { file: &'a str },
+    /// Write the report of the run of this file's application: the base run, or row 0, where the handler of this name is
+    /// injected before this step. A step and a handler go together.
+    Run {
+        file: &'a str,
+        at: Option<u32>,
+        handler: Option<&'a str>,
+    },
+}
+
+/// Why a job was not done, or not as a whole.
+#[derive(Clone, Copy, Debug, PartialEq, Eq)]
+pub enum JobFault {
+    /// The job has a step and no handler, or a handler and no step.
+    Unpaired,
+    /// What is asked for could not be served.
+    Serve(ServeFault),
+}
+
+impl From<ServeFault> for JobFault {
+    ghost from_gives = { λ fault given. given ≡ job_fault.Serve fault };
+
+    fn from(fault: ServeFault) -> JobFault {
+        JobFault::Serve(fault)
+    }
 }
 
 impl<'a> Job<'a> {
-    ghost use Rattle.jobs.specs.Acting.{file_of};
+    ghost use Rattle.jobs.specs.Acting.{file_of, handler_of, injection_of, is_unpaired, name_told};
 
     /// The name of the file that it reads.
     pub fn file(self) -> &'a str
         ensures { result.now ≡ file_of self.entry }
     {
-        match self {
-            Job::Run { file } => file,
+        let Job::Run { file, .. } = self;
+        file
+    }
+
+    // The name of the handler that it injects; empty where it has none.
+    fn handler(self) -> &'a str
+        ensures { result.now ≡ handler_of self.entry }
+    {
+        let Job::Run { handler, .. } = self;
+        handler.unwrap_or("")
+    }
+
+    // The name that the line of this fault tells.
+    fn name_told(self, fault: JobFault) -> &'a str
+        ensures { result.now ≡ name_told self.entry fault }
+    {
+        match fault {
+            JobFault::Serve(ServeFault::UnknownHandler) => self.handler(),
+            _ => self.file(),
+        }
+    }
+
+    // The injection that it asks for, if it asks for one. The error is `Unpaired`.
+    fn injection(self) -> Result<Option<At<'a>>, JobFault>
+        ensures { MatchResult result
+            (λ at. (is_unpaired self.entry ≡ false) × (at ≡ injection_of self.entry))
+            (λ fault. (is_unpaired self.entry ≡ true) × (fault ≡ job_fault.Unpaired)) }
+    {
+        let Job::Run { at, handler, .. } = self;
+        match (at, handler) {
+            (None, None) => Ok(None),
+            (Some(step), Some(handler)) => Ok(Some(At { step, handler })),
+            _ => Err(JobFault::Unpaired),
         }
     }
 }
 
-/// The status of a call of `serve_run`: 0 where the run passes, 1 where it does not, 3 where the file has a fault or
-/// can't be read, 4 for want of memory, 5 where the report can't be written.
-pub fn status_of(outcome: Result<End, ServeFault>) -> u8
+/// The status of a job: 0 where the run that it wrote passes, 1 where it does not, 2 where a step and a handler don't go
+/// together or the handler is unknown, 3 where the file has a fault or can't be read, 4 for want of memory, 5 where the report
+/// can't be written.
+pub fn status_of(outcome: Result<End, JobFault>) -> u8
     ensures { result ≡ status_of outcome }
 {
     match outcome {
         Ok(End::Pass) => 0,
         Ok(_) => 1,
-        Err(ServeFault::Read | ServeFault::NotToml | ServeFault::Load(_)) => 3,
-        Err(ServeFault::Memory) => 4,
-        Err(ServeFault::Write) => 5,
+        Err(JobFault::Unpaired | JobFault::Serve(ServeFault::UnknownHandler)) => 2,
+        Err(JobFault::Serve(ServeFault::Read | ServeFault::NotToml | ServeFault::Load(_))) => 3,
+        Err(JobFault::Serve(ServeFault::Memory)) => 4,
+        Err(JobFault::Serve(ServeFault::Write)) => 5,
     }
 }
 
-/// Tells the fault of a job, or of words that are of no job, where `file` is empty. Answers its status.
-pub fn refuse<F: Sink>(faults: &mut F, file: &str, fault: ServeFault) -> u8
+/// Tells a fault of words that are of no job. Answers its status.
+pub fn refuse<F: Sink>(faults: &mut F, fault: ServeFault) -> u8
     requires { F.has_failed faults.old ≡ false }
     ensures told { Tells (F.held faults.old) (F.held faults.new) (F.has_failed faults.new)
-        (fault_line file.now fault) }
-    ensures status { result ≡ status_of (Err fault) }
+        (fault_line [] (job_fault.Serve fault)) }
+    ensures status { result ≡ status_of (Err (job_fault.Serve fault)) }
 {
-    tell(faults, file, fault);
-    status_of(Err(fault))
+    tell(faults, "", JobFault::Serve(fault));
+    status_of(Err(JobFault::Serve(fault)))
 }
 
 /// Ends a job of this outcome: tells its fault, if it has one, and answers its status. That the line can't be put
 /// changes nothing of the status.
-pub fn conclude<F: Sink>(job: &Job<'_>, faults: &mut F, outcome: Result<End, ServeFault>) -> u8
+pub fn conclude<F: Sink>(job: &Job<'_>, faults: &mut F, outcome: Result<End, JobFault>) -> u8
     requires { F.has_failed faults.old ≡ false }
     ensures told { Tells (F.held faults.old) (F.held faults.new) (F.has_failed faults.new)
-        (told (file_of job.now) outcome) }
+        (told job.now outcome) }
     ensures status { result ≡ status_of outcome }
 {
-    match outcome {
-        Ok(_) => status_of(outcome),
-        Err(fault) => refuse(faults, job.file(), fault),
+    if let Err(fault) = outcome {
+        tell(faults, job.name_told(fault), fault);
+    }
+    status_of(outcome)
+}
+
+// Reads the file of the job from `reader`, and writes to `writer` what the job asks for. Nothing is read where its step and its
+// handler don't go together.
+fn serve_job<R: Source, W: Sink>(
+    alloc: Global,
+    job: &Job<'_>,
+    reader: &mut R,
+    writer: &mut W,
+) -> Result<End, JobFault>
+    requires reads { R.has_failed reader.old ≡ false }
+    requires writes { W.has_failed writer.old ≡ false }
+    ensures does { Does job.now (R.left reader.old) (R.has_failed reader.new)
+        (W.held writer.old) (W.held writer.new) (W.has_failed writer.new) result }
+    ensures unread { is_unpaired job.now ≡ true → R.left reader.new ≡ R.left reader.old }
+{
+    let at = job.injection()?;
+    match serve_run(alloc, reader, writer, at) {
+        Ok(end) => Ok(end),
+        Err(fault) => Err(JobFault::Serve(fault)),
     }
 }
 
 /// Does the job: reads its file from `reader`, and writes to `writer` what the job asks for. Answers the status that the
 /// program ends with, and puts the line of a fault, if any, to `faults`; that this fails changes nothing.
+///
+/// Where the job's step and its handler don't go together, nothing is read.
 pub fn act<R: Source, W: Sink, F: Sink>(
     alloc: Global,
     job: &Job<'_>,
@@ -86,14 +166,14 @@ pub fn act<R: Source, W: Sink, F: Sink>(
     requires reads { R.has_failed reader.old ≡ false }
     requires writes { W.has_failed writer.old ≡ false }
     requires tells { F.has_failed faults.old ≡ false }
-    ensures { (outcome : Result End ServeFault)
-        × Serves (R.left reader.old) (R.has_failed reader.new)
+    ensures does { (outcome : Result End JobFault)
+        × Does job.now (R.left reader.old) (R.has_failed reader.new)
         (W.held writer.old) (W.held writer.new) (W.has_failed writer.new) outcome
-        × Tells (F.held faults.old) (F.held faults.new) (F.has_failed faults.new)
-        (told (file_of job.now) outcome)
+        × Tells (F.held faults.old) (F.held faults.new) (F.has_failed faults.new) (told job.now outcome)
         × (result ≡ status_of outcome) }
+    ensures unread { is_unpaired job.now ≡ true → R.left reader.new ≡ R.left reader.old }
 {
-    let outcome = serve_run(alloc, reader, writer);
+    let outcome = serve_job(alloc, job, reader, writer);
     conclude(job, faults, outcome)
 }
 
@@ -111,7 +191,8 @@ fn fault_of(error: &io::Error) -> ServeFault
 }
 
 /// Opens the file of the job, and does the job over it and the two sinks. A file that can't be opened is one that can't be
-/// read. The contract says of the file's bytes that there are such; that they are those of the file, the tests show.
+/// read, also where the job's step and handler don't go together. The contract says of the file's bytes that there are such;
+/// that they are those of the file, the tests show.
 pub fn open_and_act<S: Files, W: Sink, F: Sink>(
     alloc: Global,
     files: &S,
@@ -121,15 +202,13 @@ pub fn open_and_act<S: Files, W: Sink, F: Sink>(
 ) -> u8
     requires writes { W.has_failed writer.old ≡ false }
     requires tells { F.has_failed faults.old ≡ false }
-    ensures { (outcome : Result End ServeFault) × (read_failed : Bool)
-        × Serves None read_failed
-        (W.held writer.old) (W.held writer.new) (W.has_failed writer.new) outcome
-        × Tells (F.held faults.old) (F.held faults.new) (F.has_failed faults.new)
-        (told (file_of job.now) outcome)
+    ensures { (outcome : Result End JobFault)
+        × OpensAndDoes job.now (W.held writer.old) (W.held writer.new) (W.has_failed writer.new) outcome
+        × Tells (F.held faults.old) (F.held faults.new) (F.has_failed faults.new) (told job.now outcome)
         × (result ≡ status_of outcome) }
 {
     match File::open(files, job.file()) {
         Ok(file) => act(alloc, job, &mut FromReader::new(file), writer, faults),
-        Err(error) => conclude(job, faults, Err(fault_of(&error))),
+        Err(error) => conclude(job, faults, Err(JobFault::Serve(fault_of(&error)))),
     }
 }

@@ -5,7 +5,9 @@ ghost use Rattle.arrayvec.specs.ArrayVec.{array_vec_len};
 ghost use Rattle.byte_io.specs.Line.{piece_text};
 ghost use Rattle.script.specs.Faults.{fault_name, place_words, word_text};
 ghost use Rattle.jobs.specs.Acting.{fault_pieces, load_pieces, Tells, fault_line};
+ghost use Rattle.jobs.specs.declared.acting.JobFault.TheVariants as job_fault;
 
+use crate::acting::JobFault;
 use crate::serve::ServeFault;
 use arrayvec::ArrayVec;
 use byte_io::{Piece, Sink, write_line};
@@ -79,31 +81,49 @@ fn push_load<'a>(pieces: &mut Pieces<'a>, fault: LoadFault)
     }
 }
 
-// The pieces of a fault's line.
-fn pieces_of<'a>(file: &'a str, fault: ServeFault) -> Pieces<'a>
-    ensures { map piece_text result.items ≡ fault_pieces file.entry.now fault }
+// The pieces of the line of a fault in serving.
+fn serve_pieces<'a>(name: &'a str, fault: ServeFault) -> Pieces<'a>
+    ensures { map piece_text result.items ≡ fault_pieces name.entry.now (job_fault.Serve fault) }
 {
     let mut pieces = Pieces::new();
     match fault {
         ServeFault::Read => {
             pieces.push(Piece::Text("rtosim: cannot read"));
-            pieces.push(Piece::Text(file));
+            pieces.push(Piece::Text(name));
         }
         ServeFault::NotToml => pieces.push(Piece::Text("rtosim: not TOML")),
         ServeFault::Load(fault) => push_load(&mut pieces, fault),
+        ServeFault::UnknownHandler => {
+            pieces.push(Piece::Text("rtosim: unknown handler"));
+            pieces.push(Piece::Text(name));
+        }
         ServeFault::Memory => pieces.push(Piece::Text("rtosim: out of memory")),
         ServeFault::Write => pieces.push(Piece::Text("rtosim: cannot write")),
     }
     pieces
 }
 
-/// Puts the line of a fault of this file. Where the sink fails, or takes none of some bytes, it has taken a beginning
-/// of the line.
-pub fn tell<F: Sink>(faults: &mut F, file: &str, fault: ServeFault)
+// The pieces of a fault's line.
+fn pieces_of<'a>(name: &'a str, fault: JobFault) -> Pieces<'a>
+    ensures { map piece_text result.items ≡ fault_pieces name.entry.now fault }
+{
+    match fault {
+        JobFault::Unpaired => {
+            let mut pieces = Pieces::new();
+            pieces.push(Piece::Text("rtosim: --at and --handler go together"));
+            pieces
+        }
+        JobFault::Serve(fault) => serve_pieces(name, fault),
+    }
+}
+
+/// Puts the line of a fault, which may tell this name: of a handler that is unknown, or of a file that can't be read. Where the
+/// sink fails, or takes none of some bytes, it has taken a beginning of the line.
+pub fn tell<F: Sink>(faults: &mut F, name: &str, fault: JobFault)
     requires { F.has_failed faults.old ≡ false }
     ensures { Tells (F.held faults.old) (F.held faults.new) (F.has_failed faults.new)
-        (fault_line file.now fault) }
+        (fault_line name.now fault) }
 {
-    let pieces = pieces_of(file, fault);
+    let pieces = pieces_of(name, fault);
     let _ = write_line(faults, pieces.as_slice());
 }

@@ -26,7 +26,7 @@ fn show<W: Sink, F: Sink>(text: &str, writer: &mut W, faults: &mut F) -> u8
 {
     match put_all(writer, text.as_bytes()) {
         Ok(()) => 0,
-        Err(WriteFault) => refuse(faults, "", ServeFault::Write),
+        Err(WriteFault) => refuse(faults, ServeFault::Write),
     }
 }
 
@@ -55,10 +55,10 @@ pub fn conclude_error<W: Sink, F: Sink>(
         (F.held faults.old) (F.held faults.new) (F.has_failed faults.new) result }
 {
     if error.kind() == ErrorKind::OutOfMemory {
-        return refuse(faults, "", ServeFault::Memory);
+        return refuse(faults, ServeFault::Memory);
     }
     let Ok(text) = error.to_string(alloc) else {
-        return refuse(faults, "", ServeFault::Memory);
+        return refuse(faults, ServeFault::Memory);
     };
     if error.use_stderr() {
         refuse_words(text.as_str(), faults)

@@ -1,17 +1,18 @@
 //! The words of the command line.
-ghost use Rattle.std.specs.Prelude.{◌≡◌, IfOk, IfErr, IfSome, IsNone, true, map, option_map};
-ghost use Rattle.clap.specs.Words.{takes, kind_of, subcommand_of, first_of, found_of, rows_of, subcommand_rows_of, fault_of, FailsBy};
+ghost use Rattle.std.specs.Prelude.{◌≡◌, IfOk, IfErr, IfSome, IsNone, MatchResult, true, map, option_map};
+ghost use Rattle.clap.specs.Words.{takes, kind_of, subcommand_of, first_of, one_of, found_of, rows_of, subcommand_rows_of, fault_of, FailsBy};
 ghost use Rattle.clap.specs.declared.error.kind.ErrorKind.TheVariants.{OutOfMemory};
-ghost use Rattle.jobs.specs.Words.{file_rule, run_app, rtosim_top, rtosim_app, texts_of, IsCommandOf, IsArgOf, IsRunOf, IsJobOf, NamesNoFile, NamesNoJob};
+ghost use Rattle.jobs.specs.Words.{file_rule, at_rule, handler_rule, run_app, rtosim_top, rtosim_app, texts_of, number_of, IsCommandOf, IsArgOf, IsRunOf, IsJobOf, IsNoNumber, NamesNoRun, NamesNoJob};
 
 use crate::acting::Job;
-use clap::{Arg, ArgAction, ArgMatches, Command, Error};
+use clap::{Arg, ArgAction, ArgMatches, Command, Error, value_parser};
 use std::alloc::{AllocError, Global};
+use std::num::ParseIntError;
 
 const STATUSES: &str = "Exit status:
   0  the run passes, or help or the version was asked for
   1  the run ends in another way: its head line says how
-  2  the words of the command line are refused
+  2  the words of the command line are refused, or no handler has the name
   3  the file can't be read, is not TOML, or describes no application
   4  no memory is left
   5  the trace can't be written";
@@ -25,13 +26,36 @@ fn file_argument<'a>(alloc: Global) -> Arg<'a>
         .help("The application, a TOML file")
 }
 
+fn at_argument<'a>(alloc: Global) -> Arg<'a>
+    ensures { IsArgOf at_rule result }
+{
+    Arg::new(alloc, "at")
+        .long("at")
+        .value_name("STEP")
+        .action(ArgAction::Set)
+        .value_parser(value_parser!(u32).range(..=1_000_000))
+        .help("The step, 0 to 1000000, before which the handler is injected")
+}
+
+fn handler_argument<'a>(alloc: Global) -> Arg<'a>
+    ensures { IsArgOf handler_rule result }
+{
+    Arg::new(alloc, "handler")
+        .long("handler")
+        .value_name("HANDLER")
+        .action(ArgAction::Set)
+        .help("The handler that is injected, by its name in the file")
+}
+
 fn run_command<'a>(alloc: Global) -> Result<Command<'a>, AllocError>
     ensures { IfOk result (λ command. IsCommandOf run_app command) }
 {
     Command::new(alloc, "run")
         .about("Runs an application from reset to its end, and writes the trace")
         .after_help(STATUSES)
-        .arg(file_argument(alloc))
+        .arg(file_argument(alloc))?
+        .arg(at_argument(alloc))?
+        .arg(handler_argument(alloc))
 }
 
 // The program without its commands.
@@ -57,13 +81,26 @@ fn text<'a>(matches: &ArgMatches<'a>, id: &str) -> Option<&'a str>
     matches.get_str(id)
 }
 
+// The number of this id, if there is one. At `Err` its text is none.
+fn number(matches: &ArgMatches<'_>, id: &str) -> Result<Option<u32>, ParseIntError>
+    ensures { MatchResult result
+        (λ number. option_map number_of (one_of id.now (rows_of (found_of matches.now))) ≡ number)
+        (λ _. IsNoNumber (one_of id.now (rows_of (found_of matches.now)))) }
+{
+    matches.try_get_one::<u32>(id)
+}
+
 // The job of the command `run`.
 fn run_job<'a>(matches: &ArgMatches<'a>) -> Option<Job<'a>>
     ensures job { IfSome result (IsRunOf (rows_of (found_of matches.now))) }
-    ensures none { IsNone result → NamesNoFile (rows_of (found_of matches.now)) }
+    ensures none { IsNone result → NamesNoRun (rows_of (found_of matches.now)) }
 {
     let file = text(matches, "FILE")?;
-    Some(Job::Run { file })
+    let Ok(at) = number(matches, "at") else {
+        return None;
+    };
+    let handler = text(matches, "handler");
+    Some(Job::Run { file, at, handler })
 }
 
 fn job_of<'a>(matches: &ArgMatches<'a>) -> Option<Job<'a>>

@@ -22,6 +22,7 @@ use Rattle.sched.specs.Schedule.{Schedule, block}
 use Rattle.sched.proofs.Standing as on_sched
 use Rattle.clock.specs.Timeline.{Timeline}
 use Rattle.objects.specs.Queues.{Exchange, SameWaits}
+use Rattle.objects.specs.Items.{object_in}
 use Rattle.objects.proofs.Kept.{stands_same}
 use Rattle.objects.proofs.Awake.{at_locked_same}
 use Rattle.model.specs.Invariant.{IsTable}
@@ -212,11 +213,15 @@ agrees_after k new log new_log a deed does =
     let s : State = record (a.0) { log = log } in
     (deed s, (does s (record { stands = stands-told k a.0 a.1 log; log = refl })).stands)
 
-pub can_tick_still : (k new : Kernel) → CanTick k → new.clock ≡ k.clock → new.queues ≡ k.queues → (deed : State → State) → Moves k new deed → CanTick new
-can_tick_still k new c same queues deed does = record {
-  agrees = agrees_after k new [] [] c.agrees deed (λ s h. does [] s h);
-  free = ap (λ (q : Exchange). q.lock) queues ∙ c.free;
-  age = let e = ap (λ (t : Timeline). t.age) same in let l = c.age in omega arith;
+pub can_tick_still : (app : Application) (k new : Kernel) → CanTick app k → new.sched.depth ≡ k.sched.depth → new.clock ≡ k.clock → new.queues ≡ k.queues → (deed : State → State) → Moves k new deed → CanTick app new
+can_tick_still app k new c depth clock queues deed does = record {
+  advance = record {
+    agrees = agrees_after k new [] [] c.advance.agrees deed (λ s h. does [] s h);
+    free = ap (λ (q : Exchange). q.lock) queues ∙ c.advance.free;
+    age = let e = ap (λ (t : Timeline). t.age) clock in let l = c.advance.age in omega arith;
+  };
+  depth = depth ∙ c.depth;
+  lengths = λ o a fit. subst (λ (q : Exchange). 0 < (object_in q.objects o).size) (sym queues) (c.lengths o a fit);
 }
 
 -- ---- the task goes on at an op

@@ -34,8 +34,9 @@ use Rattle.kernel.specs.declared.kernel.Kernel.{Kernel}
 use Rattle.kernel.specs.StandsFor.{progress_in, StandsFor}
 use Rattle.kernel.specs.Boot.{priorities_in, HasNoneFrom}
 use Rattle.kernel.proofs.Parts.{clock-same, ready_alike}
-use Rattle.kernel.proofs.Waking.{has_node-added, progress-all_ready}
-use Rattle.model.specs.Invariant.{Hold, IsTable}
+use Rattle.sched.proofs.LinedUp.{ready_made}
+use Rattle.kernel.proofs.Waking.{progress-all_ready}
+use Rattle.model.specs.Invariant.{Hold, Hold, IsTable}
 use Rattle.model.proofs.Reached.{call-reset}
 use Rattle.model.proofs.Sound.{free_unwoken}
 use Rattle.objects.specs.Queues as queues
@@ -182,7 +183,7 @@ pub none_more : (v new : Schedule) (j : ℕ) → new ≡ schedule.make_ready j v
 none_more v new j is h task le =
     let P : Schedule → Type 0 = λ x. schedule.is_ready x task ≡ false in
     let ne : task ≢ j = omega arith in
-    subst P (sym is) (has_node-added task (j, priority_in v.priorities j) v.ready ne ∙ h task (omega arith))
+    subst P (sym is) (ready_made v j task ne ∙ h task (omega arith))
 
 pub none_less : (v : Schedule) (j : ℕ) → HasNoneFrom j v → HasNoneFrom (j + 1) v
 none_less v j h task le = h task (omega arith)
@@ -252,7 +253,7 @@ module _ (app : Application) where
 
 pub booted : (app : Application) → IsWellFormed app → (k : Kernel) (v w : Schedule) → StandsFor k (nobody_ready app)
     → sched.StandsFor v (for_each make_ready (with_ops 0 app.tasks) (nobody_ready app))
-    → ((s : State) → sched.StandsFor v s → sched.StandsFor w (choose s))
+    → ((s : State) → sched.StandsFor v s → s.call_hold ≡ false → sched.StandsFor w (choose s))
     → StandsFor (record k { sched = w }) (reset app)
 unfolding reset ready_at_reset nobody_ready NobodyAsleep
 booted app formed k v w h ready chooses =
@@ -261,8 +262,8 @@ booted app formed k v w h ready chooses =
     let s : State = for_each make_ready is none in
     let low : AllByRecursion (λ i. i < length none.tasks) is = with_ops_within 0 (length none.tasks) app.tasks (let n : length none.tasks ≡ length app.tasks = length-map app.tasks (task_at_reset app.start) in omega arith) in
     let awake : (i : ℕ) → wake_time_of (status_at none i) ≡ None = ended_at_reset app.start app.tasks in
-    let on = sched_chosen w s (chooses s ready) in
     let keep = keeps-all_ready is none in
+    let on = sched_chosen w s (chooses s ready (ap (λ (h : Hold). h.held) keep.hold)) in
     let same : SameWaits none (reset app) = same_at_reset app in
     let c : clock.StandsFor k.clock s = clock-all_ready k.clock is none h.rest.clock awake low in
     record {

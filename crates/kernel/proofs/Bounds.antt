@@ -1,5 +1,5 @@
 -- A kernel whose run goes on keeps within the numbers of the code.
-use Rattle.std.proofs.Common.{◌≡◌, ◌≢◌, ◌<◌, ◌≤◌, ◌+◌, ℕ, Bool, true, false, cond, leb, ◌&&◌, length, Option, Some, None, refl, ap, sym, subst, ◌∙◌, arith}
+use Rattle.std.proofs.Common.{◌≡◌, ◌≢◌, ◌<◌, ◌≤◌, ◌+◌, ℕ, Bool, true, false, cond, leb, ◌&&◌, List, length, Option, Some, None, refl, ap, sym, subst, ◌∙◌, arith}
 use Rattle.std.specs.Prelude.{if◌then◌else◌}
 use Rattle.std.proofs.lemmas.Bool.{ltb-true}
 use Rattle.std.proofs.lemmas.Bool.Decides.{nat_tests}
@@ -20,15 +20,17 @@ use Rattle.model.specs.Run.{end_of, or_else, are_all_ended, is_stuck, state_afte
 use Rattle.model.specs.Invariant.{IsState, IsUsedBy, IsRunning, IsPlacing, IsWaitOf, RunsIn, awaited, hold_of, holds}
 use Rattle.model.proofs.InScripts.{script_formed, stands_at, known_at, range_at}
 use Rattle.model.proofs.Sound.{ready_reckoned}
-use Rattle.model.proofs.Reached.{reached_after, start_only}
+use Rattle.model.proofs.Frames.{keeps-before_step}
+use Rattle.model.proofs.Reached.{reached_after, reached_before_step, start_only}
+use Rattle.model.specs.Step.{before_step}
 use Rattle.sched.proofs.Standing as on_sched
 use Rattle.objects.specs.declared.lock.Lock.{Lock}
 use Rattle.objects.specs.Queues.{locked_by}
 use Rattle.objects.proofs.Sizes.{can_hold_in}
 use Rattle.kernel.specs.declared.kernel.Kernel.{Kernel}
-use Rattle.kernel.specs.StandsFor.{StandsFor, StandsBefore, Stands, progress_in}
+use Rattle.kernel.specs.StandsFor.{StandsFor, StandsBefore, Stands, decider, progress_in}
 use Rattle.kernel.specs.StandsFor.Stands.{Placed, Placing}
-use Rattle.kernel.specs.Can.{Runs, HasLoopRoom, HasLength, HasObject, CanTick, Can, IsAhead, IsInCall, CanTry, IsShort, CanPlace, CanGoOn, CanOp, CanAct, CanStep}
+use Rattle.kernel.specs.Can.{Runs, HasLoopRoom, HasLength, HasObject, HasLengths, CanTick, Can, IsAhead, IsInCall, CanTry, IsShort, CanPlace, CanGoOn, CanOp, CanAct, CanStep, StandsForSome}
 use Rattle.kernel.proofs.Either.{age_is, now_is, current_is, progress_is}
 
 leb-less : (a b : ℕ) → leb a b ≡ false → b < a
@@ -100,23 +102,21 @@ some_held : (b : Bool) (depth : ℕ) → depth ≡ (if b then 1 else 0) → b �
 some_held true depth e t = omega arith
 some_held false depth e t = absurd (cc)
 
-module _ (app : Application) (formed : IsWellFormed app) (k : Kernel) (c : CanStep app k) where
-  abbrev state : State
-  state = state_after app c.plan c.steps
-
-  reached : IsState app state
-  reached = reached_after app formed c.plan c.steps
-
-  age_low : k.clock.age < 1000000
-  age_low = let e = age_is k state c.stands in let l = (below_limits app c.limits state c.goes_on).0 in let m = c.tick_limit in omega arith
-
+-- the kernel stands for a state of a run, early enough
+module _ (app : Application) (formed : IsWellFormed app) (k : Kernel) (state : State) (reached : IsState app state) (stands : Stands k state) (age_low : k.clock.age < 1000000) where
   time_low : k.clock.now < 4294967296 + 1000000
-  time_low = let e = now_is k state c.stands in let f = age_is k state c.stands in let l = age_low in let m = reached.sound.time in let n = formed.start in omega arith
+  time_low = let e = now_is k state stands in let f = age_is k state stands in let l = age_low in let m = reached.sound.time in let n = formed.start in omega arith
+
+  pub lengths : HasLengths app k
+  lengths object access fit = by_stands stands where
+    by_stands : Stands k state → HasLength k object
+    by_stands (Placed h) = can_hold_in app (hold_of state) k.queues None state object access formed reached.sound h.rest.queues fit
+    by_stands (Placing task list b) = can_hold_in app (hold_of state) k.queues (Some (decider task list state)) state object access formed reached.sound b.queues fit
 
   -- nobody holds the scheduler
   module _ (free : state.call_hold ≡ false) where
     placed : StandsFor k state
-    placed = by_stands c.stands where
+    placed = by_stands stands where
       by_stands : Stands k state → StandsFor k state
       by_stands (Placed h) = h
       by_stands (Placing task list b) = let held = b.held in absurd (cc)
@@ -127,21 +127,18 @@ module _ (app : Application) (formed : IsWellFormed app) (k : Kernel) (c : CanSt
     not_held : k.sched.depth ≡ 0
     not_held = none_held state.call_hold k.sched.depth placed.sched.depth free
 
-    can_tick : CanTick k
-    can_tick = record { agrees = (state, placed); free = no_lock; age = let l = age_low in omega arith }
-
-    long : (object : ℕ) (access : Access) → fits_object app object access ≡ true → HasLength k object
-    long object access fit = can_hold_in app (hold_of state) k.queues None state object access formed reached.sound placed.rest.queues fit
+    can_tick : CanTick app k
+    can_tick = record { advance = record { agrees = (state, placed); free = no_lock; age = let l = age_low in omega arith }; depth = not_held; lengths = lengths }
 
   idle_free : k.sched.current ≡ None → state.call_hold ≡ false
-  idle_free idle = subst (RunsIn state) (sym (current_is k state c.stands) ∙ idle) reached.runs
+  idle_free idle = subst (RunsIn state) (sym (current_is k state stands) ∙ idle) reached.runs
 
   module _ (task : TaskId) (runs : k.sched.current ≡ Some task) where
     same : progress_in k.progress task ≡ progress_at state task
-    same = progress_is k state c.stands task
+    same = progress_is k state stands task
 
     on : state.current ≡ Some task
-    on = sym (current_is k state c.stands) ∙ runs
+    on = sym (current_is k state stands) ∙ runs
 
     running : IsRunning state task
     running = subst (RunsIn state) on reached.runs
@@ -179,20 +176,20 @@ module _ (app : Application) (formed : IsWellFormed app) (k : Kernel) (c : CanSt
         previous =
             let lower = ready_reckoned state.time (progress_at state task).previous_wake (status_at state task) (reached.sound.progress task).reckoned (running.ready free) in
             let H : Progress → Type 0 = λ p. p.previous_wake ≤ k.clock.now in
-            subst H (sym same) (rw (now_is k state c.stands) lower)
+            subst H (sym same) (rw (now_is k state stands) lower)
 
-        can : IsBrief op → Can k task op
+        can : IsBrief op → Can app k task op
         can brief = record {
           runs = runs_on;
           tick = can_tick free;
           used = used;
           nesting = nesting;
-          object = known_object app op brief known k (long free);
+          object = known_object app op brief known k lengths;
           previous_wake = previous;
           time = let l = time_low in omega arith;
         }
 
-      brief_can : IsBrief op → Can k task op
+      brief_can : IsBrief op → Can app k task op
       brief_can brief = can (start_only app formed state task reached on op brief at_op) brief
 
     -- a call that waits
@@ -207,7 +204,7 @@ module _ (app : Application) (formed : IsWellFormed app) (k : Kernel) (c : CanSt
       fit = and_left (fits_object app object access) _ (known (Await object access ticks) is)
 
       can_try : state.call_hold ≡ false → CanTry k task object
-      can_try free = record { runs = runs_on (Await object access ticks) is free; agrees = (state, placed free); free = no_lock free; length = long free object access fit }
+      can_try free = record { runs = runs_on (Await object access ticks) is free; agrees = (state, placed free); free = no_lock free; depth = not_held free; length = lengths object access fit }
 
       in_state : (wait : Option Wait) (deadline : Option ℕ) → IfSome wait (λ w. IsWaitOf (op_at app task (progress_at state task).op_index) deadline w) → IsPlacing state.time (task_at state task) wait → IfSome deadline (λ d. d < state.time + 4294967296) → IsAhead state.time deadline
       in_state None deadline w p near = absurd p
@@ -219,11 +216,11 @@ module _ (app : Application) (formed : IsWellFormed app) (k : Kernel) (c : CanSt
       deadline_near : (call_at state task).phase ≡ Place → IsAhead k.clock.now (progress_in k.progress task).call.deadline
       deadline_near e =
           let D : Progress → Type 0 = λ p. IsAhead k.clock.now p.call.deadline in
-          subst D (sym same) (subst (λ (now : ℕ). IsAhead now (call_at state task).deadline) (sym (now_is k state c.stands)) (in_state (wait_of (status_at state task)) (call_at state task).deadline (reached.sound.calls task).wait (running.placing e) (reached.sound.calls task).near))
+          subst D (sym same) (subst (λ (now : ℕ). IsAhead now (call_at state task).deadline) (sym (now_is k state stands)) (in_state (wait_of (status_at state task)) (call_at state task).deadline (reached.sound.calls task).wait (running.placing e) (reached.sound.calls task).near))
 
       -- where it is to be placed, it is this task
       before : (call_at state task).phase ≡ Place → CanPlace k task
-      before e = by_stands c.stands where
+      before e = by_stands stands where
         by_stands : Stands k state → CanPlace k task
         by_stands (Placed h) = absurd (h.rest.placed task (ap (λ (p : Progress). p.call.phase) (h.rest.progress task) ∙ e))
         by_stands (Placing other list b) =
@@ -237,7 +234,7 @@ module _ (app : Application) (formed : IsWellFormed app) (k : Kernel) (c : CanSt
 
       -- where it is to be unlocked or left, every task is placed
       in_call : (phase : Phase) → (call_at state task).phase ≡ phase → phase ≢ Place → IsInCall k task
-      in_call phase e off = by_stands c.stands where
+      in_call phase e off = by_stands stands where
         by_stands : Stands k state → IsInCall k task
         by_stands (Placed h) = record { current = runs; agrees = (state, h) }
         by_stands (Placing other list b) =
@@ -246,7 +243,7 @@ module _ (app : Application) (formed : IsWellFormed app) (k : Kernel) (c : CanSt
             absurd (off (sym e ∙ there))
 
       depth_in : IsInCall k task → state.call_hold ≡ true → 0 < k.sched.depth
-      depth_in _ held = by_stands c.stands where
+      depth_in _ held = by_stands stands where
         by_stands : Stands k state → 0 < k.sched.depth
         by_stands (Placed h) = some_held state.call_hold k.sched.depth h.sched.depth held
         by_stands (Placing other list b) = some_held state.call_hold k.sched.depth b.sched.depth held
@@ -263,7 +260,7 @@ module _ (app : Application) (formed : IsWellFormed app) (k : Kernel) (c : CanSt
           let there = in_call Leave e (λ q. absurd (cc)) in
           record { call = there; held = depth_in there (held_in Leave e refl) }
 
-    can_op : (op : Op) → op_at app task (progress_in k.progress task).op_index ≡ Some op → CanOp k task op
+    can_op : (op : Op) → op_at app task (progress_in k.progress task).op_index ≡ Some op → CanOp app k task op
     can_op (Work n) is = brief_can (Work n) is refl
     can_op (Delay n) is = brief_can (Delay n) is refl
     can_op (DelayUntil n) is = brief_can (DelayUntil n) is refl
@@ -280,3 +277,27 @@ module _ (app : Application) (formed : IsWellFormed app) (k : Kernel) (c : CanSt
 
   pub can_act : CanAct app k
   can_act = record { tick = λ idle. can_tick (idle_free idle); op = λ task op runs is. can_op task runs op is }
+
+-- ---- before a step, and after the handlers that come before it
+
+module _ (app : Application) (formed : IsWellFormed app) (k : Kernel) (c : CanStep app k) where
+  abbrev now : State
+  now = state_after app c.plan c.steps
+
+  reached_now : IsState app now
+  reached_now = reached_after app formed c.plan c.steps
+
+  age_now : k.clock.age < 1000000
+  age_now = let e = age_is k now c.stands in let l = (below_limits app c.limits now c.goes_on).0 in let m = c.tick_limit in omega arith
+
+  pub stood : StandsForSome k
+  stood = (now, c.stands)
+
+  pub long_enough : HasLengths app k
+  long_enough = lengths app formed k now reached_now c.stands age_now
+
+  pub can_act_after : (handlers : List ℕ) (new : Kernel) → Stands new (before_step app handlers now) → CanAct app new
+  can_act_after handlers new h =
+      let age : (before_step app handlers now).elapsed ≡ now.elapsed = (keeps-before_step app handlers now).elapsed in
+      let low : new.clock.age < 1000000 = (let e = age_is new (before_step app handlers now) h in let f = age_is k now c.stands in let l = age_now in omega arith) in
+      can_act app formed new (before_step app handlers now) (reached_before_step app formed handlers now reached_now) h low

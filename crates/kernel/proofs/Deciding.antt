@@ -1,5 +1,5 @@
 -- Where a call decides to wait, and is placed: what that makes of the states that the kernel stands for.
-use Rattle.std.proofs.Common.{◌≡◌, ◌≢◌, ◌<◌, ◌+◌, ◌-◌, ◌||◌, ℕ, Bool, true, false, eqb, set, List, length, get_or, get_or-set_same, get_or-set_other, Option, Some, None, refl, ap, sym, subst, ◌∙◌, arith}
+use Rattle.std.proofs.Common.{◌≡◌, ◌≢◌, ◌<◌, ◌+◌, ◌||◌, ℕ, Bool, true, false, eqb, set, List, [], length, get_or, get_or-set_same, get_or-set_other, Option, Some, None, refl, ap, sym, subst, ◌∙◌, arith}
 use Rattle.std.specs.Prelude.{if◌then◌else◌}
 use Rattle.std.specs.Option.{IfSome, is_some}
 use Rattle.std.proofs.Math.ListN.{length-set}
@@ -19,7 +19,7 @@ use Rattle.model.proofs.Lists.{eqb-refl, eqb-same}
 use Rattle.model.proofs.Tables.{ticket_at, table-set}
 use Rattle.model.proofs.Sound.{ready_free}
 use Rattle.sched.specs.StandsFor as sched
-use Rattle.sched.specs.Schedule.{Schedule}
+use Rattle.sched.specs.Schedule.{Schedule, IsCalm}
 use Rattle.sched.proofs.Standing as on_sched
 use Rattle.clock.specs.StandsFor as clock
 use Rattle.clock.specs.Timeline.{Timeline}
@@ -124,10 +124,10 @@ module _ (s : State) (i : ℕ) (list : WaitList) (object : ℕ) (l : i < length 
   begun_free = (refl, refl, refl, refl, refl, refl, refl)
 
   -- the scheduler
-  pub sched_decided : (v : Schedule) → sched.StandsFor v s → is_ready s i ≡ true → s.call_hold ≡ false → (w : Schedule) → w ≡ record v { depth = v.depth + 1 } → IsTable decided → sched.StandsBefore i w decided
+  pub sched_decided : (v : Schedule) → v.pending ≡ [] → sched.StandsFor v s → is_ready s i ≡ true → s.call_hold ≡ false → (w : Schedule) → w ≡ record v { depth = v.depth + 1 } → IsTable decided → sched.StandsBefore i w decided
   unfolding last next_call
-  sched_decided v h ready free w is table =
-      let one : sched.StandsBefore i v begun = on_sched.stands_waiting v s i list h l ready in
+  sched_decided v calm h ready free w is table =
+      let one : sched.StandsBefore i v begun = on_sched.stands_waiting v s i list calm h l ready in
       let mid : IsTable locked_then = record { tickets = one.table.tickets; few = one.table.few; current = one.table.current } in
       let two = on_sched.stands_before_held v begun locked_then i one (begun_free.0 ∙ free) refl refl refl mid in
       rw is (on_sched.stands_before_kept (record v { depth = v.depth + 1 }) locked_then decided i i last two begun_within refl refl refl refl refl table)
@@ -143,7 +143,7 @@ module _ (s : State) (i : ℕ) (list : WaitList) (object : ℕ) (l : i < length 
 
 -- The queue is locked, and the scheduler held.
 module _ (k : Kernel) (log : List Event) (s : State) (h : At k log s) (i o : ℕ) (a : Access) (c : CanDecide k i) (v : Schedule) (q : Exchange)
-    (holds : s.call_hold ≡ false → sched.StandsFor v (record s { call_hold = true })) (held : v ≡ record k.sched { depth = k.sched.depth + 1 })
+    (calm : IsCalm k.sched) (holds : s.call_hold ≡ false → sched.StandsFor v (record s { call_hold = true })) (held : v ≡ record k.sched { depth = k.sched.depth + 1 })
     (locks : ((j : ℕ) → wait_if_awake (status_at s j) ≡ None) → queues.StandsFor q None (record s { locked = Some o })) where
   l : i < length s.tasks
   l = within k log s h i c.runs.current
@@ -258,7 +258,7 @@ module _ (k : Kernel) (log : List Event) (s : State) (h : At k log s) (i o : ℕ
           log = log_then;
         }) where
           sched_there : sched.StandsBefore i v after
-          sched_there = sched_decided s i list o l k.sched h.stands.sched ready free v held table
+          sched_there = sched_decided s i list o l k.sched (calm c.depth) h.stands.sched ready free v held table
 
           clock_there : clock.StandsBefore i (call_at after i).deadline k.clock after
           clock_there = clock_decided s i list o l k.clock h.stands.rest.clock ready table
@@ -360,14 +360,14 @@ unheld_at k log s h v on =
     }
 
 -- The task's call has let go of the scheduler, and will try again.
-module _ (k new : Kernel) (log : List Event) (s : State) (h : At k log s) (i : ℕ) (c : CanLeave k i) (w : Schedule) (unhold : s.call_hold ≡ true → sched.StandsFor w (record s { call_hold = false })) (less : w ≡ record k.sched { depth = k.sched.depth - 1 })
+module _ (k new : Kernel) (log : List Event) (s : State) (h : At k log s) (i : ℕ) (c : CanLeave k i) (w : Schedule) (unhold : s.call_hold ≡ true → sched.StandsFor w (record s { call_hold = false })) (runs : w.current ≡ k.sched.current)
     (v : Progress) (view : v ≡ progress_in k.progress i) (is : new ≡ with_progress i (record (progress_in k.progress i) { call = record v.call { phase = Try; list = None } }) (record k { sched = w })) where
   same : v ≡ progress_at s i
   same = view ∙ h.stands.rest.progress i
 
   pub freed : At new log (end_hold i Try s)
   freed = recalled (record k { sched = w }) new log (record s { call_hold = false }) (unheld_at k log s h w (unhold (is_held s.call_hold k.sched.depth h.stands.sched.depth c.held))) i
-      (ap (λ (x : Schedule). x.current) less ∙ c.call.current)
+      (runs ∙ c.call.current)
       (record v.call { phase = Try; list = None }) (record (call_at s i) { phase = Try; list = None }) is (ap (λ (p : Progress). record p.call { phase = Try; list = None }) same) (λ e. absurd (cc))
 
   pub waited : is_some (call_at s i).list ≡ is_some v.call.list

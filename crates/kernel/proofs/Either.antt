@@ -76,8 +76,8 @@ moves_any count old new log deed a d = record {
 }
 
 -- What an op that doesn't wait does
-pub acted : (count : ℕ) (app : Application) (old new : Kernel) (old_log new_log : Logged) (task : ℕ) (op : Op) → count ≤ 2 → Agrees old → Does count old old_log new new_log (act app task op) → DoesAny 2 old old_log new new_log (act app task op)
-acted count app old new old_log new_log task op l a d = does_more count 2 old new old_log new_log (act app task op) l (does_any count old new old_log new_log (act app task op) a d)
+pub acted : (count : ℕ) (app : Application) (old new : Kernel) (old_log new_log : Logged) (task : ℕ) (op : Op) → count ≤ 65 → Agrees old → Does count old old_log new new_log (act app task op) → DoesAny 65 old old_log new new_log (act app task op)
+acted count app old new old_log new_log task op l a d = does_more count 65 old new old_log new_log (act app task op) l (does_any count old new old_log new_log (act app task op) a d)
 
 -- and a call in its phase.
 pub in_phase : (app : Application) (old new : Kernel) (old_log new_log : Logged) (task object : ℕ) (access : Access) (ticks : Option ℕ) (phase : Phase) → (progress_in old.progress task).call.phase ≡ phase

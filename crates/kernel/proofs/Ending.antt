@@ -1,5 +1,5 @@
 -- When a run ends.
-use Rattle.std.proofs.Common.{◌≡◌, ◌+◌, ◌<◌, ◌≤◌, ℕ, suc, Bool, true, false, not, ◌&&◌, ◌||◌, eqb, leb, ltb, List, [], ◌∷◌, length, get_or, Option, Some, None, refl, ap, sym, ◌∙◌, arith}
+use Rattle.std.proofs.Common.{◌≡◌, ◌+◌, ◌<◌, ◌≤◌, ℕ, suc, Bool, true, false, not, ◌&&◌, ◌||◌, eqb, leb, ltb, List, [], ◌∷◌, ◌++◌, length, get_or, Option, Some, None, refl, ap, sym, ◌∙◌, arith}
 use Rattle.std.proofs.lemmas.Bool.Decides.{nat_tests}
 use Rattle.std.specs.List.{list_all, list_any, filter, AllByRecursion}
 use Rattle.std.specs.Prelude.{IsTrue, ◌↔◌, if◌then◌else◌}
@@ -9,19 +9,22 @@ use Rattle.model.specs.declared.event.Event.{Event}
 use Rattle.model.specs.declared.event.End.{End}
 use Rattle.model.specs.declared.event.End.TheVariants.{Pass, Ticks, Steps, Stuck}
 use Rattle.model.specs.Application.{Application, Limits}
-use Rattle.model.specs.State.{State, Task, Status, Ready, Awake, Waiting, Asleep, Ended, wait_of, wake_time_of, task_at, no_task}
+use Rattle.model.specs.State.{State, Task, Status, Ready, Awake, Waiting, Asleep, Ended, wait_of, wake_time_of, task_at, no_task, printed, for_each}
 use Rattle.model.specs.Order.{Key, Entry, key, keyed, list_by, in_order, tasks_of}
-use Rattle.model.specs.Switching.{ready_key, settle, unless_held}
+use Rattle.model.specs.Switching.{ready_key, settle, unless_held, write}
 use Rattle.model.specs.declared.call.WaitList.{WaitList}
 use Rattle.model.specs.Waiting.{same_list, wait_key}
 use Rattle.model.specs.Time.{delayed_key}
+use Rattle.model.specs.Handlers.{inject}
 use Rattle.model.specs.Step.{act_current, before_step, step}
-use Rattle.model.specs.Run.{is_ended, are_all_ended, will_wake, is_stuck, end_of}
+use Rattle.model.specs.Run.{is_ended, are_all_ended, is_interrupt_to_come, is_stuck, end_of}
 use Rattle.model.specs.Invariant.{IsTable}
 use Rattle.model.proofs.Sorting.{length-in_order, by_test}
 use Rattle.model.proofs.Lists.{eqb-apart, eqb-refl, HasKey, list_has}
 use Rattle.lists.specs.Lists.{first_of, has_node}
 use Rattle.sched.specs.StandsFor.{with_priorities}
+use Rattle.sched.specs.Schedule.{lined_up}
+use Rattle.sched.proofs.LinedUp.{ready_if_listed}
 use Rattle.clock.specs.StandsFor as clock
 use Rattle.clock.specs.StandsFor.{tasks_at}
 use Rattle.clock.specs.Timeline.{Timeline}
@@ -29,14 +32,16 @@ use Rattle.objects.specs.WaitingLists.{insert_by_priority, waiting_in}
 use Rattle.objects.specs.WaitersStand.{joined_by, standing}
 use Rattle.objects.proofs.Keys.{same_list-refl}
 use Rattle.kernel.specs.declared.kernel.Kernel.{Kernel}
-use Rattle.kernel.specs.StandsFor.{StandsFor, StandsBefore, Stands, AtAny, decider}
+use Rattle.kernel.specs.StandsFor.{StandsFor, StandsBefore, Stands, AtAny, DoesAny, decider}
+use Rattle.kernel.specs.Logged.{Logged}
+use Rattle.kernel.specs.Can.{StandsForSome}
 use Rattle.kernel.specs.StandsFor.Stands.{Placed, Placing}
 use Rattle.objects.specs.Queues as queues
 use Rattle.objects.specs.Queues.{SameWaits}
 use Rattle.objects.proofs.Kept.{stands_same}
 use Rattle.objects.proofs.Awake.{at_locked_same}
 use Rattle.kernel.proofs.Parts.{clock-same, same_parts}
-use Rattle.kernel.proofs.Either.{steps_are}
+use Rattle.kernel.proofs.Either.{steps_are, now_is}
 
 leb-yes : (a b : ℕ) → a ≤ b → leb a b ≡ true
 leb-yes a b e = grind (arith, nat_tests)
@@ -54,7 +59,7 @@ none_first : (xs : List (ℕ × ℕ)) → not (is_some (first_of xs)) ≡ eqb (l
 none_first [] = refl
 none_first (x ∷ xs) = sym (some (length xs))
 
-empty : {X : Type 0} → (xs : List X) → eqb (length xs) 0 ≡ true → xs ≡ []
+pub empty : {X : Type 0} → (xs : List X) → eqb (length xs) 0 ≡ true → xs ≡ []
 empty [] t = refl
 empty (x ∷ xs) t = let f : false ≡ true = sym (some (length xs)) ∙ t in absurd (cc)
 
@@ -131,31 +136,26 @@ asleep o (t ∷ ts) = by_status t t.status (asleep (o + 1) ts) where
   by_status t (Asleep w n) later = some (length (keyed delayed_key (o + 1) ts))
   by_status t Ended later = later
 
-and_true : (a b : Bool) → (a && b) ≡ (a && b && true)
-and_true true true = refl
-and_true true false = refl
-and_true false b = refl
-
 -- whether nobody sleeps
 abbrev is_quiet : State → Bool
 is_quiet s = eqb (length (keyed delayed_key 0 s.tasks)) 0
 
 -- What the parts of the kernel say of an end.
 module _ (k : Kernel) (s : State) (h : StandsFor k s) where
-  over_is : not (is_some (first_of k.sched.ready)) && is_quiet s && not (list_any waits s.tasks) ≡ are_all_ended s
-  over_is = rw (none_first k.sched.ready, h.sched.ready, length-ready s.tasks) (over 0 s.tasks)
+  over_is : not (is_some (first_of (lined_up k.sched))) && is_quiet s && not (list_any waits s.tasks) ≡ are_all_ended s
+  over_is = rw (none_first (lined_up k.sched), h.sched.ready, length-ready s.tasks) (over 0 s.tasks)
 
-  stuck_is : (app : Application) → app.interrupts ≡ [] → is_none k.sched.current && is_quiet s ≡ is_stuck app s
-  stuck_is app none = rw (h.sched.current, asleep 0 s.tasks, none) (and_true (is_none s.current) (not (will_wake s)))
+  stuck_is : (app : Application) → is_none k.sched.current && is_quiet s && not (is_interrupt_to_come app s) ≡ is_stuck app s
+  stuck_is app = rw (h.sched.current, asleep 0 s.tasks) refl
 
-  is_over : (ready q w : Bool) → ready ≡ is_some (first_of k.sched.ready) → (IsTrue q ↔ (k.clock.delayed_list ≡ [])) → w ≡ list_any waits s.tasks → not ready && q && not w ≡ are_all_ended s
+  is_over : (ready q w : Bool) → ready ≡ is_some (first_of (lined_up k.sched)) → (IsTrue q ↔ (k.clock.delayed_list ≡ [])) → w ≡ list_any waits s.tasks → not ready && q && not w ≡ are_all_ended s
   is_over ready q w r is waiting = rw (r, quiet k.clock s h.rest.clock q is, waiting) over_is
 
-  not_over : is_some (first_of k.sched.ready) ≡ true → false ≡ are_all_ended s
+  not_over : is_some (first_of (lined_up k.sched)) ≡ true → false ≡ are_all_ended s
   not_over some = rw some at over_is
 
-  is_stuck_by : (idle q : Bool) → idle ≡ is_none k.sched.current → (IsTrue q ↔ (k.clock.delayed_list ≡ [])) → (app : Application) → app.interrupts ≡ [] → idle && q ≡ is_stuck app s
-  is_stuck_by idle q n is app none = rw (n, quiet k.clock s h.rest.clock q is) (stuck_is app none)
+  is_stuck_by : (idle q later : Bool) (app : Application) → idle ≡ is_none k.sched.current → (IsTrue q ↔ (k.clock.delayed_list ≡ [])) → later ≡ is_interrupt_to_come app s → idle && q && not later ≡ is_stuck app s
+  is_stuck_by idle q later app n is come = rw (n, quiet k.clock s h.rest.clock q is, come) (stuck_is app)
 
 -- A task is still to be placed, and so waits.
 standing_none : (list : WaitList) (o : ℕ) (ts : List Task) → list_all (λ (t : Task). is_ended t.status) ts ≡ true → keyed (λ (t : Task). option_and_then (wait_key list) (wait_of t.status)) o ts ≡ []
@@ -181,8 +181,8 @@ waits_before k s task list b = by_test (are_all_ended s)
     absurd (put_in_some (task, (task_at s task).priority) (waiting_in k.queues.waiting list) (rw own at joined)))
     (λ t. sym t)
 
-ready_before : (k : Kernel) (s : State) (task : ℕ) (list : WaitList) → StandsBefore task list k s → is_some (first_of k.sched.ready) ≡ true
-ready_before k s task list b = by_entries k.sched.ready b.sched.still where
+ready_before : (k : Kernel) (s : State) (task : ℕ) (list : WaitList) → StandsBefore task list k s → is_some (first_of (lined_up k.sched)) ≡ true
+ready_before k s task list b = by_entries (lined_up k.sched) (ready_if_listed task k.sched b.sched.still) where
   by_entries : (es : List (ℕ × ℕ)) → has_node task es ≡ true → is_some (first_of es) ≡ true
   by_entries [] t = absurd (cc)
   by_entries (e ∷ es) t = refl
@@ -191,7 +191,7 @@ runs_before : (app : Application) (k : Kernel) (s : State) (task : ℕ) (list : 
 runs_before app k s task list b = rw b.current refl
 
 -- Whether or not a task is still to be placed.
-module _ (k : Kernel) (s : State) (ready q : Bool) (r : ready ≡ is_some (first_of k.sched.ready)) (is : IsTrue q ↔ (k.clock.delayed_list ≡ [])) where
+module _ (k : Kernel) (s : State) (ready q : Bool) (r : ready ≡ is_some (first_of (lined_up k.sched))) (is : IsTrue q ↔ (k.clock.delayed_list ≡ [])) where
   pub over_by : Stands k s → ready ≡ false → q ≡ true → (w : Bool) → (queues.StandsFor k.queues None s → w ≡ list_any waits s.tasks) → not w ≡ are_all_ended s
   over_by (Placed h) none still w waiting = let e = is_over k s h ready q w r is (waiting h.rest.queues) in rw (none, still) at e
   over_by (Placing task list b) none still w waiting = let some : ready ≡ true = r ∙ ready_before k s task list b in absurd (cc)
@@ -200,13 +200,17 @@ module _ (k : Kernel) (s : State) (ready q : Bool) (r : ready ≡ is_some (first
   on_by (Placed h) on = let e = is_over k s h ready q (list_any waits s.tasks) r is refl in sym (rw on at e)
   on_by (Placing task list b) on = sym (waits_before k s task list b)
 
-pub not_over_by : (k : Kernel) (s : State) (ready : Bool) → ready ≡ is_some (first_of k.sched.ready) → Stands k s → ready ≡ true → are_all_ended s ≡ false
+pub not_over_by : (k : Kernel) (s : State) (ready : Bool) → ready ≡ is_some (first_of (lined_up k.sched)) → Stands k s → ready ≡ true → are_all_ended s ≡ false
 not_over_by k s ready r (Placed h) some = sym (not_over k s h (sym r ∙ some))
 not_over_by k s ready r (Placing task list b) some = sym (waits_before k s task list b)
 
-pub stuck_by : (app : Application) → app.interrupts ≡ [] → (k : Kernel) (s : State) (idle q : Bool) → Stands k s → idle ≡ is_none k.sched.current → (IsTrue q ↔ (k.clock.delayed_list ≡ [])) → idle && q ≡ is_stuck app s
-stuck_by app none k s idle q (Placed h) n is = is_stuck_by k s h idle q n is app none
-stuck_by app none k s idle q (Placing task list b) n is = let e : idle ≡ false = n ∙ ap is_none (b.sched.current ∙ b.current) in rw e (runs_before app k s task list b)
+pub stuck_by : (app : Application) (k : Kernel) (s : State) (idle q later : Bool) → Stands k s → idle ≡ is_none k.sched.current → (IsTrue q ↔ (k.clock.delayed_list ≡ [])) → later ≡ is_interrupt_to_come app s → idle && q && not later ≡ is_stuck app s
+stuck_by app k s idle q later (Placed h) n is come = is_stuck_by k s h idle q later app n is come
+stuck_by app k s idle q later (Placing task list b) n is come = let e : idle ≡ false = n ∙ ap is_none (b.sched.current ∙ b.current) in rw e (runs_before app k s task list b)
+
+pub idle_by : (o : Option ℕ) → is_some o ≡ false → true ≡ is_none o
+idle_by None e = refl
+idle_by (Some i) e = absurd (cc)
 
 pub not_stopped : (o : Option End) → is_some o ≡ false → o ≡ None
 not_stopped None t = refl
@@ -279,11 +283,30 @@ renewed : (k : Kernel) (s : State) → Stands k s → (log : List Event) (steps 
 renewed k s (Placed h) log steps n e = Placed (begun_at k s h log steps n e)
 renewed k s (Placing task list b) log steps n e = Placing task list (begun_before k s task list b log steps n e)
 
+-- an event is told
+pub any_written : (k : Kernel) (log new_log : List Event) (s : State) (e : Event) → AtAny k log s → new_log ≡ log ++ e ∷ [] → e.step ≡ k.steps → e.tick ≡ printed k.clock.now → AtAny k new_log (write e.what s)
+any_written k log new_log s e h told step tick = record {
+  stands = renewed k s h.stands (write e.what s).log s.steps k.steps (steps_are k s h.stands);
+  log = told ∙ rw h.log (ap (λ (x : Event). s.log ++ x ∷ []) (event_same e s.steps (printed s.time) (step ∙ steps_are k s h.stands) (tick ∙ ap printed (now_is k s h.stands))));
+} where
+  event_same : (e : Event) (n m : ℕ) → e.step ≡ n → e.tick ≡ m → e ≡ record { step = n; tick = m; what = e.what }
+  event_same e n m a b = ap (λ (x : ℕ). record e { step = x }) a ∙ ap (λ (x : ℕ). record e { step = n; tick = x }) b
+
+-- It stands for some state after a deed, as before it.
+pub stood_after : (count : ℕ) (old new : Kernel) (old_log new_log : Logged) (deed : State → State) → StandsForSome old → DoesAny count old old_log new new_log deed → StandsForSome new
+stood_after count old new old_log new_log deed h d =
+    let s : State = record (h.0) { log = old_log.told } in
+    (deed s, (d.at s (record { stands = renewed old h.0 h.1 old_log.told (h.0).steps old.steps (steps_are old h.0 h.1); log = refl })).stands)
+
 pub begun : (k : Kernel) (log : List Event) (s : State) → Stands k s → log ≡ [] → AtAny k log (record s { log = [] })
 begun k log s h e = record { stands = renewed k s h [] s.steps k.steps (steps_are k s h); log = e }
 
-pub stepped : (app : Application) (s : State) (k : Kernel) (log : List Event) (n : ℕ) → n ≡ s.steps → AtAny k log (unless_held settle (act_current app s.current (record s { log = [] }))) → Stands (record k { steps = n + 1 }) (step app [] s)
-unfolding step before_step
-stepped app s k log n e a =
-    let new : State = unless_held settle (act_current app s.current (record s { log = [] })) in
+pub handled_before : (app : Application) (handlers : List ℕ) (s : State) (k : Kernel) (log : List Event) → AtAny k log (for_each (inject app) handlers (record s { log = [] })) → AtAny k log (before_step app handlers s)
+unfolding before_step
+handled_before app handlers s k log h = h
+
+pub stepped : (app : Application) (handlers : List ℕ) (s : State) (k : Kernel) (log : List Event) (n : ℕ) → n ≡ s.steps → AtAny k log (unless_held settle (act_current app (before_step app handlers s).current (before_step app handlers s))) → Stands (record k { steps = n + 1 }) (step app handlers s)
+unfolding step
+stepped app handlers s k log n e a =
+    let new : State = unless_held settle (act_current app (before_step app handlers s).current (before_step app handlers s)) in
     renewed k new a.stands new.log (s.steps + 1) (n + 1) (ap (λ m. m + 1) e)

@@ -11,3 +11,7 @@ pub mod Booting
 pub mod Waits
 pub mod Deciding
 pub mod Unlocking
+pub mod Before
+pub mod Calling
+pub mod Handling
+pub mod Planned

@@ -35,7 +35,7 @@ module _ (app : Application) (k : Kernel) (task : ℕ) (runs : k.sched.current �
       let op : op_at app task (progress_at s task).op_index ≡ o = ap (λ (p : Progress). op_at app task p.op_index) (sym (progress_is k s h task)) ∙ at in
       ap (λ c. act_current app c s) current ∙ ap (λ o. act_if app task o s) op
 
-  pub acts : (op : Op) → op_at app task (progress_in k.progress task).op_index ≡ Some op → (new : Kernel) (old_log new_log : Logged) → DoesAny 2 k old_log new new_log (act app task op) → DoesAny 2 k old_log new new_log (λ s. act_current app s.current s)
+  pub acts : (op : Op) → op_at app task (progress_in k.progress task).op_index ≡ Some op → (new : Kernel) (old_log new_log : Logged) → DoesAny 65 k old_log new new_log (act app task op) → DoesAny 65 k old_log new new_log (λ s. act_current app s.current s)
   acts op at new old_log new_log does = record {
     at = λ s h. subst (AtAny new new_log.told) (sym (its_op s h.stands (Some op) at)) (does.at s h);
     few = does.few;
@@ -43,7 +43,7 @@ module _ (app : Application) (k : Kernel) (task : ℕ) (runs : k.sched.current �
   }
 
   -- it has none
-  pub rests : op_at app task (progress_in k.progress task).op_index ≡ None → (log : Logged) → DoesAny 2 k log k log (λ s. act_current app s.current s)
+  pub rests : op_at app task (progress_in k.progress task).op_index ≡ None → (log : Logged) → DoesAny 65 k log k log (λ s. act_current app s.current s)
   rests at log = record {
     at = λ s h. subst (AtAny k log.told) (sym (its_op s h.stands None at)) h;
     few = omega arith;

@@ -1,5 +1,6 @@
 -- Who runs: what changes of the processor make of the states that the kernel stands for.
 use Rattle.std.proofs.Common.{◌≡◌, ◌<◌, ℕ, Bool, true, false, not, cond, ◌||◌, List, [], ◌∷◌, ◌++◌, length, Option, Some, None, refl, ap, sym, subst, ◌∙◌, append-nil}
+use Rattle.std.specs.Prelude.{if◌then◌else◌}
 use Rattle.std.specs.Option.{IfSome}
 use Rattle.std.proofs.lemmas.Option.{same_Some}
 use Rattle.model.specs.declared.call.WaitList.{WaitList}
@@ -14,9 +15,17 @@ use Rattle.model.proofs.Lists.{eqb-refl}
 use Rattle.sched.specs.StandsFor as sched
 use Rattle.sched.specs.Schedule as schedule
 use Rattle.sched.specs.Schedule.{Schedule}
+use Rattle.sched.proofs.LinedUp.{ready_if_listed}
 use Rattle.kernel.specs.declared.kernel.Kernel.{Kernel}
 use Rattle.kernel.specs.StandsFor.{RestStandsFor, StandsFor, StandsBefore, At, AtAny, change}
 use Rattle.kernel.proofs.Parts.{rest_same, rest-made_ready}
+
+-- The scheduler isn't held where its depth is 0.
+pub unheld_by : (v : Schedule) (s : State) → sched.StandsFor v s → v.depth ≡ 0 → s.call_hold ≡ false
+unheld_by v s h z = by_hold s.call_hold h.depth where
+  by_hold : (b : Bool) → v.depth ≡ (if b then 1 else 0) → b ≡ false
+  by_hold true e = let f : 1 ≡ 0 = sym e ∙ z in absurd (cc)
+  by_hold false e = refl
 
 same_self : (r : Option ℕ) → is_same r r ≡ true
 same_self None = refl
@@ -163,4 +172,4 @@ runs_before k s task i list b r = same_Some task i (sym b.current ∙ sym b.sche
 
 -- It is Ready in the scheduler, and it runs.
 pub ready_before : (k : Kernel) (s : State) (task i : ℕ) (list : WaitList) → StandsBefore task list k s → k.sched.current ≡ Some i → schedule.is_ready k.sched i ≡ true
-ready_before k s task i list b r = subst (λ (j : ℕ). schedule.is_ready k.sched j ≡ true) (runs_before k s task i list b r) b.sched.still
+ready_before k s task i list b r = subst (λ (j : ℕ). schedule.is_ready k.sched j ≡ true) (runs_before k s task i list b r) (ready_if_listed task k.sched b.sched.still)

@@ -16,7 +16,7 @@ use Rattle.model.specs.Order.{Key, Entry, first, task_of}
 use Rattle.model.specs.Switching.{is_ready, make_ready, preempt, choose}
 use Rattle.model.specs.Ops.{answer}
 use Rattle.model.specs.Waiting.{wait_key, waiters, awake_status, awaken, is_locked, wake_one, wake_best, set_deadline, is_expired, end_hold}
-use Rattle.model.specs.Objects.{object_after, list_woken, possible, answer_to, fulfil, attempt}
+use Rattle.model.specs.Objects.{possible, answer_to, fulfil, attempt}
 use Rattle.model.specs.Calls.{try, do_now, leave_call}
 use Rattle.model.specs.Invariant.{IsTable}
 use Rattle.model.proofs.Sorting.{by_test}
@@ -37,7 +37,8 @@ use Rattle.kernel.specs.declared.kernel.Kernel.{Kernel}
 use Rattle.kernel.specs.StandsFor.{StandsFor, At, progress_in, with_progress}
 use Rattle.kernel.specs.Can.{Runs}
 use Rattle.kernel.proofs.Parts.{clock-same, progress-same}
-use Rattle.kernel.proofs.Waking.{has_node-added, progress-ready}
+use Rattle.sched.proofs.LinedUp.{ready_woken}
+use Rattle.kernel.proofs.Waking.{progress-ready}
 use Rattle.kernel.proofs.Acting.{within, changed}
 
 -- ---- a task's call goes on
@@ -65,13 +66,15 @@ module _ (k new : Kernel) (log : List Event) (s : State) (h : At k log s) (i : �
 -- ---- a wake
 
 -- who would be woken, if anyone
-abbrev best : State → WaitList → Option ℕ
+abbrev pub best : State → WaitList → Option ℕ
 best s list = task_of (first (waiters s list))
 
 -- a task that waits in a list
-record WaitsThere (s : State) (i : ℕ) : Type 0 where
-  within : i < length s.tasks
-  unready : is_ready s i ≡ false
+pub record WaitsThere (s : State) (list : WaitList) (i : ℕ) : Type 0 where
+  pub within : i < length s.tasks
+  pub unready : is_ready s i ≡ false
+  pub key : Key
+  pub there : option_and_then (wait_key list) (wait_if_waiting (status_at s i)) ≡ Some key
 
 waits_key : WaitList → Task → Option Key
 waits_key list t = option_and_then (wait_key list) (wait_if_waiting t.status)
@@ -108,48 +111,50 @@ unready_waiting list u k e = unready u (waiting_waits u (some_wait list (wait_if
 pub unready_awake : (list : WaitList) (u : Status) (k : Key) → option_and_then (wait_key list) (wait_if_awake u) ≡ Some k → is_some (ticket_if_ready u) ≡ false
 unready_awake list u k e = unready u (awake_waits u (some_wait list (wait_if_awake u) k e))
 
-best_waits : (s : State) (list : WaitList) (i : ℕ) → Some i ≡ best s list → WaitsThere s i
+pub best_waits : (s : State) (list : WaitList) (i : ℕ) → Some i ≡ best s list → WaitsThere s list i
 unfolding waits_key
 best_waits s list i is = by_entries (waiters s list) (list_has (waits_key list) s.tasks) is where
-  by_entries : (es : List Entry) → AllByRecursion (HasKey (waits_key list) s.tasks) es → Some i ≡ task_of (first es) → WaitsThere s i
+  by_entries : (es : List Entry) → AllByRecursion (HasKey (waits_key list) s.tasks) es → Some i ≡ task_of (first es) → WaitsThere s list i
   by_entries [] has e = absurd (cc)
   by_entries (x ∷ xs) has e =
       let same : i ≡ x.task = cc in
-      record { within = rw same has.0.within; unready = rw same (unready_waiting list (status_at s x.task) x.key has.0.key) }
+      record { within = rw same has.0.within; unready = rw same (unready_waiting list (status_at s x.task) x.key has.0.key); key = x.key; there = rw same has.0.key }
 
 -- the answer where someone becomes Ready
 open_then : (b : Bool) (o : Option ℕ) (i : ℕ) → Some i ≡ (if b then None else o) → (b ≡ false) × (Some i ≡ o)
 open_then true o i e = absurd (cc)
 open_then false o i e = (refl, e)
 
-module _ (k : Kernel) (s : State) (h : StandsFor k s) (list : WaitList) (i : ℕ) (is : Some i ≡ (if is_locked s.locked list then None else best s list)) where
-  opened : is_locked s.locked list ≡ false
+-- someone becomes Ready, who waits there
+module _ (s : State) (list : WaitList) (i : ℕ) (is : Some i ≡ (if is_locked s.locked list then None else best s list)) where
+  pub opened : is_locked s.locked list ≡ false
   opened = (open_then (is_locked s.locked list) (best s list) i is).0
 
-  waits_there : WaitsThere s i
+  pub waits_there : WaitsThere s list i
   waits_there = best_waits s list i (open_then (is_locked s.locked list) (best s list) i is).1
 
-  wakes_it : wake_best list s ≡ make_ready i s
+  pub wakes_it : wake_best list s ≡ make_ready i s
   unfolding wake_best
   wakes_it = subst (λ (o : Option ℕ). for_one (λ task. wake_one task list) o s ≡ make_ready i s) (open_then (is_locked s.locked list) (best s list) i is).1 (rw opened refl)
 
+module _ (k : Kernel) (s : State) (h : StandsFor k s) (list : WaitList) (i : ℕ) (is : Some i ≡ (if is_locked s.locked list then None else best s list)) where
   pub woken_free : schedule.is_ready k.sched i ≡ false
-  woken_free = on_sched.ready_same k.sched s i h.sched ∙ waits_there.unready
+  woken_free = on_sched.ready_same k.sched s i h.sched ∙ (waits_there s list i is).unready
 
   pub woken_at : (log : List Event) → log ≡ s.log → (v : Schedule) (t : Timeline) (q : Exchange) → (i < length s.tasks → sched.StandsFor v (make_ready i s)) → (i < length s.tasks → clock.StandsFor t (make_ready i s)) → queues.StandsFor q None (wake_best list s)
       → At (record k { sched = v; clock = t; queues = q }) log (wake_best list s)
   woken_at log same v t q on awake left =
-      let l = waits_there.within in
+      let l = (waits_there s list i is).within in
       let P : State → Type 0 = λ x. At (record k { sched = v; clock = t; queues = q }) log x in
-      subst P (sym wakes_it) (record {
+      subst P (sym (wakes_it s list i is)) (record {
         stands = record {
           sched = on l;
           rest = record {
             progress = λ j. h.rest.progress j ∙ sym (progress-ready s i j);
             full = h.rest.full;
             clock = awake l;
-            queues = subst (queues.StandsFor q None) wakes_it left;
-            awake = subst (AtLocked None) wakes_it (at_locked-wake_best None list s h.rest.awake);
+            queues = subst (queues.StandsFor q None) (wakes_it s list i is) left;
+            awake = subst (AtLocked None) (wakes_it s list i is) (at_locked-wake_best None list s h.rest.awake);
             steps = h.rest.steps;
             stopped = h.rest.stopped;
             placed = h.rest.placed;
@@ -160,14 +165,34 @@ module _ (k : Kernel) (s : State) (h : StandsFor k s) (list : WaitList) (i : ℕ
 
 -- nobody becomes Ready: nobody waits there, or the one is Awake until the unlock
 
-awake_unready : (u : Status) → ticket_if_ready (awake_status u) ≡ ticket_if_ready u
+none_open : (o : Option ℕ) (b : Bool) → b ≡ false → None ≡ (if b then None else o) → o ≡ None
+none_open o b t e = sym (rw t at e)
+
+-- what the wake comes to then
+pub data Unwoken (s : State) (list : WaitList) : Type 0 where
+  Nobody : wake_best list s ≡ s → Unwoken s list
+  Counted : (i : ℕ) → i < length s.tasks → wake_best list s ≡ awaken i s → Unwoken s list
+
+pub unwoken : (s : State) (list : WaitList) → None ≡ (if is_locked s.locked list then None else best s list) → Unwoken s list
+unfolding wake_best
+unwoken s list is = by_best (best s list) refl where
+  wakes : (o : Option ℕ) → best s list ≡ o → wake_best list s ≡ for_one (λ task. wake_one task list) o s
+  wakes o e = ap (λ (x : Option ℕ). for_one (λ task. wake_one task list) x s) e
+
+  by_best : (o : Option ℕ) → best s list ≡ o → Unwoken s list
+  by_best None e = Nobody (wakes None e)
+  by_best (Some i) e = by_test (is_locked s.locked list)
+      (λ t. Counted i (best_waits s list i (sym e)).within (wakes (Some i) e ∙ rw t refl))
+      (λ t. let none = sym e ∙ none_open (best s list) (is_locked s.locked list) t is in absurd (cc))
+
+pub awake_unready : (u : Status) → ticket_if_ready (awake_status u) ≡ ticket_if_ready u
 awake_unready (Ready n) = refl
 awake_unready (Awake w) = refl
 awake_unready (Waiting w) = refl
 awake_unready (Asleep w n) = refl
 awake_unready Ended = refl
 
-awake_alike : (u : Status) → SleepsAlike (awake_status u) u
+pub awake_alike : (u : Status) → SleepsAlike (awake_status u) u
 awake_alike (Ready n) = record { key = refl; wake_time = refl }
 awake_alike (Awake w) = record { key = refl; wake_time = refl }
 awake_alike (Waiting w) = record { key = refl; wake_time = refl }
@@ -196,42 +221,25 @@ module _ (k : Kernel) (log : List Event) (s : State) (h : At k log s) (list : Wa
         log = h.log;
       }
 
-  none_open : (o : Option ℕ) → is_locked s.locked list ≡ false → None ≡ (if is_locked s.locked list then None else o) → o ≡ None
-  none_open o t e = sym (rw t at e)
-
-  wakes : (o : Option ℕ) → best s list ≡ o → wake_best list s ≡ for_one (λ task. wake_one task list) o s
-  unfolding wake_best
-  wakes o e = ap (λ (x : Option ℕ). for_one (λ task. wake_one task list) x s) e
-
   pub unwoken_at : At (record k { queues = q }) log (wake_best list s)
-  unwoken_at = by_best (best s list) refl where
-    in_place : (t : State) → wake_best list s ≡ t → queues.StandsFor q None t
-    in_place t e = subst (queues.StandsFor q None) e left
-
-    locked_in : (t : State) → wake_best list s ≡ t → AtLocked None t
-    locked_in t e = subst (AtLocked None) e (at_locked-wake_best None list s h.stands.rest.awake)
-
-    by_best : (o : Option ℕ) → best s list ≡ o → At (record k { queues = q }) log (wake_best list s)
-    by_best None e = subst (At (record k { queues = q }) log) (sym (wakes None e)) (record {
+  unwoken_at = by_case (unwoken s list is) where
+    by_case : Unwoken s list → At (record k { queues = q }) log (wake_best list s)
+    by_case (Nobody one) = subst (At (record k { queues = q }) log) (sym one) (record {
       stands = record {
         sched = h.stands.sched;
-        rest = record { progress = h.stands.rest.progress; full = h.stands.rest.full; clock = h.stands.rest.clock; queues = in_place s (wakes None e); awake = h.stands.rest.awake; steps = h.stands.rest.steps; stopped = h.stands.rest.stopped; placed = h.stands.rest.placed };
+        rest = record { progress = h.stands.rest.progress; full = h.stands.rest.full; clock = h.stands.rest.clock; queues = subst (queues.StandsFor q None) one left; awake = h.stands.rest.awake; steps = h.stands.rest.steps; stopped = h.stands.rest.stopped; placed = h.stands.rest.placed };
       };
       log = h.log;
     })
-    by_best (Some i) e = by_test (is_locked s.locked list)
-        (λ t.
-        let one : wake_best list s ≡ awaken i s = wakes (Some i) e ∙ rw t refl in
-        subst (At (record k { queues = q }) log) (sym one) (awakened_at i (best_waits s list i (sym e)).within (in_place (awaken i s) one) (locked_in (awaken i s) one)))
-        (λ t. let none = sym e ∙ none_open (best s list) t is in absurd (cc))
+    by_case (Counted i l one) = subst (At (record k { queues = q }) log) (sym one) (awakened_at i l (subst (queues.StandsFor q None) one left) (subst (AtLocked None) one (at_locked-wake_best None list s h.stands.rest.awake)))
 
 -- one task more is Ready, and the running one is as before
-pub still_runs : (k new : Kernel) (i j : ℕ) → Runs k j → schedule.is_ready k.sched i ≡ false → new.sched ≡ schedule.make_ready i k.sched → new.progress ≡ k.progress → Runs new j
-still_runs k new i j r off on same =
+pub still_runs : (k new : Kernel) (i j : ℕ) → Runs k j → schedule.is_ready k.sched i ≡ false → new.sched ≡ schedule.wake i k.sched → new.sched.current ≡ k.sched.current → new.progress ≡ k.progress → Runs new j
+still_runs k new i j r off on current same =
     let apart : j ≢ i = (λ e. let f : schedule.is_ready k.sched i ≡ true = subst (λ (n : ℕ). schedule.is_ready k.sched n ≡ true) e r.ready in absurd (cc)) in
     record {
-      current = ap (λ (v : Schedule). v.current) on ∙ r.current;
-      ready = ap (λ (v : Schedule). schedule.is_ready v j) on ∙ has_node-added j (i, schedule.priority_in k.sched.priorities i) k.sched.ready apart ∙ r.ready;
+      current = current ∙ r.current;
+      ready = ap (λ (v : Schedule). schedule.is_ready v j) on ∙ ready_woken k.sched i j apart ∙ r.ready;
       op_index = subst (λ (ps : List Progress). (progress_in ps j).op_index < 256) (sym same) r.op_index;
     }
 
@@ -259,10 +267,6 @@ stored_at k log s h o x q there =
       log = h.log;
     }
 
-pub fulfilled : (new : Kernel) (log : List Event) (s : State) (i o : ℕ) (a : Access) (list : WaitList) → Some list ≡ list_woken (Some i) o a → At new log (wake_best list (with_object o (object_after (Some i) a (object_at s o)) s)) → At new log (fulfil (Some i) o a s)
-unfolding fulfil
-fulfilled new log s i o a list is h = subst (λ (x : Option WaitList). At new log (for_one wake_best x (with_object o (object_after (Some i) a (object_at s o)) s))) is h
-
 -- a try
 module _ (app : Application) (new : Kernel) (log : List Event) (s : State) (i o : ℕ) (a : Access) where
   pub tried : possible s o a ≡ true → At new log (preempt (answer app i (answer_to s o a) (fulfil (Some i) o a s))) → At new log (try app i o a s)
@@ -279,13 +283,9 @@ module _ (app : Application) (new : Kernel) (log : List Event) (s : State) (i o 
     tried_on t h = rw (not, t) h
 
   -- a call that doesn't wait
-  pub did : possible s o a ≡ true → At new log (preempt (answer app i (answer_to s o a) (fulfil (Some i) o a s))) → At new log (do_now app i o a s)
-  unfolding do_now attempt
-  did t h = rw t h
-
-  pub did_not : possible s o a ≡ false → At new log (preempt (answer app i (answer_to s o a) s)) → At new log (do_now app i o a s)
-  unfolding do_now attempt
-  did_not t h = rw t h
+  pub did : At new log (preempt (answer app i (answer_to s o a) (attempt (Some i) o a s))) → At new log (do_now app i o a s)
+  unfolding do_now
+  did h = h
 
 -- the hold ends
 pub left_after : (new : Kernel) (log : List Event) (s : State) (i : ℕ) → is_some (call_at s i).list ≡ true → At new log (choose (end_hold i Try s)) → At new log (leave_call i s)

@@ -1,8 +1,7 @@
 -- Who is due becomes Ready, one after the other.
-use Rattle.std.proofs.Common.{None, ◌≡◌, ◌≢◌, ◌<◌, ◌+◌, ℕ, zero, suc, Bool, true, false, eqb, ltb, List, [], ◌∷◌, ◌++◌, ◌||◌, length, get_or, set, take, drop, refl, ap, sym, subst, ◌∙◌, arith}
+use Rattle.std.proofs.Common.{None, ◌≡◌, ◌≢◌, ◌<◌, ◌+◌, ℕ, zero, suc, true, false, eqb, List, [], ◌∷◌, ◌++◌, length, get_or, set, take, drop, refl, ap, sym, subst, ◌∙◌, arith}
 use Rattle.std.specs.List.{AllByRecursion, IsDistinct}
 use Rattle.std.proofs.lemmas.List.{take_more}
-use Rattle.std.proofs.lemmas.Bool.{ne_eqb}
 use Rattle.model.specs.declared.event.Event.{Event}
 use Rattle.model.specs.State.{State, Task, Ready, task_at, progress_at, for_each, no_task}
 use Rattle.model.specs.Order.{tasks_of}
@@ -12,10 +11,11 @@ use Rattle.model.proofs.Sorting.{by_test}
 use Rattle.model.proofs.Lists.{eqb-refl}
 use Rattle.model.proofs.Chosen.{each-end}
 use Rattle.model.proofs.Frames.{keeps-all_ready}
-use Rattle.lists.specs.Lists.{Each, has_node}
+use Rattle.lists.specs.Lists.{Each}
 use Rattle.sched.specs.StandsFor as sched
 use Rattle.sched.specs.Schedule as schedule
-use Rattle.sched.specs.Schedule.{Schedule, add_to_ready_list}
+use Rattle.sched.specs.Schedule.{Schedule}
+use Rattle.sched.proofs.LinedUp.{ready_woken}
 use Rattle.clock.specs.StandsFor as clock
 use Rattle.clock.specs.StandsFor.{at_next_tick}
 use Rattle.clock.specs.Timeline.{Timeline, Advances, is_asleep}
@@ -32,12 +32,9 @@ use Rattle.kernel.proofs.Parts.{apart_back, same_parts}
 
 -- ---- the tasks that are to wake
 
--- Another task becomes Ready.
-pub has_node-added : (n : ℕ) (e : ℕ × ℕ) (es : List (ℕ × ℕ)) → n ≢ e.0 → has_node n (add_to_ready_list e es) ≡ has_node n es
-has_node-added n e [] ne = rw (ne_eqb e.0 n (λ q. ne (sym q))) refl
-has_node-added n e (f ∷ fs) ne = by_test (ltb f.1 e.1)
-    (λ t. rw (t, ne_eqb e.0 n (λ q. ne (sym q))) refl)
-    (λ t. rw t (ap (λ (b : Bool). eqb f.0 n || b) (has_node-added n e fs ne)))
+-- A wake holds nothing.
+pub depth_woken : (v new : Schedule) (i : ℕ) → new ≡ schedule.wake i v → new.depth ≡ v.depth
+depth_woken v new i is = ap (λ (w : Schedule). w.depth) is ∙ by_test (eqb v.depth 0) (λ t. rw t refl) (λ t. rw t refl)
 
 -- Who sleeps isn't Ready, and nobody sleeps twice, so that all who are due can become Ready.
 pub to_wake : (k : Kernel) (s : State) → StandsFor k s → (new : Timeline) (ds : List ℕ) → Advances k.clock new ds → AreToWake k.sched ds
@@ -51,9 +48,9 @@ to_wake k s h new ds a = by_parts ds (due_asleep k.clock new ds a) (due_once k.c
   by_parts [] x y = tt
   by_parts (e ∷ es) x y = (apart_back k s h e x.0, apart_from e es y.0, by_parts es x.1 y.1)
 
-still_to_wake : (v : Schedule) (i : ℕ) (js : List ℕ) → AllByRecursion (λ j. j ≢ i) js → AreToWake v js → AreToWake (schedule.make_ready i v) js
+still_to_wake : (v : Schedule) (i : ℕ) (js : List ℕ) → AllByRecursion (λ j. j ≢ i) js → AreToWake v js → AreToWake (schedule.wake i v) js
 still_to_wake v i [] a h = tt
-still_to_wake v i (j ∷ js) a h = (has_node-added j (i, schedule.priority_in v.priorities i) v.ready a.0 ∙ h.0, h.1, still_to_wake v i js a.1 h.2)
+still_to_wake v i (j ∷ js) a h = (ready_woken v i j a.0 ∙ h.0, h.1, still_to_wake v i js a.1 h.2)
 
 -- one more of them is Ready
 module _ (v : Schedule) (ts : List ℕ) (j : ℕ) (i : ℕ) (l : j < length ts) (e : i ≡ get_or ts j i) where
@@ -67,14 +64,14 @@ module _ (v : Schedule) (ts : List ℕ) (j : ℕ) (i : ℕ) (l : j < length ts) 
   pub next_free : AreToWake v (drop j ts) → schedule.is_ready v i ≡ false
   next_free h = (let w : AreToWake v (i ∷ drop (j + 1) ts) = subst (AreToWake v) drop_one h in w.0)
 
-  pub more_free : AreToWake v (drop j ts) → (new : Schedule) → new ≡ schedule.make_ready i v → AreToWake new (drop (j + 1) ts)
+  pub more_free : AreToWake v (drop j ts) → (new : Schedule) → new ≡ schedule.wake i v → AreToWake new (drop (j + 1) ts)
   more_free h new is =
       let w : AreToWake v (i ∷ drop (j + 1) ts) = subst (AreToWake v) drop_one h in
       let P : Schedule → Type 0 = λ x. AreToWake x (drop (j + 1) ts) in
       subst P (sym is) (still_to_wake v i (drop (j + 1) ts) w.1 w.2)
 
   -- and of others after them
-  pub more_left : (more : List ℕ) → AreToWake v (drop j ts ++ more) → (new : Schedule) → new ≡ schedule.make_ready i v → AreToWake new (drop (j + 1) ts ++ more)
+  pub more_left : (more : List ℕ) → AreToWake v (drop j ts ++ more) → (new : Schedule) → new ≡ schedule.wake i v → AreToWake new (drop (j + 1) ts ++ more)
   more_left more h new is =
       let w : AreToWake v (i ∷ (drop (j + 1) ts ++ more)) = subst (λ (us : List ℕ). AreToWake v (us ++ more)) drop_one h in
       let P : Schedule → Type 0 = λ x. AreToWake x (drop (j + 1) ts ++ more) in

@@ -1,6 +1,9 @@
 -- What a deed of the kernel asks of it: that the numbers of the code suffice, and that the parts agree.
 use Rattle.std.specs.Prelude.{◌≡◌, ◌≢◌, ◌<◌, ◌≤◌, ℕ, ◌+◌, ◌^◌, true, false, List, [], ◌∷◌, Option, Some, None, IfSome, length}
 use Rattle.std.specs.List.{AllByRecursion}
+use Rattle.model.specs.declared.op.Access.{Access}
+use Rattle.model.specs.declared.op.IsrOp.{IsrOp}
+use Rattle.model.specs.declared.op.IsrOp.TheVariants as isr
 use Rattle.model.specs.declared.op.Op.{Op}
 use Rattle.model.specs.declared.op.Op.TheVariants.{Repeat, Await, Do}
 use Rattle.model.specs.declared.call.Phase.{Phase}
@@ -9,6 +12,7 @@ use Rattle.model.specs.declared.call.WaitList.{WaitList}
 use Rattle.model.specs.declared.ids.TaskId.{TaskId}
 use Rattle.model.specs.declared.plan.Point.{Point}
 use Rattle.model.specs.Application.{Application, Limits, op_at}
+use Rattle.model.specs.Scripts.{fits_object}
 use Rattle.model.specs.State.{State}
 use Rattle.model.specs.Run.{end_of, state_after}
 use Rattle.model.specs.Invariant.{IsUsedBy}
@@ -20,6 +24,10 @@ use Rattle.kernel.specs.StandsFor.{StandsFor, StandsBefore, Stands, progress_in}
 -- The parts of the kernel agree: it stands for some state, in which each task is in its lists.
 abbrev pub Agrees : Kernel → Type 0
 Agrees k = (s : State) × StandsFor k s
+
+-- It stands for some state, in which a task may be still to be placed.
+abbrev pub StandsForSome : Kernel → Type 0
+StandsForSome k = (s : State) × Stands k s
 
 -- The task is the running one, and Ready; it is at one of 256 ops at most.
 pub record Runs (k : Kernel) (task : ℕ) : Type 0 where
@@ -41,16 +49,31 @@ abbrev pub HasObject : Kernel → Op → Type 0
 HasObject k (Do object access) = HasLength k object
 HasObject k _ = Unit {0}
 
--- One tick can come.
-pub record CanTick (k : Kernel) : Type 0 where
+-- the same of an op of a handler
+abbrev pub HasIsrLength : Kernel → IsrOp → Type 0
+HasIsrLength k (isr.Do object access) = HasLength k object
+HasIsrLength k (isr.Mark n) = Unit {0}
+
+-- Each object on which the application may make a call has such room.
+abbrev pub HasLengths : Application → Kernel → Type 0
+HasLengths app k = (object : ℕ) (access : Access) → fits_object app object access ≡ true → HasLength k object
+
+-- The time can rise by a tick.
+pub record CanAdvance (k : Kernel) : Type 0 where
   pub agrees : Agrees k
   pub free : k.queues.lock ≡ None
   pub age : k.clock.age < 2 ^ 62
 
+-- A tick interrupt can come.
+pub record CanTick (app : Application) (k : Kernel) : Type 0 where
+  pub advance : CanAdvance k
+  pub depth : k.sched.depth ≡ 0
+  pub lengths : HasLengths app k
+
 -- The task runs and can do this op, which is none that waits.
-pub record Can (k : Kernel) (task : ℕ) (op : Op) : Type 0 where
+pub record Can (app : Application) (k : Kernel) (task : ℕ) (op : Op) : Type 0 where
   pub runs : Runs k task
-  pub tick : CanTick k
+  pub tick : CanTick app k
   pub used : IsUsedBy (progress_in k.progress task).used (Some op)
   pub nesting : HasLoopRoom op (length (progress_in k.progress task).loops)
   pub object : HasObject k op
@@ -69,6 +92,7 @@ pub record CanTry (k : Kernel) (task object : ℕ) : Type 0 where
   pub runs : Runs k task
   pub agrees : Agrees k
   pub free : k.queues.lock ≡ None
+  pub depth : k.sched.depth ≡ 0
   pub length : HasLength k object
 
 -- Its call may wait for less than 2^32 ticks, or for ever.
@@ -108,14 +132,14 @@ CanGoOn k task object ticks Unlock = IsInCall k task
 CanGoOn k task object ticks Leave = CanLeave k task
 
 -- The running task can do what its op is to do next.
-abbrev pub CanOp : Kernel → ℕ → Op → Type 0
-CanOp k task (Await object access ticks) = CanGoOn k task object ticks (progress_in k.progress task).call.phase
-CanOp k task op = Can k task op
+abbrev pub CanOp : Application → Kernel → ℕ → Op → Type 0
+CanOp app k task (Await object access ticks) = CanGoOn k task object ticks (progress_in k.progress task).call.phase
+CanOp app k task op = Can app k task op
 
 -- The running task can do its op, and idle can let a tick pass.
 pub record CanAct (app : Application) (k : Kernel) : Type 0 where
-  pub tick : k.sched.current ≡ None → CanTick k
-  pub op : (task : TaskId) (op : Op) → k.sched.current ≡ Some task → op_at app task (progress_in k.progress task).op_index ≡ Some op → CanOp k task op
+  pub tick : k.sched.current ≡ None → CanTick app k
+  pub op : (task : TaskId) (op : Op) → k.sched.current ≡ Some task → op_at app task (progress_in k.progress task).op_index ≡ Some op → CanOp app k task op
 
 -- The kernel stands for the state of a run after some steps, and the run goes on under some limits.
 pub record CanStep (app : Application) (k : Kernel) : Type 0 where
@@ -132,6 +156,11 @@ pub record CanStep (app : Application) (k : Kernel) : Type 0 where
 pub record IsUnderWay (app : Application) (plan : List Point) (limits : Limits) (k : Kernel) : Type 0 where
   pub stands : Stands k (state_after app plan k.steps)
   pub goes_on : (n : ℕ) → n < k.steps → end_of app limits (state_after app plan n) ≡ None
+
+-- What a call on a queue leaves as it is: how often the scheduler is held, and which queues have room for an item at least.
+pub record Leaves (old new : Kernel) : Type 0 where
+  pub depth : new.sched.depth ≡ old.sched.depth
+  pub lengths : (object : ℕ) → HasLength old object → HasLength new object
 
 -- These tasks can become Ready: none is so already, and none comes twice.
 abbrev pub AreToWake : Schedule → List ℕ → Type 0

@@ -82,6 +82,7 @@ fn lengths_of(app: &App) -> [u16; 32]
 /// Each task that has an op is made Ready, in the order of the file.
 fn make_ready_at_reset(sched: &mut Sched, tasks: &[TaskDefinition])
     requires few { length tasks.now ≤ 32 }
+    requires calm { sched.old.depth ≡ 0 }
     requires none { HasNoneFrom 0 sched.old }
     ensures { (s : State) → ScheduleStandsFor sched.old s → length s.tasks ≡ length tasks.now
         → ScheduleStandsFor sched.new (for_each make_ready (with_ops 0 tasks.now) s) }
@@ -110,6 +111,7 @@ impl Kernel {
     /// The kernel before any task has been Ready.
     fn nobody_ready(app: &App) -> Self
         ensures stands { StandsFor result (nobody_ready app.now) }
+        ensures calm { result.sched.depth ≡ 0 }
         ensures none { HasNoneFrom 0 result.sched }
     {
         app.well_formed();

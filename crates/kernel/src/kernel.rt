@@ -7,7 +7,7 @@ ghost use Rattle.clock.specs.StandsFor.{StandsFor as ClockStandsFor, StandsBefor
 ghost use Rattle.objects.specs.Queues.{StandsFor as QueuesStandFor};
 ghost use Rattle.model.specs.Switching.{write};
 ghost use Rattle.kernel.specs.Loops.{after_turn, next_turn};
-ghost use Rattle.kernel.specs.StandsFor.{StandsFor, StandsBefore, Does, decider, progress_in, with_progress};
+ghost use Rattle.kernel.specs.StandsFor.{StandsFor, StandsBefore, Does, DoesAny, decider, progress_in, with_progress};
 
 use crate::log::Log;
 use crate::progress::Progress;
@@ -70,6 +70,7 @@ impl Kernel {
     pub(crate) fn write<L: Log>(&self, log: &mut L, what: What)
         requires { 0 < (L.logged log.old).room }
         ensures does { Does 1 self.now (L.logged log.old) self.now (L.logged log.new) (write what) }
+        ensures any { DoesAny 1 self.now (L.logged log.old) self.now (L.logged log.new) (write what) }
         // which one it is, for callers that tell one event or none
         ensures event { (L.logged log.new).told ≡ (L.logged log.old).told
             ++ record { step = self.now.steps; tick = printed self.now.clock.now; what = what } ∷ [] }

@@ -2,6 +2,7 @@
 #![tactic(auto)]
 
 mod boot;
+mod handlers;
 mod kernel;
 mod log;
 mod loops;

@@ -34,6 +34,7 @@ impl Kernel {
         requires { Runs self.old task }
         ensures does { Moves self.old self.new
             (λ s. go_to app.now task op_index (progress_at s task) s) }
+        ensures depth { self.new.sched.depth ≡ self.old.sched.depth }
         ensures clock { self.new.clock ≡ self.old.clock }
         ensures queues { self.new.queues ≡ self.old.queues }
     {
@@ -48,6 +49,7 @@ impl Kernel {
         requires { Runs self.old task }
         ensures does { Moves self.old self.new
             (λ s. complete app.now task (progress_at s task) s) }
+        ensures depth { self.new.sched.depth ≡ self.old.sched.depth }
         ensures clock { self.new.clock ≡ self.old.clock }
         ensures queues { self.new.queues ≡ self.old.queues }
     {
@@ -63,6 +65,7 @@ impl Kernel {
         requires runs { Runs self.old task }
         ensures does { Does 1 self.old (L.logged log.old) self.new (L.logged log.new)
             (answer app.now task given) }
+        ensures depth { self.new.sched.depth ≡ self.old.sched.depth }
         ensures clock { self.new.clock ≡ self.old.clock }
         ensures queues { self.new.queues ≡ self.old.queues }
     {
@@ -78,6 +81,7 @@ impl Kernel {
         requires runs { Runs self.old task }
         ensures does { Does 1 self.old (L.logged log.old) self.new (L.logged log.new)
             (answer app.now task (Some number)) }
+        ensures depth { self.new.sched.depth ≡ self.old.sched.depth }
         ensures clock { self.new.clock ≡ self.old.clock }
         ensures queues { self.new.queues ≡ self.old.queues }
     {
@@ -86,9 +90,9 @@ impl Kernel {
 
     /// What the running task's op does.
     pub(crate) fn act<L: Log>(&mut self, app: &App, task: TaskId, op: Op, log: &mut L)
-        requires room { 2 ≤ (L.logged log.old).room }
-        requires can { CanOp self.old task op }
-        ensures { DoesAny 2 self.old (L.logged log.old) self.new (L.logged log.new) (act app.now task op) }
+        requires room { 65 ≤ (L.logged log.old).room }
+        requires can { CanOp app.now self.old task op }
+        ensures { DoesAny 65 self.old (L.logged log.old) self.new (L.logged log.new) (act app.now task op) }
     {
         match op {
             Op::Work(ticks) => self.work(app, task, ticks, log),

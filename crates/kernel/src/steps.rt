@@ -1,9 +1,13 @@
 //! Steps, and whole runs.
-ghost use Rattle.std.specs.Prelude.{◌≡◌, ◌<◌, ◌≤◌, ◌+◌, ◌^◌, ◌++◌, [], Some, None, ◌||◌, IfOk, OnOk, OnErr, length};
+ghost use Rattle.std.specs.Prelude.{◌≡◌, ◌<◌, ◌≤◌, ◌+◌, ◌^◌, ◌++◌, [], Some, None, ◌||◌, IfOk, OnOk, OnErr, drop, length, slice_get};
+ghost use Rattle.std.specs.List.{AllByRecursion};
 ghost use Rattle.model.specs.State.{State};
 ghost use Rattle.model.specs.Step.{act_current, step, reset};
 ghost use Rattle.model.specs.Run as definition;
-ghost use Rattle.model.specs.Run.{end_of, IsRun, state_after, events_after, are_all_ended, is_stuck};
+ghost use Rattle.model.specs.declared.plan.Point as definitions;
+ghost use Rattle.model.specs.Plans.{is_at};
+ghost use Rattle.model.specs.Scripts.{Rises};
+ghost use Rattle.model.specs.Run.{end_of, injected, IsRun, state_after, events_after, are_all_ended, is_stuck};
 ghost use Rattle.kernel.specs.Logged.{all_of};
 ghost use Rattle.kernel.specs.StandsFor.{Stands, DoesAny};
 ghost use Rattle.kernel.specs.Can.{CanAct, CanStep, IsUnderWay};
@@ -11,15 +15,19 @@ ghost use Rattle.kernel.specs.Can.{CanAct, CanStep, IsUnderWay};
 use crate::kernel::Kernel;
 use crate::log::{Log, StepLog};
 use crate::trail::Trail;
-use model::{App, End, HandlerId, Limits, Memory, Meter, Plan, Run};
+use arrayvec::ArrayVec;
+use model::{App, End, HandlerId, Limits, Memory, Meter, Plan, Point, Run};
 use std::alloc::Global;
+
+/// The handlers that come before a step: three at most (profile).
+type Injected = ArrayVec<HandlerId, 3>;
 
 impl Kernel {
     /// What a step does: the running task's op, or for idle a tick.
     fn act_current<L: Log>(&mut self, app: &App, log: &mut L)
-        requires room { 2 ≤ (L.logged log.old).room }
+        requires room { 65 ≤ (L.logged log.old).room }
         requires can { CanAct app.now self.old }
-        ensures { DoesAny 2 self.old (L.logged log.old) self.new (L.logged log.new)
+        ensures { DoesAny 65 self.old (L.logged log.old) self.new (L.logged log.new)
             (λ s. act_current app.now s.current s) }
     {
         let Some(task) = self.sched.current() else {
@@ -32,43 +40,50 @@ impl Kernel {
         }
     }
 
-    /// One step of the run, whose events go to a log that has none of this step yet.
-    fn step_onto<L: Log>(&mut self, app: &App, meter: &mut Meter, log: &mut L)
+    /// One step of the run, before which these handlers come, whose events go to a log that has none of this step yet.
+    fn step_onto<L: Log>(
+        &mut self,
+        app: &App,
+        handlers: &[HandlerId],
+        meter: &mut Meter,
+        log: &mut L,
+    )
+        requires few { length handlers.now ≤ 3 }
         requires going { CanStep app.now self.old }
         requires meter { meter.old < 2 ^ 63 }
         requires begun { (L.logged log.old).told ≡ [] }
         requires room { 128 ≤ (L.logged log.old).room }
-        ensures stands { (s : State) → Stands self.old s → Stands self.new (step app.now [] s) }
+        ensures stands { (s : State) → Stands self.old s → Stands self.new (step app.now handlers.now s) }
         ensures told { (s : State) → Stands self.old s
-            → (L.logged log.new).told ≡ (step app.now [] s).log }
+            → (L.logged log.new).told ≡ (step app.now handlers.now s).log }
         ensures before { (L.logged log.new).before ≡ (L.logged log.old).before }
         ensures meter { meter.new ≡ meter.old + 1 }
     {
         app.well_formed();
         let steps = self.steps;
+        self.inject_all(app, handlers, log);
         self.act_current(app, log);
         self.settle(log);
         self.steps = steps + 1;
         meter.count();
     }
 
-    /// One step of the run: the running task's op, or a tick of idle (profile). The events that it tells are then in the
-    /// log, in order, and nothing else. It takes no memory.
+    /// One step of the run: these handlers, three at most, and then the running task's op, or a tick of idle (profile). The
+    /// events that it tells are then in the log, in order, and nothing else. It takes no memory.
     ///
-    /// The kernel is of this application, and its run has not ended under some limits. No application has handlers yet.
-    /// The meter, which rises by 1, is below 2^63.
+    /// The kernel is of this application, and its run has not ended under some limits. The meter, which rises by 1, is
+    /// below 2^63.
     pub fn step(&mut self, app: &App, handlers: &[HandlerId], meter: &mut Meter, log: &mut StepLog)
-        requires handlers { handlers.now ≡ [] }
+        requires few { length handlers.now ≤ 3 }
         requires going { CanStep app.now self.old }
         requires meter { meter.old < 2 ^ 63 }
-        ensures stands { (s : State) → Stands self.old s → Stands self.new (step app.now [] s) }
+        ensures stands { (s : State) → Stands self.old s → Stands self.new (step app.now handlers.now s) }
         ensures log { (s : State) → Stands self.old s
-            → log.new.items ≡ (step app.now [] s).log }
+            → log.new.items ≡ (step app.now handlers.now s).log }
         ensures meter { meter.new ≡ meter.old + 1 }
     {
-        let _ = handlers;
         log.clear();
-        self.step_onto(app, meter, log);
+        self.step_onto(app, handlers, meter, log);
     }
 
     /// Whether every task is Ended: nobody is Ready, sleeps or waits.
@@ -78,12 +93,17 @@ impl Kernel {
         !self.sched.has_ready() && self.clock.is_quiet() && !self.queues.has_waiter()
     }
 
-    /// Whether idle runs, and no task will wake by itself. No application has base interrupts yet.
+    /// Whether idle runs, no task will wake by itself, and no base interrupt is to come.
     fn is_stuck(&self, app: &App) -> bool
         ensures { (s : State) → Stands self.now s → result ≡ is_stuck app.now s }
     {
-        app.without_handlers();
-        self.sched.current().is_none() && self.clock.is_quiet()
+        if self.sched.current().is_some() {
+            return false;
+        }
+        if !self.clock.is_quiet() {
+            return false;
+        }
+        !app.has_interrupt_after(self.clock.age())
     }
 
     /// The end of the run before its next step, under these limits: the first that holds of a failed `expect`, every task
@@ -110,34 +130,37 @@ impl Kernel {
     }
 }
 
-/// One step of the run, where the trail has less room than a step may need: memory is taken only for the events that it
-/// tells. At `Err(Memory)`, answered only where that growth was refused, it is done all the same.
+/// One step of the run, whose events go to a log of their own first: memory is taken only for those that it tells. So it is done
+/// where the trail has less room than a step may need, and where handlers come before it, as they do before few. At
+/// `Err(Memory)`, answered only where that growth was refused, it is done all the same.
 #[cold]
 #[inline(never)]
-fn step_in_little_room(
+fn step_apart(
     kernel: &mut Kernel,
     app: &App,
+    handlers: &[HandlerId],
     meter: &mut Meter,
     trail: &mut Trail,
 ) -> Result<(), Memory>
+    requires few { length handlers.now ≤ 3 }
     requires going { CanStep app.now kernel.old }
     requires meter { meter.old < 2 ^ 63 }
     requires begun { trail.old.told ≡ [] }
-    ensures stands { (s : State) → Stands kernel.old s → Stands kernel.new (step app.now [] s) }
+    ensures stands { (s : State) → Stands kernel.old s → Stands kernel.new (step app.now handlers.now s) }
     ensures told { OnOk result ((s : State) → Stands kernel.old s
-        → trail.new.told ≡ (step app.now [] s).log) }
+        → trail.new.told ≡ (step app.now handlers.now s).log) }
     ensures before { trail.new.before ≡ trail.old.before }
     ensures meter { meter.new ≡ meter.old + 1 }
     ensures memory { OnErr result ((s : State) → Stands kernel.old s
-        → 0 < length (step app.now [] s).log) }
+        → 0 < length (step app.now handlers.now s).log) }
 {
     let mut log = StepLog::new();
-    kernel.step_onto(app, meter, &mut log);
+    kernel.step_onto(app, handlers, meter, &mut log);
     trail.append(log.as_slice())
 }
 
-/// One step of the run, whose events go to the end of the trail. At `Err(Memory)`, answered only where a growth was
-/// refused, so never where the step tells nothing, it is done all the same.
+/// One step of the run, without handlers before it, whose events go to the end of the trail. At `Err(Memory)`, answered only
+/// where a growth was refused, so never where the step tells nothing, it is done all the same.
 fn step_along(
     kernel: &mut Kernel,
     app: &App,
@@ -154,43 +177,132 @@ fn step_along(
         → 0 < length (step app.now [] s).log) }
 {
     if trail.begin().is_err() {
-        return step_in_little_room(kernel, app, meter, trail);
+        return step_apart(kernel, app, &[], meter, trail);
     }
-    kernel.step_onto(app, meter, trail);
+    kernel.step_onto(app, &[], meter, trail);
     Ok(())
+}
+
+/// The handlers of a plan's points at this step, where these points are those from this step on.
+fn handlers_at(points: &[Point], step: u32) -> Injected
+    requires order { Rises (λ (p : definitions.Point). p.step) points.now }
+    requires left { AllByRecursion (λ (p : definitions.Point). step ≤ p.step) points.now }
+    requires few { length (injected points.now step) ≤ 3 }
+    ensures { result.items ≡ injected points.now step }
+{
+    let mut handlers = Injected::new();
+    for point in points {
+        if point.step != step {
+            break;
+        }
+        handlers.push(point.handler);
+    }
+    handlers
+}
+
+/// Whether the first of these points is at this step.
+fn is_due(points: &[Point], step: u32) -> bool
+    ensures { result ≡ is_at step (slice_get points.now 0) }
+{
+    match points.first() {
+        None => false,
+        Some(point) => point.step == step,
+    }
+}
+
+/// The same, with these handlers before it.
+#[cold]
+#[inline(never)]
+fn step_after(
+    kernel: &mut Kernel,
+    app: &App,
+    handlers: &[HandlerId],
+    meter: &mut Meter,
+    trail: &mut Trail,
+) -> Result<(), Memory>
+    requires few { length handlers.now ≤ 3 }
+    requires going { CanStep app.now kernel.old }
+    requires meter { meter.old < 2 ^ 63 }
+    ensures stands { (s : State) → Stands kernel.old s → Stands kernel.new (step app.now handlers.now s) }
+    ensures told { OnOk result ((s : State) → Stands kernel.old s
+        → all_of trail.new ≡ all_of trail.old ++ (step app.now handlers.now s).log) }
+    ensures meter { meter.new ≡ meter.old + 1 }
+    ensures memory { OnErr result ((s : State) → Stands kernel.old s
+        → 0 < length (step app.now handlers.now s).log) }
+{
+    // Room for what the step tells is asked for once it is known.
+    let _ = trail.begin();
+    step_apart(kernel, app, handlers, meter, trail)
+}
+
+/// One step of the run, after the handlers of those points that are at it: these points are those from this step on. It
+/// answers the points after them.
+fn step_by_plan<'a>(
+    kernel: &mut Kernel,
+    app: &App,
+    points: &'a [Point],
+    meter: &mut Meter,
+    trail: &mut Trail,
+) -> Result<&'a [Point], Memory>
+    requires order { Rises (λ (p : definitions.Point). p.step) points.now }
+    requires left { AllByRecursion (λ (p : definitions.Point). kernel.old.steps ≤ p.step) points.now }
+    requires few { length (injected points.now kernel.old.steps) ≤ 3 }
+    requires going { CanStep app.now kernel.old }
+    requires meter { meter.old < 2 ^ 63 }
+    ensures stands { (s : State) → Stands kernel.old s
+        → Stands kernel.new (step app.now (injected points.now kernel.old.steps) s) }
+    ensures told { OnOk result ((s : State) → Stands kernel.old s
+        → all_of trail.new ≡ all_of trail.old ++ (step app.now (injected points.now kernel.old.steps) s).log) }
+    ensures later { IfOk result (λ later. later.now
+        ≡ drop (length (injected points.now kernel.old.steps)) points.now) }
+    ensures meter { meter.new ≡ meter.old + 1 }
+    ensures memory { OnErr result ((s : State) → Stands kernel.old s
+        → 0 < length (step app.now (injected points.now kernel.old.steps) s).log) }
+{
+    if !is_due(points, kernel.steps) {
+        step_along(kernel, app, meter, trail)?;
+        return Ok(points);
+    }
+    let handlers = handlers_at(points, kernel.steps);
+    let (_, later) = points.split_at(handlers.len());
+    step_after(kernel, app, handlers.as_slice(), meter, trail)?;
+    Ok(later)
 }
 
 /// Goes on to the end of the run, and keeps the events.
 fn finish(
     kernel: &mut Kernel,
     app: &App,
+    plan: &Plan,
     limits: &Limits,
     meter: &mut Meter,
     trail: &mut Trail,
 ) -> Result<End, Memory>
     requires stands { Stands kernel.old (reset app.now) }
     requires meter { meter.old < 2 ^ 62 }
-    ensures way { IsUnderWay app.now [] limits.now kernel.new }
+    ensures way { IsUnderWay app.now plan.now limits.now kernel.new }
     ensures events { OnOk result
-        (all_of trail.new ≡ all_of trail.old ++ events_after app.now [] kernel.new.steps) }
+        (all_of trail.new ≡ all_of trail.old ++ events_after app.now plan.now kernel.new.steps) }
     ensures ended { IfOk result
-        (λ end. end_of app.now limits.now (state_after app.now [] kernel.new.steps) ≡ Some end) }
+        (λ end. end_of app.now limits.now (state_after app.now plan.now kernel.new.steps) ≡ Some end) }
     ensures meter { meter.new ≡ meter.old + kernel.new.steps }
     // memory is asked for events alone
-    ensures memory { OnErr result (0 < length (events_after app.now [] kernel.new.steps)) }
+    ensures memory { OnErr result (0 < length (events_after app.now plan.now kernel.new.steps)) }
 {
     app.well_formed();
     limits.well_formed();
+    plan.well_formed();
+    let mut points = plan.points();
     'steps: loop {
         if let Some(end) = kernel.ended(app, limits) {
             return Ok(end);
         }
-        step_along(kernel, app, meter, trail)?;
+        points = step_by_plan(kernel, app, points, meter, trail)?;
     }
 }
 
-/// The run of an application with this plan, from reset to its end under these limits. No application has handlers yet, so the plan
-/// is empty.
+/// The run of an application with this plan, from reset to its end under these limits. A point of the plan past the end of
+/// the run does nothing.
 ///
 /// The meter, which is below 2^62, rises by the steps of the run. At `Err(Memory)`, answered only where a growth was
 /// refused, so never where the run tells nothing, it has risen by no more than that.
@@ -201,19 +313,17 @@ pub fn run(
     limits: Limits,
     meter: &mut Meter,
 ) -> Result<Run, Memory>
-    requires plan { plan.now ≡ [] }
-    requires meter { meter.old < 2 ^ 62 }
+    requires { meter.old < 2 ^ 62 }
     ensures run { IfOk result (λ run. IsRun app.now plan.now limits run) }
     ensures meter { IfOk result (λ run. meter.new ≡ meter.old + run.steps) }
     ensures rises { meter.old ≤ meter.new }
     ensures refused { OnErr result ((run : definition.Run) → IsRun app.now plan.now limits run
         → (meter.new ≤ meter.old + run.steps) × (0 < length run.events)) }
 {
-    let _ = plan;
     limits.well_formed();
     let mut trail = Trail::new(alloc);
     let mut kernel = Kernel::boot(app);
-    let end = finish(&mut kernel, app, &limits, meter, &mut trail)?;
+    let end = finish(&mut kernel, app, plan, &limits, meter, &mut trail)?;
     Ok(Run {
         events: trail.into_events(),
         steps: kernel.steps,

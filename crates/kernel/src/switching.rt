@@ -1,5 +1,5 @@
 //! Who runs: each way in which the processor changes.
-ghost use Rattle.std.specs.Prelude.{◌≡◌, ℕ, ◌<◌, ◌≤◌, ◌+◌, ◌++◌, List, None, length};
+ghost use Rattle.std.specs.Prelude.{◌≡◌, ℕ, ◌<◌, ◌≤◌, ◌+◌, ◌++◌, List, None, length, nat_lt};
 ghost use Rattle.std.specs.List.{AllByRecursion};
 ghost use Rattle.model.specs.State.{State, for_each};
 ghost use Rattle.model.specs.Switching.{choose, is_held, is_ready, preempt, slice, settle, unless_held, yield_now, make_ready};
@@ -9,8 +9,8 @@ ghost use Rattle.sched.specs.StandsFor.{StandsFor as ScheduleStandsFor};
 ghost use Rattle.sched.specs.Schedule as schedule;
 ghost use Rattle.clock.specs.StandsFor.{StandsFor as ClockStandsFor};
 ghost use Rattle.objects.specs.Queues.{StandsFor as QueuesStandFor};
-ghost use Rattle.kernel.specs.StandsFor.{StandsFor, Does, DoesAny, Moves, change};
-ghost use Rattle.kernel.specs.Can.{CanTick, AreToWake};
+ghost use Rattle.kernel.specs.StandsFor.{StandsFor, Stands, Does, DoesAny, Moves, change};
+ghost use Rattle.kernel.specs.Can.{CanAdvance, CanTick, AreToWake, Leaves};
 
 use crate::kernel::Kernel;
 use crate::log::Log;
@@ -29,11 +29,12 @@ fn make_all_ready(sched: &mut Sched, queues: &mut Queues, tasks: &[TaskId])
     ensures left { (s : State) → QueuesStandFor queues.old None s
         → AllByRecursion (λ i. i < length s.tasks) tasks.now
         → QueuesStandFor queues.new None (for_each make_ready tasks.now s) }
-    ensures current { sched.new.current ≡ sched.old.current }
+    ensures depth { sched.new.depth ≡ sched.old.depth }
+    ensures objects { queues.new.objects ≡ queues.old.objects }
 {
     for task in tasks {
         queues.drop_waiter(*task);
-        sched.make_ready(*task);
+        sched.wake(*task);
     }
 }
 
@@ -51,7 +52,7 @@ pub(crate) fn wake_all(sched: &mut Sched, clock: &mut Clock, tasks: &[TaskId])
 {
     for task in tasks {
         clock.wake(*task);
-        sched.make_ready(*task);
+        sched.wake(*task);
     }
 }
 
@@ -79,15 +80,17 @@ impl Kernel {
     }
 
     /// Whether the scheduler is held.
-    fn is_held(&self) -> bool
-        ensures held { (s : State) → StandsFor self.now s → result ≡ is_held s }
+    pub(crate) fn is_held(&self) -> bool
+        ensures held { (s : State) → Stands self.now s → result ≡ is_held s }
+        ensures depth { result ≡ nat_lt 0 self.now.sched.depth }
     {
         self.sched.depth() > 0
     }
 
     /// The choice runs.
     pub(crate) fn choose<L: Log>(&mut self, log: &mut L)
-        requires { 0 < (L.logged log.old).room }
+        requires room { 0 < (L.logged log.old).room }
+        requires free { self.old.sched.depth ≡ 0 }
         ensures { Does 1 self.old (L.logged log.old) self.new (L.logged log.new) choose }
     {
         let before = self.sched.current();
@@ -97,7 +100,8 @@ impl Kernel {
 
     /// The running task goes behind its equals, and the choice runs.
     pub(crate) fn yield_now<L: Log>(&mut self, log: &mut L)
-        requires { 0 < (L.logged log.old).room }
+        requires room { 0 < (L.logged log.old).room }
+        requires free { self.old.sched.depth ≡ 0 }
         ensures { Does 1 self.old (L.logged log.old) self.new (L.logged log.new) yield_now }
     {
         let before = self.sched.current();
@@ -107,7 +111,8 @@ impl Kernel {
 
     /// The end of a tick: a task above the running one runs, or else the next of equal priority.
     fn slice<L: Log>(&mut self, log: &mut L)
-        requires { 0 < (L.logged log.old).room }
+        requires room { 0 < (L.logged log.old).room }
+        requires free { self.old.sched.depth ≡ 0 }
         ensures { Does 1 self.old (L.logged log.old) self.new (L.logged log.new) slice }
     {
         let before = self.sched.current();
@@ -117,8 +122,10 @@ impl Kernel {
 
     /// A task above the running one runs, if there is one.
     pub(crate) fn preempt<L: Log>(&mut self, log: &mut L)
-        requires { 0 < (L.logged log.old).room }
-        ensures { Does 1 self.old (L.logged log.old) self.new (L.logged log.new) preempt }
+        requires room { 0 < (L.logged log.old).room }
+        requires free { self.old.sched.depth ≡ 0 }
+        ensures does { Does 1 self.old (L.logged log.old) self.new (L.logged log.new) preempt }
+        ensures queues { self.new.queues ≡ self.old.queues }
     {
         let before = self.sched.current();
         self.sched.preempt();
@@ -146,8 +153,9 @@ impl Kernel {
     // The step stands twice in the program, so the compiler doesn't inline this by itself.
     #[inline(always)]
     fn increment_tick(&mut self)
-        requires { CanTick self.old }
-        ensures { Moves self.old self.new increment_tick }
+        requires { CanAdvance self.old }
+        ensures does { Moves self.old self.new increment_tick }
+        ensures leaves { Leaves self.old self.new }
     {
         if !self.clock.advance_if_none_due() {
             self.wake_due();
@@ -157,25 +165,26 @@ impl Kernel {
     /// The same, by way of a list of those who are due. Inlined, that list would be zeroed at every tick.
     #[inline(never)]
     fn wake_due(&mut self)
-        requires { CanTick self.old }
-        ensures { Moves self.old self.new increment_tick }
+        requires { CanAdvance self.old }
+        ensures does { Moves self.old self.new increment_tick }
+        ensures leaves { Leaves self.old self.new }
     {
         let mut due = clock::Due::new();
         self.clock.advance_into(&mut due);
         make_all_ready(&mut self.sched, &mut self.queues, due.as_slice());
     }
 
-    /// The tick interrupt: one tick, and then a switch if one is due. No application has base interrupts yet.
+    /// The tick interrupt: one tick, then its base interrupts, and then a switch if one is due.
     // Most steps are ticks, and a call would cost a tenth of one.
     #[inline(always)]
     pub(crate) fn tick_interrupt<L: Log>(&mut self, app: &App, log: &mut L)
-        requires room { 0 < (L.logged log.old).room }
-        requires can { CanTick self.old }
-        ensures { Does 1 self.old (L.logged log.old) self.new (L.logged log.new)
+        requires room { 65 ≤ (L.logged log.old).room }
+        requires can { CanTick app.now self.old }
+        ensures { Does 65 self.old (L.logged log.old) self.new (L.logged log.new)
             (tick_interrupt app.now) }
     {
-        app.without_handlers();
         self.increment_tick();
+        self.interrupt(app, log);
         self.slice(log);
     }
 }

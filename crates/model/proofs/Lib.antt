@@ -13,3 +13,5 @@ pub mod Handled
 pub mod Unlocking
 pub mod Phases
 pub mod Reached
+pub mod Plans
+pub mod Ticks

@@ -1,5 +1,6 @@
 -- An application, as its file has it.
-use Rattle.std.specs.Prelude.{ℕ, ◌≤◌, ◌==◌, List, [], length, map, filter, Option, slice_get, option_map, unwrap_or, codes}
+use Rattle.std.specs.Prelude.{ℕ, ◌≤◌, ◌+◌, ◌==◌, List, [], ◌∷◌, length, map, filter, Option, Some, None, slice_get, option_map, unwrap_or, codes, if◌then◌else◌}
+use Rattle.std.specs.Str.{bytes_eq}
 use Rattle.model.specs.declared.object.ObjectKind.{ObjectKind}
 use Rattle.model.specs.declared.op.Access.{Access}
 use Rattle.model.specs.declared.op.Access.TheVariants.{Send, SendFront, Overwrite, Receive, Peek}
@@ -40,6 +41,7 @@ pub record Application : Type 0 where
   pub limits : Limits
   pub objects : List ObjectKind
   pub handlers : List Handler
+  -- in the order in which they come: that of their ticks, at one tick that of the file
   pub interrupts : List Interrupt
   pub tasks : List Definition
 
@@ -78,6 +80,15 @@ isr_op_at app handler op_index = slice_get (ops_of app handler) op_index
 -- the name of a handler
 abbrev pub handler_name_of : Application → ℕ → List ℕ
 handler_name_of app handler = unwrap_or (option_map (λ (h : Handler). h.name) (handler_of app handler)) []
+
+-- the number of the first of these handlers that has this name, where the first of them has this number
+abbrev pub handler_from : ℕ → List ℕ → List Handler → Option ℕ
+handler_from i name [] = None
+handler_from i name (h ∷ hs) = if bytes_eq h.name name then Some i else handler_from (i + 1) name hs
+
+-- the number of the handler of this name
+abbrev pub handler_named : Application → List ℕ → Option ℕ
+handler_named app name = handler_from 0 name app.handlers
 
 -- the handlers of the base interrupts at an elapsed tick, in the order of the file
 abbrev pub interrupts_at : Application → ℕ → List ℕ

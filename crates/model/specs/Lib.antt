@@ -11,4 +11,5 @@ pub mod Calls
 pub mod Handlers
 pub mod Step
 pub mod Run
+pub mod Plans
 pub mod Invariant

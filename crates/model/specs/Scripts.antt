@@ -159,6 +159,17 @@ abbrev pub knows_isr : Application → IsrOp → Bool
 knows_isr app (isr.Do object access) = fits_object app object access
 knows_isr app (isr.Mark n) = true
 
+-- ---- order
+
+-- The number that each has is at most that of those after it.
+abbrev pub Rises : {X : Type 0} → (X → ℕ) → List X → Type 0
+Rises number [] = Unit {0}
+Rises number (x ∷ xs) = AllByRecursion (λ y. number x ≤ number y) xs × Rises number xs
+
+-- The base interrupts are in the order of their ticks.
+abbrev pub InOrder : List Interrupt → Type 0
+InOrder interrupts = Rises (λ (i : Interrupt). i.tick) interrupts
+
 -- ---- the application
 
 -- an object that an application may have (profile: its limits)
@@ -196,6 +207,7 @@ pub record IsWellFormed (app : Application) : Type 0 where
   pub interrupts : AllByRecursion (IsInterrupt app) app.interrupts
   pub few_interrupts : length app.interrupts ≤ most_interrupts
   pub few_at_once : (tick : ℕ) → length (interrupts_at app tick) ≤ most_at_once
+  pub in_order : InOrder app.interrupts
   -- each op speaks of what there is
   pub known : AllByRecursion (KnowsAll app) app.tasks
   pub start : app.start < 4294967296

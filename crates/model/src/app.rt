@@ -1,8 +1,9 @@
-//! An application: its tasks, its limits, the time at reset.
-ghost use Rattle.std.specs.Prelude.{◌≡◌, ◌<◌, ◌≤◌, [], length, string_bytes};
-ghost use Rattle.std.specs.List.{AllByRecursion};
-ghost use Rattle.model.specs.Application.{op_at, op_count, name_of, handler_name_of, isr_op_at};
-ghost use Rattle.model.specs.Scripts.{IsObjectKind, IsScript, IsDefinition, IsWellFormed, KnowsAll, most_objects};
+//! An application: its objects, its handlers and base interrupts, its tasks, its limits, the time at reset.
+ghost use Rattle.std.specs.Prelude.{◌≡◌, ◌<◌, ◌≤◌, ◌==◌, filter, length, map, nat_lt, string_bytes};
+ghost use Rattle.std.specs.List.{list_any};
+ghost use Rattle.model.specs.Application as application;
+ghost use Rattle.model.specs.Application.{op_at, op_count, name_of, handler_name_of, handler_named, interrupts_at, isr_op_at, ops_of};
+ghost use Rattle.model.specs.Scripts.{InOrder, IsScript, IsDefinition, IsWellFormed, most_handler_ops, most_name_bytes};
 
 use crate::ids::{HandlerId, TaskId};
 use crate::limits::Limits;
@@ -66,17 +67,107 @@ impl TaskDefinition {
     }
 }
 
-/// An application: what a run starts from. That it has 1 to 32 tasks and at most 32 objects is profile.
+/// An interrupt handler as the file has it: a name, and ops (profile).
+#[derive(Drop)]
+pub struct HandlerDefinition {
+    name: String,
+    ops: Vec<IsrOp>,
+}
+
+impl Model for HandlerDefinition {
+    ghost use Rattle.std.specs.Prelude.{string_bytes};
+    ghost use Rattle.model.specs.Application.{Handler};
+
+    ghost Value = { Handler };
+
+    ghost view = { λ h. record { name = string_bytes h.name; ops = h.ops.items } };
+}
+
+impl HandlerDefinition {
+    /// The most ops of a handler (profile).
+    pub const MOST_OPS: usize = 16;
+
+    /// A handler of this name (at most 16 bytes) and these ops (at most 16).
+    pub fn new(name: String, ops: Vec<IsrOp>) -> Self
+        requires name { length (string_bytes name) ≤ most_name_bytes }
+        requires few { length ops.items ≤ most_handler_ops }
+        ensures { result ≡ record { name = string_bytes name; ops = ops.items } }
+    {
+        HandlerDefinition { name, ops }
+    }
+
+    /// The name.
+    pub fn name(&self) -> &str
+        ensures { result.now ≡ self.now.name }
+    {
+        self.name.as_str()
+    }
+
+    /// The ops, in order.
+    pub fn ops(&self) -> &[IsrOp]
+        ensures { result.now ≡ self.now.ops }
+    {
+        self.ops.as_slice()
+    }
+}
+
+/// A base interrupt: at this elapsed tick the handler runs (profile).
+#[derive(Clone, Copy, Debug, PartialEq, Eq)]
+pub struct Interrupt {
+    pub tick: u32,
+    pub handler: HandlerId,
+}
+
+// Clauses see the two numbers.
+impl Model for Interrupt {
+    ghost use Rattle.model.specs.Application as application;
+
+    ghost Value = { application.Interrupt };
+
+    ghost view = { λ interrupt. record { tick = interrupt.tick; handler = interrupt.handler } };
+
+    ghost inverse = { λ interrupt. record { tick = interrupt.tick; handler = interrupt.handler } };
+}
+
+impl Default for Interrupt {
+    fn default() -> Self {
+        Interrupt {
+            tick: 1,
+            handler: HandlerId { number: 0 },
+        }
+    }
+}
+
+impl Interrupt {
+    /// The last elapsed tick at which one may come (profile).
+    pub const LAST_TICK: u32 = 1_000_000;
+}
+
+// Those of a tick, which stand together.
+fn at_tick(interrupts: &[Interrupt], tick: u64) -> &[Interrupt]
+    requires { InOrder interrupts.now }
+    ensures { result.now ≡ filter (λ (i : application.Interrupt). i.tick == tick) interrupts.now }
+{
+    let start = interrupts.partition_point(|interrupt| (interrupt.tick as u64) < tick);
+    let (_, rest) = interrupts.split_at(start);
+    let count = rest.partition_point(|interrupt| interrupt.tick as u64 <= tick);
+    let (those, _) = rest.split_at(count);
+    those
+}
+
+/// An application: what a run starts from. That it has 1 to 32 tasks, at most 32 objects, 16 handlers and 1,024 base
+/// interrupts, 4 of them at one tick, is profile.
 #[derive(Drop)]
 pub struct App {
     start: u32,
     limits: Limits,
     objects: Vec<ObjectKind>,
+    handlers: Vec<HandlerDefinition>,
+    interrupts: Vec<Interrupt>,
     tasks: Vec<TaskDefinition>,
 }
 
 impl Model for App {
-    ghost use Rattle.std.specs.Prelude.{[]};
     ghost use Rattle.model.specs.Application.{Application};
     ghost use Rattle.model.specs.Scripts.{IsWellFormed};
 
@@ -86,8 +177,8 @@ impl Model for App {
       start = a.start;
       limits = a.limits;
       objects = a.objects.items;
-      handlers = [];
-      interrupts = [];
+      handlers = a.handlers.items;
+      interrupts = a.interrupts.items;
       tasks = a.tasks.items;
     } };
 
@@ -95,8 +186,8 @@ impl Model for App {
       start = a.start;
       limits = a.limits;
       objects = a.objects.items;
-      handlers = [];
-      interrupts = [];
+      handlers = a.handlers.items;
+      interrupts = a.interrupts.items;
       tasks = a.tasks.items;
     }) };
 }
@@ -105,28 +196,49 @@ impl App {
     /// The most objects, of all kinds together (profile).
     pub const MOST_OBJECTS: usize = 32;
 
-    /// An application of these objects, 32 at most, and these tasks, 1 to 32 of them, whose time at reset is `start`. Each
-    /// op speaks of objects that are there and allow it.
+    /// The most handlers (profile).
+    pub const MOST_HANDLERS: usize = 16;
+
+    /// The most base interrupts (profile).
+    pub const MOST_INTERRUPTS: usize = 1024;
+
+    /// The most base interrupts at one elapsed tick (profile).
+    pub const MOST_AT_ONCE: usize = 4;
+
+    /// An application of these objects, handlers, base interrupts and tasks, whose time at reset is `start`. They are well
+    /// formed together: each is within the limits, each op speaks of objects that are there and allow it, and the
+    /// interrupts are in the order of their ticks.
     pub fn new(
         start: u32,
         limits: Limits,
         objects: Vec<ObjectKind>,
+        handlers: Vec<HandlerDefinition>,
+        interrupts: Vec<Interrupt>,
         tasks: Vec<TaskDefinition>,
     ) -> Self
-        requires kinds { AllByRecursion IsObjectKind objects.items }
-        requires few_objects { length objects.items ≤ most_objects }
-        requires some { 1 ≤ length tasks.items }
-        requires few { length tasks.items ≤ 32 }
-        requires formed { AllByRecursion IsDefinition tasks.items }
-        requires known { AllByRecursion
-            (KnowsAll (record { start = start; limits = limits; objects = objects.items; handlers = []; interrupts = []; tasks = tasks.items }))
-            tasks.items }
-        ensures { result ≡ record { start = start; limits = limits; objects = objects.items; handlers = []; interrupts = []; tasks = tasks.items } }
+        requires { IsWellFormed (record {
+          start = start;
+          limits = limits;
+          objects = objects.items;
+          handlers = handlers.items;
+          interrupts = interrupts.items;
+          tasks = tasks.items;
+        }) }
+        ensures { result ≡ record {
+          start = start;
+          limits = limits;
+          objects = objects.items;
+          handlers = handlers.items;
+          interrupts = interrupts.items;
+          tasks = tasks.items;
+        } }
     {
         App {
             start,
             limits,
             objects,
+            handlers,
+            interrupts,
             tasks,
         }
     }
@@ -134,14 +246,6 @@ impl App {
     /// Does nothing: its contract tells callers what holds of every application.
     pub fn well_formed(&self)
         ensures { IsWellFormed self.now }
-    {
-        let _ = &self.start;
-    }
-
-    /// Does nothing: its contract tells callers that no application has handlers yet, nor base interrupts.
-    pub fn without_handlers(&self)
-        ensures handlers { self.now.handlers ≡ [] }
-        ensures interrupts { self.now.interrupts ≡ [] }
     {
         let _ = &self.start;
     }
@@ -165,6 +269,37 @@ impl App {
         ensures { result.now ≡ self.now.objects }
     {
         self.objects.as_slice()
+    }
+
+    /// The handlers, in the order of the file.
+    pub fn handlers(&self) -> &[HandlerDefinition]
+        ensures { result.now ≡ self.now.handlers }
+    {
+        self.handlers.as_slice()
+    }
+
+    /// The base interrupts in the order in which they come: that of their ticks, at one tick that of the file.
+    pub fn interrupts(&self) -> &[Interrupt]
+        ensures { result.now ≡ self.now.interrupts }
+    {
+        self.interrupts.as_slice()
+    }
+
+    /// The base interrupts at an elapsed tick, in the order of the file. Found by bisection.
+    pub fn interrupts_at(&self, tick: u64) -> &[Interrupt]
+        ensures { map (λ (i : application.Interrupt). i.handler) result.now ≡ interrupts_at self.now tick }
+    {
+        at_tick(self.interrupts.as_slice(), tick)
+    }
+
+    /// Whether a base interrupt comes after this elapsed tick.
+    pub fn has_interrupt_after(&self, tick: u64) -> bool
+        ensures { result ≡ list_any (λ (i : application.Interrupt). nat_lt tick i.tick) self.now.interrupts }
+    {
+        match self.interrupts.last() {
+            None => false,
+            Some(last) => tick < last.tick as u64,
+        }
     }
 
     /// The tasks, in the order of the file.
@@ -202,20 +337,43 @@ impl App {
         }
     }
 
-    /// The op of this index of a handler; `None` past its end, or where there is no such handler. No application has handlers
-    /// yet.
-    pub fn isr_op(&self, _handler: HandlerId, _op_index: u16) -> Option<IsrOp>
-        ensures { result ≡ isr_op_at self.now _handler _op_index }
+    /// The ops of a handler; none where there is no such handler.
+    pub fn handler_ops(&self, handler: HandlerId) -> &[IsrOp]
+        ensures { result.now ≡ ops_of self.now handler }
     {
-        self.without_handlers();
-        None
+        match self.handlers.get(handler.number as usize) {
+            None => &[],
+            Some(definition) => definition.ops(),
+        }
     }
 
-    /// The name of a handler; empty where there is no such handler. No application has handlers yet.
-    pub fn handler_name(&self, _handler: HandlerId) -> &str
-        ensures { result.now ≡ handler_name_of self.now _handler }
+    /// The op of this index of a handler; `None` past its end, or where there is no such handler.
+    pub fn isr_op(&self, handler: HandlerId, op_index: u16) -> Option<IsrOp>
+        ensures { result ≡ isr_op_at self.now handler op_index }
     {
-        self.without_handlers();
-        ""
+        let definition = self.handlers.get(handler.number as usize)?;
+        definition.ops().get(op_index as usize).copied()
+    }
+
+    /// The name of a handler; empty where there is no such handler.
+    pub fn handler_name(&self, handler: HandlerId) -> &str
+        ensures { result.now ≡ handler_name_of self.now handler }
+    {
+        match self.handlers.get(handler.number as usize) {
+            None => "",
+            Some(definition) => definition.name(),
+        }
+    }
+
+    /// The first handler of this name; `None` where none has it.
+    pub fn handler_named(&self, name: &str) -> Option<HandlerId>
+        ensures { result ≡ handler_named self.now name.now }
+    {
+        for (index, handler) in self.handlers.iter().enumerate() {
+            if handler.name() == name {
+                return HandlerId::new(index as u8);
+            }
+        }
+        None
     }
 }

@@ -75,6 +75,12 @@ impl HandlerId {
     }
 }
 
+impl Default for HandlerId {
+    fn default() -> Self {
+        HandlerId { number: 0 }
+    }
+}
+
 /// An object that tasks share, by its index among all of them: 0 to 31. Those of the file's first section come first.
 #[derive(Clone, Copy, Debug, PartialEq, Eq)]
 pub struct ObjectId {

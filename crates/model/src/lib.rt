@@ -14,7 +14,7 @@ mod plan;
 mod run;
 mod script;
 
-pub use app::{App, TaskDefinition};
+pub use app::{App, HandlerDefinition, Interrupt, TaskDefinition};
 pub use call::{CallProgress, Phase, WaitList};
 pub use event::{End, Event, What};
 pub use ids::{HandlerId, ObjectId, TaskId};

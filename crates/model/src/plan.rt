@@ -1,5 +1,6 @@
 //! Which handlers are injected before which steps.
-ghost use Rattle.std.specs.Prelude.{◌≡◌, [], List, IsOkAnd};
+ghost use Rattle.std.specs.Prelude.{◌≡◌, ◌↔◌, true, false, Err, IfOk};
+ghost use Rattle.model.specs.Plans.{IsPlan, falls, is_crowded};
 
 use crate::ids::HandlerId;
 use std::marker::Model;
@@ -20,7 +21,7 @@ pub enum BadPlan {
     Crowded,
 }
 
-/// The injections of one run, in order.
+/// The injections of one run, in the order of their steps, at most three at one step (profile).
 #[derive(Drop)]
 pub struct Plan {
     points: Vec<Point>,
@@ -29,18 +30,73 @@ pub struct Plan {
 impl Model for Plan {
     ghost use Rattle.std.specs.Prelude.{List};
     ghost use Rattle.model.specs.declared.plan.Point.{Point};
+    ghost use Rattle.model.specs.Plans.{IsPlan};
 
     ghost Value = { List Point };
 
     ghost view = { λ p. p.points.items };
+
+    ghost invariant = { λ p. IsPlan p.points.items };
+}
+
+// Whether some step is less than the one before it.
+fn falls(points: &[Point]) -> bool
+    ensures { result ≡ falls points.now }
+{
+    let mut last = 0;
+    for point in points {
+        if point.step < last {
+            return true;
+        }
+        last = point.step;
+    }
+    false
+}
+
+// Whether some point is at the step of the third after it.
+fn is_crowded(points: &[Point]) -> bool
+    ensures { result ≡ is_crowded points.now }
+{
+    let mut left = points;
+    while let [point, after @ ..] = left {
+        if let Some(fourth) = after.get(2) {
+            if fourth.step == point.step {
+                return true;
+            }
+        }
+        left = after;
+    }
+    false
 }
 
 impl Plan {
-    /// The plan of these points. No application has handlers yet, so there are none.
+    /// The plan of these points; `Falling` comes before `Crowded`.
     pub fn new(points: Vec<Point>) -> Result<Self, BadPlan>
-        requires { points.items ≡ [] }
-        ensures { IsOkAnd result (λ plan. plan ≡ points.items) }
+        ensures value { IfOk result (λ plan. plan ≡ points.items) }
+        ensures falling { (result ≡ Err BadPlan.Falling) ↔ (falls points.items ≡ true) }
+        ensures crowded { (result ≡ Err BadPlan.Crowded)
+            ↔ ((falls points.items ≡ false) × (is_crowded points.items ≡ true)) }
     {
+        if falls(points.as_slice()) {
+            return Err(BadPlan::Falling);
+        }
+        if is_crowded(points.as_slice()) {
+            return Err(BadPlan::Crowded);
+        }
         Ok(Plan { points })
+    }
+
+    /// The points, in order.
+    pub fn points(&self) -> &[Point]
+        ensures { result.now ≡ self.now }
+    {
+        self.points.as_slice()
+    }
+
+    /// Does nothing: its contract tells callers what holds of every plan.
+    pub fn well_formed(&self)
+        ensures { IsPlan self.now }
+    {
+        let _ = &self.points;
     }
 }

@@ -1,5 +1,5 @@
 -- Runs whose texts are compared letter by letter.
-use Rattle.std.specs.Prelude.{ℕ, List, [], ◌∷◌, Some, None, codes}
+use Rattle.std.specs.Prelude.{ℕ, Bool, List, [], ◌∷◌, Some, None, codes}
 use Rattle.model.specs.Application.{Application, Definition, Handler}
 use Rattle.model.specs.Run.{Run}
 use Rattle.model.specs.declared.op.Op.{Op}
@@ -10,6 +10,8 @@ use Rattle.model.specs.declared.event.Event.{Event}
 use Rattle.model.specs.declared.event.What.{What}
 use Rattle.model.specs.declared.event.What.TheVariants as what
 use Rattle.model.specs.declared.event.End.TheVariants.{Pass, Check}
+use Rattle.report.specs.declared.title.Title.{Title}
+use Rattle.report.specs.declared.title.Title.TheVariants.{Row}
 
 -- an application of these tasks, from tick 0 and under no limits but the most
 abbrev pub app_of : List Definition → Application
@@ -65,3 +67,7 @@ each_form_run = record {
   ticks = 0;
   end = Check a 65535;
 }
+
+-- a row of the greatest number and step, whose handler's name is of the greatest length
+abbrev pub last_row : (reached : Bool) → Title
+last_row reached = Row 1000000 (record { step = 1000000; handler = 0 }) reached

@@ -1,5 +1,5 @@
 -- The text of a run.
-use Rattle.std.specs.Prelude.{ℕ, List, [], ◌++◌, codes, decimal, Option, Some, None, option_map, unwrap_or}
+use Rattle.std.specs.Prelude.{ℕ, Bool, true, false, List, [], ◌++◌, codes, decimal, Option, Some, None, option_map, unwrap_or}
 use Rattle.std.specs.List.{flat_map}
 use Rattle.model.specs.Application.{Application, op_at, word_of, name_of, isr_op_at, word_of_isr, handler_name_of}
 use Rattle.model.specs.Run.{Run}
@@ -8,6 +8,9 @@ use Rattle.model.specs.declared.event.What.{What}
 use Rattle.model.specs.declared.event.What.TheVariants as what
 use Rattle.model.specs.declared.event.End.{End}
 use Rattle.model.specs.declared.event.End.TheVariants.{Pass, Check, Ticks, Steps, Stuck}
+use Rattle.model.specs.declared.plan.Point.{Point}
+use Rattle.report.specs.declared.title.Title.{Title}
+use Rattle.report.specs.declared.title.Title.TheVariants.{Base, Row}
 
 -- the first word of a task's op of this index; empty where no op is
 abbrev pub word_at : Application → ℕ → ℕ → List ℕ
@@ -56,12 +59,27 @@ verdict_text app Ticks = codes "ticks"
 verdict_text app Steps = codes "steps"
 verdict_text app Stuck = codes "stuck"
 
+-- an injection point: the step, and the name of the handler
+abbrev pub point_text : Application → Point → List ℕ
+point_text app point = decimal point.step ++ codes " " ++ handler_name_of app point.handler
+
+-- what is said of a point that is not reached
+abbrev pub reached_text : (reached : Bool) → List ℕ
+reached_text true = []
+reached_text false = codes "not reached, "
+
+-- what the report is of: the base run, or the row of this number
+abbrev pub title_text : Application → Title → List ℕ
+title_text app Base = codes "base: "
+title_text app (Row number point reached) =
+    codes "row " ++ decimal number ++ codes " at " ++ point_text app point ++ codes ": " ++ reached_text reached
+
 -- the head line of a run
-abbrev pub head_text : Application → (steps ticks : ℕ) → End → List ℕ
-head_text app steps ticks end =
-    codes "base: " ++ verdict_text app end ++ codes " in " ++ decimal steps ++ codes " steps, "
+abbrev pub head_text : Application → Title → (steps ticks : ℕ) → End → List ℕ
+head_text app title steps ticks end =
+    title_text app title ++ verdict_text app end ++ codes " in " ++ decimal steps ++ codes " steps, "
     ++ decimal ticks ++ codes " ticks\n"
 
 -- a run: its head line, and the lines of its events
-abbrev pub run_text : Application → Run → List ℕ
-run_text app run = head_text app run.steps run.ticks run.end ++ flat_map (event_text app) run.events
+abbrev pub run_text : Application → Title → Run → List ℕ
+run_text app title run = head_text app title run.steps run.ticks run.end ++ flat_map (event_text app) run.events

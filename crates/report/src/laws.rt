@@ -1,11 +1,13 @@
 //! Laws of the definitions: each is the contract of a function that does nothing.
-ghost use Rattle.std.specs.Prelude.{◌≡◌, ◌++◌, codes};
-ghost use Rattle.report.specs.Examples.{delay_one, delay_one_run, each_form, each_form_run};
-ghost use Rattle.report.specs.Text.{run_text};
+ghost use Rattle.std.specs.Prelude.{◌≡◌, ◌++◌, codes, true, false};
+ghost use Rattle.report.specs.Examples.{delay_one, delay_one_run, each_form, each_form_run, last_row};
+ghost use Rattle.report.specs.Text.{head_text, run_text};
+ghost use Rattle.report.specs.declared.title.Title.TheVariants.{Base};
+ghost use Rattle.model.specs.declared.event.End.TheVariants.{Pass, Check};
 
 /// The report of a `delay 1` beside a task that only marks, letter by letter.
 pub fn report_of_delay_one()
-    ensures { run_text delay_one delay_one_run ≡
+    ensures { run_text delay_one Base delay_one_run ≡
         codes "base: pass in 4 steps, 1 ticks\n"
         ++ codes "0 0 call a 0 delay = 0\n"
         ++ codes "0 0 run b\n"
@@ -18,7 +20,7 @@ pub fn report_of_delay_one()
 
 /// An event of each form, with the largest numbers, letter by letter.
 pub fn report_of_each_form()
-    ensures { run_text each_form each_form_run ≡
+    ensures { run_text each_form Base each_form_run ≡
         codes "base: check abcdefghijklmnop 65535 in 4294967295 steps, 0 ticks\n"
         ++ codes "4294967295 4294967295 call abcdefghijklmnop 0 delay_until = 4294967295\n"
         ++ codes "0 0 call abcdefghijklmnop 0 delay_until = none\n"
@@ -30,4 +32,12 @@ pub fn report_of_each_form()
         ++ codes "1 10 isr ABCDEFGHIJKLMNOP 0 send_front = none\n"
         ++ codes "1 10 isr ABCDEFGHIJKLMNOP 1  = none\n"
         ++ codes "1 10 mark ABCDEFGHIJKLMNOP 4294967295\n" }
+{}
+
+/// The head lines of a row, letter by letter: of one that is reached, and of one that isn't.
+pub fn heads_of_rows()
+    ensures reached { head_text each_form (last_row true) 1000000 7 (Check 0 65535) ≡
+        codes "row 1000000 at 1000000 ABCDEFGHIJKLMNOP: check abcdefghijklmnop 65535 in 1000000 steps, 7 ticks\n" }
+    ensures not_reached { head_text each_form (last_row false) 12 0 Pass ≡
+        codes "row 1000000 at 1000000 ABCDEFGHIJKLMNOP: not reached, pass in 12 steps, 0 ticks\n" }
 {}

@@ -8,6 +8,8 @@ mod lines;
 mod run;
 mod tens;
 mod text;
+mod title;
 
-pub use laws::{report_of_delay_one, report_of_each_form};
+pub use laws::{heads_of_rows, report_of_delay_one, report_of_each_form};
 pub use run::write_run;
+pub use title::Title;

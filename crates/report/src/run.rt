@@ -6,7 +6,8 @@ ghost use Rattle.byte_io.specs.Bytes.{Writes, Adds};
 ghost use Rattle.report.specs.Text.{event_text, head_text, run_text};
 
 use crate::lines::Lines;
-use crate::text::{MAX_LINE, push_head};
+use crate::text::{MAX_HEAD, MAX_LINE, push_head};
+use crate::title::Title;
 use byte_io::{Page, Sink, WriteFault, flush, make_room};
 use model::{App, Event, Run};
 
@@ -14,15 +15,16 @@ fn add_head<W: Sink>(
     writer: &mut W,
     page: &mut Page,
     app: &App,
+    title: Title,
     run: &Run,
 ) -> Result<(), WriteFault>
     requires { W.has_failed writer.old ≡ false }
     ensures text { Adds (W.held writer.old) (W.held writer.new) page.old page.new result
-        (head_text app.now run.now.steps run.now.ticks run.now.end) }
+        (head_text app.now title run.now.steps run.now.ticks run.now.end) }
     ensures failed { W.has_failed writer.new ≡ is_err result }
 {
-    make_room(writer, page, MAX_LINE)?;
-    push_head(page, app, run);
+    make_room(writer, page, MAX_HEAD)?;
+    push_head(page, app, title, run);
     Ok(())
 }
 
@@ -51,26 +53,38 @@ fn add_events<W: Sink>(
 }
 
 // Adds the report of a run to the page. What doesn't fit goes to the writer first.
-fn add_run<W: Sink>(writer: &mut W, page: &mut Page, app: &App, run: &Run) -> Result<(), WriteFault>
+fn add_run<W: Sink>(
+    writer: &mut W,
+    page: &mut Page,
+    app: &App,
+    title: Title,
+    run: &Run,
+) -> Result<(), WriteFault>
     requires { W.has_failed writer.old ≡ false }
     ensures text { Adds (W.held writer.old) (W.held writer.new) page.old page.new result
-        (run_text app.now run.now) }
+        (run_text app.now title run.now) }
     ensures failed { W.has_failed writer.new ≡ is_err result }
 {
-    add_head(writer, page, app, run)?;
+    add_head(writer, page, app, title, run)?;
     let mut lines = Lines::new(app);
     add_events(writer, page, &mut lines, run.events.as_slice())
 }
 
-/// Writes the report of a run: its head line, and a line for each event. At `Err` the writer failed or took none of some
-/// bytes, and it has taken a beginning of the report.
-pub fn write_run<W: Sink>(writer: &mut W, app: &App, run: &Run) -> Result<(), WriteFault>
+/// Writes the report of a run: its head line, which begins with the title, and a line for each event. The run is of this
+/// application, and so is the handler of a row's point. At `Err` the writer failed or took none of some bytes, and it has taken
+/// a beginning of the report.
+pub fn write_run<W: Sink>(
+    writer: &mut W,
+    app: &App,
+    title: Title,
+    run: &Run,
+) -> Result<(), WriteFault>
     requires { W.has_failed writer.old ≡ false }
     ensures text { Writes (W.held writer.old) (W.held writer.new) result
-        (run_text app.now run.now) }
+        (run_text app.now title run.now) }
     ensures failed { W.has_failed writer.new ≡ is_err result }
 {
     let mut page = Page::new();
-    add_run(writer, &mut page, app, run)?;
+    add_run(writer, &mut page, app, title, run)?;
     flush(writer, &mut page)
 }

@@ -1,16 +1,20 @@
 //! The head line of a run, and the fronts of other lines, into a page that has room for them.
 ghost use Rattle.std.specs.Prelude.{◌≡◌, ◌≤◌, ◌+◌, ◌++◌, length};
 ghost use Rattle.model.specs.Application.{name_of, handler_name_of};
-ghost use Rattle.report.specs.Text.{word_at, call_front, isr_word_at, isr_front, verdict_text, head_text};
+ghost use Rattle.report.specs.Text.{word_at, call_front, isr_word_at, isr_front, verdict_text, point_text, reached_text, title_text, head_text};
 ghost use Rattle.report.specs.Fronts.{mark_front, isr_mark_front, run_front};
 
+use crate::title::Title;
 use byte_io::Page;
-use model::{App, End, HandlerId, Run, TaskId};
+use model::{App, End, HandlerId, Point, Run, TaskId};
 
-// The room that a line needs at most. The longest is that of a call: two numbers of 10 digits, two spaces, at most 64 bytes of
-// what happened, and a line feed. Texts that are copied whole end at most 88 bytes after the line's beginning. A head has its
-// verdict of at most 64 bytes, two numbers, and 26 bytes of words.
+// The room that the line of an event needs at most. The longest is that of a call: two numbers of 10 digits, two spaces, at most
+// 64 bytes of what happened, and a line feed. Texts that are copied whole end at most 88 bytes after the line's beginning.
 pub(crate) const MAX_LINE: usize = 128;
+
+// The room that a head line needs at most: its title and its verdict of at most 64 bytes each, two numbers of 10 digits, and 19
+// bytes of words.
+pub(crate) const MAX_HEAD: usize = 192;
 
 // The name of a task.
 fn name(app: &App, task: TaskId) -> &[u8]
@@ -136,12 +140,56 @@ fn push_verdict(page: &mut Page, app: &App, end: End)
     }
 }
 
-// Adds the head line of a run.
-pub(crate) fn push_head(page: &mut Page, app: &App, run: &Run)
-    requires { length page.old + MAX_LINE ≤ Page.SIZE }
-    ensures { page.new ≡ page.old ++ head_text app.now run.now.steps run.now.ticks run.now.end }
+// Adds an injection point: a number of at most 10 digits, a space, and a name of at most 16 bytes.
+fn push_point(page: &mut Page, app: &App, point: Point)
+    requires { length page.old + 27 ≤ Page.SIZE }
+    ensures text { page.new ≡ page.old ++ point_text app.now point }
+    ensures size { length page.new ≤ length page.old + 27 }
 {
-    page.push_text(b"base: ");
+    page.push_number(point.step);
+    page.push_text(b" ");
+    page.push_text(handler_name(app, point.handler));
+}
+
+// Adds what is said of a point that is not reached.
+fn push_reached(page: &mut Page, reached: bool)
+    requires { length page.old + 13 ≤ Page.SIZE }
+    ensures text { page.new ≡ page.old ++ reached_text reached }
+    ensures size { length page.new ≤ length page.old + 13 }
+{
+    if !reached {
+        page.push_text(b"not reached, ");
+    }
+}
+
+fn push_title(page: &mut Page, app: &App, title: Title)
+    requires { length page.old + 64 ≤ Page.SIZE }
+    ensures text { page.new ≡ page.old ++ title_text app.now title }
+    ensures size { length page.new ≤ length page.old + 64 }
+{
+    match title {
+        Title::Base => page.push_text(b"base: "),
+        Title::Row {
+            number,
+            point,
+            reached,
+        } => {
+            page.push_text(b"row ");
+            page.push_number(number);
+            page.push_text(b" at ");
+            push_point(page, app, point);
+            page.push_text(b": ");
+            push_reached(page, reached);
+        }
+    }
+}
+
+// Adds the head line of a run.
+pub(crate) fn push_head(page: &mut Page, app: &App, title: Title, run: &Run)
+    requires { length page.old + MAX_HEAD ≤ Page.SIZE }
+    ensures { page.new ≡ page.old ++ head_text app.now title run.now.steps run.now.ticks run.now.end }
+{
+    push_title(page, app, title);
     push_verdict(page, app, run.end);
     page.push_text(b" in ");
     page.push_number(run.steps);

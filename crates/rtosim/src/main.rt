@@ -30,7 +30,7 @@ fn main(rt: HostRuntime) -> ExitCode {
     let status = match status(&rt) {
         Ok(status) => status,
         Err(error) if error.kind() == io::ErrorKind::OutOfMemory => {
-            refuse(&mut ToWriter::new(rt.stderr()), "", ServeFault::Memory)
+            refuse(&mut ToWriter::new(rt.stderr()), ServeFault::Memory)
         }
         // A word is not UTF-8.
         Err(_) => {

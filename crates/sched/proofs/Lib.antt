@@ -1,5 +1,7 @@
 pub mod Bits
 pub mod Deeds
+pub mod LinedUp
+pub mod OneList
 pub mod ReadyList
 pub mod Standing
 pub mod Turning

@@ -13,7 +13,7 @@ use Rattle.lists.specs.declared.ids.ListId.{ListId}
 use Rattle.sched.specs.ReadyLists.{AtHome, IsHighest, ready_list_of}
 
 -- the lists from this priority on have no task of a lower one
-none_lower : (k : ℕ) (ls : List (List (ℕ × ℕ))) → AtHome k ls → Each (λ e. k ≤ e.1) (ready_list_of ls)
+pub none_lower : (k : ℕ) (ls : List (List (ℕ × ℕ))) → AtHome k ls → Each (λ e. k ≤ e.1) (ready_list_of ls)
 none_lower k [] h = tt
 none_lower k (l ∷ ls) h =
     Each-append (λ e. k ≤ e.1) (ready_list_of ls) l
@@ -22,10 +22,10 @@ none_lower k (l ∷ ls) h =
 
 -- a task that is added
 
-add-before : (e f : ℕ × ℕ) (fs : List (ℕ × ℕ)) → f.1 < e.1 → add_to_ready_list e (f ∷ fs) ≡ e ∷ f ∷ fs
+pub add-before : (e f : ℕ × ℕ) (fs : List (ℕ × ℕ)) → f.1 < e.1 → add_to_ready_list e (f ∷ fs) ≡ e ∷ f ∷ fs
 add-before e f fs less = let b : nat_lt f.1 e.1 ≡ true = lt-ltb f.1 e.1 less in rw b refl
 
-add-after : (e f : ℕ × ℕ) (fs : List (ℕ × ℕ)) → e.1 ≤ f.1 → add_to_ready_list e (f ∷ fs) ≡ f ∷ add_to_ready_list e fs
+pub add-after : (e f : ℕ × ℕ) (fs : List (ℕ × ℕ)) → e.1 ≤ f.1 → add_to_ready_list e (f ∷ fs) ≡ f ∷ add_to_ready_list e fs
 add-after e f fs le = let b : nat_lt f.1 e.1 ≡ false = le-ltb f.1 e.1 le in rw b refl
 
 -- behind entries that are not of lower priority
@@ -204,7 +204,7 @@ and-false : (b : Bool) → (b && false) ≡ false
 and-false true = refl
 and-false false = refl
 
-or-false : (b : Bool) → (b || false) ≡ b
+pub or-false : (b : Bool) → (b || false) ≡ b
 or-false true = refl
 or-false false = refl
 

@@ -1,5 +1,5 @@
 -- Each change of the schedule is a deed of the definitions.
-use Rattle.std.proofs.Common.{◌≡◌, ◌+◌, ℕ, ◌<◌, inl, inr, Bool, true, false, not, Option, Some, None, List, [], ◌∷◌, get_or, set, length, sym, ◌∙◌, ap, ap₂, subst, arith, refl, eqb, ltb}
+use Rattle.std.proofs.Common.{◌≡◌, ◌≢◌, ◌+◌, ℕ, ◌<◌, ◌≤◌, inl, inr, Bool, true, false, not, Option, Some, None, List, [], ◌∷◌, get_or, set, length, sym, ◌∙◌, ap, ap₂, subst, arith, refl, eqb, ltb}
 use Rattle.std.specs.Prelude.{◌==◌, ◌||◌, ◌&&◌, nat_lt, nat_eq, if◌then◌else◌}
 use Rattle.std.specs.List.{AllByRecursion, filter, list_any}
 use Rattle.std.specs.Option.{IfSome, is_some, option_map}
@@ -10,20 +10,21 @@ use Rattle.model.specs.declared.call.CallProgress.{CallProgress}
 use Rattle.model.specs.declared.call.WaitList.{WaitList}
 use Rattle.model.specs.Waiting.{wait_in}
 use Rattle.model.specs.State.{State, Status, Task, Ready, Awake, Waiting, Asleep, Ended, no_task, task_at, progress_at, call_at, with_call, take_ticket, ticket_if_ready, for_one}
-use Rattle.model.specs.Order.{Entry, entry, first, key, list_by, put, task_of}
+use Rattle.model.specs.Order.{Entry, entry, first, key, keyed, list_by, put, task_of}
 use Rattle.model.specs.Switching.{choice, choose, dispatch, is_above, is_beside, is_outranked, is_ready, is_same, is_sharing, make_ready, preempt, ready_key, ready_list, slice, to_back, yield_now}
 use Rattle.model.specs.Invariant.{IsTable}
-use Rattle.model.proofs.Sorting.{All-filtered, before_false, before_true, by_test}
+use Rattle.model.proofs.Sorting.{All-filtered, Falls, Falls-in_order, IsAfter, before_false, before_true, by_test}
 use Rattle.model.proofs.Lists.{list-entered, list-gone, list-kept, list_below, other}
 use Rattle.model.proofs.Members.{has_task, has_task-key, has_task-none}
 use Rattle.model.proofs.Tables.{below_ready, table-make_ready, table-set, table-taken, ticket_at}
 use Rattle.model.proofs.Chosen.{choice_within}
 use Rattle.model.proofs.Settled.{same_eq}
-use Rattle.lists.specs.Lists.{first_of, has_node, without}
-use Rattle.lists.proofs.Entries.{apart_from_test, without-apart}
+use Rattle.lists.specs.Lists.{Each, first_of, has_node, without}
+use Rattle.lists.proofs.Entries.{apart_from_test, has_node-without_other, without-apart}
 use Rattle.sched.specs.Schedule as mine
-use Rattle.sched.specs.Schedule.{Schedule, add_to_ready_list, priority_in}
-use Rattle.sched.specs.StandsFor.{Does, StandsFor, StandsBefore, with_priorities}
+use Rattle.sched.specs.Schedule.{IsCalm, Schedule, add_to_ready_list, lined_up, priority_in}
+use Rattle.sched.specs.StandsFor.{DoesFree, StandsFor, StandsBefore, with_priorities}
+use Rattle.sched.proofs.LinedUp.{IsFalling, has_node-added, line_up-append, line_up-falling, line_up-under, lined_up-block, lined_up_calm, without-added}
 
 -- the ready list, as tasks with their priorities
 
@@ -48,27 +49,95 @@ ready_list-make_ready s i h l =
     ∙ with_priorities-put (entry i k) (filter (other i) (ready_list s)) (All-filtered (λ (x : Entry). x.key.ticket < s.next_ticket) (other i) (ready_list s) (list_below ready_key s.next_ticket s.tasks b))
     ∙ ap (add_to_ready_list (i, (task_at s i).priority)) (with_priorities-filter i (ready_list s))
 
--- a task goes to the back, from wherever it was
-stands_back : (v : Schedule) (s : State) (i : ℕ) → StandsFor v s → i < length s.tasks → StandsFor (mine.make_ready i (mine.block i v)) (make_ready i s)
-stands_back v s i h l = record {
+priority_kept : (s : State) (i : ℕ) → i < length s.tasks → (j : ℕ) → (task_at s j).priority ≡ (task_at (make_ready i s) j).priority
+priority_kept s i l j = elim (cases_eq j i) [
+  | inl same ↦
+      ap (λ (k : ℕ). (task_at s k).priority) same
+      ∙ sym (ap (λ (k : ℕ). (task_at (make_ready i s) k).priority) same ∙ ap (λ (t : Task). t.priority) (get_or-set_same s.tasks i (record (task_at s i) { status = Ready s.next_ticket }) no_task l))
+  | inr apart ↦ sym (ap (λ (t : Task). t.priority) (get_or-set_other s.tasks i j (record (task_at s i) { status = Ready s.next_ticket }) no_task apart))
+]
+
+-- a task goes to the back, from wherever it was, where nobody is pending
+stands_back : (v : Schedule) (s : State) (i : ℕ) → v.pending ≡ [] → StandsFor v s → i < length s.tasks → StandsFor (mine.make_ready i (record v { ready = without i v.ready })) (make_ready i s)
+stands_back v s i none h l = record {
   ready =
-      ap (λ (p : ℕ). add_to_ready_list (i, p) (without i v.ready)) (h.priorities i)
-      ∙ ap (λ (r : List (ℕ × ℕ)). add_to_ready_list (i, (task_at s i).priority) (without i r)) h.ready
+      lined_up_calm (mine.make_ready i (record v { ready = without i v.ready })) none
+      ∙ ap (λ (p : ℕ). add_to_ready_list (i, p) (without i v.ready)) (h.priorities i)
+      ∙ ap (λ (r : List (ℕ × ℕ)). add_to_ready_list (i, (task_at s i).priority) (without i r)) (sym (lined_up_calm v none) ∙ h.ready)
       ∙ sym (ready_list-make_ready s i h.table l);
   current = h.current;
-  priorities = λ j. h.priorities j ∙ elim (cases_eq j i) [
-    | inl same ↦
-        ap (λ (k : ℕ). (task_at s k).priority) same
-        ∙ sym (ap (λ (k : ℕ). (task_at (make_ready i s) k).priority) same ∙ ap (λ (t : Task). t.priority) (get_or-set_same s.tasks i (record (task_at s i) { status = Ready s.next_ticket }) no_task l))
-    | inr apart ↦ sym (ap (λ (t : Task). t.priority) (get_or-set_other s.tasks i j (record (task_at s i) { status = Ready s.next_ticket }) no_task apart))
-  ];
+  priorities = λ j. h.priorities j ∙ priority_kept s i l j;
   depth = h.depth;
   table = table-make_ready s i h.table;
 }
 
--- a task that isn't Ready becomes so
-pub stands_made_ready : (v : Schedule) (s : State) (i : ℕ) → StandsFor v s → i < length s.tasks → mine.is_ready v i ≡ false → StandsFor (mine.make_ready i v) (make_ready i s)
-stands_made_ready v s i h l free = subst (λ (r : List (ℕ × ℕ)). StandsFor (mine.make_ready i (record v { ready = r })) (make_ready i s)) (without-apart i v.ready (apart_from_test i v.ready free)) (stands_back v s i h l)
+-- ---- a task that isn't Ready becomes so: it goes behind its equals among those lined up
+
+-- in the schedule w, which is v but for its lists
+record Adds (i : ℕ) (v w : Schedule) : Type 0 where
+  pub ready : lined_up w ≡ add_to_ready_list (i, priority_in v.priorities i) (lined_up v)
+  pub current : w.current ≡ v.current
+  pub priorities : w.priorities ≡ v.priorities
+  pub depth : w.depth ≡ v.depth
+
+adds_made_ready : (v : Schedule) (i : ℕ) → v.pending ≡ [] → Adds i v (mine.make_ready i v)
+adds_made_ready v i none = record {
+  ready = lined_up_calm (mine.make_ready i v) none ∙ ap (add_to_ready_list (i, priority_in v.priorities i)) (sym (lined_up_calm v none));
+  current = refl;
+  priorities = refl;
+  depth = refl;
+}
+
+adds_pended : (v : Schedule) (i : ℕ) → Adds i v (mine.pend_ready i v)
+adds_pended v i = record { ready = line_up-append v.pending i v.priorities v.ready; current = refl; priorities = refl; depth = refl }
+
+stands_added : (v w : Schedule) (s : State) (i : ℕ) → Adds i v w → StandsFor v s → i < length s.tasks → mine.is_ready v i ≡ false → StandsFor w (make_ready i s)
+stands_added v w s i adds h l free = record {
+  ready =
+      adds.ready
+      ∙ ap (λ (p : ℕ). add_to_ready_list (i, p) (lined_up v)) (h.priorities i)
+      ∙ ap (add_to_ready_list (i, (task_at s i).priority)) (sym (without-apart i (lined_up v) (apart_from_test i (lined_up v) free)) ∙ ap (without i) h.ready)
+      ∙ sym (ready_list-make_ready s i h.table l);
+  current = adds.current ∙ h.current;
+  priorities = λ j. ap (λ (ps : List ℕ). priority_in ps j) adds.priorities ∙ h.priorities j ∙ priority_kept s i l j;
+  depth = adds.depth ∙ h.depth;
+  table = table-make_ready s i h.table;
+}
+
+-- while another is still to be placed
+placing_added : (v w : Schedule) (s : State) (decider i : ℕ) → Adds i v w → has_node decider w.ready ≡ true → IsFalling v.ready → StandsBefore decider v s → decider ≢ i → i < length s.tasks → mine.is_ready v i ≡ false → StandsBefore decider w (make_ready i s)
+placing_added v w s decider i adds still falling h ne l free =
+    let left = without decider (lined_up v) in
+    let out : has_node i left ≡ false = has_node-without_other decider i (lined_up v) (λ same. ne (sym same)) ∙ free in
+    record {
+      ready =
+          ap (without decider) adds.ready
+          ∙ without-added decider (i, priority_in v.priorities i) (lined_up v) (λ same. ne (sym same)) (line_up-falling v.pending v.priorities v.ready falling)
+          ∙ ap (λ (p : ℕ). add_to_ready_list (i, p) left) (h.priorities i)
+          ∙ ap (add_to_ready_list (i, (task_at s i).priority)) (sym (without-apart i left (apart_from_test i left out)) ∙ ap (without i) h.ready)
+          ∙ sym (ready_list-make_ready s i h.table l);
+      still = still;
+      current = adds.current ∙ h.current;
+      priorities = λ j. ap (λ (ps : List ℕ). priority_in ps j) adds.priorities ∙ h.priorities j ∙ priority_kept s i l j;
+      depth = adds.depth ∙ h.depth;
+      table = table-make_ready s i h.table;
+    }
+
+-- it goes to its ready list, where nobody is pending
+pub stands_made_ready : (v : Schedule) (s : State) (i : ℕ) → v.pending ≡ [] → StandsFor v s → i < length s.tasks → mine.is_ready v i ≡ false → StandsFor (mine.make_ready i v) (make_ready i s)
+stands_made_ready v s i none h l free = stands_added v (mine.make_ready i v) s i (adds_made_ready v i none) h l free
+
+pub placing_made_ready : (v : Schedule) (s : State) (decider i : ℕ) → v.pending ≡ [] → IsFalling v.ready → StandsBefore decider v s → decider ≢ i → i < length s.tasks → mine.is_ready v i ≡ false → StandsBefore decider (mine.make_ready i v) (make_ready i s)
+placing_made_ready v s decider i none falling h ne l free =
+    let still : has_node decider (mine.make_ready i v).ready ≡ true = has_node-added decider (i, priority_in v.priorities i) v.ready (λ same. ne (sym same)) ∙ h.still in
+    placing_added v (mine.make_ready i v) s decider i (adds_made_ready v i none) still falling h ne l free
+
+-- it is pending
+pub stands_pended : (v : Schedule) (s : State) (i : ℕ) → StandsFor v s → i < length s.tasks → mine.is_ready v i ≡ false → StandsFor (mine.pend_ready i v) (make_ready i s)
+stands_pended v s i h l free = stands_added v (mine.pend_ready i v) s i (adds_pended v i) h l free
+
+pub placing_pended : (v : Schedule) (s : State) (decider i : ℕ) → IsFalling v.ready → StandsBefore decider v s → decider ≢ i → i < length s.tasks → mine.is_ready v i ≡ false → StandsBefore decider (mine.pend_ready i v) (make_ready i s)
+placing_pended v s decider i falling h ne l free = placing_added v (mine.pend_ready i v) s decider i (adds_pended v i) h.still falling h ne l free
 
 -- whether a task is Ready
 
@@ -91,7 +160,7 @@ ready_same v s i h =
     ap (has_node i) h.ready ∙ has_node-with_priorities i (ready_list s)
     ∙ ready_at s i (task_at s i).priority (task_at s i).status refl refl
 
--- whether a Ready task is above the running one, or beside it
+-- whether a Ready task is above the running one, or beside it, where nobody is pending
 
 any-with_priorities : (p : ℕ × ℕ → Bool) (q : Entry → Bool) (es : List Entry) → ((e : Entry) → p (e.task, e.key.priority) ≡ q e) → list_any p (with_priorities es) ≡ list_any q es
 any-with_priorities p q [] h = refl
@@ -105,26 +174,26 @@ beside_same : (priorities : List ℕ) (s : State) (r : Option ℕ) → ((task : 
 beside_same priorities s None h e = refl
 beside_same priorities s (Some task) h e = ap (λ (p : ℕ). not (nat_eq e.task task) && nat_eq e.key.priority p) (h task)
 
-pub outranked_same : (v : Schedule) (s : State) → StandsFor v s → mine.is_outranked v ≡ is_outranked s
-outranked_same v s h =
-    ap₂ (λ (r : Option ℕ) (es : List (ℕ × ℕ)). list_any (mine.is_above v.priorities r) es) h.current h.ready
+pub outranked_same : (v : Schedule) (s : State) → v.pending ≡ [] → StandsFor v s → mine.is_outranked v ≡ is_outranked s
+outranked_same v s none h =
+    ap₂ (λ (r : Option ℕ) (es : List (ℕ × ℕ)). list_any (mine.is_above v.priorities r) es) h.current (sym (lined_up_calm v none) ∙ h.ready)
     ∙ any-with_priorities (mine.is_above v.priorities s.current) (is_above s s.current) (ready_list s) (above_same v.priorities s s.current h.priorities)
 
-pub sharing_same : (v : Schedule) (s : State) → StandsFor v s → mine.is_sharing v ≡ is_sharing s
-sharing_same v s h =
-    ap₂ (λ (r : Option ℕ) (es : List (ℕ × ℕ)). list_any (mine.is_beside v.priorities r) es) h.current h.ready
+pub sharing_same : (v : Schedule) (s : State) → v.pending ≡ [] → StandsFor v s → mine.is_sharing v ≡ is_sharing s
+sharing_same v s none h =
+    ap₂ (λ (r : Option ℕ) (es : List (ℕ × ℕ)). list_any (mine.is_beside v.priorities r) es) h.current (sym (lined_up_calm v none) ∙ h.ready)
     ∙ any-with_priorities (mine.is_beside v.priorities s.current) (is_beside s s.current) (ready_list s) (beside_same v.priorities s s.current h.priorities)
 
--- the choice
+-- the choice, where nobody is pending
 
 first_task : (es : List Entry) → first_of (with_priorities es) ≡ task_of (first es)
 first_task [] = refl
 first_task (e ∷ es) = refl
 
-stands_chosen : (v : Schedule) (s : State) → StandsFor v s → StandsFor (mine.choose v) (choose s)
+stands_chosen : (v : Schedule) (s : State) → v.pending ≡ [] → StandsFor v s → StandsFor (mine.choose v) (choose s)
 unfolding choose dispatch
-stands_chosen v s h =
-    let is : first_of v.ready ≡ choice s = ap first_of h.ready ∙ first_task (ready_list s) in
+stands_chosen v s none h =
+    let is : first_of v.ready ≡ choice s = ap first_of (sym (lined_up_calm v none) ∙ h.ready) ∙ first_task (ready_list s) in
     by_test (is_same (choice s) s.current)
     (λ t. rw t (record { ready = h.ready; current = is ∙ same_eq (choice s) s.current t; priorities = h.priorities; depth = h.depth; table = h.table }))
     (λ t. rw t (record {
@@ -137,86 +206,108 @@ stands_chosen v s h =
 
 -- the running task goes to the back, and the choice runs
 
-one_back : (v : Schedule) (s : State) (o : Option ℕ) → StandsFor v s → IfSome o (λ task. task < length s.tasks) → StandsFor (mine.for_one mine.to_back o v) (for_one to_back o s)
+one_back : (v : Schedule) (s : State) (o : Option ℕ) → v.pending ≡ [] → StandsFor v s → IfSome o (λ task. task < length s.tasks) → StandsFor (mine.for_one mine.to_back o v) (for_one to_back o s)
 unfolding to_back
-one_back v s None h within = h
-one_back v s (Some task) h within =
-    let same = ready_same v s task h in
+one_back v s None none h within = h
+one_back v s (Some task) none h within =
+    let same : has_node task v.ready ≡ is_ready s task = ap (has_node task) (sym (lined_up_calm v none)) ∙ ready_same v s task h in
     by_test (is_ready s task)
-    (λ t. let u = same ∙ t in rw (t, u) (stands_back v s task h within))
+    (λ t. let u = same ∙ t in rw (t, u) (stands_back v s task none h within))
     (λ t. let u = same ∙ t in rw (t, u) h)
 
-stands_yielded : (v : Schedule) (s : State) → StandsFor v s → StandsFor (mine.yield_now v) (yield_now s)
+pending_kept : (v : Schedule) (o : Option ℕ) → (mine.for_one mine.to_back o v).pending ≡ v.pending
+pending_kept v None = refl
+pending_kept v (Some task) = by_test (has_node task v.ready) (λ t. rw t refl) (λ t. rw t refl)
+
+stands_yielded : (v : Schedule) (s : State) → v.pending ≡ [] → StandsFor v s → StandsFor (mine.yield_now v) (yield_now s)
 unfolding yield_now
-stands_yielded v s h =
-    let back : StandsFor (mine.for_one mine.to_back s.current v) (for_one to_back s.current s) = one_back v s s.current h h.table.current in
+stands_yielded v s none h =
+    let back : StandsFor (mine.for_one mine.to_back s.current v) (for_one to_back s.current s) = one_back v s s.current none h h.table.current in
     let mine_back : StandsFor (mine.for_one mine.to_back v.current v) (for_one to_back s.current s) = subst (λ (o : Option ℕ). StandsFor (mine.for_one mine.to_back o v) (for_one to_back s.current s)) (sym h.current) back in
-    stands_chosen (mine.for_one mine.to_back v.current v) (for_one to_back s.current s) mine_back
+    stands_chosen (mine.for_one mine.to_back v.current v) (for_one to_back s.current s) (pending_kept v v.current ∙ none) mine_back
 
 -- the same where a test says so
-yielded_if : (v : Schedule) (s : State) (b c : Bool) → b ≡ c → StandsFor v s → StandsFor (if b then mine.yield_now v else v) (if c then yield_now s else s)
-yielded_if v s b c same h = by_test c
-    (λ t. let u = same ∙ t in rw (t, u) (stands_yielded v s h))
+yielded_if : (v : Schedule) (s : State) (b c : Bool) → b ≡ c → v.pending ≡ [] → StandsFor v s → StandsFor (if b then mine.yield_now v else v) (if c then yield_now s else s)
+yielded_if v s b c same none h = by_test c
+    (λ t. let u = same ∙ t in rw (t, u) (stands_yielded v s none h))
     (λ t. let u = same ∙ t in rw (t, u) h)
 
 -- the deeds, as the contracts name them
 
-does : {old new : Schedule} {next : Schedule → Schedule} (deed : State → State) → ((v : Schedule) (s : State) → StandsFor v s → StandsFor (next v) (deed s)) → new ≡ next old → Does old new deed
-does {old} {new} {next} deed stands is = λ s h. subst (λ (v : Schedule). StandsFor v (deed s)) (sym is) (stands old s h)
+does : {old new : Schedule} {next : Schedule → Schedule} (deed : State → State) → ((v : Schedule) (s : State) → v.pending ≡ [] → StandsFor v s → StandsFor (next v) (deed s)) → IsCalm old → new ≡ next old → DoesFree old new deed
+does {old} {new} {next} deed stands calm is = λ s h free.
+    let none : old.pending ≡ [] = calm (h.depth ∙ ap (λ b. if b then 1 else 0) free) in
+    subst (λ (v : Schedule). StandsFor v (deed s)) (sym is) (stands old s none h)
 
-pub does_choose : {old new : Schedule} → new ≡ mine.choose old → Does old new choose
-does_choose is = does choose stands_chosen is
+pub does_choose : {old new : Schedule} → IsCalm old → new ≡ mine.choose old → DoesFree old new choose
+does_choose calm is = does choose stands_chosen calm is
 
-pub does_yield_now : {old new : Schedule} → new ≡ mine.yield_now old → Does old new yield_now
-does_yield_now is = does yield_now stands_yielded is
+pub does_yield_now : {old new : Schedule} → IsCalm old → new ≡ mine.yield_now old → DoesFree old new yield_now
+does_yield_now calm is = does yield_now stands_yielded calm is
 
-pub does_preempt : {old new : Schedule} → new ≡ mine.preempt old → Does old new preempt
+pub does_preempt : {old new : Schedule} → IsCalm old → new ≡ mine.preempt old → DoesFree old new preempt
 unfolding preempt
-does_preempt is = does preempt (λ v s h. yielded_if v s (mine.is_outranked v) (is_outranked s) (outranked_same v s h) h) is
+does_preempt calm is = does preempt (λ v s none h. yielded_if v s (mine.is_outranked v) (is_outranked s) (outranked_same v s none h) none h) calm is
 
-pub does_slice : {old new : Schedule} → new ≡ mine.slice old → Does old new slice
+pub does_slice : {old new : Schedule} → IsCalm old → new ≡ mine.slice old → DoesFree old new slice
 unfolding slice
-does_slice is = does slice (λ v s h. yielded_if v s (mine.is_outranked v || mine.is_sharing v) (is_outranked s || is_sharing s) (ap₂ (λ (a b : Bool). a || b) (outranked_same v s h) (sharing_same v s h)) h) is
+does_slice calm is = does slice (λ v s none h. yielded_if v s (mine.is_outranked v || mine.is_sharing v) (is_outranked s || is_sharing s) (ap₂ (λ (a b : Bool). a || b) (outranked_same v s none h) (sharing_same v s none h)) none h) calm is
 
 -- a task changes by itself
 
-priorities_set : (v : Schedule) (s new : State) (i : ℕ) (t : Task) → StandsFor v s → i < length s.tasks → new.tasks ≡ set s.tasks i t → t.priority ≡ (task_at s i).priority → (j : ℕ) → priority_in v.priorities j ≡ (task_at new j).priority
+priorities_set : (v : Schedule) (s new : State) (i : ℕ) (t : Task) → ((j : ℕ) → priority_in v.priorities j ≡ (task_at s j).priority) → i < length s.tasks → new.tasks ≡ set s.tasks i t → t.priority ≡ (task_at s i).priority → (j : ℕ) → priority_in v.priorities j ≡ (task_at new j).priority
 priorities_set v s new i t h l is same j =
-    h.priorities j ∙ sym (ap (λ (ts : List Task). (get_or ts j no_task).priority) is ∙ elim (cases_eq j i) [
+    h j ∙ sym (ap (λ (ts : List Task). (get_or ts j no_task).priority) is ∙ elim (cases_eq j i) [
       | inl here ↦
           ap (λ (k : ℕ). (get_or (set s.tasks i t) k no_task).priority) here ∙ ap (λ (u : Task). u.priority) (get_or-set_same s.tasks i t no_task l)
           ∙ same ∙ ap (λ (k : ℕ). (task_at s k).priority) (sym here)
       | inr apart ↦ ap (λ (u : Task). u.priority) (get_or-set_other s.tasks i j t no_task apart)
     ])
 
+falling_with_priorities : (es : List Entry) → Falls es → IsFalling (with_priorities es)
+falling_with_priorities [] h = tt
+falling_with_priorities (e ∷ es) h = (each es h.0, falling_with_priorities es h.1) where
+  each : (fs : List Entry) → AllByRecursion (λ (f : Entry). IsAfter f.key e.key) fs → Each (λ f. f.1 ≤ e.key.priority) (with_priorities fs)
+  each [] k = tt
+  each (f ∷ fs) k = (k.0.low, each fs k.1)
+
+-- the tasks in the ready lists are in order, as the lined up ones are
+falling_ready : (v : Schedule) (s : State) → StandsFor v s → IsFalling v.ready
+falling_ready v s h = line_up-under v.pending v.priorities v.ready (subst IsFalling (sym h.ready) (falling_with_priorities (ready_list s) (Falls-in_order (keyed ready_key 0 s.tasks))))
+
 -- it is Ready no more
 pub stands_blocked : (v : Schedule) (s new : State) (i : ℕ) (t : Task) → StandsFor v s → i < length s.tasks → new.tasks ≡ set s.tasks i t → new.current ≡ s.current → new.call_hold ≡ s.call_hold → ready_key t ≡ None → t.priority ≡ (task_at s i).priority → IsTable new → StandsFor (mine.block i v) new
 stands_blocked v s new i t h l is current held none same table = record {
-  ready = ap (without i) h.ready ∙ sym (with_priorities-filter i (ready_list s)) ∙ sym (ap with_priorities (ap (list_by ready_key) is ∙ list-gone ready_key i t s.tasks l none));
+  ready =
+      lined_up-block i v (falling_ready v s h) ∙ ap (without i) h.ready ∙ sym (with_priorities-filter i (ready_list s))
+      ∙ sym (ap with_priorities (ap (list_by ready_key) is ∙ list-gone ready_key i t s.tasks l none));
   current = h.current ∙ sym current;
-  priorities = priorities_set v s new i t h l is same;
+  priorities = priorities_set v s new i t h.priorities l is same;
   depth = h.depth ∙ sym (ap (λ b. if b then 1 else 0) held);
   table = table;
 }
 
+list_kept : (s new : State) (i : ℕ) (t : Task) → new.tasks ≡ set s.tasks i t → ready_key t ≡ ready_key (task_at s i) → with_priorities (ready_list s) ≡ with_priorities (ready_list new)
+list_kept s new i t is key_same = sym (ap with_priorities (ap (list_by ready_key) is ∙ list-kept ready_key i t s.tasks key_same))
+
 -- it keeps its key
 pub stands_kept : (v : Schedule) (s new : State) (i : ℕ) (t : Task) → StandsFor v s → i < length s.tasks → new.tasks ≡ set s.tasks i t → new.current ≡ s.current → new.call_hold ≡ s.call_hold → ready_key t ≡ ready_key (task_at s i) → t.priority ≡ (task_at s i).priority → IsTable new → StandsFor v new
 stands_kept v s new i t h l is current held key_same same table = record {
-  ready = h.ready ∙ sym (ap with_priorities (ap (list_by ready_key) is ∙ list-kept ready_key i t s.tasks key_same));
+  ready = h.ready ∙ list_kept s new i t is key_same;
   current = h.current ∙ sym current;
-  priorities = priorities_set v s new i t h l is same;
+  priorities = priorities_set v s new i t h.priorities l is same;
   depth = h.depth ∙ sym (ap (λ b. if b then 1 else 0) held);
   table = table;
 }
 
 -- a task that waits already leaves the Ready tasks
-pub stands_placed : (v : Schedule) (s : State) (i : ℕ) → StandsBefore i v s → StandsFor (mine.block i v) s
-stands_placed v s i h = record { ready = h.ready; current = h.current; priorities = h.priorities; depth = h.depth; table = h.table }
+pub stands_placed : (v : Schedule) (s : State) (i : ℕ) → IsFalling v.ready → StandsBefore i v s → StandsFor (mine.block i v) s
+stands_placed v s i falling h = record { ready = lined_up-block i v falling ∙ h.ready; current = h.current; priorities = h.priorities; depth = h.depth; table = h.table }
 
--- A Ready task begins to wait, and stays among the Ready tasks until it is placed.
-pub stands_waiting : (v : Schedule) (s : State) (i : ℕ) (list : WaitList) → StandsFor v s → i < length s.tasks → is_ready s i ≡ true → StandsBefore i v (wait_in i list s)
+-- A Ready task begins to wait while nobody is pending, and stays in its ready list until it is placed.
+pub stands_waiting : (v : Schedule) (s : State) (i : ℕ) (list : WaitList) → v.pending ≡ [] → StandsFor v s → i < length s.tasks → is_ready s i ≡ true → StandsBefore i v (wait_in i list s)
 unfolding wait_in
-stands_waiting v s i list h l ready =
+stands_waiting v s i list none h l ready =
     let call : CallProgress = record (call_at s i) { list = Some list } in
     let u : Task = record (task_at s i) { progress = record (progress_at s i) { call = call } } in
     let s1 : State = with_call i call s in
@@ -226,13 +317,25 @@ stands_waiting v s i list h l ready =
     let w : Task = record (task_at s1 i) { status = status s1.next_ticket } in
     let table2 : IsTable (take_ticket i status s1) = table-taken s1 i status table1 (omega arith) in
     let b : StandsFor (mine.block i v) (take_ticket i status s1) = stands_blocked v s1 (take_ticket i status s1) i w h1 (rw length-set l) refl refl refl refl refl table2 in
-    record { ready = b.ready; still = ready_same v s i h ∙ ready; current = b.current; priorities = b.priorities; depth = b.depth; table = table2 }
+    record {
+      ready = sym (lined_up-block i v (falling_ready v s h)) ∙ b.ready;
+      still = ap (has_node i) (sym (lined_up_calm v none)) ∙ ready_same v s i h ∙ ready;
+      current = b.current;
+      priorities = b.priorities;
+      depth = b.depth;
+      table = table2;
+    }
 
 -- A task that is still to be placed, or another, keeps its key.
 pub stands_before_kept : (v : Schedule) (s new : State) (i j : ℕ) (t : Task) → StandsBefore i v s → j < length s.tasks → new.tasks ≡ set s.tasks j t → new.current ≡ s.current → new.call_hold ≡ s.call_hold → ready_key t ≡ ready_key (task_at s j) → t.priority ≡ (task_at s j).priority → IsTable new → StandsBefore i v new
-stands_before_kept v s new i j t h l is current held key_same same table =
-    let b : StandsFor (mine.block i v) new = stands_kept (mine.block i v) s new j t (stands_placed v s i h) l is current held key_same same table in
-    record { ready = b.ready; still = h.still; current = b.current; priorities = b.priorities; depth = b.depth; table = table }
+stands_before_kept v s new i j t h l is current held key_same same table = record {
+  ready = h.ready ∙ list_kept s new j t is key_same;
+  still = h.still;
+  current = h.current ∙ sym current;
+  priorities = priorities_set v s new j t h.priorities l is same;
+  depth = h.depth ∙ sym (ap (λ b. if b then 1 else 0) held);
+  table = table;
+}
 
 -- A call holds the scheduler, where none did.
 pub stands_before_held : (v : Schedule) (s new : State) (i : ℕ) → StandsBefore i v s → s.call_hold ≡ false → new.tasks ≡ s.tasks → new.current ≡ s.current → new.call_hold ≡ true → IsTable new → StandsBefore i (record v { depth = v.depth + 1 }) new

@@ -11,8 +11,8 @@ use Rattle.lists.specs.Lists.{Apart, Each, EachOnce, IsSound, entries_of, first_
 use Rattle.lists.proofs.Entries.{first_split, no_first}
 use Rattle.lists.proofs.Laws.{entries_of-set_other, entries_of-set_same, has_first, without-first, without-others}
 use Rattle.sched.specs.Schedule.{Schedule, add_to_ready_list, choose, is_outranked, is_sharing, priority_in, slice, to_back, yield_now}
-use Rattle.sched.specs.ReadyLists.{AtHome, IsHighest, IsSched, ready_list_of, schedule_of}
-use Rattle.sched.proofs.Deeds.{push, with_ready}
+use Rattle.sched.specs.ReadyLists.{AreByPriority, AtHome, IsHighest, IsSched, ready_list_of, schedule_of}
+use Rattle.sched.proofs.Deeds.{push, still_apart, with_ready}
 use Rattle.sched.proofs.ReadyList.{AtHome-push, AtHome-without, any_above, any_beside, any_in_ready_list, first_of_highest, home_at, ready_list_of-push, ready_list_of-without}
 
 some_behind : (xs : List (ℕ × ℕ)) (e : ℕ × ℕ) → xs ++ e ∷ [] ≢ []
@@ -40,7 +40,7 @@ pub record IsFirst (lists : List (List (ℕ × ℕ))) (priorities : List ℕ) (t
 pub first_by : {lists : List (List (ℕ × ℕ))} {priorities : List ℕ} {task p : ℕ} (o : Option ℕ) → o ≡ first_of (entries_of lists p) → true ≡ is_same o (Some task) → p ≡ priority_in priorities task → p < 32 → IsFirst lists priorities task p
 first_by {lists} {priorities} {task} {p} o is same home known = record { first = sym (same_eq o (Some task) (sym same)) ∙ is; home = home; known = known }
 
-module _ {lists : List (List (ℕ × ℕ))} {priorities : List ℕ} (h : IsSched lists priorities) (task p : ℕ) (is : IsFirst lists priorities task p) where
+module _ {lists : List (List (ℕ × ℕ))} {priorities : List ℕ} (h : AreByPriority lists priorities) (task p : ℕ) (is : IsFirst lists priorities task p) where
   split : (v : ℕ) × (rest : List (ℕ × ℕ)) × (entries_of lists p ≡ (task, v) ∷ rest)
   split = first_split task (entries_of lists p) is.first
 
@@ -78,8 +78,8 @@ module _ {lists : List (List (ℕ × ℕ))} {priorities : List ℕ} (h : IsSched
             ∙ get_or_default left j [] d hj'' ∙ sym (get_or-set_other left p j there d other)
       ])
 
-  pub sched_turned : IsSound 32 32 (turn p lists) → IsSched (turn p lists) priorities
-  sched_turned sound = record {
+  listed_turned : IsSound 32 32 (turn p lists) → AreByPriority (turn p lists) priorities
+  listed_turned sound = record {
     sound = sound;
     at_home = subst (AtHome 0) (sym turned) (AtHome-push task p 0 p (map (without task) lists) (AtHome-without task 0 lists h.at_home) (omega arith));
     known = h.known;
@@ -95,12 +95,19 @@ module _ {lists : List (List (ℕ × ℕ))} {priorities : List ℕ} (h : IsSched
   is_in : has_node task (ready_list_of lists) ≡ true
   is_in = sym (any_in_ready_list h.sound task) ∙ ap is_some (h.sound.one_place task p (has_first h.sound task split.0 p split.1 split.2))
 
-  pub schedule_turned : (current : Option ℕ) (depth : ℕ) → schedule_of (turn p lists) current priorities depth ≡ to_back task (schedule_of lists current priorities depth)
-  schedule_turned current depth = rw is_in (ap (with_ready current priorities depth) ready_turned)
+  pub sched_turned : {pending : List ℕ} {depth : ℕ} → IsSched lists pending priorities depth → IsSound 32 32 (turn p lists) → IsSched (turn p lists) pending priorities depth
+  sched_turned {pending} {depth} all sound = record {
+    lists_are = listed_turned sound;
+    apart = λ i among. still_apart lists (turn p lists) task (priority_in priorities task) ready_turned is_in i (all.apart i among);
+    calm = all.calm;
+  }
+
+  pub schedule_turned : (pending : List ℕ) (current : Option ℕ) (depth : ℕ) → schedule_of (turn p lists) pending current priorities depth ≡ to_back task (schedule_of lists pending current priorities depth)
+  schedule_turned pending current depth = rw is_in (ap (with_ready pending current priorities depth) ready_turned)
 
   -- where it runs and no task is above it, its turn ends if it has an equal
-  module _ (depth : ℕ) (highest : IsHighest lists (Some p)) where
-    not_outranked : is_outranked (schedule_of lists (Some task) priorities depth) ≡ false
+  module _ (pending : List ℕ) (depth : ℕ) (highest : IsHighest lists (Some p)) where
+    not_outranked : is_outranked (schedule_of lists pending (Some task) priorities depth) ≡ false
     not_outranked = any_above priorities lists p task h.at_home highest ∙ le-ltb (priority_in priorities task) p (let home = is.home in omega (arith, home))
 
     others_there : (xs : List (ℕ × ℕ)) → Apart (Some task) xs → list_any (λ e. not (e.0 == task)) xs ≡ is_some (first_of xs)
@@ -109,7 +116,7 @@ module _ {lists : List (List (ℕ × ℕ))} {priorities : List ℕ} (h : IsSched
         let ne : (x.0 == task) ≡ false = ne_eqb x.0 task (λ e. a.0 (ap Some (sym e))) in
         rw ne refl
 
-    sharing_if : is_sharing (schedule_of lists (Some task) priorities depth) ≡ is_some (second_of (entries_of lists p))
+    sharing_if : is_sharing (schedule_of lists pending (Some task) priorities depth) ≡ is_some (second_of (entries_of lists p))
     sharing_if =
         let once : EachOnce ((task, split.0) ∷ split.1) = subst EachOnce split.2 (h.sound.distinct p) in
         let eq : (task == task) ≡ true = eq-eqb task task refl in
@@ -118,7 +125,7 @@ module _ {lists : List (List (ℕ × ℕ))} {priorities : List ℕ} (h : IsSched
         ∙ rw eq (others_there split.1 once.0)
         ∙ sym (ap (λ (xs : List (ℕ × ℕ)). is_some (second_of xs)) split.2)
 
-    pub ended_if : (is_outranked (schedule_of lists (Some task) priorities depth) || is_sharing (schedule_of lists (Some task) priorities depth)) ≡ is_some (second_of (entries_of lists p))
+    pub ended_if : (is_outranked (schedule_of lists pending (Some task) priorities depth) || is_sharing (schedule_of lists pending (Some task) priorities depth)) ≡ is_some (second_of (entries_of lists p))
     ended_if = ap₂ (λ (a b : Bool). a || b) not_outranked sharing_if
 
     first_after : first_of (ready_list_of (turn p lists)) ≡ first_of (entries_of (turn p lists) p)
@@ -128,17 +135,17 @@ module _ {lists : List (List (ℕ × ℕ))} {priorities : List ℕ} (h : IsSched
       λ q above. entries_of-set_other lists p q (rotated (entries_of lists p)) (omega (arith, above)) ∙ highest.2 q above,
     )
 
-    pub schedule_sliced : (n : ℕ) → Some n ≡ second_of (entries_of lists p) → schedule_of (turn p lists) (Some n) priorities depth ≡ slice (schedule_of lists (Some task) priorities depth)
+    pub schedule_sliced : (n : ℕ) → Some n ≡ second_of (entries_of lists p) → schedule_of (turn p lists) pending (Some n) priorities depth ≡ slice (schedule_of lists pending (Some task) priorities depth)
     schedule_sliced n second =
         let next : Some n ≡ first_of (entries_of (turn p lists) p) =
         first_still n split.1 (task, split.0) (second ∙ ap second_of split.2)
         ∙ sym (ap first_of (entries_of-set_same lists p (rotated (entries_of lists p)) below ∙ ap rotated split.2)) in
-        ap (λ (o : Option ℕ). schedule_of (turn p lists) o priorities depth) (next ∙ sym first_after)
-        ∙ ap choose (schedule_turned (Some task) depth)
-        ∙ sym (ap (sliced_if (schedule_of lists (Some task) priorities depth)) (ended_if ∙ ap is_some (sym second)))
+        ap (λ (o : Option ℕ). schedule_of (turn p lists) pending o priorities depth) (next ∙ sym first_after)
+        ∙ ap choose (schedule_turned pending (Some task) depth)
+        ∙ sym (ap (sliced_if (schedule_of lists pending (Some task) priorities depth)) (ended_if ∙ ap is_some (sym second)))
 
-    pub schedule_kept : None ≡ second_of (entries_of lists p) → schedule_of (turn p lists) (Some task) priorities depth ≡ slice (schedule_of lists (Some task) priorities depth)
+    pub schedule_kept : None ≡ second_of (entries_of lists p) → schedule_of (turn p lists) pending (Some task) priorities depth ≡ slice (schedule_of lists pending (Some task) priorities depth)
     schedule_kept none =
         let one : entries_of lists p ≡ (task, split.0) ∷ [] = split.2 ∙ ap (λ (xs : List (ℕ × ℕ)). (task, split.0) ∷ xs) (no_first split.1 (none ∙ ap second_of split.2)) in
-        ap (λ (ls : List (List (ℕ × ℕ))). schedule_of ls (Some task) priorities depth) (ap (λ (xs : List (ℕ × ℕ)). set lists p (rotated xs)) one ∙ ap (set lists p) (sym one) ∙ set-get_or lists p [])
-        ∙ sym (ap (sliced_if (schedule_of lists (Some task) priorities depth)) (ended_if ∙ ap is_some (sym none)))
+        ap (λ (ls : List (List (ℕ × ℕ))). schedule_of ls pending (Some task) priorities depth) (ap (λ (xs : List (ℕ × ℕ)). set lists p (rotated xs)) one ∙ ap (set lists p) (sym one) ∙ set-get_or lists p [])
+        ∙ sym (ap (sliced_if (schedule_of lists pending (Some task) priorities depth)) (ended_if ∙ ap is_some (sym none)))

@@ -1,8 +1,8 @@
 -- How lists of tasks, one for each priority (`pxReadyTasksLists`), spell the Ready tasks in order.
-use Rattle.std.specs.Prelude.{◌≡◌, ◌≢◌, ℕ, suc, ◌<◌, List, [], ◌∷◌, ◌++◌, Option, Some, None}
+use Rattle.std.specs.Prelude.{◌≡◌, ◌≢◌, ℕ, suc, ◌<◌, true, false, List, [], ◌∷◌, ◌++◌, Option, Some, None, map}
 use Rattle.std.specs.Int.{bit_at}
-use Rattle.lists.specs.Lists.{Each, IsSound, entries_of}
-use Rattle.sched.specs.Schedule.{Schedule, priority_in}
+use Rattle.lists.specs.Lists.{Each, IsSound, entries_of, has_node}
+use Rattle.sched.specs.Schedule.{Schedule, is_among, priority_in}
 
 -- the tasks of all lists, those of the last list first
 abbrev pub ready_list_of : List (List (ℕ × ℕ)) → List (ℕ × ℕ)
@@ -29,12 +29,23 @@ abbrev pub AtHome : ℕ → List (List (ℕ × ℕ)) → Type 0
 AtHome priority [] = Unit {0}
 AtHome priority (entries ∷ lists) = Each (λ e. e.1 ≡ priority) entries × AtHome (suc priority) lists
 
--- what is true of a scheduler between two calls
-pub record IsSched (lists : List (List (ℕ × ℕ))) (priorities : List ℕ) : Type 0 where
+-- lists of tasks by their priorities
+pub record AreByPriority (lists : List (List (ℕ × ℕ))) (priorities : List ℕ) : Type 0 where
   pub sound : IsSound 32 32 lists
   pub at_home : AtHome 0 lists
   pub known : (task : ℕ) → priority_in priorities task < 32
 
-abbrev pub schedule_of : List (List (ℕ × ℕ)) → Option ℕ → List ℕ → ℕ → Schedule
-schedule_of lists current priorities depth =
-    record { ready = ready_list_of lists; current = current; priorities = priorities; depth = depth }
+-- what is true of a scheduler between two calls: no pending task is in a ready list, and nobody is pending where it isn't
+-- held
+pub record IsSched (lists : List (List (ℕ × ℕ))) (pending priorities : List ℕ) (depth : ℕ) : Type 0 where
+  pub lists_are : AreByPriority lists priorities
+  pub apart : (task : ℕ) → is_among task pending ≡ true → has_node task (ready_list_of lists) ≡ false
+  pub calm : depth ≡ 0 → pending ≡ []
+
+abbrev pub schedule_of : List (List (ℕ × ℕ)) → List ℕ → Option ℕ → List ℕ → ℕ → Schedule
+schedule_of lists pending current priorities depth =
+    record { ready = ready_list_of lists; pending = pending; current = current; priorities = priorities; depth = depth }
+
+-- the tasks of a list, without their values
+abbrev pub tasks_in : List (ℕ × ℕ) → List ℕ
+tasks_in entries = map (λ e. e.0) entries

@@ -1,11 +1,13 @@
 -- What callers see of the scheduler, and what each call makes of it: the definitions' words for who runs, without tickets.
-use Rattle.std.specs.Prelude.{ℕ, ◌==◌, ◌&&◌, ◌||◌, Bool, true, false, not, nat_lt, if◌then◌else◌, List, [], ◌∷◌, Option, Some, None, slice_index_or}
+use Rattle.std.specs.Prelude.{◌≡◌, ℕ, ◌+◌, ◌-◌, ◌==◌, ◌&&◌, ◌||◌, Bool, true, false, not, nat_lt, if◌then◌else◌, List, [], ◌∷◌, ◌++◌, Option, Some, None, slice_index_or, filter, fold}
 use Rattle.std.specs.List.{list_any}
 use Rattle.lists.specs.Lists.{first_of, has_node, without}
 
 pub record Schedule : Type 0 where
-  -- the Ready tasks, each with its priority and before those that it would run before
+  -- the tasks in the ready lists, each with its priority and before those that it would run before
   pub ready : List (ℕ × ℕ)
+  -- the tasks woken while the scheduler is held, in the order of their waking (`xPendingReadyList`)
+  pub pending : List ℕ
   -- the running task, or idle
   pub current : Option ℕ
   -- the priority of each task
@@ -17,62 +19,102 @@ pub record Schedule : Type 0 where
 abbrev pub priority_in : List ℕ → ℕ → ℕ
 priority_in priorities task = slice_index_or priorities task 0
 
--- The task is Ready.
-abbrev pub is_ready : Schedule → ℕ → Bool
-is_ready s task = has_node task s.ready
-
 -- a task with its priority put behind all that are not of lower priority (`prvAddTaskToReadyList`)
 abbrev pub add_to_ready_list : ℕ × ℕ → List (ℕ × ℕ) → List (ℕ × ℕ)
 add_to_ready_list e [] = e ∷ []
 add_to_ready_list e (f ∷ fs) = if nat_lt f.1 e.1 then e ∷ f ∷ fs else f ∷ add_to_ready_list e fs
 
+-- these tasks put in turn behind the others of their priority
+abbrev pub line_up : List ℕ → List ℕ → List (ℕ × ℕ) → List (ℕ × ℕ)
+line_up tasks priorities ready = fold (λ entries task. add_to_ready_list (task, priority_in priorities task) entries) ready tasks
+
+-- the Ready tasks in order, once the pending ones are put in turn behind the others of their priority
+abbrev pub lined_up : Schedule → List (ℕ × ℕ)
+lined_up s = line_up s.pending s.priorities s.ready
+
+-- The task is Ready.
+abbrev pub is_ready : Schedule → ℕ → Bool
+is_ready s task = has_node task (lined_up s)
+
+-- Nobody is pending where the scheduler isn't held.
+abbrev pub IsCalm : Schedule → Type 0
+IsCalm s = s.depth ≡ 0 → s.pending ≡ []
+
 -- The task, which isn't Ready, becomes so, behind the others of its priority.
 abbrev pub make_ready : ℕ → Schedule → Schedule
 make_ready task s = record s { ready = add_to_ready_list (task, priority_in s.priorities task) s.ready }
 
+-- The task, which isn't Ready, becomes so, and goes to its ready list when the last hold ends.
+abbrev pub pend_ready : ℕ → Schedule → Schedule
+pend_ready task s = record s { pending = s.pending ++ task ∷ [] }
+
+-- The task, which isn't Ready, is woken: it becomes so, in its ready list or pending where the scheduler is held.
+abbrev pub wake : ℕ → Schedule → Schedule
+wake task s = if s.depth == 0 then make_ready task s else pend_ready task s
+
+-- whether a task is among these
+abbrev pub is_among : ℕ → List ℕ → Bool
+is_among task tasks = list_any (λ other. other == task) tasks
+
+-- these tasks without this one
+abbrev pub without_task : ℕ → List ℕ → List ℕ
+without_task task tasks = filter (λ other. not (other == task)) tasks
+
 -- The task is Ready no more.
 abbrev pub block : ℕ → Schedule → Schedule
-block task s = record s { ready = without task s.ready }
+block task s = record s { ready = without task s.ready; pending = without_task task s.pending }
 
--- The task goes behind the others of its priority, where it is Ready.
+-- The scheduler is held once more (`vTaskSuspendAll`).
+abbrev pub hold : Schedule → Schedule
+hold s = record s { depth = s.depth + 1 }
+
+-- Every pending task goes to its ready list, in turn.
+abbrev pub line_up_pending : Schedule → Schedule
+line_up_pending s = record s { ready = lined_up s; pending = [] }
+
+-- A hold is taken back, and with the last one every pending task goes to its ready list (`xTaskResumeAll`).
+abbrev pub unhold : Schedule → Schedule
+unhold s = record (if s.depth == 1 then line_up_pending s else s) { depth = s.depth - 1 }
+
+-- The task goes behind the others of its priority, where it is in a ready list.
 abbrev pub to_back : ℕ → Schedule → Schedule
-to_back task s = if is_ready s task then make_ready task (block task s) else s
+to_back task s = if has_node task s.ready then make_ready task (record s { ready = without task s.ready }) else s
 
 -- A deed is done with this task, if there is one.
 abbrev pub for_one : (ℕ → Schedule → Schedule) → Option ℕ → Schedule → Schedule
 for_one deed None s = s
 for_one deed (Some task) s = deed task s
 
--- The choice runs: the first of the Ready tasks, or idle (`vTaskSwitchContext`).
+-- The choice runs: the first in the ready lists, or idle (`vTaskSwitchContext`).
 abbrev pub choose : Schedule → Schedule
 choose s = record s { current = first_of s.ready }
 
--- The running task goes behind the others of its priority, where it is Ready, and the choice runs (`taskYIELD`).
+-- The running task goes behind the others of its priority, where it is in a ready list, and the choice runs (`taskYIELD`).
 abbrev pub yield_now : Schedule → Schedule
 yield_now s = choose (for_one to_back s.current s)
 
--- A Ready task is above the running one: of strictly higher priority, or idle runs (profile).
+-- A task in a ready list is above the running one: of strictly higher priority, or idle runs (profile).
 abbrev pub is_above : List ℕ → Option ℕ → ℕ × ℕ → Bool
 is_above priorities None e = true
 is_above priorities (Some task) e = nat_lt (priority_in priorities task) e.1
 
--- A Ready task is another than the running one, and of its priority.
+-- A task in a ready list is another than the running one, and of its priority.
 abbrev pub is_beside : List ℕ → Option ℕ → ℕ × ℕ → Bool
 is_beside priorities None e = false
 is_beside priorities (Some task) e = not (e.0 == task) && e.1 == priority_in priorities task
 
--- Some Ready task is above the running one.
+-- Some task in a ready list is above the running one.
 abbrev pub is_outranked : Schedule → Bool
 is_outranked s = list_any (is_above s.priorities s.current) s.ready
 
--- Another Ready task has the running one's priority.
+-- Another task in a ready list has the running one's priority.
 abbrev pub is_sharing : Schedule → Bool
 is_sharing s = list_any (is_beside s.priorities s.current) s.ready
 
--- Where a Ready task is above the running one, that one yields.
+-- Where a task in a ready list is above the running one, that one yields.
 abbrev pub preempt : Schedule → Schedule
 preempt s = if is_outranked s then yield_now s else s
 
--- The same, and also where another Ready task has the running one's priority (`configUSE_TIME_SLICING`).
+-- The same, and also where another task in a ready list has the running one's priority (`configUSE_TIME_SLICING`).
 abbrev pub slice : Schedule → Schedule
 slice s = if is_outranked s || is_sharing s then yield_now s else s

@@ -1,13 +1,14 @@
 //! The scheduler: the Ready tasks, and the running one.
-ghost use Rattle.std.specs.Prelude.{◌≡◌, ◌<◌, ◌+◌, ◌-◌, ◌||◌, true, [], None, false, length};
+ghost use Rattle.std.specs.Prelude.{◌≡◌, ◌≢◌, ℕ, ◌<◌, ◌-◌, ◌||◌, true, [], None, false, length, drop, slice_get, IfSome};
 ghost use Rattle.std.specs.List.{AllByRecursion};
 ghost use Rattle.std.specs.Option.{is_some};
 ghost use Rattle.model.specs.State.{State};
 ghost use Rattle.model.specs.Switching as switching;
 ghost use Rattle.lists.specs.Lists.{first_of};
-ghost use Rattle.sched.specs.Schedule.{priority_in, is_ready, is_outranked, is_sharing, block, choose, make_ready, preempt, slice, to_back, yield_now};
-ghost use Rattle.sched.specs.StandsFor.{StandsFor, StandsBefore, Does};
+ghost use Rattle.sched.specs.Schedule.{IsCalm, priority_in, is_ready, is_outranked, is_sharing, block, choose, hold, line_up_pending, lined_up, make_ready, pend_ready, preempt, slice, to_back, unhold, wake, yield_now};
+ghost use Rattle.sched.specs.StandsFor.{StandsFor, StandsBefore, DoesFree};
 
+use crate::pending::PendingReadyList;
 use crate::ready_lists::ReadyLists;
 use lists::ListId;
 use model::TaskId;
@@ -15,10 +16,14 @@ use std::marker::Model;
 
 /// The Ready tasks, the running task, and the priorities of all tasks: FreeRTOS's ready lists, one for each priority.
 ///
+/// A task that is woken while the scheduler is held is Ready, but goes to its ready list only when the last hold ends;
+/// until then it is pending.
+///
 /// Idle is no task here: it runs where no task is Ready, and is below every priority (profile).
 #[derive(Drop)]
 pub struct Sched {
     ready: ReadyLists,
+    pending: PendingReadyList,
     current: Option<TaskId>,
     priorities: [u8; 32],
     depth: u32,
@@ -31,9 +36,9 @@ impl Model for Sched {
 
     ghost Value = { Schedule };
 
-    ghost view = { λ s. schedule_of s.ready s.current s.priorities s.depth };
+    ghost view = { λ s. schedule_of s.ready s.pending s.current s.priorities s.depth };
 
-    ghost invariant = { λ s. IsSched s.ready s.priorities };
+    ghost invariant = { λ s. IsSched s.ready s.pending s.priorities s.depth };
 }
 
 impl Sched {
@@ -41,10 +46,17 @@ impl Sched {
     /// a larger number is a higher priority.
     pub fn new(priorities: [u8; 32]) -> Self
         requires { AllByRecursion (λ priority. priority < 32) priorities }
-        ensures new { result ≡ record { ready = []; current = None; priorities = priorities; depth = 0 } }
+        ensures new { result ≡ record {
+          ready = [];
+          pending = [];
+          current = None;
+          priorities = priorities;
+          depth = 0;
+        } }
     {
         Sched {
             ready: ReadyLists::new(),
+            pending: PendingReadyList::new(),
             current: None,
             priorities,
             depth: 0,
@@ -60,9 +72,9 @@ impl Sched {
 
     /// Whether any task is Ready.
     pub fn has_ready(&self) -> bool
-        ensures ready { result ≡ is_some (first_of self.now.ready) }
+        ensures ready { result ≡ is_some (first_of (lined_up self.now)) }
     {
-        self.ready.has_any()
+        self.ready.has_any() || !self.pending.is_empty()
     }
 
     /// The priority of a task, 0 to 31.
@@ -77,12 +89,13 @@ impl Sched {
     pub fn is_ready(&self, task: TaskId) -> bool
         ensures ready { result ≡ is_ready self.now task }
     {
-        self.ready.contains(task)
+        self.ready.contains(task) || self.pending.contains(task)
     }
 
     /// How often the scheduler is held.
     pub fn depth(&self) -> u32
         ensures depth { result ≡ self.now.depth }
+        ensures calm { IsCalm self.now }
     {
         self.depth
     }
@@ -91,7 +104,8 @@ impl Sched {
     /// lets nothing switch.
     pub fn hold(&mut self)
         requires { self.old.depth < 4294967295 }
-        ensures schedule { self.new ≡ record self.old { depth = self.old.depth + 1 } }
+        ensures schedule { self.new ≡ hold self.old }
+        ensures calm { IsCalm self.old }
         // In the definitions a call holds it, where none did.
         ensures stands { (s : State) → StandsFor self.old s → s.call_hold ≡ false
             → StandsFor self.new (record s { call_hold = true }) }
@@ -99,27 +113,67 @@ impl Sched {
         self.depth += 1;
     }
 
-    /// Takes back one of the holds, of which there is one (`xTaskResumeAll`). It switches nothing by itself.
+    /// Takes back one of the holds, of which there is one, and with the last one moves the pending tasks to their ready
+    /// lists (`xTaskResumeAll`). It switches nothing by itself.
     pub fn unhold(&mut self)
         requires { 0 < self.old.depth }
-        ensures schedule { self.new ≡ record self.old { depth = self.old.depth - 1 } }
+        ensures schedule { self.new ≡ unhold self.old }
+        ensures depth { self.new.depth ≡ self.old.depth - 1 }
+        ensures current { self.new.current ≡ self.old.current }
         ensures stands { (s : State) → StandsFor self.old s → s.call_hold ≡ true
             → StandsFor self.new (record s { call_hold = false }) }
     {
+        if self.depth == 1 {
+            self.line_up_pending();
+        }
         self.depth -= 1;
     }
 
-    /// Makes a task Ready that isn't (`is_ready` tells), behind the others of its priority.
+    /// Makes a task Ready that isn't (`is_ready` tells), behind the others of its priority, while the scheduler isn't
+    /// held.
     pub fn make_ready(&mut self, task: TaskId)
         requires free { is_ready self.old task ≡ false }
+        requires calm { self.old.depth ≡ 0 }
         ensures schedule { self.new ≡ make_ready task self.old }
         // In the definitions it takes the next ticket.
         ensures stands { (s : State) → StandsFor self.old s → task < length s.tasks
             → StandsFor self.new (switching.make_ready task s) }
         ensures current { self.new.current ≡ self.old.current }
     {
-        let list = self.list_of(task);
-        self.ready.push_back(list, task);
+        self.put_last(task);
+    }
+
+    /// Makes a task Ready that isn't, while the scheduler is held: it is the last of those that are pending.
+    pub fn pend_ready(&mut self, task: TaskId)
+        requires free { is_ready self.old task ≡ false }
+        requires held { 0 < self.old.depth }
+        ensures schedule { self.new ≡ pend_ready task self.old }
+        ensures current { self.new.current ≡ self.old.current }
+        // In the definitions it is Ready at once, with the next ticket.
+        ensures stands { (s : State) → StandsFor self.old s → task < length s.tasks
+            → StandsFor self.new (switching.make_ready task s) }
+        // Another that is still to be placed stays so.
+        ensures placing { (s : State) (decider : ℕ) → StandsBefore decider self.old s → decider ≢ task
+            → task < length s.tasks → StandsBefore decider self.new (switching.make_ready task s) }
+    {
+        self.pending.push_back(task);
+    }
+
+    /// Makes a task Ready that isn't: behind the others of its priority, or pending where the scheduler is held.
+    pub fn wake(&mut self, task: TaskId)
+        requires free { is_ready self.old task ≡ false }
+        ensures schedule { self.new ≡ wake task self.old }
+        ensures current { self.new.current ≡ self.old.current }
+        ensures stands { (s : State) → StandsFor self.old s → task < length s.tasks
+            → StandsFor self.new (switching.make_ready task s) }
+        ensures placing { (s : State) (decider : ℕ) → StandsBefore decider self.old s → decider ≢ task
+            → task < length s.tasks → StandsBefore decider self.new (switching.make_ready task s) }
+    {
+        if self.depth == 0 {
+            self.make_ready(task);
+        } else {
+            self.pend_ready(task);
+        }
     }
 
     /// Takes a task from the Ready tasks. It stays the running one, if it is, until the next choice.
@@ -129,23 +183,24 @@ impl Sched {
         ensures placed { (s : State) → StandsBefore task self.old s → StandsFor self.new s }
     {
         self.ready.remove(task);
+        self.pending.remove(task);
     }
 
-    /// Lets the choice run: the Ready task of highest priority, and of these the first; else idle.
+    /// Lets the choice run: of the tasks in the ready lists the one of highest priority, and of these the first; else idle.
     pub fn choose(&mut self) -> Option<TaskId>
         ensures schedule { self.new ≡ choose self.old }
-        ensures stands { Does self.old self.new switching.choose }
+        ensures stands { DoesFree self.old self.new switching.choose }
         ensures current { result ≡ self.new.current }
     {
         self.current = self.ready.first();
         self.current
     }
 
-    /// Sends the running task behind the others of its priority, if it is Ready, and lets the choice
-    /// run (`taskYIELD`).
+    /// Sends the running task behind the others of its priority, if it is in a ready list, and lets the
+    /// choice run (`taskYIELD`).
     pub fn yield_now(&mut self)
         ensures schedule { self.new ≡ yield_now self.old }
-        ensures stands { Does self.old self.new switching.yield_now }
+        ensures stands { DoesFree self.old self.new switching.yield_now }
     {
         if let Some(task) = self.current {
             self.to_back(task);
@@ -153,12 +208,12 @@ impl Sched {
         self.choose();
     }
 
-    /// Where a Ready task has a higher priority than the running one, or idle runs and a task is Ready,
-    /// yields. Answers whether it did. A Ready task of equal priority changes nothing (profile).
+    /// Where a task in a ready list has a higher priority than the running one, or idle runs and a ready list
+    /// has a task, yields. Answers whether it did. One of equal priority changes nothing (profile).
     pub fn preempt(&mut self) -> bool
         ensures outranked { result ≡ is_outranked self.old }
         ensures schedule { self.new ≡ preempt self.old }
-        ensures stands { Does self.old self.new switching.preempt }
+        ensures stands { DoesFree self.old self.new switching.preempt }
     {
         let outranked = self.is_outranked();
         if outranked {
@@ -167,12 +222,12 @@ impl Sched {
         outranked
     }
 
-    /// As `preempt`, and yields also where another Ready task has the running one's priority: its
-    /// turn has come, at the end of a tick (`configUSE_TIME_SLICING`). Answers whether it did.
+    /// As `preempt`, and yields also where another task in a ready list has the running one's priority:
+    /// its turn has come, at the end of a tick (`configUSE_TIME_SLICING`). Answers whether it did.
     pub fn slice(&mut self) -> bool
         ensures ended { result ≡ (is_outranked self.old || is_sharing self.old) }
         ensures schedule { self.new ≡ slice self.old }
-        ensures stands { Does self.old self.new switching.slice }
+        ensures stands { DoesFree self.old self.new switching.slice }
     {
         if let Some(task) = self.current {
             let list = self.list_of(task);
@@ -192,22 +247,53 @@ impl Sched {
         ended
     }
 
-    /// Sends a task behind the others of its priority, if it is Ready (profile: FreeRTOS moves its list's index instead).
+    /// Puts a task that isn't Ready last into its ready list.
+    #[inline(always)]
+    fn put_last(&mut self, task: TaskId)
+        requires free { is_ready self.old task ≡ false }
+        ensures schedule { self.new ≡ make_ready task self.old }
+        ensures calm { IsCalm self.old }
+    {
+        let list = self.list_of(task);
+        self.ready.push_back(list, task);
+    }
+
+    /// Moves the pending tasks to their ready lists, in the order in which they were woken.
+    fn line_up_pending(&mut self)
+        ensures schedule { self.new ≡ line_up_pending self.old }
+    {
+        while let Some(task) = self.take_pending() {
+            self.put_last(task);
+        }
+    }
+
+    /// Takes the first of the pending tasks, if there is one: it isn't Ready any more.
+    fn take_pending(&mut self) -> Option<TaskId>
+        ensures first { result ≡ slice_get self.old.pending 0 }
+        ensures rest { self.new ≡ record self.old { pending = drop 1 self.old.pending } }
+        ensures free { IfSome result (λ task. is_ready self.new task ≡ false) }
+    {
+        self.pending.pop_front()
+    }
+
+    /// Sends a task behind the others of its priority, if it is in a ready list (profile: FreeRTOS moves its list's index
+    /// instead).
     fn to_back(&mut self, task: TaskId)
         ensures schedule { self.new ≡ to_back task self.old }
     {
         let list = self.list_of(task);
         if self.ready.first_in(list) == Some(task) {
             self.ready.rotate(list);
-        } else if self.is_ready(task) {
-            self.block(task);
-            self.make_ready(task);
+        } else if self.ready.contains(task) {
+            self.ready.remove(task);
+            self.ready.push_back(list, task);
         }
     }
 
-    /// Whether a Ready task is above the running one.
+    /// Whether a task in a ready list is above the running one.
     fn is_outranked(&self) -> bool
         ensures outranked { result ≡ is_outranked self.now }
+        ensures calm { IsCalm self.now }
     {
         match (self.ready.highest(), self.current) {
             (None, _) => false,
@@ -216,7 +302,7 @@ impl Sched {
         }
     }
 
-    /// Whether another Ready task has the running one's priority.
+    /// Whether another task in a ready list has the running one's priority.
     fn is_sharing(&self) -> bool
         ensures sharing { result ≡ is_sharing self.now }
     {

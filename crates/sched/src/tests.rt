@@ -3,10 +3,22 @@ use crate::Sched;
 use model::TaskId;
 use std::process::Abort;
 
-/// Makes a task Ready that isn't.
-fn make_ready(rt: &impl Abort, sched: &mut Sched, task: TaskId) {
+/// Wakes a task that isn't Ready.
+fn wake(rt: &impl Abort, sched: &mut Sched, task: TaskId) {
     assert!(rt; !sched.is_ready(task), "task {} isn't Ready", task.number);
-    sched.make_ready(task);
+    sched.wake(task);
+}
+
+/// Holds the scheduler once more.
+fn hold(rt: &impl Abort, sched: &mut Sched) {
+    assert!(rt; sched.depth() < 10);
+    sched.hold();
+}
+
+/// Takes back a hold.
+fn unhold(rt: &impl Abort, sched: &mut Sched) {
+    assert!(rt; sched.depth() > 0);
+    sched.unhold();
 }
 
 #[test]
@@ -19,13 +31,13 @@ fn tasks_take_turns_and_give_way(rt: HostRuntime) {
         0, 0,
     ]);
     assert_eq!(rt; sched.current(), None);
-    make_ready(&rt, &mut sched, low);
-    make_ready(&rt, &mut sched, other);
+    wake(&rt, &mut sched, low);
+    wake(&rt, &mut sched, other);
     assert_eq!(rt; sched.choose(), Some(low));
     assert!(rt; !sched.preempt());
     assert!(rt; sched.slice());
     assert_eq!(rt; sched.current(), Some(other));
-    make_ready(&rt, &mut sched, high);
+    wake(&rt, &mut sched, high);
     assert!(rt; sched.preempt());
     assert_eq!(rt; sched.current(), Some(high));
     sched.block(high);
@@ -34,4 +46,57 @@ fn tasks_take_turns_and_give_way(rt: HostRuntime) {
     sched.yield_now();
     assert_eq!(rt; sched.current(), Some(other));
     assert_eq!(rt; sched.priority(high), 2);
+}
+
+#[test]
+fn tasks_woken_while_held_are_lined_up_when_the_last_hold_ends(rt: HostRuntime) {
+    let low = TaskId { number: 0 };
+    let other = TaskId { number: 1 };
+    let high = TaskId { number: 3 };
+    let mut sched = Sched::new([
+        1, 1, 0, 2, 0, 0, 0, 0, 0, 0, 0, 0, 0, 0, 0, 0, 0, 0, 0, 0, 0, 0, 0, 0, 0, 0, 0, 0, 0, 0,
+        0, 0,
+    ]);
+    wake(&rt, &mut sched, low);
+    assert_eq!(rt; sched.choose(), Some(low));
+    hold(&rt, &mut sched);
+    hold(&rt, &mut sched);
+    wake(&rt, &mut sched, other);
+    wake(&rt, &mut sched, high);
+    assert!(rt; sched.is_ready(other) && sched.is_ready(high));
+    assert!(rt; !sched.preempt());
+    assert!(rt; !sched.slice());
+    unhold(&rt, &mut sched);
+    assert_eq!(rt; sched.depth(), 1);
+    assert!(rt; !sched.preempt());
+    unhold(&rt, &mut sched);
+    assert_eq!(rt; sched.depth(), 0);
+    assert_eq!(rt; sched.current(), Some(low));
+    assert!(rt; sched.preempt());
+    assert_eq!(rt; sched.current(), Some(high));
+    sched.block(high);
+    assert_eq!(rt; sched.choose(), Some(other));
+    assert!(rt; sched.slice());
+    assert_eq!(rt; sched.current(), Some(low));
+}
+
+#[test]
+fn pending_tasks_keep_the_order_of_their_waking(rt: HostRuntime) {
+    let first = TaskId { number: 5 };
+    let gone = TaskId { number: 6 };
+    let second = TaskId { number: 4 };
+    let mut sched = Sched::new([7; 32]);
+    hold(&rt, &mut sched);
+    wake(&rt, &mut sched, first);
+    wake(&rt, &mut sched, gone);
+    wake(&rt, &mut sched, second);
+    sched.block(gone);
+    assert!(rt; !sched.is_ready(gone));
+    assert!(rt; sched.has_ready());
+    unhold(&rt, &mut sched);
+    assert_eq!(rt; sched.choose(), Some(first));
+    sched.block(first);
+    assert_eq!(rt; sched.choose(), Some(second));
+    sched.block(second);
+    assert_eq!(rt; sched.choose(), None);
 }

@@ -11,7 +11,7 @@ use Rattle.model.specs.declared.object.ObjectKind.TheVariants.{Queue}
 use Rattle.model.specs.declared.op.Access.{Access}
 use Rattle.model.specs.declared.op.Access.TheVariants.{Send, SendFront, Overwrite, Receive, Peek}
 use Rattle.model.specs.declared.op.Op.{Op}
-use Rattle.model.specs.Application.{Application}
+use Rattle.model.specs.Application.{Application, word_of}
 use Rattle.model.specs.Scripts.{is_in_range, fits, fits_object, knows, KnowsAll}
 use Rattle.model.proofs.Sorting.{by_test}
 use Rattle.script.specs.declared.fault.LoadFault.TheVariants.{BadOp, OverwriteLength}
@@ -73,7 +73,7 @@ module _ (app : Application) (objects : List Named) (same : app.objects ≡ kind
   Known o = IfSome o (λ op. is_allowed objects op ≡ true → knows app op ≡ true)
 
   -- the same of what a form makes
-  abbrev KnownForm : Form → Type 0
+  abbrev KnownForm : Form Op → Type 0
   KnownForm (Done op) = is_allowed objects op ≡ true → knows app op ≡ true
   KnownForm (Number next) = (n : ℕ) → KnownForm (next n)
   KnownForm (Answer next) = (a : Option ℕ) → KnownForm (next a)
@@ -84,7 +84,7 @@ module _ (app : Application) (objects : List Named) (same : app.objects ≡ kind
       → (n : ℕ) → n < length objects → fits_object app n access ≡ true
   object_fits access all n within = rw same (all_fit access all objects n within)
 
-  allowed_fits : (access : Access) (n : ℕ)
+  pub allowed_fits : (access : Access) (n : ℕ)
       → unwrap_or (option_map (λ (o : Named). fits o.kind access) (slice_get objects n)) false ≡ true
       → fits_object app n access ≡ true
   allowed_fits access n allowed = rw same (sym (same_fit access objects n) ∙ allowed)
@@ -99,7 +99,7 @@ module _ (app : Application) (objects : List Named) (same : app.objects ≡ kind
   taken_known None ws next known = tt
   taken_known (Some x) ws next known = known x refl
 
-  read_known : (form : Form) (ws : List Word) → KnownForm form → Known (read (object_among objects) form ws)
+  read_known : (form : Form Op) (ws : List Word) → KnownForm form → Known (read (object_among objects) form ws)
   read_known (Done op) [] known = known
   read_known (Done op) (w ∷ ws) known = tt
   read_known (Number next) [] known = tt
@@ -116,10 +116,10 @@ module _ (app : Application) (objects : List Named) (same : app.objects ≡ kind
       taken_known (object_among objects w) ws (λ r. read (object_among objects) (next r.0) r.1)
       (λ n e. read_known (next n) ws (known n (found_within w n e)))
 
-  read_by_known : (fs : List Form) (w : Word) (ws : List Word) → AllByRecursion KnownForm fs
-      → Known (read_by (object_among objects) fs w ws)
+  read_by_known : (fs : List (Form Op)) (w : Word) (ws : List Word) → AllByRecursion KnownForm fs
+      → Known (read_by word_of (object_among objects) fs w ws)
   read_by_known [] w ws known = tt
-  read_by_known (form ∷ others) w ws known = by_test (bytes_eq w (form_word form))
+  read_by_known (form ∷ others) w ws known = by_test (bytes_eq w (form_word word_of form))
       (λ t. rw t (read_known form ws known.0))
       (λ t. rw t (read_by_known others w ws known.1))
 
@@ -177,7 +177,7 @@ module _ (app : Application) (objects : List Named) (same : app.objects ≡ kind
 
   op_known : (ws : List Word) → Known (op_of (object_among objects) ws)
   op_known [] = tt
-  op_known (w ∷ ws) = range_known (read_by (object_among objects) forms w ws) (read_by_known forms w ws forms_known)
+  op_known (w ∷ ws) = range_known (read_by word_of (object_among objects) forms w ws) (read_by_known forms w ws forms_known)
 
   text_known : (text : Option (List ℕ)) → Known (option_and_then (op_spelled (object_among objects)) text)
   text_known None = tt

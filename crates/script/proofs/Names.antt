@@ -8,19 +8,21 @@ use Rattle.std.proofs.lemmas.Slice.Eq.{bytes_eq-Decides}
 use Rattle.std.proofs.lemmas.List.Folds.{list_any_at}
 use Rattle.std.proofs.lemmas.List.Quantifiers.{all_pairs_push}
 use Rattle.toml.specs.Data.{Data, Items, no_items, item, Members, as_str, as_table, as_array, get_member}
-use Rattle.model.specs.Application.{Definition}
-use Rattle.model.specs.Scripts.{most_tasks, most_objects}
+use Rattle.model.specs.Application.{Handler, Definition}
+use Rattle.model.specs.Scripts.{most_tasks, most_objects, most_handlers}
 use Rattle.script.specs.declared.fault.LoadFault.TheVariants.{Missing, OutOfRange, DoubleName, TooMany}
 use Rattle.script.specs.declared.place.Place.{Place}
 use Rattle.script.specs.declared.place.Section.TheVariants as section
 use Rattle.script.specs.declared.place.Key.TheVariants as key
 use Rattle.script.specs.Faults.{fails_if, at_section, at_field}
 use Rattle.script.specs.Values.{items_len, optional_fault, text_fault, name_fault, name_named}
-use Rattle.script.specs.Names.{is_name, AreDistinct}
+use Rattle.script.specs.Names.{is_name, task_names, AreDistinct}
 use Rattle.script.specs.Queues.{Named, names_of, queue_table_fault, queue_fault, queue_named, queues_fault, queues_named, queue_array_fault, objects_fault, objects_named}
 use Rattle.script.specs.Tasks.{Raw, task_table_fault, task_fault, task_named, tasks_fault, tasks_named, entries_fault, section_array_fault, section_fault, section_named}
+use Rattle.script.specs.Handlers.{RawIsr, isr_names, handler_table_fault, handler_fault, handler_named, handlers_fault, handlers_named, handler_array_fault, handler_section_fault, handler_section_named}
 use Rattle.script.specs.Ops.{with_ops}
-use Rattle.script.specs.Load.{limits_fault, objects_of, tasks_of, load_fault, document_names}
+use Rattle.script.specs.IsrOps.{with_isr_ops}
+use Rattle.script.specs.Load.{limits_fault, objects_of, handlers_of, tasks_of, load_fault, app_named, document_names}
 use Rattle.script.proofs.Checks.{none_fails, passes}
 
 -- ---- a name that is taken is none of those before it
@@ -85,6 +87,38 @@ objects_differ : (value : Option Data) → objects_fault value ≡ None → AreD
 objects_differ None none = none_distinct
 objects_differ (Some d) none = queue_array_differs (as_array d) none
 
+-- ---- the handlers, one after another
+
+handler_is_new : (names : List (List ℕ)) (i : ℕ) (d : Data) (table : Option Members)
+    → as_table d ≡ table → handler_table_fault names i table ≡ None → IsNew names (handler_named d).name
+handler_is_new names i d None is none = cc
+handler_is_new names i d (Some ms) is none =
+    let p = at_field section.Handler i key.Name in
+    let name = get_member (codes "name") ms in
+    rw is (name_is_new p names name (none_fails (name_fault p names name) _ none).0)
+
+handlers_differ : (names : List (List ℕ)) (i : ℕ) (ds : Items)
+    → handlers_fault names i ds ≡ None → AreDistinct names → AreDistinct (names ++ isr_names (handlers_named ds))
+handlers_differ names i no_items none distinct = rw (append-nil names) distinct
+handlers_differ names i (item d ds) none distinct =
+    let name = (handler_named d).name in
+    let here = none_fails (handler_fault names i d) (handlers_fault (names ++ name ∷ []) (i + 1) ds ∷ []) none in
+    let new = handler_is_new names i d (as_table d) refl here.0 in
+    subst AreDistinct (append_assoc names (name ∷ []) (isr_names (handlers_named ds)))
+    (handlers_differ (names ++ name ∷ []) (i + 1) ds (none_fails _ [] here.1).0 (longer names name distinct new))
+
+handler_array_differs : (names : List (List ℕ)) (array : Option Items) → handler_array_fault names array ≡ None
+    → AreDistinct names → AreDistinct (names ++ isr_names (handlers_named (unwrap_or array no_items)))
+handler_array_differs names None none distinct = cc
+handler_array_differs names (Some ds) none distinct =
+    let few = (none_fails (fails_if (nat_lt most_handlers (items_len ds)) (TooMany (at_section section.Handler))) _ none).1 in
+    handlers_differ names 0 ds (none_fails _ [] few).0 distinct
+
+handler_section_differs : (names : List (List ℕ)) (value : Option Data) → handler_section_fault names value ≡ None
+    → AreDistinct names → AreDistinct (names ++ isr_names (handler_section_named value))
+handler_section_differs names None none distinct = rw (append-nil names) distinct
+handler_section_differs names (Some d) none distinct = handler_array_differs names (as_array d) none distinct
+
 -- ---- the tasks, one after another
 
 task_is_new : (names : List (List ℕ)) (i : ℕ) (d : Data) (table : Option Members)
@@ -132,16 +166,26 @@ with_ops_names : (objects : List Named) (tasks : List Raw)
 with_ops_names objects [] = refl
 with_ops_names objects (t ∷ ts) = ap (λ names. t.name ∷ names) (with_ops_names objects ts)
 
+with_isr_ops_names : (objects : List Named) (handlers : List RawIsr)
+    → map (λ (h : Handler). h.name) (map (with_isr_ops objects) handlers) ≡ isr_names handlers
+with_isr_ops_names objects [] = refl
+with_isr_ops_names objects (h ∷ hs) = ap (λ names. h.name ∷ names) (with_isr_ops_names objects hs)
+
 pub names_differ : (document : Members) → load_fault document ≡ None → AreDistinct (document_names document)
 names_differ document none =
     let start = optional_fault (at_section section.Start) 0 4294967295 (get_member (codes "start") document) in
     let limits = limits_fault (get_member (codes "limits") document) in
     let queues = get_member (codes "queue") document in
+    let isrs = get_member (codes "handler") document in
     let tasks = get_member (codes "task") document in
     let objects = objects_of document in
+    let raws = handlers_of document in
     let names = names_of objects in
     let limited = (none_fails limits _ (none_fails start _ none).1).1 in
     let queued = none_fails (objects_fault queues) _ limited in
-    let tasked = none_fails (section_fault names tasks) _ queued.1 in
-    let distinct = section_differs names tasks tasked.0 (objects_differ queues queued.0) in
-    subst (λ others. AreDistinct (names ++ others)) (sym (with_ops_names objects (tasks_of document))) distinct
+    let handled = none_fails (handler_section_fault names isrs) _ queued.1 in
+    let tasked = none_fails (section_fault (names ++ isr_names raws) tasks) _ handled.1 in
+    let before = handler_section_differs names isrs handled.0 (objects_differ queues queued.0) in
+    let distinct = section_differs (names ++ isr_names raws) tasks tasked.0 before in
+    subst (λ isr_names. AreDistinct ((names ++ isr_names) ++ task_names (app_named document))) (sym (with_isr_ops_names objects raws))
+    (subst (λ others. AreDistinct ((names ++ isr_names raws) ++ others)) (sym (with_ops_names objects (tasks_of document))) distinct)

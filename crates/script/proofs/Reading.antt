@@ -6,9 +6,10 @@ use Rattle.std.specs.Str.{bytes_eq}
 use Rattle.std.proofs.lemmas.Slice.Eq.{bytes_eq-Decides}
 use Rattle.std.proofs.lemmas.Bool.{and_parts, not-true}
 use Rattle.model.specs.declared.op.Op.{Op}
-use Rattle.model.specs.Application.{word_of}
+use Rattle.model.specs.declared.op.IsrOp.{IsrOp}
+use Rattle.model.specs.Application.{word_of, word_of_isr}
 use Rattle.model.specs.Scripts.{is_in_range, InRange}
-use Rattle.script.specs.Grammar.{Word, Naming, Form, Done, Number, Answer, Wait, Object, forms, number_of, answer_of, wait_of, Writes, WritesBy, Spells, read, form_word, read_by, if_in_range, op_of}
+use Rattle.script.specs.Grammar.{Word, Naming, Form, Done, Number, Answer, Wait, Object, forms, isr_forms, number_of, answer_of, wait_of, Writes, WritesBy, Spells, SpellsIsr, read, form_word, read_by, if_in_range, op_of, isr_op_of}
 
 -- which branch of a test it was
 pub chosen : {X : Type 0} (b : Bool) (x y z : X) → cond b x y ≡ z
@@ -16,121 +17,130 @@ pub chosen : {X : Type 0} (b : Bool) (x y z : X) → cond b x y ≡ z
 chosen true x y z e = inl (refl, e)
 chosen false x y z e = inr (refl, e)
 
--- ---- a step of the reading
+module _ {O : Type 0} (word : O → Word) where
+  -- ---- a step of the reading
 
-taken : {X : Type 0} (o : Option X) (ws : List Word) (next : X × List Word → Option Op) (op : Op)
-    → option_and_then next (option_map (λ x. (x, ws)) o) ≡ Some op
-    → (x : X) × (o ≡ Some x) × (next (x, ws) ≡ Some op)
-taken None ws next op e = cc
-taken (Some x) ws next op e = (x, refl, e)
+  taken : {X : Type 0} (o : Option X) (ws : List Word) (next : X × List Word → Option O) (op : O)
+      → option_and_then next (option_map (λ x. (x, ws)) o) ≡ Some op
+      → (x : X) × (o ≡ Some x) × (next (x, ws) ≡ Some op)
+  taken None ws next op e = cc
+  taken (Some x) ws next op e = (x, refl, e)
 
--- ---- what is read by a form, its words write, and back
+  -- ---- what is read by a form, its words write, and back
 
-read_sound : (named : Naming) (form : Form) (ws : List Word) (op : Op) → read named form ws ≡ Some op → Writes named form ws op
-read_sound named (Done made) [] op e = cc
-read_sound named (Done made) (w ∷ ws) op e = cc
-read_sound named (Number next) [] op e = cc
-read_sound named (Number next) (w ∷ ws) op e =
-    let t = taken (number_of w) ws (λ r. read named (next r.0) r.1) op e in
-    (t.0, t.1, read_sound named (next t.0) ws op t.2)
-read_sound named (Answer next) [] op e = cc
-read_sound named (Answer next) (w ∷ ws) op e =
-    let t = taken (answer_of w) ws (λ r. read named (next r.0) r.1) op e in
-    (t.0, t.1, read_sound named (next t.0) ws op t.2)
-read_sound named (Wait next) [] op e = cc
-read_sound named (Wait next) (w ∷ ws) op e =
-    let t = taken (wait_of w) ws (λ r. read named (next r.0) r.1) op e in
-    (t.0, t.1, read_sound named (next t.0) ws op t.2)
-read_sound named (Object next) [] op e = cc
-read_sound named (Object next) (w ∷ ws) op e =
-    let t = taken (named w) ws (λ r. read named (next r.0) r.1) op e in
-    (t.0, t.1, read_sound named (next t.0) ws op t.2)
+  read_sound : (named : Naming) (form : Form O) (ws : List Word) (op : O) → read named form ws ≡ Some op → Writes named form ws op
+  read_sound named (Done made) [] op e = cc
+  read_sound named (Done made) (w ∷ ws) op e = cc
+  read_sound named (Number next) [] op e = cc
+  read_sound named (Number next) (w ∷ ws) op e =
+      let t = taken (number_of w) ws (λ r. read named (next r.0) r.1) op e in
+      (t.0, t.1, read_sound named (next t.0) ws op t.2)
+  read_sound named (Answer next) [] op e = cc
+  read_sound named (Answer next) (w ∷ ws) op e =
+      let t = taken (answer_of w) ws (λ r. read named (next r.0) r.1) op e in
+      (t.0, t.1, read_sound named (next t.0) ws op t.2)
+  read_sound named (Wait next) [] op e = cc
+  read_sound named (Wait next) (w ∷ ws) op e =
+      let t = taken (wait_of w) ws (λ r. read named (next r.0) r.1) op e in
+      (t.0, t.1, read_sound named (next t.0) ws op t.2)
+  read_sound named (Object next) [] op e = cc
+  read_sound named (Object next) (w ∷ ws) op e =
+      let t = taken (named w) ws (λ r. read named (next r.0) r.1) op e in
+      (t.0, t.1, read_sound named (next t.0) ws op t.2)
 
-read_complete : (named : Naming) (form : Form) (ws : List Word) (op : Op) → Writes named form ws op → read named form ws ≡ Some op
-read_complete named (Done made) [] op h = ap Some h
-read_complete named (Done made) (w ∷ ws) op h = absurd h
-read_complete named (Number next) [] op h = absurd h
-read_complete named (Number next) (w ∷ ws) op h = rw h.1 (read_complete named (next h.0) ws op h.2)
-read_complete named (Answer next) [] op h = absurd h
-read_complete named (Answer next) (w ∷ ws) op h = rw h.1 (read_complete named (next h.0) ws op h.2)
-read_complete named (Wait next) [] op h = absurd h
-read_complete named (Wait next) (w ∷ ws) op h = rw h.1 (read_complete named (next h.0) ws op h.2)
-read_complete named (Object next) [] op h = absurd h
-read_complete named (Object next) (w ∷ ws) op h = rw h.1 (read_complete named (next h.0) ws op h.2)
+  read_complete : (named : Naming) (form : Form O) (ws : List Word) (op : O) → Writes named form ws op → read named form ws ≡ Some op
+  read_complete named (Done made) [] op h = ap Some h
+  read_complete named (Done made) (w ∷ ws) op h = absurd h
+  read_complete named (Number next) [] op h = absurd h
+  read_complete named (Number next) (w ∷ ws) op h = rw h.1 (read_complete named (next h.0) ws op h.2)
+  read_complete named (Answer next) [] op h = absurd h
+  read_complete named (Answer next) (w ∷ ws) op h = rw h.1 (read_complete named (next h.0) ws op h.2)
+  read_complete named (Wait next) [] op h = absurd h
+  read_complete named (Wait next) (w ∷ ws) op h = rw h.1 (read_complete named (next h.0) ws op h.2)
+  read_complete named (Object next) [] op h = absurd h
+  read_complete named (Object next) (w ∷ ws) op h = rw h.1 (read_complete named (next h.0) ws op h.2)
 
--- ---- each form comes to ops of its own word alone
+  -- ---- each form comes to ops of its own word alone
 
-abbrev HasWord : Word → Form → Type 0
-HasWord w (Done op) = word_of op ≡ w
-HasWord w (Number next) = (n : ℕ) → HasWord w (next n)
-HasWord w (Answer next) = (a : Option ℕ) → HasWord w (next a)
-HasWord w (Wait next) = (ticks : Option ℕ) → HasWord w (next ticks)
-HasWord w (Object next) = (object : ℕ) → HasWord w (next object)
+  abbrev HasWord : Word → Form O → Type 0
+  HasWord w (Done op) = word op ≡ w
+  HasWord w (Number next) = (n : ℕ) → HasWord w (next n)
+  HasWord w (Answer next) = (a : Option ℕ) → HasWord w (next a)
+  HasWord w (Wait next) = (ticks : Option ℕ) → HasWord w (next ticks)
+  HasWord w (Object next) = (object : ℕ) → HasWord w (next object)
 
--- where it makes an op, this is of its word
-word_written : (named : Naming) (w : Word) (form : Form) (ws : List Word) (op : Op)
-    → HasWord w form → Writes named form ws op → word_of op ≡ w
-word_written named w (Done made) [] op has h = subst (λ (o : Op). word_of o ≡ w) h has
-word_written named w (Done made) (v ∷ ws) op has h = absurd h
-word_written named w (Number next) [] op has h = absurd h
-word_written named w (Number next) (v ∷ ws) op has h = word_written named w (next h.0) ws op (has h.0) h.2
-word_written named w (Answer next) [] op has h = absurd h
-word_written named w (Answer next) (v ∷ ws) op has h = word_written named w (next h.0) ws op (has h.0) h.2
-word_written named w (Wait next) [] op has h = absurd h
-word_written named w (Wait next) (v ∷ ws) op has h = word_written named w (next h.0) ws op (has h.0) h.2
-word_written named w (Object next) [] op has h = absurd h
-word_written named w (Object next) (v ∷ ws) op has h = word_written named w (next h.0) ws op (has h.0) h.2
+  -- where it makes an op, this is of its word
+  word_written : (named : Naming) (w : Word) (form : Form O) (ws : List Word) (op : O)
+      → HasWord w form → Writes named form ws op → word op ≡ w
+  word_written named w (Done made) [] op has h = subst (λ (o : O). word o ≡ w) h has
+  word_written named w (Done made) (v ∷ ws) op has h = absurd h
+  word_written named w (Number next) [] op has h = absurd h
+  word_written named w (Number next) (v ∷ ws) op has h = word_written named w (next h.0) ws op (has h.0) h.2
+  word_written named w (Answer next) [] op has h = absurd h
+  word_written named w (Answer next) (v ∷ ws) op has h = word_written named w (next h.0) ws op (has h.0) h.2
+  word_written named w (Wait next) [] op has h = absurd h
+  word_written named w (Wait next) (v ∷ ws) op has h = word_written named w (next h.0) ws op (has h.0) h.2
+  word_written named w (Object next) [] op has h = absurd h
+  word_written named w (Object next) (v ∷ ws) op has h = word_written named w (next h.0) ws op (has h.0) h.2
 
-abbrev HasOwnWord : Form → Type 0
-HasOwnWord form = HasWord (form_word form) form
+  abbrev HasOwnWord : Form O → Type 0
+  HasOwnWord form = HasWord (form_word word form) form
 
-own_words : AllByRecursion HasOwnWord forms
+  -- ---- no two forms have the same word
+
+  abbrev differs_from : Word → Form O → Bool
+  differs_from w form = not (bytes_eq (form_word word form) w)
+
+  abbrev are_distinct : List (Form O) → Bool
+  are_distinct [] = true
+  are_distinct (form ∷ others) = list_all (differs_from (form_word word form)) others && are_distinct others
+
+  -- ---- the first form of a word, and the form by which words write an op
+
+  by_sound : (named : Naming) (fs : List (Form O)) → AllByRecursion HasOwnWord fs → (w : Word) (ws : List Word) (op : O)
+      → read_by word named fs w ws ≡ Some op → (w ≡ word op) × WritesBy named fs ws op
+  by_sound named [] own w ws op e = cc
+  by_sound named (form ∷ others) own w ws op e = elim (chosen (bytes_eq w (form_word word form)) _ _ _ e) [
+    | inl here ↦
+        let written : Writes named form ws op = read_sound named form ws op here.1 in
+        let own_word : w ≡ form_word word form = (bytes_eq-Decides w (form_word word form)).0 here.0 in
+        (own_word ∙ sym (word_written named (form_word word form) form ws op own.0 written), inl written)
+    | inr later ↦ let l = by_sound named others own.1 w ws op later.1 in (l.0, inr l.1)
+  ]
+
+  other_word : (named : Naming) (fs : List (Form O)) → AllByRecursion HasOwnWord fs → (v : Word) (ws : List Word) (op : O)
+      → list_all (differs_from v) fs ≡ true → WritesBy named fs ws op → bytes_eq (word op) v ≡ false
+  other_word named [] own v ws op differ h = absurd h
+  other_word named (form ∷ others) own v ws op differ (inl h) =
+      rw (word_written named (form_word word form) form ws op own.0 h) (not-true _ (and_parts (differs_from v form) _ differ).0)
+  other_word named (form ∷ others) own v ws op differ (inr h) =
+      other_word named others own.1 v ws op (and_parts (differs_from v form) _ differ).1 h
+
+  by_complete : (named : Naming) (fs : List (Form O)) → AllByRecursion HasOwnWord fs → are_distinct fs ≡ true
+      → (ws : List Word) (op : O) → WritesBy named fs ws op → read_by word named fs (word op) ws ≡ Some op
+  by_complete named [] own distinct ws op h = absurd h
+  by_complete named (form ∷ others) own distinct ws op (inl h) =
+      let own_word : bytes_eq (word op) (form_word word form) ≡ true =
+      (bytes_eq-Decides (word op) (form_word word form)).1 (word_written named (form_word word form) form ws op own.0 h) in
+      rw own_word (read_complete named form ws op h)
+  by_complete named (form ∷ others) own distinct ws op (inr h) =
+      let parts = and_parts (list_all (differs_from (form_word word form)) others) (are_distinct others) distinct in
+      let other = other_word named others own.1 (form_word word form) ws op parts.0 h in
+      rw other (by_complete named others own.1 parts.1 ws op h)
+
+-- ---- the ops of tasks, and those of handlers
+
+own_words : AllByRecursion (HasOwnWord word_of) forms
 own_words = search rules
 
--- ---- no two forms have the same word
-
-abbrev differs_from : Word → Form → Bool
-differs_from w form = not (bytes_eq (form_word form) w)
-
-abbrev are_distinct : List Form → Bool
-are_distinct [] = true
-are_distinct (form ∷ others) = list_all (differs_from (form_word form)) others && are_distinct others
-
-forms_distinct : are_distinct forms ≡ true
+forms_distinct : are_distinct word_of forms ≡ true
 forms_distinct = refl
 
--- ---- the first form of a word, and the form by which words write an op
+isr_own_words : AllByRecursion (HasOwnWord word_of_isr) isr_forms
+isr_own_words = search rules
 
-by_sound : (named : Naming) (fs : List Form) → AllByRecursion HasOwnWord fs → (w : Word) (ws : List Word) (op : Op)
-    → read_by named fs w ws ≡ Some op → (w ≡ word_of op) × WritesBy named fs ws op
-by_sound named [] own w ws op e = cc
-by_sound named (form ∷ others) own w ws op e = elim (chosen (bytes_eq w (form_word form)) _ _ _ e) [
-  | inl here ↦
-      let written : Writes named form ws op = read_sound named form ws op here.1 in
-      let own_word : w ≡ form_word form = (bytes_eq-Decides w (form_word form)).0 here.0 in
-      (own_word ∙ sym (word_written named (form_word form) form ws op own.0 written), inl written)
-  | inr later ↦ let l = by_sound named others own.1 w ws op later.1 in (l.0, inr l.1)
-]
-
-other_word : (named : Naming) (fs : List Form) → AllByRecursion HasOwnWord fs → (v : Word) (ws : List Word) (op : Op)
-    → list_all (differs_from v) fs ≡ true → WritesBy named fs ws op → bytes_eq (word_of op) v ≡ false
-other_word named [] own v ws op differ h = absurd h
-other_word named (form ∷ others) own v ws op differ (inl h) =
-    rw (word_written named (form_word form) form ws op own.0 h) (not-true _ (and_parts (differs_from v form) _ differ).0)
-other_word named (form ∷ others) own v ws op differ (inr h) =
-    other_word named others own.1 v ws op (and_parts (differs_from v form) _ differ).1 h
-
-by_complete : (named : Naming) (fs : List Form) → AllByRecursion HasOwnWord fs → are_distinct fs ≡ true
-    → (ws : List Word) (op : Op) → WritesBy named fs ws op → read_by named fs (word_of op) ws ≡ Some op
-by_complete named [] own distinct ws op h = absurd h
-by_complete named (form ∷ others) own distinct ws op (inl h) =
-    let own_word : bytes_eq (word_of op) (form_word form) ≡ true =
-    (bytes_eq-Decides (word_of op) (form_word form)).1 (word_written named (form_word form) form ws op own.0 h) in
-    rw own_word (read_complete named form ws op h)
-by_complete named (form ∷ others) own distinct ws op (inr h) =
-    let parts = and_parts (list_all (differs_from (form_word form)) others) (are_distinct others) distinct in
-    let other = other_word named others own.1 (form_word form) ws op parts.0 h in
-    rw other (by_complete named others own.1 parts.1 ws op h)
+isr_forms_distinct : are_distinct word_of_isr isr_forms ≡ true
+isr_forms_distinct = refl
 
 -- ---- the ranges
 
@@ -144,10 +154,19 @@ ranged (Some made) op e = elim (chosen (is_in_range made) _ _ _ e) [
 pub sound : (named : Naming) (ws : List Word) (op : Op) → op_of named ws ≡ Some op → Spells named op ws
 sound named [] op e = cc
 sound named (w ∷ ws) op e =
-    let r = ranged (read_by named forms w ws) op e in
-    let b = by_sound named forms own_words w ws op r.0 in
+    let r = ranged (read_by word_of named forms w ws) op e in
+    let b = by_sound word_of named forms own_words w ws op r.0 in
     (b.0, b.1, r.1)
 
 pub complete : (named : Naming) (ws : List Word) (op : Op) → Spells named op ws → op_of named ws ≡ Some op
 complete named [] op h = absurd h
-complete named (w ∷ ws) op h = rw (h.0, by_complete named forms own_words forms_distinct ws op h.1, h.2) refl
+complete named (w ∷ ws) op h = rw (h.0, by_complete word_of named forms own_words forms_distinct ws op h.1, h.2) refl
+
+pub isr_sound : (named : Naming) (ws : List Word) (op : IsrOp) → isr_op_of named ws ≡ Some op → SpellsIsr named op ws
+isr_sound named [] op e = cc
+isr_sound named (w ∷ ws) op e = by_sound word_of_isr named isr_forms isr_own_words w ws op e
+
+pub isr_complete : (named : Naming) (ws : List Word) (op : IsrOp) → SpellsIsr named op ws → isr_op_of named ws ≡ Some op
+isr_complete named [] op h = absurd h
+isr_complete named (w ∷ ws) op h =
+    rw (h.0, by_complete word_of_isr named isr_forms isr_own_words isr_forms_distinct ws op h.1) refl

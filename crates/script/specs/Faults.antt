@@ -40,7 +40,9 @@ abbrev pub section_word : Section → List ℕ
 section_word section.Start = codes "start"
 section_word section.Limits = codes "limits"
 section_word section.Queue = codes "queue"
+section_word section.Handler = codes "handler"
 section_word section.Task = codes "task"
+section_word section.Interrupt = codes "interrupt"
 
 -- the name of a key in the file
 abbrev pub key_word : Key → List ℕ
@@ -48,8 +50,11 @@ key_word key.Ticks = codes "ticks"
 key_word key.Steps = codes "steps"
 key_word key.Name = codes "name"
 key_word key.Length = codes "length"
+key_word key.Ops = codes "ops"
 key_word key.Priority = codes "priority"
 key_word key.Script = codes "script"
+key_word key.Tick = codes "tick"
+key_word key.Handler = codes "handler"
 
 -- the word of an index that applies
 abbrev pub index_words : Option ℕ → List (List ℕ)

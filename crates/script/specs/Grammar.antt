@@ -7,7 +7,9 @@ use Rattle.std.specs.Str.Parse.{digits_value}
 use Rattle.model.specs.declared.op.Access.TheVariants.{Send, SendFront, Overwrite, Receive, Peek}
 use Rattle.model.specs.declared.op.Op.{Op}
 use Rattle.model.specs.declared.op.Op.TheVariants.{Work, Delay, DelayUntil, Yield, Time, Mark, Expect, Repeat, End, Await, Do, MessagesWaiting, SpacesAvailable}
-use Rattle.model.specs.Application.{word_of}
+use Rattle.model.specs.declared.op.IsrOp.{IsrOp}
+use Rattle.model.specs.declared.op.IsrOp.TheVariants as isr
+use Rattle.model.specs.Application.{word_of, word_of_isr}
 use Rattle.model.specs.Scripts.{is_in_range, InRange}
 
 -- ---- words
@@ -51,16 +53,16 @@ Naming = Word → Option ℕ
 -- ---- the grammar
 
 -- How an op's text goes on after its own word (profile): it is over, or a word writes a number, an answer or a wait, or
--- names an object, and with this it goes on.
-pub data Form : Type 0 where
-  Done : (op : Op) → Form
-  Number : (next : ℕ → Form) → Form
-  Answer : (next : Option ℕ → Form) → Form
-  Wait : (next : Option ℕ → Form) → Form
-  Object : (next : ℕ → Form) → Form
+-- names an object, and with this it goes on. The op is a task's, or a handler's.
+pub data Form (O : Type 0) : Type 0 where
+  Done : (op : O) → Form O
+  Number : (next : ℕ → Form O) → Form O
+  Answer : (next : Option ℕ → Form O) → Form O
+  Wait : (next : Option ℕ → Form O) → Form O
+  Object : (next : ℕ → Form O) → Form O
 
 -- the arguments of each op on a queue
-abbrev pub queue_forms : List Form
+abbrev pub queue_forms : List (Form Op)
 queue_forms =
     Object (λ queue. Number (λ n. Wait (λ ticks. Done (Await queue (Send n) ticks))))
     ∷ Object (λ queue. Number (λ n. Wait (λ ticks. Done (Await queue (SendFront n) ticks))))
@@ -72,7 +74,7 @@ queue_forms =
     ∷ []
 
 -- the arguments of each op
-abbrev pub forms : List Form
+abbrev pub forms : List (Form Op)
 forms =
     Number (λ n. Done (Work n))
     ∷ Number (λ n. Done (Delay n))
@@ -85,8 +87,19 @@ forms =
     ∷ Done End
     ∷ queue_forms
 
+-- the arguments of each op of a handler, which never waits
+abbrev pub isr_forms : List (Form IsrOp)
+isr_forms =
+    Object (λ queue. Number (λ n. Done (isr.Do queue (Send n))))
+    ∷ Object (λ queue. Number (λ n. Done (isr.Do queue (SendFront n))))
+    ∷ Object (λ queue. Number (λ n. Done (isr.Do queue (Overwrite n))))
+    ∷ Object (λ queue. Done (isr.Do queue Receive))
+    ∷ Object (λ queue. Done (isr.Do queue Peek))
+    ∷ Number (λ n. Done (isr.Mark n))
+    ∷ []
+
 -- The words write the arguments of the op, by this form, where names are read so.
-abbrev pub Writes : Naming → Form → List Word → Op → Type 0
+abbrev pub Writes : {O : Type 0} → Naming → Form O → List Word → O → Type 0
 Writes named (Done made) [] op = made ≡ op
 Writes named (Number next) (w ∷ ws) op = (n : ℕ) × (number_of w ≡ Some n) × Writes named (next n) ws op
 Writes named (Answer next) (w ∷ ws) op = (a : Option ℕ) × (answer_of w ≡ Some a) × Writes named (next a) ws op
@@ -95,7 +108,7 @@ Writes named (Object next) (w ∷ ws) op = (object : ℕ) × (named w ≡ Some o
 Writes named _ _ op = ⊥
 
 -- the same, by one of these forms
-abbrev pub WritesBy : Naming → List Form → List Word → Op → Type 0
+abbrev pub WritesBy : {O : Type 0} → Naming → List (Form O) → List Word → O → Type 0
 WritesBy named [] ws op = ⊥
 WritesBy named (form ∷ others) ws op = Writes named form ws op ⊎ WritesBy named others ws op
 
@@ -103,6 +116,11 @@ WritesBy named (form ∷ others) ws op = Writes named form ws op ⊎ WritesBy na
 abbrev pub Spells : Naming → Op → List Word → Type 0
 Spells named op [] = ⊥
 Spells named op (w ∷ ws) = (w ≡ word_of op) × WritesBy named forms ws op × InRange op
+
+-- the same of a handler's op, each of whose numbers is any of 32 bits
+abbrev pub SpellsIsr : Naming → IsrOp → List Word → Type 0
+SpellsIsr named op [] = ⊥
+SpellsIsr named op (w ∷ ws) = (w ≡ word_of_isr op) × WritesBy named isr_forms ws op
 
 -- ---- the same as a reading
 
@@ -112,7 +130,7 @@ take_by says [] = None
 take_by says (w ∷ ws) = option_map (λ x. (x, ws)) (says w)
 
 -- the op whose arguments the words write, by this form
-abbrev pub read : Naming → Form → List Word → Option Op
+abbrev pub read : {O : Type 0} → Naming → Form O → List Word → Option O
 read named (Done op) [] = Some op
 read named (Done op) (w ∷ ws) = None
 read named (Number next) ws = option_and_then (λ r. read named (next r.0) r.1) (take_by number_of ws)
@@ -120,19 +138,19 @@ read named (Answer next) ws = option_and_then (λ r. read named (next r.0) r.1) 
 read named (Wait next) ws = option_and_then (λ r. read named (next r.0) r.1) (take_by wait_of ws)
 read named (Object next) ws = option_and_then (λ r. read named (next r.0) r.1) (take_by named ws)
 
--- the word of the op, whatever its arguments
-abbrev pub form_word : Form → Word
-form_word (Done op) = word_of op
-form_word (Number next) = form_word (next 0)
-form_word (Answer next) = form_word (next None)
-form_word (Wait next) = form_word (next None)
-form_word (Object next) = form_word (next 0)
+-- the word of the op, whatever its arguments, where ops have these words
+abbrev pub form_word : {O : Type 0} → (O → Word) → Form O → Word
+form_word word (Done op) = word op
+form_word word (Number next) = form_word word (next 0)
+form_word word (Answer next) = form_word word (next None)
+form_word word (Wait next) = form_word word (next None)
+form_word word (Object next) = form_word word (next 0)
 
 -- the same by the first of these forms whose word it is
-abbrev pub read_by : Naming → List Form → Word → List Word → Option Op
-read_by named [] w ws = None
-read_by named (form ∷ others) w ws =
-    if bytes_eq w (form_word form) then read named form ws else read_by named others w ws
+abbrev pub read_by : {O : Type 0} → (O → Word) → Naming → List (Form O) → Word → List Word → Option O
+read_by word named [] w ws = None
+read_by word named (form ∷ others) w ws =
+    if bytes_eq w (form_word word form) then read named form ws else read_by word named others w ws
 
 -- the op, where its numbers are in their ranges
 abbrev pub if_in_range : Op → Option Op
@@ -141,4 +159,9 @@ if_in_range op = if is_in_range op then Some op else None
 -- the op that words spell, where names are read so
 abbrev pub op_of : Naming → List Word → Option Op
 op_of named [] = None
-op_of named (w ∷ ws) = option_and_then if_in_range (read_by named forms w ws)
+op_of named (w ∷ ws) = option_and_then if_in_range (read_by word_of named forms w ws)
+
+-- the same of a handler's op
+abbrev pub isr_op_of : Naming → List Word → Option IsrOp
+isr_op_of named [] = None
+isr_op_of named (w ∷ ws) = read_by word_of_isr named isr_forms w ws

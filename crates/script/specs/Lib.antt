@@ -5,5 +5,8 @@ pub mod Values
 pub mod Queues
 pub mod Finding
 pub mod Tasks
+pub mod Handlers
 pub mod Ops
+pub mod IsrOps
+pub mod Interrupts
 pub mod Load

@@ -8,10 +8,13 @@ use Rattle.script.specs.declared.place.Section.TheVariants as section
 use Rattle.script.specs.declared.place.Key.TheVariants as key
 use Rattle.script.specs.Faults.{first_fault, at_section, at_key}
 use Rattle.script.specs.Values.{member_of, optional_fault, optional_named}
-use Rattle.script.specs.Names.{task_names}
+use Rattle.script.specs.Names.{handler_names, task_names}
 use Rattle.script.specs.Queues.{Named, names_of, kinds_of, objects_fault, objects_named}
 use Rattle.script.specs.Tasks.{Raw, section_fault, section_named}
+use Rattle.script.specs.Handlers.{RawIsr, isr_names, handler_section_fault, handler_section_named}
 use Rattle.script.specs.Ops.{scripts_fault, with_ops}
+use Rattle.script.specs.IsrOps.{handler_ops_fault, with_isr_ops}
+use Rattle.script.specs.Interrupts.{interrupt_section_fault, interrupt_section_named}
 
 -- the most ticks and steps that a file may ask for, and where it says nothing (profile)
 abbrev pub most_limit : ℕ
@@ -41,18 +44,26 @@ limits_named d = record {
 abbrev pub objects_of : Members → List Named
 objects_of document = objects_named (get_member (codes "queue") document)
 
+-- its handlers
+abbrev pub handlers_of : Members → List RawIsr
+handlers_of document = handler_section_named (get_member (codes "handler") document)
+
 -- its tasks
 abbrev pub tasks_of : Members → List Raw
 tasks_of document = section_named (get_member (codes "task") document)
 
--- the fault of the first check that fails: pass one, and then the scripts of the tasks that it names (profile)
+-- the fault of the first check that fails: pass one, then the ops of the handlers and the scripts of the tasks that it
+-- names, and the base interrupts (profile)
 abbrev pub load_fault : Members → Option LoadFault
 load_fault document = first_fault (
     optional_fault (at_section section.Start) 0 4294967295 (get_member (codes "start") document)
     ∷ limits_fault (get_member (codes "limits") document)
     ∷ objects_fault (get_member (codes "queue") document)
-    ∷ section_fault (names_of (objects_of document)) (get_member (codes "task") document)
+    ∷ handler_section_fault (names_of (objects_of document)) (get_member (codes "handler") document)
+    ∷ section_fault (names_of (objects_of document) ++ isr_names (handlers_of document)) (get_member (codes "task") document)
+    ∷ handler_ops_fault (objects_of document) 0 (handlers_of document)
     ∷ scripts_fault (objects_of document) 0 (tasks_of document)
+    ∷ interrupt_section_fault (isr_names (handlers_of document)) (get_member (codes "interrupt") document)
     ∷ [])
 
 -- the application that a document names in which no check fails
@@ -61,11 +72,12 @@ app_named document = record {
   start = optional_named 0 (get_member (codes "start") document);
   limits = limits_named (get_member (codes "limits") document);
   objects = kinds_of (objects_of document);
-  handlers = [];
-  interrupts = [];
+  handlers = map (with_isr_ops (objects_of document)) (handlers_of document);
+  interrupts = interrupt_section_named (isr_names (handlers_of document)) (get_member (codes "interrupt") document);
   tasks = map (with_ops (objects_of document)) (tasks_of document);
 }
 
--- the names of a document: those of its objects, and of the tasks of its application
+-- the names of a document: those of its objects, and of the handlers and tasks of its application
 abbrev pub document_names : Members → List (List ℕ)
-document_names document = names_of (objects_of document) ++ task_names (app_named document)
+document_names document =
+    (names_of (objects_of document) ++ handler_names (app_named document)) ++ task_names (app_named document)

@@ -2,7 +2,7 @@
 use Rattle.std.specs.Prelude.{ℕ, Bool, false, ◌&&◌, ◌||◌, ◌==◌, ◌≢◌, nat_le, List, [], ◌∷◌, length, map}
 use Rattle.std.specs.List.{list_all, AllPairs}
 use Rattle.std.specs.Char.{is_ascii_alphabetic, is_ascii_alphanumeric}
-use Rattle.model.specs.Application.{Application, Definition}
+use Rattle.model.specs.Application.{Application, Handler, Definition}
 use Rattle.model.specs.Scripts.{most_name_bytes}
 
 -- a letter, a digit or an underscore (profile)
@@ -14,6 +14,10 @@ abbrev pub is_name : List ℕ → Bool
 is_name [] = false
 is_name (b ∷ bs) =
     nat_le (length (b ∷ bs)) most_name_bytes && (is_ascii_alphabetic b && list_all is_name_byte (b ∷ bs))
+
+-- the names of the handlers, in their order
+abbrev pub handler_names : Application → List (List ℕ)
+handler_names app = map (λ (h : Handler). h.name) app.handlers
 
 -- the names of the tasks, in their order
 abbrev pub task_names : Application → List (List ℕ)

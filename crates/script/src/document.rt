@@ -1,24 +1,29 @@
 //! An application from a document.
-ghost use Rattle.std.specs.Prelude.{◌≡◌, ◌≤◌, [], map, length, None, Option};
+ghost use Rattle.std.specs.Prelude.{◌≡◌, ◌≤◌, map, length, None, Option};
 ghost use Rattle.std.specs.List.{AllByRecursion};
 ghost use Rattle.toml.specs.Data.{Members};
 ghost use Rattle.toml.specs.View.{table_view};
 ghost use Rattle.model.specs.Application.{Application};
-ghost use Rattle.model.specs.Scripts.{IsObjectKind, IsDefinition, KnowsAll};
+ghost use Rattle.model.specs.Scripts.{IsObjectKind, IsDefinition, IsHandler, KnowsAll, most_handlers};
 ghost use Rattle.script.specs.declared.fault.LoadFault.{LoadFault};
 ghost use Rattle.script.specs.Faults.{Judges, Loads};
 ghost use Rattle.script.specs.Values.{data_of};
 ghost use Rattle.script.specs.Queues.{named_view, kinds_of};
+ghost use Rattle.script.specs.Interrupts.{AreInterrupts};
 ghost use Rattle.script.specs.Load.{limits_fault, limits_named, load_fault, app_named};
 
 use crate::fault::LoadFault;
+use crate::handlers::raw_handlers;
+use crate::interrupts::{Interrupts, all_of, interrupts};
+use crate::isr_ops::{check_handlers, with_isr_ops};
 use crate::named_object::Objects;
+use crate::names_so_far::names_with;
 use crate::ops::{check_scripts, with_scripts};
 use crate::place::{Key, Place, Section};
 use crate::queues::{kinds_of, objects};
 use crate::tasks::raw_tasks;
 use crate::values::{member, optional_number};
-use model::{App, Limits, TaskDefinition};
+use model::{App, HandlerDefinition, Limits, TaskDefinition};
 use std::alloc::Global;
 use toml::{Table, Value};
 
@@ -48,6 +53,8 @@ fn app_of(
     start: u32,
     limits: Limits,
     objects: &Objects<'_>,
+    handlers: Vec<HandlerDefinition>,
+    interrupts: &Interrupts,
     tasks: Vec<TaskDefinition>,
 ) -> Result<App, LoadFault>
     requires kinds { AllByRecursion IsObjectKind (kinds_of (map named_view objects.now.items)) }
@@ -56,17 +63,22 @@ fn app_of(
     requires formed { AllByRecursion IsDefinition tasks.items }
     requires known { (app : Application)
         → app.objects ≡ kinds_of (map named_view objects.now.items) → AllByRecursion (KnowsAll app) tasks.items }
+    requires few_handlers { length handlers.items ≤ most_handlers }
+    requires handlers { (app : Application)
+        → app.objects ≡ kinds_of (map named_view objects.now.items) → AllByRecursion (IsHandler app) handlers.items }
+    requires interrupts { AreInterrupts (length handlers.items) interrupts.now.items }
     ensures { Loads result None (record {
       start = start;
       limits = limits;
       objects = kinds_of (map named_view objects.now.items);
-      handlers = [];
-      interrupts = [];
+      handlers = handlers.items;
+      interrupts = interrupts.now.items;
       tasks = tasks.items;
     }) }
 {
     let kinds = kinds_of(alloc, objects.as_slice())?;
-    Ok(App::new(start, limits, kinds, tasks))
+    let interrupts = all_of(alloc, interrupts)?;
+    Ok(App::new(start, limits, kinds, handlers, interrupts, tasks))
 }
 
 /// What a document describes.
@@ -94,9 +106,14 @@ impl FromDocument for App {
         let start = optional_number(member(document, "start"), place, 0, u32::MAX, 0)?;
         let limits = limits(member(document, "limits"))?;
         let objects = objects(member(document, "queue"))?;
-        let tasks = raw_tasks(member(document, "task"), objects.as_slice())?;
+        let handlers = raw_handlers(member(document, "handler"), objects.as_slice())?;
+        let names = names_with(objects.as_slice(), handlers.as_slice());
+        let tasks = raw_tasks(member(document, "task"), names)?;
+        check_handlers(&objects, handlers.as_slice())?;
         check_scripts(&objects, tasks.as_slice())?;
+        let interrupts = interrupts(member(document, "interrupt"), handlers.as_slice())?;
+        let handlers = with_isr_ops(alloc, &objects, handlers.as_slice())?;
         let tasks = with_scripts(alloc, &objects, tasks.as_slice())?;
-        app_of(alloc, start, limits, &objects, tasks)
+        app_of(alloc, start, limits, &objects, handlers, &interrupts, tasks)
     }
 }

@@ -4,15 +4,21 @@
 mod document;
 mod fault;
 mod finding;
+mod handlers;
+mod interrupts;
+mod isr_ops;
 mod laws;
 mod name;
 mod named_object;
+mod names_so_far;
 mod op_text;
 mod ops;
 mod place;
 mod queues;
+mod raw_handler;
 mod raw_task;
 mod tasks;
+mod texts;
 mod values;
 mod words;
 

@@ -2,13 +2,15 @@
 ghost use Rattle.std.specs.Prelude.{◌≡◌, List, ℕ, None, Some, IfSome, MatchOption, option_and_then};
 ghost use Rattle.std.specs.Str.{bytes_eq};
 ghost use Rattle.model.specs.declared.op.Op.{Op};
+ghost use Rattle.model.specs.declared.op.IsrOp.{IsrOp};
+ghost use Rattle.model.specs.Application.{word_of, word_of_isr};
 ghost use Rattle.model.specs.Scripts.{InRange};
 ghost use Rattle.script.specs.Finding.{found_by};
-ghost use Rattle.script.specs.Grammar.{Naming, words_of, Done, forms, queue_forms, read, read_by, if_in_range, op_of, Spells};
+ghost use Rattle.script.specs.Grammar.{Naming, words_of, Done, forms, queue_forms, isr_forms, read, read_by, if_in_range, op_of, isr_op_of, Spells, SpellsIsr};
 
 use crate::finding::Finding;
 use crate::words::Words;
-use model::{Access, Op};
+use model::{Access, IsrOp, Op};
 
 fn is(word: &[u8], name: &str) -> bool
     ensures { result ≡ bytes_eq word.now name.now }
@@ -20,8 +22,8 @@ fn is(word: &[u8], name: &str) -> bool
 fn queue_op_after(word: &[u8], words: &mut Words<'_>, finding: Finding<'_>) -> Option<Op>
     // What is still to be read is whether the text ends here.
     ensures { MatchOption result
-        (read_by (found_by finding.entry) queue_forms word.now words.old ≡ None)
-        (λ op. read_by (found_by finding.entry) queue_forms word.now words.old
+        (read_by word_of (found_by finding.entry) queue_forms word.now words.old ≡ None)
+        (λ op. read_by word_of (found_by finding.entry) queue_forms word.now words.old
         ≡ read (found_by finding.entry) (Done op) words.new) }
 {
     if is(word, "send") {
@@ -54,8 +56,8 @@ fn queue_op_after(word: &[u8], words: &mut Words<'_>, finding: Finding<'_>) -> O
 fn op_after(word: &[u8], words: &mut Words<'_>, finding: Finding<'_>) -> Option<Op>
     // What is still to be read is whether the text ends here; a number past what the code can hold is out of range.
     ensures { MatchOption result
-        (option_and_then if_in_range (read_by (found_by finding.entry) forms word.now words.old) ≡ None)
-        (λ op. read_by (found_by finding.entry) forms word.now words.old
+        (option_and_then if_in_range (read_by word_of (found_by finding.entry) forms word.now words.old) ≡ None)
+        (λ op. read_by word_of (found_by finding.entry) forms word.now words.old
         ≡ read (found_by finding.entry) (Done op) words.new) }
 {
     if is(word, "work") {
@@ -96,10 +98,52 @@ pub(crate) fn op_of(text: &[u8], finding: Finding<'_>) -> Option<Op>
     }
 }
 
+// The op of a handler of this word, whose arguments are the next words.
+fn isr_op_after(word: &[u8], words: &mut Words<'_>, finding: Finding<'_>) -> Option<IsrOp>
+    // What is still to be read is whether the text ends here.
+    ensures { MatchOption result
+        (read_by word_of_isr (found_by finding.entry) isr_forms word.now words.old ≡ None)
+        (λ op. read_by word_of_isr (found_by finding.entry) isr_forms word.now words.old
+        ≡ read (found_by finding.entry) (Done op) words.new) }
+{
+    if is(word, "send") {
+        let queue = words.object(finding)?;
+        Some(IsrOp::Do(queue, Access::Send(words.number()?)))
+    } else if is(word, "send_front") {
+        let queue = words.object(finding)?;
+        Some(IsrOp::Do(queue, Access::SendFront(words.number()?)))
+    } else if is(word, "overwrite") {
+        let queue = words.object(finding)?;
+        Some(IsrOp::Do(queue, Access::Overwrite(words.number()?)))
+    } else if is(word, "receive") {
+        Some(IsrOp::Do(words.object(finding)?, Access::Receive))
+    } else if is(word, "peek") {
+        Some(IsrOp::Do(words.object(finding)?, Access::Peek))
+    } else if is(word, "mark") {
+        Some(IsrOp::Mark(words.number()?))
+    } else {
+        None
+    }
+}
+
+/// The op of a handler that a text spells, where names are read so; `None` where it spells none.
+pub(crate) fn isr_op_of(text: &[u8], finding: Finding<'_>) -> Option<IsrOp>
+    ensures { result ≡ isr_op_of (found_by finding.entry) (words_of text.now) }
+{
+    let mut words = Words::new(text);
+    let word = words.next()?;
+    let op = isr_op_after(word, &mut words, finding)?;
+    if words.is_at_end() { Some(op) } else { None }
+}
+
 /// However names are read, what the reader of ops takes is what the grammar spells.
 pub fn grammar()
     ensures sound { (named : Naming) (ws : List (List ℕ)) (op : Op)
         → op_of named ws ≡ Some op → Spells named op ws }
     ensures complete { (named : Naming) (ws : List (List ℕ)) (op : Op)
         → Spells named op ws → op_of named ws ≡ Some op }
+    ensures isr_sound { (named : Naming) (ws : List (List ℕ)) (op : IsrOp)
+        → isr_op_of named ws ≡ Some op → SpellsIsr named op ws }
+    ensures isr_complete { (named : Naming) (ws : List (List ℕ)) (op : IsrOp)
+        → SpellsIsr named op ws → isr_op_of named ws ≡ Some op }
 {}

@@ -6,7 +6,9 @@ pub enum Section {
     Start,
     Limits,
     Queue,
+    Handler,
     Task,
+    Interrupt,
 }
 
 impl Section {
@@ -21,7 +23,9 @@ impl Section {
             Section::Start => "start",
             Section::Limits => "limits",
             Section::Queue => "queue",
+            Section::Handler => "handler",
             Section::Task => "task",
+            Section::Interrupt => "interrupt",
         }
     }
 }
@@ -33,8 +37,11 @@ pub enum Key {
     Steps,
     Name,
     Length,
+    Ops,
     Priority,
     Script,
+    Tick,
+    Handler,
 }
 
 impl Key {
@@ -50,8 +57,11 @@ impl Key {
             Key::Steps => "steps",
             Key::Name => "name",
             Key::Length => "length",
+            Key::Ops => "ops",
             Key::Priority => "priority",
             Key::Script => "script",
+            Key::Tick => "tick",
+            Key::Handler => "handler",
         }
     }
 }

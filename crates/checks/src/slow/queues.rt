@@ -59,13 +59,14 @@ fn own_side(access: Access) -> Side {
     }
 }
 
-/// Where a call wakes one who waits. A peek leaves the item to the next one.
-fn woken_side(access: Access) -> Side {
+/// Where a call of a task or (none) of a handler wakes one who waits. A task's peek leaves the item to the next one, and
+/// that of a handler wakes nobody.
+fn woken_side(caller: Option<TaskId>, access: Access) -> Option<Side> {
     match access {
-        Access::Receive => Side::Senders,
-        Access::Peek | Access::Send(_) | Access::SendFront(_) | Access::Overwrite(_) => {
-            Side::Receivers
-        }
+        Access::Send(_) | Access::SendFront(_) | Access::Overwrite(_) => Some(Side::Receivers),
+        Access::Receive => Some(Side::Senders),
+        Access::Peek if caller.is_some() => Some(Side::Receivers),
+        Access::Peek => None,
     }
 }
 
@@ -97,21 +98,26 @@ impl SlowKernel {
             .is_some_and(|queue| queue.is_possible(access))
     }
 
-    /// The wait of a task that waits at this side of a queue.
-    fn wait_at(&self, task: TaskId, queue: u8, side: Side) -> Option<Wait> {
+    /// The wait in which a task is, or out of which it is Awake.
+    fn wait_of(&self, task: TaskId, is_awake: bool) -> Option<Wait> {
         match self.task(task).status {
-            Status::Waiting(wait) if wait.queue == queue && wait.side == side => Some(wait),
+            Status::Waiting(wait) if !is_awake => Some(wait),
+            Status::Awake(wait) if is_awake => Some(wait),
             _ => None,
         }
     }
 
-    /// Of those who wait at this side of a queue, the one of highest priority then, among equals the first that came.
-    fn best_waiter(&self, queue: u8, side: Side) -> Option<TaskId> {
+    /// Of those who wait at this side of a queue, or of those who are Awake out of such waits, the one of highest priority
+    /// when its wait began, among equals the first that came.
+    fn best_of(&self, queue: u8, side: Side, is_awake: bool) -> Option<TaskId> {
         let mut best = None;
         for number in 0..32 {
-            let Some(wait) = self.wait_at(TaskId { number }, queue, side) else {
+            let Some(wait) = self.wait_of(TaskId { number }, is_awake) else {
                 continue;
             };
+            if (wait.queue, wait.side) != (queue, side) {
+                continue;
+            }
             let key = (wait.priority, wait.ticket);
             if best.is_none_or(|(_, other)| Self::is_before(key, other)) {
                 best = Some((number, key));
@@ -121,12 +127,47 @@ impl SlowKernel {
         TaskId::new(number)
     }
 
-    /// A possible call is done, and wakes one task. It answers as the call.
-    fn fulfil(&mut self, queue: u8, access: Access) -> Option<u32> {
+    /// Whether a queue is locked at which some wait for an item and others for room.
+    pub(crate) fn has_both_at_lock(&self) -> bool {
+        self.locked.is_some_and(|queue| {
+            self.best_of(queue, Side::Receivers, false).is_some()
+                && self.best_of(queue, Side::Senders, false).is_some()
+        })
+    }
+
+    /// A task that waits at a queue is woken: it is Ready, or Awake where that queue is locked.
+    fn wake(&mut self, id: TaskId, queue: u8) {
+        self.tally.wakes = self.tally.wakes.saturating_add(1);
+        if self.locked == Some(queue) {
+            self.awaken(id);
+        } else {
+            self.make_ready(id);
+        }
+    }
+
+    fn awaken(&mut self, id: TaskId) {
+        let task = self.task(id);
+        let Status::Waiting(wait) = task.status else {
+            return;
+        };
+        let status = Status::Awake(wait);
+        self.set(id, Task { status, ..task });
+        let is_own = self.current == Some(id);
+        let count = if is_own {
+            &mut self.tally.own_awakenings
+        } else {
+            &mut self.tally.other_awakenings
+        };
+        *count = count.saturating_add(1);
+    }
+
+    /// A possible call of a task or (none) of a handler is done, and wakes one task at most. It answers as the call.
+    fn fulfil(&mut self, caller: Option<TaskId>, queue: u8, access: Access) -> Option<u32> {
         let done = self.queues.get_mut(queue as usize)?.act(access);
-        if let Some(task) = self.best_waiter(queue, woken_side(access)) {
-            self.wakes = self.wakes.saturating_add(1);
-            self.make_ready(task);
+        if let Some(side) = woken_side(caller, access) {
+            if let Some(task) = self.best_of(queue, side, false) {
+                self.wake(task, queue);
+            }
         }
         match done {
             Ok(answer) => answer,
@@ -137,14 +178,24 @@ impl SlowKernel {
         }
     }
 
+    /// A call of a task or (none) of a handler is tried once. It answers as the call.
+    pub(super) fn attempt(
+        &mut self,
+        caller: Option<TaskId>,
+        queue: u8,
+        access: Access,
+    ) -> Option<u32> {
+        if self.is_possible(queue, access) {
+            self.fulfil(caller, queue, access)
+        } else {
+            failure(access)
+        }
+    }
+
     /// A call that doesn't wait.
     pub(super) fn act_at_once(&mut self, app: &App, id: TaskId, queue: u8, access: Access) {
-        if self.is_possible(queue, access) {
-            let answer = self.fulfil(queue, access);
-            self.answer(app, id, answer);
-        } else {
-            self.answer(app, id, failure(access));
-        }
+        let answer = self.attempt(Some(id), queue, access);
+        self.answer(app, id, answer);
         self.preempt();
     }
 
@@ -189,6 +240,7 @@ impl SlowKernel {
 
     fn decide(&mut self, id: TaskId, queue: u8, access: Access) {
         self.is_held = true;
+        self.locked = Some(queue);
         if self.is_possible(queue, access) || self.is_expired(id) {
             self.set_phase(id, Phase::Unlock);
         } else {
@@ -221,6 +273,31 @@ impl SlowKernel {
         );
     }
 
+    /// All who are Awake at this side of a queue are Ready. It answers whether there are any.
+    fn make_awake_ready(&mut self, queue: u8, side: Side) -> bool {
+        let mut is_any = false;
+        for _ in 0..32 {
+            let Some(task) = self.best_of(queue, side, true) else {
+                break;
+            };
+            self.make_ready(task);
+            is_any = true;
+        }
+        is_any
+    }
+
+    /// The locked queue is unlocked, and its Awake tasks are Ready: first those who waited for an item.
+    fn unlock(&mut self, id: TaskId) {
+        if let Some(queue) = self.locked {
+            self.locked = None;
+            let has_receivers = self.make_awake_ready(queue, Side::Receivers);
+            let has_senders = self.make_awake_ready(queue, Side::Senders);
+            let is_mixed = has_receivers && has_senders;
+            self.tally.mixed_unlocks = self.tally.mixed_unlocks.saturating_add(is_mixed as u32);
+        }
+        self.set_phase(id, Phase::Leave);
+    }
+
     fn leave(&mut self, id: TaskId) {
         let call = self.task(id).call;
         self.is_held = false;
@@ -239,7 +316,7 @@ impl SlowKernel {
         }
     }
 
-    /// A call that may wait does its next phase. With no handlers nobody is woken while a queue is locked.
+    /// A call that may wait does its next phase.
     pub(super) fn go_on_waiting(
         &mut self,
         app: &App,
@@ -256,7 +333,7 @@ impl SlowKernel {
             Phase::Try => self.try_again(app, id, queue, access),
             Phase::Decide => self.decide(id, queue, access),
             Phase::Place => self.set_phase(id, Phase::Unlock),
-            Phase::Unlock => self.set_phase(id, Phase::Leave),
+            Phase::Unlock => self.unlock(id),
             Phase::Leave => self.leave(id),
         }
     }

@@ -117,7 +117,7 @@ impl Kernel {
             (try app.now task object access) }
     {
         if self.queues.possible(object, access) {
-            let answer = self.fulfil(task, object, access);
+            let answer = self.fulfil(Some(task), object, access);
             self.answer_given(app, task, answer, log);
             self.preempt(log);
         } else if self.is_expired(task) {

@@ -4,11 +4,11 @@ ghost use Rattle.model.specs.declared.op.Op.TheVariants as op;
 ghost use Rattle.model.specs.State.{State, Object};
 ghost use Rattle.model.specs.Waiting.{wake_best};
 ghost use Rattle.model.specs.Objects as definitions;
-ghost use Rattle.model.specs.Objects.{allows, answer_to, fulfil, reply};
+ghost use Rattle.model.specs.Objects.{allows, answer_to, attempt, fulfil, reply};
 ghost use Rattle.model.specs.Step.{act};
 ghost use Rattle.objects.specs.Items.{object_in};
-ghost use Rattle.kernel.specs.StandsFor.{StandsFor, Does, Moves};
-ghost use Rattle.kernel.specs.Can.{Agrees, HasLength, Runs, Can};
+ghost use Rattle.kernel.specs.StandsFor.{Stands, Does, Moves, MovesAny};
+ghost use Rattle.kernel.specs.Can.{Can, HasLength, Leaves, Runs, StandsForSome};
 
 use crate::kernel::Kernel;
 use crate::log::Log;
@@ -24,14 +24,19 @@ pub(crate) fn refusal(access: Access) -> Option<u32>
     }
 }
 
-/// The list of which a possible call of a task wakes the best waiter.
-fn list_woken(object: ObjectId, access: Access) -> WaitList
-    ensures { (task : ℕ) → Some result ≡ definitions.list_woken (Some task) object access }
+/// The list of which a possible call wakes the best waiter, if of any: the peek of a handler, which is no task's call, wakes
+/// nobody.
+fn list_woken(caller: Option<TaskId>, object: ObjectId, access: Access) -> Option<WaitList>
+    ensures { result ≡ definitions.list_woken caller object access }
 {
     match access {
-        Access::Receive => WaitList::ToSend(object),
-        Access::Send(_) | Access::SendFront(_) | Access::Overwrite(_) | Access::Peek => {
-            WaitList::ToReceive(object)
+        Access::Send(_) | Access::SendFront(_) | Access::Overwrite(_) => {
+            Some(WaitList::ToReceive(object))
+        }
+        Access::Receive => Some(WaitList::ToSend(object)),
+        Access::Peek => {
+            caller?;
+            Some(WaitList::ToReceive(object))
         }
     }
 }
@@ -39,28 +44,64 @@ fn list_woken(object: ObjectId, access: Access) -> WaitList
 impl Kernel {
     /// The best waiter of a list is woken, if anyone waits there.
     fn wake_best(&mut self, list: WaitList)
-        requires { Agrees self.old }
+        requires { StandsForSome self.old }
         ensures does { Moves self.old self.new (wake_best list) }
+        ensures any { MovesAny self.old self.new (wake_best list) }
+        ensures leaves { Leaves self.old self.new }
         ensures runs { (task : ℕ) → Runs self.old task → Runs self.new task }
     {
         if let Some(task) = self.queues.wake_best(list) {
             self.clock.wake(task);
-            self.sched.make_ready(task);
+            self.sched.wake(task);
         }
     }
 
-    /// A possible call of a task is done: the queue changes, and one waiter is woken. It answers what the call answers.
-    pub(crate) fn fulfil(&mut self, task: TaskId, object: ObjectId, access: Access) -> Option<u32>
-        requires agrees { Agrees self.old }
+    /// A possible call is done, of a task or (none) of a handler: the queue changes, and one waiter is woken. It answers what
+    /// the call answers.
+    // Inlined, it knows whose call it is.
+    #[inline(always)]
+    pub(crate) fn fulfil(
+        &mut self,
+        caller: Option<TaskId>,
+        object: ObjectId,
+        access: Access,
+    ) -> Option<u32>
+        requires stands { StandsForSome self.old }
         requires possible { allows (object_in self.old.queues.objects object) access ≡ true }
         requires length { HasLength self.old object }
-        ensures does { Moves self.old self.new (fulfil (Some task) object access) }
-        ensures answer { (s : State) → StandsFor self.old s → result ≡ answer_to s object access }
+        ensures does { Moves self.old self.new (fulfil caller object access) }
+        ensures any { MovesAny self.old self.new (fulfil caller object access) }
+        ensures answer { (s : State) → Stands self.old s → result ≡ answer_to s object access }
+        ensures leaves { Leaves self.old self.new }
         ensures runs { (task : ℕ) → Runs self.old task → Runs self.new task }
     {
         let answer = self.queues.carry_out(object, access);
-        self.wake_best(list_woken(object, access));
+        if let Some(list) = list_woken(caller, object, access) {
+            self.wake_best(list);
+        }
         answer
+    }
+
+    /// A call is done if it is possible. It answers what the call answers.
+    pub(crate) fn attempt(
+        &mut self,
+        caller: Option<TaskId>,
+        object: ObjectId,
+        access: Access,
+    ) -> Option<u32>
+        requires stands { StandsForSome self.old }
+        requires length { HasLength self.old object }
+        ensures does { Moves self.old self.new (attempt caller object access) }
+        ensures any { MovesAny self.old self.new (attempt caller object access) }
+        ensures answer { (s : State) → Stands self.old s → result ≡ answer_to s object access }
+        ensures leaves { Leaves self.old self.new }
+        ensures runs { (task : ℕ) → Runs self.old task → Runs self.new task }
+    {
+        if self.queues.possible(object, access) {
+            self.fulfil(caller, object, access)
+        } else {
+            refusal(access)
+        }
     }
 
     /// `overwrite`: the call is done if it is possible, and answers.
@@ -73,16 +114,12 @@ impl Kernel {
         log: &mut L,
     )
         requires room { 2 ≤ (L.logged log.old).room }
-        requires can { Can self.old task (op.Do object access) }
+        requires can { Can app.now self.old task (op.Do object access) }
         ensures { Does 2 self.old (L.logged log.old) self.new (L.logged log.new)
             (act app.now task (op.Do object access)) }
     {
-        if self.queues.possible(object, access) {
-            let answer = self.fulfil(task, object, access);
-            self.answer_given(app, task, answer, log);
-        } else {
-            self.answer_given(app, task, refusal(access), log);
-        }
+        let answer = self.attempt(Some(task), object, access);
+        self.answer_given(app, task, answer, log);
         self.preempt(log);
     }
 
@@ -95,7 +132,7 @@ impl Kernel {
         log: &mut L,
     )
         requires room { 1 ≤ (L.logged log.old).room }
-        requires can { Can self.old task (op.MessagesWaiting queue) }
+        requires can { Can app.now self.old task (op.MessagesWaiting queue) }
         ensures { Does 1 self.old (L.logged log.old) self.new (L.logged log.new)
             (act app.now task (op.MessagesWaiting queue)) }
     {
@@ -112,7 +149,7 @@ impl Kernel {
         log: &mut L,
     )
         requires room { 1 ≤ (L.logged log.old).room }
-        requires can { Can self.old task (op.SpacesAvailable queue) }
+        requires can { Can app.now self.old task (op.SpacesAvailable queue) }
         ensures { Does 1 self.old (L.logged log.old) self.new (L.logged log.new)
             (act app.now task (op.SpacesAvailable queue)) }
     {

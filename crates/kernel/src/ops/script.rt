@@ -14,7 +14,7 @@ impl Kernel {
     /// `mark`: a mark event is told.
     pub(crate) fn mark<L: Log>(&mut self, app: &App, task: TaskId, number: u32, log: &mut L)
         requires room { 1 ≤ (L.logged log.old).room }
-        requires can { Can self.old task (op.Mark number) }
+        requires can { Can app.now self.old task (op.Mark number) }
         ensures { Does 1 self.old (L.logged log.old) self.new (L.logged log.new)
             (act app.now task (op.Mark number)) }
     {
@@ -24,7 +24,7 @@ impl Kernel {
 
     /// `expect`: the run ends where the last answer differs.
     pub(crate) fn expect(&mut self, app: &App, task: TaskId, wanted: Option<u32>)
-        requires { Can self.old task (op.Expect wanted) }
+        requires { Can app.now self.old task (op.Expect wanted) }
         ensures { Moves self.old self.new (expect app.now task wanted) }
     {
         let progress = self.progress(task);
@@ -37,7 +37,7 @@ impl Kernel {
 
     /// `repeat`: a loop of so many turns begins at the next op.
     pub(crate) fn open_loop(&mut self, app: &App, task: TaskId, turns: u16)
-        requires { Can self.old task (op.Repeat turns) }
+        requires { Can app.now self.old task (op.Repeat turns) }
         ensures { Moves self.old self.new (open_loop app.now task turns) }
     {
         let start = self.progress(task).op_index + 1;
@@ -48,7 +48,7 @@ impl Kernel {
     /// `end`: the next turn begins, or the loop is left.
     #[inline(always)]
     pub(crate) fn close_turn(&mut self, app: &App, task: TaskId)
-        requires { Can self.old task op.End }
+        requires { Can app.now self.old task op.End }
         ensures { Moves self.old self.new (close_turn app.now task) }
     {
         match self.end_turn(task) {

@@ -16,8 +16,9 @@ use model::{App, TaskId};
 impl Kernel {
     /// One more of a `work` is used up.
     fn use_up(&mut self, app: &App, task: TaskId, ticks: u32)
-        requires { Can self.old task (op.Work ticks) }
+        requires { Can app.now self.old task (op.Work ticks) }
         ensures does { Moves self.old self.new (use_up app.now task ticks) }
+        ensures depth { self.new.sched.depth ≡ self.old.sched.depth }
         ensures clock { self.new.clock ≡ self.old.clock }
         ensures queues { self.new.queues ≡ self.old.queues }
     {
@@ -31,9 +32,9 @@ impl Kernel {
 
     /// `work`: a tick of it is used up, and the tick passes.
     pub(crate) fn work<L: Log>(&mut self, app: &App, task: TaskId, ticks: u32, log: &mut L)
-        requires room { 1 ≤ (L.logged log.old).room }
-        requires can { Can self.old task (op.Work ticks) }
-        ensures { Does 1 self.old (L.logged log.old) self.new (L.logged log.new)
+        requires room { 65 ≤ (L.logged log.old).room }
+        requires can { Can app.now self.old task (op.Work ticks) }
+        ensures { Does 65 self.old (L.logged log.old) self.new (L.logged log.new)
             (act app.now task (op.Work ticks)) }
     {
         self.use_up(app, task, ticks);
@@ -55,7 +56,7 @@ impl Kernel {
     /// `delay`: the task sleeps; for 0 ticks it yields.
     pub(crate) fn delay<L: Log>(&mut self, app: &App, task: TaskId, ticks: u32, log: &mut L)
         requires room { 2 ≤ (L.logged log.old).room }
-        requires can { Can self.old task (op.Delay ticks) }
+        requires can { Can app.now self.old task (op.Delay ticks) }
         ensures { Does 2 self.old (L.logged log.old) self.new (L.logged log.new)
             (act app.now task (op.Delay ticks)) }
     {
@@ -71,7 +72,7 @@ impl Kernel {
     /// that is not still to come, it goes on.
     pub(crate) fn delay_until<L: Log>(&mut self, app: &App, task: TaskId, ticks: u32, log: &mut L)
         requires room { 1 ≤ (L.logged log.old).room }
-        requires can { Can self.old task (op.DelayUntil ticks) }
+        requires can { Can app.now self.old task (op.DelayUntil ticks) }
         ensures { Does 1 self.old (L.logged log.old) self.new (L.logged log.new)
             (act app.now task (op.DelayUntil ticks)) }
     {
@@ -90,7 +91,7 @@ impl Kernel {
     /// `yield`: the task goes behind its equals.
     pub(crate) fn call_yield<L: Log>(&mut self, app: &App, task: TaskId, log: &mut L)
         requires room { 2 ≤ (L.logged log.old).room }
-        requires can { Can self.old task op.Yield }
+        requires can { Can app.now self.old task op.Yield }
         ensures { Does 2 self.old (L.logged log.old) self.new (L.logged log.new)
             (act app.now task op.Yield) }
     {
@@ -101,7 +102,7 @@ impl Kernel {
     /// `time`: the printed tick is the answer.
     pub(crate) fn time<L: Log>(&mut self, app: &App, task: TaskId, log: &mut L)
         requires room { 1 ≤ (L.logged log.old).room }
-        requires can { Can self.old task op.Time }
+        requires can { Can app.now self.old task op.Time }
         ensures { Does 1 self.old (L.logged log.old) self.new (L.logged log.new)
             (act app.now task op.Time) }
     {

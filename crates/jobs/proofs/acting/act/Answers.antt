@@ -1,4 +1,4 @@
 use Rattle.jobs.proofs.acting.act.Goals as goal
 
-pub returns : goal.returns
-returns g c = (c.serve_run-outcome.result, c.serve_run-outcome.ensures, c.conclude.ensures.told, c.conclude.ensures.status)
+pub returns-clause-does : goal.returns-clause-does
+returns-clause-does g c = (c.serve_job-outcome.result, c.serve_job-outcome.ensures.does, c.conclude.ensures.told, c.conclude.ensures.status)

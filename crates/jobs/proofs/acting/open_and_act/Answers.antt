@@ -1,15 +1,17 @@
-use Rattle.std.proofs.Common.{Err}
-use Rattle.model.specs.declared.event.End.{End}
-use Rattle.jobs.specs.Serving.{is_read_fault}
-use Rattle.jobs.proofs.Serving.{serves_unopened}
+use Rattle.std.proofs.Common.{Err, inl}
+use Rattle.jobs.specs.declared.acting.JobFault.TheVariants.{Serve}
+use Rattle.jobs.proofs.Serving.{lacks_file, opens}
 use Rattle.jobs.proofs.acting.open_and_act.Goals as goal
 
+pub returns-in-Ok : goal.returns-in-Ok
+returns-in-Ok g c =
+    let done = c.act.ensures.does in
+    (done.0, opens c.args.job.now _ _ _ _ _ done.0 done.1, done.2, done.3)
+
 pub returns-in-Err : goal.returns-in-Err
-returns-in-Err g c =
-    let fault = c.fault_of.result in (
-      Err fault,
-      is_read_fault {T = End} (Err fault),
-      serves_unopened _ _ fault c.fault_of.ensures.either c.requires.writes,
-      c.conclude.ensures.told,
-      c.conclude.ensures.status,
-    )
+returns-in-Err g c = (
+  Err (Serve c.fault_of.result),
+  inl (lacks_file _ _ c.fault_of.result c.fault_of.ensures.either c.requires.writes),
+  c.conclude.ensures.told,
+  c.conclude.ensures.status,
+)

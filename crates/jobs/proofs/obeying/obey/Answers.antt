@@ -10,10 +10,9 @@ returns-in-Ok g c =
       named = c.in-Ok.ensures.job;
       taken = c.in-Ok.ensures.kinds;
       outcome = done.0;
-      read_failed = done.1;
-      serves = done.2;
-      tells = done.3;
-      ends = done.4;
+      does = done.1;
+      tells = done.2;
+      ends = done.3;
     }
 
 pub returns-in-Err : goal.returns-in-Err

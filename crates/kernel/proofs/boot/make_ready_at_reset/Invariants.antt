@@ -8,6 +8,7 @@ use Rattle.kernel.proofs.boot.make_ready_at_reset.Given as goal
 
 abbrev pub invariant-loop-index : goal.invariant-loop-index
 invariant-loop-index l = record {
+  calm : l.sched.depth ≡ 0;
   none : HasNoneFrom l.index l.sched;
   ready : (s : State) → StandsFor l.fn.sched s → length s.tasks ≡ length l.tasks → StandsFor l.sched (for_each make_ready (with_ops 0 (take l.index l.tasks)) s);
 }

@@ -4,7 +4,7 @@ use Rattle.kernel.proofs.Running.{told_after}
 use Rattle.kernel.proofs.steps.step_along.Goals as goal
 
 pub returns-then-is_err-clause-told : goal.returns-then-is_err-clause-told
-returns-then-is_err-clause-told c = on_ok_weaker c.step_in_little_room.result (λ told s h. told_after c.step_in_little_room.new.trail _ _ (c.step_in_little_room.ensures.before ∙ c.begin.ensures.before) (told s h)) c.step_in_little_room.ensures.told
+returns-then-is_err-clause-told c = on_ok_weaker c.step_apart.result (λ told s h. told_after c.step_apart.new.trail _ _ (c.step_apart.ensures.before ∙ c.begin.ensures.before) (told s h)) c.step_apart.ensures.told
 
 pub returns-clause-told : goal.returns-clause-told
 returns-clause-told c = λ s h. told_after c.step_onto.new.log _ _ (c.step_onto.ensures.before ∙ c.begin.ensures.before) (c.step_onto.ensures.told s h)

@@ -13,5 +13,6 @@ invariant-loop-task l = record {
   left : (s : State) → queues.StandsFor l.fn.queues None s → AllByRecursion (λ i. i < length s.tasks) l.tasks → queues.StandsFor l.queues None (for_each make_ready (take l.task-index l.tasks) s);
   free : AreToWake l.sched (drop l.task-index l.tasks);
   unlocked : l.queues.lock ≡ None;
-  current : l.sched.current ≡ l.fn.sched.current;
+  depth : l.sched.depth ≡ l.fn.sched.depth;
+  objects : l.queues.objects ≡ l.fn.queues.objects;
 }

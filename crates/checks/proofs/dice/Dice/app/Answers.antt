@@ -1,13 +1,41 @@
-use Rattle.std.proofs.Common.{[], ◌-◌, subst, List}
+use Rattle.std.proofs.Common.{arith, ◌-◌, refl, subst, List}
 use Rattle.std.specs.List.{AllByRecursion}
 use Rattle.model.specs.declared.object.ObjectKind.{ObjectKind}
-use Rattle.model.specs.Application.{Application, Definition}
-use Rattle.checks.specs.Known.{AreKnown}
-use Rattle.checks.proofs.Known.{known_all}
+use Rattle.model.specs.Application.{Application, Definition, Handler}
+use Rattle.checks.specs.Known.{AreKnown, IsKnownHandler}
+use Rattle.checks.proofs.Known.{are_handlers, are_interrupts, few_at, known_all}
 use Rattle.checks.proofs.dice.Dice.app.Goals as goal
 
-pub new-requires-2-clause-known : goal.new-requires-2-clause-known
-new-requires-2-clause-known c =
+pub new-requires-2 : goal.new-requires-2
+new-requires-2 c =
+    let queues : List ObjectKind = c.in_ok-queues.queues.items in
+    let handlers : List Handler = c.in_ok-handlers.handlers.items in
     let tasks : List Definition = c.in_ok-tasks.tasks.items in
-    let app : Application = record { start = 4294967295 - c.roll-start.result; limits = c.in_ok-limits.limits; objects = c.in_ok-queues.queues.items; handlers = []; interrupts = []; tasks = tasks } in
-    known_all app tasks (subst (λ (objects : List ObjectKind). AllByRecursion (λ (d : Definition). AreKnown objects d.script) tasks) c.as_slice.ensures.value c.in_ok-tasks.ensures.known)
+    let app : Application = record {
+      start = 4294967295 - c.roll-start.result;
+      limits = c.in_ok-limits.limits;
+      objects = queues;
+      handlers = handlers;
+      interrupts = c.in_ok-interrupts.interrupts.items;
+      tasks = tasks;
+    } in
+    let four = c.in_ok-tasks.ensures.four in
+    let queues_few = c.in_ok-queues.ensures.few in
+    let three = c.in_ok-handlers.ensures.three in
+    let few = c.in_ok-interrupts.ensures.few in
+    let formed = c.in_ok-interrupts.ensures.formed in
+    record {
+      some = omega arith;
+      few = omega arith;
+      tasks = c.in_ok-tasks.ensures.tasks;
+      objects = c.in_ok-queues.ensures.kinds;
+      few_objects = omega arith;
+      handlers = are_handlers app queues refl handlers (subst (λ (objects : List ObjectKind). AllByRecursion (IsKnownHandler objects) handlers) c.as_slice-2.ensures.value c.in_ok-handlers.ensures.known);
+      few_handlers = omega arith;
+      interrupts = are_interrupts app three c.in_ok-interrupts.interrupts.items formed.first formed.last formed.known;
+      few_interrupts = omega arith;
+      few_at_once = λ tick. let here = few_at app tick in omega arith;
+      in_order = formed.in_order;
+      known = known_all app tasks (subst (λ (objects : List ObjectKind). AllByRecursion (λ (d : Definition). AreKnown objects d.script) tasks) c.as_slice.ensures.value c.in_ok-tasks.ensures.known);
+      start = omega arith;
+    }

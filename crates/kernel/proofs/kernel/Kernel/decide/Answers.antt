@@ -19,9 +19,9 @@ returns-then-goes_on c = λ log s h.
     let mid : Kernel = record k { sched = c.hold.new.self; queues = c.lock.new.self } in
     let holds : s.call_hold ≡ false → sched.StandsFor c.hold.new.self (record s { call_hold = true }) = λ free. c.hold.ensures.stands s h.stands.sched free in
     let locks : ((j : ℕ) → wait_if_awake (status_at s j) ≡ None) → queues.StandsFor c.lock.new.self None (record s { locked = Some c.args.object }) = λ nobody. c.lock.ensures.stands s None h.stands.rest.queues nobody in
-    let shut = held_at k log s h c.args.task c.args.object c.args.access c.requires c.hold.new.self c.lock.new.self holds c.hold.ensures.schedule locks in
+    let shut = held_at k log s h c.args.task c.args.object c.args.access c.requires c.hold.new.self c.lock.new.self c.hold.ensures.calm holds c.hold.ensures.schedule locks in
     let runs = ap (λ (v : Schedule). v.current) c.hold.ensures.schedule ∙ c.requires.runs.current in
-    declined k log s h c.args.task c.args.object c.args.access c.requires c.hold.new.self c.lock.new.self holds c.hold.ensures.schedule locks c.set_phase.new.self
+    declined k log s h c.args.task c.args.object c.args.access c.requires c.hold.new.self c.lock.new.self c.hold.ensures.calm holds c.hold.ensures.schedule locks c.set_phase.new.self
     (sym (c.need_not_wait-goes_on.ensures s h.stands) ∙ c.if-goes_on.true)
     (gone_on mid c.set_phase.new.self log _ shut c.args.task runs Unlock c.set_phase.ensures (λ e. absurd (cc)))
 
@@ -34,5 +34,5 @@ returns-else-goes_on c = λ log s h.
     let own : Progress = progress_in k.progress c.args.task in
     let called = ap (λ (x : Progress). record own { call = record x.call { phase = Place; list = Some c.list_for.result } }) view ∙ ap (λ (l : WaitList). record own { call = record own.call { phase = Place; list = Some l } }) c.list_for.ensures in
     subst (λ (x : Kernel). AtAny x log (decide c.args.task c.args.object c.args.access s)) (sym c.set_call.ensures)
-    (waits k log s h c.args.task c.args.object c.args.access c.requires c.hold.new.self c.lock.new.self holds c.hold.ensures.schedule locks
+    (waits k log s h c.args.task c.args.object c.args.access c.requires c.hold.new.self c.lock.new.self c.hold.ensures.calm holds c.hold.ensures.schedule locks
     (sym (c.need_not_wait-goes_on.ensures s h.stands) ∙ c.if-goes_on.false) (subst CountsNobody (sym c.lock.ensures.lock) (refl, refl)) _ called)

@@ -3,7 +3,7 @@ use Rattle.kernel.proofs.Acting.{agrees_after, delay_none, delay_some}
 use Rattle.kernel.proofs.kernel.Kernel.delay.Goals as goal
 
 pub sleep-requires-clause-agrees : goal.sleep-requires-clause-agrees
-sleep-requires-clause-agrees g c = agrees_after c.args.self.now c.answer.new.self (g.L.Log.logged c.args.log.now).told (g.L.Log.logged c.answer.new.log).told c.requires.can.tick.agrees _ c.answer.ensures.does.at
+sleep-requires-clause-agrees g c = agrees_after c.args.self.now c.answer.new.self (g.L.Log.logged c.args.log.now).told (g.L.Log.logged c.answer.new.log).told c.requires.can.tick.advance.agrees _ c.answer.ensures.does.at
 
 pub returns-then-ticks-eq0 : goal.returns-then-ticks-eq0
 returns-then-ticks-eq0 g c = record {

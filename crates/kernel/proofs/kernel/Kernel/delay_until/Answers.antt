@@ -7,7 +7,7 @@ use Rattle.kernel.proofs.Acting.{still_task, still_task_asleep, agrees_after, co
 use Rattle.kernel.proofs.kernel.Kernel.delay_until.Goals as goal
 
 pub sleep-requires-clause-agrees : goal.sleep-requires-clause-agrees
-sleep-requires-clause-agrees g c = agrees_after c.args.self.now c.answer.new.self (g.L.Log.logged c.args.log.now).told (g.L.Log.logged c.answer.new.log).told c.requires.can.tick.agrees _ c.answer.ensures.does.at
+sleep-requires-clause-agrees g c = agrees_after c.args.self.now c.answer.new.self (g.L.Log.logged c.args.log.now).told (g.L.Log.logged c.answer.new.log).told c.requires.can.tick.advance.agrees _ c.answer.ensures.does.at
 
 pub returns-then-now-wake_time : goal.returns-then-now-wake_time
 returns-then-now-wake_time g c = record {

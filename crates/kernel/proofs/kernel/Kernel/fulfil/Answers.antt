@@ -1,14 +1,45 @@
-use Rattle.std.proofs.Common.{Some, None, refl}
-use Rattle.kernel.proofs.Waits.{fulfilled, stored_at}
+use Rattle.std.proofs.Common.{None, refl, sym, ◌∙◌}
+use Rattle.kernel.proofs.Calling.{answers, fulfilled, fulfilled_any, fulfilled_none, fulfilled_none_any, long_still, stored_any, stored_some}
+use Rattle.kernel.proofs.Waits.{stored_at}
 use Rattle.kernel.proofs.kernel.Kernel.fulfil.Goals as goal
 
 pub wake_best-requires : goal.wake_best-requires
-wake_best-requires c =
-    let s = c.requires.agrees.0 in
-    let h = c.requires.agrees.1 in
-    (_, (stored_at c.args.self.now s.log s (record { stands = h; log = refl }) c.args.object _ c.carry_out-answer.new.self (c.carry_out-answer.ensures.stands s None (Some c.args.task) h.rest.queues)).stands)
+wake_best-requires c = stored_some c.args.self.now c.carry_out-answer.new.self c.args.caller c.args.object c.args.access (λ s d h. c.carry_out-answer.ensures.stands s d c.args.caller h) c.requires.stands
 
-pub returns-clause-does : goal.returns-clause-does
-returns-clause-does c = λ log s h.
-    fulfilled c.wake_best.new.self log s c.args.task c.args.object c.args.access c.list_woken.result (c.list_woken.ensures c.args.task)
-    (c.wake_best.ensures.does log _ (stored_at c.args.self.now log s h c.args.object _ c.carry_out-answer.new.self (c.carry_out-answer.ensures.stands s None (Some c.args.task) h.stands.rest.queues)))
+pub returns-in-Some-clause-does : goal.returns-in-Some-clause-does
+returns-in-Some-clause-does c = λ log s h.
+    fulfilled c.args.self.now c.carry_out-answer.new.self c.args.caller c.args.object c.args.access (λ s d h. c.carry_out-answer.ensures.stands s d c.args.caller h) c.wake_best.new.self log s c.in-Some.list (sym c.in-Some.is ∙ c.list_woken.ensures)
+    (c.wake_best.ensures.does log _ (stored_at c.args.self.now log s h c.args.object _ c.carry_out-answer.new.self (c.carry_out-answer.ensures.stands s None c.args.caller h.stands.rest.queues)))
+
+pub returns-in-Some-clause-any : goal.returns-in-Some-clause-any
+returns-in-Some-clause-any c = λ log s h.
+    fulfilled_any c.args.self.now c.carry_out-answer.new.self c.args.caller c.args.object c.args.access (λ s d h. c.carry_out-answer.ensures.stands s d c.args.caller h) c.wake_best.new.self log s c.in-Some.list (sym c.in-Some.is ∙ c.list_woken.ensures)
+    (c.wake_best.ensures.any log _ (stored_any c.args.self.now c.carry_out-answer.new.self c.args.caller c.args.object c.args.access (λ s d h. c.carry_out-answer.ensures.stands s d c.args.caller h) log s h))
+
+pub returns-in-Some-clause-answer : goal.returns-in-Some-clause-answer
+returns-in-Some-clause-answer c = λ s h. answers c.args.self.now s c.args.object c.args.access c.carry_out-answer.result h c.carry_out-answer.ensures.answer
+
+pub returns-in-Some-clause-leaves : goal.returns-in-Some-clause-leaves
+returns-in-Some-clause-leaves c = record {
+  depth = c.wake_best.ensures.leaves.depth;
+  lengths = λ j long. c.wake_best.ensures.leaves.lengths j (long_still c.args.self.now c.carry_out-answer.new.self c.args.caller c.args.object c.args.access (c.carry_out-answer.ensures.objects c.args.caller) j long);
+}
+
+pub returns-in_default-clause-does : goal.returns-in_default-clause-does
+returns-in_default-clause-does c = λ log s h.
+    fulfilled_none c.args.self.now c.carry_out-answer.new.self c.args.caller c.args.object c.args.access (λ s d h. c.carry_out-answer.ensures.stands s d c.args.caller h) _ log s (sym c.in_default.is ∙ c.list_woken.ensures)
+    (stored_at c.args.self.now log s h c.args.object _ c.carry_out-answer.new.self (c.carry_out-answer.ensures.stands s None c.args.caller h.stands.rest.queues))
+
+pub returns-in_default-clause-any : goal.returns-in_default-clause-any
+returns-in_default-clause-any c = λ log s h.
+    fulfilled_none_any c.args.self.now c.carry_out-answer.new.self c.args.caller c.args.object c.args.access (λ s d h. c.carry_out-answer.ensures.stands s d c.args.caller h) _ log s (sym c.in_default.is ∙ c.list_woken.ensures)
+    (stored_any c.args.self.now c.carry_out-answer.new.self c.args.caller c.args.object c.args.access (λ s d h. c.carry_out-answer.ensures.stands s d c.args.caller h) log s h)
+
+pub returns-in_default-clause-answer : goal.returns-in_default-clause-answer
+returns-in_default-clause-answer c = λ s h. answers c.args.self.now s c.args.object c.args.access c.carry_out-answer.result h c.carry_out-answer.ensures.answer
+
+pub returns-in_default-clause-leaves : goal.returns-in_default-clause-leaves
+returns-in_default-clause-leaves c = record {
+  depth = refl;
+  lengths = λ j long. long_still c.args.self.now c.carry_out-answer.new.self c.args.caller c.args.object c.args.access (c.carry_out-answer.ensures.objects c.args.caller) j long;
+}

@@ -21,6 +21,7 @@ try_call-requires-clause-can g c =
       };
       agrees = agrees_after c.args.self.now c.set_deadline.new.self [] [] can.0.agrees _ (λ s h. c.set_deadline.ensures.does [] s h);
       free = ap (λ (q : Exchange). q.lock) c.set_deadline.ensures.parts.1 ∙ can.0.free;
+      depth = ap (λ (v : Schedule). v.depth) c.set_deadline.ensures.parts.0 ∙ can.0.depth;
       length = rw c.set_deadline.ensures.parts.1 can.0.length;
     }
 

@@ -2,11 +2,11 @@ use Rattle.std.proofs.Common.{[]}
 use Rattle.kernel.proofs.Waking.{sched-ticked, queues-ticked, woken}
 use Rattle.kernel.proofs.kernel.Kernel.increment_tick.Goals as goal
 
-pub returns-then-not-advance_if_none_due : goal.returns-then-not-advance_if_none_due
-returns-then-not-advance_if_none_due c = λ log s h. c.wake_due.ensures log s (rw (c.advance_if_none_due.ensures.kept c.if-not-advance_if_none_due.true) h)
+pub returns-then-not-advance_if_none_due-clause-does : goal.returns-then-not-advance_if_none_due-clause-does
+returns-then-not-advance_if_none_due-clause-does c = λ log s h. c.wake_due.ensures.does log s (rw (c.advance_if_none_due.ensures.kept c.if-not-advance_if_none_due.true) h)
 
-pub returns-else-not-advance_if_none_due : goal.returns-else-not-advance_if_none_due
-returns-else-not-advance_if_none_due c = λ log s h.
+pub returns-else-not-advance_if_none_due-clause-does : goal.returns-else-not-advance_if_none_due-clause-does
+returns-else-not-advance_if_none_due-clause-does c = λ log s h.
     let none = c.if-not-advance_if_none_due.false in
     let now = c.advance_if_none_due.ensures in
     woken c.args.self.now log s h [] c.args.self.now.sched c.args.self.now.queues c.advance_if_none_due.new.self (now.due s none h.stands.rest.clock) (sched-ticked c.args.self.now log s h) (queues-ticked c.args.self.now log s h) (now.woken s none h.stands.rest.clock)

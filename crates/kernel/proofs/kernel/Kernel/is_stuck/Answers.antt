@@ -1,7 +1,19 @@
-use Rattle.std.proofs.Common.{true, not, sym, ap, ◌∙◌}
-use Rattle.std.specs.Option.{is_some}
-use Rattle.kernel.proofs.Ending.{stuck_by}
+use Rattle.std.proofs.Common.{◌≡◌, ◌∙◌, ℕ, true, ltb, ap, sym, refl}
+use Rattle.std.specs.List.{list_any}
+use Rattle.std.specs.Option.{is_none, is_some}
+use Rattle.model.specs.Application.{Interrupt}
+use Rattle.model.specs.Run.{is_interrupt_to_come}
+use Rattle.kernel.proofs.Either.{age_is}
+use Rattle.kernel.proofs.Ending.{idle_by, stuck_by}
 use Rattle.kernel.proofs.kernel.Kernel.is_stuck.Goals as goal
 
-pub returns-then-is_none : goal.returns-then-is_none
-returns-then-is_none c = λ s h. stuck_by c.args.app.now c.without_handlers.ensures.interrupts c.args.self.now s true c.is_quiet.result h (ap not (sym c.if-is_none.ensures ∙ ap is_some c.current.ensures.current)) c.is_quiet.ensures.quiet
+pub returns-then-not-is_quiet : goal.returns-then-not-is_quiet
+returns-then-not-is_quiet c = λ s h.
+    let idle : true ≡ is_none c.args.self.now.sched.current = idle_by _ (ap is_some (sym c.current.ensures.current) ∙ sym c.is_some.ensures ∙ c.if-is_some.false) in
+    rw c.if-not-is_quiet.true at (stuck_by c.args.app.now c.args.self.now s true c.is_quiet.result (is_interrupt_to_come c.args.app.now s) h idle c.is_quiet.ensures.quiet refl)
+
+pub returns : goal.returns
+returns c = λ s h.
+    let idle : true ≡ is_none c.args.self.now.sched.current = idle_by _ (ap is_some (sym c.current.ensures.current) ∙ sym c.is_some.ensures ∙ c.if-is_some.false) in
+    let later : c.has_interrupt_after.result ≡ is_interrupt_to_come c.args.app.now s = c.has_interrupt_after.ensures ∙ ap (λ (n : ℕ). list_any (λ (i : Interrupt). ltb n i.tick) c.args.app.now.interrupts) (c.age.ensures.age ∙ age_is c.args.self.now s h) in
+    rw c.if-not-is_quiet.false at (stuck_by c.args.app.now c.args.self.now s true c.is_quiet.result c.has_interrupt_after.result h idle c.is_quiet.ensures.quiet later)

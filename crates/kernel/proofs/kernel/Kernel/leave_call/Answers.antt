@@ -12,8 +12,8 @@ returns-then-is_some g c = record {
       let unhold : s.call_hold ≡ true → sched.StandsFor c.unhold.new.self (record s { call_hold = false }) = c.unhold.ensures.stands s h.stands.sched in
       let view = c.behind-self.view_is ∙ c.progress.ensures in
       left_after c.choose.new.self (g.L.Log.logged c.choose.new.log).told s c.args.task
-      (waited c.args.self.now c.set_call.new.self told s h c.args.task c.requires.can c.unhold.new.self unhold c.unhold.ensures.schedule (the_view c.behind-self.inside) view c.set_call.ensures ∙ sym c.is_some.ensures ∙ c.if-is_some.true)
-      (c.choose.ensures.at _ (freed c.args.self.now c.set_call.new.self told s h c.args.task c.requires.can c.unhold.new.self unhold c.unhold.ensures.schedule (the_view c.behind-self.inside) view c.set_call.ensures));
+      (waited c.args.self.now c.set_call.new.self told s h c.args.task c.requires.can c.unhold.new.self unhold c.unhold.ensures.current (the_view c.behind-self.inside) view c.set_call.ensures ∙ sym c.is_some.ensures ∙ c.if-is_some.true)
+      (c.choose.ensures.at _ (freed c.args.self.now c.set_call.new.self told s h c.args.task c.requires.can c.unhold.new.self unhold c.unhold.ensures.current (the_view c.behind-self.inside) view c.set_call.ensures));
   few = c.choose.ensures.few;
   before = c.choose.ensures.before;
 }
@@ -25,8 +25,8 @@ returns-else-is_some g c = record {
       let unhold : s.call_hold ≡ true → sched.StandsFor c.unhold.new.self (record s { call_hold = false }) = c.unhold.ensures.stands s h.stands.sched in
       let view = c.behind-self.view_is ∙ c.progress.ensures in
       left_before c.preempt.new.self (g.L.Log.logged c.preempt.new.log).told s c.args.task
-      (waited c.args.self.now c.set_call.new.self told s h c.args.task c.requires.can c.unhold.new.self unhold c.unhold.ensures.schedule (the_view c.behind-self.inside) view c.set_call.ensures ∙ sym c.is_some.ensures ∙ c.if-is_some.false)
-      (c.preempt.ensures.at _ (freed c.args.self.now c.set_call.new.self told s h c.args.task c.requires.can c.unhold.new.self unhold c.unhold.ensures.schedule (the_view c.behind-self.inside) view c.set_call.ensures));
-  few = c.preempt.ensures.few;
-  before = c.preempt.ensures.before;
+      (waited c.args.self.now c.set_call.new.self told s h c.args.task c.requires.can c.unhold.new.self unhold c.unhold.ensures.current (the_view c.behind-self.inside) view c.set_call.ensures ∙ sym c.is_some.ensures ∙ c.if-is_some.false)
+      (c.preempt.ensures.does.at _ (freed c.args.self.now c.set_call.new.self told s h c.args.task c.requires.can c.unhold.new.self unhold c.unhold.ensures.current (the_view c.behind-self.inside) view c.set_call.ensures));
+  few = c.preempt.ensures.does.few;
+  before = c.preempt.ensures.does.before;
 }

@@ -1,5 +1,5 @@
 use Rattle.std.proofs.Common.{refl, ap, sym, ◌∙◌}
-use Rattle.sched.specs.Schedule.{Schedule}
+use Rattle.sched.specs.Schedule.{Schedule, lined_up}
 use Rattle.clock.specs.StandsFor.{tasks_at}
 use Rattle.model.specs.Step.{nobody_ready}
 use Rattle.model.proofs.Reached.{reached_nobody}
@@ -12,7 +12,7 @@ returns-clause-stands c =
     let table = (reached_nobody c.args.app.now c.well_formed-2.ensures).table in
     record {
       sched = record {
-        ready = ap (λ (v : Schedule). v.ready) c.new.ensures.new ∙ sym (none_ready c.args.app.now.start c.args.app.now.tasks);
+        ready = ap lined_up c.new.ensures.new ∙ sym (none_ready c.args.app.now.start c.args.app.now.tasks);
         current = ap (λ (v : Schedule). v.current) c.new.ensures.new;
         priorities = λ i. rw c.new.ensures.new (c.priorities_of.ensures.priorities i ∙ rw c.tasks-2.ensures (priority_at c.args.app.now.start c.args.app.now.tasks i));
         depth = ap (λ (v : Schedule). v.depth) c.new.ensures.new;

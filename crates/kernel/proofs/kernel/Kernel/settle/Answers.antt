@@ -1,4 +1,5 @@
 use Rattle.std.proofs.Common.{refl, sym, ◌∙◌, arith}
+use Rattle.kernel.specs.StandsFor.Stands.{Placed}
 use Rattle.kernel.proofs.Either.{any, either}
 use Rattle.kernel.proofs.Switches.{ready_before, settled_before, settled_either, settled_free, settled_held, settled_idle, settled_off, settled_on}
 use Rattle.kernel.proofs.kernel.Kernel.settle.Goals as goal
@@ -24,7 +25,7 @@ returns-then-is_ready g c = record {
 pub returns-then-not-is_held : goal.returns-then-not-is_held
 returns-then-not-is_held g c = record {
   at = λ s h. either c.args.self.now _ s h
-      (λ a. any c.choose.new.self _ _ (settled_free c.choose.new.self _ s (sym (c.is_held.ensures.held s a.stands) ∙ c.if-not-is_held.true)
+      (λ a. any c.choose.new.self _ _ (settled_free c.choose.new.self _ s (sym (c.is_held.ensures.held s (Placed a.stands)) ∙ c.if-not-is_held.true)
       (settled_off c.args.self.now (g.L.Log.logged c.args.log.now).told s a c.in-Some.task c.choose.new.self (g.L.Log.logged c.choose.new.log).told (sym a.stands.sched.current ∙ sym c.in-Some.ensures.current) (sym (c.is_ready.ensures.ready s a.stands) ∙ c.if-is_ready.false) (c.choose.ensures.at s a))))
       (λ task list b.
       let on = ready_before c.args.self.now s task c.in-Some.task list b (sym c.in-Some.ensures.current) in
@@ -38,7 +39,7 @@ returns-then-not-is_held g c = record {
 pub returns-else-not-is_held : goal.returns-else-not-is_held
 returns-else-not-is_held g c = record {
   at = λ s h. either c.args.self.now _ s h
-      (λ a. any c.args.self.now _ _ (settled_held c.args.self.now _ s (sym (c.is_held.ensures.held s a.stands) ∙ c.if-not-is_held.false) a))
+      (λ a. any c.args.self.now _ _ (settled_held c.args.self.now _ s (sym (c.is_held.ensures.held s (Placed a.stands)) ∙ c.if-not-is_held.false) a))
       (λ task list b. settled_before c.args.self.now _ s h task list b);
   few = omega arith;
   before = refl;

@@ -1,15 +1,25 @@
-use Rattle.model.specs.Step.{before_step, step}
-use Rattle.kernel.proofs.Bounds.{can_act}
+use Rattle.model.specs.Step.{step}
+use Rattle.kernel.proofs.Bounds.{can_act_after, long_enough, stood}
 use Rattle.kernel.proofs.Either.{steps_are}
-use Rattle.kernel.proofs.Ending.{begun, stepped}
+use Rattle.kernel.proofs.Ending.{begun, handled_before, stepped}
 use Rattle.kernel.proofs.kernel.Kernel.step_onto.Goals as goal
 
+pub inject_all-requires-clause-stands : goal.inject_all-requires-clause-stands
+inject_all-requires-clause-stands g c = stood c.args.app.now c.well_formed-2.ensures c.args.self.now c.requires.going
+
+pub inject_all-requires-clause-lengths : goal.inject_all-requires-clause-lengths
+inject_all-requires-clause-lengths g c = long_enough c.args.app.now c.well_formed-2.ensures c.args.self.now c.requires.going
+
 pub act_current-requires-clause-can : goal.act_current-requires-clause-can
-act_current-requires-clause-can g c = can_act c.args.app.now c.well_formed-2.ensures c.args.self.now c.requires.going
+act_current-requires-clause-can g c =
+    let going = c.requires.going in
+    can_act_after c.args.app.now c.well_formed-2.ensures c.args.self.now going c.args.handlers.now c.inject_all.new.self
+    (handled_before c.args.app.now c.args.handlers.now _ c.inject_all.new.self _ (c.inject_all.ensures.at _ (begun c.args.self.now (g.L.Log.logged c.args.log.now).told _ going.stands c.requires.begun))).stands
 
 pub returns-clause-stands : goal.returns-clause-stands
-returns-clause-stands g c = λ s h. stepped c.args.app.now s c.settle.new.self (g.L.Log.logged c.settle.new.log).told c.args.self.now.steps (steps_are c.args.self.now s h) (c.settle.ensures.at _ (c.act_current.ensures.at _ (begun c.args.self.now (g.L.Log.logged c.args.log.now).told s h c.requires.begun)))
+returns-clause-stands g c = λ s h. stepped c.args.app.now c.args.handlers.now s c.settle.new.self (g.L.Log.logged c.settle.new.log).told c.args.self.now.steps (steps_are c.args.self.now s h)
+    (c.settle.ensures.at _ (c.act_current.ensures.at _ (handled_before c.args.app.now c.args.handlers.now s c.inject_all.new.self _ (c.inject_all.ensures.at _ (begun c.args.self.now (g.L.Log.logged c.args.log.now).told s h c.requires.begun)))))
 
 pub returns-clause-told : goal.returns-clause-told
-unfolding step before_step
-returns-clause-told g c = λ s h. (c.settle.ensures.at _ (c.act_current.ensures.at _ (begun c.args.self.now (g.L.Log.logged c.args.log.now).told s h c.requires.begun))).log
+unfolding step
+returns-clause-told g c = λ s h. (c.settle.ensures.at _ (c.act_current.ensures.at _ (handled_before c.args.app.now c.args.handlers.now s c.inject_all.new.self _ (c.inject_all.ensures.at _ (begun c.args.self.now (g.L.Log.logged c.args.log.now).told s h c.requires.begun))))).log

@@ -1,18 +1,22 @@
-use Rattle.std.proofs.Common.{sym, subst}
-use Rattle.model.specs.State.{State}
-use Rattle.model.specs.Switching.{slice}
-use Rattle.model.specs.Time.{increment_tick}
+use Rattle.std.proofs.Common.{◌∙◌, [], arith}
 use Rattle.model.specs.Handlers.{tick_interrupt}
-use Rattle.model.proofs.Handled.{uninterrupted}
-use Rattle.kernel.specs.StandsFor.{At}
+use Rattle.kernel.proofs.Acting.{agrees_after}
+use Rattle.kernel.proofs.Handling.{long_after}
 use Rattle.kernel.proofs.kernel.Kernel.tick_interrupt.Goals as goal
+
+pub interrupt-requires-clause-agrees : goal.interrupt-requires-clause-agrees
+interrupt-requires-clause-agrees g c = agrees_after c.args.self.now c.increment_tick.new.self [] [] c.requires.can.advance.agrees _ (λ s h. c.increment_tick.ensures.does [] s h)
+
+pub interrupt-requires-clause-lengths : goal.interrupt-requires-clause-lengths
+interrupt-requires-clause-lengths g c = long_after c.args.app.now c.args.self.now c.increment_tick.new.self c.requires.can.lengths c.increment_tick.ensures.leaves
+
+pub slice-requires-clause-free : goal.slice-requires-clause-free
+slice-requires-clause-free g c = c.interrupt.ensures.leaves.depth ∙ c.increment_tick.ensures.leaves.depth ∙ c.requires.can.depth
 
 pub returns : goal.returns
 unfolding tick_interrupt
 returns g c = record {
-  at = λ s h.
-      let T : State → Type 0 = λ u. At c.slice.new.self (g.L.Log.logged c.slice.new.log).told (slice u) in
-      subst T (sym (uninterrupted c.args.app.now c.without_handlers.ensures.interrupts (increment_tick s))) (c.slice.ensures.at _ (c.increment_tick.ensures _ s h));
-  few = c.slice.ensures.few;
-  before = c.slice.ensures.before;
+  at = λ s h. c.slice.ensures.at _ (c.interrupt.ensures.does.at _ (c.increment_tick.ensures.does _ s h));
+  few = let a = c.interrupt.ensures.does.few in let b = c.slice.ensures.few in omega arith;
+  before = c.slice.ensures.before ∙ c.interrupt.ensures.does.before;
 }

@@ -5,6 +5,7 @@ use Rattle.model.specs.Ops.{answer}
 use Rattle.model.specs.Objects.{fulfil}
 use Rattle.model.specs.Switching.{preempt}
 use Rattle.kernel.specs.StandsFor.{At}
+use Rattle.kernel.specs.StandsFor.Stands.{Placed}
 use Rattle.kernel.proofs.Waits.{tried, tried_late, tried_on, gone_on}
 use Rattle.kernel.proofs.kernel.Kernel.try_call.Goals as goal
 
@@ -14,11 +15,11 @@ returns-then-possible g c = record {
       let app = c.args.app.now in
       let i : ℕ = c.args.task in
       let told = (g.L.Log.logged c.preempt.new.log).told in
-      let there = c.preempt.ensures.at _ (c.answer_given.ensures.does.at _ (c.fulfil-answer.ensures.does _ s h)) in
+      let there = c.preempt.ensures.does.at _ (c.answer_given.ensures.does.at _ (c.fulfil-answer.ensures.does _ s h)) in
       tried app c.preempt.new.self told s i c.args.object c.args.access (sym (c.possible.ensures.stands s None h.stands.rest.queues) ∙ c.if-possible.true)
-      (subst (λ (a : Option ℕ). At c.preempt.new.self told (preempt (answer app i a (fulfil (Some i) c.args.object c.args.access s)))) (c.fulfil-answer.ensures.answer s h.stands) there);
-  few = let a = c.answer_given.ensures.does.few in let b = c.preempt.ensures.few in omega arith;
-  before = c.preempt.ensures.before ∙ c.answer_given.ensures.does.before;
+      (subst (λ (a : Option ℕ). At c.preempt.new.self told (preempt (answer app i a (fulfil (Some i) c.args.object c.args.access s)))) (c.fulfil-answer.ensures.answer s (Placed h.stands)) there);
+  few = let a = c.answer_given.ensures.does.few in let b = c.preempt.ensures.does.few in omega arith;
+  before = c.preempt.ensures.does.before ∙ c.answer_given.ensures.does.before;
 }
 
 pub returns-then-is_expired : goal.returns-then-is_expired

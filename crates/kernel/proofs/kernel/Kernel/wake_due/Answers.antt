@@ -9,8 +9,8 @@ use Rattle.kernel.proofs.kernel.Kernel.wake_due.Goals as goal
 pub make_all_ready-requires-clause-free : goal.make_all_ready-requires-clause-free
 make_all_ready-requires-clause-free c = rw c.as_slice.ensures.value (to_wake c.args.self.now c.requires.agrees.0 c.requires.agrees.1 c.advance_into.new.self c.advance_into.new.due.items c.advance_into.ensures.advances)
 
-pub returns : goal.returns
-returns c = λ log s h.
+pub returns-clause-does : goal.returns-clause-does
+returns-clause-does c = λ log s h.
     let is : c.as_slice.result.now ≡ tasks_of (due (at_next_tick s)) = c.as_slice.ensures.value ∙ c.advance_into.ensures.due s h.stands.rest.clock in
     let ready = c.make_all_ready.ensures.ready (at_next_tick s) (sched-ticked c.args.self.now log s h) (rw is (due_within (at_next_tick s))) in
     let left = c.make_all_ready.ensures.left (at_next_tick s) (queues-ticked c.args.self.now log s h) (rw is (due_within (at_next_tick s))) in

@@ -24,7 +24,7 @@ returns-in-Some c =
     record {
       sharing =
           c.has_other.ensures.other
-          ∙ sym (any_beside q.priorities task 0 p q.ready c.self.invariant.at_home (omega (arith, home)))
+          ∙ sym (any_beside q.priorities task 0 p q.ready c.self.invariant.lists_are.at_home (omega (arith, home)))
           ∙ ap (λ (o : Option ℕ). list_any (is_beside q.priorities o) (ready_list_of q.ready)) (sym c.in-Some.is)
           ∙ ap is_sharing c.self.view_is;
     }

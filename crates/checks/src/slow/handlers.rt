@@ -1,0 +1,54 @@
+//! Interrupt handlers: their ops, and how they come.
+
+use super::SlowKernel;
+use model::{App, HandlerId, IsrOp, What};
+
+impl SlowKernel {
+    /// An op of a handler: a call is tried once, and never waits.
+    fn isr(&mut self, handler: HandlerId, op_index: u16, op: &IsrOp) {
+        let what = match *op {
+            IsrOp::Mark(number) => What::IsrMark(handler, number),
+            IsrOp::Do(object, access) => match self.attempt(None, object.number, access) {
+                Some(answer) => What::Isr(handler, op_index, answer),
+                None => What::IsrNone(handler, op_index),
+            },
+        };
+        self.write(what);
+    }
+
+    /// The handler does its ops one after another, and nothing switches.
+    fn handle(&mut self, app: &App, handler: HandlerId) {
+        let Some(definition) = app.handlers().get(handler.number as usize) else {
+            return;
+        };
+        let mut op_index: u16 = 0;
+        for op in definition.ops() {
+            self.isr(handler, op_index, op);
+            op_index = op_index.wrapping_add(1);
+        }
+    }
+
+    /// The base interrupts of this tick come.
+    pub(super) fn interrupt(&mut self, app: &App) {
+        for interrupt in app.interrupts() {
+            if interrupt.tick == self.elapsed {
+                self.handle(app, interrupt.handler);
+            }
+        }
+    }
+
+    /// The handler comes before a step, and then a task of higher priority runs, if there is one.
+    pub(super) fn inject(&mut self, app: &App, handler: HandlerId) {
+        self.handle(app, handler);
+        if !self.is_held {
+            self.preempt();
+        }
+    }
+
+    /// Whether a base interrupt comes at a later tick.
+    pub(super) fn is_interrupt_to_come(&self, app: &App) -> bool {
+        app.interrupts()
+            .iter()
+            .any(|interrupt| interrupt.tick > self.elapsed)
+    }
+}

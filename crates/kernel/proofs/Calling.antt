@@ -1,0 +1,103 @@
+-- A call on a queue: what it makes of the states that the kernel stands for, whether or not a task is still to be placed.
+use Rattle.std.proofs.Common.{◌≡◌, ◌<◌, ℕ, zero, suc, Bool, true, false, List, [], ◌∷◌, set, Option, Some, None, refl, ap, sym, subst, ◌∙◌}
+use Rattle.model.specs.declared.call.WaitList.{WaitList}
+use Rattle.model.specs.declared.op.Access.{Access}
+use Rattle.model.specs.declared.op.Access.TheVariants.{Send, SendFront, Overwrite, Receive, Peek}
+use Rattle.model.specs.declared.event.Event.{Event}
+use Rattle.model.specs.State.{State, Object, object_at, with_object, for_one}
+use Rattle.model.specs.Waiting.{wake_best}
+use Rattle.model.specs.Objects.{allows, object_after, list_woken, possible, answer_to, reply, fulfil, attempt}
+use Rattle.objects.specs.Items.{object_in}
+use Rattle.objects.specs.WaitersStand.{Decider}
+use Rattle.objects.specs.Queues as queues
+use Rattle.objects.specs.Queues.{Exchange}
+use Rattle.kernel.specs.declared.kernel.Kernel.{Kernel}
+use Rattle.kernel.specs.StandsFor.{Stands, At, AtAny, decider}
+use Rattle.kernel.specs.StandsFor.Stands.{Placed, Placing}
+use Rattle.kernel.specs.Can.{HasLength, StandsForSome}
+use Rattle.kernel.proofs.Before.{stored_before}
+use Rattle.kernel.proofs.Either.{any, either}
+use Rattle.kernel.proofs.Waits.{stored_at}
+
+-- ---- what is in an object
+
+pub objects_are : (k : Kernel) (s : State) → Stands k s → (o : ℕ) → object_in k.queues.objects o ≡ object_at s o
+objects_are k s (Placed h) o = h.rest.queues.objects o
+objects_are k s (Placing task list b) o = b.queues.objects o
+
+pub answers : (k : Kernel) (s : State) (o : ℕ) (a : Access) (given : Option ℕ) → Stands k s → given ≡ reply (object_in k.queues.objects o) a → given ≡ answer_to s o a
+answers k s o a given h e = e ∙ ap (λ (x : Object). reply x a) (objects_are k s h o)
+
+pub is_possible : (k : Kernel) (s : State) (o : ℕ) (a : Access) (b : Bool) → Stands k s → allows (object_in k.queues.objects o) a ≡ b → possible s o a ≡ b
+is_possible k s o a b h e = ap (λ (x : Object). allows x a) (sym (objects_are k s h o)) ∙ e
+
+-- ---- how long the queues may get
+
+same_size : (caller : Option ℕ) (a : Access) (x : Object) → (object_after caller a x).size ≡ x.size
+same_size caller (Send n) x = refl
+same_size caller (SendFront n) x = refl
+same_size caller (Overwrite n) x = refl
+same_size caller Receive x = refl
+same_size caller Peek x = refl
+
+size_set : (os : List Object) (o j : ℕ) (x : Object) → x.size ≡ (object_in os o).size → (object_in (set os o x) j).size ≡ (object_in os j).size
+size_set [] o j x e = refl
+size_set (y ∷ ys) zero zero x e = e
+size_set (y ∷ ys) zero (suc j) x e = refl
+size_set (y ∷ ys) (suc o) zero x e = refl
+size_set (y ∷ ys) (suc o) (suc j) x e = size_set ys o j x e
+
+pub long_still : (k : Kernel) (q : Exchange) (caller : Option ℕ) (o : ℕ) (a : Access) → q ≡ record k.queues { objects = set k.queues.objects o (object_after caller a (object_in k.queues.objects o)) } → (j : ℕ) → HasLength k j → HasLength (record k { queues = q }) j
+long_still k q caller o a is j long =
+    subst (λ (n : ℕ). 0 < n) (sym (ap (λ (v : Exchange). (object_in v.objects j).size) is ∙ size_set k.queues.objects o j (object_after caller a (object_in k.queues.objects o)) (same_size caller a (object_in k.queues.objects o)))) long
+
+-- ---- the object changes
+
+module _ (k : Kernel) (q : Exchange) (caller : Option ℕ) (o : ℕ) (a : Access) (stores : (s : State) (d : Option Decider) → queues.StandsFor k.queues d s → queues.StandsFor q d (with_object o (object_after caller a (object_at s o)) s)) where
+  abbrev stored : State → State
+  stored s = with_object o (object_after caller a (object_at s o)) s
+
+  pub stored_any : (log : List Event) (s : State) → AtAny k log s → AtAny (record k { queues = q }) log (with_object o (object_after caller a (object_at s o)) s)
+  stored_any log s h = either k log s h
+      (λ p. any (record k { queues = q }) log (stored s) (stored_at k log s p o (object_after caller a (object_at s o)) q (stores s None p.stands.rest.queues)))
+      (λ task list b. record { stands = Placing task list (stored_before task list k s b o (object_after caller a (object_at s o)) q (stores s (Some (decider task list s)) b.queues)); log = h.log })
+
+  pub stored_some : StandsForSome k → StandsForSome (record k { queues = q })
+  stored_some h = let there = stored_any (h.0).log h.0 (record { stands = h.1; log = refl }) in (stored h.0, there.stands)
+
+  -- and one waiter is woken, or nobody
+  module _ (new : Kernel) (log : List Event) (s : State) where
+    pub fulfilled : (list : WaitList) → Some list ≡ list_woken caller o a → At new log (wake_best list (with_object o (object_after caller a (object_at s o)) s)) → At new log (fulfil caller o a s)
+    unfolding fulfil
+    fulfilled list is h = subst (λ (x : Option WaitList). At new log (for_one wake_best x (stored s))) is h
+
+    pub fulfilled_any : (list : WaitList) → Some list ≡ list_woken caller o a → AtAny new log (wake_best list (with_object o (object_after caller a (object_at s o)) s)) → AtAny new log (fulfil caller o a s)
+    unfolding fulfil
+    fulfilled_any list is h = subst (λ (x : Option WaitList). AtAny new log (for_one wake_best x (stored s))) is h
+
+    pub fulfilled_none : None ≡ list_woken caller o a → At new log (with_object o (object_after caller a (object_at s o)) s) → At new log (fulfil caller o a s)
+    unfolding fulfil
+    fulfilled_none is h = subst (λ (x : Option WaitList). At new log (for_one wake_best x (stored s))) is h
+
+    pub fulfilled_none_any : None ≡ list_woken caller o a → AtAny new log (with_object o (object_after caller a (object_at s o)) s) → AtAny new log (fulfil caller o a s)
+    unfolding fulfil
+    fulfilled_none_any is h = subst (λ (x : Option WaitList). AtAny new log (for_one wake_best x (stored s))) is h
+
+-- ---- it is done where it is possible
+
+module _ (new : Kernel) (log : List Event) (s : State) (caller : Option ℕ) (o : ℕ) (a : Access) where
+  pub attempted : possible s o a ≡ true → At new log (fulfil caller o a s) → At new log (attempt caller o a s)
+  unfolding attempt
+  attempted t h = rw t h
+
+  pub attempted_any : possible s o a ≡ true → AtAny new log (fulfil caller o a s) → AtAny new log (attempt caller o a s)
+  unfolding attempt
+  attempted_any t h = rw t h
+
+  pub declined : possible s o a ≡ false → At new log s → At new log (attempt caller o a s)
+  unfolding attempt
+  declined t h = rw t h
+
+  pub declined_any : possible s o a ≡ false → AtAny new log s → AtAny new log (attempt caller o a s)
+  unfolding attempt
+  declined_any t h = rw t h

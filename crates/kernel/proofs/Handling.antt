@@ -1,0 +1,120 @@
+-- Handlers: what their ops, and one handler after another, make of a state.
+use Rattle.std.proofs.Common.{◌≡◌, ◌<◌, ◌≤◌, ◌+◌, ℕ, zero, suc, List, [], ◌∷◌, ◌++◌, length, map, get_or, take, false, true, Option, None, refl, ap, sym, subst, ◌∙◌, arith}
+use Rattle.std.specs.List.{AllByRecursion}
+use Rattle.std.proofs.lemmas.List.{length-take-le, take_more}
+use Rattle.model.specs.declared.event.What.{What}
+use Rattle.model.specs.declared.event.What.TheVariants.{IsrMark}
+use Rattle.model.specs.declared.op.IsrOp.{IsrOp}
+use Rattle.model.specs.declared.op.IsrOp.TheVariants.{Do, Mark}
+use Rattle.model.specs.declared.op.Access.{Access}
+use Rattle.std.specs.Prelude.{option_map, slice_get, unwrap_or}
+use Rattle.model.specs.Application.{Application, Handler, ops_of}
+use Rattle.model.specs.Scripts.{IsHandler, IsWellFormed, knows_isr}
+use Rattle.model.specs.State.{State, for_each}
+use Rattle.model.specs.declared.event.Event.{Event}
+use Rattle.model.specs.Switching.{is_held, preempt, write}
+use Rattle.model.proofs.Settled.{when_free, when_held}
+use Rattle.model.specs.Objects.{answer_to, attempt}
+use Rattle.model.specs.Handlers.{isr_told, isr, isr_each, handle, inject}
+use Rattle.model.proofs.Chosen.{each-end}
+use Rattle.model.proofs.InScripts.{isr_known}
+use Rattle.kernel.specs.declared.kernel.Kernel.{Kernel}
+use Rattle.kernel.specs.Logged.{Logged}
+use Rattle.kernel.specs.StandsFor.{Stands, At, AtAny, Does, DoesAny}
+use Rattle.kernel.proofs.Either.{any, either}
+use Rattle.kernel.specs.Can.{HasIsrLength, HasLengths, Leaves}
+
+-- ---- an op
+
+pub did_op : (P : State → Type 0) (s : State) (handler op_index : ℕ) (op : IsrOp) (o : ℕ) (a : Access) (given : Option ℕ) (what : What) → op ≡ Do o a → what ≡ isr_told handler op_index given → given ≡ answer_to s o a
+    → P (write what (attempt None o a s)) → P (isr handler op_index op s)
+did_op P s handler op_index op o a given what is told answer h =
+    let one : what ≡ isr_told handler op_index (answer_to s o a) = told ∙ ap (isr_told handler op_index) answer in
+    rw is (subst (λ (w : What). P (write w (attempt None o a s))) one h)
+
+pub did_mark : (P : State → Type 0) (s : State) (handler op_index : ℕ) (op : IsrOp) (n : ℕ) → op ≡ Mark n → P (write (IsrMark handler n) s) → P (isr handler op_index op s)
+did_mark P s handler op_index op n is h = rw is h
+
+-- its object has room for an item
+pub op_long : (app : Application) (formed : IsWellFormed app) (k : Kernel) (handler i : ℕ) (op : IsrOp) → HasLengths app k → i < length (ops_of app handler) → op ≡ get_or (ops_of app handler) i op → HasIsrLength k op
+op_long app formed k handler i op long l e = by_op op (at (ops_of app handler) i (isr_known app formed handler) l e) where
+  at : (ops : List IsrOp) (i : ℕ) → AllByRecursion (λ (x : IsrOp). knows_isr app x ≡ true) ops → i < length ops → op ≡ get_or ops i op → knows_isr app op ≡ true
+  at [] i known l e = absurd (omega arith)
+  at (x ∷ xs) zero known l e = rw e known.0
+  at (x ∷ xs) (suc i) known l e = at xs i known.1 (omega arith) e
+
+  by_op : (x : IsrOp) → knows_isr app x ≡ true → HasIsrLength k x
+  by_op (Do o a) known = long o a known
+  by_op (Mark n) known = tt
+
+-- and there are few
+pub handler_short : (app : Application) → IsWellFormed app → (handler : ℕ) → length (ops_of app handler) ≤ 16
+handler_short app formed handler = by_index app.handlers handler formed.handlers where
+  by_index : (hs : List Handler) (i : ℕ) → AllByRecursion (IsHandler app) hs → length (unwrap_or (option_map (λ (h : Handler). h.ops) (slice_get hs i)) []) ≤ 16
+  by_index [] i all = omega arith
+  by_index (h ∷ hs) zero all = all.0.few
+  by_index (h ∷ hs) (suc i) all = by_index hs i all.1
+
+-- ---- one op after another
+
+each_op : (handler n : ℕ) (ops : List IsrOp) (op : IsrOp) (s : State) → isr_each handler n (ops ++ op ∷ []) s ≡ isr handler (n + length ops) op (isr_each handler n ops s)
+each_op handler n [] op s = let same : n ≡ n + 0 = omega arith in ap (λ (m : ℕ). isr handler m op s) same
+each_op handler n (x ∷ xs) op s =
+    let same : n + 1 + length xs ≡ n + suc (length xs) = omega arith in
+    each_op handler (n + 1) xs op (isr handler n x s) ∙ ap (λ (m : ℕ). isr handler m op (isr_each handler (n + 1) xs (isr handler n x s))) same
+
+pub op_more : (P : State → Type 0) (handler : ℕ) (ops : List IsrOp) (s : State) (i : ℕ) (op : IsrOp) → i < length ops → op ≡ get_or ops i op → P (isr handler i op (isr_each handler 0 (take i ops) s)) → P (isr_each handler 0 (take (i + 1) ops) s)
+op_more P handler ops s i op l e h =
+    let more : take (i + 1) ops ≡ take i ops ++ op ∷ [] = take_more ops i op l ∙ ap (λ (x : IsrOp). take i ops ++ x ∷ []) (sym e) in
+    let many : length (take i ops) ≡ i = length-take-le i ops (omega arith) in
+    let same : 0 + length (take i ops) ≡ i = omega (arith, many) in
+    rw (more, each_op handler 0 (take i ops) op s, same) h
+
+-- ---- one after another
+
+pub one_more : {A : Type 0} (deed : A → State → State) (P : State → Type 0) (xs : List A) (s : State) (i : ℕ) (x : A) → i < length xs → x ≡ get_or xs i x → P (deed x (for_each deed (take i xs) s)) → P (for_each deed (take (i + 1) xs) s)
+one_more {A} deed P xs s i x l e h =
+    let more : take (i + 1) xs ≡ take i xs ++ x ∷ [] = take_more xs i x l ∙ ap (λ (y : A). take i xs ++ y ∷ []) (sym e) in
+    rw (more, each-end deed s (take i xs) x) h
+
+-- ---- what is left as it was
+
+pub leaves_same : (k : Kernel) → Leaves k k
+leaves_same k = record { depth = refl; lengths = λ o h. h }
+
+pub leaves_both : (a b c : Kernel) → Leaves a b → Leaves b c → Leaves a c
+leaves_both a b c h g = record { depth = g.depth ∙ h.depth; lengths = λ o long. g.lengths o (h.lengths o long) }
+
+pub long_after : (app : Application) (old new : Kernel) → HasLengths app old → Leaves old new → HasLengths app new
+long_after app old new long h o a fit = h.lengths o (long o a fit)
+
+-- nothing is done yet
+pub does_nothing : (k : Kernel) (log : Logged) → Does 0 k log k log (λ s. s)
+does_nothing k log = record { at = λ s h. h; few = omega arith; before = refl }
+
+pub does_nothing_any : (k : Kernel) (log : Logged) → DoesAny 0 k log k log (λ s. s)
+does_nothing_any k log = record { at = λ s h. h; few = omega arith; before = refl }
+
+-- ---- a higher task may run after an injected handler, unless the scheduler is held
+
+module _ (app : Application) (handler : ℕ) (s : State) (mid : Kernel) where
+  abbrev t : State
+  t = handle app handler s
+
+  pub injected_free : (new : Kernel) (log new_log : List Event) → (Stands mid (handle app handler s) → is_held (handle app handler s) ≡ false) → AtAny mid log (handle app handler s) → (At mid log (handle app handler s) → At new new_log (preempt (handle app handler s))) → AtAny new new_log (inject app handler s)
+  unfolding inject
+  injected_free new log new_log free h goes =
+      let off : t.call_hold ≡ false = free h.stands in
+      either mid log t h
+      (λ p. subst (AtAny new new_log) (sym (when_free preempt t off)) (any new new_log (preempt t) (goes p)))
+      (λ task list b. let on : t.call_hold ≡ true = b.held in absurd (cc))
+
+  pub injected_held : (log : List Event) → (Stands mid (handle app handler s) → is_held (handle app handler s) ≡ true) → AtAny mid log (handle app handler s) → AtAny mid log (inject app handler s)
+  unfolding inject
+  injected_held log held h = let on : t.call_hold ≡ true = held h.stands in subst (AtAny mid log) (sym (when_held preempt t on)) h
+
+-- an element of what a function makes of each
+pub mapped_at : {A B : Type 0} (f : A → B) (xs : List A) (i : ℕ) (x : A) → i < length xs → x ≡ get_or xs i x → f x ≡ get_or (map f xs) i (f x)
+mapped_at f [] i x l e = absurd (omega arith)
+mapped_at f (y ∷ ys) zero x l e = ap f e
+mapped_at f (y ∷ ys) (suc i) x l e = mapped_at f ys i x (omega arith) e

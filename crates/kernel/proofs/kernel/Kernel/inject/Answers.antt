@@ -1,0 +1,23 @@
+use Rattle.std.proofs.Common.{◌<◌, arith, ◌∙◌, subst, sym}
+use Rattle.objects.specs.Items.{object_in}
+use Rattle.objects.specs.Queues.{Exchange}
+use Rattle.kernel.proofs.Handling.{injected_free, injected_held, long_after}
+use Rattle.kernel.proofs.kernel.Kernel.inject.Goals as goal
+
+pub returns-then-not-is_held-clause-does : goal.returns-then-not-is_held-clause-does
+returns-then-not-is_held-clause-does g c = record {
+  at = λ s h. injected_free c.args.app.now c.args.handler s c.handle.new.self c.preempt.new.self _ _ (λ t. sym (c.is_held.ensures.held _ t) ∙ c.if-not-is_held.true) (c.handle.ensures.any.at s h) (λ p. c.preempt.ensures.does.at _ p);
+  few = let a = c.handle.ensures.any.few in let b = c.preempt.ensures.does.few in omega arith;
+  before = c.preempt.ensures.does.before ∙ c.handle.ensures.any.before;
+}
+
+pub returns-then-not-is_held-clause-lengths : goal.returns-then-not-is_held-clause-lengths
+returns-then-not-is_held-clause-lengths g c = λ o a fit.
+    subst (λ (q : Exchange). 0 < (object_in q.objects o).size) (sym c.preempt.ensures.queues) (long_after c.args.app.now c.args.self.now c.handle.new.self c.requires.lengths c.handle.ensures.leaves o a fit)
+
+pub returns-else-not-is_held-clause-does : goal.returns-else-not-is_held-clause-does
+returns-else-not-is_held-clause-does g c = record {
+  at = λ s h. injected_held c.args.app.now c.args.handler s c.handle.new.self _ (λ t. sym (c.is_held.ensures.held _ t) ∙ c.if-not-is_held.false) (c.handle.ensures.any.at s h);
+  few = let a = c.handle.ensures.any.few in omega arith;
+  before = c.handle.ensures.any.before;
+}

@@ -1,0 +1,34 @@
+use Rattle.kernel.specs.StandsFor.{At, AtAny}
+use Rattle.kernel.specs.StandsFor.Stands.{Placed}
+use Rattle.kernel.proofs.Handling.{did_op, did_mark}
+use Rattle.kernel.proofs.kernel.Kernel.isr.Goals as goal
+
+pub returns-in-Do-clause-does : goal.returns-in-Do-clause-does
+returns-in-Do-clause-does g c = record {
+  at = λ s h. did_op (At c.attempt-answer.new.self (g.L.Log.logged c.write.new.log).told) s c.args.handler c.args.op_index c.args.op.now c.in-Do.object c.in-Do.access c.attempt-answer.result c.isr_told.result c.in-Do.is c.isr_told.ensures (c.attempt-answer.ensures.answer s (Placed h.stands))
+      (c.write.ensures.does.at _ (c.attempt-answer.ensures.does _ s h));
+  few = c.write.ensures.does.few;
+  before = c.write.ensures.does.before;
+}
+
+pub returns-in-Do-clause-any : goal.returns-in-Do-clause-any
+returns-in-Do-clause-any g c = record {
+  at = λ s h. did_op (AtAny c.attempt-answer.new.self (g.L.Log.logged c.write.new.log).told) s c.args.handler c.args.op_index c.args.op.now c.in-Do.object c.in-Do.access c.attempt-answer.result c.isr_told.result c.in-Do.is c.isr_told.ensures (c.attempt-answer.ensures.answer s h.stands)
+      (c.write.ensures.any.at _ (c.attempt-answer.ensures.any _ s h));
+  few = c.write.ensures.any.few;
+  before = c.write.ensures.any.before;
+}
+
+pub returns-in-Mark-clause-does : goal.returns-in-Mark-clause-does
+returns-in-Mark-clause-does g c = record {
+  at = λ s h. did_mark (At c.args.self.now (g.L.Log.logged c.write-in-Mark.new.log).told) s c.args.handler c.args.op_index c.args.op.now c.in-Mark.number c.in-Mark.is (c.write-in-Mark.ensures.does.at s h);
+  few = c.write-in-Mark.ensures.does.few;
+  before = c.write-in-Mark.ensures.does.before;
+}
+
+pub returns-in-Mark-clause-any : goal.returns-in-Mark-clause-any
+returns-in-Mark-clause-any g c = record {
+  at = λ s h. did_mark (AtAny c.args.self.now (g.L.Log.logged c.write-in-Mark.new.log).told) s c.args.handler c.args.op_index c.args.op.now c.in-Mark.number c.in-Mark.is (c.write-in-Mark.ensures.any.at s h);
+  few = c.write-in-Mark.ensures.any.few;
+  before = c.write-in-Mark.ensures.any.before;
+}

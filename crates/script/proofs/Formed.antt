@@ -1,0 +1,20 @@
+-- The base interrupts that are taken are those of a well formed application.
+use Rattle.std.proofs.Common.{◌<◌, ◌≤◌, ℕ, List, [], ◌∷◌, length, arith}
+use Rattle.std.specs.Prelude.{◌==◌}
+use Rattle.std.specs.List.{filter, AllByRecursion}
+use Rattle.std.proofs.lemmas.List.{length-map}
+use Rattle.model.specs.Application.{Application, Interrupt, interrupts_at}
+use Rattle.model.specs.Scripts.{IsInterrupt, last_interrupt, most_at_once}
+use Rattle.script.specs.Interrupts.{count_at}
+
+pub are_interrupts : (app : Application) (is : List Interrupt) → AllByRecursion (λ (i : Interrupt). 1 ≤ i.tick) is
+    → AllByRecursion (λ (i : Interrupt). i.tick ≤ last_interrupt) is → AllByRecursion (λ (i : Interrupt). i.handler < length app.handlers) is
+    → AllByRecursion (IsInterrupt app) is
+are_interrupts app [] first last known = tt
+are_interrupts app (i ∷ is) first last known =
+    (record { first = first.0; last = last.0; handler = known.0 }, are_interrupts app is first.1 last.1 known.1)
+
+pub few_come : (app : Application) (tick : ℕ) → count_at tick app.interrupts ≤ most_at_once
+    → length (interrupts_at app tick) ≤ most_at_once
+few_come app tick few =
+    omega (arith, length-map (filter (λ (i : Interrupt). i.tick == tick) app.interrupts) (λ (i : Interrupt). i.handler))
