@@ -6,10 +6,26 @@ use model::{
 };
 use std::alloc::{AllocError, Global};
 
-// The first word of a call, and the name of its queue.
-fn queue_text(alloc: Global, word: &str, queue: ObjectId) -> Result<String, AllocError> {
-    let number = queue.number;
-    format!(in alloc; "{word} q{number}")
+// The first word of a call, and the name of its object: a letter that tells its kind, and its number.
+fn call_text(
+    alloc: Global,
+    word: &str,
+    letter: &str,
+    object: ObjectId,
+) -> Result<String, AllocError> {
+    let number = object.number;
+    format!(in alloc; "{word} {letter}{number}")
+}
+
+// The letter of the objects that allow a call.
+fn letter_for(access: Access) -> &'static str {
+    if access.is_of_queue() {
+        "q"
+    } else if access.is_of_semaphore() {
+        "s"
+    } else {
+        "m"
+    }
 }
 
 // How long a call waits, as a word.
@@ -26,7 +42,9 @@ fn item_text(alloc: Global, access: Access) -> Result<String, AllocError> {
         Access::Send(item) | Access::SendFront(item) | Access::Overwrite(item) => {
             format!(in alloc; " {item}")
         }
-        Access::Receive | Access::Peek => Ok(String::new(alloc)),
+        Access::Receive | Access::Peek | Access::Take | Access::Give | Access::Lock => {
+            Ok(String::new(alloc))
+        }
     }
 }
 
@@ -41,33 +59,42 @@ fn push_op(file: &mut String, alloc: Global, op: &Op) -> Result<(), AllocError> 
         Op::Expect(None) => format!(in alloc; "{word} none")?,
         Op::Yield | Op::Time | Op::End => String::from_str(alloc, word)?,
         Op::Await(object, access, ticks) => {
-            let queue = queue_text(alloc, word, object)?;
+            let call = call_text(alloc, word, letter_for(access), object)?;
             let item = item_text(alloc, access)?;
             let wait = wait_text(alloc, ticks)?;
-            format!(in alloc; "{queue}{item} {wait}")?
+            format!(in alloc; "{call}{item} {wait}")?
         }
         Op::Do(object, access) => {
-            let queue = queue_text(alloc, word, object)?;
+            let call = call_text(alloc, word, letter_for(access), object)?;
             let item = item_text(alloc, access)?;
-            format!(in alloc; "{queue}{item}")?
+            format!(in alloc; "{call}{item}")?
         }
+        Op::GiveMutex(object) => call_text(alloc, word, "m", object)?,
         Op::MessagesWaiting(object) | Op::SpacesAvailable(object) => {
-            queue_text(alloc, word, object)?
+            call_text(alloc, word, "q", object)?
         }
     };
     let quoted = format!(in alloc; "'{text}', ")?;
     file.push_str(quoted.as_str())
 }
 
-// The object of this index, which is called q and its index.
+// The object of this index, whose name is a letter and the index. A semaphore that is as a binary one is shown as one.
 fn push_object(
     file: &mut String,
     alloc: Global,
     index: usize,
     kind: ObjectKind,
 ) -> Result<(), AllocError> {
-    let ObjectKind::Queue(length) = kind;
-    let text = format!(in alloc; "\n[[queue]]\nname = 'q{index}'\nlength = {length}\n")?;
+    let text = match kind {
+        ObjectKind::Queue(length) => {
+            format!(in alloc; "\n[[queue]]\nname = 'q{index}'\nlength = {length}\n")?
+        }
+        ObjectKind::Semaphore(1, 0) => format!(in alloc; "\n[[binary]]\nname = 's{index}'\n")?,
+        ObjectKind::Semaphore(max, initial) => format!(in alloc;
+            "\n[[counting]]\nname = 's{index}'\nmax = {max}\ninitial = {initial}\n"
+        )?,
+        ObjectKind::Mutex => format!(in alloc; "\n[[mutex]]\nname = 'm{index}'\n")?,
+    };
     file.push_str(text.as_str())
 }
 
@@ -87,9 +114,9 @@ fn push_isr_op(file: &mut String, alloc: Global, op: &IsrOp) -> Result<(), Alloc
     let text = match *op {
         IsrOp::Mark(number) => format!(in alloc; "{word} {number}")?,
         IsrOp::Do(object, access) => {
-            let queue = queue_text(alloc, word, object)?;
+            let call = call_text(alloc, word, letter_for(access), object)?;
             let item = item_text(alloc, access)?;
-            format!(in alloc; "{queue}{item}")?
+            format!(in alloc; "{call}{item}")?
         }
     };
     let quoted = format!(in alloc; "'{text}', ")?;

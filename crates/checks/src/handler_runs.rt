@@ -25,12 +25,12 @@ script = ['receive q 1']
 
 /// A file, the step before which its handler `h` is injected, if it is, and the status and the report of the run.
 #[derive(Clone, Copy)]
-struct Case {
-    name: &'static str,
-    file: &'static str,
-    at: Option<u32>,
-    status: u8,
-    report: &'static str,
+pub(crate) struct Case {
+    pub(crate) name: &'static str,
+    pub(crate) file: &'static str,
+    pub(crate) at: Option<u32>,
+    pub(crate) status: u8,
+    pub(crate) report: &'static str,
 }
 
 const CASES: [Case; 13] = [
@@ -417,7 +417,7 @@ script = ['receive q 3', 'work 1']
 ];
 
 /// Runs the file, and compares the status and the report.
-fn check(rt: &impl Abort, alloc: Global, case: Case) {
+pub(crate) fn check(rt: &impl Abort, alloc: Global, case: Case) {
     let name = case.name;
     let job = Job::Run {
         file: "app.toml",

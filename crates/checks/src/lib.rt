@@ -7,11 +7,17 @@ mod bytes;
 #[cfg(test)]
 mod dice;
 #[cfg(test)]
+mod fall_back_runs;
+#[cfg(test)]
 mod file;
 #[cfg(test)]
 mod handler_runs;
 #[cfg(test)]
+mod inheritance_runs;
+#[cfg(test)]
 mod loading;
+#[cfg(test)]
+mod mutex_runs;
 #[cfg(test)]
 mod planner;
 #[cfg(test)]
@@ -21,9 +27,13 @@ mod random;
 #[cfg(test)]
 mod refused;
 #[cfg(test)]
+mod refused_locks;
+#[cfg(test)]
 mod rows;
 #[cfg(test)]
 mod runs;
+#[cfg(test)]
+mod semaphore_runs;
 #[cfg(test)]
 mod sinks;
 #[cfg(test)]

@@ -1,7 +1,7 @@
 //! What a file is loaded as.
 
 use crate::random::loaded;
-use model::{Access, ObjectId, ObjectKind, Op};
+use model::{Access, IsrOp, ObjectId, ObjectKind, Op};
 
 const QUEUES: &str = "
 [[queue]]
@@ -41,4 +41,60 @@ fn queues_and_the_ops_on_them_are_loaded(rt: HostRuntime) {
     ];
     let task = app.tasks().first().expect(&rt, "a task");
     assert_eq!(rt; task.ops(), ops.as_slice());
+}
+
+const SEMAPHORES_AND_MUTEXES: &str = "
+[[mutex]]
+name = 'm'
+
+[[counting]]
+name = 'c'
+max = 65535
+initial = 7
+
+[[counting]]
+name = 'd'
+max = 3
+
+[[binary]]
+name = 'b'
+
+[[handler]]
+name = 'h'
+ops = ['give b', 'give  d ']
+
+[[task]]
+name = 'a'
+priority = 1
+script = ['take b 4294967294', 'give c', ' take  d  forever', 'lock m 0', 'unlock m', 'lock m forever']
+";
+
+// Whatever their order in the file is, binary semaphores come before counting ones, and those before mutexes.
+#[test]
+fn semaphores_and_mutexes_and_the_ops_on_them_are_loaded(rt: HostRuntime) {
+    let app = loaded(&rt, rt.alloc(), SEMAPHORES_AND_MUTEXES);
+    let b = ObjectId::new(0).expect(&rt, "an object");
+    let c = ObjectId::new(1).expect(&rt, "an object");
+    let d = ObjectId::new(2).expect(&rt, "an object");
+    let m = ObjectId::new(3).expect(&rt, "an object");
+    let kinds = [
+        ObjectKind::Semaphore(1, 0),
+        ObjectKind::Semaphore(65_535, 7),
+        ObjectKind::Semaphore(3, 0),
+        ObjectKind::Mutex,
+    ];
+    assert_eq!(rt; app.objects(), kinds.as_slice());
+    let ops = [
+        Op::Await(b, Access::Take, Some(4_294_967_294)),
+        Op::Do(c, Access::Give),
+        Op::Await(d, Access::Take, None),
+        Op::Await(m, Access::Lock, Some(0)),
+        Op::GiveMutex(m),
+        Op::Await(m, Access::Lock, None),
+    ];
+    let task = app.tasks().first().expect(&rt, "a task");
+    assert_eq!(rt; task.ops(), ops.as_slice());
+    let isr_ops = [IsrOp::Do(b, Access::Give), IsrOp::Do(d, Access::Give)];
+    let handler = app.handlers().first().expect(&rt, "a handler");
+    assert_eq!(rt; handler.ops(), isr_ops.as_slice());
 }

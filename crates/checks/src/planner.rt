@@ -11,7 +11,7 @@ pub(crate) struct Points {
     pub(crate) all: usize,
     /// Those before a step of a call in Decide, Place, Unlock or Leave.
     pub(crate) inside_calls: usize,
-    /// Those of them while a queue is locked.
+    /// Those of them while an object is locked.
     pub(crate) locked: usize,
     /// Those past the end of the run.
     pub(crate) late: usize,
@@ -59,7 +59,7 @@ impl Planner {
         }
     }
 
-    /// How many handlers come before the next step. Where tasks wait at both sides of the locked queue, some come always.
+    /// How many handlers come before the next step. Where tasks wait at both sides of the locked object, some come always.
     fn roll_count(&mut self, slow: &SlowKernel) -> u32 {
         let sides = if slow.has_both_at_lock() {
             1

@@ -33,6 +33,18 @@ struct Seen {
     other_awakenings: usize,
     /// Tasks of both waiting lists were Awake when their queue was unlocked.
     mixed_unlocks: usize,
+    /// A handler gave a semaphore that was locked.
+    locked_gives: usize,
+    /// The holder of a mutex was raised by one who waits.
+    raises: usize,
+    /// A raised holder gave one of several mutexes back.
+    kept_raises: usize,
+    /// A holder fell when a wait was in vain.
+    falls: usize,
+    /// It did, and kept the priority of another who waits.
+    partial_falls: usize,
+    /// The run ended with a misuse.
+    misuses: usize,
     points: Points,
 }
 
@@ -40,22 +52,27 @@ impl Seen {
     fn count(&mut self, slow: &SlowKernel, has_wrapped: bool, points: &Points) {
         let tally = slow.tally;
         add(&mut self.wraps, has_wrapped as usize);
-        add(&mut self.wakes, (tally.wakes > 0) as usize);
-        add(&mut self.timeouts, (tally.timeouts > 0) as usize);
-        add(
-            &mut self.own_awakenings,
-            (tally.own_awakenings > 0) as usize,
-        );
-        add(
-            &mut self.other_awakenings,
-            (tally.other_awakenings > 0) as usize,
-        );
-        add(&mut self.mixed_unlocks, (tally.mixed_unlocks > 0) as usize);
+        see(&mut self.wakes, tally.wakes);
+        see(&mut self.timeouts, tally.timeouts);
+        see(&mut self.own_awakenings, tally.own_awakenings);
+        see(&mut self.other_awakenings, tally.other_awakenings);
+        see(&mut self.mixed_unlocks, tally.mixed_unlocks);
+        see(&mut self.locked_gives, tally.locked_gives);
+        see(&mut self.raises, tally.raises);
+        see(&mut self.kept_raises, tally.kept_raises);
+        see(&mut self.falls, tally.falls);
+        see(&mut self.partial_falls, tally.partial_falls);
+        see(&mut self.misuses, tally.misuses);
         add(&mut self.points.all, points.all);
         add(&mut self.points.inside_calls, points.inside_calls);
         add(&mut self.points.locked, points.locked);
         add(&mut self.points.late, points.late);
     }
+}
+
+/// Counts a run in which something happened so many times.
+fn see(count: &mut usize, times: u32) {
+    add(count, (times > 0) as usize);
 }
 
 fn add(count: &mut usize, more: usize) {
@@ -108,7 +125,7 @@ fn the_slow_program_agrees(rt: HostRuntime) {
 fn the_slow_program_agrees_where_handlers_are_injected(rt: HostRuntime) {
     let mut seen = Seen::default();
     for seed in 0..40_000 {
-        let mut dice = if seed % 2 == 0 {
+        let mut dice = if seed % 3 == 0 {
             Dice::new(seed)
         } else {
             Dice::crowding(seed)
@@ -123,6 +140,25 @@ fn the_slow_program_agrees_where_handlers_are_injected(rt: HostRuntime) {
     assert!(rt; has_points && has_inside, "{seen:?}");
     let has_awakenings = seen.own_awakenings > 5_000 && seen.other_awakenings > 1_000;
     assert!(rt; has_awakenings && seen.mixed_unlocks > 100, "{seen:?}");
+    assert!(rt; seen.locked_gives > 2_500, "{seen:?}");
+}
+
+#[test]
+fn the_slow_program_agrees_where_tasks_contend_for_mutexes(rt: HostRuntime) {
+    let mut seen = Seen::default();
+    for seed in 0..40_000 {
+        let mut dice = Dice::contending(seed);
+        let app = dice.app(rt.alloc()).expect(&rt, "memory");
+        let planner = if seed % 2 == 0 {
+            Planner::idle(rt.alloc())
+        } else {
+            Planner::new(rt.alloc(), u32::MAX - seed)
+        };
+        compare(&rt, rt.alloc(), seed, &app, planner, &mut seen);
+    }
+    let has_raises = seen.raises > 10_000 && seen.kept_raises > 1_000;
+    let has_falls = seen.falls > 2_500 && seen.partial_falls > 400;
+    assert!(rt; has_raises && has_falls && seen.misuses > 5_000, "{seen:?}");
 }
 
 /// The application that a file describes.

@@ -1,15 +1,17 @@
 //! Files that are refused, and the lines that tell why.
 
 use crate::sinks::{check_text, serve};
+use std::alloc::Global;
+use std::process::Abort;
 
 /// A file, and the fault line that its run is refused with.
 #[derive(Clone, Copy)]
-struct Case {
-    file: &'static [u8],
-    line: &'static str,
+pub(crate) struct Case {
+    pub(crate) file: &'static [u8],
+    pub(crate) line: &'static str,
 }
 
-const CASES: [Case; 46] = [
+const CASES: [Case; 55] = [
     Case {
         file: b"",
         line: "rtosim: 1 Missing: task\n",
@@ -356,16 +358,164 @@ script = ['end', 'overwrite q 1']
 ",
         line: "rtosim: 7 BadNesting: task 0 script 0\n",
     },
+    Case {
+        file: b"[[handler]]
+name = 'h'
+ops = []
+
+[[task]]
+name = 'a'
+priority = 1
+script = []
+
+[[interrupt]]
+tick = 1
+handler = 'h'
+
+[[interrupt]]
+tick = 1
+handler = 'h'
+
+[[interrupt]]
+tick = 1
+handler = 'h'
+
+[[interrupt]]
+tick = 1
+handler = 'h'
+
+[[interrupt]]
+tick = 1
+handler = 'h'
+",
+        line: "rtosim: 9 TooMany: interrupt 4\n",
+    },
+    Case {
+        file: b"[[handler]]
+name = 'h'
+ops = ['nop']
+
+[[task]]
+name = '9'
+priority = 1
+script = []
+",
+        line: "rtosim: 3 OutOfRange: task 0 name\n",
+    },
+    Case {
+        file: b"[[handler]]
+name = 'h'
+ops = ['nop']
+
+[[task]]
+name = 'a'
+priority = 1
+script = ['nop']
+",
+        line: "rtosim: 4 BadOp: handler 0 ops 0\n",
+    },
+    Case {
+        file: b"[[handler]]
+name = 'h'
+ops = ['mark 1', 2]
+",
+        line: "rtosim: 2 WrongKind: handler 0 ops 1\n",
+    },
+    Case {
+        file: b"[[queue]]
+name = 'q'
+length = 2
+
+[[handler]]
+name = 'h'
+ops = ['mark 1', 'send q 1 0']
+
+[[task]]
+name = 'a'
+priority = 1
+script = []
+",
+        line: "rtosim: 4 BadOp: handler 0 ops 1\n",
+    },
+    Case {
+        file: b"[[queue]]
+name = 'q'
+length = 2
+
+[[handler]]
+name = 'h'
+ops = ['receive a']
+
+[[task]]
+name = 'a'
+priority = 1
+script = []
+",
+        line: "rtosim: 5 UnknownName: handler 0 ops 0\n",
+    },
+    Case {
+        file: b"[[queue]]
+name = 'q'
+length = 2
+
+[[handler]]
+name = 'h'
+ops = ['overwrite q 1']
+
+[[task]]
+name = 'a'
+priority = 1
+script = []
+",
+        line: "rtosim: 8 OverwriteLength: handler 0 ops 0\n",
+    },
+    Case {
+        file: b"[[handler]]
+name = 'h'
+ops = []
+
+[[task]]
+name = 'a'
+priority = 1
+script = []
+
+[[interrupt]]
+tick = 1000001
+handler = 'h'
+",
+        line: "rtosim: 3 OutOfRange: interrupt 0 tick\n",
+    },
+    Case {
+        file: b"[[handler]]
+name = 'h'
+ops = []
+
+[[task]]
+name = 'a'
+priority = 1
+script = []
+
+[[interrupt]]
+tick = 1
+handler = 'a'
+",
+        line: "rtosim: 5 UnknownName: interrupt 0 handler\n",
+    },
 ];
+
+/// Runs the file over sinks that take a byte a call and over wide ones, and compares the status and the line.
+pub(crate) fn check(rt: &impl Abort, alloc: Global, case: Case) {
+    for at_once in [1, 4096] {
+        let answer = serve(alloc, case.file, at_once);
+        assert_eq!(rt; answer.status, 3, "{}", case.line);
+        check_text(rt, alloc, case.line, answer.written.bytes(), "");
+        check_text(rt, alloc, case.line, answer.told.bytes(), case.line);
+    }
+}
 
 #[test]
 fn each_fault_has_its_line(rt: HostRuntime) {
     for case in CASES {
-        for at_once in [1, 4096] {
-            let answer = serve(rt.alloc(), case.file, at_once);
-            assert_eq!(rt; answer.status, 3, "{}", case.line);
-            check_text(&rt, rt.alloc(), case.line, answer.written.bytes(), "");
-            check_text(&rt, rt.alloc(), case.line, answer.told.bytes(), case.line);
-        }
+        check(&rt, rt.alloc(), case);
     }
 }

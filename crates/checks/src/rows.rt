@@ -223,10 +223,12 @@ fn check_unpaired(rt: &impl Abort, alloc: Global, at: Option<u32>, handler: Opti
     assert_eq!(rt; status, 2);
     check_text(rt, alloc, "unpaired", written.bytes(), "");
     check_text(rt, alloc, "unpaired", told.bytes(), UNPAIRED);
-    // Nor is anything said of the bytes.
-    let answer = serve_job(alloc, &job, b"task = [", 4096);
-    assert_eq!(rt; answer.status, 2);
-    check_text(rt, alloc, "unpaired", answer.told.bytes(), UNPAIRED);
+    // Nor is anything said of bytes that are no TOML.
+    for file in [b"task = [".as_slice(), b"\xff".as_slice()] {
+        let answer = serve_job(alloc, &job, file, 4096);
+        assert_eq!(rt; answer.status, 2);
+        check_text(rt, alloc, "unpaired", answer.told.bytes(), UNPAIRED);
+    }
 }
 
 #[test]

@@ -14,7 +14,7 @@ pub(crate) struct Case {
     pub(crate) report: &'static str,
 }
 
-const CASES: [Case; 21] = [
+const CASES: [Case; 24] = [
     Case {
         name: "deadline_in_the_tick_of_a_send.toml",
         file: r#"# Two tasks that each wait three ticks for an item, and one that wakes in the third tick and sends to both.
@@ -62,6 +62,73 @@ script = ["receive to_below 3", "expect 8"]
 18 3 run below
 19 3 call below 0 receive = 8
 20 3 run -
+",
+    },
+    Case {
+        name: "fall_back_after_a_timeout.toml",
+        file: r#"# A task that holds a mutex, for which two others wait: `patient` for ever, and `hasty` for two ticks at most.
+#
+# Look at who runs beside `holder`, whose own priority is 1. At tick 1 `patient` lends it priority 3, at tick 2 `hasty`
+# lends it 5. So at tick 3, when `above` (4) and `below` (2) wake, `holder` works on. At tick 4 `hasty` gives up,
+# `lock = 0`, and `holder` falls back, but only to 3, since `patient` still waits: `above` runs now, and `below` doesn't.
+# At tick 7 `holder` gives the mutex back, and with it the rest of what it inherited: `below` runs before its `mark 1`.
+[[mutex]]
+name = "guard"
+
+[[task]]
+name = "hasty"
+priority = 5
+script = ["delay 2", "lock guard 2", "expect 0"]
+
+[[task]]
+name = "above"
+priority = 4
+script = ["delay 3", "work 1", "mark 4"]
+
+[[task]]
+name = "patient"
+priority = 3
+script = ["delay 1", "lock guard forever", "unlock guard"]
+
+[[task]]
+name = "below"
+priority = 2
+script = ["delay 3", "work 1", "mark 2"]
+
+[[task]]
+name = "holder"
+priority = 1
+script = ["lock guard 0", "work 6", "unlock guard", "mark 1"]
+"#,
+        status: 0,
+        report: r"base: pass in 31 steps, 8 ticks
+0 0 call hasty 0 delay = 0
+0 0 run above
+1 0 call above 0 delay = 0
+1 0 run patient
+2 0 call patient 0 delay = 0
+2 0 run below
+3 0 call below 0 delay = 0
+3 0 run holder
+4 0 call holder 0 lock = 1
+5 1 run patient
+10 1 run holder
+11 2 run hasty
+16 2 run holder
+18 4 run hasty
+19 4 call hasty 1 lock = 0
+20 4 run above
+22 5 mark above 4
+22 5 run holder
+25 7 call holder 2 unlock = 1
+25 7 run patient
+26 7 call patient 1 lock = 1
+27 7 call patient 2 unlock = 1
+27 7 run below
+29 8 mark below 2
+29 8 run holder
+30 8 mark holder 1
+30 8 run -
 ",
     },
     Case {
@@ -133,6 +200,105 @@ script = ["repeat 3", "time", "work 1", "delay 5", "end"]
 33 15 run -
 37 19 run drifts
 38 19 run -
+",
+    },
+    Case {
+        name: "priority_inversion.toml",
+        file: r#"# A task of low priority that holds a mutex, one of high priority that waits for it, and one between the two that needs
+# nothing but the processor.
+#
+# Look at tick 1: `high` wakes, finds the mutex held, and waits. From there on `low` has the priority of `high`
+# (priority inheritance). So `middle`, which wakes at tick 2, doesn't run: `low` works on, gives the mutex back at tick 3,
+# and `high` has it at once. With its mutex `low` has given the priority back too, so `mark 1` comes last.
+#
+# `priority_inversion_without_inheritance.toml` is the same with a semaphore, where `high` has to wait until tick 7.
+[[mutex]]
+name = "guard"
+
+[[task]]
+name = "high"
+priority = 3
+script = ["delay 1", "lock guard forever", "mark 3", "unlock guard"]
+
+[[task]]
+name = "middle"
+priority = 2
+script = ["delay 2", "work 4", "mark 2"]
+
+[[task]]
+name = "low"
+priority = 1
+script = ["lock guard forever", "work 3", "unlock guard", "mark 1"]
+"#,
+        status: 0,
+        report: r"base: pass in 21 steps, 7 ticks
+0 0 call high 0 delay = 0
+0 0 run middle
+1 0 call middle 0 delay = 0
+1 0 run low
+2 0 call low 0 lock = 1
+3 1 run high
+8 1 run low
+11 3 call low 2 unlock = 1
+11 3 run high
+12 3 call high 1 lock = 1
+13 3 mark high 3
+14 3 call high 3 unlock = 1
+14 3 run middle
+19 7 mark middle 2
+19 7 run low
+20 7 mark low 1
+20 7 run -
+",
+    },
+    Case {
+        name: "priority_inversion_without_inheritance.toml",
+        file: r#"# The tasks of `priority_inversion.toml`, with a binary semaphore in place of the mutex. It is empty at first, so `high`
+# gives it once, before anybody takes it.
+#
+# Look at ticks 2 to 6: `high` waits for `low`, and `low` keeps its priority, since a semaphore has no holder. So `middle`,
+# which wakes at tick 2, runs before both, for all of its 4 ticks: `high` waits for a task of lower priority that has
+# nothing to do with the semaphore. That is the priority inversion. `mark 2` comes before `mark 3`, and `high` goes on at
+# tick 7, where with the mutex it goes on at tick 3.
+[[binary]]
+name = "guard"
+
+[[task]]
+name = "high"
+priority = 3
+script = ["give guard", "delay 1", "take guard forever", "mark 3", "give guard"]
+
+[[task]]
+name = "middle"
+priority = 2
+script = ["delay 2", "work 4", "mark 2"]
+
+[[task]]
+name = "low"
+priority = 1
+script = ["take guard forever", "work 3", "give guard", "mark 1"]
+"#,
+        status: 0,
+        report: r"base: pass in 22 steps, 7 ticks
+0 0 call high 0 give = 1
+1 0 call high 1 delay = 0
+1 0 run middle
+2 0 call middle 0 delay = 0
+2 0 run low
+3 0 call low 0 take = 1
+4 1 run high
+9 1 run low
+10 2 run middle
+15 6 mark middle 2
+15 6 run low
+17 7 call low 2 give = 1
+17 7 run high
+18 7 call high 2 take = 1
+19 7 mark high 3
+20 7 call high 4 give = 1
+20 7 run low
+21 7 mark low 1
+21 7 run -
 ",
     },
     Case {

@@ -37,6 +37,34 @@ fn tasks(alloc: Global, count: u32) -> Result<String, AllocError> {
     Ok(file)
 }
 
+/// Adds so many objects to a file, of the kind of this section, each with these keys beside its name.
+fn push_objects(
+    file: &mut String,
+    alloc: Global,
+    section: &str,
+    keys: &str,
+    count: u32,
+) -> Result<(), AllocError> {
+    for number in 0..count {
+        let entry = format!(in alloc; "[[{section}]]\nname = '{section}{number}'\n{keys}")?;
+        file.push_str(entry.as_str())?;
+    }
+    Ok(())
+}
+
+/// A file of so many queues, binary and counting semaphores and mutexes, and of a task without ops.
+fn objects(alloc: Global, counts: [u32; 4]) -> Result<String, AllocError> {
+    let [queues, binary, counting, mutexes] = counts;
+    let mut file = String::new(alloc);
+    push_objects(&mut file, alloc, "queue", "length = 1\n", queues)?;
+    push_objects(&mut file, alloc, "binary", "", binary)?;
+    push_objects(&mut file, alloc, "counting", "max = 1\n", counting)?;
+    push_objects(&mut file, alloc, "mutex", "", mutexes)?;
+    let task = one_task(alloc, "")?;
+    file.push_str(task.as_str())?;
+    Ok(file)
+}
+
 #[test]
 fn at_most_256_ops(rt: HostRuntime) -> Result<(), AllocError> {
     let (file, report) = marks(rt.alloc(), 256)?;
@@ -68,6 +96,36 @@ fn at_most_32_tasks(rt: HostRuntime) -> Result<(), AllocError> {
     let answer = serve(rt.alloc(), file.as_bytes(), 100);
     let line = "rtosim: 9 TooMany: task\n";
     check_text(&rt, rt.alloc(), "33 tasks", answer.told.bytes(), line);
+    Ok(())
+}
+
+#[test]
+fn at_most_32_objects(rt: HostRuntime) -> Result<(), AllocError> {
+    let alloc = rt.alloc();
+    let report = "base: pass in 0 steps, 0 ticks\n";
+    for counts in [[20, 0, 0, 12], [8, 8, 8, 8], [0, 0, 0, 32]] {
+        let file = objects(alloc, counts)?;
+        let answer = serve(alloc, file.as_bytes(), 100);
+        check_text(&rt, alloc, "32 objects", answer.written.bytes(), report);
+    }
+    Ok(())
+}
+
+// The section with which they are too many is named.
+#[test]
+fn no_33rd_object(rt: HostRuntime) -> Result<(), AllocError> {
+    let alloc = rt.alloc();
+    for (counts, line) in [
+        ([33, 0, 0, 0], "rtosim: 9 TooMany: queue\n"),
+        ([32, 1, 0, 0], "rtosim: 9 TooMany: binary\n"),
+        ([8, 8, 17, 1], "rtosim: 9 TooMany: counting\n"),
+        ([20, 0, 0, 13], "rtosim: 9 TooMany: mutex\n"),
+    ] {
+        let file = objects(alloc, counts)?;
+        let answer = serve(alloc, file.as_bytes(), 100);
+        check_text(&rt, alloc, "33 objects", answer.told.bytes(), line);
+        assert_eq!(rt; answer.status, 3);
+    }
     Ok(())
 }
 

@@ -1,17 +1,20 @@
-//! The kernel as its definitions tell it: one table of tasks, each with its ticket, and one of queues. Every question is a
+//! The kernel as its definitions tell it: one table of tasks, each with its ticket, and one of objects. Every question is a
 //! search of the tables. It is slow, and says plainly what the kernel over lists has to do.
 
+use calls::Side;
 use model::{App, End, Event, Limits, Loop, Op, Phase, Point, TaskId, What};
-use queues::{Queue, Side};
+use shared::Object;
 use std::alloc::Global;
 
+mod calls;
 mod handlers;
-mod queues;
+mod mutexes;
+mod shared;
 
-/// A wait that has begun: at which side of which queue, with the priority that the task had then.
+/// A wait that has begun: at which side of which object, with the priority that the task had then.
 #[derive(Clone, Copy, Debug)]
 struct Wait {
-    queue: u8,
+    object: u8,
     side: Side,
     priority: u8,
     deadline: Option<u64>,
@@ -22,7 +25,7 @@ struct Wait {
 enum Status {
     /// In the ready list, with this ticket.
     Ready(u64),
-    /// Woken from this wait through the locked queue, and Ready when that is unlocked.
+    /// Woken from this wait through the locked object, and Ready when that is unlocked.
     Awake(Wait),
     Asleep { wake_time: u64, ticket: u64 },
     Waiting(Wait),
@@ -36,10 +39,13 @@ struct Call {
     deadline: Option<u64>,
     /// Whether its last Decide began a wait.
     has_waited: bool,
+    /// Whether its last wait was for a mutex of another task, which had a lower base priority.
+    has_inherited: bool,
 }
 
 #[derive(Clone, Copy, Debug)]
 struct Task {
+    base_priority: u8,
     priority: u8,
     op_index: u16,
     used: u32,
@@ -63,18 +69,29 @@ pub(crate) struct Tally {
     pub(crate) other_awakenings: u32,
     /// A queue was unlocked where some who waited for an item and some who waited for room were Awake.
     pub(crate) mixed_unlocks: u32,
+    /// A handler gave a semaphore that was locked.
+    pub(crate) locked_gives: u32,
+    /// A wait for a mutex raised its holder.
+    pub(crate) raises: u32,
+    /// A holder that was raised gave a mutex back and kept its priority, since it held another.
+    pub(crate) kept_raises: u32,
+    /// A call for a mutex failed and its holder fell: to any lower priority; not to its base, since another waited on.
+    pub(crate) falls: u32,
+    pub(crate) partial_falls: u32,
+    /// A task gave a mutex back that it didn't hold.
+    pub(crate) misuses: u32,
 }
 
 #[derive(Drop)]
 pub(crate) struct SlowKernel {
     tasks: [Task; 32],
-    queues: Vec<Queue>,
+    objects: Vec<Object>,
     time: u64,
     pub(crate) elapsed: u32,
     current: Option<TaskId>,
     /// Whether a call holds the scheduler.
     is_held: bool,
-    /// The queue that a call has locked.
+    /// The object that a call has locked.
     locked: Option<u8>,
     next_ticket: u64,
     pub(crate) steps: u32,
@@ -88,6 +105,7 @@ impl SlowKernel {
     /// The kernel at reset.
     pub(crate) fn boot(alloc: Global, app: &App) -> Self {
         let no_task = Task {
+            base_priority: 0,
             priority: 0,
             op_index: 0,
             used: 0,
@@ -100,7 +118,7 @@ impl SlowKernel {
         };
         let mut kernel = SlowKernel {
             tasks: [no_task; 32],
-            queues: Vec::new(alloc),
+            objects: Vec::new(alloc),
             time: app.start() as u64,
             elapsed: 0,
             current: None,
@@ -113,7 +131,7 @@ impl SlowKernel {
             tally: Tally::default(),
             is_out_of_memory: false,
         };
-        kernel.make_queues(alloc, app);
+        kernel.make_objects(alloc, app);
         kernel.make_all_ready(app);
         kernel.current = kernel.choice();
         kernel
@@ -123,6 +141,7 @@ impl SlowKernel {
         for number in 0..32 {
             let task = TaskId { number };
             if let Some(definition) = app.tasks().get(number as usize) {
+                self.tasks[number as usize].base_priority = definition.priority();
                 self.tasks[number as usize].priority = definition.priority();
             }
             if app.op_count(task) > 0 {
@@ -438,6 +457,7 @@ impl SlowKernel {
                 self.go_on_waiting(app, id, object.number, access, ticks);
             }
             Op::Do(object, access) => self.act_at_once(app, id, object.number, access),
+            Op::GiveMutex(object) => self.unlock_mutex(app, id, object.number),
             Op::MessagesWaiting(object) => {
                 let (items, _) = self.fill(object.number);
                 self.answer(app, id, Some(items));

@@ -165,7 +165,7 @@ struct Case {
     told: &'static str,
 }
 
-const CASES: [Case; 14] = [
+const CASES: [Case; 15] = [
     Case {
         words: &["rtosim", "--help"],
         kind: ErrorKind::DisplayHelp,
@@ -281,6 +281,16 @@ For more information, try '--help'.
   tip: to pass '-1' as a value, use '-- -1'
 
 Usage: rtosim run [OPTIONS] <FILE>
+
+For more information, try '--help'.
+",
+    },
+    Case {
+        words: &["rtosim", "run", "a", "--at", "x", "--handler", "h"],
+        kind: ErrorKind::ValueValidation,
+        status: 2,
+        written: "",
+        told: r"error: invalid value 'x' for '--at <STEP>': invalid digit found in string
 
 For more information, try '--help'.
 ",

@@ -8,12 +8,12 @@ use Rattle.clock.proofs.Sleeping.{Each-count_from}
 use Rattle.clock.proofs.Taking.{none_left, split_at}
 
 -- a clock whose tick has gone on, and whose due sleepers are still in the current list
-pub record Turned (ls : List (List (ℕ × ℕ))) (start base tick current overflow : ℕ) (old : Timeline) : Type 0 where
+pub record Turned (ls : List (List (ℕ × ℕ))) (age base tick current overflow : ℕ) (old : Timeline) : Type 0 where
   pub sound : IsSound 2 32 ls
   pub current_known : current < 2
   pub overflow_known : overflow < 2
   pub differ : current ≢ overflow
-  pub started : start ≤ base + tick
+  pub young : base + tick ≤ age + 2 ^ 32
   pub tick_fits : tick < 2 ^ 32
   pub ahead : Each (λ e. tick ≤ e.1) (entries_of ls current)
   pub fits : Each (λ e. e.1 < 2 ^ 32) (entries_of ls current)
@@ -21,33 +21,33 @@ pub record Turned (ls : List (List (ℕ × ℕ))) (start base tick current overf
   pub sorted : IsSorted (entries_of ls current)
   pub overflow_sorted : IsSorted (entries_of ls overflow)
   pub now : base + tick ≡ old.now + 1
-  pub age : base + tick - start ≡ old.age + 1
+  pub grown : age ≡ old.age + 1
   pub delayed : old.delayed_list ≡ count_from base (entries_of ls current) ++ count_from (base + 2 ^ 32) (entries_of ls overflow)
 
 none_between : (tick : ℕ) (xs : List (ℕ × ℕ)) → tick + 1 ≡ 2 ^ 32 → Each (λ e. tick < e.1) xs → Each (λ e. e.1 < 2 ^ 32) xs → xs ≡ []
 none_between tick [] full a b = refl
 none_between tick (x ∷ xs) full a b = absurd (omega (arith, full, a.0, b.0))
 
-module _ {ls : List (List (ℕ × ℕ))} {start base tick current overflow : ℕ} {old : Timeline} (h : IsClock ls start base tick current overflow) (is : timeline_of ls start base tick current overflow ≡ old) where
+module _ {ls : List (List (ℕ × ℕ))} {age base tick current overflow : ℕ} {old : Timeline} (h : IsClock ls age base tick current overflow) (is : timeline_of ls age base tick current overflow ≡ old) where
   now_is : base + tick ≡ old.now
   now_is = ap (λ (t : Timeline). t.now) is
 
-  age_is : base + tick - start ≡ old.age
+  age_is : age ≡ old.age
   age_is = ap (λ (t : Timeline). t.age) is
 
   -- the last tick of a turn: the lists are swapped
-  pub turned_over : (next : ℕ) → next ≡ base + 2 ^ 32 → tick + 1 ≡ 2 ^ 32 → Turned ls start next 0 overflow current old
+  pub turned_over : (next : ℕ) → next ≡ base + 2 ^ 32 → tick + 1 ≡ 2 ^ 32 → Turned ls (age + 1) next 0 overflow current old
   turned_over next after full =
       let none : entries_of ls current ≡ [] = none_between tick (entries_of ls current) full h.ahead h.fits in
       let now = now_is in
-      let age = age_is in
-      let started = h.started in
+      let same = age_is in
+      let young = h.young in
       record {
         sound = h.sound;
         current_known = h.overflow_known;
         overflow_known = h.current_known;
         differ = λ e. h.differ (sym e);
-        started = omega (arith, started, after, full);
+        young = omega (arith, young, after, full);
         tick_fits = omega arith;
         ahead = Each-imp (λ e. e.1 < 2 ^ 32) (λ e. 0 ≤ e.1) (entries_of ls overflow) (λ e lt. omega arith) h.overflow_fits;
         fits = h.overflow_fits;
@@ -55,7 +55,7 @@ module _ {ls : List (List (ℕ × ℕ))} {start base tick current overflow : ℕ
         sorted = h.overflow_sorted;
         overflow_sorted = h.sorted;
         now = omega (arith, full, now, after);
-        age = omega (arith, full, age, after, started);
+        grown = omega (arith, same);
         delayed =
             sym (ap (λ (t : Timeline). t.delayed_list) is)
             ∙ ap (λ (xs : List (ℕ × ℕ)). count_from base xs ++ count_from (base + 2 ^ 32) (entries_of ls overflow)) none
@@ -65,17 +65,17 @@ module _ {ls : List (List (ℕ × ℕ))} {start base tick current overflow : ℕ
       }
 
   -- any other tick
-  pub ticked : tick + 1 < 2 ^ 32 → Turned ls start base (tick + 1) current overflow old
+  pub ticked : tick + 1 < 2 ^ 32 → Turned ls (age + 1) base (tick + 1) current overflow old
   ticked room =
       let now = now_is in
-      let age = age_is in
-      let started = h.started in
+      let same = age_is in
+      let young = h.young in
       record {
         sound = h.sound;
         current_known = h.current_known;
         overflow_known = h.overflow_known;
         differ = h.differ;
-        started = omega (arith, started);
+        young = omega (arith, young);
         tick_fits = room;
         ahead = Each-imp (λ e. tick < e.1) (λ e. tick + 1 ≤ e.1) (entries_of ls current) (λ e lt. omega (arith, lt)) h.ahead;
         fits = h.fits;
@@ -83,7 +83,7 @@ module _ {ls : List (List (ℕ × ℕ))} {start base tick current overflow : ℕ
         sorted = h.sorted;
         overflow_sorted = h.overflow_sorted;
         now = omega (arith, now);
-        age = omega (arith, age, started);
+        grown = omega (arith, same);
         delayed = sym (ap (λ (t : Timeline). t.delayed_list) is);
       }
 
@@ -95,17 +95,17 @@ count_from-all_until : (b tick : ℕ) (due : List ℕ) → count_from b (all_unt
 count_from-all_until b tick [] = refl
 count_from-all_until b tick (x ∷ xs) = ap (λ (zs : List (ℕ × ℕ)). (x, b + tick) ∷ zs) (count_from-all_until b tick xs)
 
-module _ {ls : List (List (ℕ × ℕ))} {start base tick current overflow : ℕ} {old : Timeline} (h : Turned ls start base tick current overflow old) (ls' : List (List (ℕ × ℕ))) (due : List ℕ) (taken : entries_of ls current ≡ all_until tick due ++ entries_of ls' current) (later : Each (λ e. tick < e.1) (entries_of ls' current)) (others : (k : ℕ) → k ≢ current → entries_of ls' k ≡ entries_of ls k) where
+module _ {ls : List (List (ℕ × ℕ))} {age base tick current overflow : ℕ} {old : Timeline} (h : Turned ls age base tick current overflow old) (ls' : List (List (ℕ × ℕ))) (due : List ℕ) (taken : entries_of ls current ≡ all_until tick due ++ entries_of ls' current) (later : Each (λ e. tick < e.1) (entries_of ls' current)) (others : (k : ℕ) → k ≢ current → entries_of ls' k ≡ entries_of ls k) where
   other_same : entries_of ls' overflow ≡ entries_of ls overflow
   other_same = others overflow (λ e. h.differ (sym e))
 
-  pub clock_after : IsSound 2 32 ls' → IsClock ls' start base tick current overflow
+  pub clock_after : IsSound 2 32 ls' → IsClock ls' age base tick current overflow
   clock_after sound = record {
     sound = sound;
     current_known = h.current_known;
     overflow_known = h.overflow_known;
     differ = h.differ;
-    started = h.started;
+    young = h.young;
     ahead = later;
     fits = Each-right (λ e. e.1 < 2 ^ 32) (all_until tick due) (entries_of ls' current) (subst (Each (λ e. e.1 < 2 ^ 32)) taken h.fits);
     overflow_fits = subst (Each (λ e. e.1 < 2 ^ 32)) (sym other_same) h.overflow_fits;
@@ -121,10 +121,10 @@ module _ {ls : List (List (ℕ × ℕ))} {start base tick current overflow : ℕ
       (Each-count_from (λ e. base + tick < e.1) base (entries_of ls' current) (Each-imp (λ e. tick < e.1) (λ e. base + tick < base + e.1) (entries_of ls' current) (λ e lt. omega (arith, lt)) later))
       (Each-count_from (λ e. base + tick < e.1) (base + 2 ^ 32) (entries_of ls' overflow) (Each-imp (λ e. e.1 < 2 ^ 32) (λ e. base + tick < base + 2 ^ 32 + e.1) (entries_of ls' overflow) (λ e lt. omega (arith, tick_fits)) (subst (Each (λ e. e.1 < 2 ^ 32)) (sym other_same) h.overflow_fits)))
 
-  pub advances : Advances old (timeline_of ls' start base tick current overflow) due
+  pub advances : Advances old (timeline_of ls' age base tick current overflow) due
   advances = record {
     now = h.now;
-    age = h.age;
+    age = h.grown;
     delayed =
         h.delayed
         ∙ ap₂ (λ (xs ys : List (ℕ × ℕ)). count_from base xs ++ count_from (base + 2 ^ 32) ys) taken (sym other_same)
@@ -135,15 +135,15 @@ module _ {ls : List (List (ℕ × ℕ))} {start base tick current overflow : ℕ
 
 -- nobody is due, or somebody is, by what the first sleeper of the current list says
 
-module _ {ls : List (List (ℕ × ℕ))} {start base tick current overflow : ℕ} {old : Timeline} (h : Turned ls start base tick current overflow old) where
+module _ {ls : List (List (ℕ × ℕ))} {age base tick current overflow : ℕ} {old : Timeline} (h : Turned ls age base tick current overflow old) where
   none_later : (o : Option ℕ) → o ≡ first_at tick (entries_of ls current) → is_some o ≡ false → Each (λ e. tick < e.1) (entries_of ls current)
   none_later None e t = none_left tick (entries_of ls current) e h.sorted h.ahead
   none_later (Some n) e t = absurd cc
 
-  pub clock_if_none : (o : Option ℕ) → o ≡ first_at tick (entries_of ls current) → is_some o ≡ false → IsClock ls start base tick current overflow
+  pub clock_if_none : (o : Option ℕ) → o ≡ first_at tick (entries_of ls current) → is_some o ≡ false → IsClock ls age base tick current overflow
   clock_if_none o e t = clock_after h ls [] refl (none_later o e t) (λ k ne. refl) h.sound
 
-  pub advances_if_none : (o : Option ℕ) → o ≡ first_at tick (entries_of ls current) → is_some o ≡ false → Advances old (timeline_of ls start base tick current overflow) []
+  pub advances_if_none : (o : Option ℕ) → o ≡ first_at tick (entries_of ls current) → is_some o ≡ false → Advances old (timeline_of ls age base tick current overflow) []
   advances_if_none o e t = advances h ls [] refl (none_later o e t) (λ k ne. refl)
 
   pub some_now : (o : Option ℕ) → o ≡ first_at tick (entries_of ls current) → is_some o ≡ true → Each (λ e. old.now + 1 < e.1) old.delayed_list → ⊥

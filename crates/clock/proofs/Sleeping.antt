@@ -38,7 +38,7 @@ insert_sorted-count_from b n w (x ∷ xs) = elim (cases_lt w x.1) [
       ∙ sym (insert_sorted-after n (b + w) (x.0, b + x.1) (count_from b xs) (omega (arith, more)))
 ]
 
-module _ {ls : List (List (ℕ × ℕ))} {start base tick current overflow : ℕ} (h : IsClock ls start base tick current overflow) where
+module _ {ls : List (List (ℕ × ℕ))} {age base tick current overflow : ℕ} (h : IsClock ls age base tick current overflow) where
   in_either : (P : ℕ → Type 0) → P current → P overflow → (l : ℕ) → l < length ls → P l
   in_either P here there l below =
       let a = h.sound.as_many in
@@ -77,7 +77,7 @@ module _ {ls : List (List (ℕ × ℕ))} {start base tick current overflow : ℕ
   no_place n awake = none_of (place_of ls n) (has_node n (delayed_list_of ls base current overflow)) (asleep_is n) awake
 
   -- a wake time of this turn goes into the current list
-  pub into_current : (n w : ℕ) → tick < w → w < 2 ^ 32 → IsSound 2 32 (set ls current (insert_sorted (n, w) (entries_of ls current))) → IsClock (set ls current (insert_sorted (n, w) (entries_of ls current))) start base tick current overflow
+  pub into_current : (n w : ℕ) → tick < w → w < 2 ^ 32 → IsSound 2 32 (set ls current (insert_sorted (n, w) (entries_of ls current))) → IsClock (set ls current (insert_sorted (n, w) (entries_of ls current))) age base tick current overflow
   into_current n w later fits sound =
       let new = insert_sorted (n, w) (entries_of ls current) in
       let here = entries_of-set_same ls current new (subst (λ (k : ℕ). current < k) (sym h.sound.as_many) h.current_known) in
@@ -87,7 +87,7 @@ module _ {ls : List (List (ℕ × ℕ))} {start base tick current overflow : ℕ
         current_known = h.current_known;
         overflow_known = h.overflow_known;
         differ = h.differ;
-        started = h.started;
+        young = h.young;
         ahead = subst (Each (λ e. tick < e.1)) (sym here) (Each-insert_sorted (λ e. tick < e.1) n w (entries_of ls current) later h.ahead);
         fits = subst (Each (λ e. e.1 < 2 ^ 32)) (sym here) (Each-insert_sorted (λ e. e.1 < 2 ^ 32) n w (entries_of ls current) fits h.fits);
         overflow_fits = subst (Each (λ e. e.1 < 2 ^ 32)) (sym there) h.overflow_fits;
@@ -96,7 +96,7 @@ module _ {ls : List (List (ℕ × ℕ))} {start base tick current overflow : ℕ
       }
 
   -- and one of the next turn into the overflow list
-  pub into_overflow : (n w : ℕ) → w < 2 ^ 32 → IsSound 2 32 (set ls overflow (insert_sorted (n, w) (entries_of ls overflow))) → IsClock (set ls overflow (insert_sorted (n, w) (entries_of ls overflow))) start base tick current overflow
+  pub into_overflow : (n w : ℕ) → w < 2 ^ 32 → IsSound 2 32 (set ls overflow (insert_sorted (n, w) (entries_of ls overflow))) → IsClock (set ls overflow (insert_sorted (n, w) (entries_of ls overflow))) age base tick current overflow
   into_overflow n w fits sound =
       let new = insert_sorted (n, w) (entries_of ls overflow) in
       let here = entries_of-set_same ls overflow new (subst (λ (k : ℕ). overflow < k) (sym h.sound.as_many) h.overflow_known) in
@@ -106,7 +106,7 @@ module _ {ls : List (List (ℕ × ℕ))} {start base tick current overflow : ℕ
         current_known = h.current_known;
         overflow_known = h.overflow_known;
         differ = h.differ;
-        started = h.started;
+        young = h.young;
         ahead = subst (Each (λ e. tick < e.1)) (sym there) h.ahead;
         fits = subst (Each (λ e. e.1 < 2 ^ 32)) (sym there) h.fits;
         overflow_fits = subst (Each (λ e. e.1 < 2 ^ 32)) (sym here) (Each-insert_sorted (λ e. e.1 < 2 ^ 32) n w (entries_of ls overflow) fits h.overflow_fits);
@@ -136,7 +136,7 @@ module _ {ls : List (List (ℕ × ℕ))} {start base tick current overflow : ℕ
       ∙ sym (insert_sorted-right n (base + 2 ^ 32 + w) (count_from base (entries_of ls current)) (count_from (base + 2 ^ 32) (entries_of ls overflow)) earlier)
 
   -- a task that is woken leaves both lists
-  pub out_of_lists : (n : ℕ) → IsSound 2 32 (map (without n) ls) → IsClock (map (without n) ls) start base tick current overflow
+  pub out_of_lists : (n : ℕ) → IsSound 2 32 (map (without n) ls) → IsClock (map (without n) ls) age base tick current overflow
   out_of_lists n sound =
       let here = entries_of-without n current ls in
       let there = entries_of-without n overflow ls in
@@ -145,7 +145,7 @@ module _ {ls : List (List (ℕ × ℕ))} {start base tick current overflow : ℕ
         current_known = h.current_known;
         overflow_known = h.overflow_known;
         differ = h.differ;
-        started = h.started;
+        young = h.young;
         ahead = subst (Each (λ e. tick < e.1)) (sym here) (Each-without (λ e. tick < e.1) n (entries_of ls current) h.ahead);
         fits = subst (Each (λ e. e.1 < 2 ^ 32)) (sym here) (Each-without (λ e. e.1 < 2 ^ 32) n (entries_of ls current) h.fits);
         overflow_fits = subst (Each (λ e. e.1 < 2 ^ 32)) (sym there) (Each-without (λ e. e.1 < 2 ^ 32) n (entries_of ls overflow) h.overflow_fits);

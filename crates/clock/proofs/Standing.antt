@@ -307,7 +307,7 @@ stands_next old new s ds a h = record {
   sorted = h.sorted;
   once = h.once;
   delayed = h.delayed;
-  table = record { tickets = h.table.tickets; few = h.table.few; current = h.table.current };
+  table = record { tickets = h.table.tickets; few = h.table.few; current = h.table.current; holders = h.table.holders };
 }
 
 pub due_next : (old new : Timeline) (s : State) (ds : List ℕ) → Advances old new ds → StandsFor old s → ds ≡ tasks_of (due (at_next_tick s))

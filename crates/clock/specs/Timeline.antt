@@ -40,20 +40,20 @@ abbrev pub delayed_list_of : List (List (ℕ × ℕ)) → ℕ → ℕ → ℕ �
 delayed_list_of lists base current overflow = count_from base (entries_of lists current) ++ count_from (base + 2 ^ 32) (entries_of lists overflow)
 
 abbrev pub timeline_of : List (List (ℕ × ℕ)) → ℕ → ℕ → ℕ → ℕ → ℕ → Timeline
-timeline_of lists start base tick current overflow = record {
+timeline_of lists age base tick current overflow = record {
   now = base + tick;
-  age = base + tick - start;
+  age = age;
   delayed_list = delayed_list_of lists base current overflow;
 }
 
 -- what is true of a clock between two calls: the ticks of the current list are still to come in this turn, both lists are
--- sorted, and each of their ticks fits 32 bits
-pub record IsClock (lists : List (List (ℕ × ℕ))) (start base tick current overflow : ℕ) : Type 0 where
+-- sorted, each of their ticks fits 32 bits, and the time at the start fitted them too
+pub record IsClock (lists : List (List (ℕ × ℕ))) (age base tick current overflow : ℕ) : Type 0 where
   pub sound : IsSound 2 32 lists
   pub current_known : current < 2
   pub overflow_known : overflow < 2
   pub differ : current ≢ overflow
-  pub started : start ≤ base + tick
+  pub young : base + tick ≤ age + 2 ^ 32
   pub ahead : Each (λ e. tick < e.1) (entries_of lists current)
   pub fits : Each (λ e. e.1 < 2 ^ 32) (entries_of lists current)
   pub overflow_fits : Each (λ e. e.1 < 2 ^ 32) (entries_of lists overflow)

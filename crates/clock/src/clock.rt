@@ -29,7 +29,7 @@ pub struct Mark {
 #[derive(Drop)]
 pub struct Clock {
     lists: TaskLists<2>,
-    start: u32,
+    age: u64,
     overflows: u32,
     tick: u32,
     current: ListId,
@@ -43,10 +43,10 @@ impl Model for Clock {
 
     ghost Value = { Timeline };
 
-    ghost view = { λ c. timeline_of c.lists c.start (2 ^ 32 * c.overflows) c.tick
+    ghost view = { λ c. timeline_of c.lists c.age (2 ^ 32 * c.overflows) c.tick
         c.current.number c.overflow.number };
 
-    ghost invariant = { λ c. IsClock c.lists c.start (2 ^ 32 * c.overflows) c.tick
+    ghost invariant = { λ c. IsClock c.lists c.age (2 ^ 32 * c.overflows) c.tick
         c.current.number c.overflow.number };
 }
 
@@ -59,7 +59,7 @@ impl Clock {
     {
         Clock {
             lists: TaskLists::new(),
-            start,
+            age: 0,
             overflows: 0,
             tick: start,
             current: ListId { number: 0 },
@@ -79,7 +79,7 @@ impl Clock {
     pub fn age(&self) -> u64
         ensures age { result ≡ self.now.age }
     {
-        self.now() - self.start as u64
+        self.age
     }
 
     /// The moment that is now, to count from.
@@ -186,6 +186,7 @@ impl Clock {
             → StandsFor self.new (time.increment_tick s) }
     {
         due.clear();
+        self.age += 1;
         if self.tick == u32::MAX {
             self.tick = 0;
             self.overflows += 1;
@@ -214,6 +215,7 @@ impl Clock {
             if first_due(&self.lists, self.overflow, 0).is_some() {
                 return false;
             }
+            self.age += 1;
             self.tick = 0;
             self.overflows += 1;
             mem::swap(&mut self.current, &mut self.overflow);
@@ -221,6 +223,7 @@ impl Clock {
             if first_due(&self.lists, self.current, self.tick + 1).is_some() {
                 return false;
             }
+            self.age += 1;
             self.tick += 1;
         }
         true

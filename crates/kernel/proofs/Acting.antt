@@ -7,6 +7,7 @@ use Rattle.model.specs.declared.call.Phase.TheVariants.{Place}
 use Rattle.model.specs.declared.loops.Loop.{Loop}
 use Rattle.model.specs.declared.event.Event.{Event}
 use Rattle.model.specs.declared.event.What.{What}
+use Rattle.model.specs.declared.event.End.{End}
 use Rattle.model.specs.declared.event.End.TheVariants as ending
 use Rattle.model.specs.Application.{Application, op_count}
 use Rattle.model.specs.State.{no_call, State, Task, Progress, task_at, progress_at, with_task, no_task}
@@ -23,6 +24,7 @@ use Rattle.sched.proofs.Standing as on_sched
 use Rattle.clock.specs.Timeline.{Timeline}
 use Rattle.objects.specs.Queues.{Exchange, SameWaits}
 use Rattle.objects.specs.Items.{object_in}
+use Rattle.objects.specs.Queues.{HasRoom}
 use Rattle.objects.proofs.Kept.{stands_same}
 use Rattle.objects.proofs.Awake.{at_locked_same}
 use Rattle.model.specs.Invariant.{IsTable}
@@ -83,6 +85,29 @@ answered app k mid new log told s h i r v e a w one written is g =
     completes app k mid new told (write (called i p.op_index a) s) (subst W told_is written) i r (record (progress_in k.progress i) { answer = a }) (record p { answer = a }) is
     (ap (λ (x : Progress). record x { answer = a }) (h.stands.rest.progress i)) (h.stands.rest.placed i) g
 
+-- the step brings about an end
+pub stopped_at : (k : Kernel) (log : List Event) (s : State) → At k log s → (end same : End) → end ≡ same → At (record k { stopped = Some end }) log (record s { stopped = Some same })
+stopped_at k log s h end same e =
+    let new : State = record s { stopped = Some same } in
+    let table : IsTable new = record { tickets = h.stands.sched.table.tickets; few = h.stands.sched.table.few; current = h.stands.sched.table.current; holders = h.stands.sched.table.holders } in
+    let alike : SameWaits s new = same_parts s new refl refl refl in
+    record {
+      stands = record {
+        sched = record { ready = h.stands.sched.ready; current = h.stands.sched.current; priorities = h.stands.sched.priorities; base_priorities = h.stands.sched.base_priorities; depth = h.stands.sched.depth; table = table };
+        rest = record {
+          progress = h.stands.rest.progress;
+          full = h.stands.rest.full;
+          clock = clock-same k.clock s new h.stands.rest.clock refl refl refl table;
+          queues = stands_same s new alike k.queues None h.stands.rest.queues table;
+          awake = at_locked_same None s new alike h.stands.rest.awake;
+          steps = h.stands.rest.steps;
+          stopped = ap Some e;
+          placed = h.stands.rest.placed;
+        };
+      };
+      log = h.log;
+    }
+
 module _ (app : Application) (k new : Kernel) (log : List Event) (s : State) (h : At k log s) (i : ℕ) (r : k.sched.current ≡ Some i) (v : Progress) (e : v ≡ progress_in k.progress i) where
   same : v ≡ progress_at s i
   same = e ∙ h.stands.rest.progress i
@@ -109,25 +134,7 @@ module _ (app : Application) (k new : Kernel) (log : List Event) (s : State) (h 
   unfolding expect
   expect_other a t =
       let u : option_eq eqb (progress_at s i).answer a ≡ false = ap (λ (p : Progress). option_eq eqb p.answer a) (sym same) ∙ t in
-      let new : State = record s { stopped = Some (ending.Check i (progress_at s i).op_index) } in
-      let table : IsTable new = record { tickets = h.stands.sched.table.tickets; few = h.stands.sched.table.few; current = h.stands.sched.table.current } in
-      let alike : SameWaits s new = same_parts s new refl refl refl in
-      rw u (record {
-        stands = record {
-          sched = record { ready = h.stands.sched.ready; current = h.stands.sched.current; priorities = h.stands.sched.priorities; depth = h.stands.sched.depth; table = table };
-          rest = record {
-            progress = h.stands.rest.progress;
-            full = h.stands.rest.full;
-            clock = clock-same k.clock s new h.stands.rest.clock refl refl refl table;
-            queues = stands_same s new alike k.queues None h.stands.rest.queues table;
-            awake = at_locked_same None s new alike h.stands.rest.awake;
-            steps = h.stands.rest.steps;
-            stopped = ap (λ (p : Progress). Some (ending.Check i p.op_index)) same;
-            placed = h.stands.rest.placed;
-          };
-        };
-        log = h.log;
-      })
+      rw u (stopped_at k log s h (ending.Check i v.op_index) (ending.Check i (progress_at s i).op_index) (ap (λ (p : Progress). ending.Check i p.op_index) same))
 
   pub loop_opened : (mid : Kernel) (n : ℕ) → mid ≡ with_progress i (record v { loops = record { start = v.op_index + 1; left = n } ∷ v.loops }) k → Completes app mid i new → At new log (open_loop app i n s)
   unfolding open_loop
@@ -221,7 +228,7 @@ can_tick_still app k new c depth clock queues deed does = record {
     age = let e = ap (λ (t : Timeline). t.age) clock in let l = c.advance.age in omega arith;
   };
   depth = depth ∙ c.depth;
-  lengths = λ o a fit. subst (λ (q : Exchange). 0 < (object_in q.objects o).size) (sym queues) (c.lengths o a fit);
+  objects = λ o a fit. subst (λ (q : Exchange). HasRoom a (object_in q.objects o)) (sym queues) (c.objects o a fit);
 }
 
 -- ---- the task goes on at an op

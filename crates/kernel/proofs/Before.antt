@@ -101,7 +101,7 @@ module _ (task : ℕ) (list : WaitList) (k : Kernel) (s : State) (b : StandsBefo
   stored_before o x q there =
       let table : IsTable (with_object o x s) = there.waiters.table in
       record {
-        sched = record { ready = b.sched.ready; still = b.sched.still; current = b.sched.current; priorities = b.sched.priorities; depth = b.sched.depth; table = table };
+        sched = record { ready = b.sched.ready; still = b.sched.still; current = b.sched.current; priorities = b.sched.priorities; base_priorities = b.sched.base_priorities; depth = b.sched.depth; table = table };
         clock = record { now = b.clock.now; age = b.clock.age; sorted = b.clock.sorted; once = b.clock.once; delayed = b.clock.delayed; awake = b.clock.awake; table = table };
         queues = there;
         awake = at_locked-stored (Some (decider task list s)) o x s b.awake;
@@ -148,7 +148,7 @@ module _ (task : ℕ) (list : WaitList) (k : Kernel) (s : State) (b : StandsBefo
       let same_progress : (j : ℕ) → progress_at (awaken i s) j ≡ progress_at s j = λ j. progress-kept s.tasks i j t refl in
       let same_priority : (task_at (awaken i s) task).priority ≡ (task_at s task).priority = priority-kept s.tasks i task t refl in
       record {
-        sched = on_sched.stands_before_kept k.sched s (awaken i s) task i t b.sched l refl refl refl (ap (λ (o : Option ℕ). option_map (λ n. record { priority = (task_at s i).priority; ticket = n }) o) (awake_unready (status_at s i))) refl table;
+        sched = on_sched.stands_before_kept k.sched s (awaken i s) task i t b.sched l refl refl refl (ap (λ (o : Option ℕ). option_map (λ n. record { priority = (task_at s i).priority; ticket = n }) o) (awake_unready (status_at s i))) refl refl table;
         clock = subst (λ (p : Progress). clock.StandsBefore task p.call.deadline k.clock (awaken i s)) (sym (same_progress task)) (on_clock.stands_before_kept k.clock s (awaken i s) task i (call_at s task).deadline t b.clock l refl refl refl (awake_alike (status_at s i)) table);
         queues = subst (λ (n : ℕ). queues.StandsFor q (Some (record { task = task; list = list; priority = n })) (awaken i s)) (sym same_priority) there;
         awake = subst (λ (n : ℕ). AtLocked (Some (record { task = task; list = list; priority = n })) (awaken i s)) (sym same_priority) locked;
@@ -171,7 +171,7 @@ module _ (task : ℕ) (tl : WaitList) (k : Kernel) (s : State) (b : StandsBefore
   pub free_before : schedule.is_ready k.sched i ≡ false
   free_before =
       let gone : Schedule = record k.sched { ready = without task (lined_up k.sched); pending = [] } in
-      let stands : sched.StandsFor gone s = record { ready = b.sched.ready; current = b.sched.current; priorities = b.sched.priorities; depth = b.sched.depth; table = b.sched.table } in
+      let stands : sched.StandsFor gone s = record { ready = b.sched.ready; current = b.sched.current; priorities = b.sched.priorities; base_priorities = b.sched.base_priorities; depth = b.sched.depth; table = b.sched.table } in
       sym (has_node-without_other task i (lined_up k.sched) (λ e. apart_there (sym e))) ∙ on_sched.ready_same gone s i stands ∙ (waits_there s list i is).unready
 
   pub woken_before : (v : Schedule) (t : Timeline) (q : Exchange) → (task ≢ i → i < length s.tasks → sched.StandsBefore task v (make_ready i s)) → (task ≢ i → i < length s.tasks → clock.StandsBefore task (call_at s task).deadline t (make_ready i s)) → queues.StandsFor q (Some (decider task tl s)) (wake_best list s)

@@ -87,6 +87,11 @@ priority_at start [] i = refl
 priority_at start (d ∷ ds) zero = refl
 priority_at start (d ∷ ds) (suc i) = priority_at start ds i
 
+pub base_priority_at : (start : ℕ) (ds : List Definition) (i : ℕ) → priority_in (priorities_in ds) i ≡ (get_or (map (task_at_reset start) ds) i no_task).base_priority
+base_priority_at start [] i = refl
+base_priority_at start (d ∷ ds) zero = refl
+base_priority_at start (d ∷ ds) (suc i) = base_priority_at start ds i
+
 priority_at_low : (ds : List Definition) (k : ℕ) (d : Definition) → AllByRecursion IsDefinition ds → k < length ds → (get_or ds k d).priority < 32
 priority_at_low [] k d h l = absurd (omega arith)
 priority_at_low (x ∷ ds) zero d h l = h.0.priority
@@ -194,9 +199,9 @@ sched_chosen : (v : Schedule) (s : State) → sched.StandsFor v (choose s) → s
 unfolding choose dispatch
 sched_chosen v s h = by_test (is_same (choice s) s.current)
     (λ t. let g : sched.StandsFor v s = rw t at h in
-    record { ready = g.ready; current = g.current ∙ sym (same_eq (choice s) s.current t); priorities = g.priorities; depth = g.depth; table = record { tickets = g.table.tickets; few = g.table.few; current = choice_within s } })
+    record { ready = g.ready; current = g.current ∙ sym (same_eq (choice s) s.current t); priorities = g.priorities; base_priorities = g.base_priorities; depth = g.depth; table = record { tickets = g.table.tickets; few = g.table.few; current = choice_within s; holders = g.table.holders } })
     (λ t. let g = rw t at h in
-    record { ready = g.ready; current = g.current; priorities = g.priorities; depth = g.depth; table = record { tickets = g.table.tickets; few = g.table.few; current = choice_within s } })
+    record { ready = g.ready; current = g.current; priorities = g.priorities; base_priorities = g.base_priorities; depth = g.depth; table = record { tickets = g.table.tickets; few = g.table.few; current = choice_within s; holders = g.table.holders } })
 
 -- Nobody sleeps.
 NobodyAsleep : State → Type 0

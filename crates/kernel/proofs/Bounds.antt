@@ -12,7 +12,7 @@ use Rattle.model.specs.declared.event.End.{End}
 use Rattle.model.specs.declared.event.End.TheVariants as ending
 use Rattle.model.specs.declared.op.Access.{Access}
 use Rattle.model.specs.declared.op.Op.{Op}
-use Rattle.model.specs.declared.op.Op.TheVariants.{Work, Delay, DelayUntil, Yield, Time, Mark, Expect, Repeat, End as EndLoop, Await, Do, MessagesWaiting, SpacesAvailable}
+use Rattle.model.specs.declared.op.Op.TheVariants.{Work, Delay, DelayUntil, Yield, Time, Mark, Expect, Repeat, End as EndLoop, Await, Do, GiveMutex, MessagesWaiting, SpacesAvailable}
 use Rattle.model.specs.Application.{Application, Limits, script_of, op_at}
 use Rattle.model.specs.Scripts.{may_stand, fits_object, is_wait, knows, IsWellFormed}
 use Rattle.model.specs.State.{State, Progress, Wait, wait_of, task_at, progress_at, call_at, status_at}
@@ -26,11 +26,12 @@ use Rattle.model.specs.Step.{before_step}
 use Rattle.sched.proofs.Standing as on_sched
 use Rattle.objects.specs.declared.lock.Lock.{Lock}
 use Rattle.objects.specs.Queues.{locked_by}
-use Rattle.objects.proofs.Sizes.{can_hold_in}
+use Rattle.model.proofs.Handled.{and_left}
+use Rattle.objects.proofs.Sizes.{has_room}
 use Rattle.kernel.specs.declared.kernel.Kernel.{Kernel}
 use Rattle.kernel.specs.StandsFor.{StandsFor, StandsBefore, Stands, decider, progress_in}
 use Rattle.kernel.specs.StandsFor.Stands.{Placed, Placing}
-use Rattle.kernel.specs.Can.{Runs, HasLoopRoom, HasLength, HasObject, HasLengths, CanTick, Can, IsAhead, IsInCall, CanTry, IsShort, CanPlace, CanGoOn, CanOp, CanAct, CanStep, StandsForSome}
+use Rattle.kernel.specs.Can.{Runs, HasLoopRoom, HasRoom, HasObject, HasObjects, CanTick, Can, IsAhead, IsInCall, CanTry, IsShort, CanPlace, CanGoOn, CanOp, CanAct, CanStep, StandsForSome}
 use Rattle.kernel.proofs.Either.{age_is, now_is, current_is, progress_is}
 
 leb-less : (a b : ℕ) → leb a b ≡ false → b < a
@@ -60,31 +61,29 @@ loop_room (Repeat n) nesting h = ltb-true nesting 4 h
 loop_room EndLoop nesting h = tt
 loop_room (Await o a w) nesting h = tt
 loop_room (Do o a) nesting h = tt
+loop_room (GiveMutex o) nesting h = tt
 loop_room (MessagesWaiting o) nesting h = tt
 loop_room (SpacesAvailable o) nesting h = tt
-
-and_left : (a b : Bool) → (a && b) ≡ true → a ≡ true
-and_left true b t = refl
-and_left false b t = absurd (cc)
 
 -- an op that doesn't wait
 abbrev IsBrief : Op → Type 0
 IsBrief op = awaited (Some op) ≡ None
 
-known_object : (app : Application) (op : Op) → IsBrief op → knows app op ≡ true → (k : Kernel) → ((object : ℕ) (access : Access) → fits_object app object access ≡ true → HasLength k object) → HasObject k op
-known_object app (Work n) brief t k long = tt
-known_object app (Delay n) brief t k long = tt
-known_object app (DelayUntil n) brief t k long = tt
-known_object app Yield brief t k long = tt
-known_object app Time brief t k long = tt
-known_object app (Mark n) brief t k long = tt
-known_object app (Expect a) brief t k long = tt
-known_object app (Repeat n) brief t k long = tt
-known_object app EndLoop brief t k long = tt
-known_object app (Await o a w) brief t k long = absurd (cc)
-known_object app (Do o a) brief t k long = long o a (and_left (fits_object app o a) _ t)
-known_object app (MessagesWaiting o) brief t k long = tt
-known_object app (SpacesAvailable o) brief t k long = tt
+known_object : (app : Application) (op : Op) → IsBrief op → knows app op ≡ true → (k : Kernel) → HasObjects app k → HasObject k op
+known_object app (Work n) brief t k room = tt
+known_object app (Delay n) brief t k room = tt
+known_object app (DelayUntil n) brief t k room = tt
+known_object app Yield brief t k room = tt
+known_object app Time brief t k room = tt
+known_object app (Mark n) brief t k room = tt
+known_object app (Expect a) brief t k room = tt
+known_object app (Repeat n) brief t k room = tt
+known_object app EndLoop brief t k room = tt
+known_object app (Await o a w) brief t k room = absurd (cc)
+known_object app (Do o a) brief t k room = room o a (and_left (fits_object app o a) _ t)
+known_object app (GiveMutex o) brief t k room = tt
+known_object app (MessagesWaiting o) brief t k room = tt
+known_object app (SpacesAvailable o) brief t k room = tt
 
 short : (ticks : Option ℕ) → is_wait ticks ≡ true → IsShort ticks
 short None t = tt
@@ -107,11 +106,11 @@ module _ (app : Application) (formed : IsWellFormed app) (k : Kernel) (state : S
   time_low : k.clock.now < 4294967296 + 1000000
   time_low = let e = now_is k state stands in let f = age_is k state stands in let l = age_low in let m = reached.sound.time in let n = formed.start in omega arith
 
-  pub lengths : HasLengths app k
-  lengths object access fit = by_stands stands where
-    by_stands : Stands k state → HasLength k object
-    by_stands (Placed h) = can_hold_in app (hold_of state) k.queues None state object access formed reached.sound h.rest.queues fit
-    by_stands (Placing task list b) = can_hold_in app (hold_of state) k.queues (Some (decider task list state)) state object access formed reached.sound b.queues fit
+  pub rooms : HasObjects app k
+  rooms object access fit = by_stands stands where
+    by_stands : Stands k state → HasRoom k object access
+    by_stands (Placed h) = has_room app (hold_of state) k.queues None state object access reached.sound h.rest.queues fit
+    by_stands (Placing task list b) = has_room app (hold_of state) k.queues (Some (decider task list state)) state object access reached.sound b.queues fit
 
   -- nobody holds the scheduler
   module _ (free : state.call_hold ≡ false) where
@@ -128,7 +127,7 @@ module _ (app : Application) (formed : IsWellFormed app) (k : Kernel) (state : S
     not_held = none_held state.call_hold k.sched.depth placed.sched.depth free
 
     can_tick : CanTick app k
-    can_tick = record { advance = record { agrees = (state, placed); free = no_lock; age = let l = age_low in omega arith }; depth = not_held; lengths = lengths }
+    can_tick = record { advance = record { agrees = (state, placed); free = no_lock; age = let l = age_low in omega arith }; depth = not_held; objects = rooms }
 
   idle_free : k.sched.current ≡ None → state.call_hold ≡ false
   idle_free idle = subst (RunsIn state) (sym (current_is k state stands) ∙ idle) reached.runs
@@ -184,7 +183,7 @@ module _ (app : Application) (formed : IsWellFormed app) (k : Kernel) (state : S
           tick = can_tick free;
           used = used;
           nesting = nesting;
-          object = known_object app op brief known k lengths;
+          object = known_object app op brief known k rooms;
           previous_wake = previous;
           time = let l = time_low in omega arith;
         }
@@ -203,8 +202,8 @@ module _ (app : Application) (formed : IsWellFormed app) (k : Kernel) (state : S
       fit : fits_object app object access ≡ true
       fit = and_left (fits_object app object access) _ (known (Await object access ticks) is)
 
-      can_try : state.call_hold ≡ false → CanTry k task object
-      can_try free = record { runs = runs_on (Await object access ticks) is free; agrees = (state, placed free); free = no_lock free; depth = not_held free; length = lengths object access fit }
+      can_try : state.call_hold ≡ false → CanTry k task object access
+      can_try free = record { runs = runs_on (Await object access ticks) is free; agrees = (state, placed free); free = no_lock free; depth = not_held free; room = rooms object access fit }
 
       in_state : (wait : Option Wait) (deadline : Option ℕ) → IfSome wait (λ w. IsWaitOf (op_at app task (progress_at state task).op_index) deadline w) → IsPlacing state.time (task_at state task) wait → IfSome deadline (λ d. d < state.time + 4294967296) → IsAhead state.time deadline
       in_state None deadline w p near = absurd p
@@ -248,7 +247,7 @@ module _ (app : Application) (formed : IsWellFormed app) (k : Kernel) (state : S
         by_stands (Placed h) = some_held state.call_hold k.sched.depth h.sched.depth held
         by_stands (Placing other list b) = some_held state.call_hold k.sched.depth b.sched.depth held
 
-      goes_on : (phase : Phase) → (call_at state task).phase ≡ phase → CanGoOn k task object ticks phase
+      goes_on : (phase : Phase) → (call_at state task).phase ≡ phase → CanGoOn k task object access ticks phase
       goes_on Start e = (can_try (free_in Start e refl), short ticks (range_at (progress_at state task).op_index (script_of app task) (Await object access ticks) (script_formed app formed task).ranges (at_op (Await object access ticks) is)), let l = time_low in omega arith)
       goes_on Try e = can_try (free_in Try e refl)
       goes_on Decide e =
@@ -270,8 +269,9 @@ module _ (app : Application) (formed : IsWellFormed app) (k : Kernel) (state : S
     can_op (Expect a) is = brief_can (Expect a) is refl
     can_op (Repeat n) is = brief_can (Repeat n) is refl
     can_op EndLoop is = brief_can EndLoop is refl
-    can_op (Await o a w) is = subst (λ (p : Progress). CanGoOn k task o w p.call.phase) (sym same) (goes_on o a w is (call_at state task).phase refl)
+    can_op (Await o a w) is = subst (λ (p : Progress). CanGoOn k task o a w p.call.phase) (sym same) (goes_on o a w is (call_at state task).phase refl)
     can_op (Do o a) is = brief_can (Do o a) is refl
+    can_op (GiveMutex o) is = brief_can (GiveMutex o) is refl
     can_op (MessagesWaiting o) is = brief_can (MessagesWaiting o) is refl
     can_op (SpacesAvailable o) is = brief_can (SpacesAvailable o) is refl
 
@@ -293,8 +293,8 @@ module _ (app : Application) (formed : IsWellFormed app) (k : Kernel) (c : CanSt
   pub stood : StandsForSome k
   stood = (now, c.stands)
 
-  pub long_enough : HasLengths app k
-  long_enough = lengths app formed k now reached_now c.stands age_now
+  pub has_objects : HasObjects app k
+  has_objects = rooms app formed k now reached_now c.stands age_now
 
   pub can_act_after : (handlers : List ℕ) (new : Kernel) → Stands new (before_step app handlers now) → CanAct app new
   can_act_after handlers new h =

@@ -1,8 +1,8 @@
 -- A call on a queue: what it makes of the states that the kernel stands for, whether or not a task is still to be placed.
-use Rattle.std.proofs.Common.{◌≡◌, ◌<◌, ℕ, zero, suc, Bool, true, false, List, [], ◌∷◌, set, Option, Some, None, refl, ap, sym, subst, ◌∙◌}
+use Rattle.std.proofs.Common.{IfSome, length, ◌≡◌, ◌<◌, ℕ, zero, suc, Bool, true, false, List, [], ◌∷◌, set, Option, Some, None, refl, ap, sym, subst, ◌∙◌}
 use Rattle.model.specs.declared.call.WaitList.{WaitList}
 use Rattle.model.specs.declared.op.Access.{Access}
-use Rattle.model.specs.declared.op.Access.TheVariants.{Send, SendFront, Overwrite, Receive, Peek}
+use Rattle.model.specs.declared.op.Access.TheVariants.{Send, SendFront, Overwrite, Receive, Peek, Take, Give, Lock}
 use Rattle.model.specs.declared.event.Event.{Event}
 use Rattle.model.specs.State.{State, Object, object_at, with_object, for_one}
 use Rattle.model.specs.Waiting.{wake_best}
@@ -14,7 +14,7 @@ use Rattle.objects.specs.Queues.{Exchange}
 use Rattle.kernel.specs.declared.kernel.Kernel.{Kernel}
 use Rattle.kernel.specs.StandsFor.{Stands, At, AtAny, decider}
 use Rattle.kernel.specs.StandsFor.Stands.{Placed, Placing}
-use Rattle.kernel.specs.Can.{HasLength, StandsForSome}
+use Rattle.kernel.specs.Can.{HasRoom, IsCaller, StandsForSome}
 use Rattle.kernel.proofs.Before.{stored_before}
 use Rattle.kernel.proofs.Either.{any, either}
 use Rattle.kernel.proofs.Waits.{stored_at}
@@ -31,7 +31,7 @@ answers k s o a given h e = e ∙ ap (λ (x : Object). reply x a) (objects_are k
 pub is_possible : (k : Kernel) (s : State) (o : ℕ) (a : Access) (b : Bool) → Stands k s → allows (object_in k.queues.objects o) a ≡ b → possible s o a ≡ b
 is_possible k s o a b h e = ap (λ (x : Object). allows x a) (sym (objects_are k s h o)) ∙ e
 
--- ---- how long the queues may get
+-- ---- for what there is room
 
 same_size : (caller : Option ℕ) (a : Access) (x : Object) → (object_after caller a x).size ≡ x.size
 same_size caller (Send n) x = refl
@@ -39,6 +39,20 @@ same_size caller (SendFront n) x = refl
 same_size caller (Overwrite n) x = refl
 same_size caller Receive x = refl
 same_size caller Peek x = refl
+same_size caller Take x = refl
+same_size caller Give x = refl
+same_size caller Lock x = refl
+
+-- there is room for what a call puts in, whatever is in it
+room_by_size : (a : Access) (x y : Object) → y.size ≡ x.size → queues.HasRoom a x → queues.HasRoom a y
+room_by_size (Overwrite n) x y e h = rw e h
+room_by_size (Send n) x y e h = tt
+room_by_size (SendFront n) x y e h = tt
+room_by_size Receive x y e h = tt
+room_by_size Peek x y e h = tt
+room_by_size Take x y e h = tt
+room_by_size Give x y e h = tt
+room_by_size Lock x y e h = tt
 
 size_set : (os : List Object) (o j : ℕ) (x : Object) → x.size ≡ (object_in os o).size → (object_in (set os o x) j).size ≡ (object_in os j).size
 size_set [] o j x e = refl
@@ -47,20 +61,29 @@ size_set (y ∷ ys) zero (suc j) x e = refl
 size_set (y ∷ ys) (suc o) zero x e = refl
 size_set (y ∷ ys) (suc o) (suc j) x e = size_set ys o j x e
 
-pub long_still : (k : Kernel) (q : Exchange) (caller : Option ℕ) (o : ℕ) (a : Access) → q ≡ record k.queues { objects = set k.queues.objects o (object_after caller a (object_in k.queues.objects o)) } → (j : ℕ) → HasLength k j → HasLength (record k { queues = q }) j
-long_still k q caller o a is j long =
-    subst (λ (n : ℕ). 0 < n) (sym (ap (λ (v : Exchange). (object_in v.objects j).size) is ∙ size_set k.queues.objects o j (object_after caller a (object_in k.queues.objects o)) (same_size caller a (object_in k.queues.objects o)))) long
+pub room_still : (k : Kernel) (q : Exchange) (caller : Option ℕ) (o : ℕ) (a : Access) → q ≡ record k.queues { objects = set k.queues.objects o (object_after caller a (object_in k.queues.objects o)) } → (j : ℕ) (b : Access) → HasRoom k j b → HasRoom (record k { queues = q }) j b
+room_still k q caller o a is j b room =
+    room_by_size b (object_in k.queues.objects j) (object_in q.objects j) (ap (λ (v : Exchange). (object_in v.objects j).size) is ∙ size_set k.queues.objects o j (object_after caller a (object_in k.queues.objects o)) (same_size caller a (object_in k.queues.objects o))) room
 
 -- ---- the object changes
 
-module _ (k : Kernel) (q : Exchange) (caller : Option ℕ) (o : ℕ) (a : Access) (stores : (s : State) (d : Option Decider) → queues.StandsFor k.queues d s → queues.StandsFor q d (with_object o (object_after caller a (object_at s o)) s)) where
+-- who makes the call is a task, or none
+pub caller_within : (k : Kernel) (s : State) → Stands k s → (caller : Option ℕ) → IsCaller k caller → IfSome caller (λ i. i < length s.tasks)
+caller_within k s h None r = tt
+caller_within k s (Placed h) (Some i) r = let L : Option ℕ → Type 0 = λ o. IfSome o (λ j. j < length s.tasks) in subst L (sym h.sched.current ∙ r) h.sched.table.current
+caller_within k s (Placing task list b) (Some i) r = let L : Option ℕ → Type 0 = λ o. IfSome o (λ j. j < length s.tasks) in subst L (sym b.sched.current ∙ r) b.sched.table.current
+
+module _ (k : Kernel) (q : Exchange) (caller : Option ℕ) (o : ℕ) (a : Access) (calls : IsCaller k caller) (stores : (s : State) (d : Option Decider) → queues.StandsFor k.queues d s → IfSome caller (λ i. i < length s.tasks) → queues.StandsFor q d (with_object o (object_after caller a (object_at s o)) s)) where
   abbrev stored : State → State
   stored s = with_object o (object_after caller a (object_at s o)) s
 
+  pub stored_placed : (log : List Event) (s : State) → At k log s → At (record k { queues = q }) log (with_object o (object_after caller a (object_at s o)) s)
+  stored_placed log s p = stored_at k log s p o (object_after caller a (object_at s o)) q (stores s None p.stands.rest.queues (caller_within k s (Placed p.stands) caller calls))
+
   pub stored_any : (log : List Event) (s : State) → AtAny k log s → AtAny (record k { queues = q }) log (with_object o (object_after caller a (object_at s o)) s)
   stored_any log s h = either k log s h
-      (λ p. any (record k { queues = q }) log (stored s) (stored_at k log s p o (object_after caller a (object_at s o)) q (stores s None p.stands.rest.queues)))
-      (λ task list b. record { stands = Placing task list (stored_before task list k s b o (object_after caller a (object_at s o)) q (stores s (Some (decider task list s)) b.queues)); log = h.log })
+      (λ p. any (record k { queues = q }) log (stored s) (stored_placed log s p))
+      (λ task list b. record { stands = Placing task list (stored_before task list k s b o (object_after caller a (object_at s o)) q (stores s (Some (decider task list s)) b.queues (caller_within k s h.stands caller calls))); log = h.log })
 
   pub stored_some : StandsForSome k → StandsForSome (record k { queues = q })
   stored_some h = let there = stored_any (h.0).log h.0 (record { stands = h.1; log = refl }) in (stored h.0, there.stands)

@@ -12,7 +12,8 @@ use Rattle.model.specs.State.{State, Task, Progress, Waiting, Wait, wait_if_awak
 use Rattle.model.specs.Switching.{is_ready}
 use Rattle.model.specs.Waiting.{wait_in, is_expired, end_hold}
 use Rattle.model.specs.Objects.{possible, list_for}
-use Rattle.model.specs.Calls.{decide}
+use Rattle.model.specs.Calls.{lock, decide}
+use Rattle.model.specs.Mutexes.{inherit}
 use Rattle.model.specs.Invariant.{IsTable}
 use Rattle.model.proofs.Sorting.{by_test}
 use Rattle.model.proofs.Lists.{eqb-refl, eqb-same}
@@ -128,9 +129,9 @@ module _ (s : State) (i : ℕ) (list : WaitList) (object : ℕ) (l : i < length 
   unfolding last next_call
   sched_decided v calm h ready free w is table =
       let one : sched.StandsBefore i v begun = on_sched.stands_waiting v s i list calm h l ready in
-      let mid : IsTable locked_then = record { tickets = one.table.tickets; few = one.table.few; current = one.table.current } in
+      let mid : IsTable locked_then = record { tickets = one.table.tickets; few = one.table.few; current = one.table.current; holders = one.table.holders } in
       let two = on_sched.stands_before_held v begun locked_then i one (begun_free.0 ∙ free) refl refl refl mid in
-      rw is (on_sched.stands_before_kept (record v { depth = v.depth + 1 }) locked_then decided i i last two begun_within refl refl refl refl refl table)
+      rw is (on_sched.stands_before_kept (record v { depth = v.depth + 1 }) locked_then decided i i last two begun_within refl refl refl refl refl refl table)
 
   -- the clock
   pub clock_decided : (t : Timeline) → clock.StandsFor t s → is_ready s i ≡ true → IsTable decided → clock.StandsBefore i (call_at decided i).deadline t decided
@@ -142,7 +143,7 @@ module _ (s : State) (i : ℕ) (list : WaitList) (object : ℕ) (l : i < length 
       (on_clock.stands_before_kept t begun decided i i (call_at s i).deadline last one begun_within refl refl refl (record { key = refl; wake_time = refl }) table)
 
 -- The queue is locked, and the scheduler held.
-module _ (k : Kernel) (log : List Event) (s : State) (h : At k log s) (i o : ℕ) (a : Access) (c : CanDecide k i) (v : Schedule) (q : Exchange)
+module _ (k : Kernel) (log : List Event) (s : State) (h : At k log s) (i o : ℕ) (c : CanDecide k i) (v : Schedule) (q : Exchange)
     (calm : IsCalm k.sched) (holds : s.call_hold ≡ false → sched.StandsFor v (record s { call_hold = true })) (held : v ≡ record k.sched { depth = k.sched.depth + 1 })
     (locks : ((j : ℕ) → wait_if_awake (status_at s j) ≡ None) → queues.StandsFor q None (record s { locked = Some o })) where
   l : i < length s.tasks
@@ -167,12 +168,12 @@ module _ (k : Kernel) (log : List Event) (s : State) (h : At k log s) (i o : ℕ
   pub held_at : At (record k { sched = v; queues = q }) log shut
   held_at =
       let on = holds free in
-      let table : IsTable shut = record { tickets = on.table.tickets; few = on.table.few; current = on.table.current } in
+      let table : IsTable shut = record { tickets = on.table.tickets; few = on.table.few; current = on.table.current; holders = on.table.holders } in
       let there : State = record s { locked = Some o } in
       let same : SameWaits there shut = same_parts there shut refl refl refl in
       record {
         stands = record {
-          sched = record { ready = on.ready; current = on.current; priorities = on.priorities; depth = on.depth; table = table };
+          sched = record { ready = on.ready; current = on.current; priorities = on.priorities; base_priorities = on.base_priorities; depth = on.depth; table = table };
           rest = record {
             progress = h.stands.rest.progress;
             full = h.stands.rest.full;
@@ -187,12 +188,8 @@ module _ (k : Kernel) (log : List Event) (s : State) (h : At k log s) (i o : ℕ
         log = h.log;
       }
 
-  pub declined : (new : Kernel) → (possible s o a || is_expired s i) ≡ true → At new log (go_on i Unlock shut) → AtAny new log (decide i o a s)
-  unfolding decide
-  declined new t there = rw t (record { stands = Placed there.stands; log = there.log })
-
   -- or it waits
-  module _ (t : (possible s o a || is_expired s i) ≡ false) (nobody : CountsNobody q) (p : Progress) (is : p ≡ record (progress_in k.progress i) { call = record (progress_in k.progress i).call { phase = Place; list = Some (list_for o a) } }) where
+  module _ (a : Access) (nobody : CountsNobody q) (p : Progress) (is : p ≡ record (progress_in k.progress i) { call = record (progress_in k.progress i).call { phase = Place; list = Some (list_for o a) } }) where
     list : WaitList
     list = list_for o a
 
@@ -200,21 +197,15 @@ module _ (k : Kernel) (log : List Event) (s : State) (h : At k log s) (i o : ℕ
     unfolding list
     after = decided s i list o l
 
-    decide_is : decide i o a s ≡ after
-    unfolding decide list after
-    decide_is = rw t refl
-
     in_place : queues.StandsFor q (Some (decider i list after)) after
     unfolding list after
     in_place =
-        let one = stands_deciding q s i o a locking l (ready_free (status_at s i) ready) nobody t in
-        let two : queues.StandsFor q (Some (record { task = i; list = list_for o a; priority = (task_at s i).priority })) after = subst (λ (x : State). queues.StandsFor q (Some (record { task = i; list = list_for o a; priority = (task_at s i).priority })) x) decide_is one in
-        subst (λ (n : ℕ). queues.StandsFor q (Some (record { task = i; list = list_for o a; priority = n })) after) (sym (priority_decided s i list o l)) two
+        subst (λ (n : ℕ). queues.StandsFor q (Some (record { task = i; list = list_for o a; priority = n })) after) (sym (priority_decided s i list o l))
+        (stands_deciding q s i o locking a l (ready_free (status_at s i) ready) nobody)
 
     awake_there : AtLocked (Some (decider i list after)) after
     unfolding list after
-    awake_there =
-        subst (λ (x : State). AtLocked (Some (decider i list after)) x) decide_is (at_locked-decides s i o a unlocked h.stands.rest.awake (task_at after i).priority l t)
+    awake_there = at_locked-decides s i o a unlocked h.stands.rest.awake (task_at after i).priority l
 
     table : IsTable after
     table = in_place.waiters.table
@@ -234,12 +225,12 @@ module _ (k : Kernel) (log : List Event) (s : State) (h : At k log s) (i o : ℕ
         (λ u. let apart : j ≢ i = (λ e. let w : eqb j i ≡ true = rw e (eqb-refl i) in absurd (cc)) in
         rw (get_or-set_other k.progress i j p _ apart) (h.stands.rest.progress j ∙ sym (progress_others s i list o l j apart)))
 
-    pub waits : AtAny (with_progress i p (record k { sched = v; queues = q })) log (decide i o a s)
+    pub waits : AtAny (with_progress i p (record k { sched = v; queues = q })) log (lock i o Place (wait_in i (list_for o a) s))
     unfolding list after
     waits =
         let new : Kernel = with_progress i p (record k { sched = v; queues = q }) in
         let kept = begun_free s i list o l in
-        subst (λ (x : State). AtAny new log x) (sym decide_is) (record {
+        record {
           stands = Placing i list (record {
             sched = sched_there;
             clock = clock_there;
@@ -256,7 +247,7 @@ module _ (k : Kernel) (log : List Event) (s : State) (h : At k log s) (i o : ℕ
             placed = λ j ne e. h.stands.rest.placed j (ap (λ (x : Progress). x.call.phase) (sym (get_or-set_other k.progress i j p _ ne)) ∙ e);
           });
           log = log_then;
-        }) where
+        } where
           sched_there : sched.StandsBefore i v after
           sched_there = sched_decided s i list o l k.sched (calm c.depth) h.stands.sched ready free v held table
 
@@ -283,6 +274,16 @@ module _ (k : Kernel) (log : List Event) (s : State) (h : At k log s) (i o : ℕ
 
           log_then : log ≡ after.log
           log_then = h.log ∙ sym (begun_free s i list o l).6
+
+-- The call goes on at once, or it waits.
+module _ (new : Kernel) (log : List Event) (s : State) (i o : ℕ) (a : Access) where
+  pub decided_not : (possible s o a || is_expired s i) ≡ true → AtAny new log (lock i o Unlock s) → AtAny new log (decide i o a s)
+  unfolding decide
+  decided_not t h = rw t h
+
+  pub decided_to_wait : (possible s o a || is_expired s i) ≡ false → AtAny new log (lock i o Place (wait_in i (list_for o a) (inherit i o s))) → AtAny new log (decide i o a s)
+  unfolding decide
+  decided_to_wait t h = rw t h
 
 -- ---- a task is placed
 
@@ -319,7 +320,7 @@ module _ (k : Kernel) (log : List Event) (s : State) (i : ℕ) (list : WaitList)
       let table : IsTable later = kept_table in
       subst (λ (x : Kernel). At x log later) (sym is_new) (record {
         stands = record {
-          sched = on_sched.stands_kept v s later i u on l_then refl refl refl refl refl table;
+          sched = on_sched.stands_kept v s later i u on l_then refl refl refl refl refl refl table;
           rest = record {
             progress = progress-set k.progress s.tasks i u b.progress long_then l_then;
             full = rw length-set b.full;

@@ -241,10 +241,10 @@ module _ (app : Application) (limits : Limits) (s : State) (none : s.stopped ≡
 begun_before : (k : Kernel) (s : State) (task : ℕ) (list : WaitList) → StandsBefore task list k s → (log : List Event) (steps : ℕ) (n : ℕ) → n ≡ steps → StandsBefore task list (record k { steps = n }) (record s { log = log; steps = steps })
 begun_before k s task list b log steps n e =
     let new : State = record s { log = log; steps = steps } in
-    let table : IsTable new = record { tickets = b.sched.table.tickets; few = b.sched.table.few; current = b.sched.table.current } in
+    let table : IsTable new = record { tickets = b.sched.table.tickets; few = b.sched.table.few; current = b.sched.table.current; holders = b.sched.table.holders } in
     let same : SameWaits s new = same_parts s new refl refl refl in
     record {
-      sched = record { ready = b.sched.ready; still = b.sched.still; current = b.sched.current; priorities = b.sched.priorities; depth = b.sched.depth; table = table };
+      sched = record { ready = b.sched.ready; still = b.sched.still; current = b.sched.current; priorities = b.sched.priorities; base_priorities = b.sched.base_priorities; depth = b.sched.depth; table = table };
       clock = record { now = b.clock.now; age = b.clock.age; sorted = b.clock.sorted; once = b.clock.once; delayed = b.clock.delayed; awake = b.clock.awake; table = table };
       queues = stands_same s new same k.queues (Some (decider task list s)) b.queues table;
       awake = at_locked_same (Some (decider task list s)) s new same b.awake;
@@ -262,10 +262,10 @@ begun_before k s task list b log steps n e =
 begun_at : (k : Kernel) (s : State) → StandsFor k s → (log : List Event) (steps : ℕ) (n : ℕ) → n ≡ steps → StandsFor (record k { steps = n }) (record s { log = log; steps = steps })
 begun_at k s h log steps n e =
     let new : State = record s { log = log; steps = steps } in
-    let table : IsTable new = record { tickets = h.sched.table.tickets; few = h.sched.table.few; current = h.sched.table.current } in
+    let table : IsTable new = record { tickets = h.sched.table.tickets; few = h.sched.table.few; current = h.sched.table.current; holders = h.sched.table.holders } in
     let same : SameWaits s new = same_parts s new refl refl refl in
     record {
-      sched = record { ready = h.sched.ready; current = h.sched.current; priorities = h.sched.priorities; depth = h.sched.depth; table = table };
+      sched = record { ready = h.sched.ready; current = h.sched.current; priorities = h.sched.priorities; base_priorities = h.sched.base_priorities; depth = h.sched.depth; table = table };
       rest = record {
         progress = h.rest.progress;
         full = h.rest.full;

@@ -9,7 +9,7 @@ use Rattle.model.specs.declared.op.IsrOp.TheVariants.{Do, Mark}
 use Rattle.model.specs.declared.op.Access.{Access}
 use Rattle.std.specs.Prelude.{option_map, slice_get, unwrap_or}
 use Rattle.model.specs.Application.{Application, Handler, ops_of}
-use Rattle.model.specs.Scripts.{IsHandler, IsWellFormed, knows_isr}
+use Rattle.model.specs.Scripts.{fits_object, IsHandler, IsWellFormed, knows_isr}
 use Rattle.model.specs.State.{State, for_each}
 use Rattle.model.specs.declared.event.Event.{Event}
 use Rattle.model.specs.Switching.{is_held, preempt, write}
@@ -22,7 +22,8 @@ use Rattle.kernel.specs.declared.kernel.Kernel.{Kernel}
 use Rattle.kernel.specs.Logged.{Logged}
 use Rattle.kernel.specs.StandsFor.{Stands, At, AtAny, Does, DoesAny}
 use Rattle.kernel.proofs.Either.{any, either}
-use Rattle.kernel.specs.Can.{HasIsrLength, HasLengths, Leaves}
+use Rattle.model.proofs.Handled.{and_left}
+use Rattle.kernel.specs.Can.{HasIsrObject, HasObjects, Leaves}
 
 -- ---- an op
 
@@ -35,16 +36,16 @@ did_op P s handler op_index op o a given what is told answer h =
 pub did_mark : (P : State → Type 0) (s : State) (handler op_index : ℕ) (op : IsrOp) (n : ℕ) → op ≡ Mark n → P (write (IsrMark handler n) s) → P (isr handler op_index op s)
 did_mark P s handler op_index op n is h = rw is h
 
--- its object has room for an item
-pub op_long : (app : Application) (formed : IsWellFormed app) (k : Kernel) (handler i : ℕ) (op : IsrOp) → HasLengths app k → i < length (ops_of app handler) → op ≡ get_or (ops_of app handler) i op → HasIsrLength k op
-op_long app formed k handler i op long l e = by_op op (at (ops_of app handler) i (isr_known app formed handler) l e) where
+-- its object has room for what it puts in
+pub op_fits : (app : Application) (formed : IsWellFormed app) (k : Kernel) (handler i : ℕ) (op : IsrOp) → HasObjects app k → i < length (ops_of app handler) → op ≡ get_or (ops_of app handler) i op → HasIsrObject k op
+op_fits app formed k handler i op room l e = by_op op (at (ops_of app handler) i (isr_known app formed handler) l e) where
   at : (ops : List IsrOp) (i : ℕ) → AllByRecursion (λ (x : IsrOp). knows_isr app x ≡ true) ops → i < length ops → op ≡ get_or ops i op → knows_isr app op ≡ true
   at [] i known l e = absurd (omega arith)
   at (x ∷ xs) zero known l e = rw e known.0
   at (x ∷ xs) (suc i) known l e = at xs i known.1 (omega arith) e
 
-  by_op : (x : IsrOp) → knows_isr app x ≡ true → HasIsrLength k x
-  by_op (Do o a) known = long o a known
+  by_op : (x : IsrOp) → knows_isr app x ≡ true → HasIsrObject k x
+  by_op (Do o a) known = room o a (and_left (fits_object app o a) _ known)
   by_op (Mark n) known = tt
 
 -- and there are few
@@ -80,13 +81,13 @@ one_more {A} deed P xs s i x l e h =
 -- ---- what is left as it was
 
 pub leaves_same : (k : Kernel) → Leaves k k
-leaves_same k = record { depth = refl; lengths = λ o h. h }
+leaves_same k = record { depth = refl; objects = λ o a h. h }
 
 pub leaves_both : (a b c : Kernel) → Leaves a b → Leaves b c → Leaves a c
-leaves_both a b c h g = record { depth = g.depth ∙ h.depth; lengths = λ o long. g.lengths o (h.lengths o long) }
+leaves_both a b c h g = record { depth = g.depth ∙ h.depth; objects = λ o a room. g.objects o a (h.objects o a room) }
 
-pub long_after : (app : Application) (old new : Kernel) → HasLengths app old → Leaves old new → HasLengths app new
-long_after app old new long h o a fit = h.lengths o (long o a fit)
+pub room_after : (app : Application) (old new : Kernel) → HasObjects app old → Leaves old new → HasObjects app new
+room_after app old new room h o a fit = h.objects o a (room o a fit)
 
 -- nothing is done yet
 pub does_nothing : (k : Kernel) (log : Logged) → Does 0 k log k log (λ s. s)

@@ -9,6 +9,7 @@ pub mod Ending
 pub mod Running
 pub mod Booting
 pub mod Waits
+pub mod Ranking
 pub mod Deciding
 pub mod Unlocking
 pub mod Before

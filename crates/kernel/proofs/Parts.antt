@@ -164,7 +164,7 @@ module _ (k : Kernel) (s : State) (h : StandsFor k s) (i : ℕ) (l : i < length 
       let c : clock.StandsFor t new = rw on at slept in
       let same = same_ticket i (Asleep wake_time) s refl (ready_free (status_at s i) on) in
       rw on (record {
-        sched = rw blocks (on_sched.stands_blocked k.sched s new i u h.sched l refl refl refl refl refl table);
+        sched = rw blocks (on_sched.stands_blocked k.sched s new i u h.sched l refl refl refl refl refl refl table);
         rest = record {
           progress = progress-same k.progress s.tasks i u h.rest.progress l refl;
           full = h.rest.full;
@@ -188,7 +188,7 @@ module _ (k : Kernel) (s : State) (h : StandsFor k s) (i : ℕ) (l : i < length 
       let table : IsTable (with_task i t s) = table-set s i t h.sched.table (ticket_at s.next_ticket i s.tasks h.sched.table.tickets) in
       let same = same_progress i p s in
       record {
-        sched = on_sched.stands_kept k.sched s (with_task i t s) i t h.sched l refl refl refl refl refl table;
+        sched = on_sched.stands_kept k.sched s (with_task i t s) i t h.sched l refl refl refl refl refl refl table;
         rest = record {
           progress = progress-set k.progress s.tasks i t h.rest.progress in_table l;
           full = rw length-set h.rest.full;
@@ -213,7 +213,7 @@ module _ (k : Kernel) (s : State) (h : StandsFor k s) (i : ℕ) (l : i < length 
       let table : IsTable (with_task i t s) = table-set s i t h.sched.table tt in
       let same = same_free i t s refl (ready_free (status_at s i) ready) in
       rw on (record {
-        sched = rw blocks (on_sched.stands_blocked k.sched s (with_task i t s) i t h.sched l refl refl refl refl refl table);
+        sched = rw blocks (on_sched.stands_blocked k.sched s (with_task i t s) i t h.sched l refl refl refl refl refl refl table);
         rest = record {
           progress = progress-set k.progress s.tasks i t h.rest.progress in_table l;
           full = rw length-set h.rest.full;
@@ -229,10 +229,10 @@ module _ (k : Kernel) (s : State) (h : StandsFor k s) (i : ℕ) (l : i < length 
 -- An event is told.
 pub at_written : (k : Kernel) (log new_log : List Event) (s : State) (e : Event) → At k log s → new_log ≡ log ++ e ∷ [] → e.step ≡ k.steps → e.tick ≡ printed k.clock.now → At k new_log (write e.what s)
 at_written k log new_log s e h told step tick =
-    let table : IsTable (write e.what s) = record { tickets = h.stands.sched.table.tickets; few = h.stands.sched.table.few; current = h.stands.sched.table.current } in
+    let table : IsTable (write e.what s) = record { tickets = h.stands.sched.table.tickets; few = h.stands.sched.table.few; current = h.stands.sched.table.current; holders = h.stands.sched.table.holders } in
     record {
       stands = record {
-        sched = record { ready = h.stands.sched.ready; current = h.stands.sched.current; priorities = h.stands.sched.priorities; depth = h.stands.sched.depth; table = table };
+        sched = record { ready = h.stands.sched.ready; current = h.stands.sched.current; priorities = h.stands.sched.priorities; base_priorities = h.stands.sched.base_priorities; depth = h.stands.sched.depth; table = table };
         rest = rest_same k s (write e.what s) h.stands.rest refl refl refl refl refl refl refl table;
       };
       log = told ∙ rw h.log (ap (λ (x : Event). s.log ++ x ∷ []) (event_same e s.steps (printed s.time) (step ∙ h.stands.rest.steps) (tick ∙ ap printed h.stands.rest.clock.now)));
@@ -243,8 +243,8 @@ at_written k log new_log s e h told step tick =
 -- What was told doesn't matter to the parts.
 pub stands-told : (k : Kernel) (s : State) → StandsFor k s → (log : List Event) → StandsFor k (record s { log = log })
 stands-told k s h log =
-    let table : IsTable (record s { log = log }) = record { tickets = h.sched.table.tickets; few = h.sched.table.few; current = h.sched.table.current } in
+    let table : IsTable (record s { log = log }) = record { tickets = h.sched.table.tickets; few = h.sched.table.few; current = h.sched.table.current; holders = h.sched.table.holders } in
     record {
-      sched = record { ready = h.sched.ready; current = h.sched.current; priorities = h.sched.priorities; depth = h.sched.depth; table = table };
+      sched = record { ready = h.sched.ready; current = h.sched.current; priorities = h.sched.priorities; base_priorities = h.sched.base_priorities; depth = h.sched.depth; table = table };
       rest = rest_same k s (record s { log = log }) h.rest refl refl refl refl refl refl refl table;
     }

@@ -9,7 +9,7 @@ use Rattle.model.specs.declared.op.Op.{Op}
 use Rattle.model.specs.Application.{Application, Limits, AreLimits, op_at}
 use Rattle.model.specs.Scripts.{IsWellFormed}
 use Rattle.model.specs.State.{State, Progress, progress_at}
-use Rattle.model.specs.Step.{act, act_if, act_current, step, reset, ready_at_reset, nobody_ready, with_ops}
+use Rattle.model.specs.Step.{act_unless, misuse, act_if, act_current, step, reset, ready_at_reset, nobody_ready, with_ops}
 use Rattle.model.specs.declared.plan.Point.{Point}
 use Rattle.model.specs.Run.{Run, IsRun, end_of, injected, state_after, events_after}
 use Rattle.model.proofs.Frames.{elapsed-reset, elapsed-step, keeps-all_ready}
@@ -35,7 +35,7 @@ module _ (app : Application) (k : Kernel) (task : ℕ) (runs : k.sched.current �
       let op : op_at app task (progress_at s task).op_index ≡ o = ap (λ (p : Progress). op_at app task p.op_index) (sym (progress_is k s h task)) ∙ at in
       ap (λ c. act_current app c s) current ∙ ap (λ o. act_if app task o s) op
 
-  pub acts : (op : Op) → op_at app task (progress_in k.progress task).op_index ≡ Some op → (new : Kernel) (old_log new_log : Logged) → DoesAny 65 k old_log new new_log (act app task op) → DoesAny 65 k old_log new new_log (λ s. act_current app s.current s)
+  pub acts : (op : Op) → op_at app task (progress_in k.progress task).op_index ≡ Some op → (new : Kernel) (old_log new_log : Logged) → DoesAny 65 k old_log new new_log (λ s. act_unless app task (misuse s task op) op s) → DoesAny 65 k old_log new new_log (λ s. act_current app s.current s)
   acts op at new old_log new_log does = record {
     at = λ s h. subst (AtAny new new_log.told) (sym (its_op s h.stands (Some op) at)) (does.at s h);
     few = does.few;

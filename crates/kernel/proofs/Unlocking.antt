@@ -102,7 +102,7 @@ module _ (k : Kernel) (s : State) (h : StandsFor k s) (o : ℕ) where
 
 module _ (k : Kernel) (log : List Event) (s : State) (h : At k log s) where
   pub sched_opened : sched.StandsFor k.sched (opened s)
-  sched_opened = record { ready = h.stands.sched.ready; current = h.stands.sched.current; priorities = h.stands.sched.priorities; depth = h.stands.sched.depth; table = record { tickets = h.stands.sched.table.tickets; few = h.stands.sched.table.few; current = h.stands.sched.table.current } }
+  sched_opened = record { ready = h.stands.sched.ready; current = h.stands.sched.current; priorities = h.stands.sched.priorities; base_priorities = h.stands.sched.base_priorities; depth = h.stands.sched.depth; table = record { tickets = h.stands.sched.table.tickets; few = h.stands.sched.table.few; current = h.stands.sched.table.current; holders = h.stands.sched.table.holders } }
 
   pub clock_opened : clock.StandsFor k.clock (opened s)
   clock_opened = clock-same k.clock s (opened s) h.stands.rest.clock refl refl refl sched_opened.table

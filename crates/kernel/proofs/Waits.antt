@@ -17,6 +17,7 @@ use Rattle.model.specs.Switching.{is_ready, make_ready, preempt, choose}
 use Rattle.model.specs.Ops.{answer}
 use Rattle.model.specs.Waiting.{wait_key, waiters, awake_status, awaken, is_locked, wake_one, wake_best, set_deadline, is_expired, end_hold}
 use Rattle.model.specs.Objects.{possible, answer_to, fulfil, attempt}
+use Rattle.model.specs.Mutexes.{after_timeout}
 use Rattle.model.specs.Calls.{try, do_now, leave_call}
 use Rattle.model.specs.Invariant.{IsTable}
 use Rattle.model.proofs.Sorting.{by_test}
@@ -206,7 +207,7 @@ module _ (k : Kernel) (log : List Event) (s : State) (h : At k log s) (list : Wa
       let table : IsTable (awaken i s) = there.waiters.table in
       record {
         stands = record {
-          sched = on_sched.stands_kept k.sched s (awaken i s) i t h.stands.sched l refl refl refl (ap (λ (o : Option ℕ). option_map (λ n. record { priority = (task_at s i).priority; ticket = n }) o) (awake_unready (status_at s i))) refl table;
+          sched = on_sched.stands_kept k.sched s (awaken i s) i t h.stands.sched l refl refl refl (ap (λ (o : Option ℕ). option_map (λ n. record { priority = (task_at s i).priority; ticket = n }) o) (awake_unready (status_at s i))) refl refl table;
           rest = record {
             progress = progress-same k.progress s.tasks i t h.stands.rest.progress l refl;
             full = h.stands.rest.full;
@@ -252,7 +253,7 @@ stored_at k log s h o x q there =
     let table : IsTable new = there.waiters.table in
     record {
       stands = record {
-        sched = record { ready = h.stands.sched.ready; current = h.stands.sched.current; priorities = h.stands.sched.priorities; depth = h.stands.sched.depth; table = table };
+        sched = record { ready = h.stands.sched.ready; current = h.stands.sched.current; priorities = h.stands.sched.priorities; base_priorities = h.stands.sched.base_priorities; depth = h.stands.sched.depth; table = table };
         rest = record {
           progress = h.stands.rest.progress;
           full = h.stands.rest.full;
@@ -274,7 +275,7 @@ module _ (app : Application) (new : Kernel) (log : List Event) (s : State) (i o 
   tried t h = rw t h
 
   module _ (not : possible s o a ≡ false) where
-    pub tried_late : is_expired s i ≡ true → At new log (answer app i (answer_to s o a) s) → At new log (try app i o a s)
+    pub tried_late : is_expired s i ≡ true → At new log (answer app i (answer_to s o a) (after_timeout i o s)) → At new log (try app i o a s)
     unfolding try
     tried_late t h = rw (not, t) h
 

@@ -119,8 +119,9 @@ module _ (k : Kernel) (log : List Event) (s : State) (h : At k log s) where
     ready = h.stands.sched.ready;
     current = h.stands.sched.current;
     priorities = h.stands.sched.priorities;
+    base_priorities = h.stands.sched.base_priorities;
     depth = h.stands.sched.depth;
-    table = record { tickets = h.stands.sched.table.tickets; few = h.stands.sched.table.few; current = h.stands.sched.table.current };
+    table = record { tickets = h.stands.sched.table.tickets; few = h.stands.sched.table.few; current = h.stands.sched.table.current; holders = h.stands.sched.table.holders };
   }
 
   pub queues-ticked : queues.StandsFor k.queues None (at_next_tick s)

@@ -18,6 +18,7 @@ use Rattle.model.specs.Run.{end_of, state_after}
 use Rattle.model.specs.Invariant.{IsUsedBy}
 use Rattle.sched.specs.Schedule.{Schedule, is_ready}
 use Rattle.objects.specs.Items.{object_in}
+use Rattle.objects.specs.Queues as objects
 use Rattle.kernel.specs.declared.kernel.Kernel.{Kernel}
 use Rattle.kernel.specs.StandsFor.{StandsFor, StandsBefore, Stands, progress_in}
 
@@ -28,6 +29,10 @@ Agrees k = (s : State) × StandsFor k s
 -- It stands for some state, in which a task may be still to be placed.
 abbrev pub StandsForSome : Kernel → Type 0
 StandsForSome k = (s : State) × Stands k s
+
+-- The call is a handler's (none), or the running task's.
+abbrev pub IsCaller : Kernel → Option ℕ → Type 0
+IsCaller k caller = IfSome caller (λ task. k.sched.current ≡ Some task)
 
 -- The task is the running one, and Ready; it is at one of 256 ops at most.
 pub record Runs (k : Kernel) (task : ℕ) : Type 0 where
@@ -40,23 +45,23 @@ abbrev pub HasLoopRoom : Op → ℕ → Type 0
 HasLoopRoom (Repeat n) nesting = nesting < 4
 HasLoopRoom _ nesting = Unit {0}
 
--- The object has room for an item at least, where nothing is in it.
-abbrev pub HasLength : Kernel → ℕ → Type 0
-HasLength k object = 0 < (object_in k.queues.objects object).size
+-- The object has room for what the call puts in, where nothing is in it.
+abbrev pub HasRoom : Kernel → ℕ → Access → Type 0
+HasRoom k object access = objects.HasRoom access (object_in k.queues.objects object)
 
 -- The op speaks of such an object, if of any.
 abbrev pub HasObject : Kernel → Op → Type 0
-HasObject k (Do object access) = HasLength k object
+HasObject k (Do object access) = HasRoom k object access
 HasObject k _ = Unit {0}
 
 -- the same of an op of a handler
-abbrev pub HasIsrLength : Kernel → IsrOp → Type 0
-HasIsrLength k (isr.Do object access) = HasLength k object
-HasIsrLength k (isr.Mark n) = Unit {0}
+abbrev pub HasIsrObject : Kernel → IsrOp → Type 0
+HasIsrObject k (isr.Do object access) = HasRoom k object access
+HasIsrObject k (isr.Mark n) = Unit {0}
 
 -- Each object on which the application may make a call has such room.
-abbrev pub HasLengths : Application → Kernel → Type 0
-HasLengths app k = (object : ℕ) (access : Access) → fits_object app object access ≡ true → HasLength k object
+abbrev pub HasObjects : Application → Kernel → Type 0
+HasObjects app k = (object : ℕ) (access : Access) → fits_object app object access ≡ true → HasRoom k object access
 
 -- The time can rise by a tick.
 pub record CanAdvance (k : Kernel) : Type 0 where
@@ -68,7 +73,7 @@ pub record CanAdvance (k : Kernel) : Type 0 where
 pub record CanTick (app : Application) (k : Kernel) : Type 0 where
   pub advance : CanAdvance k
   pub depth : k.sched.depth ≡ 0
-  pub lengths : HasLengths app k
+  pub objects : HasObjects app k
 
 -- The task runs and can do this op, which is none that waits.
 pub record Can (app : Application) (k : Kernel) (task : ℕ) (op : Op) : Type 0 where
@@ -88,12 +93,12 @@ pub record IsInCall (k : Kernel) (task : ℕ) : Type 0 where
   pub agrees : Agrees k
 
 -- The task runs, and can try its call.
-pub record CanTry (k : Kernel) (task object : ℕ) : Type 0 where
+pub record CanTry (k : Kernel) (task object : ℕ) (access : Access) : Type 0 where
   pub runs : Runs k task
   pub agrees : Agrees k
   pub free : k.queues.lock ≡ None
   pub depth : k.sched.depth ≡ 0
-  pub length : HasLength k object
+  pub room : HasRoom k object access
 
 -- Its call may wait for less than 2^32 ticks, or for ever.
 abbrev pub IsShort : Option ℕ → Type 0
@@ -123,17 +128,17 @@ pub record CanLeave (k : Kernel) (task : ℕ) : Type 0 where
   pub held : 0 < k.sched.depth
 
 -- What the call can do next in this phase.
-abbrev pub CanGoOn : Kernel → ℕ → ℕ → Option ℕ → Phase → Type 0
-CanGoOn k task object ticks Start = CanTry k task object × IsShort ticks × (k.clock.now + 2 ^ 32 < 2 ^ 63)
-CanGoOn k task object ticks Try = CanTry k task object
-CanGoOn k task object ticks Decide = CanDecide k task
-CanGoOn k task object ticks Place = CanPlace k task
-CanGoOn k task object ticks Unlock = IsInCall k task
-CanGoOn k task object ticks Leave = CanLeave k task
+abbrev pub CanGoOn : Kernel → ℕ → ℕ → Access → Option ℕ → Phase → Type 0
+CanGoOn k task object access ticks Start = CanTry k task object access × IsShort ticks × (k.clock.now + 2 ^ 32 < 2 ^ 63)
+CanGoOn k task object access ticks Try = CanTry k task object access
+CanGoOn k task object access ticks Decide = CanDecide k task
+CanGoOn k task object access ticks Place = CanPlace k task
+CanGoOn k task object access ticks Unlock = IsInCall k task
+CanGoOn k task object access ticks Leave = CanLeave k task
 
 -- The running task can do what its op is to do next.
 abbrev pub CanOp : Application → Kernel → ℕ → Op → Type 0
-CanOp app k task (Await object access ticks) = CanGoOn k task object ticks (progress_in k.progress task).call.phase
+CanOp app k task (Await object access ticks) = CanGoOn k task object access ticks (progress_in k.progress task).call.phase
 CanOp app k task op = Can app k task op
 
 -- The running task can do its op, and idle can let a tick pass.
@@ -157,10 +162,19 @@ pub record IsUnderWay (app : Application) (plan : List Point) (limits : Limits) 
   pub stands : Stands k (state_after app plan k.steps)
   pub goes_on : (n : ℕ) → n < k.steps → end_of app limits (state_after app plan n) ≡ None
 
--- What a call on a queue leaves as it is: how often the scheduler is held, and which queues have room for an item at least.
+-- What a call leaves as it is: how often the scheduler is held, and which objects have room for what a call puts in.
 pub record Leaves (old new : Kernel) : Type 0 where
   pub depth : new.sched.depth ≡ old.sched.depth
-  pub lengths : (object : ℕ) → HasLength old object → HasLength new object
+  pub objects : (object : ℕ) (access : Access) → HasRoom old object access → HasRoom new object access
+
+-- What another priority of a task leaves as it is: all but priorities, and who is before whom in the ready lists.
+pub record Reranks (old new : Kernel) : Type 0 where
+  pub depth : new.sched.depth ≡ old.sched.depth
+  pub current : new.sched.current ≡ old.sched.current
+  pub ready : (task : ℕ) → is_ready new.sched task ≡ is_ready old.sched task
+  pub op_index : (task : ℕ) → (progress_in new.progress task).op_index ≡ (progress_in old.progress task).op_index
+  pub clock : new.clock ≡ old.clock
+  pub queues : new.queues ≡ old.queues
 
 -- These tasks can become Ready: none is so already, and none comes twice.
 abbrev pub AreToWake : Schedule → List ℕ → Type 0

@@ -1,20 +1,19 @@
 //! The kernel at reset.
-ghost use Rattle.std.specs.Prelude.{◌≡◌, ◌<◌, ◌≤◌, if◌then◌else◌, ℕ, length, map, false, slice_index_or, All};
+ghost use Rattle.std.specs.Prelude.{◌≡◌, ◌<◌, ◌≤◌, if◌then◌else◌, ℕ, length, map, false, slice_index_or};
 ghost use Rattle.std.specs.List.{AllByRecursion};
 ghost use Rattle.model.specs.State.{State, no_task, no_progress, status_at, for_each};
 ghost use Rattle.model.specs.Switching.{make_ready};
-ghost use Rattle.model.specs.Step.{reset, nobody_ready, object_at_reset, task_at_reset, with_ops};
+ghost use Rattle.model.specs.Step.{reset, nobody_ready, task_at_reset, with_ops};
 ghost use Rattle.model.specs.Scripts.{IsDefinition};
 ghost use Rattle.sched.specs.Schedule.{priority_in, is_ready};
 ghost use Rattle.sched.specs.StandsFor.{StandsFor as ScheduleStandsFor};
-ghost use Rattle.objects.specs.Queues.{size_in};
 ghost use Rattle.kernel.specs.StandsFor.{StandsFor, progress_in};
 ghost use Rattle.kernel.specs.Boot.{priorities_in, HasNoneFrom};
 
 use crate::kernel::Kernel;
 use crate::progress::Progress;
 use clock::Clock;
-use model::{App, ObjectKind, TaskDefinition, TaskId};
+use model::{App, TaskDefinition, TaskId};
 use objects::Queues;
 use sched::Sched;
 use std::array;
@@ -54,29 +53,6 @@ fn priorities_of(tasks: &[TaskDefinition]) -> [u8; 32]
         priorities[index] = task.priority();
     }
     priorities
-}
-
-/// The length of a queue.
-fn length_of(object: ObjectKind) -> u16
-    ensures { result ≡ (object_at_reset object).size }
-{
-    match object {
-        ObjectKind::Queue(length) => length,
-    }
-}
-
-/// The lengths of the queues, and 0 in the places after them.
-fn lengths_of(app: &App) -> [u16; 32]
-    ensures lengths { (object : ℕ) → size_in app.now object ≡ slice_index_or result object 0 }
-    ensures small { All (λ length. length ≤ 256) result }
-    ensures full { length result ≡ 32 }
-{
-    app.well_formed();
-    let mut lengths = [0; 32];
-    for (index, object) in app.objects().iter().enumerate() {
-        lengths[index] = length_of(*object);
-    }
-    lengths
 }
 
 /// Each task that has an op is made Ready, in the order of the file.
@@ -119,7 +95,7 @@ impl Kernel {
             progress: progress_of(app.tasks(), app.start()),
             sched: Sched::new(priorities_of(app.tasks())),
             clock: Clock::new(app.start()),
-            queues: Queues::new(&lengths_of(app)),
+            queues: Queues::new(app.objects()),
             steps: 0,
             stopped: None,
         }

@@ -5,7 +5,7 @@
 ghost use Rattle.std.specs.Prelude.{◌≡◌, ◌≤◌, ◌+◌, Some};
 ghost use Rattle.model.specs.State.{progress_at};
 ghost use Rattle.model.specs.Ops.{go_to, complete, called, answer};
-ghost use Rattle.model.specs.Step.{act};
+ghost use Rattle.model.specs.Step.{act_unless, misuse};
 ghost use Rattle.kernel.specs.StandsFor.{Does, DoesAny, Moves};
 ghost use Rattle.kernel.specs.Can.{Runs, CanOp};
 
@@ -14,6 +14,7 @@ use crate::log::Log;
 use model::{App, Op, TaskId, What};
 
 mod calls;
+mod mutexes;
 mod queues;
 mod script;
 mod time;
@@ -88,11 +89,12 @@ impl Kernel {
         self.answer_given(app, task, Some(number), log);
     }
 
-    /// What the running task's op does.
+    /// What the running task's op does; a misuse ends the run, and does nothing else.
     pub(crate) fn act<L: Log>(&mut self, app: &App, task: TaskId, op: Op, log: &mut L)
         requires room { 65 ≤ (L.logged log.old).room }
         requires can { CanOp app.now self.old task op }
-        ensures { DoesAny 65 self.old (L.logged log.old) self.new (L.logged log.new) (act app.now task op) }
+        ensures { DoesAny 65 self.old (L.logged log.old) self.new (L.logged log.new)
+            (λ s. act_unless app.now task (misuse s task op) op s) }
     {
         match op {
             Op::Work(ticks) => self.work(app, task, ticks, log),
@@ -108,6 +110,7 @@ impl Kernel {
                 self.go_on_waiting(app, task, object, access, ticks, log)
             }
             Op::Do(object, access) => self.do_now(app, task, object, access, log),
+            Op::GiveMutex(object) => self.give_mutex(app, task, object, log),
             Op::MessagesWaiting(object) => self.messages_waiting(app, task, object, log),
             Op::SpacesAvailable(object) => self.spaces_available(app, task, object, log),
         }

@@ -210,9 +210,7 @@ fn is_due(points: &[Point], step: u32) -> bool
     }
 }
 
-/// The same, with these handlers before it.
-#[cold]
-#[inline(never)]
+/// One step of the run, with these handlers before it.
 fn step_after(
     kernel: &mut Kernel,
     app: &App,
@@ -237,6 +235,37 @@ fn step_after(
 
 /// One step of the run, after the handlers of those points that are at it: these points are those from this step on. It
 /// answers the points after them.
+#[cold]
+#[inline(never)]
+fn step_after_points<'a>(
+    kernel: &mut Kernel,
+    app: &App,
+    points: &'a [Point],
+    meter: &mut Meter,
+    trail: &mut Trail,
+) -> Result<&'a [Point], Memory>
+    requires order { Rises (λ (p : definitions.Point). p.step) points.now }
+    requires left { AllByRecursion (λ (p : definitions.Point). kernel.old.steps ≤ p.step) points.now }
+    requires few { length (injected points.now kernel.old.steps) ≤ 3 }
+    requires going { CanStep app.now kernel.old }
+    requires meter { meter.old < 2 ^ 63 }
+    ensures stands { (s : State) → Stands kernel.old s
+        → Stands kernel.new (step app.now (injected points.now kernel.old.steps) s) }
+    ensures told { OnOk result ((s : State) → Stands kernel.old s
+        → all_of trail.new ≡ all_of trail.old ++ (step app.now (injected points.now kernel.old.steps) s).log) }
+    ensures later { IfOk result (λ later. later.now
+        ≡ drop (length (injected points.now kernel.old.steps)) points.now) }
+    ensures meter { meter.new ≡ meter.old + 1 }
+    ensures memory { OnErr result ((s : State) → Stands kernel.old s
+        → 0 < length (step app.now (injected points.now kernel.old.steps) s).log) }
+{
+    let handlers = handlers_at(points, kernel.steps);
+    let (_, later) = points.split_at(handlers.len());
+    step_after(kernel, app, handlers.as_slice(), meter, trail)?;
+    Ok(later)
+}
+
+/// The same, where mostly no point is at the step.
 fn step_by_plan<'a>(
     kernel: &mut Kernel,
     app: &App,
@@ -259,14 +288,11 @@ fn step_by_plan<'a>(
     ensures memory { OnErr result ((s : State) → Stands kernel.old s
         → 0 < length (step app.now (injected points.now kernel.old.steps) s).log) }
 {
-    if !is_due(points, kernel.steps) {
-        step_along(kernel, app, meter, trail)?;
-        return Ok(points);
+    if is_due(points, kernel.steps) {
+        return step_after_points(kernel, app, points, meter, trail);
     }
-    let handlers = handlers_at(points, kernel.steps);
-    let (_, later) = points.split_at(handlers.len());
-    step_after(kernel, app, handlers.as_slice(), meter, trail)?;
-    Ok(later)
+    step_along(kernel, app, meter, trail)?;
+    Ok(points)
 }
 
 /// Goes on to the end of the run, and keeps the events.

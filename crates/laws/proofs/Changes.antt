@@ -1,11 +1,11 @@
 -- What every deed keeps of who sleeps and who has which ticket, and so every step.
-use Rattle.std.proofs.Common.{◌≡◌, ◌≢◌, ◌<◌, ◌≤◌, ◌+◌, ◌||◌, ℕ, zero, suc, true, false, eqb, leb, ltb, leb-false, inl, inr, ◌⊎◌, List, [], ◌∷◌, map, get_or, set, Option, Some, None, refl, ap, sym, subst, ◌∙◌, arith}
+use Rattle.std.proofs.Common.{◌≡◌, ◌≢◌, ◌<◌, ◌≤◌, ◌+◌, ◌||◌, ℕ, zero, suc, true, false, eqb, leb, ltb, leb-false, inl, inr, ◌⊎◌, List, [], ◌∷◌, map, get_or, set, Option, Some, None, refl, ap, ap₂, sym, subst, ◌∙◌, arith}
 use Rattle.std.specs.List.{AllByRecursion, filter}
 use Rattle.std.specs.Prelude.{Bool, ◌++◌, if◌then◌else◌}
 use Rattle.std.specs.Option.{IfSome, option_eq, option_map, unwrap_or, is_some}
 use Rattle.std.proofs.lemmas.Bool.{ltb-true}
 use Rattle.model.specs.declared.op.Op.{Op}
-use Rattle.model.specs.declared.op.Op.TheVariants.{Work, Delay, DelayUntil, Yield, Time, Mark, Expect, Repeat, End, Await, Do, MessagesWaiting, SpacesAvailable}
+use Rattle.model.specs.declared.op.Op.TheVariants.{Work, Delay, DelayUntil, Yield, Time, Mark, Expect, Repeat, End, Await, Do, GiveMutex, MessagesWaiting, SpacesAvailable}
 use Rattle.model.specs.declared.op.Access.{Access}
 use Rattle.model.specs.declared.call.CallProgress.{CallProgress}
 use Rattle.model.specs.declared.call.Phase.{Phase}
@@ -14,6 +14,7 @@ use Rattle.model.specs.declared.call.WaitList.{WaitList}
 use Rattle.model.specs.declared.call.WaitList.TheVariants.{ToReceive, ToSend}
 use Rattle.model.specs.declared.event.What.{What}
 use Rattle.model.specs.declared.event.What.TheVariants as what
+use Rattle.model.specs.declared.event.Misuse.{Misuse}
 use Rattle.model.specs.declared.loops.Loop.{Loop}
 use Rattle.model.specs.Application.{Application, Definition, op_at, op_count, ops_of, interrupts_at}
 use Rattle.model.specs.State.{State, Task, Progress, Status, Ready, Awake, Waiting, Asleep, Ended, ticket_of, wake_time_of, no_call, task_at, progress_at, status_at, call_at, object_at, with_task, with_call, with_object, take_ticket, for_one, for_each, no_task, printed}
@@ -21,6 +22,7 @@ use Rattle.model.specs.Order.{Entry, Key, key, entry, keyed, tasks_of, task_of, 
 use Rattle.model.specs.Switching.{make_ready, to_back, dispatch, choose, choice, is_same, is_ready, yield_now, is_outranked, is_sharing, preempt, slice, settle, is_off, unless_held, write}
 use Rattle.model.specs.Waiting.{waiters, awakened, awake_status, is_locked, wake_one, wake_best, wait_in, set_deadline, is_expired, end_hold, unlock_object, unlock}
 use Rattle.model.specs.Objects.{possible, answer_to, object_after, list_woken, list_for, fulfil, attempt}
+use Rattle.model.specs.Mutexes.{set_priority, mutexes_held, lend, inherit_from, inherit, fall_back, after_timeout, disinherit, give_mutex}
 use Rattle.model.specs.Calls.{try, lock, decide, leave_call, await, do_now}
 use Rattle.model.specs.Time.{delayed_key, delayed_list, is_due, due, wake_due, advance, increment_tick, sleep, set_previous_wake}
 use Rattle.model.specs.declared.plan.Point.{Point}
@@ -28,18 +30,19 @@ use Rattle.model.specs.declared.op.IsrOp.{IsrOp}
 use Rattle.model.specs.declared.op.IsrOp.TheVariants as isr_op
 use Rattle.model.specs.Handlers.{isr_told, isr, isr_each, handle, inject, interrupt, tick_interrupt}
 use Rattle.model.specs.Ops.{go_to, called, answer, use_up, delay, delay_until, expect, open_loop, turn, close_turn}
-use Rattle.model.specs.Step.{act, act_if, act_current, before_step, step, nobody_ready, ready_at_reset, reset, task_at_reset, with_ops}
+use Rattle.model.specs.Step.{act, misuse, act_unless, act_if, act_current, before_step, step, nobody_ready, ready_at_reset, reset, task_at_reset, with_ops}
 use Rattle.model.specs.Run.{injected, state_after}
 use Rattle.model.proofs.Sorting.{by_test}
 use Rattle.model.proofs.Lists.{eqb-refl, eqb-same}
 use Rattle.model.proofs.Settled.{when_held, when_free}
-use Rattle.model.proofs.Frames.{keeps-answer, keeps-all_ready}
+use Rattle.model.proofs.Frames.{keeps-answer, keeps-all_ready, keeps-inherit}
+use Rattle.model.proofs.Inheriting.{reranks-inherit}
 use Rattle.laws.proofs.Choice.{at_index, All-from_in_order}
 
 -- ---- what every step keeps, if four kinds of change keep it
 
 -- a task whose status has this ticket, and wakes by itself then, or it is Ended
-abbrev Stays : Status → Status → Type 0
+abbrev pub Stays : Status → Status → Type 0
 Stays old new = ((ticket_of new ≡ ticket_of old) × (wake_time_of new ≡ wake_time_of old)) ⊎ (new ≡ Ended)
 
 same_awake : (u : Status) → (ticket_of (awake_status u) ≡ ticket_of u) × (wake_time_of (awake_status u) ≡ wake_time_of u)
@@ -53,6 +56,12 @@ still_to_come : (deadline : Option ℕ) (now : ℕ) → unwrap_or (option_map (�
 still_to_come None now t = tt
 still_to_come (Some d) now t = leb-false d now t
 
+-- inheriting doesn't bring a deadline nearer
+expired_inherited : (s : State) (i o : ℕ) → is_expired (inherit i o s) i ≡ is_expired s i
+expired_inherited s i o =
+    ap₂ (λ (deadline : Option ℕ) (now : ℕ). unwrap_or (option_map (λ d. leb d now) deadline) false)
+    ((reranks-inherit s i o).at i).deadline (keeps-inherit i o s).time
+
 or_false_right : (a b : Bool) → (a || b) ≡ false → b ≡ false
 or_false_right false b t = t
 or_false_right true b t = absurd (cc)
@@ -60,8 +69,8 @@ or_false_right true b t = absurd (cc)
 module _ (P : State → Type 0)
     -- neither the clock's count of ticks, nor who runs, nor the steps and events matter
     (framed : (s t : State) → t.tasks ≡ s.tasks → t.next_ticket ≡ s.next_ticket → t.time ≡ s.time → P s → P t)
-    -- a task goes on, or is Ended
-    (moved : (s : State) (i : ℕ) (t : Task) → Stays (status_at s i) t.status → P s → P (with_task i t s))
+    -- a task goes on, or is Ended; its base priority stays
+    (moved : (s : State) (i : ℕ) (t : Task) → Stays (status_at s i) t.status → t.base_priority ≡ (task_at s i).base_priority → P s → P (with_task i t s))
     -- a task takes a ticket, and wakes by itself later, if it does
     (taken : (s : State) (i : ℕ) (status : ℕ → Status) → ticket_of (status s.next_ticket) ≡ Some s.next_ticket → IfSome (wake_time_of (status s.next_ticket)) (λ w. s.time < w) → P s → P (take_ticket i status s))
     -- a tick passes, and all who are due are Ready
@@ -96,8 +105,8 @@ module _ (P : State → Type 0)
   kept-go_to : (app : Application) (i op_index : ℕ) (p : Progress) (s : State) → P s → P (go_to app i op_index p s)
   unfolding go_to
   kept-go_to app i op_index p s h = by_test (eqb op_index (op_count app i))
-      (λ t. rw t (moved s i (record (task_at s i) { progress = record p { op_index = op_index; used = 0; call = no_call }; status = Ended }) (inr refl) h))
-      (λ t. rw t (moved s i (record (task_at s i) { progress = record p { op_index = op_index; used = 0; call = no_call } }) (inl (refl, refl)) h))
+      (λ t. rw t (moved s i (record (task_at s i) { progress = record p { op_index = op_index; used = 0; call = no_call }; status = Ended }) (inr refl) refl h))
+      (λ t. rw t (moved s i (record (task_at s i) { progress = record p { op_index = op_index; used = 0; call = no_call } }) (inl (refl, refl)) refl h))
 
   kept-answer : (app : Application) (i : ℕ) (a : Option ℕ) (s : State) → P s → P (answer app i a s)
   unfolding answer
@@ -110,7 +119,7 @@ module _ (P : State → Type 0)
   unfolding use_up
   kept-use_up app i n s h = by_test (eqb ((progress_at s i).used + 1) n)
       (λ t. rw t (kept-go_to app i ((progress_at s i).op_index + 1) (progress_at s i) s h))
-      (λ t. rw t (moved s i (record (task_at s i) { progress = record (progress_at s i) { used = (progress_at s i).used + 1 } }) (inl (refl, refl)) h))
+      (λ t. rw t (moved s i (record (task_at s i) { progress = record (progress_at s i) { used = (progress_at s i).used + 1 } }) (inl (refl, refl)) refl h))
 
   kept-sleep : (i w : ℕ) (s : State) → s.time < w → P s → P (sleep i w s)
   unfolding sleep
@@ -118,7 +127,7 @@ module _ (P : State → Type 0)
 
   kept-set_previous_wake : (i time : ℕ) (s : State) → P s → P (set_previous_wake i time s)
   unfolding set_previous_wake
-  kept-set_previous_wake i time s h = moved s i (record (task_at s i) { progress = record (progress_at s i) { previous_wake = time } }) (inl (refl, refl)) h
+  kept-set_previous_wake i time s h = moved s i (record (task_at s i) { progress = record (progress_at s i) { previous_wake = time } }) (inl (refl, refl)) refl h
 
   kept-delay : (app : Application) (i n : ℕ) (s : State) → P s → P (delay app i n s)
   unfolding delay
@@ -167,7 +176,7 @@ module _ (P : State → Type 0)
 
   kept-wake_one : (i : ℕ) (list : WaitList) (s : State) → P s → P (wake_one i list s)
   kept-wake_one i list s h = by_test (is_locked s.locked list)
-      (λ t. rw t (moved s i (record (task_at s i) { status = awake_status (status_at s i) }) (inl (same_awake (status_at s i))) h))
+      (λ t. rw t (moved s i (record (task_at s i) { status = awake_status (status_at s i) }) (inl (same_awake (status_at s i))) refl h))
       (λ t. rw t (made_ready s i h))
 
   kept-wake_best : (list : WaitList) (s : State) → P s → P (wake_best list s)
@@ -186,18 +195,62 @@ module _ (P : State → Type 0)
 
   -- a task's call goes on
   kept-with_call : (i : ℕ) (call : CallProgress) (s : State) → P s → P (with_call i call s)
-  kept-with_call i call s h = moved s i (record (task_at s i) { progress = record (progress_at s i) { call = call } }) (inl (refl, refl)) h
+  kept-with_call i call s h = moved s i (record (task_at s i) { progress = record (progress_at s i) { call = call } }) (inl (refl, refl)) refl h
 
   kept-set_deadline : (i : ℕ) (ticks : Option ℕ) (s : State) → P s → P (set_deadline i ticks s)
   unfolding set_deadline
   kept-set_deadline i ticks s h = kept-with_call i _ s h
+
+  -- ---- priorities
+
+  kept-set_priority : (i priority : ℕ) (s : State) → P s → P (set_priority i priority s)
+  unfolding set_priority
+  kept-set_priority i priority s h =
+      let t : Task = record (task_at s i) { priority = priority } in
+      by_test (eqb (task_at s i).priority priority)
+      (λ e. rw e h)
+      (λ e. rw e (kept-to_back i (with_task i t s) (moved s i t (inl (refl, refl)) refl h)))
+
+  kept-lend : (priority holder : ℕ) (s : State) → P s → P (lend priority holder s)
+  kept-lend priority holder s h = by_test (ltb (task_at s holder).priority priority)
+      (λ t. rw t (kept-set_priority holder priority s h))
+      (λ t. rw t h)
+
+  kept-inherit : (i o : ℕ) (s : State) → P s → P (inherit i o s)
+  unfolding inherit
+  kept-inherit i o s h = kept-one (inherit_from i) (object_at s o).holder s (λ holder k. kept-lend (task_at s i).priority holder _ (kept-with_call i _ s k)) h
+
+  kept-fall_back : (o holder : ℕ) (s : State) → P s → P (fall_back o holder s)
+  kept-fall_back o holder s h = by_test (eqb (mutexes_held s holder) 1)
+      (λ t. rw t (kept-set_priority holder _ s h))
+      (λ t. rw t h)
+
+  kept-after_timeout : (i o : ℕ) (s : State) → P s → P (after_timeout i o s)
+  unfolding after_timeout
+  kept-after_timeout i o s h = by_test (call_at s i).inherited
+      (λ t. rw t (kept-one (fall_back o) (object_at s o).holder s (λ holder. kept-fall_back o holder s) h))
+      (λ t. rw t h)
+
+  kept-disinherit : (i : ℕ) (s : State) → P s → P (disinherit i s)
+  unfolding disinherit
+  kept-disinherit i s h = by_test (eqb (mutexes_held s i) 0)
+      (λ t. rw t (kept-set_priority i _ s h))
+      (λ t. rw t h)
+
+  kept-give_mutex : (app : Application) (i o : ℕ) (s : State) → P s → P (give_mutex app i o s)
+  unfolding give_mutex
+  kept-give_mutex app i o s h =
+      let free : State = with_object o (record (object_at s o) { holder = None }) s in
+      kept-preempt _ (kept-answer app i (Some 1) _ (kept-wake_best (ToReceive o) _ (kept-disinherit i free (framed s free refl refl refl h))))
+
+  -- ---- calls that may wait, and those that don't
 
   kept-try : (app : Application) (i o : ℕ) (a : Access) (s : State) → P s → P (try app i o a s)
   unfolding try
   kept-try app i o a s h = by_test (possible s o a)
       (λ p. rw p (kept-preempt _ (kept-answer app i (answer_to s o a) _ (kept-fulfil (Some i) o a s h))))
       (λ p. rw p (by_test (is_expired s i)
-      (λ q. rw q (kept-answer app i (answer_to s o a) s h))
+      (λ q. rw q (kept-answer app i (answer_to s o a) (after_timeout i o s) (kept-after_timeout i o s h)))
       (λ q. rw q (kept-with_call i _ s h))))
 
   kept-wait_in : (i : ℕ) (list : WaitList) (s : State) → is_expired s i ≡ false → P s → P (wait_in i list s)
@@ -214,7 +267,9 @@ module _ (P : State → Type 0)
   unfolding decide
   kept-decide i o a s h = by_test (possible s o a || is_expired s i)
       (λ t. rw t (kept-lock i o Unlock s h))
-      (λ t. rw t (kept-lock i o Place _ (kept-wait_in i (list_for o a) s (or_false_right (possible s o a) (is_expired s i) t) h)))
+      (λ t.
+      let on : is_expired (inherit i o s) i ≡ false = expired_inherited s i o ∙ or_false_right (possible s o a) (is_expired s i) t in
+      rw t (kept-lock i o Place _ (kept-wait_in i (list_for o a) (inherit i o s) on (kept-inherit i o s h))))
 
   kept-unlock : (s : State) → P s → P (unlock s)
   unfolding unlock
@@ -299,12 +354,17 @@ module _ (P : State → Type 0)
   kept-act app i End s h = kept-turn app i (progress_at s i) (progress_at s i).loops s h
   kept-act app i (Await o a ticks) s h = kept-await app i o a ticks (call_at s i).phase s h
   kept-act app i (Do o a) s h = kept-do_now app i o a s h
+  kept-act app i (GiveMutex o) s h = kept-give_mutex app i o s h
   kept-act app i (MessagesWaiting o) s h = kept-answer app i _ s h
   kept-act app i (SpacesAvailable o) s h = kept-answer app i _ s h
 
+  kept-act_unless : (app : Application) (i : ℕ) (kind : Option Misuse) (op : Op) (s : State) → P s → P (act_unless app i kind op s)
+  kept-act_unless app i None op s h = kept-act app i op s h
+  kept-act_unless app i (Some kind) op s h = framed s (act_unless app i (Some kind) op s) refl refl refl h
+
   kept-act_if : (app : Application) (i : ℕ) (o : Option Op) (s : State) → P s → P (act_if app i o s)
   kept-act_if app i None s h = h
-  kept-act_if app i (Some op) s h = kept-act app i op s h
+  kept-act_if app i (Some op) s h = kept-act_unless app i (misuse s i op) op s h
 
   kept-act_current : (app : Application) (r : Option ℕ) (s : State) → P s → P (act_current app r s)
   kept-act_current app None s h = kept-tick app s h
@@ -323,7 +383,7 @@ module _ (P : State → Type 0)
       let s : State = for_each make_ready (with_ops 0 app.tasks) (nobody_ready app) in
       framed s (record s { current = choice s }) refl refl refl (kept-all_ready (with_ops 0 app.tasks) (nobody_ready app) h)
 
-  kept_after : (app : Application) → P (nobody_ready app) → (plan : List Point) (n : ℕ) → P (state_after app plan n)
+  pub kept_after : (app : Application) → P (nobody_ready app) → (plan : List Point) (n : ℕ) → P (state_after app plan n)
   kept_after app h plan zero = kept-reset app h
   kept_after app h plan (suc n) = kept-step app (injected plan n) (state_after app plan n) (kept_after app h plan n)
 
@@ -361,8 +421,8 @@ later-set s i t now l h j = elim (one_task s.tasks i t j) [
   | inr e ↦ subst (Later now) (sym (status_same (get_or (set s.tasks i t) j no_task) (get_or s.tasks j no_task) e)) (h j)
 ]
 
-later-moved : (s : State) (i : ℕ) (t : Task) → Stays (status_at s i) t.status → WakeLater s → WakeLater (with_task i t s)
-later-moved s i t u h =
+later-moved : (s : State) (i : ℕ) (t : Task) → Stays (status_at s i) t.status → t.base_priority ≡ (task_at s i).base_priority → WakeLater s → WakeLater (with_task i t s)
+later-moved s i t u base h =
     let W : Option ℕ → Type 0 = λ o. IfSome o (λ w. s.time < w) in
     later-set s i t s.time (elim u [ inl e ↦ subst W (sym e.1) (h i) | inr e ↦ subst (Later s.time) (sym e) tt ]) h
 
@@ -521,9 +581,9 @@ module _ (s : State) (k : ℕ) (t : Task) (h : TicketsApart s) where
     | inr e ↦ subst (Below next) (sym (status_same _ _ e)) (g i)
   ]
 
-apart-moved : (s : State) (i : ℕ) (t : Task) → Stays (status_at s i) t.status → TicketsApart s → TicketsApart (with_task i t s)
+apart-moved : (s : State) (i : ℕ) (t : Task) → Stays (status_at s i) t.status → t.base_priority ≡ (task_at s i).base_priority → TicketsApart s → TicketsApart (with_task i t s)
 unfolding new_at
-apart-moved s i t u h =
+apart-moved s i t u base h =
     let B : Option ℕ → Type 0 = λ o. IfSome o (λ ticket. ticket < s.next_ticket) in
     record {
       below = below-set s i t h s.next_ticket (elim u [ inl e ↦ subst B (sym e.0) (h.below i) | inr e ↦ subst (Below s.next_ticket) (sym e) tt ]) h.below;

@@ -4,10 +4,11 @@ use Rattle.std.specs.List.{AllByRecursion, list_any}
 use Rattle.std.specs.Option.{option_eq, is_some}
 use Rattle.std.proofs.lemmas.Bool.{le-ltb}
 use Rattle.model.specs.declared.op.Op.{Op}
-use Rattle.model.specs.declared.op.Op.TheVariants.{Work, Delay, DelayUntil, Yield, Time, Mark, Expect, Repeat, End, Await, Do, MessagesWaiting, SpacesAvailable}
+use Rattle.model.specs.declared.op.Op.TheVariants.{Work, Delay, DelayUntil, Yield, Time, Mark, Expect, Repeat, End, Await, Do, GiveMutex, MessagesWaiting, SpacesAvailable}
 use Rattle.model.specs.declared.op.Access.{Access}
 use Rattle.model.specs.declared.call.Phase.{Phase}
 use Rattle.model.specs.declared.call.Phase.TheVariants.{Start, Try, Decide, Place, Unlock, Leave}
+use Rattle.model.specs.declared.event.Misuse.{Misuse}
 use Rattle.model.specs.declared.loops.Loop.{Loop}
 use Rattle.model.specs.Application.{Application, op_at}
 use Rattle.model.specs.State.{State, Progress, task_at, progress_at, call_at, go_on, for_one}
@@ -15,16 +16,18 @@ use Rattle.model.specs.Order.{Entry, first, task_of}
 use Rattle.model.specs.Switching.{to_back, dispatch, choose, choice, is_same, is_ready, ready_list, ready_key, yield_now, is_above, is_outranked, is_sharing, preempt, slice, settle, is_off}
 use Rattle.model.specs.Waiting.{wait_in, set_deadline, is_expired, end_hold, unlock_object, unlock}
 use Rattle.model.specs.Objects.{possible, answer_to, list_for}
+use Rattle.model.specs.Mutexes.{inherit, after_timeout, give_mutex}
 use Rattle.model.specs.Calls.{try, lock, decide, leave_call, await, do_now}
 use Rattle.model.specs.declared.plan.Point.{Point}
 use Rattle.model.specs.Handlers.{interrupt, tick_interrupt}
 use Rattle.model.specs.Time.{increment_tick, sleep, set_previous_wake}
 use Rattle.model.specs.Ops.{go_to, answer, use_up, delay, delay_until, expect, open_loop, turn, close_turn}
-use Rattle.model.specs.Step.{act, act_if, act_current, before_step, step, ready_at_reset, reset}
+use Rattle.model.specs.Step.{act, misuse, act_unless, act_if, act_current, before_step, step, ready_at_reset, reset}
 use Rattle.model.specs.Run.{injected, state_after}
 use Rattle.model.proofs.Sorting.{by_test, Falls, Falls-in_order, IsAfter}
 use Rattle.model.proofs.Lists.{HasKey, list_has}
 use Rattle.model.proofs.Settled.{same_eq, when_held, when_free}
+use Rattle.model.proofs.Inheriting.{reranks-after_timeout, reranks-inherit}
 use Rattle.model.proofs.Unlocking.{opened_by, current-all_ready}
 use Rattle.model.specs.Order.{keyed}
 use Rattle.laws.specs.Choice.{IsChoice}
@@ -110,14 +113,14 @@ unfolding try answer go_to
 idle-try app i o a s r = by_test (possible s o a)
     (λ t. rw t (idle-preempt _))
     (λ t. rw t (by_test (is_expired s i)
-    (λ q. rw q (still_runs i s (answer app i (answer_to s o a) s) r refl))
+    (λ q. rw q (still_runs i s (answer app i (answer_to s o a) (after_timeout i o s)) r (reranks-after_timeout s i o).current))
     (λ q. rw q (still_runs i s (go_on i Decide s) r refl))))
 
 idle-decide : (i o : ℕ) (a : Access) (s : State) → s.current ≡ Some i → IdleAlone (decide i o a s)
 unfolding decide wait_in
 idle-decide i o a s r = by_test (possible s o a || is_expired s i)
     (λ t. rw t (still_runs i s (lock i o Unlock s) r refl))
-    (λ t. rw t (still_runs i s (lock i o Place (wait_in i (list_for o a) s)) r refl))
+    (λ t. rw t (still_runs i s (lock i o Place (wait_in i (list_for o a) (inherit i o s))) r (reranks-inherit s i o).current))
 
 current-unlock : (s : State) → (unlock s).current ≡ s.current
 unfolding unlock
@@ -145,6 +148,10 @@ idle-do_now : (app : Application) (i o : ℕ) (a : Access) (s : State) → IdleA
 unfolding do_now
 idle-do_now app i o a s = idle-preempt _
 
+idle-give_mutex : (app : Application) (i o : ℕ) (s : State) → IdleAlone (give_mutex app i o s)
+unfolding give_mutex
+idle-give_mutex app i o s = idle-preempt _
+
 idle-act : (app : Application) (i : ℕ) (op : Op) (s : State) → s.current ≡ Some i → IdleAlone (act app i op s)
 unfolding answer go_to open_loop close_turn
 idle-act app i (Work n) s r = idle-tick app (use_up app i n s)
@@ -158,12 +165,17 @@ idle-act app i (Repeat n) s r = still_runs i s (open_loop app i n s) r refl
 idle-act app i End s r = still_runs i s (close_turn app i s) r (current-turn app i (progress_at s i) (progress_at s i).loops s)
 idle-act app i (Await o a ticks) s r = idle-await app i o a ticks (call_at s i).phase s r
 idle-act app i (Do o a) s r = idle-do_now app i o a s
+idle-act app i (GiveMutex o) s r = idle-give_mutex app i o s
 idle-act app i (MessagesWaiting o) s r = still_runs i s (act app i (MessagesWaiting o) s) r refl
 idle-act app i (SpacesAvailable o) s r = still_runs i s (act app i (SpacesAvailable o) s) r refl
 
+idle-act_unless : (app : Application) (i : ℕ) (kind : Option Misuse) (op : Op) (s : State) → s.current ≡ Some i → IdleAlone (act_unless app i kind op s)
+idle-act_unless app i None op s r = idle-act app i op s r
+idle-act_unless app i (Some kind) op s r = still_runs i s (act_unless app i (Some kind) op s) r refl
+
 idle-act_if : (app : Application) (i : ℕ) (o : Option Op) (s : State) → s.current ≡ Some i → IdleAlone (act_if app i o s)
 idle-act_if app i None s r = still_runs i s s r refl
-idle-act_if app i (Some op) s r = idle-act app i op s r
+idle-act_if app i (Some op) s r = idle-act_unless app i (misuse s i op) op s r
 
 idle-act_current : (app : Application) (r : Option ℕ) (s : State) → s.current ≡ r → IdleAlone (act_current app r s)
 idle-act_current app None s e = idle-tick app s

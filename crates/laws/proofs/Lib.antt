@@ -4,3 +4,4 @@ pub mod OneRun
 pub mod Idle
 pub mod Changes
 pub mod Held
+pub mod Priorities

@@ -1,5 +1,6 @@
 -- Worked examples: applications, and what their runs come to.
 use Rattle.std.specs.Prelude.{ℕ, List, [], ◌∷◌, Some, None, codes}
+use Rattle.model.specs.declared.object.ObjectKind.{ObjectKind}
 use Rattle.model.specs.declared.object.ObjectKind.TheVariants.{Queue}
 use Rattle.model.specs.declared.op.Access.{Access}
 use Rattle.model.specs.declared.op.Access.TheVariants.{Send, Receive, Peek}
@@ -30,9 +31,13 @@ the_application start tasks = record { start = start; limits = wide; objects = [
 abbrev pub a_task_of : ℕ → List ℕ → List Op → Definition
 a_task_of priority name script = record { name = name; priority = priority; script = script }
 
--- an application that starts at 0, with one queue of length 1
+-- an application of these objects and these tasks, that starts at 0
+abbrev pub with_objects : List ObjectKind → List Definition → Application
+with_objects objects tasks = record { start = 0; limits = wide; objects = objects; handlers = []; interrupts = []; tasks = tasks }
+
+-- one with one queue of length 1
 abbrev pub with_queue : List Definition → Application
-with_queue tasks = record { start = 0; limits = wide; objects = Queue 1 ∷ []; handlers = []; interrupts = []; tasks = tasks }
+with_queue tasks = with_objects (Queue 1 ∷ []) tasks
 
 -- a call on that queue, which may wait for so many ticks
 abbrev pub on_queue : Access → ℕ → Op

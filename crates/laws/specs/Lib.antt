@@ -1,3 +1,4 @@
 pub mod Choice
 pub mod Examples
 pub mod HandlerExamples
+pub mod MutexExamples

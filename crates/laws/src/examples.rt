@@ -1,6 +1,7 @@
 //! Worked examples.
 ghost use Rattle.std.specs.List.{AllByRecursion};
 ghost use Rattle.laws.specs.Examples.{examples, Runs};
+ghost use Rattle.laws.specs.MutexExamples.{mutex_examples};
 ghost use Rattle.laws.specs.HandlerExamples.{injected_examples, RunsWith, rows, RowIs};
 
 /// Each application of the table of worked examples runs as the table says: round robin, `delay 0` that yields, `delay 1`
@@ -8,6 +9,14 @@ ghost use Rattle.laws.specs.HandlerExamples.{injected_examples, RunsWith, rows, 
 /// that wakes a higher reader, two writers on a full queue.
 pub fn examples_run()
     ensures { AllByRecursion Runs examples }
+{}
+
+/// Each application of the table of examples with semaphores and mutexes runs as the table says: a holder takes the priority
+/// of who waits for it, falls to that of the next waiter where the best one waited in vain, and keeps it until its last
+/// mutex is given back; a task that locks what it holds waits in vain; an unlock by another than the holder ends the run; a
+/// semaphore at its maximum isn't given.
+pub fn examples_with_mutexes_run()
+    ensures { AllByRecursion Runs mutex_examples }
 {}
 
 /// Each application of the table of examples with handlers runs as the table says: wakes through a locked queue lined up at

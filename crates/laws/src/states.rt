@@ -1,9 +1,9 @@
 //! What is true of the states that a run comes to.
-ghost use Rattle.std.specs.Prelude.{◌≡◌, ◌<◌, ◌+◌, ℕ, true, false, List, Some, None, IfSome};
+ghost use Rattle.std.specs.Prelude.{◌≡◌, ◌<◌, ◌≤◌, ◌+◌, ℕ, true, false, List, Some, None, IfSome};
 ghost use Rattle.model.specs.declared.plan.Point.{Point};
-ghost use Rattle.model.specs.Application.{Application};
+ghost use Rattle.model.specs.Application.{Application, definition_of};
 ghost use Rattle.model.specs.Scripts.{IsWellFormed};
-ghost use Rattle.model.specs.State.{State, status_at, ticket_of, wake_time_of};
+ghost use Rattle.model.specs.State.{State, status_at, task_at, ticket_of, wake_time_of};
 ghost use Rattle.model.specs.Switching.{choice, is_ready, is_outranked};
 ghost use Rattle.model.specs.Handlers.{inject, tick_interrupt};
 ghost use Rattle.model.specs.Run.{state_after};
@@ -58,6 +58,14 @@ pub fn tickets_differ()
         → ticket_of (status_at (state_after app plan n) a) ≡ Some ticket
         → ticket_of (status_at (state_after app plan n) b) ≡ Some ticket
         → a ≡ b }
+{}
+
+/// A task's base priority is the one that the file gives it, and its priority, which may be inherited, is never below that.
+pub fn priorities_are_at_least_those_of_the_file()
+    ensures base { (app : Application) (plan : List Point) (n task : ℕ) → IfSome (definition_of app task)
+        (λ d. (task_at (state_after app plan n) task).base_priority ≡ d.priority) }
+    ensures least { (app : Application) → IsWellFormed app → (plan : List Point) (n task : ℕ)
+        → (task_at (state_after app plan n) task).base_priority ≤ (task_at (state_after app plan n) task).priority }
 {}
 
 /// While a call holds the scheduler, a handler that comes before a step switches nothing: the same task runs.

@@ -5,11 +5,11 @@ use Rattle.std.specs.Option.{IfSome, option_map, option_and_then, is_some, unwra
 use Rattle.std.proofs.Math.ListN.{length-set}
 use Rattle.std.proofs.lemmas.Bool.{ltb-true}
 use Rattle.model.specs.declared.object.ObjectKind.{ObjectKind}
-use Rattle.model.specs.declared.object.ObjectKind.TheVariants.{Queue}
+use Rattle.model.specs.declared.object.ObjectKind.TheVariants.{Queue, Semaphore, Mutex}
 use Rattle.model.specs.declared.op.Op.{Op}
 use Rattle.model.specs.declared.op.Op.TheVariants.{Await, Do}
 use Rattle.model.specs.declared.op.Access.{Access}
-use Rattle.model.specs.declared.op.Access.TheVariants.{Send, SendFront, Overwrite, Receive, Peek}
+use Rattle.model.specs.declared.op.Access.TheVariants.{Send, SendFront, Overwrite, Receive, Peek, Take, Give, Lock}
 use Rattle.model.specs.declared.call.CallProgress.{CallProgress}
 use Rattle.model.specs.declared.call.Phase.{Phase}
 use Rattle.model.specs.declared.call.Phase.TheVariants.{Start, Try, Decide, Place, Unlock, Leave}
@@ -22,7 +22,7 @@ use Rattle.model.specs.Order.{Key, Entry, first, task_of}
 use Rattle.model.specs.Switching.{is_ready}
 use Rattle.model.specs.Waiting.{same_list, wait_key, waiters, awake_status, awaken, is_locked, wake_one, wake_best, wait_in, set_deadline, is_expired}
 use Rattle.model.specs.Objects.{allows, object_after, list_woken, list_for, possible, answer_to, fulfil, attempt}
-use Rattle.model.specs.Calls.{try, do_now}
+use Rattle.model.specs.Calls.{do_now}
 use Rattle.model.specs.Ops.{answer}
 use Rattle.model.specs.Invariant.{HasTicketBelow, IsReckoned, Hold, awaited, IsPhaseOf, list_of_op, IsWaitOf, IsCall, IsObject, IsSound, holds}
 use Rattle.model.proofs.Sorting.{by_test}
@@ -76,16 +76,47 @@ after (Some (Queue size)) caller (SendFront v) o f h t = (h.0, let same = h.0 in
 after (Some (Queue size)) caller (Overwrite v) o f h t = (h.0, let one = eqb-same size 1 f in omega arith)
 after (Some (Queue size)) caller Receive o f h t = (h.0, fewer o.items o.size h.1)
 after (Some (Queue size)) caller Peek o f h t = h
+after (Some (Queue size)) caller Take o f h t = absurd (cc)
+after (Some (Queue size)) caller Give o f h t = absurd (cc)
+after (Some (Queue size)) caller Lock o f h t = absurd (cc)
+after (Some (Semaphore most first)) caller (Send v) o f h t = absurd (cc)
+after (Some (Semaphore most first)) caller (SendFront v) o f h t = absurd (cc)
+after (Some (Semaphore most first)) caller (Overwrite v) o f h t = absurd (cc)
+after (Some (Semaphore most first)) caller Receive o f h t = absurd (cc)
+after (Some (Semaphore most first)) caller Peek o f h t = absurd (cc)
+after (Some (Semaphore most first)) caller Take o f h t = (h.0, let l = h.1 in omega arith)
+after (Some (Semaphore most first)) caller Give o f h t = (h.0, let l = ltb-true o.count o.max_count t in omega arith)
+after (Some (Semaphore most first)) caller Lock o f h t = absurd (cc)
+after (Some Mutex) caller (Send v) o f h t = absurd (cc)
+after (Some Mutex) caller (SendFront v) o f h t = absurd (cc)
+after (Some Mutex) caller (Overwrite v) o f h t = absurd (cc)
+after (Some Mutex) caller Receive o f h t = absurd (cc)
+after (Some Mutex) caller Peek o f h t = absurd (cc)
+after (Some Mutex) caller Take o f h t = absurd (cc)
+after (Some Mutex) caller Give o f h t = absurd (cc)
+after (Some Mutex) caller Lock o f h t = h
+
+-- who holds the object after a call is the caller, or who held it
+pub held_after : (caller : Option ℕ) (a : Access) (o : Object) (tasks : ℕ) → IfSome caller (λ i. i < tasks) → IfSome o.holder (λ i. i < tasks) → IfSome (object_after caller a o).holder (λ i. i < tasks)
+held_after caller (Send v) o tasks l h = h
+held_after caller (SendFront v) o tasks l h = h
+held_after caller (Overwrite v) o tasks l h = h
+held_after caller Receive o tasks l h = h
+held_after caller Peek o tasks l h = h
+held_after caller Take o tasks l h = h
+held_after caller Give o tasks l h = h
+held_after caller Lock o tasks l h = l
 
 module _ (app : Application) (formed : IsWellFormed app) (hold : Hold) where
-  pub stored : (s : State) (o : ℕ) (x : Object) → IsSound app hold s → IsObject (slice_get app.objects o) x → IsSound app hold (with_object o x s)
-  stored s o x h fine = record {
-    table = record { tickets = h.table.tickets; few = h.table.few; current = h.table.current };
+  pub stored : (s : State) (o : ℕ) (x : Object) → IsSound app hold s → IsObject (slice_get app.objects o) x → IfSome x.holder (λ i. i < length s.tasks) → IsSound app hold (with_object o x s)
+  stored s o x h fine held = record {
+    table = record { tickets = h.table.tickets; few = h.table.few; current = h.table.current; holders = each-set no_object (λ _ u. IfSome u.holder (λ i. i < length s.tasks)) s.objects o x held h.table.holders };
     tasks = h.tasks;
     objects = rw length-set h.objects;
     progress = h.progress;
     calls = h.calls;
     contents = each-set no_object (λ k. IsObject (slice_get app.objects k)) s.objects o x fine h.contents;
+    priorities = h.priorities;
     time = h.time;
   }
 
@@ -103,12 +134,14 @@ module _ (app : Application) (formed : IsWellFormed app) (hold : Hold) where
       let R : Status → Type 0 = λ v. IsReckoned s.time (progress_at s i).previous_wake v in
       let W : Status → Type 0 = λ v. IfSome (wait_of v) (λ x. IsWaitOf (op_at app i (progress_at s i).op_index) (call_at s i).deadline x) in
       let A : Status → Type 0 = λ v. IfSome (wait_if_awake v) (λ x. is_locked hold.locked x.list ≡ true) in
+      let P : Status → Type 0 = λ v. IfSome (wait_of v) (λ x. x.priority < 32) in
       let below : HasTicketBelow s.next_ticket (Waiting w.wait) = subst B w.is (ticket_at s.next_ticket i s.tasks h.table.tickets) in
       let reckoned : IsReckoned s.time (progress_at s i).previous_wake (Waiting w.wait) = subst R w.is a.reckoned in
       let waits : IfSome (wait_of (Waiting w.wait)) (λ x. IsWaitOf (op_at app i (progress_at s i).op_index) (call_at s i).deadline x) = subst W w.is c.wait in
       changed app formed hold s i (record (task_at s i) { status = u }) h (subst B (sym same) below) (
         record { nests = a.nests; loops = a.loops; used = a.used; reckoned = subst R (sym same) reckoned },
         record { phase = c.phase; wait = subst W (sym same) waits; awake = subst A (sym same) there; near = c.near },
+        ((h.priorities i).0, (h.priorities i).1, subst P (sym same) (subst P w.is (h.priorities i).2)),
       )
 
   pub woken_one : (s : State) (i : ℕ) (list : WaitList) → IsSound app hold s → s.locked ≡ hold.locked → i < length s.tasks → WaitsIn list (status_at s i) → IsSound app hold (wake_one i list s)
@@ -132,15 +165,15 @@ module _ (app : Application) (formed : IsWellFormed app) (hold : Hold) where
   woken_for s None h same = h
   woken_for s (Some list) h same = woken_best s list h same
 
-  pub fulfilled : (s : State) (caller : Option ℕ) (o : ℕ) (a : Access) → IsSound app hold s → s.locked ≡ hold.locked → possible s o a ≡ true → fits_object app o a ≡ true → IsSound app hold (fulfil caller o a s)
+  pub fulfilled : (s : State) (caller : Option ℕ) (o : ℕ) (a : Access) → IsSound app hold s → s.locked ≡ hold.locked → possible s o a ≡ true → fits_object app o a ≡ true → IfSome caller (λ i. i < length s.tasks) → IsSound app hold (fulfil caller o a s)
   unfolding fulfil
-  fulfilled s caller o a h same t f =
+  fulfilled s caller o a h same t f l =
       woken_for (with_object o (object_after caller a (object_at s o)) s) (list_woken caller o a)
-      (stored s o (object_after caller a (object_at s o)) h (after (slice_get app.objects o) caller a (object_at s o) f (h.contents o) t)) same
+      (stored s o (object_after caller a (object_at s o)) h (after (slice_get app.objects o) caller a (object_at s o) f (h.contents o) t) (held_after caller a (object_at s o) (length s.tasks) l (h.table.holders o))) same
 
-  pub attempted : (s : State) (caller : Option ℕ) (o : ℕ) (a : Access) → IsSound app hold s → s.locked ≡ hold.locked → fits_object app o a ≡ true → IsSound app hold (attempt caller o a s)
+  pub attempted : (s : State) (caller : Option ℕ) (o : ℕ) (a : Access) → IsSound app hold s → s.locked ≡ hold.locked → fits_object app o a ≡ true → IfSome caller (λ i. i < length s.tasks) → IsSound app hold (attempt caller o a s)
   unfolding attempt
-  attempted s caller o a h same f = by_test (possible s o a) (λ t. rw t (fulfilled s caller o a h same t f)) (λ t. rw t h)
+  attempted s caller o a h same f l = by_test (possible s o a) (λ t. rw t (fulfilled s caller o a h same t f l)) (λ t. rw t h)
 
 -- ---- a wake leaves who is Ready as it is
 
@@ -159,7 +192,7 @@ unfolding waits_key
 first_spared s i list [] r has = refl
 first_spared s i list (e ∷ es) r has = spared_one s i e.task list r (waits_in list (status_at s e.task) e.key has.0.key)
 
-spared_best : (s : State) (i : ℕ) (list : WaitList) → is_ready s i ≡ true → task_at (wake_best list s) i ≡ task_at s i
+pub spared_best : (s : State) (i : ℕ) (list : WaitList) → is_ready s i ≡ true → task_at (wake_best list s) i ≡ task_at s i
 unfolding wake_best waits_key
 spared_best s i list r = first_spared s i list (waiters s list) r (list_has (waits_key list) s.tasks)
 
@@ -188,7 +221,7 @@ module _ (app : Application) (formed : IsWellFormed app) (hold : Hold) where
       let a = h.progress i in
       let c = h.calls i in
       changed app formed hold s i (record (task_at s i) { progress = record (progress_at s i) { call = record (call_at s i) { phase = phase } } }) h (ticket_at s.next_ticket i s.tasks h.table.tickets)
-      (record { nests = a.nests; loops = a.loops; used = a.used; reckoned = a.reckoned }, record { phase = p; wait = c.wait; awake = c.awake; near = c.near })
+      (record { nests = a.nests; loops = a.loops; used = a.used; reckoned = a.reckoned }, record { phase = p; wait = c.wait; awake = c.awake; near = c.near }, h.priorities i)
 
   -- a call that begins gets its deadline
   pub dated : (s : State) (i : ℕ) (ticks : Option ℕ) → IsSound app hold s → wait_of (status_at s i) ≡ None → is_wait ticks ≡ true → IsSound app hold (set_deadline i ticks s)
@@ -199,29 +232,19 @@ module _ (app : Application) (formed : IsWellFormed app) (hold : Hold) where
       let deadline : Option ℕ = option_map (λ n. s.time + n) ticks in
       let W : Option Wait → Type 0 = λ o. IfSome o (λ w. IsWaitOf (op_at app i (progress_at s i).op_index) deadline w) in
       changed app formed hold s i (record (task_at s i) { progress = record (progress_at s i) { call = record (call_at s i) { deadline = deadline } } }) h (ticket_at s.next_ticket i s.tasks h.table.tickets)
-      (record { nests = a.nests; loops = a.loops; used = a.used; reckoned = a.reckoned }, record { phase = c.phase; wait = subst W (sym free) tt; awake = c.awake; near = near_now ticks s.time range })
+      (record { nests = a.nests; loops = a.loops; used = a.used; reckoned = a.reckoned }, record { phase = c.phase; wait = subst W (sym free) tt; awake = c.awake; near = near_now ticks s.time range }, h.priorities i)
 
   -- the call is done, or not, and answers
-  replied : (s t : State) (i : ℕ) (op : Op) (reply : Option ℕ) → IsSound app hold t → task_at t i ≡ task_at s i → is_ready s i ≡ true → op_at app i (progress_at s i).op_index ≡ Some op → ((nesting : ℕ) → nesting_past nesting op ≡ nesting) → IsSound app hold (answer app i reply t)
+  pub replied : (s t : State) (i : ℕ) (op : Op) (reply : Option ℕ) → IsSound app hold t → task_at t i ≡ task_at s i → is_ready s i ≡ true → op_at app i (progress_at s i).op_index ≡ Some op → ((nesting : ℕ) → nesting_past nesting op ≡ nesting) → IsSound app hold (answer app i reply t)
   replied s t i op reply h same r is flat =
       let O : Task → Type 0 = λ u. op_at app i u.progress.op_index ≡ Some op in
       let F : Task → Type 0 = λ u. wait_of u.status ≡ None in
       answered app formed hold t i op h (subst F (sym same) (ready_free (status_at s i) r)) (subst O (sym same) is) reply (flat (length (progress_at t i).loops))
 
-  pub tried : (s : State) (i o : ℕ) (a : Access) (ticks : Option ℕ) → IsSound app hold s → s.locked ≡ hold.locked → is_ready s i ≡ true → op_at app i (progress_at s i).op_index ≡ Some (Await o a ticks) → fits_object app o a ≡ true → IsSound app hold (try app i o a s)
-  unfolding try
-  tried s i o a ticks h same r is fit =
-      let P : Option Op → Type 0 = λ op. IsPhaseOf hold (awaited op) Decide in
-      by_test (possible s o a)
-      (λ t. rw t (preempted app formed hold _ (replied s (fulfil (Some i) o a s) i (Await o a ticks) (answer_to s o a) (fulfilled app formed hold s (Some i) o a h same t fit) (spared_fulfil s i (Some i) o a r) r is (λ n. refl))))
-      (λ t. rw t (by_test (is_expired s i)
-      (λ u. rw u (replied s s i (Await o a ticks) (answer_to s o a) h refl r is (λ n. refl)))
-      (λ u. rw u (went_on s i Decide h (subst P (sym is) tt)))))
-
-  pub done_now : (s : State) (i o : ℕ) (a : Access) → IsSound app hold s → s.locked ≡ hold.locked → is_ready s i ≡ true → op_at app i (progress_at s i).op_index ≡ Some (Do o a) → fits_object app o a ≡ true → IsSound app hold (do_now app i o a s)
+  pub done_now : (s : State) (i o : ℕ) (a : Access) → IsSound app hold s → s.locked ≡ hold.locked → i < length s.tasks → is_ready s i ≡ true → op_at app i (progress_at s i).op_index ≡ Some (Do o a) → fits_object app o a ≡ true → IsSound app hold (do_now app i o a s)
   unfolding do_now
-  done_now s i o a h same r is fit =
-      preempted app formed hold _ (replied s (attempt (Some i) o a s) i (Do o a) (answer_to s o a) (attempted app formed hold s (Some i) o a h same fit) (spared_attempt s i (Some i) o a r) r is (λ n. refl))
+  done_now s i o a h same l r is fit =
+      preempted app formed hold _ (replied s (attempt (Some i) o a s) i (Do o a) (answer_to s o a) (attempted app formed hold s (Some i) o a h same fit l) (spared_attempt s i (Some i) o a r) r is (λ n. refl))
 
   -- a wait begins
   pub began : (s : State) (i o : ℕ) (a : Access) (ticks : Option ℕ) → IsSound app hold s → i < length s.tasks → is_ready s i ≡ true → op_at app i (progress_at s i).op_index ≡ Some (Await o a ticks) → IsSound app hold (wait_in i (list_for o a) s)
@@ -238,11 +261,12 @@ module _ (app : Application) (formed : IsWellFormed app) (hold : Hold) where
       let past : (progress_at s i).previous_wake ≤ s.time = ready_reckoned s.time (progress_at s i).previous_wake (status_at s i) a0.reckoned r in
       let L : Option Op → Type 0 = λ op. list_of_op op ≡ Some list in
       let h1 : IsSound app hold s1 = changed app formed hold s i t h (ticket_at s.next_ticket i s.tasks h.table.tickets)
-      (record { nests = a0.nests; loops = a0.loops; used = a0.used; reckoned = a0.reckoned }, record { phase = c0.phase; wait = c0.wait; awake = c0.awake; near = c0.near }) in
+      (record { nests = a0.nests; loops = a0.loops; used = a0.used; reckoned = a0.reckoned }, record { phase = c0.phase; wait = c0.wait; awake = c0.awake; near = c0.near }, h.priorities i) in
       let K : Task → Type 0 = λ u. IsKept app formed hold s.time i (record u { status = f s.next_ticket }) in
       taken app formed hold s1 i f h1 (omega arith) (subst K (sym at) (
         record { nests = a0.nests; loops = a0.loops; used = a0.used; reckoned = past },
         record { phase = c0.phase; wait = record { list = subst L (sym is) refl; deadline = refl }; awake = tt; near = c0.near },
+        ((h.priorities i).0, (h.priorities i).1, (h.priorities i).1),
       ))
 
 -- a call that gets its deadline is that of a task that is Ready still, and at the same op
@@ -301,7 +325,7 @@ module _ (app : Application) (formed : IsWellFormed app) (old new : Hold) where
   -- one task changes, and what is held
   pub rehung : (s : State) (i : ℕ) (t : Task) → IsSound app old s → i < length s.tasks → HasTicketBelow s.next_ticket t.status → IsKept app formed new s.time i t → ((j : ℕ) → j ≢ i → IsCall new s.time (op_at app j (progress_at s j).op_index) (task_at s j)) → IsSound app new (with_task i t s)
   rehung s i t h l b k others =
-      let all : (j : ℕ) → IsKept app formed new s.time j (get_or (set s.tasks i t) j no_task) = each-set_but no_task (IsKept app formed new s.time) s.tasks i t l k (λ j ne. (h.progress j, others j ne)) in
+      let all : (j : ℕ) → IsKept app formed new s.time j (get_or (set s.tasks i t) j no_task) = each-set_but no_task (IsKept app formed new s.time) s.tasks i t l k (λ j ne. (h.progress j, others j ne, h.priorities j)) in
       record {
         table = table-set s i t h.table b;
         tasks = rw length-set h.tasks;
@@ -309,9 +333,10 @@ module _ (app : Application) (formed : IsWellFormed app) (old new : Hold) where
         progress = λ j. (all j).0;
         calls = λ j. (all j).1;
         contents = h.contents;
+        priorities = λ j. (all j).2;
         time = h.time;
       }
 
   -- what is held changes, and no task
   pub reheld : (s : State) → IsSound app old s → ((j : ℕ) → IsCall new s.time (op_at app j (progress_at s j).op_index) (task_at s j)) → IsSound app new s
-  reheld s h calls = record { table = h.table; tasks = h.tasks; objects = h.objects; progress = h.progress; calls = calls; contents = h.contents; time = h.time }
+  reheld s h calls = record { table = h.table; tasks = h.tasks; objects = h.objects; progress = h.progress; calls = calls; contents = h.contents; priorities = h.priorities; time = h.time }

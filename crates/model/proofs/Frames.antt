@@ -1,9 +1,9 @@
 -- What a deed leaves as it was, as one record for each deed: a field more of the state is a field more here.
-use Rattle.std.proofs.Common.{◌≡◌, ◌≤◌, ◌+◌, ◌-◌, ◌||◌, ℕ, eqb, leb, ltb, List, [], ◌∷◌, ◌++◌, Option, Some, None, refl, sym, subst, ◌∙◌, arith, length}
+use Rattle.std.proofs.Common.{max, ◌≡◌, ◌≤◌, ◌+◌, ◌-◌, ◌||◌, ℕ, eqb, leb, ltb, List, [], ◌∷◌, ◌++◌, Option, Some, None, refl, sym, subst, ◌∙◌, arith, length}
 use Rattle.std.specs.Option.{option_eq, option_map, is_some}
 use Rattle.std.proofs.Math.ListN.{length-set}
 use Rattle.model.specs.declared.op.Op.{Op}
-use Rattle.model.specs.declared.op.Op.TheVariants.{Work, Delay, DelayUntil, Yield, Time, Mark, Expect, Repeat, End, Await, Do, MessagesWaiting, SpacesAvailable}
+use Rattle.model.specs.declared.op.Op.TheVariants.{Work, Delay, DelayUntil, Yield, Time, Mark, Expect, Repeat, End, Await, Do, GiveMutex, MessagesWaiting, SpacesAvailable}
 use Rattle.model.specs.declared.op.Access.{Access}
 use Rattle.model.specs.declared.call.CallProgress.{CallProgress}
 use Rattle.model.specs.declared.call.Phase.{Phase}
@@ -12,11 +12,12 @@ use Rattle.model.specs.declared.call.WaitList.{WaitList}
 use Rattle.model.specs.declared.call.WaitList.TheVariants.{ToReceive, ToSend}
 use Rattle.model.specs.declared.loops.Loop.{Loop}
 use Rattle.model.specs.declared.event.What.{What}
+use Rattle.model.specs.declared.event.Misuse.{Misuse}
 use Rattle.model.specs.declared.event.What.TheVariants as what
 use Rattle.model.specs.declared.op.IsrOp.{IsrOp}
 use Rattle.model.specs.declared.op.IsrOp.TheVariants as isr_op
 use Rattle.model.specs.Application.{Application, op_at, op_count, ops_of, interrupts_at}
-use Rattle.model.specs.State.{State, Task, Progress, Status, Ready, Asleep, task_at, status_at, progress_at, call_at, object_at, with_task, with_call, with_object, take_ticket, for_one, for_each, printed}
+use Rattle.model.specs.State.{State, Task, Object, Progress, Status, Ready, Asleep, task_at, status_at, progress_at, call_at, object_at, with_task, with_call, with_object, take_ticket, for_one, for_each, printed}
 use Rattle.model.specs.Order.{tasks_of, task_of, first}
 use Rattle.model.specs.Switching.{make_ready, to_back, dispatch, choose, choice, is_same, is_ready, yield_now, is_outranked, is_sharing, preempt, slice, settle, unless_held, is_off, write}
 use Rattle.model.specs.Time.{wake_due, due, advance, increment_tick, sleep, set_previous_wake}
@@ -24,9 +25,10 @@ use Rattle.model.specs.Waiting.{waiters, awakened, awake_status, is_locked, wake
 use Rattle.model.specs.Objects.{possible, answer_to, object_after, list_woken, fulfil, attempt}
 use Rattle.model.specs.Calls.{try, decide, leave_call, await, do_now}
 use Rattle.model.specs.Ops.{go_to, moved_to, complete, called, answer, use_up, delay, delay_until, expect, open_loop, turn, close_turn}
+use Rattle.model.specs.Mutexes.{set_priority, mutexes_held, lend, inherits, inherit_from, inherit, best_priority, fall_back, after_timeout, disinherit, give_mutex}
 use Rattle.model.specs.Invariant.{hold_of, awaited}
 use Rattle.model.specs.Handlers.{isr_told, isr, isr_each, handle, inject, interrupt, tick_interrupt}
-use Rattle.model.specs.Step.{act, act_if, act_current, before_step, step, reset, nobody_ready, ready_at_reset, with_ops}
+use Rattle.model.specs.Step.{act, act_unless, misuse, act_if, act_current, before_step, step, reset, nobody_ready, ready_at_reset, with_ops}
 use Rattle.model.proofs.Sorting.{by_test}
 use Rattle.model.proofs.Settled.{when_held, when_free}
 
@@ -191,6 +193,63 @@ pub keeps-set_deadline : (i : ℕ) (ticks : Option ℕ) (s : State) → Keeps s 
 unfolding set_deadline
 keeps-set_deadline i ticks s = keeps-with_call i (record (call_at s i) { deadline = option_map (λ n. s.time + n) ticks }) s
 
+-- ---- priorities
+
+pub keeps-set_priority : (i priority : ℕ) (s : State) → Keeps s (set_priority i priority s)
+unfolding set_priority
+keeps-set_priority i priority s =
+    let t : State = with_task i (record (task_at s i) { priority = priority }) s in
+    by_test (eqb (task_at s i).priority priority)
+    (λ e. rw e (keeps s))
+    (λ e. rw e (keeps_both s t (to_back i t) (keeps-with_task i (record (task_at s i) { priority = priority }) s) (keeps-to_back i t)))
+
+pub keeps-lend : (priority holder : ℕ) (s : State) → Keeps s (lend priority holder s)
+keeps-lend priority holder s = by_test (ltb (task_at s holder).priority priority)
+    (λ t. rw t (keeps-set_priority holder priority s))
+    (λ t. rw t (keeps s))
+
+keeps-inherit_from : (i holder : ℕ) (s : State) → Keeps s (inherit_from i holder s)
+keeps-inherit_from i holder s =
+    let t : State = with_call i (record (call_at s i) { inherited = inherits i holder s }) s in
+    keeps_both s t (lend (task_at s i).priority holder t) (keeps-with_call i (record (call_at s i) { inherited = inherits i holder s }) s) (keeps-lend (task_at s i).priority holder t)
+
+pub keeps-inherit : (i o : ℕ) (s : State) → Keeps s (inherit i o s)
+unfolding inherit
+keeps-inherit i o s = keeps-for_one (inherit_from i) (object_at s o).holder s (λ holder. keeps-inherit_from i holder s)
+
+keeps-fall_back : (o holder : ℕ) (s : State) → Keeps s (fall_back o holder s)
+keeps-fall_back o holder s = by_test (eqb (mutexes_held s holder) 1)
+    (λ t. rw t (keeps-set_priority holder (max (task_at s holder).base_priority (best_priority s (ToReceive o))) s))
+    (λ t. rw t (keeps s))
+
+pub keeps-after_timeout : (i o : ℕ) (s : State) → Keeps s (after_timeout i o s)
+unfolding after_timeout
+keeps-after_timeout i o s = by_test (call_at s i).inherited
+    (λ t. rw t (keeps-for_one (fall_back o) (object_at s o).holder s (λ holder. keeps-fall_back o holder s)))
+    (λ t. rw t (keeps s))
+
+pub keeps-disinherit : (i : ℕ) (s : State) → Keeps s (disinherit i s)
+unfolding disinherit
+keeps-disinherit i s = by_test (eqb (mutexes_held s i) 0)
+    (λ t. rw t (keeps-set_priority i (task_at s i).base_priority s))
+    (λ t. rw t (keeps s))
+
+pub keeps-with_object : (o : ℕ) (x : Object) (s : State) → Keeps s (with_object o x s)
+keeps-with_object o x s = record { time = refl; elapsed = refl; steps = refl; stopped = refl; tasks = refl; hold = refl }
+
+pub keeps-give_mutex : (app : Application) (i o : ℕ) (s : State) → Keeps s (give_mutex app i o s)
+unfolding give_mutex
+keeps-give_mutex app i o s =
+    let x : Object = record (object_at s o) { holder = None } in
+    let a : State = with_object o x s in
+    let b : State = disinherit i a in
+    let c : State = wake_best (ToReceive o) b in
+    let d : State = answer app i (Some 1) c in
+    keeps_both s a (preempt d) (keeps-with_object o x s) (keeps_both a b (preempt d) (keeps-disinherit i a)
+    (keeps_both b c (preempt d) (keeps-wake_best (ToReceive o) b) (keeps_both c d (preempt d) (keeps-answer app i (Some 1) c) (keeps-preempt d))))
+
+-- ---- calls that may wait, and those that don't
+
 pub keeps-try : (app : Application) (i o : ℕ) (a : Access) (s : State) → Keeps s (try app i o a s)
 unfolding try
 keeps-try app i o a s =
@@ -199,7 +258,7 @@ keeps-try app i o a s =
     by_test (possible s o a)
     (λ p. rw p (keeps_both s t (preempt u) (keeps-fulfil (Some i) o a s) (keeps_both t u (preempt u) (keeps-answer app i (answer_to s o a) t) (keeps-preempt u))))
     (λ p. rw p (by_test (is_expired s i)
-    (λ q. rw q (keeps-answer app i (answer_to s o a) s))
+    (λ q. rw q (keeps_both s (after_timeout i o s) (answer app i (answer_to s o a) (after_timeout i o s)) (keeps-after_timeout i o s) (keeps-answer app i (answer_to s o a) (after_timeout i o s))))
     (λ q. rw q (keeps-with_call i (record (call_at s i) { phase = Decide }) s))))
 
 pub keeps-do_now : (app : Application) (i o : ℕ) (a : Access) (s : State) → Keeps s (do_now app i o a s)
@@ -261,7 +320,7 @@ elapsed-unlock s = by_locked s.locked where
 
 elapsed-decide : (i o : ℕ) (a : Access) (s : State) → (decide i o a s).elapsed ≡ s.elapsed
 unfolding decide wait_in
-elapsed-decide i o a s = by_test (possible s o a || is_expired s i) (λ t. rw t refl) (λ t. rw t refl)
+elapsed-decide i o a s = by_test (possible s o a || is_expired s i) (λ t. rw t refl) (λ t. rw t (keeps-inherit i o s).elapsed)
 
 elapsed-leave_call : (i : ℕ) (s : State) → (leave_call i s).elapsed ≡ s.elapsed
 unfolding leave_call
@@ -315,6 +374,7 @@ hold-act app i (Repeat n) s w = (keeps-open_loop app i n s).hold
 hold-act app i End s w = (keeps-close_turn app i s).hold
 hold-act app i (Await o a ticks) s w = absurd (cc)
 hold-act app i (Do o a) s w = (keeps-do_now app i o a s).hold
+hold-act app i (GiveMutex o) s w = (keeps-give_mutex app i o s).hold
 hold-act app i (MessagesWaiting o) s w = (keeps-answer app i (Some (length (object_at s o).items)) s).hold
 hold-act app i (SpacesAvailable o) s w = (keeps-answer app i (Some ((object_at s o).size - length (object_at s o).items)) s).hold
 
@@ -340,12 +400,17 @@ elapsed-act app i (Repeat n) s = let e = (keeps-open_loop app i n s).elapsed in 
 elapsed-act app i End s = let e = (keeps-close_turn app i s).elapsed in omega arith
 elapsed-act app i (Await o a ticks) s = let e = elapsed-await app i o a ticks (call_at s i).phase s in omega arith
 elapsed-act app i (Do o a) s = let e = (keeps-do_now app i o a s).elapsed in omega arith
+elapsed-act app i (GiveMutex o) s = let e = (keeps-give_mutex app i o s).elapsed in omega arith
 elapsed-act app i (MessagesWaiting o) s = let e = (keeps-answer app i (Some (length (object_at s o).items)) s).elapsed in omega arith
 elapsed-act app i (SpacesAvailable o) s = let e = (keeps-answer app i (Some ((object_at s o).size - length (object_at s o).items)) s).elapsed in omega arith
 
+elapsed-act_unless : (app : Application) (i : ℕ) (kind : Option Misuse) (op : Op) (s : State) → (act_unless app i kind op s).elapsed ≤ s.elapsed + 1
+elapsed-act_unless app i None op s = elapsed-act app i op s
+elapsed-act_unless app i (Some kind) op s = omega arith
+
 elapsed-act_if : (app : Application) (i : ℕ) (o : Option Op) (s : State) → (act_if app i o s).elapsed ≤ s.elapsed + 1
 elapsed-act_if app i None s = omega arith
-elapsed-act_if app i (Some op) s = elapsed-act app i op s
+elapsed-act_if app i (Some op) s = elapsed-act_unless app i (misuse s i op) op s
 
 elapsed-act_current : (app : Application) (r : Option ℕ) (s : State) → (act_current app r s).elapsed ≤ s.elapsed + 1
 elapsed-act_current app None s = let e = elapsed-tick app s in omega arith

@@ -1,19 +1,19 @@
 -- What a handler keeps of a state, and what it spares.
-use Rattle.std.proofs.Common.{◌≡◌, ◌<◌, ◌+◌, ℕ, true, get_or, set, List, [], ◌∷◌, Option, Some, None, refl, ap, sym, subst, ◌∙◌}
+use Rattle.std.proofs.Common.{◌≡◌, ◌<◌, ◌+◌, ◌&&◌, ℕ, Bool, true, false, get_or, set, List, [], ◌∷◌, Option, Some, None, refl, ap, sym, subst, ◌∙◌}
 use Rattle.std.specs.List.{AllByRecursion}
 use Rattle.std.specs.Option.{IfSome, is_some}
 use Rattle.model.specs.declared.op.Op.{Op}
-use Rattle.model.specs.declared.op.Op.TheVariants.{Work, Delay, DelayUntil, Yield, Time, Mark, Expect, Repeat, End, Await, Do, MessagesWaiting, SpacesAvailable}
+use Rattle.model.specs.declared.op.Op.TheVariants.{Work, Delay, DelayUntil, Yield, Time, Mark, Expect, Repeat, End, Await, Do, GiveMutex, MessagesWaiting, SpacesAvailable}
 use Rattle.model.specs.declared.op.IsrOp.{IsrOp}
 use Rattle.model.specs.declared.op.IsrOp.TheVariants as isr_op
 use Rattle.model.specs.declared.op.Access.{Access}
-use Rattle.model.specs.declared.op.Access.TheVariants.{Send, SendFront, Overwrite, Receive, Peek}
+use Rattle.model.specs.declared.op.Access.TheVariants.{Send, SendFront, Overwrite, Receive, Peek, Take, Give, Lock}
 use Rattle.model.specs.declared.call.Phase.TheVariants.{Place}
 use Rattle.model.specs.declared.call.WaitList.{WaitList}
 use Rattle.model.specs.declared.event.What.{What}
 use Rattle.model.specs.declared.event.What.TheVariants as what
 use Rattle.model.specs.Application.{Application, op_at, ops_of, interrupts_at}
-use Rattle.model.specs.Scripts.{IsWellFormed, knows_isr}
+use Rattle.model.specs.Scripts.{IsWellFormed, fits_object, knows_isr}
 use Rattle.model.specs.State.{State, Task, Progress, Object, Status, Wait, Ready, Awake, Waiting, Asleep, Ended, ticket_if_ready, wait_of, task_at, status_at, progress_at, call_at, object_at, with_object, for_one, for_each, no_task}
 use Rattle.model.specs.Order.{Entry, first, task_of}
 use Rattle.model.specs.Switching.{is_ready, write}
@@ -29,11 +29,15 @@ use Rattle.model.proofs.Frames.{Keeps, keeps, keeps_both, keeps-wake_one, keeps-
 use Rattle.model.proofs.Sound.{each-set, logged, sliced, woken, later}
 use Rattle.model.proofs.Called.{WaitsIn, waits_in, waits_key, same_list_eq, attempted, spared_one}
 
+pub and_left : (a b : Bool) → (a && b) ≡ true → a ≡ true
+and_left true b t = refl
+and_left false b t = absurd (cc)
+
 -- ---- what is kept, while this is held and locked
 
 module _ (app : Application) (formed : IsWellFormed app) (hold : Hold) where
   isr_done : (s : State) (handler op_index : ℕ) (op : IsrOp) → knows_isr app op ≡ true → IsSound app hold s → s.locked ≡ hold.locked → IsSound app hold (isr handler op_index op s)
-  isr_done s handler op_index (isr_op.Do o a) known h same = let t : State = attempt None o a s in logged app formed hold t _ t.steps t.stopped (attempted app formed hold s None o a h same known)
+  isr_done s handler op_index (isr_op.Do o a) known h same = let t : State = attempt None o a s in logged app formed hold t _ t.steps t.stopped (attempted app formed hold s None o a h same (and_left (fits_object app o a) _ known) tt)
   isr_done s handler op_index (isr_op.Mark n) known h same = logged app formed hold s _ s.steps s.stopped h
 
   each_done : (ops : List IsrOp) (s : State) (handler op_index : ℕ) → AllByRecursion (λ (op : IsrOp). knows_isr app op ≡ true) ops → IsSound app hold s → s.locked ≡ hold.locked → IsSound app hold (isr_each handler op_index ops s)
@@ -180,6 +184,9 @@ is_locked-own o (SendFront v) = eqb-refl o
 is_locked-own o (Overwrite v) = eqb-refl o
 is_locked-own o Receive = eqb-refl o
 is_locked-own o Peek = eqb-refl o
+is_locked-own o Take = eqb-refl o
+is_locked-own o Give = eqb-refl o
+is_locked-own o Lock = eqb-refl o
 
 -- who is to be placed waits for the locked object
 place_locked : (hold : Hold) (op : Option Op) (list : WaitList) → IsPhaseOf hold (awaited op) Place → list_of_op op ≡ Some list → is_locked hold.locked list ≡ true
@@ -198,6 +205,7 @@ place_locked hold (Some (Await o a ticks)) list p e =
     let P : Option ℕ → WaitList → Type 0 = λ l x. is_locked l x ≡ true in
     subst (P hold.locked) same (subst (λ l. P l (list_for o a)) (sym p.1) (is_locked-own o a))
 place_locked hold (Some (Do o a)) list p e = absurd p
+place_locked hold (Some (GiveMutex o)) list p e = absurd p
 place_locked hold (Some (MessagesWaiting o)) list p e = absurd p
 place_locked hold (Some (SpacesAvailable o)) list p e = absurd p
 

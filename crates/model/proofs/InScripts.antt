@@ -3,7 +3,7 @@ use Rattle.std.proofs.Common.{◌≡◌, ◌+◌, ℕ, zero, suc, true, List, []
 use Rattle.std.specs.List.{AllByRecursion, slice_get}
 use Rattle.std.specs.Option.{option_map, unwrap_or}
 use Rattle.model.specs.declared.op.Op.{Op}
-use Rattle.model.specs.declared.op.Op.TheVariants.{Work, Delay, DelayUntil, Yield, Time, Mark, Expect, Repeat, End, Await, Do, MessagesWaiting, SpacesAvailable}
+use Rattle.model.specs.declared.op.Op.TheVariants.{Work, Delay, DelayUntil, Yield, Time, Mark, Expect, Repeat, End, Await, Do, GiveMutex, MessagesWaiting, SpacesAvailable}
 use Rattle.model.specs.declared.op.IsrOp.{IsrOp}
 use Rattle.model.specs.Application.{Application, Handler, Definition, script_of, op_at, ops_of}
 use Rattle.model.specs.Scripts.{InRange, may_stand, nesting_past, Nests, IsScript, IsDefinition, IsHandler, IsWellFormed, knows, KnowsAll, knows_isr}
@@ -48,6 +48,7 @@ used_none zero ((Repeat n) ∷ ops) h = tt
 used_none zero (End ∷ ops) h = tt
 used_none zero ((Await o a w) ∷ ops) h = tt
 used_none zero ((Do o a) ∷ ops) h = tt
+used_none zero ((GiveMutex o) ∷ ops) h = tt
 used_none zero ((MessagesWaiting o) ∷ ops) h = tt
 used_none zero ((SpacesAvailable o) ∷ ops) h = tt
 used_none (suc p) (o ∷ ops) h = used_none p ops h.1

@@ -9,6 +9,8 @@ pub mod InScripts
 pub mod Settled
 pub mod Sound
 pub mod Called
+pub mod Inheriting
+pub mod Trying
 pub mod Handled
 pub mod Unlocking
 pub mod Phases

@@ -16,12 +16,14 @@ use Rattle.model.specs.Switching.{is_ready, make_ready}
 use Rattle.model.specs.Waiting.{is_locked, wait_in, is_expired, end_hold, unlock_object, unlock}
 use Rattle.model.specs.Objects.{list_for, possible}
 use Rattle.model.specs.Calls.{lock, decide, leave_call}
+use Rattle.model.specs.Mutexes.{inherit}
 use Rattle.model.specs.Invariant.{Hold, hold_of, awaited, IsPhaseOf, IsSound, holds, IsPlacing, IsRunning, RunsIn, IsState}
 use Rattle.model.proofs.Sorting.{by_test}
 use Rattle.model.proofs.Tables.{ticket_at}
 use Rattle.model.proofs.Sound.{each-set_but, framed, all_made_ready, chosen, preempted}
-use Rattle.model.proofs.Frames.{Keeps, keeps-all_ready, keeps-choose, keeps-preempt}
+use Rattle.model.proofs.Frames.{Keeps, keeps-inherit, keeps-all_ready, keeps-choose, keeps-preempt}
 use Rattle.model.proofs.Unlocking.{opened_by, none_left, still_at, opened_can, unlocked_by, current-all_ready}
+use Rattle.model.proofs.Inheriting.{Reranks, reranks-inherit, inherited}
 use Rattle.model.proofs.Called.{went_on, began, phase_free, call_apart, none_awake, rehung, reheld}
 
 -- ---- a call holds the scheduler
@@ -129,11 +131,29 @@ module _ (app : Application) (formed : IsWellFormed app) where
         (λ _. subst (λ now. F now (task_at b i)) (sym begun_kept.0) (subst (F s.time) (sym begun_at) placing))
         (λ j ne. subst (λ (u : Task). holds u.progress.call.phase ≡ false) (sym (begun_others j ne)) (others_free s h none j))
 
+  module _ (s : State) (i o : ℕ) (a : Access) (ticks : Option ℕ) (h : IsSound app (hold_of s) s) (none : s.call_hold ≡ false) (unlocked : s.locked ≡ None)
+      (runs : s.current ≡ Some i) (l : i < length s.tasks) (r : is_ready s i ≡ true) (is : op_at app i (progress_at s i).op_index ≡ Some (Await o a ticks)) where
     pub decided : IsState app (decide i o a s)
     unfolding decide
     decided = by_test (possible s o a || is_expired s i)
-        (λ t. rw t decided_not)
-        (λ t. rw t (decided_to_wait (expired_not (possible s o a) (is_expired s i) t))) where
+        (λ t. rw t (decided_not s i o a ticks h none unlocked runs l r is))
+        (λ t. rw t (decided_to_wait lent i o a ticks lent_sound (ap (λ (x : Hold). x.held) kept.hold ∙ none) (ap (λ (x : Hold). x.locked) kept.hold ∙ unlocked)
+        (ranks.current ∙ runs) (rw kept.tasks l) ((ranks.at i).ready ∙ r) (ap (op_at app i) (ranks.at i).op_index ∙ is) (still_ahead ∙ expired_not (possible s o a) (is_expired s i) t))) where
+          lent : State
+          lent = inherit i o s
+
+          kept : Keeps s lent
+          kept = keeps-inherit i o s
+
+          ranks : Reranks s lent
+          ranks = reranks-inherit s i o
+
+          lent_sound : IsSound app (hold_of lent) lent
+          lent_sound = subst (λ x. IsSound app x lent) (sym kept.hold) (inherited app formed (hold_of s) s i o h)
+
+          still_ahead : is_expired lent i ≡ is_expired s i
+          still_ahead = ap (λ d. unwrap_or (option_map (λ x. leb x lent.time) d) false) (ranks.at i).deadline ∙ ap (λ time. unwrap_or (option_map (λ x. leb x time) (call_at s i).deadline) false) kept.time
+
           expired_not : (x y : Bool) → (x || y) ≡ false → y ≡ false
           expired_not false y e = e
           expired_not true y e = absurd (cc)
@@ -218,6 +238,7 @@ module _ (app : Application) (formed : IsWellFormed app) where
             rehung app formed (hold_of s) still opened i left_task opened_sound l1 (ticket_at opened.next_ticket i opened.tasks opened_sound.table.tickets) (
               record { nests = a.nests; loops = a.loops; used = a.used; reckoned = a.reckoned },
               record { phase = subst O (sym (at_opened i)) (subst (λ object. IsPhaseOf still object Leave) (sym on) (held, refl)); wait = c.wait; awake = subst A (sym (none_opened i)) tt; near = c.near },
+              opened_sound.priorities i,
             )
             (λ j ne. call_apart (hold_of s) still opened.time _ (task_at opened j) (off_opened j ne) (none_opened j) (opened_sound.calls j))
 
@@ -260,6 +281,7 @@ module _ (app : Application) (formed : IsWellFormed app) where
             rehung app formed (hold_of s) free s1 i t h1 l (ticket_at s.next_ticket i s.tasks h.sound.table.tickets) (
               record { nests = a.nests; loops = a.loops; used = a.used; reckoned = a.reckoned },
               record { phase = subst (λ object. IsPhaseOf free object Try) (sym on) tt; wait = c.wait; awake = subst A (sym (none i)) tt; near = c.near },
+              h.sound.priorities i,
             )
             (λ j ne. call_apart (hold_of s) free s.time _ (task_at s j) (only j ne) (none j) (h.sound.calls j))
 

@@ -5,9 +5,10 @@ use Rattle.std.specs.List.{AllByRecursion, slice_get}
 use Rattle.std.specs.Option.{IfSome, option_map, unwrap_or}
 use Rattle.std.proofs.lemmas.List.{length-map}
 use Rattle.model.specs.declared.object.ObjectKind.{ObjectKind}
-use Rattle.model.specs.declared.object.ObjectKind.TheVariants.{Queue}
+use Rattle.model.specs.declared.object.ObjectKind.TheVariants.{Queue, Semaphore, Mutex}
 use Rattle.model.specs.declared.op.Op.{Op}
-use Rattle.model.specs.declared.op.Op.TheVariants.{Work, Delay, DelayUntil, Yield, Time, Mark, Expect, Repeat, End, Await, Do, MessagesWaiting, SpacesAvailable}
+use Rattle.model.specs.declared.event.Misuse.{Misuse}
+use Rattle.model.specs.declared.op.Op.TheVariants.{Work, Delay, DelayUntil, Yield, Time, Mark, Expect, Repeat, End, Await, Do, GiveMutex, MessagesWaiting, SpacesAvailable}
 use Rattle.model.specs.declared.op.Access.{Access}
 use Rattle.model.specs.declared.call.Phase.{Phase}
 use Rattle.model.specs.declared.call.Phase.TheVariants.{Start, Try, Decide, Place, Unlock, Leave}
@@ -15,26 +16,44 @@ use Rattle.model.specs.declared.event.Event.{Event}
 use Rattle.model.specs.declared.plan.Point.{Point}
 use Rattle.model.specs.declared.event.What.TheVariants as what
 use Rattle.model.specs.Application.{Application, Definition, script_of, op_at}
-use Rattle.model.specs.Scripts.{IsDefinition, IsWellFormed, fits_object, is_wait}
+use Rattle.model.specs.Scripts.{IsDefinition, IsObjectKind, IsWellFormed, fits_object, is_wait}
 use Rattle.model.specs.State.{State, wait_of, progress_at, status_at, call_at, no_call, no_task, no_object, for_each}
 use Rattle.model.specs.Switching.{make_ready, choice, is_ready, preempt, settle, unless_held, write}
 use Rattle.model.specs.Waiting.{set_deadline}
 use Rattle.model.specs.Calls.{await}
 use Rattle.model.specs.Handlers.{handle, inject}
-use Rattle.model.specs.Step.{act, act_if, act_current, before_step, step, reset, nobody_ready, ready_at_reset, task_at_reset, object_at_reset, with_ops, is_empty}
+use Rattle.model.specs.Step.{act, act_unless, misuse, act_if, act_current, before_step, step, reset, nobody_ready, ready_at_reset, task_at_reset, object_at_reset, with_ops, is_empty}
 use Rattle.model.specs.Run.{injected, state_after}
-use Rattle.model.specs.Invariant.{AllTicketsBelow, IsAt, Hold, hold_of, awaited, IsPhaseOf, IsObject, IsSound, holds, IsRunning, RunsIn, IsState}
+use Rattle.model.specs.Invariant.{AllTicketsBelow, IsAt, Hold, hold_of, awaited, IsPhaseOf, IsObject, HasPriority, IsSound, holds, IsRunning, RunsIn, IsState}
 use Rattle.model.proofs.Sorting.{by_test}
 use Rattle.model.proofs.Chosen.{choice_within}
 use Rattle.model.proofs.Settled.{IsSettled, settled-settle, settled-preempt, settled-reset, when_held, when_free}
 use Rattle.model.proofs.InScripts.{script_formed, used_none, range_at, known_at}
 use Rattle.model.proofs.Frames.{keeps-settle, keeps-try, keeps-set_deadline, keeps-all_ready, keeps-use_up, keeps-preempt, hold-tick, hold-act}
 use Rattle.model.proofs.Sound.{CanBeReady, all_made_ready, runs, logged, settled, preempted, yielded, answered, used_up, expected, opened, closed, plain, delayed, delayed_until, ready_free, call_none}
-use Rattle.model.proofs.Handled.{ticked, handled_between}
-use Rattle.model.proofs.Called.{tried, done_now, dated, dated_at, phase_free}
+use Rattle.model.proofs.Handled.{and_left, ticked, handled_between}
+use Rattle.model.proofs.Trying.{tried, gave}
+use Rattle.model.proofs.Called.{done_now, dated, dated_at, phase_free}
 use Rattle.model.proofs.Phases.{free, decided, decided_held, placed, unlocked, unlocked_held, left, left_hold}
 
 -- ---- a step that holds nothing at its end
+
+-- an op that waits is no misuse
+misuse_rests : (s : State) (i : ℕ) (op : Op) (kind : Misuse) → misuse s i op ≡ Some kind → awaited (Some op) ≡ None
+misuse_rests s i (Work n) kind e = refl
+misuse_rests s i (Delay n) kind e = refl
+misuse_rests s i (DelayUntil n) kind e = refl
+misuse_rests s i Yield kind e = refl
+misuse_rests s i Time kind e = refl
+misuse_rests s i (Mark n) kind e = refl
+misuse_rests s i (Expect a) kind e = refl
+misuse_rests s i (Repeat n) kind e = refl
+misuse_rests s i End kind e = refl
+misuse_rests s i (Await o a ticks) kind e = absurd (cc)
+misuse_rests s i (Do o a) kind e = refl
+misuse_rests s i (GiveMutex o) kind e = refl
+misuse_rests s i (MessagesWaiting o) kind e = refl
+misuse_rests s i (SpacesAvailable o) kind e = refl
 
 module _ (app : Application) (formed : IsWellFormed app) where
   -- the running task is Ready, and nothing is held
@@ -70,10 +89,6 @@ module _ (app : Application) (formed : IsWellFormed app) where
 
   -- ---- the ops
 
-  and_left : (a b : Bool) → (a && b) ≡ true → a ≡ true
-  and_left true b t = refl
-  and_left false b t = absurd (cc)
-
   -- an op that doesn't wait
   acted : (s : State) (i : ℕ) (op : Op) → IsSound app free s → s.locked ≡ None → i < length s.tasks → is_ready s i ≡ true → op_at app i (progress_at s i).op_index ≡ Some op → awaited (Some op) ≡ None → IsSound app free (act app i op s)
   acted s i (Work n) h u l r is w = ticked app formed free _ (used_up app formed free s i (Work n) h (ready_free (status_at s i) r) is n refl) (ap (λ (x : Hold). x.locked) (keeps-use_up app i n s).hold ∙ u)
@@ -86,7 +101,8 @@ module _ (app : Application) (formed : IsWellFormed app) where
   acted s i (Repeat n) h u l r is w = opened app formed free s i (Repeat n) h (ready_free (status_at s i) r) is n refl
   acted s i End h u l r is w = closed app formed free s i End h (ready_free (status_at s i) r) is refl
   acted s i (Await o a ticks) h u l r is w = absurd (cc)
-  acted s i (Do o a) h u l r is w = done_now app formed free s i o a h u r is (and_left (fits_object app o a) _ (known_at app formed i (progress_at s i).op_index (Do o a) is))
+  acted s i (Do o a) h u l r is w = done_now app formed free s i o a h u l r is (and_left (fits_object app o a) _ (known_at app formed i (progress_at s i).op_index (Do o a) is))
+  acted s i (GiveMutex o) h u l r is w = gave app formed free s i o h u l r is
   acted s i (MessagesWaiting o) h u l r is w = answered app formed free s i (MessagesWaiting o) h (ready_free (status_at s i) r) is _ refl
   acted s i (SpacesAvailable o) h u l r is w = answered app formed free s i (SpacesAvailable o) h (ready_free (status_at s i) r) is _ refl
 
@@ -116,7 +132,7 @@ module _ (app : Application) (formed : IsWellFormed app) where
         in_range = range_at (progress_at s i).op_index (script_of app i) (Await o a ticks) (script_formed app formed i).ranges is
 
         tried_again : IsState app (unless_held settle (await app i o a ticks Try s))
-        tried_again = settled_at_rest _ (tried app formed free s i o a ticks sound_free (h.locked none) (running.ready none) is fit) ((keeps-try app i o a s).hold ∙ hold_none)
+        tried_again = settled_at_rest _ (tried app formed free s i o a ticks sound_free (h.locked none) there (running.ready none) is fit) ((keeps-try app i o a s).hold ∙ hold_none)
 
         tried_first : IsState app (unless_held settle (await app i o a ticks Start s))
         tried_first =
@@ -126,7 +142,7 @@ module _ (app : Application) (formed : IsWellFormed app) where
             let h1 : IsSound app free t = dated app formed free s i ticks sound_free (ready_free (status_at s i) (running.ready none)) in_range in
             let unlocked_ : t.locked ≡ None = ap (λ (x : Hold). x.locked) k.hold ∙ h.locked none in
             let op_is : op_at app i (progress_at t i).op_index ≡ Some (Await o a ticks) = ap (op_at app i) at.1 ∙ is in
-            settled_at_rest _ (tried app formed free t i o a ticks h1 unlocked_ (at.0 ∙ running.ready none) op_is fit) ((keeps-try app i o a t).hold ∙ k.hold ∙ hold_none)
+            settled_at_rest _ (tried app formed free t i o a ticks h1 unlocked_ (rw k.tasks there) (at.0 ∙ running.ready none) op_is fit) ((keeps-try app i o a t).hold ∙ k.hold ∙ hold_none)
 
         decided_next : IsState app (unless_held settle (await app i o a ticks Decide s))
         decided_next = still_held _ (decided app formed s i o a ticks h.sound none (h.locked none) on there (running.ready none) is) (decided_held app formed s i o a ticks h.sound none (h.locked none) on there (running.ready none) is)
@@ -172,6 +188,7 @@ module _ (app : Application) (formed : IsWellFormed app) where
     act_done End is = rested (start_only End refl is) End is refl
     act_done (Await o a ticks) is = next o a ticks is (call_at s i).phase refl
     act_done (Do o a) is = rested (start_only (Do o a) refl is) (Do o a) is refl
+    act_done (GiveMutex o) is = rested (start_only (GiveMutex o) refl is) (GiveMutex o) is refl
     act_done (MessagesWaiting o) is = rested (start_only (MessagesWaiting o) refl is) (MessagesWaiting o) is refl
     act_done (SpacesAvailable o) is = rested (start_only (SpacesAvailable o) refl is) (SpacesAvailable o) is refl
 
@@ -180,7 +197,12 @@ module _ (app : Application) (formed : IsWellFormed app) where
       none_done : (b : Bool) → s.call_hold ≡ b → IsState app (unless_held settle s)
       none_done true e = still_held s h e
       none_done false e = settled_at_rest s (sound_free e) (hold_none e)
-    act_if_done (Some op) is = act_done op is
+    act_if_done (Some op) is = act_unless_done (misuse s i op) refl where
+      act_unless_done : (kind : Option Misuse) → misuse s i op ≡ kind → IsState app (unless_held settle (act_unless app i kind op s))
+      act_unless_done None e = act_done op is
+      act_unless_done (Some kind) e = settled_at_rest _ (logged app formed free s s.log s.steps _ (sound_free (misused kind e))) (hold_none (misused kind e)) where
+        misused : (kind : Misuse) → misuse s i op ≡ Some kind → s.call_hold ≡ false
+        misused kind e = start_only op (misuse_rests s i op kind e) is
 
   current_done : (s : State) (r : Option ℕ) → IsState app s → s.current ≡ r → IsState app (unless_held settle (act_current app r s))
   current_done s None h on =
@@ -245,10 +267,24 @@ call-reset start i [] = (refl, refl)
 call-reset start zero (d ∷ ds) = (refl, refl)
 call-reset start (suc i) (d ∷ ds) = call-reset start i ds
 
-contents-reset : (o : ℕ) (kinds : List ObjectKind) → IsObject (slice_get kinds o) (get_or (map object_at_reset kinds) o no_object)
-contents-reset o [] = tt
-contents-reset zero ((Queue size) ∷ kinds) = (refl, omega arith)
-contents-reset (suc o) (kind ∷ kinds) = contents-reset o kinds
+contents-reset : (o : ℕ) (kinds : List ObjectKind) → AllByRecursion IsObjectKind kinds → IsObject (slice_get kinds o) (get_or (map object_at_reset kinds) o no_object)
+contents-reset o [] h = tt
+contents-reset zero ((Queue size) ∷ kinds) h = (refl, omega arith)
+contents-reset zero ((Semaphore most first) ∷ kinds) h = (refl, h.0.2)
+contents-reset zero (Mutex ∷ kinds) h = refl
+contents-reset (suc o) (kind ∷ kinds) h = contents-reset o kinds h.1
+
+pub holders-reset : (tasks o : ℕ) (kinds : List ObjectKind) → IfSome (get_or (map object_at_reset kinds) o no_object).holder (λ holder. holder < tasks)
+holders-reset tasks o [] = tt
+holders-reset tasks zero ((Queue size) ∷ kinds) = tt
+holders-reset tasks zero ((Semaphore most first) ∷ kinds) = tt
+holders-reset tasks zero (Mutex ∷ kinds) = tt
+holders-reset tasks (suc o) (kind ∷ kinds) = holders-reset tasks o kinds
+
+priority-reset : (start i : ℕ) (ds : List Definition) → AllByRecursion IsDefinition ds → HasPriority (get_or (map (task_at_reset start) ds) i no_task)
+priority-reset start i [] h = (omega arith, omega arith, tt)
+priority-reset start zero (d ∷ ds) h = (omega arith, h.0.priority, tt)
+priority-reset start (suc i) (d ∷ ds) h = priority-reset start i ds h.1
 
 -- each counts from the time at reset
 reset_can : (start : ℕ) (i : ℕ) (ds : List Definition) → i < length ds → (get_or (map (task_at_reset start) ds) i no_task).progress.previous_wake ≡ start
@@ -266,12 +302,13 @@ module _ (app : Application) (formed : IsWellFormed app) where
   pub reached_nobody : IsSound app free (nobody_ready app)
   unfolding nobody_ready
   reached_nobody = record {
-    table = record { tickets = none_taken app.start app.tasks; few = rw length-map formed.few; current = tt };
+    table = record { tickets = none_taken app.start app.tasks; few = rw length-map formed.few; current = tt; holders = λ o. holders-reset _ o app.objects };
     tasks = length-map app.tasks (task_at_reset app.start);
     objects = length-map app.objects object_at_reset;
     progress = λ i. progress-reset app.start i app.tasks formed.tasks;
     calls = λ i. let at = call-reset app.start i app.tasks in call_none free app.start _ _ at.0 at.1;
-    contents = λ o. contents-reset o app.objects;
+    contents = λ o. contents-reset o app.objects formed.objects;
+    priorities = λ i. priority-reset app.start i app.tasks formed.tasks;
     time = omega arith;
   }
 

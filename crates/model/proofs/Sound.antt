@@ -18,7 +18,7 @@ use Rattle.model.specs.Switching.{make_ready, to_back, dispatch, choose, choice,
 use Rattle.model.specs.Waiting.{is_locked}
 use Rattle.model.specs.Time.{wake_due, due, is_due, delayed_list, delayed_key, sleep, set_previous_wake}
 use Rattle.model.specs.Ops.{go_to, moved_to, complete, called, answer, use_up, delay, delay_until, expect, open_loop, turn, close_turn}
-use Rattle.model.specs.Invariant.{HasTicketBelow, IsUsedBy, LoopsNest, IsReckoned, IsAt, Hold, awaited, IsPhaseOf, IsWaitOf, IsCall, IsSound}
+use Rattle.model.specs.Invariant.{HasTicketBelow, IsUsedBy, LoopsNest, IsReckoned, HasPriority, IsAt, Hold, awaited, IsPhaseOf, IsWaitOf, IsCall, IsSound}
 use Rattle.model.proofs.Sorting.{by_test}
 use Rattle.model.proofs.Lists.{eqb-refl, eqb-same}
 use Rattle.model.proofs.Tables.{ticket_at, table-set, table-taken}
@@ -157,12 +157,13 @@ module _ (app : Application) (formed : IsWellFormed app) (hold : Hold) where
   -- the events don't matter, nor the steps done, nor an end that a step has brought about, nor what the state says of a hold
   pub framed : (s : State) (log : List Event) (steps : ℕ) (stopped : Option ending.End) (locked : Option ℕ) (held : Bool) → IsSound app hold s → IsSound app hold (record s { log = log; steps = steps; stopped = stopped; locked = locked; call_hold = held })
   framed s log steps stopped locked held h = record {
-    table = record { tickets = h.table.tickets; few = h.table.few; current = h.table.current };
+    table = record { tickets = h.table.tickets; few = h.table.few; current = h.table.current; holders = h.table.holders };
     tasks = h.tasks;
     objects = h.objects;
     progress = h.progress;
     calls = h.calls;
     contents = h.contents;
+    priorities = h.priorities;
     time = h.time;
   }
 
@@ -171,10 +172,10 @@ module _ (app : Application) (formed : IsWellFormed app) (hold : Hold) where
 
   -- what is true of the task of this number
   abbrev pub IsKept : ℕ → ℕ → Task → Type 0
-  IsKept now i t = IsAt now (script_of app i) t.progress t.status × IsCall hold now (op_at app i t.progress.op_index) t
+  IsKept now i t = IsAt now (script_of app i) t.progress t.status × IsCall hold now (op_at app i t.progress.op_index) t × HasPriority t
 
   pub kept_at : (s : State) (i : ℕ) → IsSound app hold s → IsKept s.time i (task_at s i)
-  kept_at s i h = (h.progress i, h.calls i)
+  kept_at s i h = (h.progress i, h.calls i, h.priorities i)
 
   kept-set : (s : State) (i : ℕ) (t : Task) → IsSound app hold s → IsKept s.time i t → (j : ℕ) → IsKept s.time j (get_or (set s.tasks i t) j no_task)
   kept-set s i t h k = each-set no_task (IsKept s.time) s.tasks i t k (λ j. kept_at s j h)
@@ -187,6 +188,7 @@ module _ (app : Application) (formed : IsWellFormed app) (hold : Hold) where
     progress = λ j. (kept-set s i t h k j).0;
     calls = λ j. (kept-set s i t h k j).1;
     contents = h.contents;
+    priorities = λ j. (kept-set s i t h k j).2;
     time = h.time;
   }
 
@@ -198,6 +200,7 @@ module _ (app : Application) (formed : IsWellFormed app) (hold : Hold) where
     progress = λ j. (kept-set s i (record (task_at s i) { status = f s.next_ticket }) h k j).0;
     calls = λ j. (kept-set s i (record (task_at s i) { status = f s.next_ticket }) h k j).1;
     contents = h.contents;
+    priorities = λ j. (kept-set s i (record (task_at s i) { status = f s.next_ticket }) h k j).2;
     time = h.time;
   }
 
@@ -205,7 +208,7 @@ module _ (app : Application) (formed : IsWellFormed app) (hold : Hold) where
   pub kept_free : (s : State) (i : ℕ) (u : Status) → IsSound app hold s → wait_of u ≡ None → IsReckoned s.time (progress_at s i).previous_wake u → IsKept s.time i (record (task_at s i) { status = u })
   kept_free s i u h free r =
       let a = h.progress i in
-      (record { nests = a.nests; loops = a.loops; used = a.used; reckoned = r }, call_free hold s.time (op_at app i (progress_at s i).op_index) (task_at s i) u free (h.calls i))
+      (record { nests = a.nests; loops = a.loops; used = a.used; reckoned = r }, call_free hold s.time (op_at app i (progress_at s i).op_index) (task_at s i) u free (h.calls i), ((h.priorities i).0, (h.priorities i).1, subst (λ o. IfSome o (λ w. w.priority < 32)) (sym free) tt))
 
   pub made_ready : (s : State) (i : ℕ) → IsSound app hold s → CanBeReady s i → IsSound app hold (make_ready i s)
   made_ready s i h c = taken s i Ready h (omega arith) (kept_free s i (Ready s.next_ticket) h refl c.1)
@@ -219,12 +222,13 @@ module _ (app : Application) (formed : IsWellFormed app) (hold : Hold) where
 
   pub runs : (s : State) (c : Option ℕ) → IsSound app hold s → IfSome c (λ i. i < length s.tasks) → IsSound app hold (record s { current = c })
   runs s c h l = record {
-    table = record { tickets = h.table.tickets; few = h.table.few; current = l };
+    table = record { tickets = h.table.tickets; few = h.table.few; current = l; holders = h.table.holders };
     tasks = h.tasks;
     objects = h.objects;
     progress = h.progress;
     calls = h.calls;
     contents = h.contents;
+    priorities = h.priorities;
     time = h.time;
   }
 
@@ -234,7 +238,7 @@ module _ (app : Application) (formed : IsWellFormed app) (hold : Hold) where
       (λ t. rw t h)
       (λ t. rw t (logged (record s { current = choice s }) _ s.steps s.stopped (runs s (choice s) h (choice_within s))))
 
-  went_back : (s : State) (r : Option ℕ) → IsSound app hold s → IfSome r (λ i. i < length s.tasks) → IsSound app hold (for_one to_back r s)
+  pub went_back : (s : State) (r : Option ℕ) → IsSound app hold s → IfSome r (λ i. i < length s.tasks) → IsSound app hold (for_one to_back r s)
   unfolding to_back
   went_back s None h l = h
   went_back s (Some i) h l = by_test (is_ready s i) (λ t. rw t (made_ready s i h (ready_can s i h l t))) (λ t. rw t h)
@@ -261,12 +265,13 @@ module _ (app : Application) (formed : IsWellFormed app) (hold : Hold) where
 
   pub later : (s : State) → IsSound app hold s → IsSound app hold (record s { time = s.time + 1; elapsed = s.elapsed + 1 })
   later s h = let e = h.time in record {
-    table = record { tickets = h.table.tickets; few = h.table.few; current = h.table.current };
+    table = record { tickets = h.table.tickets; few = h.table.few; current = h.table.current; holders = h.table.holders };
     tasks = h.tasks;
     objects = h.objects;
     progress = λ i. let a = h.progress i in record { nests = a.nests; loops = a.loops; used = a.used; reckoned = later_reckoned s.time (progress_at s i).previous_wake (status_at s i) a.reckoned };
     calls = λ i. call_later hold s.time (op_at app i (progress_at s i).op_index) (task_at s i) (h.calls i);
     contents = h.contents;
+    priorities = h.priorities;
     time = omega arith;
   }
 
@@ -283,8 +288,8 @@ module _ (app : Application) (formed : IsWellFormed app) (hold : Hold) where
         let c : (u : Status) → wait_of u ≡ None → IsCall hold s.time (op_at app i op_index) (record (task_at s i) { progress = q; status = u }) = λ u f. call_none hold s.time (op_at app i op_index) (record (task_at s i) { progress = q; status = u }) refl f in
         let kept : IsReckoned s.time p.previous_wake (status_at s i) = rw before (h.progress i).reckoned in
         by_test (eqb op_index (op_count app i))
-        (λ e. rw e (changed s i (record (task_at s i) { progress = q; status = Ended }) h tt (a Ended tt, c Ended refl)))
-        (λ e. rw e (changed s i (record (task_at s i) { progress = q }) h ticket_kept (a (status_at s i) kept, c (status_at s i) free)))
+        (λ e. rw e (changed s i (record (task_at s i) { progress = q; status = Ended }) h tt (a Ended tt, c Ended refl, ((h.priorities i).0, (h.priorities i).1, tt))))
+        (λ e. rw e (changed s i (record (task_at s i) { progress = q }) h ticket_kept (a (status_at s i) kept, c (status_at s i) free, h.priorities i)))
 
     module _ (op : Op) (is : op_at app i (progress_at s i).op_index ≡ Some op) where
       past_it : Nests (nesting_past (length (progress_at s i).loops) op) (drop ((progress_at s i).op_index + 1) (script_of app i))
@@ -315,6 +320,7 @@ module _ (app : Application) (formed : IsWellFormed app) (hold : Hold) where
         rw t (changed s i (record (task_at s i) { progress = record (progress_at s i) { used = (progress_at s i).used + 1 } }) h (ticket_kept s i h free) (
           record { nests = a.nests; loops = a.loops; used = subst V (sym (is ∙ ap Some e)) more; reckoned = a.reckoned },
           record { phase = c.phase; wait = c.wait; awake = c.awake; near = c.near },
+          h.priorities i,
         )))
 
     pub expected : (a : Option ℕ) → op ≡ Expect a → IsSound app hold (expect app i a s)
@@ -363,7 +369,7 @@ module _ (app : Application) (formed : IsWellFormed app) (hold : Hold) where
       let a = h.progress i in
       let c = h.calls i in
       changed s i (record (task_at s i) { progress = record (progress_at s i) { previous_wake = time } }) h (ticket_at s.next_ticket i s.tasks h.table.tickets)
-      (record { nests = a.nests; loops = a.loops; used = a.used; reckoned = r }, record { phase = c.phase; wait = c.wait; awake = c.awake; near = c.near })
+      (record { nests = a.nests; loops = a.loops; used = a.used; reckoned = r }, record { phase = c.phase; wait = c.wait; awake = c.awake; near = c.near }, h.priorities i)
 
   -- One who has begun to sleep until a time may count from it.
   reckoned_asleep : (s : State) (i wake_time : ℕ) → i < length s.tasks → wake_time_of (status_at s i) ≡ None → wait_of (status_at s i) ≡ None → IsReckoned (sleep i wake_time s).time wake_time (status_at (sleep i wake_time s) i)

@@ -60,7 +60,7 @@ ticket_at n (suc i) (t ∷ ts) h = ticket_at n i ts h.1
 
 -- a task changes, but takes no ticket
 pub table-set : (s : State) (i : ℕ) (t : Task) → IsTable s → HasTicketBelow s.next_ticket t.status → IsTable (with_task i t s)
-table-set s i t h b = record { tickets = tickets-set s.next_ticket i t s.tasks b h.tickets; few = rw length-set h.few; current = rw length-set h.current }
+table-set s i t h b = record { tickets = tickets-set s.next_ticket i t s.tasks b h.tickets; few = rw length-set h.few; current = rw length-set h.current; holders = λ o. rw length-set (h.holders o) }
 
 -- a task takes the next ticket
 pub table-taken : (s : State) (i : ℕ) (f : ℕ → Status) → IsTable s → HasTicketBelow (s.next_ticket + 1) (f s.next_ticket) → IsTable (take_ticket i f s)
@@ -68,6 +68,7 @@ table-taken s i f h b = record {
   tickets = tickets-set (s.next_ticket + 1) i (record (task_at s i) { status = f s.next_ticket }) s.tasks b (tickets_more s.next_ticket s.tasks h.tickets);
   few = rw length-set h.few;
   current = rw length-set h.current;
+  holders = λ o. rw length-set (h.holders o);
 }
 
 pub table-make_ready : (s : State) (i : ℕ) → IsTable s → IsTable (make_ready i s)

@@ -3,9 +3,9 @@ use Rattle.std.specs.Prelude.{ℕ, ◌≤◌, ◌+◌, ◌==◌, List, [], ◌�
 use Rattle.std.specs.Str.{bytes_eq}
 use Rattle.model.specs.declared.object.ObjectKind.{ObjectKind}
 use Rattle.model.specs.declared.op.Access.{Access}
-use Rattle.model.specs.declared.op.Access.TheVariants.{Send, SendFront, Overwrite, Receive, Peek}
+use Rattle.model.specs.declared.op.Access.TheVariants.{Send, SendFront, Overwrite, Receive, Peek, Take, Give, Lock}
 use Rattle.model.specs.declared.op.Op.{Op}
-use Rattle.model.specs.declared.op.Op.TheVariants.{Work, Delay, DelayUntil, Yield, Time, Mark, Expect, Repeat, End, Await, Do, MessagesWaiting, SpacesAvailable}
+use Rattle.model.specs.declared.op.Op.TheVariants.{Work, Delay, DelayUntil, Yield, Time, Mark, Expect, Repeat, End, Await, Do, GiveMutex, MessagesWaiting, SpacesAvailable}
 use Rattle.model.specs.declared.op.IsrOp.{IsrOp}
 use Rattle.model.specs.declared.op.IsrOp.TheVariants as isr
 
@@ -101,6 +101,9 @@ word_of_access (SendFront item) = codes "send_front"
 word_of_access (Overwrite item) = codes "overwrite"
 word_of_access Receive = codes "receive"
 word_of_access Peek = codes "peek"
+word_of_access Take = codes "take"
+word_of_access Give = codes "give"
+word_of_access Lock = codes "lock"
 
 -- the first word of an op's text
 abbrev pub word_of : Op → List ℕ
@@ -115,6 +118,7 @@ word_of (Repeat n) = codes "repeat"
 word_of End = codes "end"
 word_of (Await object access ticks) = word_of_access access
 word_of (Do object access) = word_of_access access
+word_of (GiveMutex object) = codes "unlock"
 word_of (MessagesWaiting object) = codes "waiting"
 word_of (SpacesAvailable object) = codes "spaces"
 

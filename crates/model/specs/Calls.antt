@@ -9,12 +9,13 @@ use Rattle.model.specs.Switching.{choose, preempt}
 use Rattle.model.specs.Waiting.{wait_in, set_deadline, is_expired, end_hold, unlock}
 use Rattle.model.specs.Ops.{answer}
 use Rattle.model.specs.Objects.{possible, answer_to, fulfil, attempt, list_for}
+use Rattle.model.specs.Mutexes.{inherit, after_timeout}
 
 -- A possible call is done. One whose deadline has come fails, and nothing switches. Any other decides next.
 unfoldable pub try : Application → ℕ → ℕ → Access → State → State
 try app task object access s =
     if possible s object access then preempt (answer app task (answer_to s object access) (fulfil (Some task) object access s))
-    else if is_expired s task then answer app task (answer_to s object access) s
+    else if is_expired s task then answer app task (answer_to s object access) (after_timeout task object s)
     else go_on task Decide s
 
 -- The scheduler is held and the object locked (`vTaskSuspendAll`, `prvLockQueue`); the task's call goes on with this
@@ -28,7 +29,7 @@ unfoldable pub decide : ℕ → ℕ → Access → State → State
 decide task object access s =
     if possible s object access || is_expired s task
     then lock task object Unlock s
-    else lock task object Place (wait_in task (list_for object access) s)
+    else lock task object Place (wait_in task (list_for object access) (inherit task object s))
 
 -- The hold ends (`xTaskResumeAll`, `portYIELD_WITHIN_API`): after a wait has begun the choice runs, and a caller who was
 -- woken meanwhile keeps its ticket; else a higher task may run. The call will try again.

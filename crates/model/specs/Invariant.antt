@@ -2,7 +2,7 @@
 use Rattle.std.specs.Prelude.{◌≡◌, ◌<◌, ◌≤◌, ℕ, ◌+◌, Bool, true, false, List, [], ◌∷◌, Option, Some, None, length, drop, slice_get, IfSome}
 use Rattle.std.specs.List.{AllByRecursion}
 use Rattle.model.specs.declared.object.ObjectKind.{ObjectKind}
-use Rattle.model.specs.declared.object.ObjectKind.TheVariants.{Queue}
+use Rattle.model.specs.declared.object.ObjectKind.TheVariants.{Queue, Semaphore, Mutex}
 use Rattle.model.specs.declared.op.Op.{Op}
 use Rattle.model.specs.declared.op.Op.TheVariants.{Work, Await}
 use Rattle.model.specs.declared.call.Phase.{Phase}
@@ -10,7 +10,7 @@ use Rattle.model.specs.declared.call.Phase.TheVariants.{Start, Try, Decide, Plac
 use Rattle.model.specs.declared.call.WaitList.{WaitList}
 use Rattle.model.specs.declared.loops.Loop.{Loop}
 use Rattle.model.specs.Application.{Application, script_of, op_at}
-use Rattle.model.specs.Scripts.{Nests}
+use Rattle.model.specs.Scripts.{Nests, priorities}
 use Rattle.model.specs.State.{State, Task, Progress, Object, Status, Wait, Asleep, Ended, wait_of, wait_if_awake, ticket_of, task_at, status_at, progress_at, call_at, object_at}
 use Rattle.model.specs.Switching.{is_ready}
 use Rattle.model.specs.Waiting.{is_locked}
@@ -29,6 +29,8 @@ pub record IsTable (s : State) : Type 0 where
   pub tickets : AllTicketsBelow s.next_ticket s.tasks
   pub few : length s.tasks ≤ 32
   pub current : IfSome s.current (λ task. task < length s.tasks)
+  -- a task holds a mutex, if any does
+  pub holders : (object : ℕ) → IfSome (object_at s object).holder (λ holder. holder < length s.tasks)
 
 -- Less of a `work` is used up than there is.
 abbrev pub IsUsedBy : ℕ → Option Op → Type 0
@@ -104,7 +106,13 @@ pub record IsCall (hold : Hold) (now : ℕ) (op : Option Op) (t : Task) : Type 0
 -- An object is of its kind, and holds no more than it has room for.
 abbrev pub IsObject : Option ObjectKind → Object → Type 0
 IsObject (Some (Queue size)) o = (o.size ≡ size) × (length o.items ≤ o.size)
+IsObject (Some (Semaphore max_count initial_count)) o = (o.max_count ≡ max_count) × (o.count ≤ o.max_count)
+IsObject (Some Mutex) o = o.max_count ≡ 1
 IsObject None o = Unit {0}
+
+-- A task's priority is at least that of the file, and one of those that there are, as is that of its wait.
+abbrev pub HasPriority : Task → Type 0
+HasPriority t = (t.base_priority ≤ t.priority) × (t.priority < priorities) × IfSome (wait_of t.status) (λ w. w.priority < priorities)
 
 -- what every deed keeps, while this is held and locked
 pub record IsSound (app : Application) (hold : Hold) (s : State) : Type 0 where
@@ -114,6 +122,7 @@ pub record IsSound (app : Application) (hold : Hold) (s : State) : Type 0 where
   pub progress : (task : ℕ) → IsAt s.time (script_of app task) (progress_at s task) (status_at s task)
   pub calls : (task : ℕ) → IsCall hold s.time (op_at app task (progress_at s task).op_index) (task_at s task)
   pub contents : (object : ℕ) → IsObject (slice_get app.objects object) (object_at s object)
+  pub priorities : (task : ℕ) → HasPriority (task_at s task)
   -- the time is the start and the elapsed ticks
   pub time : s.time ≡ app.start + s.elapsed
 

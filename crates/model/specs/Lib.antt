@@ -6,6 +6,7 @@ pub mod Switching
 pub mod Waiting
 pub mod Time
 pub mod Ops
+pub mod Mutexes
 pub mod Objects
 pub mod Calls
 pub mod Handlers

@@ -1,9 +1,9 @@
--- Queues: which calls are possible, what they answer, and what they do.
-use Rattle.std.specs.Prelude.{ℕ, Bool, true, [], ◌∷◌, ◌++◌, Option, Some, None, nat_lt, if◌then◌else◌, length, drop, slice_get}
+-- Queues, semaphores and mutexes: which calls are possible, what they answer, and what they do.
+use Rattle.std.specs.Prelude.{ℕ, ◌+◌, ◌-◌, ◌&&◌, Bool, true, [], ◌∷◌, ◌++◌, Option, Some, None, nat_lt, if◌then◌else◌, length, drop, slice_get, is_none}
 use Rattle.model.specs.declared.call.WaitList.{WaitList}
 use Rattle.model.specs.declared.call.WaitList.TheVariants.{ToReceive, ToSend}
 use Rattle.model.specs.declared.op.Access.{Access}
-use Rattle.model.specs.declared.op.Access.TheVariants.{Send, SendFront, Overwrite, Receive, Peek}
+use Rattle.model.specs.declared.op.Access.TheVariants.{Send, SendFront, Overwrite, Receive, Peek, Take, Give, Lock}
 use Rattle.model.specs.State.{State, Object, object_at, with_object, for_one}
 use Rattle.model.specs.Waiting.{wake_best}
 use Rattle.model.specs.Ops.{one_if}
@@ -15,6 +15,9 @@ allows o (SendFront item) = nat_lt (length o.items) o.size
 allows o (Overwrite item) = true
 allows o Receive = nat_lt 0 (length o.items)
 allows o Peek = nat_lt 0 (length o.items)
+allows o Take = nat_lt 0 o.count
+allows o Give = nat_lt o.count o.max_count
+allows o Lock = nat_lt 0 o.max_count && is_none o.holder
 
 -- what a call answers: the first item, or `none`; any other 1 where it is possible, else 0
 abbrev pub reply : Object → Access → Option ℕ
@@ -30,6 +33,9 @@ object_after caller (SendFront item) o = record o { items = item ∷ o.items }
 object_after caller (Overwrite item) o = record o { items = item ∷ [] }
 object_after caller Receive o = record o { items = drop 1 o.items }
 object_after caller Peek o = o
+object_after caller Take o = record o { count = o.count - 1 }
+object_after caller Give o = record o { count = o.count + 1 }
+object_after caller Lock o = record o { holder = caller }
 
 -- the list of which a possible call wakes the best waiter; a task's peek passes the wake on (in `xQueuePeek`), and that
 -- of a handler wakes nobody (profile)
@@ -40,6 +46,9 @@ list_woken caller object (Overwrite item) = Some (ToReceive object)
 list_woken caller object Receive = Some (ToSend object)
 list_woken None object Peek = None
 list_woken (Some task) object Peek = Some (ToReceive object)
+list_woken caller object Take = None
+list_woken caller object Give = Some (ToReceive object)
+list_woken caller object Lock = None
 
 -- the list in which a call waits
 abbrev pub list_for : ℕ → Access → WaitList

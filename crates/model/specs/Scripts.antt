@@ -2,11 +2,11 @@
 use Rattle.std.specs.Prelude.{◌≡◌, ◌<◌, ◌≤◌, ℕ, ◌+◌, ◌-◌, ◌&&◌, ◌==◌, nat_lt, nat_le, Bool, true, false, not, List, [], ◌∷◌, length, Option, Some, None, slice_get, option_map, unwrap_or}
 use Rattle.std.specs.List.{AllByRecursion}
 use Rattle.model.specs.declared.object.ObjectKind.{ObjectKind}
-use Rattle.model.specs.declared.object.ObjectKind.TheVariants.{Queue}
+use Rattle.model.specs.declared.object.ObjectKind.TheVariants.{Queue, Semaphore, Mutex}
 use Rattle.model.specs.declared.op.Access.{Access}
-use Rattle.model.specs.declared.op.Access.TheVariants.{Overwrite, Receive}
+use Rattle.model.specs.declared.op.Access.TheVariants.{Send, SendFront, Overwrite, Receive, Peek, Take, Give, Lock}
 use Rattle.model.specs.declared.op.Op.{Op}
-use Rattle.model.specs.declared.op.Op.TheVariants.{Work, DelayUntil, Repeat, End, Await, Do, MessagesWaiting, SpacesAvailable}
+use Rattle.model.specs.declared.op.Op.TheVariants.{Work, DelayUntil, Repeat, End, Await, Do, GiveMutex, MessagesWaiting, SpacesAvailable}
 use Rattle.model.specs.declared.op.IsrOp.{IsrOp}
 use Rattle.model.specs.declared.op.IsrOp.TheVariants as isr
 use Rattle.model.specs.Application.{Application, Handler, Interrupt, Definition, interrupts_at}
@@ -32,6 +32,10 @@ most_objects = 32
 -- of items of a queue
 abbrev pub most_items : ℕ
 most_items = 256
+
+-- of a semaphore's count
+abbrev pub most_count : ℕ
+most_count = 65535
 
 -- of ops of a script
 abbrev pub most_ops : ℕ
@@ -128,10 +132,32 @@ pub record IsPrefix (ops : List Op) : Type 0 where
 
 -- ---- what an op speaks of
 
+-- It is a call on a queue.
+abbrev pub is_of_queue : Access → Bool
+is_of_queue (Send item) = true
+is_of_queue (SendFront item) = true
+is_of_queue (Overwrite item) = true
+is_of_queue Receive = true
+is_of_queue Peek = true
+is_of_queue _ = false
+
+-- It is a call on a semaphore.
+abbrev pub is_of_semaphore : Access → Bool
+is_of_semaphore Take = true
+is_of_semaphore Give = true
+is_of_semaphore _ = false
+
+-- It is a call on a mutex.
+abbrev pub is_of_mutex : Access → Bool
+is_of_mutex Lock = true
+is_of_mutex _ = false
+
 -- A call may be made on an object of this kind; `overwrite` is for queues of length 1 (in `xQueueOverwrite`).
 abbrev pub fits : ObjectKind → Access → Bool
 fits (Queue size) (Overwrite item) = size == 1
-fits (Queue size) _ = true
+fits (Queue size) access = is_of_queue access
+fits (Semaphore max_count initial_count) access = is_of_semaphore access
+fits Mutex access = is_of_mutex access
 
 -- The application has the object, and it fits.
 abbrev pub fits_object : Application → ℕ → Access → Bool
@@ -140,12 +166,20 @@ fits_object app object access = unwrap_or (option_map (λ kind. fits kind access
 -- It is a call that may wait.
 abbrev pub may_wait : Access → Bool
 may_wait (Overwrite item) = false
+may_wait Give = false
 may_wait _ = true
+
+-- A handler may make the call: `take` and `lock` are for tasks (profile: FreeRTOS has `xSemaphoreTakeFromISR`).
+abbrev pub may_interrupt : Access → Bool
+may_interrupt Take = false
+may_interrupt Lock = false
+may_interrupt _ = true
 
 -- The application has what the op speaks of.
 abbrev pub knows : Application → Op → Bool
 knows app (Await object access ticks) = fits_object app object access && may_wait access
 knows app (Do object access) = fits_object app object access && not (may_wait access)
+knows app (GiveMutex object) = fits_object app object Lock
 knows app (MessagesWaiting object) = fits_object app object Receive
 knows app (SpacesAvailable object) = fits_object app object Receive
 knows app _ = true
@@ -154,9 +188,9 @@ knows app _ = true
 abbrev pub KnowsAll : Application → Definition → Type 0
 KnowsAll app task = AllByRecursion (λ op. knows app op ≡ true) task.script
 
--- the same of an op of a handler, which may make each call, as none waits there
+-- the same of an op of a handler, where no call waits
 abbrev pub knows_isr : Application → IsrOp → Bool
-knows_isr app (isr.Do object access) = fits_object app object access
+knows_isr app (isr.Do object access) = fits_object app object access && may_interrupt access
 knows_isr app (isr.Mark n) = true
 
 -- ---- order
@@ -175,6 +209,8 @@ InOrder interrupts = Rises (λ (i : Interrupt). i.tick) interrupts
 -- an object that an application may have (profile: its limits)
 abbrev pub IsObjectKind : ObjectKind → Type 0
 IsObjectKind (Queue size) = (1 ≤ size) × (size ≤ most_items)
+IsObjectKind (Semaphore max_count initial_count) = (1 ≤ max_count) × (max_count ≤ most_count) × (initial_count ≤ max_count)
+IsObjectKind Mutex = Unit {0}
 
 -- a handler that an application may have (profile: its limits)
 pub record IsHandler (app : Application) (handler : Handler) : Type 0 where

@@ -2,7 +2,7 @@
 --
 -- Every entry to the ready list and every beginning of a sleep or a wait takes the next ticket. Tickets say who came
 -- first; the code has none.
-use Rattle.std.specs.Prelude.{ℕ, ◌+◌, ◌%◌, Bool, List, Option, Some, None, [], slice_index_or, slice_set, fold}
+use Rattle.std.specs.Prelude.{ℕ, ◌+◌, ◌%◌, Bool, false, List, Option, Some, None, [], slice_index_or, slice_set, fold}
 use Rattle.model.specs.declared.call.CallProgress.{CallProgress}
 use Rattle.model.specs.declared.call.Phase.{Phase}
 use Rattle.model.specs.declared.call.Phase.TheVariants.{Start}
@@ -86,17 +86,23 @@ pub record Progress : Type 0 where
 pub record Task : Type 0 where
   -- the priority that the file gives it (`uxBasePriority`)
   pub base_priority : ℕ
-  -- its priority now (`uxPriority`); nothing changes it yet
+  -- its priority now (`uxPriority`), which may be inherited
   pub priority : ℕ
   pub progress : Progress
   pub status : Status
 
--- what the kernel keeps of a queue
+-- what the kernel keeps of a queue, a semaphore or a mutex
 pub record Object : Type 0 where
-  -- how many items it holds at most (`uxLength`)
+  -- how many items a queue holds at most (`uxLength`)
   pub size : ℕ
-  -- the items, the first to leave first
+  -- the items of a queue, the first to leave first
   pub items : List ℕ
+  -- the greatest count of a semaphore (`uxMaxCount`); 1 of a mutex, which one task at most holds
+  pub max_count : ℕ
+  -- the count of a semaphore
+  pub count : ℕ
+  -- who holds a mutex (`xMutexHolder`)
+  pub holder : Option ℕ
 
 -- the whole of the kernel, between two steps
 pub record State : Type 0 where
@@ -115,7 +121,7 @@ pub record State : Type 0 where
   pub call_hold : Bool
   -- the steps done
   pub steps : ℕ
-  -- the end that a step has brought about by itself, as a failed `expect`
+  -- the end that a step has brought about by itself: a failed `expect`, or a misuse
   pub stopped : Option End
   -- the events of the last step
   pub log : List Event
@@ -124,7 +130,7 @@ pub record State : Type 0 where
 
 -- a call that has not begun
 abbrev pub no_call : CallProgress
-no_call = record { phase = Start; deadline = None; list = None }
+no_call = record { phase = Start; deadline = None; list = None; inherited = false }
 
 -- at the first op, of which nothing is done
 abbrev pub no_progress : Progress
@@ -177,7 +183,7 @@ take_ticket task status s =
 
 -- what stands where there is no object
 abbrev pub no_object : Object
-no_object = record { size = 0; items = [] }
+no_object = record { size = 0; items = []; max_count = 0; count = 0; holder = None }
 
 -- what the kernel keeps of this object
 abbrev pub object_at : State → ℕ → Object

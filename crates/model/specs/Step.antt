@@ -1,15 +1,19 @@
 -- One step of the kernel: what the running task's op does, or idle, after the handlers that are injected.
 use Rattle.std.specs.Prelude.{ℕ, ◌+◌, ◌-◌, Bool, true, false, List, [], ◌∷◌, Option, Some, None, if◌then◌else◌, map, length}
 use Rattle.model.specs.declared.object.ObjectKind.{ObjectKind}
-use Rattle.model.specs.declared.object.ObjectKind.TheVariants.{Queue}
+use Rattle.model.specs.declared.object.ObjectKind.TheVariants.{Queue, Semaphore, Mutex}
 use Rattle.model.specs.declared.op.Op.{Op}
-use Rattle.model.specs.declared.op.Op.TheVariants.{Work, Delay, DelayUntil, Yield, Time, Mark, Expect, Repeat, End, Await, Do, MessagesWaiting, SpacesAvailable}
+use Rattle.model.specs.declared.op.Op.TheVariants.{Work, Delay, DelayUntil, Yield, Time, Mark, Expect, Repeat, End, Await, Do, GiveMutex, MessagesWaiting, SpacesAvailable}
 use Rattle.model.specs.declared.event.What.TheVariants as what
+use Rattle.model.specs.declared.event.End.TheVariants as end
+use Rattle.model.specs.declared.event.Misuse.{Misuse}
+use Rattle.model.specs.declared.event.Misuse.TheVariants.{NotHolder}
 use Rattle.model.specs.Application.{Application, Definition, op_at}
 use Rattle.model.specs.State.{State, Task, Object, Ended, no_progress, no_object, progress_at, call_at, object_at, for_each, printed}
-use Rattle.model.specs.Switching.{write, make_ready, choice, yield_now, settle, unless_held}
+use Rattle.model.specs.Switching.{write, is_same, make_ready, choice, yield_now, settle, unless_held}
 use Rattle.model.specs.Ops.{complete, answer, use_up, delay, delay_until, expect, open_loop, close_turn}
 use Rattle.model.specs.Calls.{await, do_now}
+use Rattle.model.specs.Mutexes.{give_mutex}
 use Rattle.model.specs.Handlers.{inject, tick_interrupt}
 
 -- what each op does; that yield answers 0, and all of mark, is profile
@@ -25,16 +29,33 @@ act app task (Repeat n) s = open_loop app task n s
 act app task End s = close_turn app task s
 act app task (Await object access ticks) s = await app task object access ticks (call_at s task).phase s
 act app task (Do object access) s = do_now app task object access s
+act app task (GiveMutex object) s = give_mutex app task object s
 act app task (MessagesWaiting object) s = answer app task (Some (length (object_at s object).items)) s
 act app task (SpacesAvailable object) s =
     let queue = object_at s object in answer app task (Some (queue.size - length queue.items)) s
+
+-- ---- misuse (profile)
+
+-- which misuse the task's op is, if it is one: `unlock` wants the holder (profile: FreeRTOS asserts it)
+abbrev pub misuse : State → ℕ → Op → Option Misuse
+misuse s task (GiveMutex object) = if is_same (object_at s object).holder (Some task) then None else Some NotHolder
+misuse s task op = None
+
+-- The task's op is such a misuse, which ends the run.
+abbrev pub misused : ℕ → Misuse → State → State
+misused task kind s = record s { stopped = Some (end.Misuse task (progress_at s task).op_index kind) }
+
+-- The task does this op; but a misuse ends the run, and changes nothing else (profile).
+abbrev pub act_unless : Application → ℕ → Option Misuse → Op → State → State
+act_unless app task None op s = act app task op s
+act_unless app task (Some kind) op s = misused task kind s
 
 -- ---- a step
 
 -- The task does this op, if there is one.
 abbrev pub act_if : Application → ℕ → Option Op → State → State
 act_if app task None s = s
-act_if app task (Some op) s = act app task op s
+act_if app task (Some op) s = act_unless app task (misuse s task op) op s
 
 -- The running task does its op; idle lets a tick pass.
 abbrev pub act_current : Application → Option ℕ → State → State
@@ -69,9 +90,11 @@ task_at_reset start d = record {
   status = Ended;
 }
 
--- an object at reset: a queue is empty
+-- an object at reset: a queue is empty, a mutex is free
 abbrev pub object_at_reset : ObjectKind → Object
 object_at_reset (Queue size) = record no_object { size = size }
+object_at_reset (Semaphore max_count initial_count) = record no_object { max_count = max_count; count = initial_count }
+object_at_reset Mutex = record no_object { max_count = 1 }
 
 -- the kernel when no task has been Ready yet, and idle runs
 unfoldable pub nobody_ready : Application → State

@@ -23,7 +23,7 @@ pub enum Phase {
 /// A list in which tasks wait.
 #[derive(Clone, Copy, Debug, PartialEq, Eq)]
 pub enum WaitList {
-    /// For an item (`xTasksWaitingToReceive`).
+    /// For an item, a count or a mutex (`xTasksWaitingToReceive`).
     ToReceive(ObjectId),
     /// For room (`xTasksWaitingToSend`).
     ToSend(ObjectId),
@@ -38,4 +38,6 @@ pub struct CallProgress {
     pub deadline: Option<u64>,
     /// The list in which it has begun to wait, until its hold of the scheduler ends.
     pub list: Option<WaitList>,
+    /// Whether its last wait has inherited: the mutex was held by another task, of lower base priority.
+    pub inherited: bool,
 }

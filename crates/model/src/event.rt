@@ -40,6 +40,13 @@ pub struct Event {
 // A run may keep millions of events.
 const _: () = prove!(size_of::<Event>() == 16);
 
+/// What a task must not do (profile). FreeRTOS asserts it, and what comes of it is not told.
+#[derive(Clone, Copy, Debug, PartialEq, Eq)]
+pub enum Misuse {
+    /// It gives a mutex back that it doesn't hold.
+    NotHolder,
+}
+
 /// How a run ends (profile).
 #[derive(Clone, Copy, Debug, PartialEq, Eq)]
 pub enum End {
@@ -47,6 +54,8 @@ pub enum End {
     Pass,
     /// An `expect` failed: its task and the index of the op.
     Check(TaskId, u16),
+    /// A task's op is a misuse: the task, the index of the op, and which.
+    Misuse(TaskId, u16, Misuse),
     /// The limit of elapsed ticks is reached.
     Ticks,
     /// The limit of steps is reached.

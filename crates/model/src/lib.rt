@@ -16,7 +16,7 @@ mod script;
 
 pub use app::{App, HandlerDefinition, Interrupt, TaskDefinition};
 pub use call::{CallProgress, Phase, WaitList};
-pub use event::{End, Event, What};
+pub use event::{End, Event, Misuse, What};
 pub use ids::{HandlerId, ObjectId, TaskId};
 pub use limits::{Limits, Meter};
 pub use loops::Loop;

@@ -9,6 +9,11 @@ use crate::op::Access;
 pub enum ObjectKind {
     /// A queue that holds so many items at most, 1 to 256 (profile); each is a number of 32 bits (profile).
     Queue(u16),
+    /// A semaphore: its greatest count, 1 to 65,535, and the count at reset, not above that (profile). A binary semaphore
+    /// counts to 1 and starts at 0.
+    Semaphore(u16, u16),
+    /// A mutex, which is free at reset.
+    Mutex,
 }
 
 impl ObjectKind {
@@ -21,7 +26,9 @@ impl ObjectKind {
     {
         match (self, access) {
             (ObjectKind::Queue(size), Access::Overwrite(_)) => size == 1,
-            (ObjectKind::Queue(_), _) => true,
+            (ObjectKind::Queue(_), access) => access.is_of_queue(),
+            (ObjectKind::Semaphore(_, _), access) => access.is_of_semaphore(),
+            (ObjectKind::Mutex, access) => access.is_of_mutex(),
         }
     }
 }

@@ -14,11 +14,18 @@ pub enum Access {
     Receive,
     /// Answers the first item and leaves it (`xQueuePeek`).
     Peek,
+    /// Takes one from the count of a semaphore (`xSemaphoreTake`).
+    Take,
+    /// Adds one to the count of a semaphore (`xSemaphoreGive`).
+    Give,
+    /// Makes the caller the holder of a mutex (`xSemaphoreTake` of a mutex).
+    Lock,
 }
 
 impl Access {
     ghost use Rattle.std.specs.Prelude.{◌≡◌};
     ghost use Rattle.model.specs.Application.{word_of_access};
+    ghost use Rattle.model.specs.Scripts.{is_of_mutex, is_of_queue, is_of_semaphore};
 
     /// The first word of the call's text.
     pub fn word(self) -> &'static str
@@ -30,7 +37,38 @@ impl Access {
             Access::Overwrite(_) => "overwrite",
             Access::Receive => "receive",
             Access::Peek => "peek",
+            Access::Take => "take",
+            Access::Give => "give",
+            Access::Lock => "lock",
         }
+    }
+
+    /// Whether it is a call on a queue.
+    pub fn is_of_queue(self) -> bool
+        ensures { result ≡ is_of_queue self }
+    {
+        match self {
+            Access::Send(_)
+            | Access::SendFront(_)
+            | Access::Overwrite(_)
+            | Access::Receive
+            | Access::Peek => true,
+            Access::Take | Access::Give | Access::Lock => false,
+        }
+    }
+
+    /// Whether it is a call on a semaphore.
+    pub fn is_of_semaphore(self) -> bool
+        ensures { result ≡ is_of_semaphore self }
+    {
+        matches!(self, Access::Take | Access::Give)
+    }
+
+    /// Whether it is a call on a mutex.
+    pub fn is_of_mutex(self) -> bool
+        ensures { result ≡ is_of_mutex self }
+    {
+        matches!(self, Access::Lock)
     }
 }
 
@@ -57,10 +95,12 @@ pub enum Op {
     /// Ends a turn of the innermost loop (profile).
     End,
     /// A call that waits until the object allows it, at most for so many ticks, 0 to 4,294,967,294; `None` is for ever
-    /// (`portMAX_DELAY`). It is one of send, send_front, receive and peek.
+    /// (`portMAX_DELAY`). It is one of send, send_front, receive, peek, take and lock.
     Await(ObjectId, Access, Option<u32>),
-    /// A call that doesn't wait: overwrite.
+    /// A call that doesn't wait: overwrite or give.
     Do(ObjectId, Access),
+    /// Gives a mutex back, which the task holds (`xSemaphoreGive` of a mutex).
+    GiveMutex(ObjectId),
     /// Answers how many items are in a queue (`uxQueueMessagesWaiting`).
     MessagesWaiting(ObjectId),
     /// Answers for how many more items a queue has room (`uxQueueSpacesAvailable`).
@@ -86,6 +126,7 @@ impl Op {
             Op::Repeat(_) => "repeat",
             Op::End => "end",
             Op::Await(_, access, _) | Op::Do(_, access) => access.word(),
+            Op::GiveMutex(_) => "unlock",
             Op::MessagesWaiting(_) => "waiting",
             Op::SpacesAvailable(_) => "spaces",
         }
@@ -95,8 +136,8 @@ impl Op {
 /// An op of an interrupt handler, which never waits.
 #[derive(Clone, Copy, Debug, PartialEq, Eq)]
 pub enum IsrOp {
-    /// A call on an object, done if it is possible: send, send_front, overwrite, receive or peek (`xQueueSendFromISR` and the
-    /// like).
+    /// A call on an object, done if it is possible: send, send_front, overwrite, receive, peek or give (`xQueueSendFromISR`,
+    /// `xSemaphoreGiveFromISR` and the like).
     Do(ObjectId, Access),
     /// Writes a mark line with this number, 0 to 4,294,967,295 (profile).
     Mark(u32),

@@ -1,5 +1,5 @@
 -- Who is Awake waited at the locked object: what keeps that.
-use Rattle.std.proofs.Common.{◌≡◌, ℕ, ◌<◌, ◌+◌, ◌||◌, true, false, Option, Some, None, List, [], ◌∷◌, length, set, get_or, sym, ◌∙◌, ap, subst, refl, eqb}
+use Rattle.std.proofs.Common.{◌≡◌, ℕ, ◌<◌, ◌+◌, true, Option, Some, None, List, [], ◌∷◌, length, set, get_or, sym, ◌∙◌, ap, subst, refl, eqb}
 use Rattle.std.specs.List.{AllByRecursion}
 use Rattle.std.specs.Option.{IfSome, option_and_then}
 use Rattle.model.specs.declared.call.Phase.TheVariants.{Place, Unlock}
@@ -15,8 +15,8 @@ use Rattle.model.specs.Switching.{make_ready, slice, write}
 use Rattle.model.specs.Time.{advance, due, increment_tick, wake_due}
 use Rattle.model.specs.Handlers.{handle, interrupt, isr, isr_each, isr_told, tick_interrupt}
 use Rattle.model.specs.Objects.{answer_to, attempt, fulfil, list_for, list_woken, object_after, possible}
-use Rattle.model.specs.Calls.{decide}
-use Rattle.model.specs.Waiting.{awaken, awake_status, is_expired, is_locked, same_list, unlock, unlock_object, wait_in, wait_key, waiters, wake_best, wake_one}
+use Rattle.model.specs.Calls.{lock}
+use Rattle.model.specs.Waiting.{awaken, awake_status, is_locked, same_list, unlock, unlock_object, wait_in, wait_key, waiters, wake_best, wake_one}
 use Rattle.model.specs.Invariant.{IsSound, hold_of}
 use Rattle.model.proofs.Sorting.{by_test}
 use Rattle.model.proofs.Lists.{HasKey, eqb-refl, eqb-same, list_has}
@@ -152,19 +152,17 @@ module _ (s : State) (i o : ℕ) (a : Access) (none : s.locked ≡ None) (h : At
       (λ t. subst (λ (k : ℕ). wait_if_awake (status_at (wait_in i (list_for o a) s) k) ≡ None) (sym (eqb-same j i t)) (waits_now s i (list_for o a) l))
       (λ t. ap wait_if_awake (others_as_before s i (list_for o a) j (λ q. let u : eqb j i ≡ true = rw q (eqb-refl i) in absurd cc)) ∙ nobody_awake None s none h j)
 
-  pub at_locked-decides : (priority : ℕ) → i < length s.tasks → (possible s o a || is_expired s i) ≡ false → AtLocked (Some (record { task = i; list = list_for o a; priority = priority })) (decide i o a s)
-  unfolding decide
-  at_locked-decides priority l t =
+  pub at_locked-decides : (priority : ℕ) → i < length s.tasks → AtLocked (Some (record { task = i; list = list_for o a; priority = priority })) (lock i o Place (wait_in i (list_for o a) s))
+  at_locked-decides priority l =
       let d : Option Decider = Some (record { task = i; list = list_for o a; priority = priority }) in
       let w : State = record (wait_in i (list_for o a) s) { call_hold = true; locked = Some o } in
       let begun : AtLocked d w = record { awake = (at_locked-nobody w (nobody_then l)).awake; to_place = is_locked-own o a } in
-      rw t (at_locked_same d w (go_on i Place w) (same_go_on i Place w) begun)
+      at_locked_same d w (go_on i Place w) (same_go_on i Place w) begun
 
-  pub at_locked-declines : (possible s o a || is_expired s i) ≡ true → AtLocked None (decide i o a s)
-  unfolding decide
-  at_locked-declines t =
-      let w : State = record s { call_hold = true; locked = Some o } in
-      rw t (at_locked_same None w (go_on i Unlock w) (same_go_on i Unlock w) (at_locked-nobody w (nobody_awake None s none h)))
+pub at_locked-declines : (s : State) (i o : ℕ) → s.locked ≡ None → AtLocked None s → AtLocked None (lock i o Unlock s)
+at_locked-declines s i o none h =
+    let w : State = record s { call_hold = true; locked = Some o } in
+    at_locked_same None w (go_on i Unlock w) (same_go_on i Unlock w) (at_locked-nobody w (nobody_awake None s none h))
 
 -- the one who was to be placed is placed
 pub at_locked-placed : (d : Option Decider) (s : State) → AtLocked d s → AtLocked None s

@@ -1,5 +1,5 @@
 -- A task that begins to wait, while its object is locked: the queues stay until it is placed.
-use Rattle.std.proofs.Common.{◌≡◌, ◌≢◌, ℕ, ◌<◌, ◌||◌, true, false, Bool, Option, Some, None, List, [], ◌∷◌, length, set, sym, ◌∙◌, ap, subst, refl, eqb}
+use Rattle.std.proofs.Common.{◌≡◌, ◌≢◌, ℕ, ◌<◌, true, false, Bool, Option, Some, None, List, [], ◌∷◌, length, set, sym, ◌∙◌, ap, subst, refl, eqb}
 use Rattle.std.proofs.Math.ListN.{length-set}
 use Rattle.std.proofs.lemmas.List.{get_or-set_other, get_or-set_same}
 use Rattle.std.specs.List.{AllByRecursion}
@@ -13,9 +13,9 @@ use Rattle.model.specs.declared.event.Event.{Event}
 use Rattle.model.specs.declared.op.Access.{Access}
 use Rattle.model.specs.State.{State, Progress, Task, no_task, wait_if_awake, wait_of, call_at, go_on, progress_at, status_at, task_at, with_progress}
 use Rattle.model.specs.Order.{Entry}
-use Rattle.model.specs.Objects.{list_for, possible}
-use Rattle.model.specs.Calls.{decide}
-use Rattle.model.specs.Waiting.{awaken, is_expired, wait_in, wait_key}
+use Rattle.model.specs.Objects.{list_for}
+use Rattle.model.specs.Calls.{lock}
+use Rattle.model.specs.Waiting.{awaken, wait_in, wait_key}
 use Rattle.model.proofs.Sorting.{by_test}
 use Rattle.model.proofs.Lists.{HasKey, eqb-refl, eqb-same, list_has}
 use Rattle.model.proofs.Members.{has_task, has_task-key}
@@ -37,7 +37,7 @@ pub stands_unseen : (v : Exchange) (d : Option Decider) (s : State) (time elapse
 stands_unseen v d s time elapsed steps held stopped log h =
     stands_same s (record s { time = time; elapsed = elapsed; call_hold = held; steps = steps; stopped = stopped; log = log })
     (record { objects = λ o. refl; waits = λ i. refl; awake = λ i. refl; locked = refl }) v d h
-    (record { tickets = h.waiters.table.tickets; few = h.waiters.table.few; current = h.waiters.table.current })
+    (record { tickets = h.waiters.table.tickets; few = h.waiters.table.few; current = h.waiters.table.current; holders = h.waiters.table.holders })
 
 -- A task goes on with its call, or in its script.
 pub stands_staying : (v : Exchange) (d : Option Decider) (s : State) (i : ℕ) (p : Progress) → StandsFor v d s → StandsFor v d (with_progress i p s)
@@ -125,21 +125,20 @@ stands_begins v s i q h l none nobody = record {
 
 -- ---- the decision
 
-module _ (v : Exchange) (s : State) (i o : ℕ) (a : Access) (h : StandsFor v None (record s { locked = Some o })) where
+module _ (v : Exchange) (s : State) (i o : ℕ) (h : StandsFor v None (record s { locked = Some o })) where
   -- to wait
-  pub stands_deciding : i < length s.tasks → wait_of (status_at s i) ≡ None → CountsNobody v → (possible s o a || is_expired s i) ≡ false
-      → StandsFor v (Some (record { task = i; list = list_for o a; priority = (task_at s i).priority })) (decide i o a s)
-  unfolding decide wait_in
-  stands_deciding l none nobody t =
+  pub stands_deciding : (a : Access) → i < length s.tasks → wait_of (status_at s i) ≡ None → CountsNobody v
+      → StandsFor v (Some (record { task = i; list = list_for o a; priority = (task_at s i).priority })) (lock i o Place (wait_in i (list_for o a) s))
+  unfolding wait_in
+  stands_deciding a l none nobody =
       let d : Option Decider = Some (record { task = i; list = list_for o a; priority = (task_at s i).priority }) in
       let shut : State = record s { locked = Some o } in
       let w : State = wait_in i (list_for o a) shut in
       let begun : StandsFor v d w = stands_begins v shut i (list_for o a) h l none nobody in
-      rw t (stands_gone_on v d (record w { call_hold = true }) i Place (stands_unseen v d w w.time w.elapsed w.steps true w.stopped w.log begun))
+      stands_gone_on v d (record w { call_hold = true }) i Place (stands_unseen v d w w.time w.elapsed w.steps true w.stopped w.log begun)
 
   -- or not
-  pub stands_declining : (possible s o a || is_expired s i) ≡ true → StandsFor v None (decide i o a s)
-  unfolding decide
-  stands_declining t =
+  pub stands_declining : StandsFor v None (lock i o Unlock s)
+  stands_declining =
       let w : State = record s { locked = Some o } in
-      rw t (stands_gone_on v None (record w { call_hold = true }) i Unlock (stands_unseen v None w w.time w.elapsed w.steps true w.stopped w.log h))
+      stands_gone_on v None (record w { call_hold = true }) i Unlock (stands_unseen v None w w.time w.elapsed w.steps true w.stopped w.log h)

@@ -103,12 +103,12 @@ fresh_is {sizes} {bases} {used} {i} n hn hi laid = let h = subst (IsLaid sizes b
   few = λ q hq. subst (λ (k : ℕ). k ≤ get_or sizes q 0) (sym (zero_at 32 q)) (omega arith);
 }
 
-pub fresh_object : (sizes bases : List ℕ) (n q : ℕ) → q < 32 → get_or (objects_of (fresh sizes bases n)) q no_object ≡ record { size = get_or sizes q 0; items = [] }
+pub fresh_object : (sizes bases : List ℕ) (n q : ℕ) → q < 32 → get_or (objects_of (fresh sizes bases n)) q no_object ≡ record no_object { size = get_or sizes q 0; items = [] }
 unfolding objects_of
 fresh_object sizes bases n q hq =
     let a = fresh sizes bases n in
     get_or-listed (object_of a) 32 q no_object hq
-    ∙ ap (λ (xs : List ℕ). record { size = get_or sizes q 0; items = xs }) (listed-none (λ k. get_or a.pool (place a q k) 0) (get_or (zeros 32) q 0) (zero_at 32 q))
+    ∙ ap (λ (xs : List ℕ). record no_object { size = get_or sizes q 0; items = xs }) (listed-none (λ k. get_or a.pool (place a q k) 0) (get_or (zeros 32) q 0) (zero_at 32 q))
 
 -- the length that was asked for, or none
 pub padded_at : (lengths : List ℕ) (q : ℕ) → get_or (lengths ++ zeros (32 - length lengths)) q 0 ≡ get_or lengths q 0

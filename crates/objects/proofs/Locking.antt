@@ -1,12 +1,13 @@
 -- The lock of an object, over the whole of the queues.
 use Rattle.std.proofs.Common.{◌≡◌, ℕ, false, Option, Some, None, List, [], ◌∷◌, ◌++◌, sym, ◌∙◌, ap, subst, refl, eqb}
-use Rattle.std.specs.Option.{IfSome, is_some}
+use Rattle.std.specs.Option.{IfSome, is_some, option_map, unwrap_or}
 use Rattle.std.proofs.lemmas.Option.{same_Some}
 use Rattle.model.specs.declared.call.WaitList.{WaitList}
 use Rattle.model.specs.declared.call.WaitList.TheVariants.{ToReceive, ToSend}
 use Rattle.model.specs.State.{State, Object, status_at, wait_if_awake, for_each, for_one}
 use Rattle.model.specs.Order.{Entry, first, task_of, tasks_of}
 use Rattle.model.specs.Switching.{make_ready}
+use Rattle.model.specs.Mutexes.{best_priority}
 use Rattle.model.specs.Waiting.{awakened, is_locked, unlock, unlock_object, waiters, wake_best, wake_one}
 use Rattle.model.specs.Invariant.{Hold}
 use Rattle.model.proofs.Frames.{keeps-all_ready}
@@ -14,8 +15,11 @@ use Rattle.model.proofs.Sorting.{by_test}
 use Rattle.model.proofs.Lists.{eqb-same}
 use Rattle.objects.specs.declared.lock.Lock.{Lock}
 use Rattle.objects.specs.Items.{object_in}
-use Rattle.objects.specs.WaitersStand.{Decider, FirstAwake, StandLocked, WaitersStand, one_more, opened, standing}
+use Rattle.sched.specs.StandsFor.{with_priorities}
+use Rattle.objects.specs.WaitingLists.{first_priority, waiting_in}
+use Rattle.objects.specs.WaitersStand.{AtLocked, Decider, FirstAwake, StandLocked, WaitersStand, one_more, opened, standing}
 use Rattle.objects.specs.Queues.{Counts, Exchange, StandsFor, counted, counted_by, locked_by}
+use Rattle.objects.proofs.Keys.{waiters_all}
 use Rattle.objects.proofs.Counting.{stands_received, stands_sent}
 
 -- it is locked
@@ -30,7 +34,7 @@ stands_locked v d s o h nobody =
     let new : State = record s { locked = Some o } in
     record {
       objects = h.objects;
-      waiters = record { lists = h.waiters.lists; table = record { tickets = h.waiters.table.tickets; few = h.waiters.table.few; current = h.waiters.table.current } };
+      waiters = record { lists = h.waiters.lists; table = record { tickets = h.waiters.table.tickets; few = h.waiters.table.few; current = h.waiters.table.current; holders = h.waiters.table.holders } };
       locked = refl;
       counts = (none_awake new nobody (standing new (ToReceive o)), none_awake new nobody (standing new (ToSend o)));
     }
@@ -145,3 +149,15 @@ stands_taken_best objects waiting new (Some l) list d s h stand counts =
       locked = h.locked ∙ sym (wake_locked s list);
       counts = (k.to_receive, k.to_send);
     }
+
+-- ---- the best waiter's priority, while nothing is locked
+
+first_with : (es : List Entry) → first_priority (with_priorities es) ≡ unwrap_or (option_map (λ (e : Entry). e.key.priority) (first es)) 0
+first_with [] = refl
+first_with (e ∷ es) = refl
+
+pub best_priority_is : (v : List (List (ℕ × ℕ))) (s : State) (list : WaitList) → WaitersStand v None s → AtLocked None s → s.locked ≡ None → first_priority (waiting_in v list) ≡ best_priority s list
+best_priority_is v s list h at none =
+    let shut : is_locked s.locked list ≡ false = ap (λ (o : Option ℕ). is_locked o list) none ∙ none_locked list in
+    ap first_priority (h.lists list) ∙ first_with (standing s list)
+    ∙ ap (λ (es : List Entry). unwrap_or (option_map (λ (e : Entry). e.key.priority) (first es)) 0) (sym (waiters_all s list shut at.awake))

@@ -1,14 +1,14 @@
 -- The queues at reset.
-use Rattle.std.proofs.Common.{◌≡◌, ℕ, zero, suc, ◌<◌, ◌≤◌, inl, inr, List, [], ◌∷◌, None, refl, ap, sym, ◌∙◌, arith, length, get_or, map}
+use Rattle.std.proofs.Common.{◌≡◌, ℕ, zero, suc, ◌≤◌, inl, inr, List, [], ◌∷◌, Option, None, refl, ap, sym, ◌∙◌, arith, length, get_or, map, replicate}
 use Rattle.std.specs.List.{AllByRecursion}
 use Rattle.std.specs.Option.{option_and_then}
 use Rattle.std.proofs.lemmas.Bool.{cases_lt}
 use Rattle.std.proofs.lemmas.List.{get_or_past, length-map}
 use Rattle.model.specs.declared.object.ObjectKind.{ObjectKind}
-use Rattle.model.specs.declared.object.ObjectKind.TheVariants.{Queue}
+use Rattle.model.specs.declared.object.ObjectKind.TheVariants.{Queue, Semaphore, Mutex}
 use Rattle.model.specs.declared.call.WaitList.{WaitList}
 use Rattle.model.specs.Application.{Application}
-use Rattle.model.specs.State.{State, Object, Task, Ready, no_object, no_task, wait_of, status_at, task_at, object_at, for_each}
+use Rattle.model.specs.State.{State, Object, Task, Ready, no_object, no_task, wait_of, status_at, task_at, for_each}
 use Rattle.model.specs.Order.{Entry}
 use Rattle.model.specs.Switching.{make_ready}
 use Rattle.model.specs.Step.{nobody_ready, object_at_reset, ready_at_reset, reset, with_ops}
@@ -17,14 +17,18 @@ use Rattle.model.specs.Invariant.{Hold, IsTable}
 use Rattle.model.proofs.Chosen.{choice_within}
 use Rattle.model.proofs.Frames.{keeps-all_ready}
 use Rattle.model.proofs.Lists.{HasKey, list_has}
-use Rattle.model.proofs.Reached.{call-reset, none_taken}
+use Rattle.model.proofs.Reached.{call-reset, holders-reset, none_taken}
 use Rattle.model.proofs.Sound.{each-set}
 use Rattle.model.proofs.Tables.{table-make_ready}
-use Rattle.objects.specs.Items.{IsSound, object_in}
+use Rattle.objects.specs.Items.{object_in}
+use Rattle.objects.specs.Semaphores.{Counts, count_in, max_count_in}
+use Rattle.objects.specs.Mutexes.{holder_in}
+use Rattle.objects.specs.Objects.{objects_of_all}
 use Rattle.objects.specs.WaitersStand.{WaitersStand, standing}
-use Rattle.objects.specs.Queues.{StandsFor, size_in}
+use Rattle.objects.specs.Queues.{StandsFor}
 use Rattle.objects.proofs.Keys.{standing_key}
 use Rattle.objects.proofs.Locking.{objects-all_ready}
+use Rattle.objects.proofs.Together.{object_is, object_past}
 
 -- ---- nobody waits
 
@@ -53,21 +57,47 @@ table-all_ready (i ∷ is) s h = table-all_ready is (make_ready i s) (table-make
 
 table-nobody : (app : Application) → length app.tasks ≤ 32 → IsTable (nobody_ready app)
 unfolding nobody_ready
-table-nobody app few = record { tickets = none_taken app.start app.tasks; few = rw length-map few; current = tt }
+table-nobody app few = record { tickets = none_taken app.start app.tasks; few = rw length-map few; current = tt; holders = λ o. holders-reset _ o app.objects }
 
 pub table-reset : (app : Application) → length app.tasks ≤ 32 → IsTable (reset app)
 unfolding reset ready_at_reset
 table-reset app few =
     let s : State = ready_at_reset app in
     let h : IsTable s = table-all_ready (with_ops 0 app.tasks) (nobody_ready app) (table-nobody app few) in
-    record { tickets = h.tickets; few = h.few; current = choice_within s }
+    record { tickets = h.tickets; few = h.few; current = choice_within s; holders = h.holders }
 
 -- ---- the objects
 
-empty_at_reset : (kinds : List ObjectKind) (o : ℕ) → get_or (map object_at_reset kinds) o no_object ≡ record no_object { size = (get_or (map object_at_reset kinds) o no_object).size }
-empty_at_reset [] o = refl
-empty_at_reset (Queue size ∷ kinds) zero = refl
-empty_at_reset (kind ∷ kinds) (suc o) = empty_at_reset kinds o
+-- An object at reset has no items and no holder.
+bare : (kinds : List ObjectKind) (o : ℕ)
+    → record no_object {
+      size = (get_or (map object_at_reset kinds) o no_object).size;
+      max_count = (get_or (map object_at_reset kinds) o no_object).max_count;
+      count = (get_or (map object_at_reset kinds) o no_object).count;
+    } ≡ get_or (map object_at_reset kinds) o no_object
+bare [] o = refl
+bare (Queue size ∷ kinds) zero = refl
+bare (Semaphore most first ∷ kinds) zero = refl
+bare (Mutex ∷ kinds) zero = refl
+bare (kind ∷ kinds) (suc o) = bare kinds o
+
+none_held : (n o : ℕ) → holder_in (replicate n None) o ≡ None
+none_held zero o = refl
+none_held (suc n) zero = refl
+none_held (suc n) (suc o) = none_held n o
+
+pub objects_fresh : (kinds : List ObjectKind) (queues : List Object) (semaphores : Counts) (mutexes : List (Option ℕ)) → length kinds ≤ 32
+    → ((o : ℕ) → object_in queues o ≡ record no_object { size = (get_or (map object_at_reset kinds) o no_object).size })
+    → ((o : ℕ) → max_count_in semaphores o ≡ (get_or (map object_at_reset kinds) o no_object).max_count)
+    → ((o : ℕ) → count_in semaphores o ≡ (get_or (map object_at_reset kinds) o no_object).count)
+    → mutexes ≡ replicate 32 None
+    → (o : ℕ) → object_in (objects_of_all queues semaphores mutexes) o ≡ get_or (map object_at_reset kinds) o no_object
+objects_fresh kinds queues semaphores mutexes few empty most first free o = elim (cases_lt o 32) [
+  | inl below ↦
+      let held : holder_in mutexes o ≡ None = ap (λ (hs : List (Option ℕ)). holder_in hs o) free ∙ none_held 32 o in
+      object_is queues semaphores mutexes o below ∙ rw (empty o, most o, first o, held) (bare kinds o)
+  | inr past ↦ object_past queues semaphores mutexes o past ∙ sym (get_or_past (map object_at_reset kinds) o no_object (rw length-map (omega (arith, few, past))))
+]
 
 objects-reset : (app : Application) → (reset app).objects ≡ map object_at_reset app.objects
 unfolding reset ready_at_reset nobody_ready
@@ -77,26 +107,15 @@ locked-reset : (app : Application) → (reset app).locked ≡ None
 unfolding reset ready_at_reset nobody_ready
 locked-reset app = ap (λ (hold : Hold). hold.locked) (keeps-all_ready (with_ops 0 app.tasks) (nobody_ready app)).hold
 
--- each object of the application is empty, and has its size
-pub object-reset : (app : Application) (o : ℕ) → object_at (reset app) o ≡ record no_object { size = size_in app o }
-object-reset app o = ap (λ (os : List Object). object_in os o) (objects-reset app) ∙ empty_at_reset app.objects o
-
 -- ---- the whole
 
-pub stands_reset : (app : Application) (lengths : List ℕ) (items : List Object) (waiting : List (List (ℕ × ℕ))) → length app.tasks ≤ 32 → length lengths ≤ 32 → ((o : ℕ) → size_in app o ≡ get_or lengths o 0)
-    → IsSound items → ((o : ℕ) → o < 32 → object_in items o ≡ record no_object { size = get_or lengths o 0 })
+pub stands_reset : (app : Application) (kinds : List ObjectKind) (objects : List Object) (waiting : List (List (ℕ × ℕ))) → app.objects ≡ kinds → length app.tasks ≤ 32
+    → ((o : ℕ) → object_in objects o ≡ get_or (map object_at_reset kinds) o no_object)
     → ((s : State) → IsTable s → ((list : WaitList) → standing s list ≡ []) → WaitersStand waiting None s)
-    → StandsFor (record { objects = items; waiting = waiting; lock = None }) None (reset app)
-stands_reset app lengths items waiting few short sizes sound empty stand = record {
-  objects = λ o. at o ∙ ap (λ (n : ℕ). record no_object { size = n }) (sym (sizes o)) ∙ sym (object-reset app o);
+    → StandsFor (record { objects = objects; waiting = waiting; lock = None }) None (reset app)
+stands_reset app kinds objects waiting own few fresh stand = record {
+  objects = λ o. fresh o ∙ ap (λ (ks : List ObjectKind). get_or (map object_at_reset ks) o no_object) (sym own) ∙ sym (ap (λ (os : List Object). object_in os o) (objects-reset app));
   waiters = stand (reset app) (table-reset app few) (λ list. nobody_stands (reset app) list (nobody_waits-reset app));
   locked = sym (locked-reset app);
   counts = tt;
-} where
-  at : (o : ℕ) → object_in items o ≡ record no_object { size = get_or lengths o 0 }
-  at o = elim (cases_lt o 32) [
-    | inl below ↦ empty o below
-    | inr past ↦
-        get_or_past items o no_object (let many = sound.as_many in omega (arith, many, past))
-        ∙ ap (λ (n : ℕ). record no_object { size = n }) (sym (get_or_past lengths o 0 (omega (arith, short, past))))
-  ]
+}

@@ -153,14 +153,14 @@ module _ {a : Fields} (h : IsItems a) where
         ∙ get_or-set_other a.pool p (place a r k) x 0 (place-apart q r k p hq hr ne (omega (arith, hk, few)) from to))
 
     -- the queues after the write, where queue q's items are known
-    pub written_queues : (xs : List ℕ) → listed (λ k. get_or (set a.pool p x) (base_of a q + wrap (size_of a q) (head + k)) 0) count ≡ xs → objects_of (written a q p x head count) ≡ set (objects_of a) q (record { size = size_of a q; items = xs })
+    pub written_queues : (xs : List ℕ) → listed (λ k. get_or (set a.pool p x) (base_of a q + wrap (size_of a q) (head + k)) 0) count ≡ xs → objects_of (written a q p x head count) ≡ set (objects_of a) q (record no_object { size = size_of a q; items = xs })
     unfolding objects_of
     written_queues xs e =
         let b = written a q p x head count in
         let here : ring b q ≡ xs =
         ap₂ (λ (i n : ℕ). listed (λ k. get_or (set a.pool p x) (base_of a q + wrap (size_of a q) (i + k)) 0) n) here_head here_count ∙ e in
-        listed-set (object_of a) (object_of b) 32 q hq (λ r hr ne. ap (λ (xs : List ℕ). record { size = size_of a r; items = xs }) (other_ring r hr ne))
-        ∙ ap (λ (ys : List ℕ). set (listed (object_of a) 32) q (record { size = size_of a q; items = ys })) here
+        listed-set (object_of a) (object_of b) 32 q hq (λ r hr ne. ap (λ (xs : List ℕ). record no_object { size = size_of a r; items = xs }) (other_ring r hr ne))
+        ∙ ap (λ (ys : List ℕ). set (listed (object_of a) 32) q (record no_object { size = size_of a q; items = ys })) here
 
   -- an item is put behind the others
   pub pushed_back : (q x : ℕ) → q < 32 → count_of a q < size_of a q → listed (λ k. get_or (set a.pool (place a q (count_of a q)) x) (place a q k) 0) (count_of a q + 1) ≡ ring a q ++ x ∷ []
@@ -219,7 +219,7 @@ module _ {a : Fields} (h : IsItems a) {s : List Object} (seen : objects_of a ≡
       let size = size-is a q hq in
       omega (arith, r, count, size)
 
-  becomes : (b : Fields) (q : ℕ) (f : List ℕ → List ℕ) → q < 32 → IsItems b → objects_of b ≡ set (objects_of a) q (record { size = size_of a q; items = f (ring a q) }) → Becomes b s q (f (object_in s q).items)
+  becomes : (b : Fields) (q : ℕ) (f : List ℕ → List ℕ) → q < 32 → IsItems b → objects_of b ≡ set (objects_of a) q (record no_object { size = size_of a q; items = f (ring a q) }) → Becomes b s q (f (object_in s q).items)
   becomes b q f hq is items =
       let here : objects_of b ≡ set (objects_of a) q (holding (object_in (objects_of a) q) (f (object_in (objects_of a) q).items)) =
       items ∙ ap (λ (o : Object). set (objects_of a) q (holding o (f o.items))) (sym (object-is a q hq)) in
@@ -361,7 +361,7 @@ pub same_front : {a : Fields} → IsItems a → (pool : List ℕ) → ((i : ℕ)
 unfolding objects_of
 same_front {a} h pool same =
     let b : Fields = record { pool = pool; bases = a.bases; lengths = a.lengths; heads = a.heads; counts = a.counts } in
-    listed-same (object_of b) (object_of a) 32 (λ q hq. ap (λ (xs : List ℕ). record { size = size_of a q; items = xs })
+    listed-same (object_of b) (object_of a) 32 (λ q hq. ap (λ (xs : List ℕ). record no_object { size = size_of a q; items = xs })
     (listed-same (λ k. get_or pool (place a q k) 0) (λ k. get_or a.pool (place a q k) 0) (count_of a q) (λ k hk.
     let few = h.few q hq in
     let lies = (place-in h q k hq (omega (arith, hk, few))).1 in

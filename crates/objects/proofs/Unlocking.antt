@@ -15,7 +15,7 @@ each_append [] js s = refl
 each_append (i ∷ is) js s = each_append is js (make_ready i s)
 
 pub stands_opened : (v : List (List (ℕ × ℕ))) (s : State) → WaitersStand v None s → WaitersStand v None (opened s)
-stands_opened v s h = record { lists = h.lists; table = record { tickets = h.table.tickets; few = h.table.few; current = h.table.current } }
+stands_opened v s h = record { lists = h.lists; table = record { tickets = h.table.tickets; few = h.table.few; current = h.table.current; holders = h.table.holders } }
 
 -- Who is taken out of those who wait to receive doesn't wait to send.
 pub senders_stay : (v : List (List (ℕ × ℕ))) (o receivers senders : ℕ) → best_of (ToSend o) senders (without_best (ToReceive o) receivers v) ≡ best_of (ToSend o) senders v

@@ -1,11 +1,11 @@
 -- What callers see of the queues, and the states that it stands for.
-use Rattle.std.specs.Prelude.{◌≡◌, ℕ, ◌==◌, if◌then◌else◌, List, Option, Some, None, map, option_map, option_and_then, slice_index_or, IfSome}
+use Rattle.std.specs.Prelude.{◌≡◌, ◌<◌, ℕ, ◌==◌, if◌then◌else◌, List, Option, Some, None, option_map, option_and_then, IfSome}
 use Rattle.lists.specs.Lists.{first_of}
+use Rattle.model.specs.declared.op.Access.{Access}
+use Rattle.model.specs.declared.op.Access.TheVariants.{Overwrite}
 use Rattle.model.specs.declared.call.WaitList.{WaitList}
 use Rattle.model.specs.declared.call.WaitList.TheVariants.{ToReceive, ToSend}
-use Rattle.model.specs.Application.{Application}
-use Rattle.model.specs.State.{State, Object, no_object, object_at, wait_of, wait_if_awake, status_at}
-use Rattle.model.specs.Step.{object_at_reset}
+use Rattle.model.specs.State.{State, Object, object_at, wait_of, wait_if_awake, status_at}
 use Rattle.objects.specs.declared.lock.Lock.{Lock}
 use Rattle.objects.specs.Items.{object_in}
 use Rattle.objects.specs.WaitingLists.{best_of, waiting_in, without_best, without_woken}
@@ -18,6 +18,11 @@ pub record Exchange : Type 0 where
   pub waiting : List (List (ℕ × ℕ))
   -- the lock of the object that a call has locked
   pub lock : Option Lock
+
+-- An `overwrite` wants a queue that can hold an item.
+abbrev pub HasRoom : Access → Object → Type 0
+HasRoom (Overwrite item) o = 0 < o.size
+HasRoom _ o = Unit {0}
 
 -- the object that is locked
 abbrev pub locked_by : Option Lock → Option ℕ
@@ -73,10 +78,6 @@ pub record StandsFor (v : Exchange) (decider : Option Decider) (s : State) : Typ
   pub waiters : WaitersStand v.waiting decider s
   pub locked : locked_by v.lock ≡ s.locked
   pub counts : IfSome v.lock (Counts s)
-
--- the size that an object of the application has at reset; 0 where there is none
-abbrev pub size_in : Application → ℕ → ℕ
-size_in app object = (slice_index_or (map object_at_reset app.objects) object no_object).size
 
 -- The objects are the same, the same tasks wait or are Awake, each in the same way, and the same object is locked.
 pub record SameWaits (old new : State) : Type 0 where

@@ -1,6 +1,6 @@
 -- How one pool holds the items of all queues, each in a region of its own, around which they go.
 use Rattle.std.specs.Prelude.{◌≡◌, ℕ, zero, suc, ◌+◌, ◌-◌, ◌<◌, ◌≤◌, nat_lt, if◌then◌else◌, List, [], ◌∷◌, get_or, length}
-use Rattle.model.specs.State.{Object}
+use Rattle.model.specs.State.{Object, no_object}
 
 -- the first n values of f
 abbrev pub listed : {X : Type 0} → (ℕ → X) → ℕ → List X
@@ -42,7 +42,7 @@ ring a q = listed (λ k. get_or a.pool (place a q k) 0) (count_of a q)
 
 -- the queue as an object of the definitions
 abbrev pub object_of : Fields → ℕ → Object
-object_of a q = record { size = size_of a q; items = ring a q }
+object_of a q = record no_object { size = size_of a q; items = ring a q }
 
 unfoldable pub objects_of : Fields → List Object
 objects_of a = listed (object_of a) 32

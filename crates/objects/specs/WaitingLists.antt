@@ -17,6 +17,11 @@ waiting_in lists list = entries_of lists (number_of list)
 abbrev pub tasks_in : List (ℕ × ℕ) → List ℕ
 tasks_in entries = map (λ (e : ℕ × ℕ). e.0) entries
 
+-- the priority of the first; 0 where there is none
+abbrev pub first_priority : List (ℕ × ℕ) → ℕ
+first_priority [] = 0
+first_priority (e ∷ entries) = e.1
+
 -- so many of the best waiters of a list, in order, or all where there are fewer
 abbrev pub best_of : WaitList → ℕ → List (List (ℕ × ℕ)) → List ℕ
 best_of list count lists = take count (tasks_in (waiting_in lists list))

@@ -1,9 +1,13 @@
 //! The items of the queues: a pool, and a ring in it for each queue.
-ghost use Rattle.std.specs.Prelude.{◌≡◌, ℕ, ◌+◌, ◌-◌, ◌<◌, ◌≤◌, List, [], ◌∷◌, ◌++◌, All, length, drop, slice_index_or, slice_set, slice_get};
+ghost use Rattle.std.specs.Prelude.{◌≡◌, ℕ, ◌+◌, ◌-◌, ◌<◌, ◌≤◌, List, [], ◌∷◌, ◌++◌, All, length, map, drop, slice_index_or, slice_set, slice_get};
+ghost use Rattle.std.specs.List.{AllByRecursion};
+ghost use Rattle.model.specs.Scripts.{IsObjectKind};
 ghost use Rattle.model.specs.State.{no_object};
+ghost use Rattle.model.specs.Step.{object_at_reset};
 ghost use Rattle.objects.specs.Items.{holding, object_in, IsSound};
 ghost use Rattle.objects.specs.Rings.{wrap};
 
+use model::ObjectKind;
 use std::marker::Model;
 
 /// The items of 32 queues, in one pool.
@@ -37,10 +41,48 @@ fn wrapped(size: u16, at: u16) -> u16
     if at < size { at } else { at - size }
 }
 
+/// The length of a queue; 0 where the object is none.
+fn length_of(object: ObjectKind) -> u16
+    ensures { result ≡ (object_at_reset object).size }
+{
+    match object {
+        ObjectKind::Queue(length) => length,
+        ObjectKind::Semaphore(_, _) | ObjectKind::Mutex => 0,
+    }
+}
+
+/// The lengths of the queues among these objects, and 0 in the places after them.
+fn lengths_of(objects: &[ObjectKind]) -> [u16; 32]
+    requires few { length objects.now ≤ 32 }
+    requires kinds { AllByRecursion IsObjectKind objects.now }
+    ensures lengths { (object : ℕ) → slice_index_or result object 0
+        ≡ (slice_index_or (map object_at_reset objects.now) object no_object).size }
+    ensures small { All (λ length. length ≤ 256) result }
+    ensures full { length result ≡ 32 }
+{
+    let mut lengths = [0; 32];
+    for (index, object) in objects.iter().enumerate() {
+        lengths[index] = length_of(*object);
+    }
+    lengths
+}
+
 impl Items {
+    /// The queues among these objects, 32 at most, all empty. Any other object has length 0.
+    pub(crate) fn new(objects: &[ObjectKind]) -> Self
+        requires few { length objects.now ≤ 32 }
+        requires kinds { AllByRecursion IsObjectKind objects.now }
+        ensures empty { (queue : ℕ) → object_in result queue ≡ record no_object {
+          size = (slice_index_or (map object_at_reset objects.now) queue no_object).size;
+        } }
+        ensures sound { IsSound result }
+    {
+        Items::of_lengths(&lengths_of(objects))
+    }
+
     /// Empty queues of these lengths, each 256 at most. There are 32 lengths at most, and the queues past them have
     /// length 0.
-    pub(crate) fn new(lengths: &[u16]) -> Self
+    fn of_lengths(lengths: &[u16]) -> Self
         requires few { length lengths.now ≤ 32 }
         requires small { All (λ length. length ≤ 256) lengths.now }
         ensures empty { (queue : ℕ) → queue < 32

@@ -1,16 +1,18 @@
 //! What leaves the queues as they are. These functions do nothing: their contracts tell.
-ghost use Rattle.std.specs.Prelude.{◌≡◌, ◌||◌, ℕ, ◌<◌, length, List, Bool, true, false, Option, Some, None, IfSome};
+ghost use Rattle.std.specs.Prelude.{◌≡◌, ℕ, ◌<◌, length, List, Bool, Option, Some, None, IfSome};
 ghost use Rattle.lists.specs.Lists.{place_of};
+ghost use Rattle.model.specs.declared.call.Phase.TheVariants.{Place, Unlock};
 ghost use Rattle.model.specs.declared.call.WaitList.{WaitList};
 ghost use Rattle.model.specs.declared.call.WaitList.TheVariants.{ToReceive, ToSend};
 ghost use Rattle.model.specs.declared.event.End.{End};
 ghost use Rattle.model.specs.declared.event.Event.{Event};
 ghost use Rattle.model.specs.declared.op.Access.{Access};
 ghost use Rattle.model.specs.State.{Progress, State, status_at, task_at, wait_of, with_progress};
-ghost use Rattle.model.specs.Objects.{list_for, possible};
-ghost use Rattle.model.specs.Calls.{decide};
-ghost use Rattle.model.specs.Waiting.{awaken, is_expired, wait_in, wake_best};
-ghost use Rattle.objects.specs.WaitersStand.{Decider, StandLocked, one_more};
+ghost use Rattle.model.specs.Objects.{list_for};
+ghost use Rattle.model.specs.Calls.{lock};
+ghost use Rattle.model.specs.Mutexes.{after_timeout, disinherit, inherit, set_priority};
+ghost use Rattle.model.specs.Waiting.{awaken, wait_in, wake_best};
+ghost use Rattle.objects.specs.WaitersStand.{AtLocked, Decider, StandLocked, one_more};
 ghost use Rattle.objects.specs.Queues.{Counts, CountsNobody, Exchange, StandsFor};
 
 /// A wake through the locked object leaves the lists as they are, and is counted.
@@ -37,18 +39,17 @@ pub fn decides()
         → task < length s.tasks → wait_of (status_at s task) ≡ None → CountsNobody v
         → StandsFor v (Some (record { task = task; list = list; priority = (task_at s task).priority }))
         (wait_in task list s) }
-    // Its object is locked by then: with that, the definition's decision is that it waits,
+    // Its object is locked by then, and the holder of a mutex has inherited: with that, the definition's decision is that it
+    // waits,
     ensures decides { (v : Exchange) (s : State) (task object : ℕ) (access : Access)
         → StandsFor v None (record s { locked = Some object })
-        → task < length s.tasks → wait_of (status_at s task) ≡ None → CountsNobody v
-        → (possible s object access || is_expired s task) ≡ false → StandsFor v
+        → task < length s.tasks → wait_of (status_at s task) ≡ None → CountsNobody v → StandsFor v
         (Some (record { task = task; list = list_for object access; priority = (task_at s task).priority }))
-        (decide task object access s) }
+        (lock task object Place (wait_in task (list_for object access) s)) }
     // or that it doesn't.
-    ensures declines { (v : Exchange) (s : State) (task object : ℕ) (access : Access)
+    ensures declines { (v : Exchange) (s : State) (task object : ℕ)
         → StandsFor v None (record s { locked = Some object })
-        → (possible s object access || is_expired s task) ≡ true
-        → StandsFor v None (decide task object access s) }
+        → StandsFor v None (lock task object Unlock s) }
     // A task goes on with its call, or in its script.
     ensures stays { (v : Exchange) (decider : Option Decider) (s : State) (task : ℕ) (progress : Progress)
         → StandsFor v decider s → StandsFor v decider (with_progress task progress s) }
@@ -67,4 +68,28 @@ pub fn decides()
           stopped = stopped;
           log = log;
         }) }
+{}
+
+/// A change of a priority leaves the queues as they are: a task stands in its list with the priority that it had when its
+/// wait began.
+pub fn ranks()
+    ensures ranked { (v : Exchange) (decider : Option Decider) (s : State) (task priority : ℕ)
+        → StandsFor v decider s → StandsFor v decider (set_priority task priority s) }
+    ensures ranked_awake { (decider : Option Decider) (s : State) (task priority : ℕ)
+        → AtLocked decider s → AtLocked decider (set_priority task priority s) }
+    // So does each of the definition's changes: when a task begins to wait,
+    ensures inherited { (v : Exchange) (decider : Option Decider) (s : State) (task object : ℕ)
+        → StandsFor v decider s → StandsFor v decider (inherit task object s) }
+    ensures inherited_awake { (decider : Option Decider) (s : State) (task object : ℕ)
+        → AtLocked decider s → AtLocked decider (inherit task object s) }
+    // when its wait was in vain,
+    ensures timed_out { (v : Exchange) (decider : Option Decider) (s : State) (task object : ℕ)
+        → StandsFor v decider s → StandsFor v decider (after_timeout task object s) }
+    ensures timed_out_awake { (decider : Option Decider) (s : State) (task object : ℕ)
+        → AtLocked decider s → AtLocked decider (after_timeout task object s) }
+    // and when it has given a mutex back.
+    ensures disinherited { (v : Exchange) (decider : Option Decider) (s : State) (task : ℕ)
+        → StandsFor v decider s → StandsFor v decider (disinherit task s) }
+    ensures disinherited_awake { (decider : Option Decider) (s : State) (task : ℕ)
+        → AtLocked decider s → AtLocked decider (disinherit task s) }
 {}

@@ -1,14 +1,17 @@
-//! The objects that tasks share: queues (profile: of numbers of 32 bits), and the lists of those who wait at them.
+//! The objects that tasks share: queues (profile: of numbers of 32 bits), semaphores and mutexes, and the lists of those who
+//! wait at them.
 #![tactic(auto)]
 
 mod items;
 pub mod laws;
 mod lock;
+mod mutexes;
 mod queues;
+mod semaphores;
 #[cfg(test)]
 mod tests;
 mod waiting_lists;
 
 pub use lock::Lock;
-pub use queues::Queues;
+pub use queues::{NotHolder, Queues};
 pub use waiting_lists::{Taken, Unlocked};

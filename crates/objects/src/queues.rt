@@ -1,6 +1,6 @@
-//! The queues: their items, who waits at them, and which one is locked.
-ghost use Rattle.std.specs.Prelude.{◌≡◌, ◌==◌, ◌&&◌, not, ℕ, ◌-◌, ◌<◌, ◌≤◌, [], All, length, replicate, slice_index_or, slice_set, map, ◌++◌, ◌↔◌, if◌then◌else◌, true, Some, None, Option, IsSome, IfSome};
-ghost use Rattle.std.specs.List.{list_any};
+//! The objects that tasks share: queues, semaphores and mutexes, who waits at them, and which one is locked.
+ghost use Rattle.std.specs.Prelude.{◌≡◌, ◌==◌, ◌&&◌, not, ℕ, ◌-◌, ◌<◌, ◌≤◌, [], length, replicate, slice_index_or, slice_set, map, ◌++◌, ◌↔◌, if◌then◌else◌, true, Some, None, Option, IsSome, IfSome, IsOk, OnOk, OnErr};
+ghost use Rattle.std.specs.List.{AllByRecursion, list_any};
 ghost use Rattle.std.specs.Option.{is_some};
 ghost use Rattle.lists.specs.Lists.{place_of, without};
 ghost use Rattle.model.specs.Application.{Application};
@@ -9,55 +9,69 @@ ghost use Rattle.model.specs.Order.{first, task_of};
 ghost use Rattle.model.specs.Switching.{make_ready};
 ghost use Rattle.model.specs.Waiting as waiting;
 ghost use Rattle.model.specs.Waiting.{is_locked};
-ghost use Rattle.model.specs.Step.{reset};
+ghost use Rattle.model.specs.declared.event.Misuse.TheVariants as misuses;
+ghost use Rattle.model.specs.declared.op.Op.TheVariants as op;
+ghost use Rattle.model.specs.Scripts.{IsObjectKind};
+ghost use Rattle.model.specs.Step.{misuse, object_at_reset, reset};
 ghost use Rattle.model.specs.Objects as definitions;
 ghost use Rattle.model.specs.Objects.{allows, object_after, reply};
+ghost use Rattle.model.specs.Mutexes as mutexes;
 ghost use Rattle.objects.specs.Items.{object_in};
-ghost use Rattle.objects.specs.WaitingLists.{insert_by_priority, number_of, waiting_in};
+ghost use Rattle.objects.specs.Objects.{held_of};
+ghost use Rattle.objects.specs.WaitingLists.{first_priority, insert_by_priority, number_of, waiting_in};
 ghost use Rattle.objects.specs.WaitersStand.{AreAwakened, AtLocked, Decider, opened};
-ghost use Rattle.objects.specs.Queues.{AreCounted, StandsFor, after_unlock, after_wake, counted_by, readied_by, size_in};
+ghost use Rattle.objects.specs.Queues.{AreCounted, HasRoom, StandsFor, after_unlock, after_wake, counted_by, readied_by};
 
 use crate::items::Items;
 use crate::lock::Lock;
+use crate::mutexes::Mutexes;
+use crate::semaphores::Semaphores;
 use crate::waiting_lists::{Unlocked, WaitingLists};
-use model::{Access, ObjectId, TaskId, WaitList};
+use model::{Access, ObjectId, ObjectKind, TaskId, WaitList};
 use std::marker::Model;
 
-/// 32 queues and the tasks that wait at them.
+/// It isn't the task that holds the mutex.
+#[derive(Clone, Copy, Debug, PartialEq, Eq)]
+pub struct NotHolder;
+
+/// 32 objects, each a queue, a semaphore or a mutex, and the tasks that wait at them.
 #[derive(Drop)]
 pub struct Queues {
     items: Items,
+    semaphores: Semaphores,
+    mutexes: Mutexes,
     waiting: WaitingLists,
     lock: Option<Lock>,
 }
 
 // Clauses see the objects of the definitions, and for each list its tasks in order.
 impl Model for Queues {
+    ghost use Rattle.objects.specs.Objects.{objects_of_all};
     ghost use Rattle.objects.specs.Queues.{Exchange};
 
     ghost Value = { Exchange };
 
-    ghost view = { λ q. record { objects = q.items; waiting = q.waiting; lock = q.lock } };
+    ghost view = { λ q. record { objects = objects_of_all q.items q.semaphores q.mutexes; waiting = q.waiting; lock = q.lock } };
 }
 
 impl Queues {
-    /// Empty queues of these lengths, each 256 at most, where nobody waits and nothing is locked. There are 32 lengths at
-    /// most, and the queues past them have length 0.
-    pub fn new(lengths: &[u16]) -> Self
-        requires few { length lengths.now ≤ 32 }
-        requires small { All (λ length. length ≤ 256) lengths.now }
-        ensures empty { (queue : ℕ) → queue < 32
-            → object_in result.objects queue
-            ≡ record no_object { size = slice_index_or lengths.now queue 0 } }
+    /// These objects as they are at reset, 32 at most, where nobody waits and nothing is locked: queues are empty, semaphores
+    /// have their initial counts, mutexes are free. Those past the last have no room, no count and no holder.
+    pub fn new(objects: &[ObjectKind]) -> Self
+        requires few { length objects.now ≤ 32 }
+        requires kinds { AllByRecursion IsObjectKind objects.now }
+        ensures objects { (object : ℕ) → object_in result.objects object
+            ≡ slice_index_or (map object_at_reset objects.now) object no_object }
         ensures nobody { result.waiting ≡ replicate 64 [] }
         ensures free { result.lock ≡ None }
-        // They are those of an application whose queues have these lengths.
-        ensures stands { (app : Application) → length app.tasks ≤ 32
-            → ((object : ℕ) → size_in app object ≡ slice_index_or lengths.now object 0)
+        // They are those of an application that has these objects.
+        ensures stands { (app : Application) → app.objects ≡ objects.now → length app.tasks ≤ 32
             → StandsFor result None (reset app) }
     {
         Queues {
-            items: Items::new(lengths),
+            items: Items::new(objects),
+            semaphores: Semaphores::new(objects),
+            mutexes: Mutexes::new(),
             waiting: WaitingLists::new(),
             lock: None,
         }
@@ -85,50 +99,122 @@ impl Queues {
     }
 
     /// Whether a call is possible on an object now: one that puts an item in where there is room, one that takes or reads
-    /// the first where there is one, and `overwrite` always.
+    /// the first where there is one, and `overwrite` always; `take` where the count isn't 0, `give` where it is below its
+    /// greatest, and `lock` where it is a mutex that nobody holds.
     pub fn possible(&self, object: ObjectId, access: Access) -> bool
         ensures possible { result ≡ allows (object_in self.now.objects object) access }
         ensures stands { (s : State) (decider : Option Decider) → StandsFor self.now decider s
             → result ≡ definitions.possible s object access }
     {
+        let number = object.number as usize;
         match access {
-            Access::Send(_) | Access::SendFront(_) => self.spaces(object) > 0,
+            Access::Send(_) | Access::SendFront(_) => self.items.room(number) > 0,
             Access::Overwrite(_) => true,
-            Access::Receive | Access::Peek => self.waiting(object) > 0,
+            Access::Receive | Access::Peek => self.items.len(number) > 0,
+            Access::Take => self.semaphores.can_take(number),
+            Access::Give => self.semaphores.can_give(number),
+            Access::Lock => {
+                self.semaphores.is_counted(number) && self.mutexes.holder(number).is_none()
+            }
         }
     }
 
-    /// Does a possible call (`possible` tells) to the items of a queue whose length isn't 0. It answers what the call
-    /// answers: `receive` and `peek` the first item, and any other 1. Nobody is woken.
-    pub fn carry_out(&mut self, object: ObjectId, access: Access) -> Option<u32>
+    /// Does a possible call (`possible` tells) of a task, or of a handler (`None`). It answers what the call answers:
+    /// `receive` and `peek` the first item, and any other 1. Nobody is woken.
+    pub fn carry_out(
+        &mut self,
+        caller: Option<TaskId>,
+        object: ObjectId,
+        access: Access,
+    ) -> Option<u32>
         requires possible { allows (object_in self.old.objects object) access ≡ true }
-        requires queue { 0 < (object_in self.old.objects object).size }
+        requires room { HasRoom access (object_in self.old.objects object) }
         ensures answer { result ≡ reply (object_in self.old.objects object) access }
-        ensures objects { (caller : Option ℕ) → self.new ≡ record self.old {
+        ensures objects { self.new ≡ record self.old {
           objects = slice_set self.old.objects object
               (object_after caller access (object_in self.old.objects object));
         } }
-        ensures stands { (s : State) (decider : Option Decider) (caller : Option ℕ)
-            → StandsFor self.old decider s → StandsFor self.new decider
+        // In the definitions too, where the caller is a task that there is.
+        ensures stands { (s : State) (decider : Option Decider) → StandsFor self.old decider s
+            → IfSome caller (λ task. task < length s.tasks) → StandsFor self.new decider
             (with_object object (object_after caller access (object_at s object)) s) }
     {
-        let queue = object.number as usize;
+        let number = object.number as usize;
         match access {
             Access::Send(item) => {
-                self.items.push_back(queue, item);
+                self.items.push_back(number, item);
                 Some(1)
             }
             Access::SendFront(item) => {
-                self.items.push_front(queue, item);
+                self.items.push_front(number, item);
                 Some(1)
             }
             Access::Overwrite(item) => {
-                self.items.replace(queue, item);
+                self.items.replace(number, item);
                 Some(1)
             }
-            Access::Receive => self.items.pop_front(queue),
-            Access::Peek => self.items.first(queue),
+            Access::Receive => self.items.pop_front(number),
+            Access::Peek => self.items.first(number),
+            Access::Take => {
+                self.semaphores.take(number);
+                Some(1)
+            }
+            Access::Give => {
+                self.semaphores.give(number);
+                Some(1)
+            }
+            Access::Lock => {
+                self.mutexes.lock(number, caller);
+                Some(1)
+            }
         }
+    }
+
+    /// The task that holds a mutex (`xSemaphoreGetMutexHolder`); `None` where nobody does.
+    pub fn holder(&self, object: ObjectId) -> Option<TaskId>
+        ensures holder { result ≡ (object_in self.now.objects object).holder }
+        ensures stands { (s : State) (decider : Option Decider) → StandsFor self.now decider s
+            → result ≡ (object_at s object).holder }
+        // It is a task that there is.
+        ensures known { (s : State) (decider : Option Decider) → StandsFor self.now decider s
+            → IfSome result (λ task. task < length s.tasks) }
+    {
+        self.mutexes.holder(object.number as usize)
+    }
+
+    /// How many mutexes a task holds, 0 to 32 (`uxMutexesHeld`).
+    pub fn mutexes_held(&self, task: TaskId) -> u8
+        ensures held { result ≡ held_of self.now.objects task }
+        ensures stands { (s : State) (decider : Option Decider) → StandsFor self.now decider s
+            → result ≡ mutexes.mutexes_held s task }
+    {
+        self.mutexes.held_by(task)
+    }
+
+    /// Frees a mutex that this task holds; any other task is refused, and changes nothing.
+    pub fn give_mutex(&mut self, task: TaskId, object: ObjectId) -> Result<(), NotHolder>
+        ensures held { IsOk result ↔ ((object_in self.old.objects object).holder ≡ Some task) }
+        ensures given { OnOk result (self.new ≡ record self.old {
+          objects = slice_set self.old.objects object
+              (record (object_in self.old.objects object) { holder = None });
+        }) }
+        ensures refused { OnErr result (self.new ≡ self.old) }
+        // In the definitions too; and there it is no misuse,
+        ensures stands { OnOk result ((s : State) (decider : Option Decider)
+            → StandsFor self.old decider s → StandsFor self.new decider
+            (with_object object (record (object_at s object) { holder = None }) s)) }
+        ensures allowed { OnOk result ((s : State) (decider : Option Decider)
+            → StandsFor self.old decider s → misuse s task (op.GiveMutex object) ≡ None) }
+        // or it is one.
+        ensures misuse { OnErr result ((s : State) (decider : Option Decider)
+            → StandsFor self.old decider s
+            → misuse s task (op.GiveMutex object) ≡ Some misuses.NotHolder) }
+    {
+        if self.holder(object) != Some(task) {
+            return Err(NotHolder);
+        }
+        self.mutexes.unlock(object.number as usize, task);
+        Ok(())
     }
 
     /// Whether an object is locked.
@@ -165,6 +251,18 @@ impl Queues {
             }
         }
         false
+    }
+
+    /// The priority of the best waiter of a list, 0 to 31 (`prvGetDisinheritPriorityAfterTimeout`); 0 where nobody waits
+    /// there.
+    pub fn best_priority(&self, list: WaitList) -> u8
+        ensures best { result ≡ first_priority (waiting_in self.now.waiting list) }
+        ensures known { result < 32 }
+        // In the definitions too, while nothing is locked.
+        ensures stands { (s : State) → StandsFor self.now None s → AtLocked None s → self.now.lock ≡ None
+            → result ≡ mutexes.best_priority s list }
+    {
+        self.waiting.best_priority(list)
     }
 
     /// Locks an object, where none is (`is_locked` tells; `prvLockQueue`).

@@ -1,7 +1,10 @@
-//! Items that come and go, tasks that wait and are woken.
-use crate::Queues;
+//! Items that come and go, counts, holders, tasks that wait and are woken.
+ghost use Rattle.objects.specs.Items.{object_in};
+ghost use Rattle.objects.specs.Queues.{HasRoom};
+
 use crate::waiting_lists::WaitingLists;
-use model::{Access, ObjectId, TaskId, WaitList};
+use crate::{NotHolder, Queues};
+use model::{Access, ObjectId, ObjectKind, TaskId, WaitList};
 use std::process::Abort;
 
 const RECEIVERS: WaitList = WaitList::ToReceive(ObjectId { number: 3 });
@@ -24,6 +27,7 @@ fn the_best_is_first_and_equals_stay_in_order(rt: HostRuntime) {
     assert_eq!(rt; waiting.best(RECEIVERS), Some(TaskId { number: 9 }));
     assert_eq!(rt; waiting.take_best(RECEIVERS), Some(TaskId { number: 9 }));
     assert!(rt; !waiting.is_waiting(TaskId { number: 9 }));
+    assert_eq!(rt; waiting.best_priority(RECEIVERS), 1);
     waiting.drop_waiter(TaskId { number: 2 });
     let taken = waiting.take(RECEIVERS, 2);
     assert_eq!(rt;
@@ -70,11 +74,24 @@ fn an_unlock_takes_the_counted_ones(rt: HostRuntime) {
     assert!(rt; waiting.is_waiting(TaskId { number: 1 }));
 }
 
+const SEMAPHORE: ObjectId = ObjectId { number: 0 };
+
 const QUEUE: ObjectId = ObjectId { number: 1 };
+
+const MUTEX: ObjectId = ObjectId { number: 2 };
+
+/// A semaphore, a queue and a mutex.
+fn objects() -> Queues {
+    Queues::new(&[
+        ObjectKind::Semaphore(2, 1),
+        ObjectKind::Queue(2),
+        ObjectKind::Mutex,
+    ])
+}
 
 #[test]
 fn a_wake_through_the_locked_queue_waits_for_its_unlock(rt: HostRuntime) {
-    let mut queues = Queues::new(&[5, 2]);
+    let mut queues = objects();
     let task = TaskId { number: 6 };
     assert!(rt; !queues.is_locked());
     queues.lock(QUEUE);
@@ -92,16 +109,51 @@ fn a_wake_through_the_locked_queue_waits_for_its_unlock(rt: HostRuntime) {
 
 #[test]
 fn items_leave_in_order(rt: HostRuntime) {
-    let mut queues = Queues::new(&[5, 2]);
-    send(&rt, &mut queues, Access::Send(8));
-    send(&rt, &mut queues, Access::SendFront(9));
+    let mut queues = objects();
+    succeed(&rt, &mut queues, None, QUEUE, Access::Send(8));
+    succeed(&rt, &mut queues, None, QUEUE, Access::SendFront(9));
     assert_eq!(rt; queues.waiting(QUEUE), 2);
+    assert_eq!(rt; queues.spaces(QUEUE), 0);
     assert!(rt; !queues.possible(QUEUE, Access::Send(7)));
 }
 
-/// Sends an item to a queue that has room.
-fn send(rt: &impl Abort, queues: &mut Queues, access: Access) {
-    assert!(rt; queues.spaces(QUEUE) > 0);
-    assert!(rt; queues.possible(QUEUE, access));
-    assert_eq!(rt; queues.carry_out(QUEUE, access), Some(1));
+#[test]
+fn a_semaphore_counts_to_its_greatest(rt: HostRuntime) {
+    let mut queues = objects();
+    succeed(&rt, &mut queues, None, SEMAPHORE, Access::Give);
+    assert!(rt; !queues.possible(SEMAPHORE, Access::Give));
+    succeed(&rt, &mut queues, None, SEMAPHORE, Access::Take);
+    succeed(&rt, &mut queues, None, SEMAPHORE, Access::Take);
+    assert!(rt; !queues.possible(SEMAPHORE, Access::Take));
+}
+
+#[test]
+fn a_mutex_has_one_holder_who_gives_it_back(rt: HostRuntime) {
+    let mut queues = objects();
+    let task = TaskId { number: 6 };
+    succeed(&rt, &mut queues, Some(task), MUTEX, Access::Lock);
+    assert!(rt; !queues.possible(MUTEX, Access::Lock));
+    assert_eq!(rt; queues.holder(MUTEX), Some(task));
+    assert_eq!(rt; queues.mutexes_held(task), 1);
+    assert_eq!(rt;
+        queues.give_mutex(TaskId { number: 5 }, MUTEX),
+        Err(NotHolder)
+    );
+    assert_eq!(rt; queues.give_mutex(task, MUTEX), Ok(()));
+    assert_eq!(rt; queues.holder(MUTEX), None);
+    assert_eq!(rt; queues.mutexes_held(task), 0);
+}
+
+/// Makes a call that is possible, and answers 1. It is no `overwrite`.
+fn succeed(
+    rt: &impl Abort,
+    queues: &mut Queues,
+    caller: Option<TaskId>,
+    object: ObjectId,
+    access: Access,
+)
+    requires { HasRoom access (object_in queues.old.objects object) }
+{
+    assert!(rt; queues.possible(object, access));
+    assert_eq!(rt; queues.carry_out(caller, object, access), Some(1));
 }

@@ -10,7 +10,7 @@ ghost use Rattle.model.specs.Switching.{make_ready};
 ghost use Rattle.model.specs.Waiting as waiting;
 ghost use Rattle.model.specs.Waiting.{is_locked, waiters, wait_in, wake_best};
 ghost use Rattle.model.specs.Invariant.{IsTable};
-ghost use Rattle.objects.specs.WaitingLists.{best_of, insert_by_priority, number_of, tasks_in, waiting_in, without_woken};
+ghost use Rattle.objects.specs.WaitingLists.{best_of, first_priority, insert_by_priority, number_of, tasks_in, waiting_in, without_woken};
 ghost use Rattle.objects.specs.WaitersStand.{AreAwakened, AtLocked, Decider, StandLocked, WaitersStand, opened, standing};
 
 use arrayvec::ArrayVec;
@@ -116,6 +116,17 @@ impl WaitingLists {
         ensures sound { IsSound 64 32 self.now }
     {
         self.lists.first(list_id(list))
+    }
+
+    /// The priority of the best waiter of a list, 0 to 31; 0 where nobody waits there.
+    pub(crate) fn best_priority(&self, list: WaitList) -> u8
+        ensures best { result ≡ first_priority (waiting_in self.now list) }
+        ensures known { result < 32 }
+    {
+        match self.lists.first(list_id(list)) {
+            None => 0,
+            Some(best) => 31 - self.lists.value(best) as u8,
+        }
     }
 
     /// Takes the best waiter out of a list; `None` where nobody waits there.

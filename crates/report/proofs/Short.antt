@@ -1,9 +1,9 @@
 -- How long the words of a line are at most.
 use Rattle.std.proofs.Common.{◌≤◌, length, lit≤}
 use Rattle.model.specs.declared.op.Op.{Op}
-use Rattle.model.specs.declared.op.Op.TheVariants.{Work, Delay, DelayUntil, Yield, Time, Mark, Expect, Repeat, End, Await, Do, MessagesWaiting, SpacesAvailable}
+use Rattle.model.specs.declared.op.Op.TheVariants.{Work, Delay, DelayUntil, Yield, Time, Mark, Expect, Repeat, End, Await, Do, GiveMutex, MessagesWaiting, SpacesAvailable}
 use Rattle.model.specs.declared.op.Access.{Access}
-use Rattle.model.specs.declared.op.Access.TheVariants.{Send, SendFront, Overwrite, Receive, Peek}
+use Rattle.model.specs.declared.op.Access.TheVariants.{Send, SendFront, Overwrite, Receive, Peek, Take, Give, Lock}
 use Rattle.model.specs.declared.op.IsrOp.{IsrOp}
 use Rattle.model.specs.declared.op.IsrOp.TheVariants as isr_op
 use Rattle.model.specs.Application.{word_of, word_of_access, word_of_isr}
@@ -14,6 +14,9 @@ access_short (SendFront v) = lit≤ tt
 access_short (Overwrite v) = lit≤ tt
 access_short Receive = lit≤ tt
 access_short Peek = lit≤ tt
+access_short Take = lit≤ tt
+access_short Give = lit≤ tt
+access_short Lock = lit≤ tt
 
 -- The first word of an op has at most eleven letters.
 pub word_short : (op : Op) → length (word_of op) ≤ 11
@@ -28,6 +31,7 @@ word_short (Repeat n) = lit≤ tt
 word_short End = lit≤ tt
 word_short (Await o a ticks) = access_short a
 word_short (Do o a) = access_short a
+word_short (GiveMutex o) = lit≤ tt
 word_short (MessagesWaiting o) = lit≤ tt
 word_short (SpacesAvailable o) = lit≤ tt
 

@@ -1,15 +1,17 @@
 -- Runs whose texts are compared letter by letter.
-use Rattle.std.specs.Prelude.{ℕ, Bool, List, [], ◌∷◌, Some, None, codes}
+use Rattle.std.specs.Prelude.{ℕ, Bool, true, List, [], ◌∷◌, Some, None, codes}
 use Rattle.model.specs.Application.{Application, Definition, Handler}
 use Rattle.model.specs.Run.{Run}
 use Rattle.model.specs.declared.op.Op.{Op}
-use Rattle.model.specs.declared.op.Op.TheVariants.{Delay, DelayUntil, Mark}
-use Rattle.model.specs.declared.op.Access.TheVariants.{SendFront}
+use Rattle.model.specs.declared.op.Op.TheVariants.{Delay, DelayUntil, Mark, Await, Do, GiveMutex}
+use Rattle.model.specs.declared.op.Access.TheVariants.{SendFront, Take, Give, Lock}
 use Rattle.model.specs.declared.op.IsrOp.TheVariants as isr_op
 use Rattle.model.specs.declared.event.Event.{Event}
 use Rattle.model.specs.declared.event.What.{What}
 use Rattle.model.specs.declared.event.What.TheVariants as what
-use Rattle.model.specs.declared.event.End.TheVariants.{Pass, Check}
+use Rattle.model.specs.declared.event.End.TheVariants.{Pass, Check, Misuse}
+use Rattle.model.specs.declared.event.Misuse.TheVariants.{NotHolder}
+use Rattle.model.specs.declared.object.ObjectKind.TheVariants as kind
 use Rattle.report.specs.declared.title.Title.{Title}
 use Rattle.report.specs.declared.title.Title.TheVariants.{Row}
 
@@ -45,6 +47,27 @@ delay_one_run = record {
   steps = 4;
   ticks = 1;
   end = Pass;
+}
+
+-- a task that gives a mutex back twice, and a handler that gives a semaphore
+abbrev pub two_unlocks : Application
+two_unlocks = record (app_of (a_task (codes "a") (Do 0 Give ∷ Await 0 Take (Some 0) ∷ Await 1 Lock None ∷ GiveMutex 1 ∷ GiveMutex 1 ∷ []) ∷ [])) {
+  objects = kind.Semaphore 1 0 ∷ kind.Mutex ∷ [];
+  handlers = record { name = codes "h"; ops = isr_op.Do 0 Give ∷ [] } ∷ [];
+}
+
+-- the row of the handler before step 0
+abbrev pub two_unlocks_row : Title
+two_unlocks_row = Row 0 (record { step = 0; handler = 0 }) true
+
+abbrev pub two_unlocks_run : Run
+two_unlocks_run = record {
+  events =
+      event_at 0 0 (what.Isr 0 0 1) ∷ event_at 0 0 (what.Call a 0 0) ∷ event_at 1 0 (what.Call a 1 1)
+      ∷ event_at 2 0 (what.Call a 2 1) ∷ event_at 3 0 (what.Call a 3 1) ∷ [];
+  steps = 5;
+  ticks = 0;
+  end = Misuse a 4 NotHolder;
 }
 
 -- a handler that sends an item to the front of a queue

@@ -7,7 +7,9 @@ use Rattle.model.specs.declared.event.Event.{Event}
 use Rattle.model.specs.declared.event.What.{What}
 use Rattle.model.specs.declared.event.What.TheVariants as what
 use Rattle.model.specs.declared.event.End.{End}
-use Rattle.model.specs.declared.event.End.TheVariants.{Pass, Check, Ticks, Steps, Stuck}
+use Rattle.model.specs.declared.event.End.TheVariants as ending
+use Rattle.model.specs.declared.event.Misuse.{Misuse}
+use Rattle.model.specs.declared.event.Misuse.TheVariants.{NotHolder}
 use Rattle.model.specs.declared.plan.Point.{Point}
 use Rattle.report.specs.declared.title.Title.{Title}
 use Rattle.report.specs.declared.title.Title.TheVariants.{Base, Row}
@@ -51,13 +53,23 @@ abbrev pub event_text : Application → Event → List ℕ
 event_text app event =
     decimal event.step ++ codes " " ++ decimal event.tick ++ codes " " ++ what_text app event.what ++ codes "\n"
 
+-- the number of a misuse
+abbrev pub code_of : Misuse → ℕ
+code_of NotHolder = 3
+
+-- the task and the index of the op that brought an end about
+abbrev pub op_text : Application → (task op_index : ℕ) → List ℕ
+op_text app task op_index = name_of app task ++ codes " " ++ decimal op_index
+
 -- how a run ends
 abbrev pub verdict_text : Application → End → List ℕ
-verdict_text app Pass = codes "pass"
-verdict_text app (Check task op_index) = codes "check " ++ name_of app task ++ codes " " ++ decimal op_index
-verdict_text app Ticks = codes "ticks"
-verdict_text app Steps = codes "steps"
-verdict_text app Stuck = codes "stuck"
+verdict_text app ending.Pass = codes "pass"
+verdict_text app (ending.Check task op_index) = codes "check " ++ op_text app task op_index
+verdict_text app (ending.Misuse task op_index kind) =
+    codes "misuse " ++ op_text app task op_index ++ codes " " ++ decimal (code_of kind)
+verdict_text app ending.Ticks = codes "ticks"
+verdict_text app ending.Steps = codes "steps"
+verdict_text app ending.Stuck = codes "stuck"
 
 -- an injection point: the step, and the name of the handler
 abbrev pub point_text : Application → Point → List ℕ

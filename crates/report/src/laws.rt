@@ -1,6 +1,6 @@
 //! Laws of the definitions: each is the contract of a function that does nothing.
 ghost use Rattle.std.specs.Prelude.{◌≡◌, ◌++◌, codes, true, false};
-ghost use Rattle.report.specs.Examples.{delay_one, delay_one_run, each_form, each_form_run, last_row};
+ghost use Rattle.report.specs.Examples.{delay_one, delay_one_run, two_unlocks, two_unlocks_row, two_unlocks_run, each_form, each_form_run, last_row};
 ghost use Rattle.report.specs.Text.{head_text, run_text};
 ghost use Rattle.report.specs.declared.title.Title.TheVariants.{Base};
 ghost use Rattle.model.specs.declared.event.End.TheVariants.{Pass, Check};
@@ -16,6 +16,17 @@ pub fn report_of_delay_one()
         ++ codes "2 1 run a\n"
         ++ codes "3 1 mark a 1\n"
         ++ codes "3 1 run -\n" }
+{}
+
+/// The report of a row in which a task gives a mutex back twice, and doesn't hold it the second time, letter by letter.
+pub fn report_of_two_unlocks()
+    ensures { run_text two_unlocks two_unlocks_row two_unlocks_run ≡
+        codes "row 0 at 0 h: misuse a 4 3 in 5 steps, 0 ticks\n"
+        ++ codes "0 0 isr h 0 give = 1\n"
+        ++ codes "0 0 call a 0 give = 0\n"
+        ++ codes "1 0 call a 1 take = 1\n"
+        ++ codes "2 0 call a 2 lock = 1\n"
+        ++ codes "3 0 call a 3 unlock = 1\n" }
 {}
 
 /// An event of each form, with the largest numbers, letter by letter.

@@ -1,12 +1,12 @@
 //! The head line of a run, and the fronts of other lines, into a page that has room for them.
 ghost use Rattle.std.specs.Prelude.{◌≡◌, ◌≤◌, ◌+◌, ◌++◌, length};
 ghost use Rattle.model.specs.Application.{name_of, handler_name_of};
-ghost use Rattle.report.specs.Text.{word_at, call_front, isr_word_at, isr_front, verdict_text, point_text, reached_text, title_text, head_text};
+ghost use Rattle.report.specs.Text.{word_at, call_front, isr_word_at, isr_front, code_of, op_text, verdict_text, point_text, reached_text, title_text, head_text};
 ghost use Rattle.report.specs.Fronts.{mark_front, isr_mark_front, run_front};
 
 use crate::title::Title;
 use byte_io::Page;
-use model::{App, End, HandlerId, Point, Run, TaskId};
+use model::{App, End, HandlerId, Misuse, Point, Run, TaskId};
 
 // The room that the line of an event needs at most. The longest is that of a call: two numbers of 10 digits, two spaces, at most
 // 64 bytes of what happened, and a line feed. Texts that are copied whole end at most 88 bytes after the line's beginning.
@@ -121,6 +121,26 @@ pub(crate) fn push_run_front(page: &mut Page, app: &App, task: TaskId)
     page.push_text(b"\n");
 }
 
+// The number of a misuse.
+fn code_of(misuse: Misuse) -> u32
+    ensures { result ≡ code_of misuse }
+{
+    match misuse {
+        Misuse::NotHolder => 3,
+    }
+}
+
+// Adds the task and the index of an op: a name of at most 16 bytes, a space, and a number of at most 10 digits.
+fn push_op(page: &mut Page, app: &App, task: TaskId, op_index: u16)
+    requires { length page.old + 27 ≤ Page.SIZE }
+    ensures text { page.new ≡ page.old ++ op_text app.now task op_index }
+    ensures size { length page.new ≤ length page.old + 27 }
+{
+    page.push_text(name(app, task));
+    page.push_text(b" ");
+    page.push_number(op_index as u32);
+}
+
 fn push_verdict(page: &mut Page, app: &App, end: End)
     requires { length page.old + 64 ≤ Page.SIZE }
     ensures text { page.new ≡ page.old ++ verdict_text app.now end }
@@ -130,9 +150,13 @@ fn push_verdict(page: &mut Page, app: &App, end: End)
         End::Pass => page.push_text(b"pass"),
         End::Check(task, op_index) => {
             page.push_text(b"check ");
-            page.push_text(name(app, task));
+            push_op(page, app, task, op_index);
+        }
+        End::Misuse(task, op_index, misuse) => {
+            page.push_text(b"misuse ");
+            push_op(page, app, task, op_index);
             page.push_text(b" ");
-            page.push_number(op_index as u32);
+            page.push_number(code_of(misuse));
         }
         End::Ticks => page.push_text(b"ticks"),
         End::Steps => page.push_text(b"steps"),

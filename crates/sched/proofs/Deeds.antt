@@ -8,8 +8,8 @@ use Rattle.sched.specs.ReadyLists.{AreByPriority, IsSched, ready_list_of, schedu
 use Rattle.sched.proofs.ReadyList.{AtHome-push, AtHome-without, ready_list_of-push, ready_list_of-without}
 use Rattle.sched.proofs.LinedUp.{among-more, among-without, has_node-added}
 
-abbrev pub with_ready : List ℕ → Option ℕ → List ℕ → ℕ → List (ℕ × ℕ) → Schedule
-with_ready pending current priorities depth ready = record { ready = ready; pending = pending; current = current; priorities = priorities; depth = depth }
+abbrev pub with_ready : Schedule → List (ℕ × ℕ) → Schedule
+with_ready v ready = record v { ready = ready }
 
 -- a task is blocked
 
@@ -23,15 +23,16 @@ still_out i task es out = elim (cases_eq i task) [
   | inr other ↦ has_node-without_other task i es other ∙ out
 ]
 
-pub sched_block : {lists : List (List (ℕ × ℕ))} {pending priorities : List ℕ} {depth : ℕ} → IsSched lists pending priorities depth → (task : ℕ) → IsSound 32 32 (map (without task) lists) → IsSched (map (without task) lists) (without_task task pending) priorities depth
-sched_block {lists} {pending} {priorities} {depth} h task sound = record {
+pub sched_block : {lists : List (List (ℕ × ℕ))} {pending priorities base : List ℕ} {depth : ℕ} → IsSched lists pending priorities base depth → (task : ℕ) → IsSound 32 32 (map (without task) lists) → IsSched (map (without task) lists) (without_task task pending) priorities base depth
+sched_block {lists} {pending} {priorities} {base} {depth} h task sound = record {
   lists_are = listed_without h.lists_are task sound;
+  base_known = h.base_known;
   apart = λ i among. ap (has_node i) (ready_list_of-without task lists) ∙ still_out i task (ready_list_of lists) (h.apart i (among-without i task pending among).1);
   calm = λ free. ap (without_task task) (h.calm free);
 }
 
-pub schedule_block : (lists : List (List (ℕ × ℕ))) (pending : List ℕ) (current : Option ℕ) (priorities : List ℕ) (depth task : ℕ) → schedule_of (map (without task) lists) (without_task task pending) current priorities depth ≡ block task (schedule_of lists pending current priorities depth)
-schedule_block lists pending current priorities depth task = ap (with_ready (without_task task pending) current priorities depth) (ready_list_of-without task lists)
+pub schedule_block : (lists : List (List (ℕ × ℕ))) (pending : List ℕ) (current : Option ℕ) (priorities base : List ℕ) (depth task : ℕ) → schedule_of (map (without task) lists) (without_task task pending) current priorities base depth ≡ block task (schedule_of lists pending current priorities base depth)
+schedule_block lists pending current priorities base depth task = ap (with_ready (schedule_of lists (without_task task pending) current priorities base depth)) (ready_list_of-without task lists)
 
 -- a task is made Ready, in the list of its priority
 
@@ -46,9 +47,10 @@ ready_push {lists} {priorities} h task p is below =
     ready_list_of-push task p 0 p lists h.at_home (omega arith) below
     ∙ ap (λ (k : ℕ). add_to_ready_list (task, k) (ready_list_of lists)) is
 
-pub sched_push : {lists : List (List (ℕ × ℕ))} {pending priorities : List ℕ} {depth : ℕ} → IsSched lists pending priorities depth → (task p : ℕ) → p ≡ priority_in priorities task → p < length lists → is_among task pending ≡ false → IsSound 32 32 (push task p lists) → IsSched (push task p lists) pending priorities depth
-sched_push {lists} {pending} {priorities} {depth} h task p is below free sound = record {
+pub sched_push : {lists : List (List (ℕ × ℕ))} {pending priorities base : List ℕ} {depth : ℕ} → IsSched lists pending priorities base depth → (task p : ℕ) → p ≡ priority_in priorities task → p < length lists → is_among task pending ≡ false → IsSound 32 32 (push task p lists) → IsSched (push task p lists) pending priorities base depth
+sched_push {lists} {pending} {priorities} {base} {depth} h task p is below free sound = record {
   lists_are = listed_push h.lists_are task p sound;
+  base_known = h.base_known;
   apart = λ i among.
       let ne : task ≢ i = λ same. let f : is_among i pending ≡ false = ap (λ (j : ℕ). is_among j pending) (sym same) ∙ free in cc in
       ap (has_node i) (ready_push h.lists_are task p is below)
@@ -56,14 +58,15 @@ sched_push {lists} {pending} {priorities} {depth} h task p is below free sound =
   calm = h.calm;
 }
 
-pub schedule_push : {lists : List (List (ℕ × ℕ))} {priorities : List ℕ} → AreByPriority lists priorities → (pending : List ℕ) (current : Option ℕ) (depth task p : ℕ) → p ≡ priority_in priorities task → p < length lists → schedule_of (push task p lists) pending current priorities depth ≡ make_ready task (schedule_of lists pending current priorities depth)
-schedule_push {lists} {priorities} h pending current depth task p is below = ap (with_ready pending current priorities depth) (ready_push h task p is below)
+pub schedule_push : {lists : List (List (ℕ × ℕ))} {priorities : List ℕ} → AreByPriority lists priorities → (pending : List ℕ) (current : Option ℕ) (base : List ℕ) (depth task p : ℕ) → p ≡ priority_in priorities task → p < length lists → schedule_of (push task p lists) pending current priorities base depth ≡ make_ready task (schedule_of lists pending current priorities base depth)
+schedule_push {lists} {priorities} h pending current base depth task p is below = ap (with_ready (schedule_of lists pending current priorities base depth)) (ready_push h task p is below)
 
 -- a task is pending
 
-pub sched_pend : {lists : List (List (ℕ × ℕ))} {pending priorities : List ℕ} {depth : ℕ} → IsSched lists pending priorities depth → (task : ℕ) → has_node task (ready_list_of lists) ≡ false → 0 < depth → IsSched lists (pending ++ task ∷ []) priorities depth
-sched_pend {lists} {pending} {priorities} {depth} h task free held = record {
+pub sched_pend : {lists : List (List (ℕ × ℕ))} {pending priorities base : List ℕ} {depth : ℕ} → IsSched lists pending priorities base depth → (task : ℕ) → has_node task (ready_list_of lists) ≡ false → 0 < depth → IsSched lists (pending ++ task ∷ []) priorities base depth
+sched_pend {lists} {pending} {priorities} {base} {depth} h task free held = record {
   lists_are = h.lists_are;
+  base_known = h.base_known;
   apart = λ i among. among-more i task pending among (λ same. ap (λ (j : ℕ). has_node j (ready_list_of lists)) same ∙ free) (h.apart i);
   calm = λ none. absurd (omega (arith, held, none));
 }
@@ -87,12 +90,13 @@ module _ {lists : List (List (ℕ × ℕ))} {priorities : List ℕ} (h : AreByPr
   ready_moved : ready_list_of (push task p (map (without task) lists)) ≡ add_to_ready_list (task, priority_in priorities task) (without task (ready_list_of lists))
   ready_moved = ready_push left task p is below ∙ ap (add_to_ready_list (task, priority_in priorities task)) (ready_list_of-without task lists)
 
-  pub schedule_moved : (pending : List ℕ) (current : Option ℕ) (depth : ℕ) → schedule_of (push task p (map (without task) lists)) pending current priorities depth ≡ to_back task (schedule_of lists pending current priorities depth)
-  schedule_moved pending current depth = rw listed (ap (with_ready pending current priorities depth) ready_moved)
+  pub schedule_moved : (pending : List ℕ) (current : Option ℕ) (base : List ℕ) (depth : ℕ) → schedule_of (push task p (map (without task) lists)) pending current priorities base depth ≡ to_back task (schedule_of lists pending current priorities base depth)
+  schedule_moved pending current base depth = rw listed (ap (with_ready (schedule_of lists pending current priorities base depth)) ready_moved)
 
-  pub sched_moved : {pending : List ℕ} {depth : ℕ} → IsSched lists pending priorities depth → IsSound 32 32 (push task p (map (without task) lists)) → IsSched (push task p (map (without task) lists)) pending priorities depth
-  sched_moved {pending} {depth} all after = record {
+  pub sched_moved : {pending base : List ℕ} {depth : ℕ} → IsSched lists pending priorities base depth → IsSound 32 32 (push task p (map (without task) lists)) → IsSched (push task p (map (without task) lists)) pending priorities base depth
+  sched_moved {pending} {base} {depth} all after = record {
     lists_are = listed_push left task p after;
+    base_known = all.base_known;
     apart = λ i among. still_apart lists (push task p (map (without task) lists)) task (priority_in priorities task) ready_moved listed i (all.apart i among);
     calm = all.calm;
   }

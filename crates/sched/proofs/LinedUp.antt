@@ -1,5 +1,5 @@
 -- The pending tasks, put in turn into the ready list.
-use Rattle.std.proofs.Common.{◌≡◌, ◌≢◌, ℕ, suc, ◌<◌, ◌≤◌, inl, inr, Bool, true, false, ltb, Option, Some, None, List, [], ◌∷◌, ◌++◌, sym, ◌∙◌, ap, subst, arith, refl}
+use Rattle.std.proofs.Common.{◌≡◌, ◌≢◌, ℕ, suc, ◌<◌, ◌≤◌, inl, inr, Bool, true, false, ltb, Option, Some, None, List, [], ◌∷◌, ◌++◌, set, sym, ◌∙◌, ap, ap₂, subst, arith, refl}
 use Rattle.std.specs.Prelude.{◌==◌, ◌||◌, slice_get}
 use Rattle.std.specs.Option.{IfSome, is_some}
 use Rattle.std.proofs.lemmas.Bool.{cases_eq, cases_lt, eq-eqb, ne_eqb}
@@ -7,8 +7,8 @@ use Rattle.std.proofs.lemmas.Option.{same_Some}
 use Rattle.model.proofs.Lists.{eqb-same}
 use Rattle.model.proofs.Sorting.{by_test}
 use Rattle.lists.specs.Lists.{Each, first_of, has_node, without}
-use Rattle.lists.proofs.Entries.{Each-append, Each-imp, Each-without, has_node-same, has_node-other, without-same, without-other}
-use Rattle.sched.specs.Schedule.{Schedule, add_to_ready_list, block, is_among, is_ready, line_up, lined_up, make_ready, pend_ready, priority_in, unhold, wake, without_task}
+use Rattle.lists.proofs.Entries.{Each-append, Each-imp, Each-without, has_node-same, has_node-other, has_node-without_other, without-same, without-other}
+use Rattle.sched.specs.Schedule.{Schedule, add_to_ready_list, block, is_among, is_ready, line_up, lined_up, make_ready, pend_ready, priority_in, set_priority, to_back, unhold, wake, without_task}
 use Rattle.sched.specs.ReadyLists.{AtHome, ready_list_of}
 use Rattle.sched.proofs.ReadyList.{add-after, add-before, none_lower, or-false}
 
@@ -233,6 +233,19 @@ is_unready i v a b = has_node-line_up i v.pending v.priorities v.ready ∙ rw (a
 pub ready_if_listed : (i : ℕ) (v : Schedule) → has_node i v.ready ≡ true → is_ready v i ≡ true
 ready_if_listed i v h = listed_ready i v.pending v.priorities v.ready h
 
+-- ---- what another place in line, or another priority, leaves as it is
+
+module _ {A : Type 0} (part : Schedule → A) where
+  back_keeps : ((v : Schedule) (ready : List (ℕ × ℕ)) → part (record v { ready = ready }) ≡ part v) → (v : Schedule) (i : ℕ) → part (to_back i v) ≡ part v
+  back_keeps same v i = by_test (has_node i v.ready)
+      (λ t. rw t (same v (add_to_ready_list (i, priority_in v.priorities i) (without i v.ready))))
+      (λ t. rw t refl)
+
+  pub priority_keeps : ((v : Schedule) (ready : List (ℕ × ℕ)) → part (record v { ready = ready }) ≡ part v) → ((v : Schedule) (priorities : List ℕ) → part (record v { priorities = priorities }) ≡ part v) → (v : Schedule) (i p : ℕ) → part (set_priority i p v) ≡ part v
+  priority_keeps same same' v i p = by_test (priority_in v.priorities i == p)
+      (λ t. rw t refl)
+      (λ t. rw t (back_keeps same (record v { priorities = set v.priorities i p }) i ∙ same' v (set v.priorities i p)))
+
 -- who is Ready after another is made so, or no more so
 
 pub ready_made : (v : Schedule) (i j : ℕ) → j ≢ i → is_ready (make_ready i v) j ≡ is_ready v j
@@ -248,6 +261,28 @@ ready_pended v i j ne =
 
 pub ready_woken : (v : Schedule) (i j : ℕ) → j ≢ i → is_ready (wake i v) j ≡ is_ready v j
 ready_woken v i j ne = by_test (v.depth == 0) (λ t. rw t (ready_made v i j ne)) (λ t. rw t (ready_pended v i j ne))
+
+-- nobody is Ready, or not, by another priority
+
+listed_back : (v : Schedule) (i j : ℕ) → has_node j (to_back i v).ready ≡ has_node j v.ready
+listed_back v i j =
+    let e : ℕ × ℕ = (i, priority_in v.priorities i) in
+    by_test (has_node i v.ready)
+    (λ t. rw t (elim (cases_eq j i) [
+      | inl same ↦ rw same (has_node-added_it i (priority_in v.priorities i) (without i v.ready) ∙ sym t)
+      | inr other ↦ has_node-added j e (without i v.ready) (λ same. other (sym same)) ∙ has_node-without_other i j v.ready other
+    ]))
+    (λ t. rw t refl)
+
+pub ready_prioritised : (v : Schedule) (i p j : ℕ) → is_ready (set_priority i p v) j ≡ is_ready v j
+ready_prioritised v i p j =
+    let w : Schedule = record v { priorities = set v.priorities i p } in
+    by_test (priority_in v.priorities i == p)
+    (λ t. rw t refl)
+    (λ t. rw t (
+    has_node-line_up j (to_back i w).pending (to_back i w).priorities (to_back i w).ready
+    ∙ ap₂ (λ (a b : Bool). a || b) (listed_back w i j) (ap (is_among j) (back_keeps (λ (x : Schedule). x.pending) (λ x ready. refl) w i))
+    ∙ sym (has_node-line_up j v.pending v.priorities v.ready)))
 
 -- The first of the pending tasks, taken out of them, isn't Ready.
 pub first_free : (old : List ℕ) (first : Option ℕ) (v : Schedule) → ((i : ℕ) → is_among i old ≡ true → has_node i v.ready ≡ false) → first ≡ slice_get old 0 → IfSome first (λ task. is_among task v.pending ≡ false) → IfSome first (λ task. is_ready v task ≡ false)

@@ -95,7 +95,7 @@ any_in_ready_list {L} {N} {ls} sound task = elim (has_or_not task (ready_list_of
   | inr none ↦ ap is_some (place_of-None task ls (λ l hl. apart_from_test task (entries_of ls l) (in_no_list task ls none l))) ∙ sym none
 ]
 
-none_of : (o : Option ℕ) → is_some o ≡ false → o ≡ None
+pub none_of : (o : Option ℕ) → is_some o ≡ false → o ≡ None
 none_of None t = refl
 none_of (Some l) t = absurd cc
 

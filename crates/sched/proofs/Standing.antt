@@ -5,13 +5,14 @@ use Rattle.std.specs.List.{AllByRecursion, filter, list_any}
 use Rattle.std.specs.Option.{IfSome, is_some, option_map}
 use Rattle.std.proofs.Math.ListN.{length-set}
 use Rattle.std.proofs.lemmas.Bool.{cases_eq, ltb-false, ltb-true}
-use Rattle.std.proofs.lemmas.List.{get_or-set_other, get_or-set_same}
+use Rattle.std.proofs.lemmas.List.{get_or-set_other, get_or-set_same, set-set}
 use Rattle.model.specs.declared.call.CallProgress.{CallProgress}
 use Rattle.model.specs.declared.call.WaitList.{WaitList}
 use Rattle.model.specs.Waiting.{wait_in}
-use Rattle.model.specs.State.{State, Status, Task, Ready, Awake, Waiting, Asleep, Ended, no_task, task_at, progress_at, call_at, with_call, take_ticket, ticket_if_ready, for_one}
+use Rattle.model.specs.State.{State, Status, Task, Ready, Awake, Waiting, Asleep, Ended, no_task, task_at, progress_at, call_at, with_task, with_call, take_ticket, ticket_if_ready, for_one}
 use Rattle.model.specs.Order.{Entry, entry, first, key, keyed, list_by, put, task_of}
 use Rattle.model.specs.Switching.{choice, choose, dispatch, is_above, is_beside, is_outranked, is_ready, is_same, is_sharing, make_ready, preempt, ready_key, ready_list, slice, to_back, yield_now}
+use Rattle.model.specs.Mutexes.{set_priority}
 use Rattle.model.specs.Invariant.{IsTable}
 use Rattle.model.proofs.Sorting.{All-filtered, Falls, Falls-in_order, IsAfter, before_false, before_true, by_test}
 use Rattle.model.proofs.Lists.{list-entered, list-gone, list-kept, list_below, other}
@@ -19,11 +20,13 @@ use Rattle.model.proofs.Members.{has_task, has_task-key, has_task-none}
 use Rattle.model.proofs.Tables.{below_ready, table-make_ready, table-set, table-taken, ticket_at}
 use Rattle.model.proofs.Chosen.{choice_within}
 use Rattle.model.proofs.Settled.{same_eq}
+use Rattle.model.proofs.Sound.{each-set}
 use Rattle.lists.specs.Lists.{Each, first_of, has_node, without}
 use Rattle.lists.proofs.Entries.{apart_from_test, has_node-without_other, without-apart}
 use Rattle.sched.specs.Schedule as mine
 use Rattle.sched.specs.Schedule.{IsCalm, Schedule, add_to_ready_list, lined_up, priority_in}
 use Rattle.sched.specs.StandsFor.{DoesFree, StandsFor, StandsBefore, with_priorities}
+use Rattle.sched.proofs.ReadyList.{none_of}
 use Rattle.sched.proofs.LinedUp.{IsFalling, has_node-added, line_up-append, line_up-falling, line_up-under, lined_up-block, lined_up_calm, without-added}
 
 -- the ready list, as tasks with their priorities
@@ -41,21 +44,28 @@ with_priorities-filter : (i : ℕ) (xs : List Entry) → with_priorities (filter
 with_priorities-filter i [] = refl
 with_priorities-filter i (x ∷ xs) = by_test (eqb x.task i) (λ t. rw t (with_priorities-filter i xs)) (λ t. rw t (ap (λ (l : List (ℕ × ℕ)). (x.task, x.key.priority) ∷ l) (with_priorities-filter i xs)))
 
-ready_list-make_ready : (s : State) (i : ℕ) → IsTable s → i < length s.tasks → with_priorities (ready_list (make_ready i s)) ≡ add_to_ready_list (i, (task_at s i).priority) (without i (with_priorities (ready_list s)))
-ready_list-make_ready s i h l =
+-- a task that becomes Ready with the next ticket goes behind its equals
+ready_list-entered : (s new : State) (i p : ℕ) (t : Task) → IsTable s → i < length s.tasks → new.tasks ≡ set s.tasks i t → ready_key t ≡ Some (key p s.next_ticket) → with_priorities (ready_list new) ≡ add_to_ready_list (i, p) (without i (with_priorities (ready_list s)))
+ready_list-entered s new i p t h l is ready =
     let b = below_ready s.next_ticket s.tasks h.tickets in
-    let k = key (task_at s i).priority s.next_ticket in
-    ap with_priorities (list-entered ready_key k i (record (task_at s i) { status = Ready s.next_ticket }) s.tasks l refl b)
+    let k = key p s.next_ticket in
+    ap (λ ts. with_priorities (list_by ready_key ts)) is
+    ∙ ap with_priorities (list-entered ready_key k i t s.tasks l ready b)
     ∙ with_priorities-put (entry i k) (filter (other i) (ready_list s)) (All-filtered (λ (x : Entry). x.key.ticket < s.next_ticket) (other i) (ready_list s) (list_below ready_key s.next_ticket s.tasks b))
-    ∙ ap (add_to_ready_list (i, (task_at s i).priority)) (with_priorities-filter i (ready_list s))
+    ∙ ap (add_to_ready_list (i, p)) (with_priorities-filter i (ready_list s))
 
-priority_kept : (s : State) (i : ℕ) → i < length s.tasks → (j : ℕ) → (task_at s j).priority ≡ (task_at (make_ready i s) j).priority
-priority_kept s i l j = elim (cases_eq j i) [
-  | inl same ↦
-      ap (λ (k : ℕ). (task_at s k).priority) same
-      ∙ sym (ap (λ (k : ℕ). (task_at (make_ready i s) k).priority) same ∙ ap (λ (t : Task). t.priority) (get_or-set_same s.tasks i (record (task_at s i) { status = Ready s.next_ticket }) no_task l))
-  | inr apart ↦ sym (ap (λ (t : Task). t.priority) (get_or-set_other s.tasks i j (record (task_at s i) { status = Ready s.next_ticket }) no_task apart))
-]
+ready_list-make_ready : (s : State) (i : ℕ) → IsTable s → i < length s.tasks → with_priorities (ready_list (make_ready i s)) ≡ add_to_ready_list (i, (task_at s i).priority) (without i (with_priorities (ready_list s)))
+ready_list-make_ready s i h l = ready_list-entered s (make_ready i s) i (task_at s i).priority (record (task_at s i) { status = Ready s.next_ticket }) h l refl refl
+
+-- these are each task's numbers still, where the task that changes keeps its own
+numbers_kept : (number : Task → ℕ) (ns : List ℕ) (s new : State) (i : ℕ) (t : Task) → ((j : ℕ) → priority_in ns j ≡ number (task_at s j)) → new.tasks ≡ set s.tasks i t → number t ≡ number (task_at s i) → (j : ℕ) → priority_in ns j ≡ number (task_at new j)
+numbers_kept number ns s new i t h is same =
+    subst (λ (ts : List Task). (j : ℕ) → priority_in ns j ≡ number (get_or ts j no_task)) (sym is)
+    (each-set no_task (λ j u. priority_in ns j ≡ number u) s.tasks i t (h i ∙ sym same) h)
+
+-- the same where a task becomes Ready
+numbers_readied : (number : Task → ℕ) (ns : List ℕ) (s : State) (i : ℕ) → ((j : ℕ) → priority_in ns j ≡ number (task_at s j)) → number (record (task_at s i) { status = Ready s.next_ticket }) ≡ number (task_at s i) → (j : ℕ) → priority_in ns j ≡ number (task_at (make_ready i s) j)
+numbers_readied number ns s i h same = numbers_kept number ns s (make_ready i s) i (record (task_at s i) { status = Ready s.next_ticket }) h refl same
 
 -- a task goes to the back, from wherever it was, where nobody is pending
 stands_back : (v : Schedule) (s : State) (i : ℕ) → v.pending ≡ [] → StandsFor v s → i < length s.tasks → StandsFor (mine.make_ready i (record v { ready = without i v.ready })) (make_ready i s)
@@ -66,7 +76,8 @@ stands_back v s i none h l = record {
       ∙ ap (λ (r : List (ℕ × ℕ)). add_to_ready_list (i, (task_at s i).priority) (without i r)) (sym (lined_up_calm v none) ∙ h.ready)
       ∙ sym (ready_list-make_ready s i h.table l);
   current = h.current;
-  priorities = λ j. h.priorities j ∙ priority_kept s i l j;
+  priorities = numbers_readied (λ (t : Task). t.priority) v.priorities s i h.priorities refl;
+  base_priorities = numbers_readied (λ (t : Task). t.base_priority) v.base_priorities s i h.base_priorities refl;
   depth = h.depth;
   table = table-make_ready s i h.table;
 }
@@ -78,6 +89,7 @@ record Adds (i : ℕ) (v w : Schedule) : Type 0 where
   pub ready : lined_up w ≡ add_to_ready_list (i, priority_in v.priorities i) (lined_up v)
   pub current : w.current ≡ v.current
   pub priorities : w.priorities ≡ v.priorities
+  pub base_priorities : w.base_priorities ≡ v.base_priorities
   pub depth : w.depth ≡ v.depth
 
 adds_made_ready : (v : Schedule) (i : ℕ) → v.pending ≡ [] → Adds i v (mine.make_ready i v)
@@ -85,11 +97,12 @@ adds_made_ready v i none = record {
   ready = lined_up_calm (mine.make_ready i v) none ∙ ap (add_to_ready_list (i, priority_in v.priorities i)) (sym (lined_up_calm v none));
   current = refl;
   priorities = refl;
+  base_priorities = refl;
   depth = refl;
 }
 
 adds_pended : (v : Schedule) (i : ℕ) → Adds i v (mine.pend_ready i v)
-adds_pended v i = record { ready = line_up-append v.pending i v.priorities v.ready; current = refl; priorities = refl; depth = refl }
+adds_pended v i = record { ready = line_up-append v.pending i v.priorities v.ready; current = refl; priorities = refl; base_priorities = refl; depth = refl }
 
 stands_added : (v w : Schedule) (s : State) (i : ℕ) → Adds i v w → StandsFor v s → i < length s.tasks → mine.is_ready v i ≡ false → StandsFor w (make_ready i s)
 stands_added v w s i adds h l free = record {
@@ -99,7 +112,8 @@ stands_added v w s i adds h l free = record {
       ∙ ap (add_to_ready_list (i, (task_at s i).priority)) (sym (without-apart i (lined_up v) (apart_from_test i (lined_up v) free)) ∙ ap (without i) h.ready)
       ∙ sym (ready_list-make_ready s i h.table l);
   current = adds.current ∙ h.current;
-  priorities = λ j. ap (λ (ps : List ℕ). priority_in ps j) adds.priorities ∙ h.priorities j ∙ priority_kept s i l j;
+  priorities = λ j. ap (λ (ps : List ℕ). priority_in ps j) adds.priorities ∙ numbers_readied (λ (t : Task). t.priority) v.priorities s i h.priorities refl j;
+  base_priorities = λ j. ap (λ (ps : List ℕ). priority_in ps j) adds.base_priorities ∙ numbers_readied (λ (t : Task). t.base_priority) v.base_priorities s i h.base_priorities refl j;
   depth = adds.depth ∙ h.depth;
   table = table-make_ready s i h.table;
 }
@@ -118,7 +132,8 @@ placing_added v w s decider i adds still falling h ne l free =
           ∙ sym (ready_list-make_ready s i h.table l);
       still = still;
       current = adds.current ∙ h.current;
-      priorities = λ j. ap (λ (ps : List ℕ). priority_in ps j) adds.priorities ∙ h.priorities j ∙ priority_kept s i l j;
+      priorities = λ j. ap (λ (ps : List ℕ). priority_in ps j) adds.priorities ∙ numbers_readied (λ (t : Task). t.priority) v.priorities s i h.priorities refl j;
+      base_priorities = λ j. ap (λ (ps : List ℕ). priority_in ps j) adds.base_priorities ∙ numbers_readied (λ (t : Task). t.base_priority) v.base_priorities s i h.base_priorities refl j;
       depth = adds.depth ∙ h.depth;
       table = table-make_ready s i h.table;
     }
@@ -195,13 +210,14 @@ unfolding choose dispatch
 stands_chosen v s none h =
     let is : first_of v.ready ≡ choice s = ap first_of (sym (lined_up_calm v none) ∙ h.ready) ∙ first_task (ready_list s) in
     by_test (is_same (choice s) s.current)
-    (λ t. rw t (record { ready = h.ready; current = is ∙ same_eq (choice s) s.current t; priorities = h.priorities; depth = h.depth; table = h.table }))
+    (λ t. rw t (record { ready = h.ready; current = is ∙ same_eq (choice s) s.current t; priorities = h.priorities; base_priorities = h.base_priorities; depth = h.depth; table = h.table }))
     (λ t. rw t (record {
       ready = h.ready;
       current = is;
       priorities = h.priorities;
+      base_priorities = h.base_priorities;
       depth = h.depth;
-      table = record { tickets = h.table.tickets; few = h.table.few; current = choice_within s };
+      table = record { tickets = h.table.tickets; few = h.table.few; current = choice_within s; holders = h.table.holders };
     }))
 
 -- the running task goes to the back, and the choice runs
@@ -255,15 +271,6 @@ does_slice calm is = does slice (λ v s none h. yielded_if v s (mine.is_outranke
 
 -- a task changes by itself
 
-priorities_set : (v : Schedule) (s new : State) (i : ℕ) (t : Task) → ((j : ℕ) → priority_in v.priorities j ≡ (task_at s j).priority) → i < length s.tasks → new.tasks ≡ set s.tasks i t → t.priority ≡ (task_at s i).priority → (j : ℕ) → priority_in v.priorities j ≡ (task_at new j).priority
-priorities_set v s new i t h l is same j =
-    h j ∙ sym (ap (λ (ts : List Task). (get_or ts j no_task).priority) is ∙ elim (cases_eq j i) [
-      | inl here ↦
-          ap (λ (k : ℕ). (get_or (set s.tasks i t) k no_task).priority) here ∙ ap (λ (u : Task). u.priority) (get_or-set_same s.tasks i t no_task l)
-          ∙ same ∙ ap (λ (k : ℕ). (task_at s k).priority) (sym here)
-      | inr apart ↦ ap (λ (u : Task). u.priority) (get_or-set_other s.tasks i j t no_task apart)
-    ])
-
 falling_with_priorities : (es : List Entry) → Falls es → IsFalling (with_priorities es)
 falling_with_priorities [] h = tt
 falling_with_priorities (e ∷ es) h = (each es h.0, falling_with_priorities es h.1) where
@@ -276,13 +283,14 @@ falling_ready : (v : Schedule) (s : State) → StandsFor v s → IsFalling v.rea
 falling_ready v s h = line_up-under v.pending v.priorities v.ready (subst IsFalling (sym h.ready) (falling_with_priorities (ready_list s) (Falls-in_order (keyed ready_key 0 s.tasks))))
 
 -- it is Ready no more
-pub stands_blocked : (v : Schedule) (s new : State) (i : ℕ) (t : Task) → StandsFor v s → i < length s.tasks → new.tasks ≡ set s.tasks i t → new.current ≡ s.current → new.call_hold ≡ s.call_hold → ready_key t ≡ None → t.priority ≡ (task_at s i).priority → IsTable new → StandsFor (mine.block i v) new
-stands_blocked v s new i t h l is current held none same table = record {
+pub stands_blocked : (v : Schedule) (s new : State) (i : ℕ) (t : Task) → StandsFor v s → i < length s.tasks → new.tasks ≡ set s.tasks i t → new.current ≡ s.current → new.call_hold ≡ s.call_hold → ready_key t ≡ None → t.priority ≡ (task_at s i).priority → t.base_priority ≡ (task_at s i).base_priority → IsTable new → StandsFor (mine.block i v) new
+stands_blocked v s new i t h l is current held none same same_base table = record {
   ready =
       lined_up-block i v (falling_ready v s h) ∙ ap (without i) h.ready ∙ sym (with_priorities-filter i (ready_list s))
       ∙ sym (ap with_priorities (ap (list_by ready_key) is ∙ list-gone ready_key i t s.tasks l none));
   current = h.current ∙ sym current;
-  priorities = priorities_set v s new i t h.priorities l is same;
+  priorities = numbers_kept (λ (u : Task). u.priority) v.priorities s new i t h.priorities is same;
+  base_priorities = numbers_kept (λ (u : Task). u.base_priority) v.base_priorities s new i t h.base_priorities is same_base;
   depth = h.depth ∙ sym (ap (λ b. if b then 1 else 0) held);
   table = table;
 }
@@ -291,18 +299,85 @@ list_kept : (s new : State) (i : ℕ) (t : Task) → new.tasks ≡ set s.tasks i
 list_kept s new i t is key_same = sym (ap with_priorities (ap (list_by ready_key) is ∙ list-kept ready_key i t s.tasks key_same))
 
 -- it keeps its key
-pub stands_kept : (v : Schedule) (s new : State) (i : ℕ) (t : Task) → StandsFor v s → i < length s.tasks → new.tasks ≡ set s.tasks i t → new.current ≡ s.current → new.call_hold ≡ s.call_hold → ready_key t ≡ ready_key (task_at s i) → t.priority ≡ (task_at s i).priority → IsTable new → StandsFor v new
-stands_kept v s new i t h l is current held key_same same table = record {
+pub stands_kept : (v : Schedule) (s new : State) (i : ℕ) (t : Task) → StandsFor v s → i < length s.tasks → new.tasks ≡ set s.tasks i t → new.current ≡ s.current → new.call_hold ≡ s.call_hold → ready_key t ≡ ready_key (task_at s i) → t.priority ≡ (task_at s i).priority → t.base_priority ≡ (task_at s i).base_priority → IsTable new → StandsFor v new
+stands_kept v s new i t h l is current held key_same same same_base table = record {
   ready = h.ready ∙ list_kept s new i t is key_same;
   current = h.current ∙ sym current;
-  priorities = priorities_set v s new i t h.priorities l is same;
+  priorities = numbers_kept (λ (u : Task). u.priority) v.priorities s new i t h.priorities is same;
+  base_priorities = numbers_kept (λ (u : Task). u.base_priority) v.base_priorities s new i t h.base_priorities is same_base;
   depth = h.depth ∙ sym (ap (λ b. if b then 1 else 0) held);
   table = table;
 }
 
+-- its priority changes
+
+priority_changed : (ps : List ℕ) (s new : State) (i p : ℕ) (t : Task) → ((j : ℕ) → priority_in ps j ≡ (task_at s j).priority) → i < length ps → i < length s.tasks → new.tasks ≡ set s.tasks i t → t.priority ≡ p → (j : ℕ) → priority_in (set ps i p) j ≡ (task_at new j).priority
+priority_changed ps s new i p t h lp ls is has j =
+    sym (ap (λ (ts : List Task). (get_or ts j no_task).priority) is ∙ elim (cases_eq j i) [
+      | inl here ↦ rw here (ap (λ (u : Task). u.priority) (get_or-set_same s.tasks i t no_task ls) ∙ has ∙ sym (get_or-set_same ps i p 0 lp))
+      | inr apart ↦ ap (λ (u : Task). u.priority) (get_or-set_other s.tasks i j t no_task apart) ∙ sym (get_or-set_other ps i j p 0 apart ∙ h j)
+    ])
+
+-- a Ready one goes behind its new equals
+stands_moved : (v : Schedule) (s : State) (i p : ℕ) → v.pending ≡ [] → StandsFor v s → i < length s.tasks → i < length v.priorities → StandsFor (mine.make_ready i (record v { ready = without i v.ready; priorities = set v.priorities i p })) (make_ready i (with_task i (record (task_at s i) { priority = p }) s))
+stands_moved v s i p none h l known =
+    let u : Task = record (task_at s i) { priority = p } in
+    let ranked : State = with_task i u s in
+    let at : task_at ranked i ≡ u = get_or-set_same s.tasks i u no_task l in
+    let new : State = make_ready i ranked in
+    let w : Task = record (task_at ranked i) { status = Ready s.next_ticket } in
+    let is : new.tasks ≡ set s.tasks i w = set-set s.tasks i u w in
+    record {
+      ready =
+          lined_up_calm (mine.make_ready i (record v { ready = without i v.ready; priorities = set v.priorities i p })) none
+          ∙ ap (λ (q : ℕ). add_to_ready_list (i, q) (without i v.ready)) (get_or-set_same v.priorities i p 0 known)
+          ∙ ap (λ (r : List (ℕ × ℕ)). add_to_ready_list (i, p) (without i r)) (sym (lined_up_calm v none) ∙ h.ready)
+          ∙ sym (ready_list-entered s new i p w h.table l is (ap (λ (x : Task). Some (key x.priority s.next_ticket)) at));
+      current = h.current;
+      priorities = priority_changed v.priorities s new i p w h.priorities known l is (ap (λ (x : Task). x.priority) at);
+      base_priorities = numbers_kept (λ (x : Task). x.base_priority) v.base_priorities s new i w h.base_priorities is (ap (λ (x : Task). x.base_priority) at);
+      depth = h.depth;
+      table = table-make_ready ranked i (table-set s i u h.table (ticket_at s.next_ticket i s.tasks h.table.tickets));
+    }
+
+unready_key : (p q : ℕ) (status : Status) → is_some (ticket_if_ready status) ≡ false → option_map (key p) (ticket_if_ready status) ≡ option_map (key q) (ticket_if_ready status)
+unready_key p q status off = rw (none_of (ticket_if_ready status) off) refl
+
+-- and another stays as it is
+stands_ranked : (v : Schedule) (s : State) (i p : ℕ) → v.pending ≡ [] → StandsFor v s → i < length s.tasks → i < length v.priorities → is_ready s i ≡ false → StandsFor (record v { priorities = set v.priorities i p }) (with_task i (record (task_at s i) { priority = p }) s)
+stands_ranked v s i p none h l known off =
+    let u : Task = record (task_at s i) { priority = p } in
+    let new : State = with_task i u s in
+    record {
+      ready =
+          lined_up_calm (record v { priorities = set v.priorities i p }) none ∙ sym (lined_up_calm v none) ∙ h.ready
+          ∙ list_kept s new i u refl (unready_key p (task_at s i).priority (task_at s i).status off);
+      current = h.current;
+      priorities = priority_changed v.priorities s new i p u h.priorities known l refl refl;
+      base_priorities = numbers_kept (λ (x : Task). x.base_priority) v.base_priorities s new i u h.base_priorities refl refl;
+      depth = h.depth;
+      table = table-set s i u h.table (ticket_at s.next_ticket i s.tasks h.table.tickets);
+    }
+
+pub stands_prioritised : (v : Schedule) (s : State) (i p : ℕ) → v.pending ≡ [] → StandsFor v s → i < length s.tasks → i < length v.priorities → StandsFor (mine.set_priority i p v) (set_priority i p s)
+unfolding set_priority to_back
+stands_prioritised v s i p none h l known =
+    let u : Task = record (task_at s i) { priority = p } in
+    let listed : has_node i v.ready ≡ is_ready s i = ap (has_node i) (sym (lined_up_calm v none)) ∙ ready_same v s i h in
+    let still : is_ready (with_task i u s) i ≡ is_ready s i = ap (λ (x : Task). is_some (ticket_if_ready x.status)) (get_or-set_same s.tasks i u no_task l) in
+    by_test (eqb (task_at s i).priority p)
+    (λ t. let e : eqb (priority_in v.priorities i) p ≡ true = ap (λ (n : ℕ). eqb n p) (h.priorities i) ∙ t in rw (t, e) h)
+    (λ t. let e : eqb (priority_in v.priorities i) p ≡ false = ap (λ (n : ℕ). eqb n p) (h.priorities i) ∙ t in
+    by_test (is_ready s i)
+    (λ on. let a = listed ∙ on in let b = still ∙ on in rw (t, e, a, b) (stands_moved v s i p none h l known))
+    (λ off. let a = listed ∙ off in let b = still ∙ off in rw (t, e, a, b) (stands_ranked v s i p none h l known off)))
+
+pub does_set_priority : {old new : Schedule} (i p : ℕ) → IsCalm old → old.depth ≡ 0 → i < length old.priorities → new ≡ mine.set_priority i p old → (s : State) → StandsFor old s → i < length s.tasks → StandsFor new (set_priority i p s)
+does_set_priority {old} {new} i p calm free known is = λ s h l. subst (λ (v : Schedule). StandsFor v (set_priority i p s)) (sym is) (stands_prioritised old s i p (calm free) h l known)
+
 -- a task that waits already leaves the Ready tasks
 pub stands_placed : (v : Schedule) (s : State) (i : ℕ) → IsFalling v.ready → StandsBefore i v s → StandsFor (mine.block i v) s
-stands_placed v s i falling h = record { ready = lined_up-block i v falling ∙ h.ready; current = h.current; priorities = h.priorities; depth = h.depth; table = h.table }
+stands_placed v s i falling h = record { ready = lined_up-block i v falling ∙ h.ready; current = h.current; priorities = h.priorities; base_priorities = h.base_priorities; depth = h.depth; table = h.table }
 
 -- A Ready task begins to wait while nobody is pending, and stays in its ready list until it is placed.
 pub stands_waiting : (v : Schedule) (s : State) (i : ℕ) (list : WaitList) → v.pending ≡ [] → StandsFor v s → i < length s.tasks → is_ready s i ≡ true → StandsBefore i v (wait_in i list s)
@@ -312,27 +387,29 @@ stands_waiting v s i list none h l ready =
     let u : Task = record (task_at s i) { progress = record (progress_at s i) { call = call } } in
     let s1 : State = with_call i call s in
     let table1 : IsTable s1 = table-set s i u h.table (ticket_at s.next_ticket i s.tasks h.table.tickets) in
-    let h1 : StandsFor v s1 = stands_kept v s s1 i u h l refl refl refl refl refl table1 in
+    let h1 : StandsFor v s1 = stands_kept v s s1 i u h l refl refl refl refl refl refl table1 in
     let status : ℕ → Status = λ ticket. Waiting (record { list = list; priority = (task_at s i).priority; ticket = ticket; deadline = (call_at s i).deadline }) in
     let w : Task = record (task_at s1 i) { status = status s1.next_ticket } in
     let table2 : IsTable (take_ticket i status s1) = table-taken s1 i status table1 (omega arith) in
-    let b : StandsFor (mine.block i v) (take_ticket i status s1) = stands_blocked v s1 (take_ticket i status s1) i w h1 (rw length-set l) refl refl refl refl refl table2 in
+    let b : StandsFor (mine.block i v) (take_ticket i status s1) = stands_blocked v s1 (take_ticket i status s1) i w h1 (rw length-set l) refl refl refl refl refl refl table2 in
     record {
       ready = sym (lined_up-block i v (falling_ready v s h)) ∙ b.ready;
       still = ap (has_node i) (sym (lined_up_calm v none)) ∙ ready_same v s i h ∙ ready;
       current = b.current;
       priorities = b.priorities;
+      base_priorities = b.base_priorities;
       depth = b.depth;
       table = table2;
     }
 
 -- A task that is still to be placed, or another, keeps its key.
-pub stands_before_kept : (v : Schedule) (s new : State) (i j : ℕ) (t : Task) → StandsBefore i v s → j < length s.tasks → new.tasks ≡ set s.tasks j t → new.current ≡ s.current → new.call_hold ≡ s.call_hold → ready_key t ≡ ready_key (task_at s j) → t.priority ≡ (task_at s j).priority → IsTable new → StandsBefore i v new
-stands_before_kept v s new i j t h l is current held key_same same table = record {
+pub stands_before_kept : (v : Schedule) (s new : State) (i j : ℕ) (t : Task) → StandsBefore i v s → j < length s.tasks → new.tasks ≡ set s.tasks j t → new.current ≡ s.current → new.call_hold ≡ s.call_hold → ready_key t ≡ ready_key (task_at s j) → t.priority ≡ (task_at s j).priority → t.base_priority ≡ (task_at s j).base_priority → IsTable new → StandsBefore i v new
+stands_before_kept v s new i j t h l is current held key_same same same_base table = record {
   ready = h.ready ∙ list_kept s new j t is key_same;
   still = h.still;
   current = h.current ∙ sym current;
-  priorities = priorities_set v s new j t h.priorities l is same;
+  priorities = numbers_kept (λ (u : Task). u.priority) v.priorities s new j t h.priorities is same;
+  base_priorities = numbers_kept (λ (u : Task). u.base_priority) v.base_priorities s new j t h.base_priorities is same_base;
   depth = h.depth ∙ sym (ap (λ b. if b then 1 else 0) held);
   table = table;
 }
@@ -346,6 +423,7 @@ stands_before_held v s new i h free tasks current held table =
       still = h.still;
       current = h.current ∙ sym current;
       priorities = λ j. h.priorities j ∙ sym (ap (λ (ts : List Task). (get_or ts j no_task).priority) tasks);
+      base_priorities = λ j. h.base_priorities j ∙ sym (ap (λ (ts : List Task). (get_or ts j no_task).base_priority) tasks);
       depth = ap (λ (n : ℕ). n + 1) none ∙ sym (ap (λ b. if b then 1 else 0) held);
       table = table;
     }

@@ -95,19 +95,20 @@ module _ {lists : List (List (ℕ × ℕ))} {priorities : List ℕ} (h : AreByPr
   is_in : has_node task (ready_list_of lists) ≡ true
   is_in = sym (any_in_ready_list h.sound task) ∙ ap is_some (h.sound.one_place task p (has_first h.sound task split.0 p split.1 split.2))
 
-  pub sched_turned : {pending : List ℕ} {depth : ℕ} → IsSched lists pending priorities depth → IsSound 32 32 (turn p lists) → IsSched (turn p lists) pending priorities depth
-  sched_turned {pending} {depth} all sound = record {
+  pub sched_turned : {pending base : List ℕ} {depth : ℕ} → IsSched lists pending priorities base depth → IsSound 32 32 (turn p lists) → IsSched (turn p lists) pending priorities base depth
+  sched_turned {pending} {base} {depth} all sound = record {
     lists_are = listed_turned sound;
+    base_known = all.base_known;
     apart = λ i among. still_apart lists (turn p lists) task (priority_in priorities task) ready_turned is_in i (all.apart i among);
     calm = all.calm;
   }
 
-  pub schedule_turned : (pending : List ℕ) (current : Option ℕ) (depth : ℕ) → schedule_of (turn p lists) pending current priorities depth ≡ to_back task (schedule_of lists pending current priorities depth)
-  schedule_turned pending current depth = rw is_in (ap (with_ready pending current priorities depth) ready_turned)
+  pub schedule_turned : (pending : List ℕ) (current : Option ℕ) (base : List ℕ) (depth : ℕ) → schedule_of (turn p lists) pending current priorities base depth ≡ to_back task (schedule_of lists pending current priorities base depth)
+  schedule_turned pending current base depth = rw is_in (ap (with_ready (schedule_of lists pending current priorities base depth)) ready_turned)
 
   -- where it runs and no task is above it, its turn ends if it has an equal
-  module _ (pending : List ℕ) (depth : ℕ) (highest : IsHighest lists (Some p)) where
-    not_outranked : is_outranked (schedule_of lists pending (Some task) priorities depth) ≡ false
+  module _ (pending base : List ℕ) (depth : ℕ) (highest : IsHighest lists (Some p)) where
+    not_outranked : is_outranked (schedule_of lists pending (Some task) priorities base depth) ≡ false
     not_outranked = any_above priorities lists p task h.at_home highest ∙ le-ltb (priority_in priorities task) p (let home = is.home in omega (arith, home))
 
     others_there : (xs : List (ℕ × ℕ)) → Apart (Some task) xs → list_any (λ e. not (e.0 == task)) xs ≡ is_some (first_of xs)
@@ -116,7 +117,7 @@ module _ {lists : List (List (ℕ × ℕ))} {priorities : List ℕ} (h : AreByPr
         let ne : (x.0 == task) ≡ false = ne_eqb x.0 task (λ e. a.0 (ap Some (sym e))) in
         rw ne refl
 
-    sharing_if : is_sharing (schedule_of lists pending (Some task) priorities depth) ≡ is_some (second_of (entries_of lists p))
+    sharing_if : is_sharing (schedule_of lists pending (Some task) priorities base depth) ≡ is_some (second_of (entries_of lists p))
     sharing_if =
         let once : EachOnce ((task, split.0) ∷ split.1) = subst EachOnce split.2 (h.sound.distinct p) in
         let eq : (task == task) ≡ true = eq-eqb task task refl in
@@ -125,7 +126,7 @@ module _ {lists : List (List (ℕ × ℕ))} {priorities : List ℕ} (h : AreByPr
         ∙ rw eq (others_there split.1 once.0)
         ∙ sym (ap (λ (xs : List (ℕ × ℕ)). is_some (second_of xs)) split.2)
 
-    pub ended_if : (is_outranked (schedule_of lists pending (Some task) priorities depth) || is_sharing (schedule_of lists pending (Some task) priorities depth)) ≡ is_some (second_of (entries_of lists p))
+    pub ended_if : (is_outranked (schedule_of lists pending (Some task) priorities base depth) || is_sharing (schedule_of lists pending (Some task) priorities base depth)) ≡ is_some (second_of (entries_of lists p))
     ended_if = ap₂ (λ (a b : Bool). a || b) not_outranked sharing_if
 
     first_after : first_of (ready_list_of (turn p lists)) ≡ first_of (entries_of (turn p lists) p)
@@ -135,17 +136,17 @@ module _ {lists : List (List (ℕ × ℕ))} {priorities : List ℕ} (h : AreByPr
       λ q above. entries_of-set_other lists p q (rotated (entries_of lists p)) (omega (arith, above)) ∙ highest.2 q above,
     )
 
-    pub schedule_sliced : (n : ℕ) → Some n ≡ second_of (entries_of lists p) → schedule_of (turn p lists) pending (Some n) priorities depth ≡ slice (schedule_of lists pending (Some task) priorities depth)
+    pub schedule_sliced : (n : ℕ) → Some n ≡ second_of (entries_of lists p) → schedule_of (turn p lists) pending (Some n) priorities base depth ≡ slice (schedule_of lists pending (Some task) priorities base depth)
     schedule_sliced n second =
         let next : Some n ≡ first_of (entries_of (turn p lists) p) =
         first_still n split.1 (task, split.0) (second ∙ ap second_of split.2)
         ∙ sym (ap first_of (entries_of-set_same lists p (rotated (entries_of lists p)) below ∙ ap rotated split.2)) in
-        ap (λ (o : Option ℕ). schedule_of (turn p lists) pending o priorities depth) (next ∙ sym first_after)
-        ∙ ap choose (schedule_turned pending (Some task) depth)
-        ∙ sym (ap (sliced_if (schedule_of lists pending (Some task) priorities depth)) (ended_if ∙ ap is_some (sym second)))
+        ap (λ (o : Option ℕ). schedule_of (turn p lists) pending o priorities base depth) (next ∙ sym first_after)
+        ∙ ap choose (schedule_turned pending (Some task) base depth)
+        ∙ sym (ap (sliced_if (schedule_of lists pending (Some task) priorities base depth)) (ended_if ∙ ap is_some (sym second)))
 
-    pub schedule_kept : None ≡ second_of (entries_of lists p) → schedule_of (turn p lists) pending (Some task) priorities depth ≡ slice (schedule_of lists pending (Some task) priorities depth)
+    pub schedule_kept : None ≡ second_of (entries_of lists p) → schedule_of (turn p lists) pending (Some task) priorities base depth ≡ slice (schedule_of lists pending (Some task) priorities base depth)
     schedule_kept none =
         let one : entries_of lists p ≡ (task, split.0) ∷ [] = split.2 ∙ ap (λ (xs : List (ℕ × ℕ)). (task, split.0) ∷ xs) (no_first split.1 (none ∙ ap second_of split.2)) in
-        ap (λ (ls : List (List (ℕ × ℕ))). schedule_of ls pending (Some task) priorities depth) (ap (λ (xs : List (ℕ × ℕ)). set lists p (rotated xs)) one ∙ ap (set lists p) (sym one) ∙ set-get_or lists p [])
-        ∙ sym (ap (sliced_if (schedule_of lists pending (Some task) priorities depth)) (ended_if ∙ ap is_some (sym none)))
+        ap (λ (ls : List (List (ℕ × ℕ))). schedule_of ls pending (Some task) priorities base depth) (ap (λ (xs : List (ℕ × ℕ)). set lists p (rotated xs)) one ∙ ap (set lists p) (sym one) ∙ set-get_or lists p [])
+        ∙ sym (ap (sliced_if (schedule_of lists pending (Some task) priorities base depth)) (ended_if ∙ ap is_some (sym none)))

@@ -37,14 +37,21 @@ pub record AreByPriority (lists : List (List (ℕ × ℕ))) (priorities : List �
 
 -- what is true of a scheduler between two calls: no pending task is in a ready list, and nobody is pending where it isn't
 -- held
-pub record IsSched (lists : List (List (ℕ × ℕ))) (pending priorities : List ℕ) (depth : ℕ) : Type 0 where
+pub record IsSched (lists : List (List (ℕ × ℕ))) (pending priorities base_priorities : List ℕ) (depth : ℕ) : Type 0 where
   pub lists_are : AreByPriority lists priorities
+  pub base_known : (task : ℕ) → priority_in base_priorities task < 32
   pub apart : (task : ℕ) → is_among task pending ≡ true → has_node task (ready_list_of lists) ≡ false
   pub calm : depth ≡ 0 → pending ≡ []
 
-abbrev pub schedule_of : List (List (ℕ × ℕ)) → List ℕ → Option ℕ → List ℕ → ℕ → Schedule
-schedule_of lists pending current priorities depth =
-    record { ready = ready_list_of lists; pending = pending; current = current; priorities = priorities; depth = depth }
+abbrev pub schedule_of : List (List (ℕ × ℕ)) → List ℕ → Option ℕ → List ℕ → List ℕ → ℕ → Schedule
+schedule_of lists pending current priorities base_priorities depth = record {
+  ready = ready_list_of lists;
+  pending = pending;
+  current = current;
+  priorities = priorities;
+  base_priorities = base_priorities;
+  depth = depth;
+}
 
 -- the tasks of a list, without their values
 abbrev pub tasks_in : List (ℕ × ℕ) → List ℕ

@@ -1,5 +1,5 @@
 -- What callers see of the scheduler, and what each call makes of it: the definitions' words for who runs, without tickets.
-use Rattle.std.specs.Prelude.{◌≡◌, ℕ, ◌+◌, ◌-◌, ◌==◌, ◌&&◌, ◌||◌, Bool, true, false, not, nat_lt, if◌then◌else◌, List, [], ◌∷◌, ◌++◌, Option, Some, None, slice_index_or, filter, fold}
+use Rattle.std.specs.Prelude.{◌≡◌, ℕ, ◌+◌, ◌-◌, ◌==◌, ◌&&◌, ◌||◌, Bool, true, false, not, nat_lt, if◌then◌else◌, List, [], ◌∷◌, ◌++◌, Option, Some, None, slice_index_or, slice_set, filter, fold}
 use Rattle.std.specs.List.{list_any}
 use Rattle.lists.specs.Lists.{first_of, has_node, without}
 
@@ -10,8 +10,10 @@ pub record Schedule : Type 0 where
   pub pending : List ℕ
   -- the running task, or idle
   pub current : Option ℕ
-  -- the priority of each task
+  -- the priority of each task now, which may be inherited (`uxPriority`)
   pub priorities : List ℕ
+  -- the priority that the file gives each task (`uxBasePriority`)
+  pub base_priorities : List ℕ
   -- how often the scheduler is held (`uxSchedulerSuspended`)
   pub depth : ℕ
 
@@ -79,6 +81,11 @@ unhold s = record (if s.depth == 1 then line_up_pending s else s) { depth = s.de
 -- The task goes behind the others of its priority, where it is in a ready list.
 abbrev pub to_back : ℕ → Schedule → Schedule
 to_back task s = if has_node task s.ready then make_ready task (record s { ready = without task s.ready }) else s
+
+-- The task has this priority from now on; where that is a change it goes behind its new equals, if it is in a ready list.
+abbrev pub set_priority : ℕ → ℕ → Schedule → Schedule
+set_priority task priority s =
+    if priority_in s.priorities task == priority then s else to_back task (record s { priorities = slice_set s.priorities task priority })
 
 -- A deed is done with this task, if there is one.
 abbrev pub for_one : (ℕ → Schedule → Schedule) → Option ℕ → Schedule → Schedule

@@ -16,11 +16,12 @@ abbrev pub depth_of : State → ℕ
 depth_of s = if s.call_hold then 1 else 0
 
 -- The schedule's Ready tasks, the pending ones lined up, are those of the ready list in order, it runs who runs, the
--- priorities are the tasks', and it is held as often.
+-- priorities and the base priorities are the tasks', and it is held as often.
 pub record StandsFor (v : Schedule) (s : State) : Type 0 where
   pub ready : lined_up v ≡ with_priorities (ready_list s)
   pub current : v.current ≡ s.current
   pub priorities : (task : ℕ) → priority_in v.priorities task ≡ (task_at s task).priority
+  pub base_priorities : (task : ℕ) → priority_in v.base_priorities task ≡ (task_at s task).base_priority
   pub depth : v.depth ≡ depth_of s
   pub table : IsTable s
 
@@ -30,6 +31,7 @@ pub record StandsBefore (task : ℕ) (v : Schedule) (s : State) : Type 0 where
   pub still : has_node task v.ready ≡ true
   pub current : v.current ≡ s.current
   pub priorities : (other : ℕ) → priority_in v.priorities other ≡ (task_at s other).priority
+  pub base_priorities : (other : ℕ) → priority_in v.base_priorities other ≡ (task_at s other).base_priority
   pub depth : v.depth ≡ depth_of s
   pub table : IsTable s
 

@@ -3,9 +3,10 @@ ghost use Rattle.std.specs.Prelude.{◌≡◌, ◌≢◌, ℕ, ◌<◌, ◌-◌,
 ghost use Rattle.std.specs.List.{AllByRecursion};
 ghost use Rattle.std.specs.Option.{is_some};
 ghost use Rattle.model.specs.State.{State};
+ghost use Rattle.model.specs.Mutexes as mutexes;
 ghost use Rattle.model.specs.Switching as switching;
 ghost use Rattle.lists.specs.Lists.{first_of};
-ghost use Rattle.sched.specs.Schedule.{IsCalm, priority_in, is_ready, is_outranked, is_sharing, block, choose, hold, line_up_pending, lined_up, make_ready, pend_ready, preempt, slice, to_back, unhold, wake, yield_now};
+ghost use Rattle.sched.specs.Schedule.{IsCalm, priority_in, is_ready, is_outranked, is_sharing, block, choose, hold, line_up_pending, lined_up, make_ready, pend_ready, preempt, set_priority, slice, to_back, unhold, wake, yield_now};
 ghost use Rattle.sched.specs.StandsFor.{StandsFor, StandsBefore, DoesFree};
 
 use crate::pending::PendingReadyList;
@@ -25,7 +26,9 @@ pub struct Sched {
     ready: ReadyLists,
     pending: PendingReadyList,
     current: Option<TaskId>,
+    /// Of each task its priority now, and the one that the file gives it.
     priorities: [u8; 32],
+    base_priorities: [u8; 32],
     depth: u32,
 }
 
@@ -36,14 +39,14 @@ impl Model for Sched {
 
     ghost Value = { Schedule };
 
-    ghost view = { λ s. schedule_of s.ready s.pending s.current s.priorities s.depth };
+    ghost view = { λ s. schedule_of s.ready s.pending s.current s.priorities s.base_priorities s.depth };
 
-    ghost invariant = { λ s. IsSched s.ready s.pending s.priorities s.depth };
+    ghost invariant = { λ s. IsSched s.ready s.pending s.priorities s.base_priorities s.depth };
 }
 
 impl Sched {
-    /// No task is Ready, idle runs, and the scheduler isn't held. Place `i` of `priorities` is the priority of task `i`, 0 to 31;
-    /// a larger number is a higher priority.
+    /// No task is Ready, idle runs, and the scheduler isn't held. Place `i` of `priorities` is the priority of task `i`, 0 to 31,
+    /// and its base priority too; a larger number is a higher priority.
     pub fn new(priorities: [u8; 32]) -> Self
         requires { AllByRecursion (λ priority. priority < 32) priorities }
         ensures new { result ≡ record {
@@ -51,6 +54,7 @@ impl Sched {
           pending = [];
           current = None;
           priorities = priorities;
+          base_priorities = priorities;
           depth = 0;
         } }
     {
@@ -59,6 +63,7 @@ impl Sched {
             pending: PendingReadyList::new(),
             current: None,
             priorities,
+            base_priorities: priorities,
             depth: 0,
         }
     }
@@ -77,12 +82,39 @@ impl Sched {
         self.ready.has_any() || !self.pending.is_empty()
     }
 
-    /// The priority of a task, 0 to 31.
+    /// The priority of a task now, 0 to 31, which may be inherited.
     pub fn priority(&self, task: TaskId) -> u8
         ensures priority { result ≡ priority_in self.now.priorities task }
         ensures known { result < 32 }
     {
         self.priorities[task.number as usize]
+    }
+
+    /// The base priority of a task, 0 to 31: the one that the file gives it.
+    pub fn base_priority(&self, task: TaskId) -> u8
+        ensures base { result ≡ priority_in self.now.base_priorities task }
+        ensures known { result < 32 }
+    {
+        self.base_priorities[task.number as usize]
+    }
+
+    /// Gives a task this priority, 0 to 31, while the scheduler isn't held. Where that is a change, and the task is in a
+    /// ready list, it goes behind its new equals.
+    pub fn set_priority(&mut self, task: TaskId, priority: u8)
+        requires priority { priority < 32 }
+        requires calm { self.old.depth ≡ 0 }
+        ensures schedule { self.new ≡ set_priority task priority self.old }
+        ensures stands { (s : State) → StandsFor self.old s → task < length s.tasks
+            → StandsFor self.new (mutexes.set_priority task priority s) }
+        ensures depth { self.new.depth ≡ self.old.depth }
+        ensures current { self.new.current ≡ self.old.current }
+        ensures ready { (other : ℕ) → is_ready self.new other ≡ is_ready self.old other }
+    {
+        if self.priority(task) == priority {
+            return;
+        }
+        self.priorities[task.number as usize] = priority;
+        self.to_back(task);
     }
 
     /// Whether a task is Ready.
@@ -202,8 +234,8 @@ impl Sched {
         ensures schedule { self.new ≡ yield_now self.old }
         ensures stands { DoesFree self.old self.new switching.yield_now }
     {
-        if let Some(task) = self.current {
-            self.to_back(task);
+        if let Some(running) = self.current {
+            self.to_back(running);
         }
         self.choose();
     }

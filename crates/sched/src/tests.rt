@@ -21,6 +21,12 @@ fn unhold(rt: &impl Abort, sched: &mut Sched) {
     sched.unhold();
 }
 
+/// Gives a task another priority, while the scheduler isn't held.
+fn set_priority(rt: &impl Abort, sched: &mut Sched, task: TaskId, priority: u8) {
+    assert!(rt; sched.depth() == 0 && priority < 32);
+    sched.set_priority(task, priority);
+}
+
 #[test]
 fn tasks_take_turns_and_give_way(rt: HostRuntime) {
     let low = TaskId { number: 0 };
@@ -99,4 +105,39 @@ fn pending_tasks_keep_the_order_of_their_waking(rt: HostRuntime) {
     assert_eq!(rt; sched.choose(), Some(second));
     sched.block(second);
     assert_eq!(rt; sched.choose(), None);
+}
+
+#[test]
+fn a_task_goes_behind_its_new_equals(rt: HostRuntime) {
+    let low = TaskId { number: 0 };
+    let other = TaskId { number: 1 };
+    let high = TaskId { number: 3 };
+    let mut sched = Sched::new([
+        1, 1, 0, 2, 0, 0, 0, 0, 0, 0, 0, 0, 0, 0, 0, 0, 0, 0, 0, 0, 0, 0, 0, 0, 0, 0, 0, 0, 0, 0,
+        0, 0,
+    ]);
+    wake(&rt, &mut sched, low);
+    wake(&rt, &mut sched, other);
+    // Its own priority leaves it first among its equals.
+    set_priority(&rt, &mut sched, low, 1);
+    assert_eq!(rt; sched.choose(), Some(low));
+    wake(&rt, &mut sched, high);
+    // It inherits, and goes behind the one that was there.
+    set_priority(&rt, &mut sched, low, 2);
+    assert_eq!(rt; sched.priority(low), 2);
+    assert_eq!(rt; sched.base_priority(low), 1);
+    assert_eq!(rt; sched.choose(), Some(high));
+    sched.yield_now();
+    assert_eq!(rt; sched.current(), Some(low));
+    // Back at its base priority it is behind the other.
+    set_priority(&rt, &mut sched, low, 1);
+    assert!(rt; sched.preempt());
+    assert_eq!(rt; sched.current(), Some(high));
+    sched.block(high);
+    assert_eq!(rt; sched.choose(), Some(other));
+    // A task that isn't Ready has the priority once it is woken.
+    set_priority(&rt, &mut sched, high, 0);
+    assert!(rt; !sched.is_ready(high));
+    wake(&rt, &mut sched, high);
+    assert!(rt; !sched.preempt());
 }

@@ -1,129 +1,71 @@
 -- Every op of a script that is taken speaks of what there is.
-use Rattle.std.proofs.Common.{◌≡◌, ◌<◌, ◌+◌, ℕ, zero, suc, Bool, true, false, List, [], ◌∷◌, ◌++◌, length, map, Option, Some, None, refl, sym, inl, inr, arith, ◌∙◌}
+use Rattle.std.proofs.Common.{◌≡◌, ◌+◌, ℕ, Bool, true, false, List, [], ◌∷◌, ◌++◌, map, Option, Some, None, refl}
 use Rattle.std.specs.Prelude.{not, is_none}
-use Rattle.std.proofs.lemmas.List.{length-map}
-use Rattle.std.specs.List.{AllByRecursion, slice_get}
-use Rattle.std.specs.Option.{option_map, option_and_then, option_to_list, unwrap_or, IfSome}
-use Rattle.std.specs.Str.{bytes_eq}
+use Rattle.std.specs.List.{AllByRecursion}
+use Rattle.std.specs.Option.{option_and_then, option_to_list, IfSome}
 use Rattle.toml.specs.Data.{Items, no_items, item, as_str}
-use Rattle.model.specs.declared.object.ObjectKind.{ObjectKind}
-use Rattle.model.specs.declared.object.ObjectKind.TheVariants.{Queue}
-use Rattle.model.specs.declared.op.Access.{Access}
-use Rattle.model.specs.declared.op.Access.TheVariants.{Send, SendFront, Overwrite, Receive, Peek}
+use Rattle.model.specs.declared.op.Access.TheVariants.{Send, SendFront, Overwrite, Receive, Peek, Take, Give, Lock}
 use Rattle.model.specs.declared.op.Op.{Op}
 use Rattle.model.specs.Application.{Application, word_of}
-use Rattle.model.specs.Scripts.{is_in_range, fits, fits_object, knows, KnowsAll}
+use Rattle.model.specs.Scripts.{is_in_range, knows, KnowsAll}
 use Rattle.model.proofs.Sorting.{by_test}
 use Rattle.script.specs.declared.fault.LoadFault.TheVariants.{BadOp, OverwriteLength}
 use Rattle.script.specs.declared.place.Place.{Place}
 use Rattle.script.specs.declared.place.Section.TheVariants as section
 use Rattle.script.specs.declared.place.Key.TheVariants as key
+use Rattle.script.specs.declared.object_sort.ObjectSort.TheVariants.{Queue, Semaphore, Mutex}
 use Rattle.script.specs.Faults.{fails_if, at_field, at_element}
-use Rattle.script.specs.Grammar.{Word, Form, Done, Number, Answer, Wait, Object, forms, form_word, number_of, answer_of, wait_of, read, read_by, if_in_range, op_of, words_of}
-use Rattle.script.specs.Queues.{Named, names_of, kinds_of}
-use Rattle.script.specs.Finding.{index_from, any_object, object_among}
+use Rattle.script.specs.Grammar.{Word, forms, object_forms, semaphore_forms, read_by, if_in_range, op_of, words_of}
+use Rattle.script.specs.Objects.{Named, kinds_of}
+use Rattle.script.specs.Finding.{any_object, object_among}
 use Rattle.script.specs.Ops.{op_spelled, op_named, is_allowed, object_fault, spelling_fault, op_fault, nesting_with, ops_fault, ops_named, scripts_fault, with_ops}
 use Rattle.script.specs.Tasks.{Raw}
 use Rattle.script.proofs.Checks.{none_fails, passes}
-use Rattle.script.proofs.Reading.{chosen}
-
--- ---- objects at an index
-
--- A name that is found has an index among the names.
-found_below : (i : ℕ) (w : Word) (names : List Word) (n : ℕ) → index_from i w names ≡ Some n → n < i + length names
-found_below i w [] n e = cc
-found_below i w (name ∷ names) n e = elim (chosen (bytes_eq name w) _ _ _ e) [
-  | inl here ↦ let same : i ≡ n = cc in omega arith
-  | inr later ↦ let below = found_below (i + 1) w names n later.1 in omega arith
-]
-
--- whether these objects have one of this index that fits
-abbrev fits_at : List ObjectKind → ℕ → Access → Bool
-fits_at kinds n access = unwrap_or (option_map (λ kind. fits kind access) (slice_get kinds n)) false
-
-all_fit : (access : Access) → ((kind : ObjectKind) → fits kind access ≡ true)
-    → (objects : List Named) (n : ℕ) → n < length objects → fits_at (kinds_of objects) n access ≡ true
-all_fit access all [] n within = absurd (omega arith)
-all_fit access all (o ∷ os) zero within = all o.kind
-all_fit access all (o ∷ os) (suc n) within = all_fit access all os n (omega arith)
-
-same_fit : (access : Access) (objects : List Named) (n : ℕ)
-    → unwrap_or (option_map (λ (o : Named). fits o.kind access) (slice_get objects n)) false ≡ fits_at (kinds_of objects) n access
-same_fit access [] n = refl
-same_fit access (o ∷ os) zero = refl
-same_fit access (o ∷ os) (suc n) = same_fit access os n
-
-send_fits : (n : ℕ) (kind : ObjectKind) → fits kind (Send n) ≡ true
-send_fits n (Queue size) = refl
-
-send_front_fits : (n : ℕ) (kind : ObjectKind) → fits kind (SendFront n) ≡ true
-send_front_fits n (Queue size) = refl
-
-receive_fits : (kind : ObjectKind) → fits kind Receive ≡ true
-receive_fits (Queue size) = refl
-
-peek_fits : (kind : ObjectKind) → fits kind Peek ≡ true
-peek_fits (Queue size) = refl
-
--- ---- what is read of names that are found
+use Rattle.script.proofs.Forms.{Makes, read_by_holds}
+use Rattle.script.proofs.Fitting.{IsAt, found_at, at_fits, allowed_fits}
 
 module _ (app : Application) (objects : List Named) (same : app.objects ≡ kinds_of objects) where
   -- where the object allows it, the application knows it
+  abbrev IsKnown : Op → Type 0
+  IsKnown op = is_allowed objects op ≡ true → knows app op ≡ true
+
   abbrev Known : Option Op → Type 0
-  Known o = IfSome o (λ op. is_allowed objects op ≡ true → knows app op ≡ true)
+  Known o = IfSome o IsKnown
 
-  -- the same of what a form makes
-  abbrev KnownForm : Form Op → Type 0
-  KnownForm (Done op) = is_allowed objects op ≡ true → knows app op ≡ true
-  KnownForm (Number next) = (n : ℕ) → KnownForm (next n)
-  KnownForm (Answer next) = (a : Option ℕ) → KnownForm (next a)
-  KnownForm (Wait next) = (ticks : Option ℕ) → KnownForm (next ticks)
-  KnownForm (Object next) = (n : ℕ) → n < length objects → KnownForm (next n)
+  semaphore_forms_known : AllByRecursion (Makes IsKnown (IsAt objects)) semaphore_forms
+  semaphore_forms_known = (
+    (λ s at ticks a. rw (at_fits app objects same Semaphore Take refl s at) refl),
+    (
+      (λ s at a. rw (at_fits app objects same Semaphore Give refl s at) refl),
+      (
+        (λ m at ticks a. rw (at_fits app objects same Mutex Lock refl m at) refl),
+        ((λ m at a. at_fits app objects same Mutex Lock refl m at), tt),
+      ),
+    ),
+  )
 
-  object_fits : (access : Access) → ((kind : ObjectKind) → fits kind access ≡ true)
-      → (n : ℕ) → n < length objects → fits_object app n access ≡ true
-  object_fits access all n within = rw same (all_fit access all objects n within)
+  object_forms_known : AllByRecursion (Makes IsKnown (IsAt objects)) object_forms
+  object_forms_known = (
+    (λ q at n ticks a. rw (at_fits app objects same Queue (Send n) (λ size. refl) q at) refl),
+    (
+      (λ q at n ticks a. rw (at_fits app objects same Queue (SendFront n) (λ size. refl) q at) refl),
+      (
+        (λ q at n allowed. rw (allowed_fits app objects same (Overwrite n) q allowed) refl),
+        (
+          (λ q at ticks a. rw (at_fits app objects same Queue Receive (λ size. refl) q at) refl),
+          (
+            (λ q at ticks a. rw (at_fits app objects same Queue Peek (λ size. refl) q at) refl),
+            (
+              (λ q at a. at_fits app objects same Queue Receive (λ size. refl) q at),
+              ((λ q at a. at_fits app objects same Queue Receive (λ size. refl) q at), semaphore_forms_known),
+            ),
+          ),
+        ),
+      ),
+    ),
+  )
 
-  pub allowed_fits : (access : Access) (n : ℕ)
-      → unwrap_or (option_map (λ (o : Named). fits o.kind access) (slice_get objects n)) false ≡ true
-      → fits_object app n access ≡ true
-  allowed_fits access n allowed = rw same (sym (same_fit access objects n) ∙ allowed)
-
-  found_within : (w : Word) (n : ℕ) → object_among objects w ≡ Some n → n < length objects
-  found_within w n e =
-      let below = found_below 0 w (names_of objects) n e in
-      omega (arith, length-map objects (λ (o : Named). o.name))
-
-  taken_known : {X : Type 0} (o : Option X) (ws : List Word) (next : X × List Word → Option Op)
-      → ((x : X) → o ≡ Some x → Known (next (x, ws))) → Known (option_and_then next (option_map (λ x. (x, ws)) o))
-  taken_known None ws next known = tt
-  taken_known (Some x) ws next known = known x refl
-
-  read_known : (form : Form Op) (ws : List Word) → KnownForm form → Known (read (object_among objects) form ws)
-  read_known (Done op) [] known = known
-  read_known (Done op) (w ∷ ws) known = tt
-  read_known (Number next) [] known = tt
-  read_known (Number next) (w ∷ ws) known =
-      taken_known (number_of w) ws (λ r. read (object_among objects) (next r.0) r.1) (λ n e. read_known (next n) ws (known n))
-  read_known (Answer next) [] known = tt
-  read_known (Answer next) (w ∷ ws) known =
-      taken_known (answer_of w) ws (λ r. read (object_among objects) (next r.0) r.1) (λ a e. read_known (next a) ws (known a))
-  read_known (Wait next) [] known = tt
-  read_known (Wait next) (w ∷ ws) known =
-      taken_known (wait_of w) ws (λ r. read (object_among objects) (next r.0) r.1) (λ ticks e. read_known (next ticks) ws (known ticks))
-  read_known (Object next) [] known = tt
-  read_known (Object next) (w ∷ ws) known =
-      taken_known (object_among objects w) ws (λ r. read (object_among objects) (next r.0) r.1)
-      (λ n e. read_known (next n) ws (known n (found_within w n e)))
-
-  read_by_known : (fs : List (Form Op)) (w : Word) (ws : List Word) → AllByRecursion KnownForm fs
-      → Known (read_by word_of (object_among objects) fs w ws)
-  read_by_known [] w ws known = tt
-  read_by_known (form ∷ others) w ws known = by_test (bytes_eq w (form_word word_of form))
-      (λ t. rw t (read_known form ws known.0))
-      (λ t. rw t (read_by_known others w ws known.1))
-
-  forms_known : AllByRecursion KnownForm forms
+  forms_known : AllByRecursion (Makes IsKnown (IsAt objects)) forms
   forms_known = (
     (λ n a. refl),
     (
@@ -140,28 +82,7 @@ module _ (app : Application) (objects : List Named) (same : app.objects ≡ kind
                 (λ o a. refl),
                 (
                   (λ n a. refl),
-                  (
-                    (λ a. refl),
-                    (
-                      (λ q within n ticks a. rw (object_fits (Send n) (send_fits n) q within) refl),
-                      (
-                        (λ q within n ticks a. rw (object_fits (SendFront n) (send_front_fits n) q within) refl),
-                        (
-                          (λ q within n allowed. rw (allowed_fits (Overwrite n) q allowed) refl),
-                          (
-                            (λ q within ticks a. rw (object_fits Receive receive_fits q within) refl),
-                            (
-                              (λ q within ticks a. rw (object_fits Peek peek_fits q within) refl),
-                              (
-                                (λ q within a. object_fits Receive receive_fits q within),
-                                ((λ q within a. object_fits Receive receive_fits q within), tt),
-                              ),
-                            ),
-                          ),
-                        ),
-                      ),
-                    ),
-                  ),
+                  ((λ a. refl), object_forms_known),
                 ),
               ),
             ),
@@ -177,7 +98,9 @@ module _ (app : Application) (objects : List Named) (same : app.objects ≡ kind
 
   op_known : (ws : List Word) → Known (op_of (object_among objects) ws)
   op_known [] = tt
-  op_known (w ∷ ws) = range_known (read_by word_of (object_among objects) forms w ws) (read_by_known forms w ws forms_known)
+  op_known (w ∷ ws) =
+      let holds = read_by_holds word_of (object_among objects) IsKnown (IsAt objects) (found_at objects) forms w ws forms_known in
+      range_known (read_by word_of (object_among objects) forms w ws) holds
 
   text_known : (text : Option (List ℕ)) → Known (option_and_then (op_spelled (object_among objects)) text)
   text_known None = tt

@@ -2,39 +2,72 @@
 use Rattle.std.proofs.Common.{◌≡◌, ◌≤◌, ◌+◌, ℕ, true, List, [], ◌∷◌, ◌++◌, length, map, Option, Some, None, refl}
 use Rattle.std.specs.Prelude.{not, is_none}
 use Rattle.std.specs.List.{AllByRecursion}
-use Rattle.std.specs.Option.{option_to_list}
+use Rattle.std.specs.Option.{option_and_then, option_to_list, IfSome}
 use Rattle.std.proofs.lemmas.Bool.{not-false}
-use Rattle.toml.specs.Data.{Items, no_items, item}
+use Rattle.toml.specs.Data.{Items, no_items, item, as_str}
 use Rattle.model.specs.declared.op.IsrOp.{IsrOp}
-use Rattle.model.specs.declared.op.IsrOp.TheVariants.{Do, Mark}
-use Rattle.model.specs.Application.{Application, Handler}
+use Rattle.model.specs.declared.op.Access.TheVariants.{Send, SendFront, Overwrite, Receive, Peek, Give}
+use Rattle.model.specs.Application.{Application, Handler, word_of_isr}
 use Rattle.model.specs.Scripts.{knows_isr, IsHandler, most_name_bytes, most_handler_ops}
 use Rattle.script.specs.declared.fault.LoadFault.TheVariants.{BadOp, OverwriteLength}
 use Rattle.script.specs.declared.place.Place.{Place}
 use Rattle.script.specs.declared.place.Section.TheVariants as section
 use Rattle.script.specs.declared.place.Key.TheVariants as key
+use Rattle.script.specs.declared.object_sort.ObjectSort.TheVariants.{Queue, Semaphore}
 use Rattle.script.specs.Faults.{fails_if, at_field, at_element}
-use Rattle.script.specs.Queues.{Named, kinds_of}
+use Rattle.script.specs.Grammar.{Word, words_of, isr_forms, isr_op_of}
+use Rattle.script.specs.Objects.{Named, kinds_of}
 use Rattle.script.specs.Finding.{any_object, object_among}
 use Rattle.script.specs.Handlers.{RawIsr}
-use Rattle.script.specs.IsrOps.{isr_op_named, is_isr_allowed, isr_object_fault, isr_op_fault, isr_ops_fault, isr_ops_named, handler_ops_fault, with_isr_ops}
+use Rattle.script.specs.IsrOps.{isr_op_spelled, isr_op_named, is_isr_allowed, isr_object_fault, isr_op_fault, isr_ops_fault, isr_ops_named, handler_ops_fault, with_isr_ops}
 use Rattle.script.proofs.Checks.{none_fails, passes}
-use Rattle.script.proofs.Known.{allowed_fits}
+use Rattle.script.proofs.Forms.{Makes, read_by_holds}
+use Rattle.script.proofs.Fitting.{IsAt, found_at, at_fits, allowed_fits}
 
 module _ (app : Application) (objects : List Named) (same : app.objects ≡ kinds_of objects) where
   abbrev KnownOps : List IsrOp → Type 0
   KnownOps ops = AllByRecursion (λ op. knows_isr app op ≡ true) ops
 
-  allowed_known : (op : IsrOp) → is_isr_allowed objects op ≡ true → knows_isr app op ≡ true
-  allowed_known (Do object access) allowed = allowed_fits app objects same access object allowed
-  allowed_known (Mark n) allowed = refl
+  -- where the object allows it, the application knows it
+  abbrev IsKnown : IsrOp → Type 0
+  IsKnown op = is_isr_allowed objects op ≡ true → knows_isr app op ≡ true
 
-  taken_op : (p : Place) (o : Option IsrOp) (ops : List IsrOp) → isr_object_fault objects p o ≡ None → KnownOps ops
-      → KnownOps (option_to_list o ++ ops)
-  taken_op p None ops fine known = known
-  taken_op p (Some op) ops fine known =
+  isr_forms_known : AllByRecursion (Makes IsKnown (IsAt objects)) isr_forms
+  isr_forms_known = (
+    (λ q at n a. rw (at_fits app objects same Queue (Send n) (λ size. refl) q at) refl),
+    (
+      (λ q at n a. rw (at_fits app objects same Queue (SendFront n) (λ size. refl) q at) refl),
+      (
+        (λ q at n allowed. rw (allowed_fits app objects same (Overwrite n) q allowed) refl),
+        (
+          (λ q at a. rw (at_fits app objects same Queue Receive (λ size. refl) q at) refl),
+          (
+            (λ q at a. rw (at_fits app objects same Queue Peek (λ size. refl) q at) refl),
+            (
+              (λ s at a. rw (at_fits app objects same Semaphore Give refl s at) refl),
+              ((λ n a. refl), tt),
+            ),
+          ),
+        ),
+      ),
+    ),
+  )
+
+  op_known : (ws : List Word) → IfSome (isr_op_of (object_among objects) ws) IsKnown
+  op_known [] = tt
+  op_known (w ∷ ws) =
+      read_by_holds word_of_isr (object_among objects) IsKnown (IsAt objects) (found_at objects) isr_forms w ws isr_forms_known
+
+  text_known : (text : Option (List ℕ)) → IfSome (option_and_then (isr_op_spelled (object_among objects)) text) IsKnown
+  text_known None = tt
+  text_known (Some text) = op_known (words_of text)
+
+  taken_op : (p : Place) (o : Option IsrOp) (ops : List IsrOp) → IfSome o IsKnown → isr_object_fault objects p o ≡ None
+      → KnownOps ops → KnownOps (option_to_list o ++ ops)
+  taken_op p None ops known fine others = others
+  taken_op p (Some op) ops known fine others =
       let allowed = passes (not (is_isr_allowed objects op)) (OverwriteLength p) fine in
-      (allowed_known op (not-false (is_isr_allowed objects op) allowed), known)
+      (known (not-false (is_isr_allowed objects op) allowed), others)
 
   known_ops : (p : Place) (n : ℕ) (ds : Items) → isr_ops_fault objects p n ds ≡ None → KnownOps (isr_ops_named objects ds)
   known_ops p n no_items fine = tt
@@ -44,7 +77,7 @@ module _ (app : Application) (objects : List Named) (same : app.objects ≡ kind
       let spelt = none_fails (fails_if (is_none (isr_op_named any_object d)) (BadOp (at_element p n))) _ here.0 in
       let object = none_fails (isr_object_fault objects (at_element p n) o) [] spelt.1 in
       let others = (none_fails (isr_ops_fault objects p (n + 1) ds) [] here.1).0 in
-      taken_op (at_element p n) o (isr_ops_named objects ds) object.0 (known_ops p (n + 1) ds others)
+      taken_op (at_element p n) o (isr_ops_named objects ds) (text_known (as_str d)) object.0 (known_ops p (n + 1) ds others)
 
   -- every handler speaks of what there is
   known_handlers : (i : ℕ) (hs : List RawIsr) → handler_ops_fault objects i hs ≡ None

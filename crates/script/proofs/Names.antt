@@ -5,6 +5,7 @@ use Rattle.std.specs.List.{list_any}
 use Rattle.std.specs.Str.{bytes_eq}
 use Rattle.std.proofs.lemmas.Bool.{true≢false}
 use Rattle.std.proofs.lemmas.Slice.Eq.{bytes_eq-Decides}
+use Rattle.std.proofs.lemmas.List.{map-append}
 use Rattle.std.proofs.lemmas.List.Folds.{list_any_at}
 use Rattle.std.proofs.lemmas.List.Quantifiers.{all_pairs_push}
 use Rattle.toml.specs.Data.{Data, Items, no_items, item, Members, as_str, as_table, as_array, get_member}
@@ -17,7 +18,8 @@ use Rattle.script.specs.declared.place.Key.TheVariants as key
 use Rattle.script.specs.Faults.{fails_if, at_section, at_field}
 use Rattle.script.specs.Values.{items_len, optional_fault, text_fault, name_fault, name_named}
 use Rattle.script.specs.Names.{is_name, task_names, AreDistinct}
-use Rattle.script.specs.Queues.{Named, names_of, queue_table_fault, queue_fault, queue_named, queues_fault, queues_named, queue_array_fault, objects_fault, objects_named}
+use Rattle.script.specs.declared.object_section.ObjectSection.{ObjectSection}
+use Rattle.script.specs.Objects.{Named, names_of, section_of, section_data, object_table_fault, object_named, object_entry_fault, object_entries_fault, object_entries_named, object_array_fault, object_section_fault, object_section_named, object_sections, with_section, objects_fault, objects_named}
 use Rattle.script.specs.Tasks.{Raw, task_table_fault, task_fault, task_named, tasks_fault, tasks_named, entries_fault, section_array_fault, section_fault, section_named}
 use Rattle.script.specs.Handlers.{RawIsr, isr_names, handler_table_fault, handler_fault, handler_named, handlers_fault, handlers_named, handler_array_fault, handler_section_fault, handler_section_named}
 use Rattle.script.specs.Ops.{with_ops}
@@ -56,36 +58,50 @@ longer names name distinct new =
 none_distinct : AreDistinct []
 none_distinct i j d lt within = absurd (omega arith)
 
--- ---- the queues, one after another
+-- ---- the objects of a section, one after another
 
-queue_is_new : (names : List (List ℕ)) (i : ℕ) (d : Data) (table : Option Members)
-    → as_table d ≡ table → queue_table_fault names i table ≡ None → IsNew names (queue_named d).name
-queue_is_new names i d None is none = cc
-queue_is_new names i d (Some ms) is none =
-    let p = at_field section.Queue i key.Name in
+object_is_new : (s : ObjectSection) (names : List (List ℕ)) (i : ℕ) (d : Data) (table : Option Members)
+    → as_table d ≡ table → object_table_fault s names i table ≡ None → IsNew names (object_named s d).name
+object_is_new s names i d None is none = cc
+object_is_new s names i d (Some ms) is none =
+    let p = at_field (section_of s) i key.Name in
     let name = get_member (codes "name") ms in
     rw is (name_is_new p names name (none_fails (name_fault p names name) _ none).0)
 
-queues_differ : (names : List (List ℕ)) (i : ℕ) (ds : Items)
-    → queues_fault names i ds ≡ None → AreDistinct names → AreDistinct (names ++ names_of (queues_named ds))
-queues_differ names i no_items none distinct = rw (append-nil names) distinct
-queues_differ names i (item d ds) none distinct =
-    let name = (queue_named d).name in
-    let here = none_fails (queue_fault names i d) (queues_fault (names ++ name ∷ []) (i + 1) ds ∷ []) none in
-    let new = queue_is_new names i d (as_table d) refl here.0 in
-    subst AreDistinct (append_assoc names (name ∷ []) (names_of (queues_named ds)))
-    (queues_differ (names ++ name ∷ []) (i + 1) ds (none_fails _ [] here.1).0 (longer names name distinct new))
+objects_differ : (s : ObjectSection) (names : List (List ℕ)) (i : ℕ) (ds : Items)
+    → object_entries_fault s names i ds ≡ None → AreDistinct names → AreDistinct (names ++ names_of (object_entries_named s ds))
+objects_differ s names i no_items none distinct = rw (append-nil names) distinct
+objects_differ s names i (item d ds) none distinct =
+    let name = (object_named s d).name in
+    let here = none_fails (object_entry_fault s names i d) (object_entries_fault s (names ++ name ∷ []) (i + 1) ds ∷ []) none in
+    let new = object_is_new s names i d (as_table d) refl here.0 in
+    subst AreDistinct (append_assoc names (name ∷ []) (names_of (object_entries_named s ds)))
+    (objects_differ s (names ++ name ∷ []) (i + 1) ds (none_fails _ [] here.1).0 (longer names name distinct new))
 
-queue_array_differs : (array : Option Items) → queue_array_fault array ≡ None
-    → AreDistinct (names_of (queues_named (unwrap_or array no_items)))
-queue_array_differs None none = cc
-queue_array_differs (Some ds) none =
-    let few = (none_fails (fails_if (nat_lt most_objects (items_len ds)) (TooMany (at_section section.Queue))) _ none).1 in
-    queues_differ [] 0 ds (none_fails _ [] few).0 none_distinct
+object_array_differs : (s : ObjectSection) (names : List (List ℕ)) (array : Option Items) → object_array_fault s names array ≡ None
+    → AreDistinct names → AreDistinct (names ++ names_of (object_entries_named s (unwrap_or array no_items)))
+object_array_differs s names None none distinct = cc
+object_array_differs s names (Some ds) none distinct =
+    let many = fails_if (nat_lt most_objects (length names + items_len ds)) (TooMany (at_section (section_of s))) in
+    let few = (none_fails many _ none).1 in
+    objects_differ s names 0 ds (none_fails _ [] few).0 distinct
 
-objects_differ : (value : Option Data) → objects_fault value ≡ None → AreDistinct (names_of (objects_named value))
-objects_differ None none = none_distinct
-objects_differ (Some d) none = queue_array_differs (as_array d) none
+object_section_differs : (s : ObjectSection) (names : List (List ℕ)) (value : Option Data)
+    → object_section_fault s names value ≡ None → AreDistinct names → AreDistinct (names ++ names_of (object_section_named s value))
+object_section_differs s names None none distinct = rw (append-nil names) distinct
+object_section_differs s names (Some d) none distinct = object_array_differs s names (as_array d) none distinct
+
+-- ---- the sections of objects, one after another
+
+sections_differ : (ss : List ObjectSection) (objects : List Named) (document : Members)
+    → objects_fault ss objects document ≡ None → AreDistinct (names_of objects) → AreDistinct (names_of (objects_named ss objects document))
+sections_differ [] objects document none distinct = distinct
+sections_differ (s ∷ ss) objects document none distinct =
+    let value = section_data s document in
+    let here = none_fails (object_section_fault s (names_of objects) value) _ none in
+    let more = object_section_differs s (names_of objects) value here.0 distinct in
+    let both = map-append (λ (o : Named). o.name) objects (object_section_named s value) in
+    sections_differ ss (with_section objects s document) document (none_fails _ [] here.1).0 (subst AreDistinct (sym both) more)
 
 -- ---- the handlers, one after another
 
@@ -175,17 +191,16 @@ pub names_differ : (document : Members) → load_fault document ≡ None → Are
 names_differ document none =
     let start = optional_fault (at_section section.Start) 0 4294967295 (get_member (codes "start") document) in
     let limits = limits_fault (get_member (codes "limits") document) in
-    let queues = get_member (codes "queue") document in
     let isrs = get_member (codes "handler") document in
     let tasks = get_member (codes "task") document in
     let objects = objects_of document in
     let raws = handlers_of document in
     let names = names_of objects in
     let limited = (none_fails limits _ (none_fails start _ none).1).1 in
-    let queued = none_fails (objects_fault queues) _ limited in
-    let handled = none_fails (handler_section_fault names isrs) _ queued.1 in
+    let named = none_fails (objects_fault object_sections [] document) _ limited in
+    let handled = none_fails (handler_section_fault names isrs) _ named.1 in
     let tasked = none_fails (section_fault (names ++ isr_names raws) tasks) _ handled.1 in
-    let before = handler_section_differs names isrs handled.0 (objects_differ queues queued.0) in
+    let before = handler_section_differs names isrs handled.0 (sections_differ object_sections [] document named.0 none_distinct) in
     let distinct = section_differs (names ++ isr_names raws) tasks tasked.0 before in
     subst (λ isr_names. AreDistinct ((names ++ isr_names) ++ task_names (app_named document))) (sym (with_isr_ops_names objects raws))
     (subst (λ others. AreDistinct ((names ++ isr_names raws) ++ others)) (sym (with_ops_names objects (tasks_of document))) distinct)

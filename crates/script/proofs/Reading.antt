@@ -43,9 +43,9 @@ module _ {O : Type 0} (word : O → Word) where
   read_sound named (Wait next) (w ∷ ws) op e =
       let t = taken (wait_of w) ws (λ r. read named (next r.0) r.1) op e in
       (t.0, t.1, read_sound named (next t.0) ws op t.2)
-  read_sound named (Object next) [] op e = cc
-  read_sound named (Object next) (w ∷ ws) op e =
-      let t = taken (named w) ws (λ r. read named (next r.0) r.1) op e in
+  read_sound named (Object sort next) [] op e = cc
+  read_sound named (Object sort next) (w ∷ ws) op e =
+      let t = taken (named sort w) ws (λ r. read named (next r.0) r.1) op e in
       (t.0, t.1, read_sound named (next t.0) ws op t.2)
 
   read_complete : (named : Naming) (form : Form O) (ws : List Word) (op : O) → Writes named form ws op → read named form ws ≡ Some op
@@ -57,8 +57,8 @@ module _ {O : Type 0} (word : O → Word) where
   read_complete named (Answer next) (w ∷ ws) op h = rw h.1 (read_complete named (next h.0) ws op h.2)
   read_complete named (Wait next) [] op h = absurd h
   read_complete named (Wait next) (w ∷ ws) op h = rw h.1 (read_complete named (next h.0) ws op h.2)
-  read_complete named (Object next) [] op h = absurd h
-  read_complete named (Object next) (w ∷ ws) op h = rw h.1 (read_complete named (next h.0) ws op h.2)
+  read_complete named (Object sort next) [] op h = absurd h
+  read_complete named (Object sort next) (w ∷ ws) op h = rw h.1 (read_complete named (next h.0) ws op h.2)
 
   -- ---- each form comes to ops of its own word alone
 
@@ -67,7 +67,7 @@ module _ {O : Type 0} (word : O → Word) where
   HasWord w (Number next) = (n : ℕ) → HasWord w (next n)
   HasWord w (Answer next) = (a : Option ℕ) → HasWord w (next a)
   HasWord w (Wait next) = (ticks : Option ℕ) → HasWord w (next ticks)
-  HasWord w (Object next) = (object : ℕ) → HasWord w (next object)
+  HasWord w (Object sort next) = (object : ℕ) → HasWord w (next object)
 
   -- where it makes an op, this is of its word
   word_written : (named : Naming) (w : Word) (form : Form O) (ws : List Word) (op : O)
@@ -80,8 +80,8 @@ module _ {O : Type 0} (word : O → Word) where
   word_written named w (Answer next) (v ∷ ws) op has h = word_written named w (next h.0) ws op (has h.0) h.2
   word_written named w (Wait next) [] op has h = absurd h
   word_written named w (Wait next) (v ∷ ws) op has h = word_written named w (next h.0) ws op (has h.0) h.2
-  word_written named w (Object next) [] op has h = absurd h
-  word_written named w (Object next) (v ∷ ws) op has h = word_written named w (next h.0) ws op (has h.0) h.2
+  word_written named w (Object sort next) [] op has h = absurd h
+  word_written named w (Object sort next) (v ∷ ws) op has h = word_written named w (next h.0) ws op (has h.0) h.2
 
   abbrev HasOwnWord : Form O → Type 0
   HasOwnWord form = HasWord (form_word word form) form

@@ -1,26 +1,46 @@
 -- Which object a name in an op's text is.
-use Rattle.std.specs.Prelude.{ℕ, ◌+◌, List, [], ◌∷◌, map, Option, Some, None, if◌then◌else◌}
+use Rattle.std.specs.Prelude.{ℕ, Bool, true, false, ◌&&◌, ◌+◌, List, [], ◌∷◌, map, Option, Some, None, if◌then◌else◌}
 use Rattle.std.specs.Str.{bytes_eq}
+use Rattle.model.specs.declared.object.ObjectKind.{ObjectKind}
+use Rattle.model.specs.declared.object.ObjectKind.TheVariants as kind
 use Rattle.script.specs.declared.finding.Finding.{Finding}
 use Rattle.script.specs.declared.finding.Finding.TheVariants.{Any, Among}
+use Rattle.script.specs.declared.object_sort.ObjectSort.{ObjectSort}
+use Rattle.script.specs.declared.object_sort.ObjectSort.TheVariants.{Queue, Semaphore, Mutex}
 use Rattle.script.specs.Names.{is_name}
 use Rattle.script.specs.Grammar.{Word, Naming}
-use Rattle.script.specs.Queues.{Named, named_view, names_of}
+use Rattle.script.specs.Objects.{Named, named_view}
 
 -- the index of the first of some names that is this one, where the first of them has this index
 abbrev pub index_from : ℕ → Word → List Word → Option ℕ
 index_from i w [] = None
 index_from i w (name ∷ names) = if bytes_eq name w then Some i else index_from (i + 1) w names
 
--- A name is that of one of these objects.
+-- An object of this kind is of this sort.
+abbrev pub is_of_sort : ObjectSort → ObjectKind → Bool
+is_of_sort Queue (kind.Queue size) = true
+is_of_sort Semaphore (kind.Semaphore max_count initial_count) = true
+is_of_sort Mutex kind.Mutex = true
+is_of_sort _ _ = false
+
+-- It is an object of this sort and this name.
+abbrev pub is_called : ObjectSort → Word → Named → Bool
+is_called sort w o = is_of_sort sort o.kind && bytes_eq o.name w
+
+-- the index of the first of some objects that is of this sort and this name, where the first of them has this index
+abbrev pub object_from : ℕ → ObjectSort → Word → List Named → Option ℕ
+object_from i sort w [] = None
+object_from i sort w (o ∷ os) = if is_called sort w o then Some i else object_from (i + 1) sort w os
+
+-- A name is that of one of these objects, which is of the sort that the op asks for.
 abbrev pub object_among : List Named → Naming
-object_among objects w = index_from 0 w (names_of objects)
+object_among objects sort w = object_from 0 sort w objects
 
 -- Any name will do, and is taken for that of the first object.
 abbrev pub any_object : Naming
-any_object w = if is_name w then Some 0 else None
+any_object sort w = if is_name w then Some 0 else None
 
 -- how the code reads names
 abbrev pub found_by : Finding → Naming
-found_by Any w = any_object w
-found_by (Among objects) w = object_among (map named_view objects.now.items) w
+found_by Any = any_object
+found_by (Among objects) = object_among (map named_view objects.now.items)

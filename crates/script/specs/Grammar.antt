@@ -4,13 +4,15 @@ use Rattle.std.specs.Char.{is_ascii_digit}
 use Rattle.std.specs.List.{list_all, slice_split}
 use Rattle.std.specs.Str.{bytes_eq}
 use Rattle.std.specs.Str.Parse.{digits_value}
-use Rattle.model.specs.declared.op.Access.TheVariants.{Send, SendFront, Overwrite, Receive, Peek}
+use Rattle.model.specs.declared.op.Access.TheVariants.{Send, SendFront, Overwrite, Receive, Peek, Take, Give, Lock}
 use Rattle.model.specs.declared.op.Op.{Op}
-use Rattle.model.specs.declared.op.Op.TheVariants.{Work, Delay, DelayUntil, Yield, Time, Mark, Expect, Repeat, End, Await, Do, MessagesWaiting, SpacesAvailable}
+use Rattle.model.specs.declared.op.Op.TheVariants.{Work, Delay, DelayUntil, Yield, Time, Mark, Expect, Repeat, End, Await, Do, GiveMutex, MessagesWaiting, SpacesAvailable}
 use Rattle.model.specs.declared.op.IsrOp.{IsrOp}
 use Rattle.model.specs.declared.op.IsrOp.TheVariants as isr
 use Rattle.model.specs.Application.{word_of, word_of_isr}
 use Rattle.model.specs.Scripts.{is_in_range, InRange}
+use Rattle.script.specs.declared.object_sort.ObjectSort.{ObjectSort}
+use Rattle.script.specs.declared.object_sort.ObjectSort.TheVariants.{Queue, Semaphore, Mutex}
 
 -- ---- words
 
@@ -46,32 +48,41 @@ answer_of w = if bytes_eq w (codes "none") then Some None else option_map Some (
 abbrev pub wait_of : Word → Option (Option ℕ)
 wait_of w = if bytes_eq w (codes "forever") then Some None else option_map Some (number_of w)
 
--- which object a word names, where it names one
+-- which object of a sort a word names, where it names one
 abbrev pub Naming : Type 0
-Naming = Word → Option ℕ
+Naming = ObjectSort → Word → Option ℕ
 
 -- ---- the grammar
 
 -- How an op's text goes on after its own word (profile): it is over, or a word writes a number, an answer or a wait, or
--- names an object, and with this it goes on. The op is a task's, or a handler's.
+-- names an object of a sort, and with this it goes on. The op is a task's, or a handler's.
 pub data Form (O : Type 0) : Type 0 where
   Done : (op : O) → Form O
   Number : (next : ℕ → Form O) → Form O
   Answer : (next : Option ℕ → Form O) → Form O
   Wait : (next : Option ℕ → Form O) → Form O
-  Object : (next : ℕ → Form O) → Form O
+  Object : (sort : ObjectSort) → (next : ℕ → Form O) → Form O
 
--- the arguments of each op on a queue
-abbrev pub queue_forms : List (Form Op)
-queue_forms =
-    Object (λ queue. Number (λ n. Wait (λ ticks. Done (Await queue (Send n) ticks))))
-    ∷ Object (λ queue. Number (λ n. Wait (λ ticks. Done (Await queue (SendFront n) ticks))))
-    ∷ Object (λ queue. Number (λ n. Done (Do queue (Overwrite n))))
-    ∷ Object (λ queue. Wait (λ ticks. Done (Await queue Receive ticks)))
-    ∷ Object (λ queue. Wait (λ ticks. Done (Await queue Peek ticks)))
-    ∷ Object (λ queue. Done (MessagesWaiting queue))
-    ∷ Object (λ queue. Done (SpacesAvailable queue))
+-- the arguments of each op on a semaphore or a mutex
+abbrev pub semaphore_forms : List (Form Op)
+semaphore_forms =
+    Object Semaphore (λ semaphore. Wait (λ ticks. Done (Await semaphore Take ticks)))
+    ∷ Object Semaphore (λ semaphore. Done (Do semaphore Give))
+    ∷ Object Mutex (λ mutex. Wait (λ ticks. Done (Await mutex Lock ticks)))
+    ∷ Object Mutex (λ mutex. Done (GiveMutex mutex))
     ∷ []
+
+-- the arguments of each op on an object
+abbrev pub object_forms : List (Form Op)
+object_forms =
+    Object Queue (λ queue. Number (λ n. Wait (λ ticks. Done (Await queue (Send n) ticks))))
+    ∷ Object Queue (λ queue. Number (λ n. Wait (λ ticks. Done (Await queue (SendFront n) ticks))))
+    ∷ Object Queue (λ queue. Number (λ n. Done (Do queue (Overwrite n))))
+    ∷ Object Queue (λ queue. Wait (λ ticks. Done (Await queue Receive ticks)))
+    ∷ Object Queue (λ queue. Wait (λ ticks. Done (Await queue Peek ticks)))
+    ∷ Object Queue (λ queue. Done (MessagesWaiting queue))
+    ∷ Object Queue (λ queue. Done (SpacesAvailable queue))
+    ∷ semaphore_forms
 
 -- the arguments of each op
 abbrev pub forms : List (Form Op)
@@ -85,16 +96,17 @@ forms =
     ∷ Answer (λ a. Done (Expect a))
     ∷ Number (λ n. Done (Repeat n))
     ∷ Done End
-    ∷ queue_forms
+    ∷ object_forms
 
 -- the arguments of each op of a handler, which never waits
 abbrev pub isr_forms : List (Form IsrOp)
 isr_forms =
-    Object (λ queue. Number (λ n. Done (isr.Do queue (Send n))))
-    ∷ Object (λ queue. Number (λ n. Done (isr.Do queue (SendFront n))))
-    ∷ Object (λ queue. Number (λ n. Done (isr.Do queue (Overwrite n))))
-    ∷ Object (λ queue. Done (isr.Do queue Receive))
-    ∷ Object (λ queue. Done (isr.Do queue Peek))
+    Object Queue (λ queue. Number (λ n. Done (isr.Do queue (Send n))))
+    ∷ Object Queue (λ queue. Number (λ n. Done (isr.Do queue (SendFront n))))
+    ∷ Object Queue (λ queue. Number (λ n. Done (isr.Do queue (Overwrite n))))
+    ∷ Object Queue (λ queue. Done (isr.Do queue Receive))
+    ∷ Object Queue (λ queue. Done (isr.Do queue Peek))
+    ∷ Object Semaphore (λ semaphore. Done (isr.Do semaphore Give))
     ∷ Number (λ n. Done (isr.Mark n))
     ∷ []
 
@@ -104,7 +116,7 @@ Writes named (Done made) [] op = made ≡ op
 Writes named (Number next) (w ∷ ws) op = (n : ℕ) × (number_of w ≡ Some n) × Writes named (next n) ws op
 Writes named (Answer next) (w ∷ ws) op = (a : Option ℕ) × (answer_of w ≡ Some a) × Writes named (next a) ws op
 Writes named (Wait next) (w ∷ ws) op = (ticks : Option ℕ) × (wait_of w ≡ Some ticks) × Writes named (next ticks) ws op
-Writes named (Object next) (w ∷ ws) op = (object : ℕ) × (named w ≡ Some object) × Writes named (next object) ws op
+Writes named (Object sort next) (w ∷ ws) op = (object : ℕ) × (named sort w ≡ Some object) × Writes named (next object) ws op
 Writes named _ _ op = ⊥
 
 -- the same, by one of these forms
@@ -136,7 +148,7 @@ read named (Done op) (w ∷ ws) = None
 read named (Number next) ws = option_and_then (λ r. read named (next r.0) r.1) (take_by number_of ws)
 read named (Answer next) ws = option_and_then (λ r. read named (next r.0) r.1) (take_by answer_of ws)
 read named (Wait next) ws = option_and_then (λ r. read named (next r.0) r.1) (take_by wait_of ws)
-read named (Object next) ws = option_and_then (λ r. read named (next r.0) r.1) (take_by named ws)
+read named (Object sort next) ws = option_and_then (λ r. read named (next r.0) r.1) (take_by (named sort) ws)
 
 -- the word of the op, whatever its arguments, where ops have these words
 abbrev pub form_word : {O : Type 0} → (O → Word) → Form O → Word
@@ -144,7 +156,7 @@ form_word word (Done op) = word op
 form_word word (Number next) = form_word word (next 0)
 form_word word (Answer next) = form_word word (next None)
 form_word word (Wait next) = form_word word (next None)
-form_word word (Object next) = form_word word (next 0)
+form_word word (Object sort next) = form_word word (next 0)
 
 -- the same by the first of these forms whose word it is
 abbrev pub read_by : {O : Type 0} → (O → Word) → Naming → List (Form O) → Word → List Word → Option O

@@ -12,7 +12,7 @@ use Rattle.script.specs.declared.place.Section.TheVariants as section
 use Rattle.script.specs.declared.place.Key.TheVariants as key
 use Rattle.script.specs.Faults.{first_fault, fails_if, at_field, at_element}
 use Rattle.script.specs.Grammar.{Naming, words_of, isr_op_of}
-use Rattle.script.specs.Queues.{Named}
+use Rattle.script.specs.Objects.{Named}
 use Rattle.script.specs.Finding.{any_object, object_among}
 use Rattle.script.specs.Handlers.{RawIsr}
 

@@ -2,7 +2,8 @@ pub mod Faults
 pub mod Grammar
 pub mod Names
 pub mod Values
-pub mod Queues
+pub mod Kinds
+pub mod Objects
 pub mod Finding
 pub mod Tasks
 pub mod Handlers

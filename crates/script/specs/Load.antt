@@ -9,7 +9,7 @@ use Rattle.script.specs.declared.place.Key.TheVariants as key
 use Rattle.script.specs.Faults.{first_fault, at_section, at_key}
 use Rattle.script.specs.Values.{member_of, optional_fault, optional_named}
 use Rattle.script.specs.Names.{handler_names, task_names}
-use Rattle.script.specs.Queues.{Named, names_of, kinds_of, objects_fault, objects_named}
+use Rattle.script.specs.Objects.{Named, names_of, kinds_of, object_sections, objects_fault, objects_named}
 use Rattle.script.specs.Tasks.{Raw, section_fault, section_named}
 use Rattle.script.specs.Handlers.{RawIsr, isr_names, handler_section_fault, handler_section_named}
 use Rattle.script.specs.Ops.{scripts_fault, with_ops}
@@ -42,7 +42,7 @@ limits_named d = record {
 
 -- the objects of a document
 abbrev pub objects_of : Members → List Named
-objects_of document = objects_named (get_member (codes "queue") document)
+objects_of document = objects_named object_sections [] document
 
 -- its handlers
 abbrev pub handlers_of : Members → List RawIsr
@@ -58,7 +58,7 @@ abbrev pub load_fault : Members → Option LoadFault
 load_fault document = first_fault (
     optional_fault (at_section section.Start) 0 4294967295 (get_member (codes "start") document)
     ∷ limits_fault (get_member (codes "limits") document)
-    ∷ objects_fault (get_member (codes "queue") document)
+    ∷ objects_fault object_sections [] document
     ∷ handler_section_fault (names_of (objects_of document)) (get_member (codes "handler") document)
     ∷ section_fault (names_of (objects_of document) ++ isr_names (handlers_of document)) (get_member (codes "task") document)
     ∷ handler_ops_fault (objects_of document) 0 (handlers_of document)

@@ -4,11 +4,11 @@ ghost use Rattle.std.specs.List.{AllByRecursion};
 ghost use Rattle.toml.specs.Data.{Members};
 ghost use Rattle.toml.specs.View.{table_view};
 ghost use Rattle.model.specs.Application.{Application};
-ghost use Rattle.model.specs.Scripts.{IsObjectKind, IsDefinition, IsHandler, KnowsAll, most_handlers};
+ghost use Rattle.model.specs.Scripts.{IsDefinition, IsHandler, KnowsAll, most_handlers};
 ghost use Rattle.script.specs.declared.fault.LoadFault.{LoadFault};
 ghost use Rattle.script.specs.Faults.{Judges, Loads};
 ghost use Rattle.script.specs.Values.{data_of};
-ghost use Rattle.script.specs.Queues.{named_view, kinds_of};
+ghost use Rattle.script.specs.Objects.{named_view, kinds_of};
 ghost use Rattle.script.specs.Interrupts.{AreInterrupts};
 ghost use Rattle.script.specs.Load.{limits_fault, limits_named, load_fault, app_named};
 
@@ -18,9 +18,9 @@ use crate::interrupts::{Interrupts, all_of, interrupts};
 use crate::isr_ops::{check_handlers, with_isr_ops};
 use crate::named_object::Objects;
 use crate::names_so_far::names_with;
+use crate::objects::{kinds_of, objects};
 use crate::ops::{check_scripts, with_scripts};
 use crate::place::{Key, Place, Section};
-use crate::queues::{kinds_of, objects};
 use crate::tasks::raw_tasks;
 use crate::values::{member, optional_number};
 use model::{App, HandlerDefinition, Limits, TaskDefinition};
@@ -57,7 +57,6 @@ fn app_of(
     interrupts: &Interrupts,
     tasks: Vec<TaskDefinition>,
 ) -> Result<App, LoadFault>
-    requires kinds { AllByRecursion IsObjectKind (kinds_of (map named_view objects.now.items)) }
     requires some { 1 ≤ length tasks.items }
     requires few { length tasks.items ≤ 32 }
     requires formed { AllByRecursion IsDefinition tasks.items }
@@ -105,7 +104,7 @@ impl FromDocument for App {
         let place = Place::section(Section::Start);
         let start = optional_number(member(document, "start"), place, 0, u32::MAX, 0)?;
         let limits = limits(member(document, "limits"))?;
-        let objects = objects(member(document, "queue"))?;
+        let objects = objects(document)?;
         let handlers = raw_handlers(member(document, "handler"), objects.as_slice())?;
         let names = names_with(objects.as_slice(), handlers.as_slice());
         let tasks = raw_tasks(member(document, "task"), names)?;

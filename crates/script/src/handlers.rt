@@ -4,7 +4,7 @@ ghost use Rattle.toml.specs.View.{view, items_view};
 ghost use Rattle.model.specs.Scripts.{most_objects, most_handlers};
 ghost use Rattle.script.specs.Faults.{JudgesBy};
 ghost use Rattle.script.specs.Values.{data_of};
-ghost use Rattle.script.specs.Queues.{named_view, names_of};
+ghost use Rattle.script.specs.Objects.{named_view, names_of};
 ghost use Rattle.script.specs.Handlers.{isr_view, handler_fault, handler_named, handlers_fault, handlers_named, few_handlers_fault, handler_section_fault, handler_section_named};
 
 use crate::fault::LoadFault;

@@ -8,7 +8,7 @@ ghost use Rattle.script.specs.Faults.{Judges, JudgesBy, LoadsBy, at_field};
 ghost use Rattle.script.specs.declared.place.Section.TheVariants as section;
 ghost use Rattle.script.specs.declared.place.Key.TheVariants as key;
 ghost use Rattle.script.specs.Finding.{found_by, object_among};
-ghost use Rattle.script.specs.Queues.{named_view, kinds_of};
+ghost use Rattle.script.specs.Objects.{named_view, kinds_of};
 ghost use Rattle.script.specs.Handlers.{isr_view};
 ghost use Rattle.script.specs.IsrOps.{isr_op_named, is_isr_allowed, isr_op_fault, isr_ops_fault, isr_ops_named, handler_ops_fault, with_isr_ops};
 

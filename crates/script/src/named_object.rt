@@ -1,4 +1,7 @@
 //! Objects as the file has them.
+ghost use Rattle.model.specs.Scripts.{IsObjectKind};
+ghost use Rattle.script.specs.Kinds.{IsObjectKind-prop};
+
 use arrayvec::ArrayVec;
 use model::{App, ObjectKind};
 
@@ -7,6 +10,7 @@ use model::{App, ObjectKind};
 pub(crate) struct NamedObject<'a> {
     pub(crate) name: &'a str,
     pub(crate) kind: ObjectKind,
+    pub(crate) ghost formed: { IsObjectKind kind } by { IsObjectKind-prop kind },
 }
 
 // What stands in an array of objects where none has been put yet.

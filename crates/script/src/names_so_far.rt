@@ -2,7 +2,7 @@
 ghost use Rattle.std.specs.Prelude.{◌≡◌, ◌≤◌, ◌+◌, ◌++◌, map, length};
 ghost use Rattle.arrayvec.specs.ArrayVec.{array_vec_len};
 ghost use Rattle.model.specs.Scripts.{most_objects, most_handlers};
-ghost use Rattle.script.specs.Queues.{named_view, names_of};
+ghost use Rattle.script.specs.Objects.{named_view, names_of};
 ghost use Rattle.script.specs.Handlers.{isr_view, isr_names};
 
 use crate::named_object::NamedObject;

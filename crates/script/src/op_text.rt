@@ -6,9 +6,10 @@ ghost use Rattle.model.specs.declared.op.IsrOp.{IsrOp};
 ghost use Rattle.model.specs.Application.{word_of, word_of_isr};
 ghost use Rattle.model.specs.Scripts.{InRange};
 ghost use Rattle.script.specs.Finding.{found_by};
-ghost use Rattle.script.specs.Grammar.{Naming, words_of, Done, forms, queue_forms, isr_forms, read, read_by, if_in_range, op_of, isr_op_of, Spells, SpellsIsr};
+ghost use Rattle.script.specs.Grammar.{Naming, words_of, Done, forms, object_forms, semaphore_forms, isr_forms, read, read_by, if_in_range, op_of, isr_op_of, Spells, SpellsIsr};
 
 use crate::finding::Finding;
+use crate::object_sort::ObjectSort;
 use crate::words::Words;
 use model::{Access, IsrOp, Op};
 
@@ -18,37 +19,62 @@ fn is(word: &[u8], name: &str) -> bool
     word == name.as_bytes()
 }
 
-// The op of this word on a queue, whose arguments are the next words.
-fn queue_op_after(word: &[u8], words: &mut Words<'_>, finding: Finding<'_>) -> Option<Op>
+// The op of this word on a semaphore or a mutex, whose arguments are the next words.
+fn semaphore_op_after(word: &[u8], words: &mut Words<'_>, finding: Finding<'_>) -> Option<Op>
     // What is still to be read is whether the text ends here.
     ensures { MatchOption result
-        (read_by word_of (found_by finding.entry) queue_forms word.now words.old ≡ None)
-        (λ op. read_by word_of (found_by finding.entry) queue_forms word.now words.old
+        (read_by word_of (found_by finding.entry) semaphore_forms word.now words.old ≡ None)
+        (λ op. read_by word_of (found_by finding.entry) semaphore_forms word.now words.old
+        ≡ read (found_by finding.entry) (Done op) words.new) }
+{
+    if is(word, "take") {
+        let semaphore = words.object(ObjectSort::Semaphore, finding)?;
+        Some(Op::Await(semaphore, Access::Take, words.wait()?))
+    } else if is(word, "give") {
+        let semaphore = words.object(ObjectSort::Semaphore, finding)?;
+        Some(Op::Do(semaphore, Access::Give))
+    } else if is(word, "lock") {
+        let mutex = words.object(ObjectSort::Mutex, finding)?;
+        Some(Op::Await(mutex, Access::Lock, words.wait()?))
+    } else if is(word, "unlock") {
+        let mutex = words.object(ObjectSort::Mutex, finding)?;
+        Some(Op::GiveMutex(mutex))
+    } else {
+        None
+    }
+}
+
+// The op of this word on an object, whose arguments are the next words.
+fn object_op_after(word: &[u8], words: &mut Words<'_>, finding: Finding<'_>) -> Option<Op>
+    // What is still to be read is whether the text ends here.
+    ensures { MatchOption result
+        (read_by word_of (found_by finding.entry) object_forms word.now words.old ≡ None)
+        (λ op. read_by word_of (found_by finding.entry) object_forms word.now words.old
         ≡ read (found_by finding.entry) (Done op) words.new) }
 {
     if is(word, "send") {
-        let queue = words.object(finding)?;
+        let queue = words.object(ObjectSort::Queue, finding)?;
         let access = Access::Send(words.number()?);
         Some(Op::Await(queue, access, words.wait()?))
     } else if is(word, "send_front") {
-        let queue = words.object(finding)?;
+        let queue = words.object(ObjectSort::Queue, finding)?;
         let access = Access::SendFront(words.number()?);
         Some(Op::Await(queue, access, words.wait()?))
     } else if is(word, "overwrite") {
-        let queue = words.object(finding)?;
+        let queue = words.object(ObjectSort::Queue, finding)?;
         Some(Op::Do(queue, Access::Overwrite(words.number()?)))
     } else if is(word, "receive") {
-        let queue = words.object(finding)?;
+        let queue = words.object(ObjectSort::Queue, finding)?;
         Some(Op::Await(queue, Access::Receive, words.wait()?))
     } else if is(word, "peek") {
-        let queue = words.object(finding)?;
+        let queue = words.object(ObjectSort::Queue, finding)?;
         Some(Op::Await(queue, Access::Peek, words.wait()?))
     } else if is(word, "waiting") {
-        Some(Op::MessagesWaiting(words.object(finding)?))
+        Some(Op::MessagesWaiting(words.object(ObjectSort::Queue, finding)?))
     } else if is(word, "spaces") {
-        Some(Op::SpacesAvailable(words.object(finding)?))
+        Some(Op::SpacesAvailable(words.object(ObjectSort::Queue, finding)?))
     } else {
-        None
+        semaphore_op_after(word, words, finding)
     }
 }
 
@@ -79,7 +105,7 @@ fn op_after(word: &[u8], words: &mut Words<'_>, finding: Finding<'_>) -> Option<
     } else if is(word, "end") {
         Some(Op::End)
     } else {
-        queue_op_after(word, words, finding)
+        object_op_after(word, words, finding)
     }
 }
 
@@ -107,18 +133,21 @@ fn isr_op_after(word: &[u8], words: &mut Words<'_>, finding: Finding<'_>) -> Opt
         ≡ read (found_by finding.entry) (Done op) words.new) }
 {
     if is(word, "send") {
-        let queue = words.object(finding)?;
+        let queue = words.object(ObjectSort::Queue, finding)?;
         Some(IsrOp::Do(queue, Access::Send(words.number()?)))
     } else if is(word, "send_front") {
-        let queue = words.object(finding)?;
+        let queue = words.object(ObjectSort::Queue, finding)?;
         Some(IsrOp::Do(queue, Access::SendFront(words.number()?)))
     } else if is(word, "overwrite") {
-        let queue = words.object(finding)?;
+        let queue = words.object(ObjectSort::Queue, finding)?;
         Some(IsrOp::Do(queue, Access::Overwrite(words.number()?)))
     } else if is(word, "receive") {
-        Some(IsrOp::Do(words.object(finding)?, Access::Receive))
+        Some(IsrOp::Do(words.object(ObjectSort::Queue, finding)?, Access::Receive))
     } else if is(word, "peek") {
-        Some(IsrOp::Do(words.object(finding)?, Access::Peek))
+        Some(IsrOp::Do(words.object(ObjectSort::Queue, finding)?, Access::Peek))
+    } else if is(word, "give") {
+        let semaphore = words.object(ObjectSort::Semaphore, finding)?;
+        Some(IsrOp::Do(semaphore, Access::Give))
     } else if is(word, "mark") {
         Some(IsrOp::Mark(words.number()?))
     } else {

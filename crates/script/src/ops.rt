@@ -8,7 +8,7 @@ ghost use Rattle.script.specs.Faults.{Judges, JudgesBy, Loads, LoadsBy, at_field
 ghost use Rattle.script.specs.declared.place.Section.TheVariants as section;
 ghost use Rattle.script.specs.declared.place.Key.TheVariants as key;
 ghost use Rattle.script.specs.Finding.{found_by, object_among};
-ghost use Rattle.script.specs.Queues.{named_view, kinds_of};
+ghost use Rattle.script.specs.Objects.{named_view, kinds_of};
 ghost use Rattle.script.specs.Tasks.{raw_view};
 ghost use Rattle.script.specs.Ops.{op_named, is_allowed, spelling_fault, op_fault, ops_fault, ops_named, scripts_fault, with_ops, nesting_with};
 

@@ -7,6 +7,7 @@ ghost use Rattle.script.specs.Finding.{found_by};
 ghost use Rattle.script.specs.Grammar.{words_of, is_number, number_of, answer_of, wait_of, take_by};
 
 use crate::finding::Finding;
+use crate::object_sort::ObjectSort;
 use model::ObjectId;
 use std::marker::Model;
 
@@ -155,12 +156,12 @@ impl<'a> Words<'a> {
         wait_of(self.next()?)
     }
 
-    /// The object that the next word names.
-    pub(crate) fn object(&mut self, finding: Finding<'_>) -> Option<ObjectId>
-        ensures { MatchOption result (take_by (found_by finding.entry) self.old ≡ None)
-            (λ object. take_by (found_by finding.entry) self.old ≡ Some (object, self.new)) }
+    /// The object of this sort that the next word names.
+    pub(crate) fn object(&mut self, sort: ObjectSort, finding: Finding<'_>) -> Option<ObjectId>
+        ensures { MatchOption result (take_by (found_by finding.entry sort) self.old ≡ None)
+            (λ object. take_by (found_by finding.entry sort) self.old ≡ Some (object, self.new)) }
     {
-        finding.object(self.next()?)
+        finding.object(sort, self.next()?)
     }
 
     /// Whether no word is left.

@@ -1,14 +1,23 @@
 //! Interrupt handlers: their ops, and how they come.
 
 use super::SlowKernel;
-use model::{App, HandlerId, IsrOp, What};
+use model::{Access, App, HandlerId, IsrOp, What};
 
 impl SlowKernel {
-    /// An op of a handler: a call is tried once, and never waits.
+    /// A call of a handler is tried once, and never waits.
+    fn attempt_isr(&mut self, object: u8, access: Access) -> Option<u32> {
+        let answer = self.attempt(None, object, access);
+        let is_locked_give = access == Access::Give && self.locked == Some(object);
+        let gives = is_locked_give && answer == Some(1);
+        self.tally.locked_gives = self.tally.locked_gives.saturating_add(gives as u32);
+        answer
+    }
+
+    /// An op of a handler.
     fn isr(&mut self, handler: HandlerId, op_index: u16, op: &IsrOp) {
         let what = match *op {
             IsrOp::Mark(number) => What::IsrMark(handler, number),
-            IsrOp::Do(object, access) => match self.attempt(None, object.number, access) {
+            IsrOp::Do(object, access) => match self.attempt_isr(object.number, access) {
                 Some(answer) => What::Isr(handler, op_index, answer),
                 None => What::IsrNone(handler, op_index),
             },

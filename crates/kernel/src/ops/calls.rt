@@ -1,15 +1,15 @@
-//! Calls on queues that may wait, phase by phase.
+//! Calls on objects that may wait, phase by phase.
 ghost use Rattle.std.specs.Prelude.{◌≡◌, ◌<◌, ◌≤◌, ◌+◌, ◌^◌, ◌||◌, ℕ, false, List, Some, None};
 ghost use Rattle.std.specs.Option.{option_map};
 ghost use Rattle.model.specs.declared.event.Event.{Event};
 ghost use Rattle.model.specs.declared.op.Op.TheVariants as op;
 ghost use Rattle.model.specs.State.{State, go_on};
 ghost use Rattle.model.specs.Waiting as waiting;
-ghost use Rattle.model.specs.Waiting.{set_deadline, unlock};
+ghost use Rattle.model.specs.Waiting.{set_deadline, unlock, wait_in};
 ghost use Rattle.model.specs.declared.call.WaitList as declared;
 ghost use Rattle.model.specs.Objects as definitions;
 ghost use Rattle.model.specs.declared.call.Phase.TheVariants as phase;
-ghost use Rattle.model.specs.Calls.{try, decide, leave_call};
+ghost use Rattle.model.specs.Calls.{try, lock, decide, leave_call};
 ghost use Rattle.model.specs.Step.{act};
 ghost use Rattle.lists.specs.Lists.{place_of};
 ghost use Rattle.clock.specs.Timeline.{is_asleep};
@@ -32,7 +32,7 @@ fn list_for(object: ObjectId, access: Access) -> WaitList
 {
     match access {
         Access::Send(_) | Access::SendFront(_) => WaitList::ToSend(object),
-        Access::Overwrite(_) | Access::Receive | Access::Peek => WaitList::ToReceive(object),
+        _ => WaitList::ToReceive(object),
     }
 }
 
@@ -112,7 +112,7 @@ impl Kernel {
         log: &mut L,
     )
         requires room { 2 ≤ (L.logged log.old).room }
-        requires can { CanTry self.old task object }
+        requires can { CanTry self.old task object access }
         ensures { Does 2 self.old (L.logged log.old) self.new (L.logged log.new)
             (try app.now task object access) }
     {
@@ -121,6 +121,7 @@ impl Kernel {
             self.answer_given(app, task, answer, log);
             self.preempt(log);
         } else if self.is_expired(task) {
+            self.after_timeout(task, object);
             self.answer_given(app, task, refusal(access), log);
         } else {
             self.set_phase(task, Phase::Decide);
@@ -135,29 +136,48 @@ impl Kernel {
         self.queues.possible(object, access) || self.is_expired(task)
     }
 
-    /// The scheduler is held and the queue locked, and the task begins to wait, where its call still isn't possible and its
-    /// deadline hasn't come.
+    /// The scheduler is held and the object locked, and the task begins to wait, where its call still isn't possible and its
+    /// deadline hasn't come: then the holder of a mutex inherits from it first.
     fn decide(&mut self, task: TaskId, object: ObjectId, access: Access)
         requires { CanDecide self.old task }
         ensures { (log : List Event) (s : State) → At self.old log s
             → AtAny self.new log (decide task object access s) }
     {
-        let goes_on = self.need_not_wait(task, object, access);
+        if self.need_not_wait(task, object, access) {
+            self.pass_on(task, object);
+        } else {
+            self.inherit(task, object);
+            self.begin_wait(task, object, access);
+        }
+    }
+
+    /// The scheduler is held and the object locked, and the call goes on without a wait.
+    fn pass_on(&mut self, task: TaskId, object: ObjectId)
+        requires { CanDecide self.old task }
+        ensures { Moves self.old self.new (lock task object phase.Unlock) }
+    {
         self.sched.hold();
         self.queues.lock(object);
-        if goes_on {
-            self.set_phase(task, Phase::Unlock);
-        } else {
-            let call = self.progress(task).call;
-            self.set_call(
-                task,
-                CallProgress {
-                    phase: Phase::Place,
-                    list: Some(list_for(object, access)),
-                    ..call
-                },
-            );
-        }
+        self.set_phase(task, Phase::Unlock);
+    }
+
+    /// The scheduler is held and the object locked, and the task begins to wait.
+    fn begin_wait(&mut self, task: TaskId, object: ObjectId, access: Access)
+        requires { CanDecide self.old task }
+        ensures { (log : List Event) (s : State) → At self.old log s → AtAny self.new log
+            (lock task object phase.Place (wait_in task (definitions.list_for object access) s)) }
+    {
+        self.sched.hold();
+        self.queues.lock(object);
+        let call = self.progress(task).call;
+        self.set_call(
+            task,
+            CallProgress {
+                phase: Phase::Place,
+                list: Some(list_for(object, access)),
+                ..call
+            },
+        );
     }
 
     /// The task is put into its waiting list and, if it waits until a deadline, among those who wake by themselves.
@@ -227,7 +247,7 @@ impl Kernel {
         log: &mut L,
     )
         requires room { 2 ≤ (L.logged log.old).room }
-        requires can { CanGoOn self.old task object ticks (progress_in self.old.progress task).call.phase }
+        requires can { CanGoOn self.old task object access ticks (progress_in self.old.progress task).call.phase }
         ensures { DoesAny 2 self.old (L.logged log.old) self.new (L.logged log.new)
             (act app.now task (op.Await object access ticks)) }
     {

@@ -1,4 +1,4 @@
-//! Calls on queues that don't wait, and the parts of those that do.
+//! Calls on queues and semaphores that don't wait, and the parts of those that do.
 ghost use Rattle.std.specs.Prelude.{◌≡◌, ◌≤◌, ◌+◌, ℕ, Some, true, false};
 ghost use Rattle.model.specs.declared.op.Op.TheVariants as op;
 ghost use Rattle.model.specs.State.{State, Object};
@@ -8,7 +8,7 @@ ghost use Rattle.model.specs.Objects.{allows, answer_to, attempt, fulfil, reply}
 ghost use Rattle.model.specs.Step.{act};
 ghost use Rattle.objects.specs.Items.{object_in};
 ghost use Rattle.kernel.specs.StandsFor.{Stands, Does, Moves, MovesAny};
-ghost use Rattle.kernel.specs.Can.{Can, HasLength, Leaves, Runs, StandsForSome};
+ghost use Rattle.kernel.specs.Can.{Can, HasRoom, IsCaller, Leaves, Runs, StandsForSome};
 
 use crate::kernel::Kernel;
 use crate::log::Log;
@@ -19,8 +19,8 @@ pub(crate) fn refusal(access: Access) -> Option<u32>
     ensures { (o : Object) → allows o access ≡ false → result ≡ reply o access }
 {
     match access {
-        Access::Send(_) | Access::SendFront(_) | Access::Overwrite(_) => Some(0),
         Access::Receive | Access::Peek => None,
+        _ => Some(0),
     }
 }
 
@@ -30,10 +30,11 @@ fn list_woken(caller: Option<TaskId>, object: ObjectId, access: Access) -> Optio
     ensures { result ≡ definitions.list_woken caller object access }
 {
     match access {
-        Access::Send(_) | Access::SendFront(_) | Access::Overwrite(_) => {
+        Access::Send(_) | Access::SendFront(_) | Access::Overwrite(_) | Access::Give => {
             Some(WaitList::ToReceive(object))
         }
         Access::Receive => Some(WaitList::ToSend(object)),
+        Access::Take | Access::Lock => None,
         Access::Peek => {
             caller?;
             Some(WaitList::ToReceive(object))
@@ -43,7 +44,7 @@ fn list_woken(caller: Option<TaskId>, object: ObjectId, access: Access) -> Optio
 
 impl Kernel {
     /// The best waiter of a list is woken, if anyone waits there.
-    fn wake_best(&mut self, list: WaitList)
+    pub(crate) fn wake_best(&mut self, list: WaitList)
         requires { StandsForSome self.old }
         ensures does { Moves self.old self.new (wake_best list) }
         ensures any { MovesAny self.old self.new (wake_best list) }
@@ -56,8 +57,8 @@ impl Kernel {
         }
     }
 
-    /// A possible call is done, of a task or (none) of a handler: the queue changes, and one waiter is woken. It answers what
-    /// the call answers.
+    /// A possible call is done, of the running task or (none) of a handler: the object changes, and one waiter is woken. It
+    /// answers what the call answers.
     // Inlined, it knows whose call it is.
     #[inline(always)]
     pub(crate) fn fulfil(
@@ -68,15 +69,18 @@ impl Kernel {
     ) -> Option<u32>
         requires stands { StandsForSome self.old }
         requires possible { allows (object_in self.old.queues.objects object) access ≡ true }
-        requires length { HasLength self.old object }
+        requires caller { IsCaller self.old caller }
+        requires room { HasRoom self.old object access }
         ensures does { Moves self.old self.new (fulfil caller object access) }
         ensures any { MovesAny self.old self.new (fulfil caller object access) }
         ensures answer { (s : State) → Stands self.old s → result ≡ answer_to s object access }
         ensures leaves { Leaves self.old self.new }
         ensures runs { (task : ℕ) → Runs self.old task → Runs self.new task }
     {
-        let answer = self.queues.carry_out(object, access);
-        if let Some(list) = list_woken(caller, object, access) {
+        // Through a reference, since the borrow checker takes a value that is passed on twice for moved.
+        let caller = &caller;
+        let answer = self.queues.carry_out(*caller, object, access);
+        if let Some(list) = list_woken(*caller, object, access) {
             self.wake_best(list);
         }
         answer
@@ -90,7 +94,8 @@ impl Kernel {
         access: Access,
     ) -> Option<u32>
         requires stands { StandsForSome self.old }
-        requires length { HasLength self.old object }
+        requires caller { IsCaller self.old caller }
+        requires room { HasRoom self.old object access }
         ensures does { Moves self.old self.new (attempt caller object access) }
         ensures any { MovesAny self.old self.new (attempt caller object access) }
         ensures answer { (s : State) → Stands self.old s → result ≡ answer_to s object access }
@@ -104,7 +109,7 @@ impl Kernel {
         }
     }
 
-    /// `overwrite`: the call is done if it is possible, and answers.
+    /// `overwrite` and `give`: the call is done if it is possible, and answers.
     pub(crate) fn do_now<L: Log>(
         &mut self,
         app: &App,

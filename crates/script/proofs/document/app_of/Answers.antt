@@ -1,10 +1,8 @@
 use Rattle.std.proofs.Common.{◌≡◌, arith, subst, sym, map, length}
-use Rattle.std.specs.List.{AllByRecursion}
 use Rattle.std.proofs.lemmas.Grind.{common_steps}
 use Rattle.model.specs.Application.{Application}
-use Rattle.model.specs.Scripts.{IsObjectKind}
 use Rattle.script.specs.Interrupts.{AreInterrupts}
-use Rattle.script.specs.Queues.{named_view, kinds_of}
+use Rattle.script.specs.Objects.{named_view, kinds_of}
 use Rattle.script.proofs.Formed.{are_interrupts, few_come}
 use Rattle.script.proofs.document.app_of.Goals as goal
 
@@ -19,14 +17,14 @@ new-requires c =
       tasks = c.args.tasks.items;
     } in
     let same : c.in_ok-kinds.kinds.items ≡ kinds_of (map named_view c.args.objects.now.items) =
-    subst (λ os. c.in_ok-kinds.kinds.items ≡ kinds_of (map named_view os)) c.as_slice.ensures.value c.in_ok-kinds.ensures.1 in
+    subst (λ os. c.in_ok-kinds.kinds.items ≡ kinds_of (map named_view os)) c.as_slice.ensures.value c.in_ok-kinds.ensures.kinds.1 in
     let copied : c.in_ok-interrupts.interrupts.items ≡ c.args.interrupts.now.items = grind (arith, common_steps) in
     let coming = subst (AreInterrupts (length c.args.handlers.items)) (sym copied) c.requires.interrupts in
     record {
       some = c.requires.some;
       few = c.requires.few;
       tasks = c.requires.formed;
-      objects = subst (AllByRecursion IsObjectKind) (sym same) c.requires.kinds;
+      objects = c.in_ok-kinds.ensures.formed;
       few_objects = grind (arith, common_steps);
       handlers = c.requires.handlers app same;
       few_handlers = c.requires.few_handlers;

@@ -1,6 +1,6 @@
 use Rattle.std.proofs.Common.{◌≡◌, ◌++◌, ◌+◌, drop, map, length}
 use Rattle.toml.specs.View.{items_view}
-use Rattle.script.specs.Queues.{named_view, names_of}
+use Rattle.script.specs.Objects.{named_view, names_of}
 use Rattle.script.specs.Handlers.{handlers_fault, handlers_named, isr_view}
 use Rattle.script.proofs.handlers.handlers_of.Given as goal
 

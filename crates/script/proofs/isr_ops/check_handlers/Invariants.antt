@@ -1,5 +1,5 @@
 use Rattle.std.proofs.Common.{◌≡◌, drop, map}
-use Rattle.script.specs.Queues.{named_view}
+use Rattle.script.specs.Objects.{named_view}
 use Rattle.script.specs.Handlers.{isr_view}
 use Rattle.script.specs.IsrOps.{handler_ops_fault}
 use Rattle.script.proofs.isr_ops.check_handlers.Given as goal

@@ -1,6 +1,6 @@
 use Rattle.std.proofs.Common.{◌≡◌, ◌++◌, drop, map, length}
 use Rattle.toml.specs.View.{items_view}
-use Rattle.script.specs.Queues.{named_view}
+use Rattle.script.specs.Objects.{named_view}
 use Rattle.script.specs.IsrOps.{isr_ops_fault, isr_ops_named}
 use Rattle.script.proofs.isr_ops.ops_of.Given as goal
 

@@ -2,7 +2,7 @@ use Rattle.std.proofs.Common.{◌≡◌, ◌≤◌, sym, subst, map, length, ari
 use Rattle.std.specs.List.{AllByRecursion}
 use Rattle.model.specs.Application.{Handler}
 use Rattle.model.specs.Scripts.{IsHandler, most_name_bytes, most_handler_ops}
-use Rattle.script.specs.Queues.{named_view}
+use Rattle.script.specs.Objects.{named_view}
 use Rattle.std.proofs.lemmas.Grind.{common_steps}
 use Rattle.script.specs.Handlers.{isr_view}
 use Rattle.script.specs.IsrOps.{with_isr_ops}

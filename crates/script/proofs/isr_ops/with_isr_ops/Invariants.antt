@@ -2,7 +2,7 @@ use Rattle.std.proofs.Common.{◌≡◌, ◌≤◌, ◌++◌, drop, map, length}
 use Rattle.std.specs.List.{AllByRecursion}
 use Rattle.model.specs.Application.{Handler}
 use Rattle.model.specs.Scripts.{most_name_bytes, most_handler_ops}
-use Rattle.script.specs.Queues.{named_view}
+use Rattle.script.specs.Objects.{named_view}
 use Rattle.script.specs.Handlers.{isr_view}
 use Rattle.script.specs.IsrOps.{handler_ops_fault, with_isr_ops}
 use Rattle.script.proofs.isr_ops.with_isr_ops.Given as goal

@@ -1,5 +1,5 @@
 use Rattle.std.proofs.Common.{◌≡◌, ◌++◌, drop, map, length}
-use Rattle.script.specs.Queues.{named_view, names_of}
+use Rattle.script.specs.Objects.{named_view, names_of}
 use Rattle.script.proofs.names_so_far.names_of.Given as goal
 
 abbrev pub invariant-loop-object : goal.invariant-loop-object

@@ -1,6 +1,6 @@
 use Rattle.std.proofs.Common.{◌≡◌, drop, map}
 use Rattle.toml.specs.View.{items_view}
-use Rattle.script.specs.Queues.{named_view}
+use Rattle.script.specs.Objects.{named_view}
 use Rattle.script.specs.Ops.{ops_fault}
 use Rattle.script.proofs.ops.check_script.Given as goal
 

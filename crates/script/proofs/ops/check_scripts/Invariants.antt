@@ -1,5 +1,5 @@
 use Rattle.std.proofs.Common.{◌≡◌, drop, map}
-use Rattle.script.specs.Queues.{named_view}
+use Rattle.script.specs.Objects.{named_view}
 use Rattle.script.specs.Tasks.{raw_view}
 use Rattle.script.specs.Ops.{scripts_fault}
 use Rattle.script.proofs.ops.check_scripts.Given as goal

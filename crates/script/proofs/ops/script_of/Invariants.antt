@@ -1,7 +1,7 @@
 use Rattle.std.proofs.Common.{◌≡◌, ◌++◌, drop, map, length}
 use Rattle.toml.specs.View.{items_view}
 use Rattle.model.specs.Scripts.{nesting_after}
-use Rattle.script.specs.Queues.{named_view}
+use Rattle.script.specs.Objects.{named_view}
 use Rattle.script.specs.Ops.{ops_fault, ops_named}
 use Rattle.script.proofs.ops.script_of.Given as goal
 

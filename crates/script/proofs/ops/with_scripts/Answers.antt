@@ -1,7 +1,7 @@
 use Rattle.std.proofs.Common.{◌≡◌, sym, subst, map, arith}
 use Rattle.std.specs.List.{AllByRecursion}
 use Rattle.model.specs.Scripts.{KnowsAll}
-use Rattle.script.specs.Queues.{named_view}
+use Rattle.script.specs.Objects.{named_view}
 use Rattle.std.proofs.lemmas.Grind.{common_steps}
 use Rattle.script.specs.Tasks.{raw_view}
 use Rattle.script.specs.Ops.{with_ops}

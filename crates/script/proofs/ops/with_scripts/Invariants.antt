@@ -1,7 +1,7 @@
 use Rattle.std.proofs.Common.{◌≡◌, ◌++◌, drop, map, length}
 use Rattle.std.specs.List.{AllByRecursion}
 use Rattle.model.specs.Scripts.{IsDefinition}
-use Rattle.script.specs.Queues.{named_view}
+use Rattle.script.specs.Objects.{named_view}
 use Rattle.script.specs.Tasks.{raw_view}
 use Rattle.script.specs.Ops.{scripts_fault, with_ops}
 use Rattle.script.proofs.ops.with_scripts.Given as goal

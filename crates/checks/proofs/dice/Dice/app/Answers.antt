@@ -8,19 +8,19 @@ use Rattle.checks.proofs.dice.Dice.app.Goals as goal
 
 pub new-requires-2 : goal.new-requires-2
 new-requires-2 c =
-    let queues : List ObjectKind = c.in_ok-queues.queues.items in
+    let kinds : List ObjectKind = c.in_ok-objects.objects.items in
     let handlers : List Handler = c.in_ok-handlers.handlers.items in
     let tasks : List Definition = c.in_ok-tasks.tasks.items in
     let app : Application = record {
       start = 4294967295 - c.roll-start.result;
       limits = c.in_ok-limits.limits;
-      objects = queues;
+      objects = kinds;
       handlers = handlers;
       interrupts = c.in_ok-interrupts.interrupts.items;
       tasks = tasks;
     } in
     let four = c.in_ok-tasks.ensures.four in
-    let queues_few = c.in_ok-queues.ensures.few in
+    let objects_few = c.in_ok-objects.ensures.few in
     let three = c.in_ok-handlers.ensures.three in
     let few = c.in_ok-interrupts.ensures.few in
     let formed = c.in_ok-interrupts.ensures.formed in
@@ -28,9 +28,9 @@ new-requires-2 c =
       some = omega arith;
       few = omega arith;
       tasks = c.in_ok-tasks.ensures.tasks;
-      objects = c.in_ok-queues.ensures.kinds;
+      objects = c.in_ok-objects.ensures.kinds;
       few_objects = omega arith;
-      handlers = are_handlers app queues refl handlers (subst (λ (objects : List ObjectKind). AllByRecursion (IsKnownHandler objects) handlers) c.as_slice-2.ensures.value c.in_ok-handlers.ensures.known);
+      handlers = are_handlers app kinds refl handlers (subst (λ (objects : List ObjectKind). AllByRecursion (IsKnownHandler objects) handlers) c.as_slice-2.ensures.value c.in_ok-handlers.ensures.known);
       few_handlers = omega arith;
       interrupts = are_interrupts app three c.in_ok-interrupts.interrupts.items formed.first formed.last formed.known;
       few_interrupts = omega arith;

@@ -9,7 +9,7 @@ pub invariant_of-self : goal.invariant_of-self
 invariant_of-self c =
     let q = c.self.inside in
     let s = c.if-self.self-inside in
-    let P : Inside → Type 0 = λ i. Turned i.lists i.start (2 ^ 32 * i.overflows) i.tick i.current.number i.overflow.number c.args.self.now in
+    let P : Inside → Type 0 = λ i. Turned i.lists i.age (2 ^ 32 * i.overflows) i.tick i.current.number i.overflow.number c.args.self.now in
     let turned : P s = elim c.if-self.branch [
       | then-self w ↦ subst P (sym w.self-inside-is) (rw (w.swap.ensures.x_after, w.swap.ensures.y_after) (turned_over c.self.invariant c.self.view_is (2 ^ 32 * (q.overflows + 1)) (omega arith) (omega (arith, w.if-self.true))))
       | else-self w ↦ subst P (sym w.self-inside-is) (ticked c.self.invariant c.self.view_is (let ne = w.if-self.false in omega (arith, ne)))
@@ -20,7 +20,7 @@ pub returns-clause-advances : goal.returns-clause-advances
 returns-clause-advances c =
     let q = c.self.inside in
     let s = c.if-self.self-inside in
-    let P : Inside → Type 0 = λ i. Turned i.lists i.start (2 ^ 32 * i.overflows) i.tick i.current.number i.overflow.number c.args.self.now in
+    let P : Inside → Type 0 = λ i. Turned i.lists i.age (2 ^ 32 * i.overflows) i.tick i.current.number i.overflow.number c.args.self.now in
     let turned : P s = elim c.if-self.branch [
       | then-self w ↦ subst P (sym w.self-inside-is) (rw (w.swap.ensures.x_after, w.swap.ensures.y_after) (turned_over c.self.invariant c.self.view_is (2 ^ 32 * (q.overflows + 1)) (omega arith) (omega (arith, w.if-self.true))))
       | else-self w ↦ subst P (sym w.self-inside-is) (ticked c.self.invariant c.self.view_is (let ne = w.if-self.false in omega (arith, ne)))

@@ -24,7 +24,7 @@ invariant_of-self c =
     let put = c.insert_sorted.ensures.put in
     let later : q.tick < c.in-Some.wake_tick = omega (arith, some, c.in-Some.ensures.1) in
     let fits : c.in-Some.wake_tick < 2 ^ 32 = omega (arith, c.in-Some.ensures.0, c.in-Some.ensures.1) in
-    let P : List (List (ℕ × ℕ)) → Type 0 = λ ls. IsClock ls q.start (2 ^ 32 * q.overflows) q.tick q.current.number q.overflow.number in
+    let P : List (List (ℕ × ℕ)) → Type 0 = λ ls. IsClock ls q.age (2 ^ 32 * q.overflows) q.tick q.current.number q.overflow.number in
     subst P (sym put) (into_current c.self.invariant c.args.task c.in-Some.wake_tick later fits (subst (IsSound 2 32) put c.insert_sorted.ensures.sound))
 
 pub invariant_of-self-in-None : goal.invariant_of-self-in-None
@@ -33,7 +33,7 @@ invariant_of-self-in-None c =
     let w = (q.tick + c.args.ticks) % 2 ^ 32 in
     let put = c.insert_sorted-in-None.ensures.put in
     let fits : w < 2 ^ 32 = omega arith in
-    let P : List (List (ℕ × ℕ)) → Type 0 = λ ls. IsClock ls q.start (2 ^ 32 * q.overflows) q.tick q.current.number q.overflow.number in
+    let P : List (List (ℕ × ℕ)) → Type 0 = λ ls. IsClock ls q.age (2 ^ 32 * q.overflows) q.tick q.current.number q.overflow.number in
     subst P (sym put) (into_overflow c.self.invariant c.args.task w fits (subst (IsSound 2 32) put c.insert_sorted-in-None.ensures.sound))
 
 pub returns-in-Some-clause-delayed : goal.returns-in-Some-clause-delayed

@@ -1,6 +1,6 @@
 use Rattle.std.proofs.Common.{arith}
 use Rattle.model.specs.declared.op.Op.TheVariants.{Work, Delay, DelayUntil, Yield, Time, Mark, Do, MessagesWaiting, SpacesAvailable}
-use Rattle.kernel.proofs.Either.{acted, does_more, moves_any}
+use Rattle.kernel.proofs.Either.{acted, does_any, does_more, moves_any}
 use Rattle.kernel.proofs.kernel.Kernel.act.Goals as goal
 
 pub returns-in-Work : goal.returns-in-Work
@@ -65,3 +65,8 @@ returns-in-End g c =
 
 pub returns-in-Await : goal.returns-in-Await
 returns-in-Await g c = rw c.in-Await.is (does_more 2 65 _ _ _ _ _ (omega arith) c.go_on_waiting.ensures)
+
+pub returns-in-GiveMutex : goal.returns-in-GiveMutex
+returns-in-GiveMutex g c =
+    let can = rw c.in-GiveMutex.is at c.requires.can in
+    rw c.in-GiveMutex.is (does_more 2 65 _ _ _ _ _ (omega arith) (does_any 2 _ _ _ _ _ can.tick.advance.agrees c.give_mutex.ensures))

@@ -1,38 +1,12 @@
-use Rattle.std.proofs.Common.{◌≡◌, ℕ, true, false, Some, None, ap, sym, subst, refl, ◌∙◌}
-use Rattle.model.specs.declared.call.Phase.TheVariants.{Place, Unlock}
-use Rattle.model.specs.declared.call.WaitList.{WaitList}
-use Rattle.model.specs.State.{Progress, wait_if_awake, status_at}
-use Rattle.model.specs.Calls.{decide}
-use Rattle.sched.specs.StandsFor as sched
-use Rattle.sched.specs.Schedule.{Schedule}
-use Rattle.objects.specs.Queues as queues
-use Rattle.objects.specs.Queues.{CountsNobody}
-use Rattle.kernel.specs.declared.kernel.Kernel.{Kernel}
-use Rattle.kernel.specs.StandsFor.{AtAny, progress_in}
-use Rattle.kernel.proofs.Waits.{gone_on}
-use Rattle.kernel.proofs.Deciding.{declined, held_at, waits}
+use Rattle.std.proofs.Common.{sym, ◌∙◌}
+use Rattle.kernel.proofs.Deciding.{decided_not, decided_to_wait}
+use Rattle.kernel.proofs.Either.{any}
 use Rattle.kernel.proofs.kernel.Kernel.decide.Goals as goal
 
-pub returns-then-goes_on : goal.returns-then-goes_on
-returns-then-goes_on c = λ log s h.
-    let k = c.args.self.now in
-    let mid : Kernel = record k { sched = c.hold.new.self; queues = c.lock.new.self } in
-    let holds : s.call_hold ≡ false → sched.StandsFor c.hold.new.self (record s { call_hold = true }) = λ free. c.hold.ensures.stands s h.stands.sched free in
-    let locks : ((j : ℕ) → wait_if_awake (status_at s j) ≡ None) → queues.StandsFor c.lock.new.self None (record s { locked = Some c.args.object }) = λ nobody. c.lock.ensures.stands s None h.stands.rest.queues nobody in
-    let shut = held_at k log s h c.args.task c.args.object c.args.access c.requires c.hold.new.self c.lock.new.self c.hold.ensures.calm holds c.hold.ensures.schedule locks in
-    let runs = ap (λ (v : Schedule). v.current) c.hold.ensures.schedule ∙ c.requires.runs.current in
-    declined k log s h c.args.task c.args.object c.args.access c.requires c.hold.new.self c.lock.new.self c.hold.ensures.calm holds c.hold.ensures.schedule locks c.set_phase.new.self
-    (sym (c.need_not_wait-goes_on.ensures s h.stands) ∙ c.if-goes_on.true)
-    (gone_on mid c.set_phase.new.self log _ shut c.args.task runs Unlock c.set_phase.ensures (λ e. absurd (cc)))
+pub returns-then-need_not_wait : goal.returns-then-need_not_wait
+returns-then-need_not_wait c = λ log s h.
+    decided_not c.pass_on.new.self log s c.args.task c.args.object c.args.access (sym (c.need_not_wait.ensures s h.stands) ∙ c.if-need_not_wait.true) (any _ log _ (c.pass_on.ensures log s h))
 
-pub returns-else-goes_on : goal.returns-else-goes_on
-returns-else-goes_on c = λ log s h.
-    let k = c.args.self.now in
-    let holds : s.call_hold ≡ false → sched.StandsFor c.hold.new.self (record s { call_hold = true }) = λ free. c.hold.ensures.stands s h.stands.sched free in
-    let locks : ((j : ℕ) → wait_if_awake (status_at s j) ≡ None) → queues.StandsFor c.lock.new.self None (record s { locked = Some c.args.object }) = λ nobody. c.lock.ensures.stands s None h.stands.rest.queues nobody in
-    let view = c.behind-self.view_is ∙ c.progress.ensures in
-    let own : Progress = progress_in k.progress c.args.task in
-    let called = ap (λ (x : Progress). record own { call = record x.call { phase = Place; list = Some c.list_for.result } }) view ∙ ap (λ (l : WaitList). record own { call = record own.call { phase = Place; list = Some l } }) c.list_for.ensures in
-    subst (λ (x : Kernel). AtAny x log (decide c.args.task c.args.object c.args.access s)) (sym c.set_call.ensures)
-    (waits k log s h c.args.task c.args.object c.args.access c.requires c.hold.new.self c.lock.new.self c.hold.ensures.calm holds c.hold.ensures.schedule locks
-    (sym (c.need_not_wait-goes_on.ensures s h.stands) ∙ c.if-goes_on.false) (subst CountsNobody (sym c.lock.ensures.lock) (refl, refl)) _ called)
+pub returns-else-need_not_wait : goal.returns-else-need_not_wait
+returns-else-need_not_wait c = λ log s h.
+    decided_to_wait c.begin_wait.new.self log s c.args.task c.args.object c.args.access (sym (c.need_not_wait.ensures s h.stands) ∙ c.if-need_not_wait.false) (c.begin_wait.ensures log _ (c.inherit.ensures.does log s h))

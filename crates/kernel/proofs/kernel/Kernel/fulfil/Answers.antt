@@ -1,20 +1,19 @@
 use Rattle.std.proofs.Common.{None, refl, sym, ◌∙◌}
-use Rattle.kernel.proofs.Calling.{answers, fulfilled, fulfilled_any, fulfilled_none, fulfilled_none_any, long_still, stored_any, stored_some}
-use Rattle.kernel.proofs.Waits.{stored_at}
+use Rattle.kernel.proofs.Calling.{answers, fulfilled, fulfilled_any, fulfilled_none, fulfilled_none_any, room_still, stored_any, stored_placed, stored_some}
 use Rattle.kernel.proofs.kernel.Kernel.fulfil.Goals as goal
 
 pub wake_best-requires : goal.wake_best-requires
-wake_best-requires c = stored_some c.args.self.now c.carry_out-answer.new.self c.args.caller c.args.object c.args.access (λ s d h. c.carry_out-answer.ensures.stands s d c.args.caller h) c.requires.stands
+wake_best-requires c = stored_some c.args.self.now c.carry_out-answer.new.self c.args.caller c.args.object c.args.access c.requires.caller (λ s d h l. c.carry_out-answer.ensures.stands s d h l) c.requires.stands
 
 pub returns-in-Some-clause-does : goal.returns-in-Some-clause-does
 returns-in-Some-clause-does c = λ log s h.
-    fulfilled c.args.self.now c.carry_out-answer.new.self c.args.caller c.args.object c.args.access (λ s d h. c.carry_out-answer.ensures.stands s d c.args.caller h) c.wake_best.new.self log s c.in-Some.list (sym c.in-Some.is ∙ c.list_woken.ensures)
-    (c.wake_best.ensures.does log _ (stored_at c.args.self.now log s h c.args.object _ c.carry_out-answer.new.self (c.carry_out-answer.ensures.stands s None c.args.caller h.stands.rest.queues)))
+    fulfilled c.args.self.now c.carry_out-answer.new.self c.args.caller c.args.object c.args.access c.requires.caller (λ s d h l. c.carry_out-answer.ensures.stands s d h l) c.wake_best.new.self log s c.in-Some.list (sym c.in-Some.is ∙ c.list_woken.ensures)
+    (c.wake_best.ensures.does log _ (stored_placed c.args.self.now c.carry_out-answer.new.self c.args.caller c.args.object c.args.access c.requires.caller (λ s d h l. c.carry_out-answer.ensures.stands s d h l) log s h))
 
 pub returns-in-Some-clause-any : goal.returns-in-Some-clause-any
 returns-in-Some-clause-any c = λ log s h.
-    fulfilled_any c.args.self.now c.carry_out-answer.new.self c.args.caller c.args.object c.args.access (λ s d h. c.carry_out-answer.ensures.stands s d c.args.caller h) c.wake_best.new.self log s c.in-Some.list (sym c.in-Some.is ∙ c.list_woken.ensures)
-    (c.wake_best.ensures.any log _ (stored_any c.args.self.now c.carry_out-answer.new.self c.args.caller c.args.object c.args.access (λ s d h. c.carry_out-answer.ensures.stands s d c.args.caller h) log s h))
+    fulfilled_any c.args.self.now c.carry_out-answer.new.self c.args.caller c.args.object c.args.access c.requires.caller (λ s d h l. c.carry_out-answer.ensures.stands s d h l) c.wake_best.new.self log s c.in-Some.list (sym c.in-Some.is ∙ c.list_woken.ensures)
+    (c.wake_best.ensures.any log _ (stored_any c.args.self.now c.carry_out-answer.new.self c.args.caller c.args.object c.args.access c.requires.caller (λ s d h l. c.carry_out-answer.ensures.stands s d h l) log s h))
 
 pub returns-in-Some-clause-answer : goal.returns-in-Some-clause-answer
 returns-in-Some-clause-answer c = λ s h. answers c.args.self.now s c.args.object c.args.access c.carry_out-answer.result h c.carry_out-answer.ensures.answer
@@ -22,18 +21,18 @@ returns-in-Some-clause-answer c = λ s h. answers c.args.self.now s c.args.objec
 pub returns-in-Some-clause-leaves : goal.returns-in-Some-clause-leaves
 returns-in-Some-clause-leaves c = record {
   depth = c.wake_best.ensures.leaves.depth;
-  lengths = λ j long. c.wake_best.ensures.leaves.lengths j (long_still c.args.self.now c.carry_out-answer.new.self c.args.caller c.args.object c.args.access (c.carry_out-answer.ensures.objects c.args.caller) j long);
+  objects = λ j b room. c.wake_best.ensures.leaves.objects j b (room_still c.args.self.now c.carry_out-answer.new.self c.args.caller c.args.object c.args.access c.carry_out-answer.ensures.objects j b room);
 }
 
 pub returns-in_default-clause-does : goal.returns-in_default-clause-does
 returns-in_default-clause-does c = λ log s h.
-    fulfilled_none c.args.self.now c.carry_out-answer.new.self c.args.caller c.args.object c.args.access (λ s d h. c.carry_out-answer.ensures.stands s d c.args.caller h) _ log s (sym c.in_default.is ∙ c.list_woken.ensures)
-    (stored_at c.args.self.now log s h c.args.object _ c.carry_out-answer.new.self (c.carry_out-answer.ensures.stands s None c.args.caller h.stands.rest.queues))
+    fulfilled_none c.args.self.now c.carry_out-answer.new.self c.args.caller c.args.object c.args.access c.requires.caller (λ s d h l. c.carry_out-answer.ensures.stands s d h l) _ log s (sym c.in_default.is ∙ c.list_woken.ensures)
+    (stored_placed c.args.self.now c.carry_out-answer.new.self c.args.caller c.args.object c.args.access c.requires.caller (λ s d h l. c.carry_out-answer.ensures.stands s d h l) log s h)
 
 pub returns-in_default-clause-any : goal.returns-in_default-clause-any
 returns-in_default-clause-any c = λ log s h.
-    fulfilled_none_any c.args.self.now c.carry_out-answer.new.self c.args.caller c.args.object c.args.access (λ s d h. c.carry_out-answer.ensures.stands s d c.args.caller h) _ log s (sym c.in_default.is ∙ c.list_woken.ensures)
-    (stored_any c.args.self.now c.carry_out-answer.new.self c.args.caller c.args.object c.args.access (λ s d h. c.carry_out-answer.ensures.stands s d c.args.caller h) log s h)
+    fulfilled_none_any c.args.self.now c.carry_out-answer.new.self c.args.caller c.args.object c.args.access c.requires.caller (λ s d h l. c.carry_out-answer.ensures.stands s d h l) _ log s (sym c.in_default.is ∙ c.list_woken.ensures)
+    (stored_any c.args.self.now c.carry_out-answer.new.self c.args.caller c.args.object c.args.access c.requires.caller (λ s d h l. c.carry_out-answer.ensures.stands s d h l) log s h)
 
 pub returns-in_default-clause-answer : goal.returns-in_default-clause-answer
 returns-in_default-clause-answer c = λ s h. answers c.args.self.now s c.args.object c.args.access c.carry_out-answer.result h c.carry_out-answer.ensures.answer
@@ -41,5 +40,5 @@ returns-in_default-clause-answer c = λ s h. answers c.args.self.now s c.args.ob
 pub returns-in_default-clause-leaves : goal.returns-in_default-clause-leaves
 returns-in_default-clause-leaves c = record {
   depth = refl;
-  lengths = λ j long. long_still c.args.self.now c.carry_out-answer.new.self c.args.caller c.args.object c.args.access (c.carry_out-answer.ensures.objects c.args.caller) j long;
+  objects = λ j b room. room_still c.args.self.now c.carry_out-answer.new.self c.args.caller c.args.object c.args.access c.carry_out-answer.ensures.objects j b room;
 }

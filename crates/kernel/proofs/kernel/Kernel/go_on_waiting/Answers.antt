@@ -11,7 +11,7 @@ use Rattle.kernel.proofs.kernel.Kernel.go_on_waiting.Goals as goal
 pub try_call-requires-clause-can : goal.try_call-requires-clause-can
 try_call-requires-clause-can g c =
     let e = ap (λ (p : Progress). p.call.phase) (sym (c.behind-self.view_is ∙ c.progress.ensures)) ∙ c.in-Start.is in
-    let can = subst (CanGoOn c.args.self.now c.args.task c.args.object c.args.ticks) e c.requires.can in
+    let can = subst (CanGoOn c.args.self.now c.args.task c.args.object c.args.access c.args.ticks) e c.requires.can in
     let runs = can.0.runs in
     record {
       runs = record {
@@ -22,47 +22,47 @@ try_call-requires-clause-can g c =
       agrees = agrees_after c.args.self.now c.set_deadline.new.self [] [] can.0.agrees _ (λ s h. c.set_deadline.ensures.does [] s h);
       free = ap (λ (q : Exchange). q.lock) c.set_deadline.ensures.parts.1 ∙ can.0.free;
       depth = ap (λ (v : Schedule). v.depth) c.set_deadline.ensures.parts.0 ∙ can.0.depth;
-      length = rw c.set_deadline.ensures.parts.1 can.0.length;
+      room = rw c.set_deadline.ensures.parts.1 can.0.room;
     }
 
 pub returns-in-Start : goal.returns-in-Start
 returns-in-Start g c =
     let e = ap (λ (p : Progress). p.call.phase) (sym (c.behind-self.view_is ∙ c.progress.ensures)) ∙ c.in-Start.is in
-    let can = subst (CanGoOn c.args.self.now c.args.task c.args.object c.args.ticks) e c.requires.can in
+    let can = subst (CanGoOn c.args.self.now c.args.task c.args.object c.args.access c.args.ticks) e c.requires.can in
     in_phase c.args.app.now c.args.self.now c.try_call.new.self (g.L.Log.logged c.args.log.now) (g.L.Log.logged c.try_call.new.log) c.args.task c.args.object c.args.access c.args.ticks Start e
     (does_any 2 c.args.self.now c.try_call.new.self (g.L.Log.logged c.args.log.now) (g.L.Log.logged c.try_call.new.log) _ can.0.agrees (record { at = λ s h. c.try_call.ensures.at _ (c.set_deadline.ensures.does _ s h); few = c.try_call.ensures.few; before = c.try_call.ensures.before }))
 
 pub returns-in-Try : goal.returns-in-Try
 returns-in-Try g c =
     let e = ap (λ (p : Progress). p.call.phase) (sym (c.behind-self.view_is ∙ c.progress.ensures)) ∙ c.in-Try.is in
-    let can = subst (CanGoOn c.args.self.now c.args.task c.args.object c.args.ticks) e c.requires.can in
+    let can = subst (CanGoOn c.args.self.now c.args.task c.args.object c.args.access c.args.ticks) e c.requires.can in
     in_phase c.args.app.now c.args.self.now c.try_call-in-Try.new.self (g.L.Log.logged c.args.log.now) (g.L.Log.logged c.try_call-in-Try.new.log) c.args.task c.args.object c.args.access c.args.ticks Try e
     (does_any 2 c.args.self.now c.try_call-in-Try.new.self (g.L.Log.logged c.args.log.now) (g.L.Log.logged c.try_call-in-Try.new.log) _ can.agrees c.try_call-in-Try.ensures)
 
 pub returns-in-Decide : goal.returns-in-Decide
 returns-in-Decide g c =
     let e = ap (λ (p : Progress). p.call.phase) (sym (c.behind-self.view_is ∙ c.progress.ensures)) ∙ c.in-Decide.is in
-    let can = subst (CanGoOn c.args.self.now c.args.task c.args.object c.args.ticks) e c.requires.can in
+    let can = subst (CanGoOn c.args.self.now c.args.task c.args.object c.args.access c.args.ticks) e c.requires.can in
     in_phase c.args.app.now c.args.self.now c.decide.new.self (g.L.Log.logged c.args.log.now) (g.L.Log.logged c.args.log.now) c.args.task c.args.object c.args.access c.args.ticks Decide e
     (record { at = λ s h. c.decide.ensures _ s (all_placed c.args.self.now can.agrees _ s h); few = omega arith; before = refl })
 
 pub returns-in-Place : goal.returns-in-Place
 returns-in-Place g c =
     let e = ap (λ (p : Progress). p.call.phase) (sym (c.behind-self.view_is ∙ c.progress.ensures)) ∙ c.in-Place.is in
-    let can = subst (CanGoOn c.args.self.now c.args.task c.args.object c.args.ticks) e c.requires.can in
+    let can = subst (CanGoOn c.args.self.now c.args.task c.args.object c.args.access c.args.ticks) e c.requires.can in
     in_phase c.args.app.now c.args.self.now c.place.new.self (g.L.Log.logged c.args.log.now) (g.L.Log.logged c.args.log.now) c.args.task c.args.object c.args.access c.args.ticks Place e
     (record { at = λ s h. any c.place.new.self _ _ (c.place.ensures _ s h); few = omega arith; before = refl })
 
 pub returns-in-Unlock : goal.returns-in-Unlock
 returns-in-Unlock g c =
     let e = ap (λ (p : Progress). p.call.phase) (sym (c.behind-self.view_is ∙ c.progress.ensures)) ∙ c.in-Unlock.is in
-    let can = subst (CanGoOn c.args.self.now c.args.task c.args.object c.args.ticks) e c.requires.can in
+    let can = subst (CanGoOn c.args.self.now c.args.task c.args.object c.args.access c.args.ticks) e c.requires.can in
     in_phase c.args.app.now c.args.self.now c.unlock.new.self (g.L.Log.logged c.args.log.now) (g.L.Log.logged c.args.log.now) c.args.task c.args.object c.args.access c.args.ticks Unlock e
     (moves_any 2 c.args.self.now c.unlock.new.self (g.L.Log.logged c.args.log.now) _ can.agrees c.unlock.ensures)
 
 pub returns-in-Leave : goal.returns-in-Leave
 returns-in-Leave g c =
     let e = ap (λ (p : Progress). p.call.phase) (sym (c.behind-self.view_is ∙ c.progress.ensures)) ∙ c.in-Leave.is in
-    let can = subst (CanGoOn c.args.self.now c.args.task c.args.object c.args.ticks) e c.requires.can in
+    let can = subst (CanGoOn c.args.self.now c.args.task c.args.object c.args.access c.args.ticks) e c.requires.can in
     in_phase c.args.app.now c.args.self.now c.leave_call.new.self (g.L.Log.logged c.args.log.now) (g.L.Log.logged c.leave_call.new.log) c.args.task c.args.object c.args.access c.args.ticks Leave e
     (does_more 1 2 c.args.self.now c.leave_call.new.self (g.L.Log.logged c.args.log.now) (g.L.Log.logged c.leave_call.new.log) _ (omega arith) (does_any 1 c.args.self.now c.leave_call.new.self (g.L.Log.logged c.args.log.now) (g.L.Log.logged c.leave_call.new.log) _ can.call.agrees c.leave_call.ensures))

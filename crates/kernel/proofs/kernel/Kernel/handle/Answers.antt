@@ -3,16 +3,16 @@ use Rattle.model.specs.declared.op.IsrOp.{IsrOp}
 use Rattle.model.specs.Handlers.{isr_each, handle}
 use Rattle.kernel.specs.StandsFor.{At, AtAny}
 use Rattle.kernel.proofs.Ending.{stood_after}
-use Rattle.kernel.proofs.Handling.{handler_short, leaves_both, long_after, op_long, op_more}
+use Rattle.kernel.proofs.Handling.{handler_short, leaves_both, room_after, op_fits, op_more}
 use Rattle.kernel.proofs.kernel.Kernel.handle.Goals as goal
 
 pub isr-requires-clause-stands : goal.isr-requires-clause-stands
 isr-requires-clause-stands g c = stood_after _ c.args.self.now c.loop-op_index.self _ _ _ c.requires.stands c.loop-op_index.invariant.any
 
-pub isr-requires-clause-length : goal.isr-requires-clause-length
-isr-requires-clause-length g c =
+pub isr-requires-clause-object : goal.isr-requires-clause-object
+isr-requires-clause-object g c =
     let ops : List IsrOp = c.handler_ops-ops.result.now in
-    op_long c.args.app.now c.well_formed-2.ensures c.loop-op_index.self c.args.handler c.loop-op_index.op_index c.index-ops-op_index.result (long_after c.args.app.now c.args.self.now c.loop-op_index.self c.requires.lengths c.loop-op_index.invariant.leaves)
+    op_fits c.args.app.now c.well_formed-2.ensures c.loop-op_index.self c.args.handler c.loop-op_index.op_index c.index-ops-op_index.result (room_after c.args.app.now c.args.self.now c.loop-op_index.self c.requires.objects c.loop-op_index.invariant.leaves)
     (subst (λ (xs : List IsrOp). c.loop-op_index.op_index < length xs) c.handler_ops-ops.ensures c.loop-op_index-test.true)
     (subst (λ (xs : List IsrOp). c.index-ops-op_index.result ≡ get_or xs c.loop-op_index.op_index c.index-ops-op_index.result) c.handler_ops-ops.ensures c.index-ops-op_index.is)
 

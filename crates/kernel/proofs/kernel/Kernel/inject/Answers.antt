@@ -1,7 +1,8 @@
 use Rattle.std.proofs.Common.{◌<◌, arith, ◌∙◌, subst, sym}
 use Rattle.objects.specs.Items.{object_in}
+use Rattle.objects.specs.Queues.{HasRoom}
 use Rattle.objects.specs.Queues.{Exchange}
-use Rattle.kernel.proofs.Handling.{injected_free, injected_held, long_after}
+use Rattle.kernel.proofs.Handling.{injected_free, injected_held, room_after}
 use Rattle.kernel.proofs.kernel.Kernel.inject.Goals as goal
 
 pub returns-then-not-is_held-clause-does : goal.returns-then-not-is_held-clause-does
@@ -11,9 +12,9 @@ returns-then-not-is_held-clause-does g c = record {
   before = c.preempt.ensures.does.before ∙ c.handle.ensures.any.before;
 }
 
-pub returns-then-not-is_held-clause-lengths : goal.returns-then-not-is_held-clause-lengths
-returns-then-not-is_held-clause-lengths g c = λ o a fit.
-    subst (λ (q : Exchange). 0 < (object_in q.objects o).size) (sym c.preempt.ensures.queues) (long_after c.args.app.now c.args.self.now c.handle.new.self c.requires.lengths c.handle.ensures.leaves o a fit)
+pub returns-then-not-is_held-clause-objects : goal.returns-then-not-is_held-clause-objects
+returns-then-not-is_held-clause-objects g c = λ o a fit.
+    subst (λ (q : Exchange). HasRoom a (object_in q.objects o)) (sym c.preempt.ensures.queues) (room_after c.args.app.now c.args.self.now c.handle.new.self c.requires.objects c.handle.ensures.leaves o a fit)
 
 pub returns-else-not-is_held-clause-does : goal.returns-else-not-is_held-clause-does
 returns-else-not-is_held-clause-does g c = record {

@@ -21,7 +21,7 @@ loop-handler-preserved g c =
         few = let a = so.any.few in let b = c.inject.ensures.does.few in omega arith;
         before = c.inject.ensures.does.before ∙ so.any.before;
       };
-      lengths = c.inject.ensures.lengths;
+      objects = c.inject.ensures.objects;
     }
 
 pub returns : goal.returns

@@ -2,11 +2,11 @@ use Rattle.std.proofs.Common.{◌*◌, take}
 use Rattle.model.specs.State.{for_each}
 use Rattle.model.specs.Handlers.{inject}
 use Rattle.kernel.specs.StandsFor.{DoesAny}
-use Rattle.kernel.specs.Can.{HasLengths}
+use Rattle.kernel.specs.Can.{HasObjects}
 use Rattle.kernel.proofs.kernel.Kernel.inject_all.Given as goal
 
 abbrev pub invariant-loop-handler : goal.invariant-loop-handler
 invariant-loop-handler g l = record {
   any : DoesAny (17 * l.handler-index) l.fn.self (g.L.Log.logged l.fn.log) l.self (g.L.Log.logged l.log) (for_each (inject l.app) (take l.handler-index l.handlers));
-  lengths : HasLengths l.app l.self;
+  objects : HasObjects l.app l.self;
 }

@@ -6,7 +6,7 @@ use Rattle.model.specs.Handlers.{handle, interrupt}
 use Rattle.kernel.specs.StandsFor.{At}
 use Rattle.kernel.specs.StandsFor.Stands.{Placed}
 use Rattle.kernel.proofs.Acting.{agrees_after}
-use Rattle.kernel.proofs.Handling.{leaves_both, long_after, mapped_at, one_more}
+use Rattle.kernel.proofs.Handling.{leaves_both, room_after, mapped_at, one_more}
 use Rattle.kernel.proofs.kernel.Kernel.interrupt_at_tick.Goals as goal
 
 pub handle-requires-clause-room : goal.handle-requires-clause-room
@@ -23,8 +23,8 @@ handle-requires-clause-stands g c =
     let a = agrees_after c.args.self.now c.loop-interrupt.self _ _ c.requires.agrees _ c.loop-interrupt.invariant.does.at in
     (a.0, Placed a.1)
 
-pub handle-requires-clause-lengths : goal.handle-requires-clause-lengths
-handle-requires-clause-lengths g c = long_after c.args.app.now c.args.self.now c.loop-interrupt.self c.requires.lengths c.loop-interrupt.invariant.leaves
+pub handle-requires-clause-objects : goal.handle-requires-clause-objects
+handle-requires-clause-objects g c = room_after c.args.app.now c.args.self.now c.loop-interrupt.self c.requires.objects c.loop-interrupt.invariant.leaves
 
 pub loop-interrupt-preserved : goal.loop-interrupt-preserved
 loop-interrupt-preserved g c =

@@ -3,7 +3,7 @@ use Rattle.sched.specs.Schedule.{Schedule, lined_up}
 use Rattle.clock.specs.StandsFor.{tasks_at}
 use Rattle.model.specs.Step.{nobody_ready}
 use Rattle.model.proofs.Reached.{reached_nobody}
-use Rattle.kernel.proofs.Booting.{none_ready, none_due, priority_at, queues_at_reset, nobody_awake-reset, none_placing}
+use Rattle.kernel.proofs.Booting.{none_ready, none_due, priority_at, base_priority_at, queues_at_reset, nobody_awake-reset, none_placing}
 use Rattle.kernel.proofs.kernel.Kernel.nobody_ready.Goals as goal
 
 pub returns-clause-stands : goal.returns-clause-stands
@@ -15,6 +15,7 @@ returns-clause-stands c =
         ready = ap lined_up c.new.ensures.new ∙ sym (none_ready c.args.app.now.start c.args.app.now.tasks);
         current = ap (λ (v : Schedule). v.current) c.new.ensures.new;
         priorities = λ i. rw c.new.ensures.new (c.priorities_of.ensures.priorities i ∙ rw c.tasks-2.ensures (priority_at c.args.app.now.start c.args.app.now.tasks i));
+        base_priorities = λ i. rw c.new.ensures.new (c.priorities_of.ensures.priorities i ∙ rw c.tasks-2.ensures (base_priority_at c.args.app.now.start c.args.app.now.tasks i));
         depth = ap (λ (v : Schedule). v.depth) c.new.ensures.new;
         table = table;
       };
@@ -31,7 +32,7 @@ returns-clause-stands c =
         };
         steps = refl;
         stopped = refl;
-        queues = queues_at_reset c.args.app.now c.new-3.result (c.new-3.ensures.stands c.args.app.now c.well_formed-2.ensures.few c.lengths_of.ensures.lengths) table;
+        queues = queues_at_reset c.args.app.now c.new-3.result (c.new-3.ensures.stands c.args.app.now (sym c.objects.ensures) c.well_formed-2.ensures.few) table;
         awake = nobody_awake-reset c.args.app.now;
         placed = none_placing c.args.app.now c.progress_of.result (λ i. c.progress_of.ensures.progress i ∙ rw (c.tasks.ensures, c.start.ensures) refl);
       };

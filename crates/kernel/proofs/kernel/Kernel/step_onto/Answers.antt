@@ -1,5 +1,5 @@
 use Rattle.model.specs.Step.{step}
-use Rattle.kernel.proofs.Bounds.{can_act_after, long_enough, stood}
+use Rattle.kernel.proofs.Bounds.{can_act_after, has_objects, stood}
 use Rattle.kernel.proofs.Either.{steps_are}
 use Rattle.kernel.proofs.Ending.{begun, handled_before, stepped}
 use Rattle.kernel.proofs.kernel.Kernel.step_onto.Goals as goal
@@ -7,8 +7,8 @@ use Rattle.kernel.proofs.kernel.Kernel.step_onto.Goals as goal
 pub inject_all-requires-clause-stands : goal.inject_all-requires-clause-stands
 inject_all-requires-clause-stands g c = stood c.args.app.now c.well_formed-2.ensures c.args.self.now c.requires.going
 
-pub inject_all-requires-clause-lengths : goal.inject_all-requires-clause-lengths
-inject_all-requires-clause-lengths g c = long_enough c.args.app.now c.well_formed-2.ensures c.args.self.now c.requires.going
+pub inject_all-requires-clause-objects : goal.inject_all-requires-clause-objects
+inject_all-requires-clause-objects g c = has_objects c.args.app.now c.well_formed-2.ensures c.args.self.now c.requires.going
 
 pub act_current-requires-clause-can : goal.act_current-requires-clause-can
 act_current-requires-clause-can g c =

@@ -1,14 +1,14 @@
 use Rattle.std.proofs.Common.{◌∙◌, [], arith}
 use Rattle.model.specs.Handlers.{tick_interrupt}
 use Rattle.kernel.proofs.Acting.{agrees_after}
-use Rattle.kernel.proofs.Handling.{long_after}
+use Rattle.kernel.proofs.Handling.{room_after}
 use Rattle.kernel.proofs.kernel.Kernel.tick_interrupt.Goals as goal
 
 pub interrupt-requires-clause-agrees : goal.interrupt-requires-clause-agrees
 interrupt-requires-clause-agrees g c = agrees_after c.args.self.now c.increment_tick.new.self [] [] c.requires.can.advance.agrees _ (λ s h. c.increment_tick.ensures.does [] s h)
 
-pub interrupt-requires-clause-lengths : goal.interrupt-requires-clause-lengths
-interrupt-requires-clause-lengths g c = long_after c.args.app.now c.args.self.now c.increment_tick.new.self c.requires.can.lengths c.increment_tick.ensures.leaves
+pub interrupt-requires-clause-objects : goal.interrupt-requires-clause-objects
+interrupt-requires-clause-objects g c = room_after c.args.app.now c.args.self.now c.increment_tick.new.self c.requires.can.objects c.increment_tick.ensures.leaves
 
 pub slice-requires-clause-free : goal.slice-requires-clause-free
 slice-requires-clause-free g c = c.interrupt.ensures.leaves.depth ∙ c.increment_tick.ensures.leaves.depth ∙ c.requires.can.depth

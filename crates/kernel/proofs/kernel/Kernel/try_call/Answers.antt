@@ -3,6 +3,7 @@ use Rattle.model.specs.declared.call.Phase.TheVariants.{Decide}
 use Rattle.model.specs.State.{object_at}
 use Rattle.model.specs.Ops.{answer}
 use Rattle.model.specs.Objects.{fulfil}
+use Rattle.model.specs.Mutexes.{after_timeout}
 use Rattle.model.specs.Switching.{preempt}
 use Rattle.kernel.specs.StandsFor.{At}
 use Rattle.kernel.specs.StandsFor.Stands.{Placed}
@@ -30,7 +31,7 @@ returns-then-is_expired g c = record {
       let told = (g.L.Log.logged c.answer_given-then-is_expired.new.log).told in
       let not = sym (c.possible.ensures.stands s None h.stands.rest.queues) ∙ c.if-possible.false in
       tried_late app c.answer_given-then-is_expired.new.self told s i c.args.object c.args.access not (sym (c.is_expired.ensures s h.stands) ∙ c.if-is_expired.true)
-      (subst (λ (a : Option ℕ). At c.answer_given-then-is_expired.new.self told (answer app i a s)) (c.refusal.ensures (object_at s c.args.object) not) (c.answer_given-then-is_expired.ensures.does.at s h));
+      (subst (λ (a : Option ℕ). At c.answer_given-then-is_expired.new.self told (answer app i a (after_timeout i c.args.object s))) (c.refusal.ensures (object_at s c.args.object) not) (c.answer_given-then-is_expired.ensures.does.at _ (c.after_timeout.ensures.does _ s h)));
   few = let a = c.answer_given-then-is_expired.ensures.does.few in omega arith;
   before = c.answer_given-then-is_expired.ensures.does.before;
 }

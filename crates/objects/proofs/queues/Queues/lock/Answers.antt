@@ -1,4 +1,5 @@
 use Rattle.std.proofs.Common.{sym, subst}
+use Rattle.objects.specs.Objects.{objects_of_all}
 use Rattle.objects.specs.Queues.{Exchange, StandsFor}
 use Rattle.objects.proofs.Locking.{stands_locked}
 use Rattle.objects.proofs.queues.Queues.lock.Goals as goal
@@ -6,5 +7,5 @@ use Rattle.objects.proofs.queues.Queues.lock.Goals as goal
 pub returns-clause-stands : goal.returns-clause-stands
 returns-clause-stands c = λ s d h nobody.
     let q = c.self.inside in
-    let v : Exchange = record { objects = q.items; waiting = q.waiting; lock = q.lock } in
+    let v : Exchange = record { objects = objects_of_all q.items q.semaphores q.mutexes; waiting = q.waiting; lock = q.lock } in
     stands_locked v d s c.args.object (subst (λ (v : Exchange). StandsFor v d s) (sym c.self.view_is) h) nobody

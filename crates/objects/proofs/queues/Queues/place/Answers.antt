@@ -1,10 +1,11 @@
 use Rattle.std.proofs.Common.{Some, sym, subst}
+use Rattle.objects.specs.Objects.{objects_of_all}
 use Rattle.objects.specs.Queues.{Exchange, StandsFor}
 use Rattle.objects.proofs.queues.Queues.place.Goals as goal
 
 pub returns-clause-stands : goal.returns-clause-stands
 returns-clause-stands c = λ s h.
     let q = c.self.inside in
-    let before : StandsFor (record { objects = q.items; waiting = q.waiting; lock = q.lock }) (Some (record { task = c.args.task; list = c.args.list; priority = c.args.priority })) s =
+    let before : StandsFor (record { objects = objects_of_all q.items q.semaphores q.mutexes; waiting = q.waiting; lock = q.lock }) (Some (record { task = c.args.task; list = c.args.list; priority = c.args.priority })) s =
     subst (λ (v : Exchange). StandsFor v (Some (record { task = c.args.task; list = c.args.list; priority = c.args.priority })) s) (sym c.self.view_is) h in
     record { objects = before.objects; waiters = c.wait.ensures.places s before.waiters; locked = before.locked; counts = before.counts }

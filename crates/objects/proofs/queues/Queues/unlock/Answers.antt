@@ -1,5 +1,6 @@
 use Rattle.std.proofs.Common.{◌≡◌, rules, Option, Some, None, sym, ◌∙◌, ap, subst}
 use Rattle.std.specs.Option.{IfSome}
+use Rattle.objects.specs.Objects.{objects_of_all}
 use Rattle.objects.specs.declared.lock.Lock.{Lock}
 use Rattle.objects.specs.Queues.{AreCounted, Exchange, StandsFor, after_unlock}
 use Rattle.objects.proofs.Locking.{standing_locked, stands_unlocked, stands_unlocked_none}
@@ -13,7 +14,7 @@ returns-in_err-lock-clause-stands c = λ s h.
 pub returns-clause-stands : goal.returns-clause-stands
 returns-clause-stands c = λ s h.
     let q = c.self.inside in
-    let v : Exchange = record { objects = q.items; waiting = q.waiting; lock = q.lock } in
+    let v : Exchange = record { objects = objects_of_all q.items q.semaphores q.mutexes; waiting = q.waiting; lock = q.lock } in
     let is : q.lock ≡ Some c.in_ok-lock.lock = search rules in
     let before = subst (λ (v : Exchange). StandsFor v None s) (sym c.self.view_is) h in
     stands_unlocked v c.unlock.new.self s c.in_ok-lock.lock before is (c.unlock.ensures.unlocks s (standing_locked v None s c.in_ok-lock.lock before is))
@@ -21,7 +22,7 @@ returns-clause-stands c = λ s h.
 pub returns-clause-awakened : goal.returns-clause-awakened
 returns-clause-awakened c = λ s h.
     let q = c.self.inside in
-    let v : Exchange = record { objects = q.items; waiting = q.waiting; lock = q.lock } in
+    let v : Exchange = record { objects = objects_of_all q.items q.semaphores q.mutexes; waiting = q.waiting; lock = q.lock } in
     let is : q.lock ≡ Some c.in_ok-lock.lock = search rules in
     let before = subst (λ (v : Exchange). StandsFor v None s) (sym c.self.view_is) h in
     let locked = standing_locked v None s c.in_ok-lock.lock before is in
@@ -30,7 +31,7 @@ returns-clause-awakened c = λ s h.
 pub returns-clause-counted : goal.returns-clause-counted
 returns-clause-counted c =
     let q = c.self.inside in
-    let v : Exchange = record { objects = q.items; waiting = q.waiting; lock = q.lock } in
+    let v : Exchange = record { objects = objects_of_all q.items q.semaphores q.mutexes; waiting = q.waiting; lock = q.lock } in
     let is : q.lock ≡ Some c.in_ok-lock.lock = search rules in
     let counted = λ (w : Exchange). λ (lock : Lock). AreCounted lock w c.unlock.result.to_receive.items c.unlock.result.to_send.items in
     subst (λ (w : Exchange). IfSome w.lock (counted w)) c.self.view_is
@@ -44,7 +45,7 @@ returns-in_err-lock-clause-left c =
 pub returns-clause-left : goal.returns-clause-left
 returns-clause-left c =
     let q = c.self.inside in
-    let v : Exchange = record { objects = q.items; waiting = q.waiting; lock = q.lock } in
+    let v : Exchange = record { objects = objects_of_all q.items q.semaphores q.mutexes; waiting = q.waiting; lock = q.lock } in
     let is : q.lock ≡ Some c.in_ok-lock.lock = search rules in
     subst (λ (w : Exchange). record v { lock = None; waiting = c.unlock.new.self } ≡ after_unlock w.lock w)
     c.self.view_is

@@ -13,16 +13,16 @@ pub invariant_of-self : goal.invariant_of-self
 invariant_of-self c =
     let q = c.self.inside in
     let removed = c.remove.ensures.removed in
-    let left : IsSched c.remove.new.self (mine.without_task c.args.task q.pending) q.priorities q.depth =
-    subst (λ (ls : List (List (ℕ × ℕ))). IsSched ls (mine.without_task c.args.task q.pending) q.priorities q.depth) (sym removed)
+    let left : IsSched c.remove.new.self (mine.without_task c.args.task q.pending) q.priorities q.base_priorities q.depth =
+    subst (λ (ls : List (List (ℕ × ℕ))). IsSched ls (mine.without_task c.args.task q.pending) q.priorities q.base_priorities q.depth) (sym removed)
     (sched_block c.self.invariant c.args.task (subst (IsSound 32 32) removed c.remove.ensures.sound)) in
-    subst (λ (ts : List ℕ). IsSched c.remove.new.self ts q.priorities q.depth) (sym c.remove-2.ensures.removed) left
+    subst (λ (ts : List ℕ). IsSched c.remove.new.self ts q.priorities q.base_priorities q.depth) (sym c.remove-2.ensures.removed) left
 
 pub returns-clause-schedule : goal.returns-clause-schedule
 returns-clause-schedule c =
     let q = c.self.inside in
-    ap₂ (λ (ls : List (List (ℕ × ℕ))) (ts : List ℕ). schedule_of ls ts q.current q.priorities q.depth) c.remove.ensures.removed c.remove-2.ensures.removed
-    ∙ schedule_block q.ready q.pending q.current q.priorities q.depth c.args.task
+    ap₂ (λ (ls : List (List (ℕ × ℕ))) (ts : List ℕ). schedule_of ls ts q.current q.priorities q.base_priorities q.depth) c.remove.ensures.removed c.remove-2.ensures.removed
+    ∙ schedule_block q.ready q.pending q.current q.priorities q.base_priorities q.depth c.args.task
     ∙ ap (mine.block c.args.task) c.self.view_is
 
 pub returns-clause-placed : goal.returns-clause-placed

@@ -1,4 +1,4 @@
-use Rattle.std.proofs.Common.{◌≡◌, ◌∙◌, ℕ, List, [], true, false, not, ap, sym}
+use Rattle.std.proofs.Common.{◌≡◌, ◌∙◌, ℕ, List, [], false, not, ap, sym}
 use Rattle.std.specs.Option.{is_some}
 use Rattle.model.proofs.Sorting.{by_test}
 use Rattle.lists.specs.Lists.{first_of}

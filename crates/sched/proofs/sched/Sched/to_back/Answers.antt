@@ -14,7 +14,7 @@ invariant_of-self c =
     let home = c.list_of-list.ensures.list ∙ ap (λ (s : Schedule). priority_in s.priorities c.args.task) (sym c.self.view_is) in
     let is = first_by c.first_in.result c.first_in.ensures.first c.if-eq.ensures home c.list_of-list.ensures.known in
     let rotated = c.rotate.ensures.rotated in
-    subst (λ (ls : List (List (ℕ × ℕ))). IsSched ls q.pending q.priorities q.depth) (sym rotated) (sched_turned c.self.invariant.lists_are c.args.task c.list_of-list.result.number is c.self.invariant (subst (IsSound 32 32) rotated c.rotate.ensures.sound))
+    subst (λ (ls : List (List (ℕ × ℕ))). IsSched ls q.pending q.priorities q.base_priorities q.depth) (sym rotated) (sched_turned c.self.invariant.lists_are c.args.task c.list_of-list.result.number is c.self.invariant (subst (IsSound 32 32) rotated c.rotate.ensures.sound))
 
 pub returns-then-eq : goal.returns-then-eq
 returns-then-eq c =
@@ -23,8 +23,8 @@ returns-then-eq c =
     let is = first_by c.first_in.result c.first_in.ensures.first c.if-eq.ensures home c.list_of-list.ensures.known in
     record {
       schedule =
-          ap (λ (ls : List (List (ℕ × ℕ))). schedule_of ls q.pending q.current q.priorities q.depth) c.rotate.ensures.rotated
-          ∙ schedule_turned c.self.invariant.lists_are c.args.task c.list_of-list.result.number is q.pending q.current q.depth
+          ap (λ (ls : List (List (ℕ × ℕ))). schedule_of ls q.pending q.current q.priorities q.base_priorities q.depth) c.rotate.ensures.rotated
+          ∙ schedule_turned c.self.invariant.lists_are c.args.task c.list_of-list.result.number is q.pending q.current q.base_priorities q.depth
           ∙ ap (to_back c.args.task) c.self.view_is;
     }
 
@@ -44,7 +44,7 @@ invariant_of-self-then-contains c =
     let listed : has_node task (ready_list_of q.ready) ≡ true = sym (any_in_ready_list c.contains.ensures.sound task) ∙ sym c.contains.ensures.contains ∙ c.if-contains.true in
     let removed = c.remove.ensures.removed in
     let put : c.push_back.new.self ≡ push task p (map (without task) q.ready) = c.push_back.ensures.put ∙ ap (push task p) removed in
-    subst (λ (ls : List (List (ℕ × ℕ))). IsSched ls q.pending q.priorities q.depth) (sym put)
+    subst (λ (ls : List (List (ℕ × ℕ))). IsSched ls q.pending q.priorities q.base_priorities q.depth) (sym put)
     (sched_moved c.self.invariant.lists_are task p home c.list_of-list.ensures.known listed (subst (IsSound 32 32) removed c.remove.ensures.sound) c.self.invariant (subst (IsSound 32 32) put c.push_back.ensures.sound))
 
 pub returns-then-contains : goal.returns-then-contains
@@ -58,8 +58,8 @@ returns-then-contains c =
     let put : c.push_back.new.self ≡ push task p (map (without task) q.ready) = c.push_back.ensures.put ∙ ap (push task p) removed in
     record {
       schedule =
-          ap (λ (ls : List (List (ℕ × ℕ))). schedule_of ls q.pending q.current q.priorities q.depth) put
-          ∙ schedule_moved c.self.invariant.lists_are task p home c.list_of-list.ensures.known listed (subst (IsSound 32 32) removed c.remove.ensures.sound) q.pending q.current q.depth
+          ap (λ (ls : List (List (ℕ × ℕ))). schedule_of ls q.pending q.current q.priorities q.base_priorities q.depth) put
+          ∙ schedule_moved c.self.invariant.lists_are task p home c.list_of-list.ensures.known listed (subst (IsSound 32 32) removed c.remove.ensures.sound) q.pending q.current q.base_priorities q.depth
           ∙ ap (to_back task) c.self.view_is;
     }
 

@@ -1,0 +1,59 @@
+use Rattle.std.proofs.Common.{◌≡◌, inl, inr, true, false, Option, ℕ, ◌∙◌, ap, length, sym}
+use Rattle.std.specs.Prelude.{nat_lt}
+use Rattle.std.specs.Option.{is_none, is_some}
+use Rattle.model.specs.State.{Object}
+use Rattle.model.specs.Objects.{allows}
+use Rattle.objects.specs.Items.{object_in}
+use Rattle.objects.proofs.Carrying.{some_room, turned}
+use Rattle.objects.proofs.Together.{seen}
+use Rattle.objects.proofs.queues.Queues.possible.Goals as goal
+
+pub returns-in-Send-clause-possible : goal.returns-in-Send-clause-possible
+returns-in-Send-clause-possible c =
+    let queue : Object = object_in c.self.inside.items c.object.inside.number in
+    let room = some_room c.room.result (length queue.items) queue.size c.room.ensures.room ∙ ap (λ (x : Object). nat_lt (length x.items) x.size) (seen c.self.inside c.args.self.now c.self.view_is c.object.inside.number c.args.object c.object.view_is c.object.invariant) in
+    elim c.in-Send.is [ inl is ↦ rw is.1 room | inr is ↦ rw is.1 room ]
+
+pub returns-in-Send-clause-stands : goal.returns-in-Send-clause-stands
+returns-in-Send-clause-stands c = λ s d h. returns-in-Send-clause-possible c ∙ ap (λ (x : Object). allows x c.args.access) (h.objects c.args.object)
+
+pub returns-in-Receive-clause-possible : goal.returns-in-Receive-clause-possible
+returns-in-Receive-clause-possible c =
+    let some = ap (nat_lt 0) c.len.ensures.len ∙ ap (λ (x : Object). nat_lt 0 (length x.items)) (seen c.self.inside c.args.self.now c.self.view_is c.object.inside.number c.args.object c.object.view_is c.object.invariant) in
+    elim c.in-Receive.is [ inl is ↦ rw is some | inr is ↦ rw is some ]
+
+pub returns-in-Receive-clause-stands : goal.returns-in-Receive-clause-stands
+returns-in-Receive-clause-stands c = λ s d h. returns-in-Receive-clause-possible c ∙ ap (λ (x : Object). allows x c.args.access) (h.objects c.args.object)
+
+pub returns-in-Take-clause-possible : goal.returns-in-Take-clause-possible
+returns-in-Take-clause-possible c = rw c.in-Take.is
+    (c.can_take.ensures ∙ ap (λ (x : Object). nat_lt 0 x.count) (seen c.self.inside c.args.self.now c.self.view_is c.object.inside.number c.args.object c.object.view_is c.object.invariant))
+
+pub returns-in-Take-clause-stands : goal.returns-in-Take-clause-stands
+returns-in-Take-clause-stands c = λ s d h. returns-in-Take-clause-possible c ∙ ap (λ (x : Object). allows x c.args.access) (h.objects c.args.object)
+
+pub returns-in-Give-clause-possible : goal.returns-in-Give-clause-possible
+returns-in-Give-clause-possible c = rw c.in-Give.is
+    (c.can_give.ensures ∙ ap (λ (x : Object). nat_lt x.count x.max_count) (seen c.self.inside c.args.self.now c.self.view_is c.object.inside.number c.args.object c.object.view_is c.object.invariant))
+
+pub returns-in-Give-clause-stands : goal.returns-in-Give-clause-stands
+returns-in-Give-clause-stands c = λ s d h. returns-in-Give-clause-possible c ∙ ap (λ (x : Object). allows x c.args.access) (h.objects c.args.object)
+
+pub returns-then-is_counted-clause-possible : goal.returns-then-is_counted-clause-possible
+returns-then-is_counted-clause-possible c =
+    let counted : nat_lt 0 (object_in c.args.self.now.objects c.args.object).max_count ≡ true =
+    ap (λ (x : Object). nat_lt 0 x.max_count) (sym (seen c.self.inside c.args.self.now c.self.view_is c.object.inside.number c.args.object c.object.view_is c.object.invariant)) ∙ sym c.is_counted.ensures ∙ c.if-is_counted.true in
+    rw (c.in-Lock.is, counted)
+    (turned (is_some c.holder.result) c.is_none.result c.is_none.ensures ∙ ap (λ (h : Option ℕ). is_none h) c.holder.ensures.holder ∙ ap (λ (x : Object). is_none x.holder) (seen c.self.inside c.args.self.now c.self.view_is c.object.inside.number c.args.object c.object.view_is c.object.invariant))
+
+pub returns-then-is_counted-clause-stands : goal.returns-then-is_counted-clause-stands
+returns-then-is_counted-clause-stands c = λ s d h. returns-then-is_counted-clause-possible c ∙ ap (λ (x : Object). allows x c.args.access) (h.objects c.args.object)
+
+pub returns-else-is_counted-clause-possible : goal.returns-else-is_counted-clause-possible
+returns-else-is_counted-clause-possible c =
+    let uncounted : nat_lt 0 (object_in c.args.self.now.objects c.args.object).max_count ≡ false =
+    ap (λ (x : Object). nat_lt 0 x.max_count) (sym (seen c.self.inside c.args.self.now c.self.view_is c.object.inside.number c.args.object c.object.view_is c.object.invariant)) ∙ sym c.is_counted.ensures ∙ c.if-is_counted.false in
+    rw (c.in-Lock.is, uncounted) c.if-is_counted.false
+
+pub returns-else-is_counted-clause-stands : goal.returns-else-is_counted-clause-stands
+returns-else-is_counted-clause-stands c = λ s d h. returns-else-is_counted-clause-possible c ∙ ap (λ (x : Object). allows x c.args.access) (h.objects c.args.object)

@@ -1,0 +1,21 @@
+-- What callers see of semaphores and mutexes: their counts.
+use Rattle.std.specs.Prelude.{◌≡◌, ℕ, ◌<◌, List, length, slice_index_or}
+
+-- the greatest count of each object, and its count
+pub record Counts : Type 0 where
+  pub max_counts : List ℕ
+  pub counts : List ℕ
+
+-- the greatest count of the object of this number
+abbrev pub max_count_in : Counts → ℕ → ℕ
+max_count_in c object = slice_index_or c.max_counts object 0
+
+-- the count of the object of this number
+abbrev pub count_in : Counts → ℕ → ℕ
+count_in c object = slice_index_or c.counts object 0
+
+-- what is true between two calls: there are 32 of each, and no count needs more than 16 bits
+pub record AreSemaphores (c : Counts) : Type 0 where
+  pub as_many_most : length c.max_counts ≡ 32
+  pub as_many : length c.counts ≡ 32
+  pub small : (object : ℕ) → max_count_in c object < 65536

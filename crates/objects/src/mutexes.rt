@@ -1,0 +1,79 @@
+//! Who holds the mutexes.
+ghost use Rattle.std.specs.Prelude.{◌≡◌, ◌<◌, length, replicate, slice_set, Some, None};
+ghost use Rattle.objects.specs.Mutexes.{count_held, holder_in};
+
+use model::TaskId;
+use std::marker::Model;
+
+/// The holder of each of 32 objects, and how many each task holds, which is kept and never searched for. An object that is
+/// free, or is no mutex, has no holder.
+#[derive(Drop)]
+pub(crate) struct Mutexes {
+    holders: [Option<TaskId>; 32],
+    held: [u8; 32],
+}
+
+// Clauses see the holders.
+impl Model for Mutexes {
+    ghost use Rattle.std.specs.Prelude.{ℕ, Option, List};
+    ghost use Rattle.objects.specs.Mutexes.{AreMutexes};
+
+    ghost Value = { List (Option ℕ) };
+
+    ghost view = { λ m. m.holders };
+
+    ghost invariant = { λ m. AreMutexes m.holders m.held };
+}
+
+impl Mutexes {
+    /// Nobody holds anything.
+    pub(crate) fn new() -> Self
+        ensures free { result ≡ replicate 32 None }
+    {
+        Mutexes {
+            holders: [None; 32],
+            held: [0; 32],
+        }
+    }
+
+    /// The holder of an object; `None` where it has none.
+    pub(crate) fn holder(&self, object: usize) -> Option<TaskId>
+        requires { object < 32 }
+        ensures holder { result ≡ holder_in self.now object }
+    {
+        self.holders[object]
+    }
+
+    /// How many mutexes a task holds (`uxMutexesHeld`).
+    pub(crate) fn held_by(&self, task: TaskId) -> u8
+        ensures held { result ≡ count_held task self.now }
+        ensures many { length self.now ≡ 32 }
+    {
+        self.held[task.number as usize]
+    }
+
+    /// Makes a task the holder of a free mutex. With no task it stays free.
+    pub(crate) fn lock(&mut self, object: usize, task: Option<TaskId>)
+        requires known { object < 32 }
+        requires free { holder_in self.old object ≡ None }
+        ensures locked { self.new ≡ slice_set self.old object task }
+        ensures many { length self.new ≡ 32 }
+    {
+        self.holders[object] = task;
+        // Through a reference, since the borrow checker takes a value that was stored for moved.
+        if let Some(task) = &task {
+            self.held[task.number as usize] += 1;
+        }
+    }
+
+    /// Frees a mutex that this task holds.
+    pub(crate) fn unlock(&mut self, object: usize, task: TaskId)
+        requires known { object < 32 }
+        requires held { holder_in self.old object ≡ Some task }
+        ensures free { self.new ≡ slice_set self.old object None }
+        ensures many { length self.new ≡ 32 }
+    {
+        self.holders[object] = None;
+        self.held[task.number as usize] -= 1;
+    }
+}

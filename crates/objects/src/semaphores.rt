@@ -1,0 +1,109 @@
+//! The counts of semaphores and mutexes.
+ghost use Rattle.std.specs.Prelude.{◌≡◌, ℕ, ◌+◌, ◌-◌, ◌<◌, ◌≤◌, nat_lt, length, map, slice_index_or, slice_set};
+ghost use Rattle.std.specs.List.{AllByRecursion};
+ghost use Rattle.model.specs.Scripts.{IsObjectKind};
+ghost use Rattle.model.specs.State.{no_object};
+ghost use Rattle.model.specs.Step.{object_at_reset};
+ghost use Rattle.objects.specs.Semaphores.{AreSemaphores, count_in, max_count_in};
+
+use model::ObjectKind;
+use std::marker::Model;
+
+/// The greatest count and the count of each of 32 objects. Of a mutex the greatest is 1, for its one holder, and the count
+/// stays 0; of a queue both are 0.
+#[derive(Drop)]
+pub(crate) struct Semaphores {
+    max_counts: [u16; 32],
+    counts: [u16; 32],
+}
+
+impl Model for Semaphores {
+    ghost use Rattle.objects.specs.Semaphores.{AreSemaphores, Counts};
+
+    ghost Value = { Counts };
+
+    ghost view = { λ s. record { max_counts = s.max_counts; counts = s.counts } };
+
+    ghost invariant = { λ s. AreSemaphores (record { max_counts = s.max_counts; counts = s.counts }) };
+}
+
+/// The greatest count of an object, and its count at reset.
+fn counts_of(object: ObjectKind) -> (u16, u16)
+    ensures greatest { result.0 ≡ (object_at_reset object).max_count }
+    ensures initial { result.1 ≡ (object_at_reset object).count }
+{
+    match object {
+        ObjectKind::Semaphore(max_count, initial_count) => (max_count, initial_count),
+        ObjectKind::Mutex => (1, 0),
+        ObjectKind::Queue(_) => (0, 0),
+    }
+}
+
+impl Semaphores {
+    /// The counts of these objects at reset, 32 at most.
+    pub(crate) fn new(objects: &[ObjectKind]) -> Self
+        requires { length objects.now ≤ 32 }
+        ensures max_counts { (object : ℕ) → max_count_in result object
+            ≡ (slice_index_or (map object_at_reset objects.now) object no_object).max_count }
+        ensures counts { (object : ℕ) → count_in result object
+            ≡ (slice_index_or (map object_at_reset objects.now) object no_object).count }
+        ensures sound { AreSemaphores result }
+    {
+        let mut max_counts = [0; 32];
+        let mut counts = [0; 32];
+        for (index, object) in objects.iter().enumerate() {
+            let (max_count, initial_count) = counts_of(*object);
+            max_counts[index] = max_count;
+            counts[index] = initial_count;
+        }
+        Semaphores { max_counts, counts }
+    }
+
+    /// Whether an object has a count: it is a semaphore or a mutex.
+    pub(crate) fn is_counted(&self, object: usize) -> bool
+        requires { object < 32 }
+        ensures { result ≡ nat_lt 0 (max_count_in self.now object) }
+    {
+        self.max_counts[object] > 0
+    }
+
+    /// Whether one can be taken from a count.
+    pub(crate) fn can_take(&self, object: usize) -> bool
+        requires { object < 32 }
+        ensures { result ≡ nat_lt 0 (count_in self.now object) }
+    {
+        self.counts[object] > 0
+    }
+
+    /// Whether a count is below its greatest.
+    pub(crate) fn can_give(&self, object: usize) -> bool
+        requires { object < 32 }
+        ensures { result ≡ nat_lt (count_in self.now object) (max_count_in self.now object) }
+    {
+        self.counts[object] < self.max_counts[object]
+    }
+
+    /// Takes one from a count that isn't 0 (`can_take` tells).
+    pub(crate) fn take(&mut self, object: usize)
+        requires known { object < 32 }
+        requires possible { 0 < count_in self.old object }
+        ensures taken { self.new ≡ record self.old {
+          counts = slice_set self.old.counts object (count_in self.old object - 1);
+        } }
+        ensures sound { AreSemaphores self.new }
+    {
+        self.counts[object] -= 1;
+    }
+
+    /// Adds one to a count below its greatest (`can_give` tells).
+    pub(crate) fn give(&mut self, object: usize)
+        requires known { object < 32 }
+        requires possible { count_in self.old object < max_count_in self.old object }
+        ensures given { self.new ≡ record self.old {
+          counts = slice_set self.old.counts object (count_in self.old object + 1);
+        } }
+        ensures sound { AreSemaphores self.new }
+    {
+        self.counts[object] += 1;
+    }
+}

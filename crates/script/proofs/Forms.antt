@@ -1,0 +1,50 @@
+-- What is read by forms, where each of them makes only ops of which something holds.
+use Rattle.std.proofs.Common.{◌≡◌, ℕ, List, [], ◌∷◌, Option, Some, None, refl}
+use Rattle.std.specs.List.{AllByRecursion}
+use Rattle.std.specs.Option.{option_map, option_and_then, IfSome}
+use Rattle.std.specs.Str.{bytes_eq}
+use Rattle.model.proofs.Sorting.{by_test}
+use Rattle.script.specs.declared.object_sort.ObjectSort.{ObjectSort}
+use Rattle.script.specs.Grammar.{Word, Naming, Form, Done, Number, Answer, Wait, Object, form_word, number_of, answer_of, wait_of, read, read_by}
+
+module _ {O : Type 0} (Holds : O → Type 0) (At : ObjectSort → ℕ → Type 0) where
+  -- It makes only such ops, of objects that are there.
+  abbrev pub Makes : Form O → Type 0
+  Makes (Done op) = Holds op
+  Makes (Number next) = (n : ℕ) → Makes (next n)
+  Makes (Answer next) = (a : Option ℕ) → Makes (next a)
+  Makes (Wait next) = (ticks : Option ℕ) → Makes (next ticks)
+  Makes (Object sort next) = (n : ℕ) → At sort n → Makes (next n)
+
+module _ {O : Type 0} (word : O → Word) (named : Naming) (Holds : O → Type 0) (At : ObjectSort → ℕ → Type 0)
+    (found : (sort : ObjectSort) (w : Word) (n : ℕ) → named sort w ≡ Some n → At sort n) where
+  abbrev Held : Option O → Type 0
+  Held o = IfSome o Holds
+
+  taken_holds : {X : Type 0} (o : Option X) (ws : List Word) (next : X × List Word → Option O)
+      → ((x : X) → o ≡ Some x → Held (next (x, ws))) → Held (option_and_then next (option_map (λ x. (x, ws)) o))
+  taken_holds None ws next holds = tt
+  taken_holds (Some x) ws next holds = holds x refl
+
+  read_holds : (form : Form O) (ws : List Word) → Makes Holds At form → Held (read named form ws)
+  read_holds (Done op) [] makes = makes
+  read_holds (Done op) (w ∷ ws) makes = tt
+  read_holds (Number next) [] makes = tt
+  read_holds (Number next) (w ∷ ws) makes =
+      taken_holds (number_of w) ws (λ r. read named (next r.0) r.1) (λ n e. read_holds (next n) ws (makes n))
+  read_holds (Answer next) [] makes = tt
+  read_holds (Answer next) (w ∷ ws) makes =
+      taken_holds (answer_of w) ws (λ r. read named (next r.0) r.1) (λ a e. read_holds (next a) ws (makes a))
+  read_holds (Wait next) [] makes = tt
+  read_holds (Wait next) (w ∷ ws) makes =
+      taken_holds (wait_of w) ws (λ r. read named (next r.0) r.1) (λ ticks e. read_holds (next ticks) ws (makes ticks))
+  read_holds (Object sort next) [] makes = tt
+  read_holds (Object sort next) (w ∷ ws) makes =
+      taken_holds (named sort w) ws (λ r. read named (next r.0) r.1) (λ n e. read_holds (next n) ws (makes n (found sort w n e)))
+
+  pub read_by_holds : (fs : List (Form O)) (w : Word) (ws : List Word) → AllByRecursion (Makes Holds At) fs
+      → Held (read_by word named fs w ws)
+  read_by_holds [] w ws make = tt
+  read_by_holds (form ∷ others) w ws make = by_test (bytes_eq w (form_word word form))
+      (λ t. rw t (read_holds form ws make.0))
+      (λ t. rw t (read_by_holds others w ws make.1))
