@@ -1,5 +1,5 @@
 -- One tick: the lists are swapped where the 32 bits wrap, and then the due sleepers go.
-use Rattle.std.proofs.Common.{◌≡◌, ◌≢◌, ℕ, ◌<◌, ◌≤◌, ◌+◌, ◌-◌, ◌^◌, true, false, Option, Some, None, List, [], ◌∷◌, ◌++◌, sym, ◌∙◌, ap, ap₂, subst, arith, refl, append_assoc, append-nil}
+use Rattle.std.proofs.Common.{◌≡◌, ◌≢◌, ℕ, ◌<◌, ◌≤◌, ◌+◌, ◌^◌, true, false, Option, Some, None, List, [], ◌∷◌, ◌++◌, sym, ◌∙◌, ap, ap₂, subst, arith, refl, append_assoc, append-nil}
 use Rattle.std.specs.Option.{is_some}
 use Rattle.lists.specs.Lists.{Each, IsSorted, IsSound, entries_of}
 use Rattle.lists.proofs.Entries.{Each-right, Each-imp, Each-append, IsSorted-right}
@@ -28,7 +28,7 @@ none_between : (tick : ℕ) (xs : List (ℕ × ℕ)) → tick + 1 ≡ 2 ^ 32 →
 none_between tick [] full a b = refl
 none_between tick (x ∷ xs) full a b = absurd (omega (arith, full, a.0, b.0))
 
-module _ {ls : List (List (ℕ × ℕ))} {age base tick current overflow : ℕ} {old : Timeline} (h : IsClock ls age base tick current overflow) (is : timeline_of ls age base tick current overflow ≡ old) where
+module _ {ls : List (List (ℕ × ℕ))} {age held base tick current overflow : ℕ} {old : Timeline} (h : IsClock ls age base tick current overflow) (is : timeline_of ls age held base tick current overflow ≡ old) where
   now_is : base + tick ≡ old.now
   now_is = ap (λ (t : Timeline). t.now) is
 
@@ -99,13 +99,14 @@ module _ {ls : List (List (ℕ × ℕ))} {age base tick current overflow : ℕ} 
   other_same : entries_of ls' overflow ≡ entries_of ls overflow
   other_same = others overflow (λ e. h.differ (sym e))
 
-  pub clock_after : IsSound 2 32 ls' → IsClock ls' age base tick current overflow
-  clock_after sound = record {
+  pub clock_after : IsSound 2 32 ls' → old.age < 2 ^ 62 → IsClock ls' age base tick current overflow
+  clock_after sound few = record {
     sound = sound;
     current_known = h.current_known;
     overflow_known = h.overflow_known;
     differ = h.differ;
     young = h.young;
+    countable = let grown = h.grown in omega (arith, grown, few);
     ahead = later;
     fits = Each-right (λ e. e.1 < 2 ^ 32) (all_until tick due) (entries_of ls' current) (subst (Each (λ e. e.1 < 2 ^ 32)) taken h.fits);
     overflow_fits = subst (Each (λ e. e.1 < 2 ^ 32)) (sym other_same) h.overflow_fits;
@@ -121,10 +122,11 @@ module _ {ls : List (List (ℕ × ℕ))} {age base tick current overflow : ℕ} 
       (Each-count_from (λ e. base + tick < e.1) base (entries_of ls' current) (Each-imp (λ e. tick < e.1) (λ e. base + tick < base + e.1) (entries_of ls' current) (λ e lt. omega (arith, lt)) later))
       (Each-count_from (λ e. base + tick < e.1) (base + 2 ^ 32) (entries_of ls' overflow) (Each-imp (λ e. e.1 < 2 ^ 32) (λ e. base + tick < base + 2 ^ 32 + e.1) (entries_of ls' overflow) (λ e lt. omega (arith, tick_fits)) (subst (Each (λ e. e.1 < 2 ^ 32)) (sym other_same) h.overflow_fits)))
 
-  pub advances : Advances old (timeline_of ls' age base tick current overflow) due
-  advances = record {
+  pub advances : (held : ℕ) → held ≡ old.held → Advances old (timeline_of ls' age held base tick current overflow) due
+  advances held same = record {
     now = h.now;
     age = h.grown;
+    held = same;
     delayed =
         h.delayed
         ∙ ap₂ (λ (xs ys : List (ℕ × ℕ)). count_from base xs ++ count_from (base + 2 ^ 32) ys) taken (sym other_same)
@@ -140,11 +142,11 @@ module _ {ls : List (List (ℕ × ℕ))} {age base tick current overflow : ℕ} 
   none_later None e t = none_left tick (entries_of ls current) e h.sorted h.ahead
   none_later (Some n) e t = absurd cc
 
-  pub clock_if_none : (o : Option ℕ) → o ≡ first_at tick (entries_of ls current) → is_some o ≡ false → IsClock ls age base tick current overflow
-  clock_if_none o e t = clock_after h ls [] refl (none_later o e t) (λ k ne. refl) h.sound
+  pub clock_if_none : (o : Option ℕ) → o ≡ first_at tick (entries_of ls current) → is_some o ≡ false → old.age < 2 ^ 62 → IsClock ls age base tick current overflow
+  clock_if_none o e t few = clock_after h ls [] refl (none_later o e t) (λ k ne. refl) h.sound few
 
-  pub advances_if_none : (o : Option ℕ) → o ≡ first_at tick (entries_of ls current) → is_some o ≡ false → Advances old (timeline_of ls age base tick current overflow) []
-  advances_if_none o e t = advances h ls [] refl (none_later o e t) (λ k ne. refl)
+  pub advances_if_none : (held : ℕ) → held ≡ old.held → (o : Option ℕ) → o ≡ first_at tick (entries_of ls current) → is_some o ≡ false → Advances old (timeline_of ls age held base tick current overflow) []
+  advances_if_none held same o e t = advances h ls [] refl (none_later o e t) (λ k ne. refl) held same
 
   pub some_now : (o : Option ℕ) → o ≡ first_at tick (entries_of ls current) → is_some o ≡ true → Each (λ e. old.now + 1 < e.1) old.delayed_list → ⊥
   some_now None e t later = cc

@@ -88,6 +88,7 @@ module _ {ls : List (List (ℕ × ℕ))} {age base tick current overflow : ℕ} 
         overflow_known = h.overflow_known;
         differ = h.differ;
         young = h.young;
+        countable = h.countable;
         ahead = subst (Each (λ e. tick < e.1)) (sym here) (Each-insert_sorted (λ e. tick < e.1) n w (entries_of ls current) later h.ahead);
         fits = subst (Each (λ e. e.1 < 2 ^ 32)) (sym here) (Each-insert_sorted (λ e. e.1 < 2 ^ 32) n w (entries_of ls current) fits h.fits);
         overflow_fits = subst (Each (λ e. e.1 < 2 ^ 32)) (sym there) h.overflow_fits;
@@ -107,6 +108,7 @@ module _ {ls : List (List (ℕ × ℕ))} {age base tick current overflow : ℕ} 
         overflow_known = h.overflow_known;
         differ = h.differ;
         young = h.young;
+        countable = h.countable;
         ahead = subst (Each (λ e. tick < e.1)) (sym there) h.ahead;
         fits = subst (Each (λ e. e.1 < 2 ^ 32)) (sym there) h.fits;
         overflow_fits = subst (Each (λ e. e.1 < 2 ^ 32)) (sym here) (Each-insert_sorted (λ e. e.1 < 2 ^ 32) n w (entries_of ls overflow) fits h.overflow_fits);
@@ -146,6 +148,7 @@ module _ {ls : List (List (ℕ × ℕ))} {age base tick current overflow : ℕ} 
         overflow_known = h.overflow_known;
         differ = h.differ;
         young = h.young;
+        countable = h.countable;
         ahead = subst (Each (λ e. tick < e.1)) (sym here) (Each-without (λ e. tick < e.1) n (entries_of ls current) h.ahead);
         fits = subst (Each (λ e. e.1 < 2 ^ 32)) (sym here) (Each-without (λ e. e.1 < 2 ^ 32) n (entries_of ls current) h.fits);
         overflow_fits = subst (Each (λ e. e.1 < 2 ^ 32)) (sym there) (Each-without (λ e. e.1 < 2 ^ 32) n (entries_of ls overflow) h.overflow_fits);

@@ -1,29 +1,30 @@
 -- Each change of the sleepers is a deed of the definitions.
-use Rattle.std.proofs.Common.{◌≡◌, ◌≢◌, ℕ, ◌+◌, ◌<◌, ◌≤◌, inl, inr, Bool, true, false, not, cond, Option, Some, None, List, [], ◌∷◌, ◌++◌, get_or, set, length, sym, ◌∙◌, ap, ap₂, subst, arith, refl, eqb, append_assoc, append-nil}
+use Rattle.std.proofs.Common.{◌≡◌, ◌≢◌, ℕ, ◌+◌, ◌-◌, ◌<◌, ◌≤◌, inl, inr, Bool, true, false, not, cond, Option, Some, None, List, [], ◌∷◌, ◌++◌, get_or, set, length, sym, ◌∙◌, ap, ap₂, subst, arith, refl, eqb, append_assoc, append-nil}
 use Rattle.std.specs.Prelude.{◌==◌, ◌||◌, nat_eq, if◌then◌else◌}
 use Rattle.std.specs.List.{AllByRecursion, IsDistinct, filter, list_any}
-use Rattle.std.specs.Option.{is_some, option_eq, option_map}
+use Rattle.std.specs.Option.{IfSome, is_some, option_eq, option_map}
 use Rattle.std.proofs.Math.ListN.{length-set}
 use Rattle.std.proofs.lemmas.Bool.{cases_eq, cases_lt, eq-eqb, ne_eqb}
 use Rattle.std.proofs.lemmas.List.{get_or-set_other, get_or-set_same}
 use Rattle.std.proofs.lemmas.List.Elements.{filter-append}
-use Rattle.model.specs.State.{State, Status, Task, Ready, Awake, Waiting, Asleep, Ended, for_each, no_task, status_at, task_at, progress_at, call_at, with_call, take_ticket, ticket_if_ready, ticket_of, wake_time_of}
+use Rattle.model.specs.State.{State, Status, Task, Ready, Awake, Waiting, Asleep, WaitingForBits, Suspended, Ended, for_each, no_task, status_at, task_at, progress_at, call_at, with_call, take_ticket, ticket_if_ready, ticket_of, wake_time_of, with_status}
 use Rattle.model.specs.Order.{Entry, Key, entry, key, list_by, put, tasks_of}
-use Rattle.model.specs.Switching.{is_ready, make_ready}
-use Rattle.model.specs.Time.{advance, delayed_key, due, increment_tick, sleep, wake_due}
-use Rattle.model.specs.Invariant.{AllTicketsBelow, IsTable}
+use Rattle.model.specs.Switching.{is_ready, is_scheduler_suspended, make_ready}
+use Rattle.model.specs.Time.{advance, apply_one, delayed_key, due, increment_tick, sleep, wake_due}
+use Rattle.model.specs.Invariant.{HasTicketBelow, AllTicketsBelow, IsTable}
 use Rattle.model.proofs.Sorting.{IsAfterEntry, by_test, put_last}
 use Rattle.model.proofs.Lists.{HasKey, eqb-refl, filter-without, list-entered, list-gone, list-kept, list_below, list_has, list_without, other}
 use Rattle.model.proofs.Members.{has_task, has_task-key}
 use Rattle.model.specs.declared.call.CallProgress.{CallProgress}
 use Rattle.model.specs.declared.call.WaitList.{WaitList}
 use Rattle.model.specs.Waiting.{wait_in}
+use Rattle.model.specs.Groups.{wait_for_bits}
 use Rattle.model.proofs.Sound.{ready_awake}
 use Rattle.model.proofs.Tables.{below_delayed, table-make_ready, table-set, table-taken, ticket_at}
 use Rattle.lists.specs.Lists.{Each, EachOnce, IsSorted, has_node, insert_sorted, without}
 use Rattle.lists.proofs.Entries.{EachOnce-insert_sorted, EachOnce-without, IsSorted-insert_sorted, IsSorted-without, Each-imp, apart_from_test, has_node-other, has_node-same, has_node-without_other, has_or_not, insert_sorted-after, insert_sorted-before, without-apart, without-same}
 use Rattle.clock.specs.Timeline.{Advances, Timeline, all_until, is_asleep}
-use Rattle.clock.specs.StandsFor.{StandsFor, StandsBefore, at_next_tick, at_time, tasks_at, with_deadline}
+use Rattle.clock.specs.StandsFor.{StandsFor, StandsBefore, at_held_tick, at_next_tick, at_time, tasks_at, with_deadline}
 
 -- the tasks that sleep until a time
 
@@ -163,6 +164,8 @@ asleep_none (Ready n) t = refl
 asleep_none (Awake w) t = absurd cc
 asleep_none (Waiting w) t = absurd cc
 asleep_none (Asleep m b) t = absurd cc
+asleep_none (WaitingForBits g m d) t = absurd cc
+asleep_none Suspended t = refl
 asleep_none Ended t = refl
 
 stands_asleep : (t : Timeline) (s : State) (i w : ℕ) → StandsFor t s → has_node i t.delayed_list ≡ false → i < length s.tasks → is_ready s i ≡ true → StandsFor (record t { delayed_list = insert_sorted (i, w) t.delayed_list }) (sleep i w s)
@@ -173,6 +176,7 @@ stands_asleep t s i w h awake l ready =
     rw ready (record {
       now = h.now;
       age = h.age;
+      held = h.held;
       sorted = IsSorted-insert_sorted i w t.delayed_list h.sorted;
       once = EachOnce-insert_sorted i w t.delayed_list (apart_from_test i t.delayed_list awake) h.once;
       delayed = λ m.
@@ -182,10 +186,11 @@ stands_asleep t s i w h awake l ready =
     })
 
 -- a task that waits until a time already is put into its place
-pub stands_placed : (t new : Timeline) (s : State) (i w : ℕ) → new.now ≡ t.now → new.age ≡ t.age → new.delayed_list ≡ insert_sorted (i, w) t.delayed_list → has_node i t.delayed_list ≡ false → StandsBefore i (Some w) t s → StandsFor new s
-stands_placed t new s i w now age sleepers awake h = record {
+pub stands_placed : (t new : Timeline) (s : State) (i w : ℕ) → new.now ≡ t.now → new.age ≡ t.age → new.held ≡ t.held → new.delayed_list ≡ insert_sorted (i, w) t.delayed_list → has_node i t.delayed_list ≡ false → StandsBefore i (Some w) t s → StandsFor new s
+stands_placed t new s i w now age held sleepers awake h = record {
   now = now ∙ h.now;
-  age = age ∙ h.age;
+  age = ap₂ (λ (a b : ℕ). a + b) age held ∙ h.age;
+  held = held ∙ h.held;
   sorted = subst IsSorted (sym sleepers) (IsSorted-insert_sorted i w t.delayed_list h.sorted);
   once = subst EachOnce (sym sleepers) (EachOnce-insert_sorted i w t.delayed_list (apart_from_test i t.delayed_list awake) h.once);
   delayed = λ m. ap (tasks_at m) sleepers ∙ tasks_at-insert_sorted m i w t.delayed_list h.sorted ∙ h.delayed m;
@@ -197,32 +202,38 @@ append-none : (xs : List ℕ) → xs ≡ xs ++ []
 append-none xs = sym (append-nil xs)
 
 pub stands_for_ever : (t : Timeline) (s : State) (i : ℕ) → StandsBefore i None t s → StandsFor t s
-stands_for_ever t s i h = record { now = h.now; age = h.age; sorted = h.sorted; once = h.once; delayed = λ m. append-none (tasks_at m t.delayed_list) ∙ h.delayed m; table = h.table }
+stands_for_ever t s i h = record { now = h.now; age = h.age; held = h.held; sorted = h.sorted; once = h.once; delayed = λ m. append-none (tasks_at m t.delayed_list) ∙ h.delayed m; table = h.table }
 
 -- the same of a time of these parts
-same_parts : (t new : Timeline) (s : State) → new.now ≡ t.now → new.age ≡ t.age → new.delayed_list ≡ t.delayed_list → StandsFor t s → StandsFor new s
-same_parts t new s now age sleepers h = record {
+same_parts : (t new : Timeline) (s : State) → new.now ≡ t.now → new.age ≡ t.age → new.held ≡ t.held → new.delayed_list ≡ t.delayed_list → StandsFor t s → StandsFor new s
+same_parts t new s now age held sleepers h = record {
   now = now ∙ h.now;
-  age = age ∙ h.age;
+  age = ap₂ (λ (a b : ℕ). a + b) age held ∙ h.age;
+  held = held ∙ h.held;
   sorted = subst IsSorted (sym sleepers) h.sorted;
   once = subst EachOnce (sym sleepers) h.once;
   delayed = λ m. ap (tasks_at m) sleepers ∙ h.delayed m;
   table = h.table;
 }
 
-pub stands_slept : (old new : Timeline) (s : State) (i ticks : ℕ) → new.now ≡ old.now → new.age ≡ old.age → new.delayed_list ≡ insert_sorted (i, old.now + ticks) old.delayed_list → has_node i old.delayed_list ≡ false → StandsFor old s → i < length s.tasks → is_ready s i ≡ true → StandsFor new (sleep i (s.time + ticks) s)
-stands_slept old new s i ticks now age sleepers awake h l ready =
+pub stands_slept : (old new : Timeline) (s : State) (i ticks : ℕ) → new.now ≡ old.now → new.age ≡ old.age → new.held ≡ old.held → new.delayed_list ≡ insert_sorted (i, old.now + ticks) old.delayed_list → has_node i old.delayed_list ≡ false → StandsFor old s → i < length s.tasks → is_ready s i ≡ true → StandsFor new (sleep i (s.time + ticks) s)
+stands_slept old new s i ticks now age held sleepers awake h l ready =
     let wake_time : old.now + ticks ≡ s.time + ticks = ap (λ (n : ℕ). n + ticks) h.now in
-    same_parts (record old { delayed_list = insert_sorted (i, s.time + ticks) old.delayed_list }) new (sleep i (s.time + ticks) s) now age
+    same_parts (record old { delayed_list = insert_sorted (i, s.time + ticks) old.delayed_list }) new (sleep i (s.time + ticks) s) now age held
     (sleepers ∙ ap (λ (m : ℕ). insert_sorted (i, m) old.delayed_list) wake_time)
     (stands_asleep old s i (s.time + ticks) h awake l ready)
 
 -- a task is woken
 
-pub stands_woken : (t : Timeline) (s new : State) (i : ℕ) (u : Task) → StandsFor t s → i < length s.tasks → new.tasks ≡ set s.tasks i u → new.time ≡ s.time → new.elapsed ≡ s.elapsed → delayed_key u ≡ None → IsTable new → StandsFor (record t { delayed_list = without i t.delayed_list }) new
-stands_woken t s new i u h l is time elapsed none table = record {
+-- the ticks since reset, and those of them that are held
+abbrev pub ticks_of : State → ℕ × ℕ
+ticks_of s = (s.elapsed, s.held_ticks)
+
+pub stands_woken : (t : Timeline) (s new : State) (i : ℕ) (u : Task) → StandsFor t s → i < length s.tasks → new.tasks ≡ set s.tasks i u → new.time ≡ s.time → ticks_of new ≡ ticks_of s → delayed_key u ≡ None → IsTable new → StandsFor (record t { delayed_list = without i t.delayed_list }) new
+stands_woken t s new i u h l is time ticks none table = record {
   now = h.now ∙ sym time;
-  age = h.age ∙ sym elapsed;
+  age = h.age ∙ sym (ap (λ (p : ℕ × ℕ). p.0) ticks);
+  held = h.held ∙ sym (ap (λ (p : ℕ × ℕ). p.1) ticks);
   sorted = IsSorted-without i t.delayed_list h.sorted;
   once = EachOnce-without i t.delayed_list h.once;
   delayed = λ m.
@@ -254,10 +265,11 @@ due_in-kept ts i m u l same =
       all_same [] = refl
       all_same (e ∷ es) = ap₂ (λ (b : Bool) (fs : List Entry). cond b (e ∷ fs) fs) (until_same e) (all_same es)
 
-pub stands_kept : (t : Timeline) (s new : State) (i : ℕ) (u : Task) → StandsFor t s → i < length s.tasks → new.tasks ≡ set s.tasks i u → new.time ≡ s.time → new.elapsed ≡ s.elapsed → SleepsAlike u.status (task_at s i).status → IsTable new → StandsFor t new
-stands_kept t s new i u h l is time elapsed same table = record {
+pub stands_kept : (t : Timeline) (s new : State) (i : ℕ) (u : Task) → StandsFor t s → i < length s.tasks → new.tasks ≡ set s.tasks i u → new.time ≡ s.time → ticks_of new ≡ ticks_of s → SleepsAlike u.status (task_at s i).status → IsTable new → StandsFor t new
+stands_kept t s new i u h l is time ticks same table = record {
   now = h.now ∙ sym time;
-  age = h.age ∙ sym elapsed;
+  age = h.age ∙ sym (ap (λ (p : ℕ × ℕ). p.0) ticks);
+  held = h.held ∙ sym (ap (λ (p : ℕ × ℕ). p.1) ticks);
   sorted = h.sorted;
   once = h.once;
   delayed = λ m. h.delayed m ∙ sym (ap (λ (ts : List Task). due_in ts m) is ∙ due_in-kept s.tasks i m u l same);
@@ -265,10 +277,11 @@ stands_kept t s new i u h l is time elapsed same table = record {
 }
 
 -- the same while a task is still to be placed
-pub stands_before_kept : (t : Timeline) (s new : State) (i j : ℕ) (deadline : Option ℕ) (u : Task) → StandsBefore i deadline t s → j < length s.tasks → new.tasks ≡ set s.tasks j u → new.time ≡ s.time → new.elapsed ≡ s.elapsed → SleepsAlike u.status (task_at s j).status → IsTable new → StandsBefore i deadline t new
-stands_before_kept t s new i j deadline u h l is time elapsed same table = record {
+pub stands_before_kept : (t : Timeline) (s new : State) (i j : ℕ) (deadline : Option ℕ) (u : Task) → StandsBefore i deadline t s → j < length s.tasks → new.tasks ≡ set s.tasks j u → new.time ≡ s.time → ticks_of new ≡ ticks_of s → SleepsAlike u.status (task_at s j).status → IsTable new → StandsBefore i deadline t new
+stands_before_kept t s new i j deadline u h l is time ticks same table = record {
   now = h.now ∙ sym time;
-  age = h.age ∙ sym elapsed;
+  age = h.age ∙ sym (ap (λ (p : ℕ × ℕ). p.0) ticks);
+  held = h.held ∙ sym (ap (λ (p : ℕ × ℕ). p.1) ticks);
   sorted = h.sorted;
   once = h.once;
   delayed = λ m. h.delayed m ∙ sym (ap (λ (ts : List Task). due_in ts m) is ∙ due_in-kept s.tasks j m u l same);
@@ -299,19 +312,28 @@ all_woken (d ∷ ds) t rest s h is =
     let next : StandsFor (record t { delayed_list = later }) (make_ready d s) = subst (λ (es : List (ℕ × ℕ)). StandsFor (record t { delayed_list = es }) (make_ready d s)) left one in
     all_woken ds (record t { delayed_list = later }) rest (make_ready d s) next refl
 
+-- a tick that comes is applied, or one that was held: the state, before anyone wakes
+abbrev ticked : State → ℕ → ℕ → State
+ticked s elapsed held_ticks = record s { time = s.time + 1; elapsed = elapsed; held_ticks = held_ticks }
+
+-- the clock before it, where so many ticks are held
+abbrev pub holding : Timeline → ℕ → Timeline
+holding t held = record t { held = held }
+
 -- the sleepers when a tick has passed, before anyone wakes
-stands_next : (old new : Timeline) (s : State) (ds : List ℕ) → Advances old new ds → StandsFor old s → StandsFor (record new { delayed_list = old.delayed_list }) (at_next_tick s)
-stands_next old new s ds a h = record {
+stands_next : (old new : Timeline) (s : State) (ds : List ℕ) (before elapsed held : ℕ) → Advances old new ds → StandsFor (holding old before) s → old.age + 1 + old.held ≡ elapsed → old.held ≡ held → StandsFor (record new { delayed_list = old.delayed_list }) (ticked s elapsed held)
+stands_next old new s ds before elapsed held a h age held_is = record {
   now = a.now ∙ ap (λ (n : ℕ). n + 1) h.now;
-  age = a.age ∙ ap (λ (n : ℕ). n + 1) h.age;
+  age = ap₂ (λ (m n : ℕ). m + n) a.age a.held ∙ age;
+  held = a.held ∙ held_is;
   sorted = h.sorted;
   once = h.once;
   delayed = h.delayed;
   table = record { tickets = h.table.tickets; few = h.table.few; current = h.table.current; holders = h.table.holders };
 }
 
-pub due_next : (old new : Timeline) (s : State) (ds : List ℕ) → Advances old new ds → StandsFor old s → ds ≡ tasks_of (due (at_next_tick s))
-due_next old new s ds a h =
+due_ticked : (old new : Timeline) (s : State) (ds : List ℕ) (before : ℕ) → Advances old new ds → StandsFor (holding old before) s → ds ≡ due_in s.tasks (s.time + 1)
+due_ticked old new s ds before a h =
     let time : new.now ≡ s.time + 1 = a.now ∙ ap (λ (n : ℕ). n + 1) h.now in
     sym (append-nil ds)
     ∙ ap₂ (λ (xs ys : List ℕ). xs ++ ys) (sym (tasks_at-all_until new.now ds)) (sym (tasks_at-later new.now new.delayed_list a.later))
@@ -320,11 +342,47 @@ due_next old new s ds a h =
     ∙ h.delayed new.now
     ∙ ap (λ (m : ℕ). due_in s.tasks m) time
 
-pub stands_advanced : (old new : Timeline) (s : State) (ds : List ℕ) → Advances old new ds → StandsFor old s → StandsFor new (increment_tick s)
-unfolding increment_tick advance wake_due
-stands_advanced old new s ds a h =
-    let woken = all_woken ds (record new { delayed_list = old.delayed_list }) new.delayed_list (at_next_tick s) (stands_next old new s ds a h) a.delayed in
-    subst (λ (es : List ℕ). StandsFor new (for_each make_ready es (at_next_tick s))) (due_next old new s ds a h) woken
+stands_ticked : (old new : Timeline) (s : State) (ds : List ℕ) (before elapsed held : ℕ) → Advances old new ds → StandsFor (holding old before) s → old.age + 1 + old.held ≡ elapsed → old.held ≡ held → StandsFor new (wake_due (ticked s elapsed held))
+unfolding wake_due
+stands_ticked old new s ds before elapsed held a h age held_is =
+    let woken = all_woken ds (record new { delayed_list = old.delayed_list }) new.delayed_list (ticked s elapsed held) (stands_next old new s ds before elapsed held a h age held_is) a.delayed in
+    subst (λ (es : List ℕ). StandsFor new (for_each make_ready es (ticked s elapsed held))) (due_ticked old new s ds before a h) woken
+
+-- a tick comes and isn't held
+pub due_next : (old new : Timeline) (s : State) (ds : List ℕ) → Advances old new ds → StandsFor old s → ds ≡ tasks_of (due (at_next_tick s))
+due_next old new s ds a h = due_ticked old new s ds old.held a h
+
+pub stands_advanced : (old new : Timeline) (s : State) (ds : List ℕ) → Advances old new ds → StandsFor old s → is_scheduler_suspended s ≡ false → StandsFor new (increment_tick s)
+unfolding increment_tick advance
+stands_advanced old new s ds a h free =
+    let age = h.age in
+    rw free (stands_ticked old new s ds old.held (s.elapsed + 1) s.held_ticks a h (omega (arith, age)) h.held)
+
+-- a tick that has been released is applied
+pub due_held : (old new : Timeline) (s : State) (ds : List ℕ) → Advances old new ds → StandsFor (holding old (old.held + 1)) s → ds ≡ tasks_of (due (at_held_tick s))
+due_held old new s ds a h = due_ticked old new s ds (old.held + 1) a h
+
+pub stands_applied : (old new : Timeline) (s : State) (ds : List ℕ) → Advances old new ds → StandsFor (holding old (old.held + 1)) s → StandsFor new (apply_one s)
+unfolding apply_one advance
+stands_applied old new s ds a h =
+    let age = h.age in
+    let held = h.held in
+    stands_ticked old new s ds (old.held + 1) s.elapsed (s.held_ticks - 1) a h (omega (arith, age)) (omega (arith, held))
+
+-- a tick comes and is held
+pub stands_held : (t : Timeline) (s : State) → StandsFor t s → is_scheduler_suspended s ≡ true → StandsFor (holding t (t.held + 1)) (increment_tick s)
+unfolding increment_tick
+stands_held t s h on =
+    let age = h.age in
+    rw on (record {
+      now = h.now;
+      age = omega (arith, age);
+      held = ap (λ (n : ℕ). n + 1) h.held;
+      sorted = h.sorted;
+      once = h.once;
+      delayed = h.delayed;
+      table = record { tickets = h.table.tickets; few = h.table.few; current = h.table.current; holders = h.table.holders };
+    })
 
 -- who is due is asleep before the tick, and comes once
 
@@ -440,6 +498,8 @@ sleeper_in t s i (Asleep w n) h is some = sleeper_until t s i w n (Asleep w n) h
 sleeper_in t s i (Waiting x) h is some = let d = some_time x.deadline some in sleeper_until t s i d.0 x.ticket (Waiting x) h is d.1 (delayed_until x.deadline x.ticket d.0 d.1)
 sleeper_in t s i (Awake x) h is some = let d = some_time x.deadline some in sleeper_until t s i d.0 x.ticket (Awake x) h is d.1 (delayed_until x.deadline x.ticket d.0 d.1)
 sleeper_in t s i (Ready n) h is some = absurd cc
+sleeper_in t s i (WaitingForBits g n d) h is some = let u = some_time d some in sleeper_until t s i u.0 n (WaitingForBits g n d) h is u.1 (delayed_until d n u.0 u.1)
+sleeper_in t s i Suspended h is some = absurd cc
 sleeper_in t s i Ended h is some = absurd cc
 
 pub asleep_same : (t : Timeline) (s : State) (i : ℕ) → StandsFor t s → is_asleep t i ≡ is_some (wake_time_of (status_at s i))
@@ -457,6 +517,8 @@ sleeper_not_ready (Ready n) t = absurd cc
 sleeper_not_ready (Awake w) t = refl
 sleeper_not_ready (Waiting w) t = refl
 sleeper_not_ready (Asleep w n) t = refl
+sleeper_not_ready (WaitingForBits g m d) t = refl
+sleeper_not_ready Suspended t = absurd cc
 sleeper_not_ready Ended t = absurd cc
 
 -- a task that sleeps isn't Ready
@@ -465,31 +527,39 @@ asleep_not_ready t s i h asleep = sleeper_not_ready (status_at s i) (sym (asleep
 
 -- ---- a wait begins
 
--- A Ready task begins to wait, and the sleepers stay until it is placed.
-module _ (t : Timeline) (s : State) (i : ℕ) (h : StandsFor t s) (l : i < length s.tasks) (ready : is_ready s i ≡ true) (list : WaitList) (priority : ℕ) where
+-- A Ready task begins to wait, with a status of this form, and the sleepers stay until it is placed.
+module _ (t : Timeline) (s : State) (i : ℕ) (h : StandsFor t s) (l : i < length s.tasks) (ready : is_ready s i ≡ true)
+    (status : ℕ → Option ℕ → Status) (timed : (n : ℕ) (d : Option ℕ) → wake_time_of (status n d) ≡ d) (numbered : (n : ℕ) (d : Option ℕ) → ticket_of (status n d) ≡ Some n) where
   waiting : Option ℕ → Task
-  waiting deadline = record (task_at s i) { status = Waiting (record { list = list; priority = priority; ticket = s.next_ticket; deadline = deadline }) }
+  waiting deadline = record (task_at s i) { status = status s.next_ticket deadline }
+
+  delayed_by : (deadline : Option ℕ) → delayed_key (waiting deadline) ≡ (if is_some deadline then Some (key 0 s.next_ticket) else None)
+  unfolding waiting
+  delayed_by deadline = ap₂ (λ (w n : Option ℕ). if is_some w then option_map (key 0) n else None) (timed s.next_ticket deadline) (numbered s.next_ticket deadline)
 
   due-waiting : (deadline : Option ℕ) (m : ℕ) → tasks_at m t.delayed_list ++ tasks_at m (with_deadline i deadline) ≡ due_in (set s.tasks i (waiting deadline)) m
   unfolding waiting
   due-waiting None m =
-      let alike : SleepsAlike (waiting None).status (task_at s i).status = record { key = sym (asleep_none (task_at s i).status ready); wake_time = sym (ready_awake (task_at s i).status ready) } in
+      let alike : SleepsAlike (waiting None).status (task_at s i).status = record { key = delayed_by None ∙ sym (asleep_none (task_at s i).status ready); wake_time = timed s.next_ticket None ∙ sym (ready_awake (task_at s i).status ready) } in
       sym (append-none (tasks_at m t.delayed_list)) ∙ h.delayed m ∙ sym (due_in-kept s.tasks i m (waiting None) l alike)
   due-waiting (Some w) m =
       ap (λ (ts : List ℕ). ts ++ tasks_at m ((i, w) ∷ [])) (h.delayed m)
-      ∙ sym (due_in-entered s.tasks s.next_ticket i m w (waiting (Some w)) h.table.tickets l (asleep_none (task_at s i).status ready) refl refl)
+      ∙ sym (due_in-entered s.tasks s.next_ticket i m w (waiting (Some w)) h.table.tickets l (asleep_none (task_at s i).status ready) (timed s.next_ticket (Some w)) (delayed_by (Some w)))
 
-  waits : (deadline : Option ℕ) → StandsBefore i deadline t (take_ticket i (λ ticket. Waiting (record { list = list; priority = priority; ticket = ticket; deadline = deadline })) s)
+  waits : (deadline : Option ℕ) → StandsBefore i deadline t (take_ticket i (λ ticket. status ticket deadline) s)
   unfolding waiting
-  waits deadline = record {
-    now = h.now;
-    age = h.age;
-    sorted = h.sorted;
-    once = h.once;
-    delayed = due-waiting deadline;
-    awake = asleep_same t s i h ∙ ap (λ (o : Option ℕ). is_some o) (ready_awake (status_at s i) ready);
-    table = table-taken s i (λ ticket. Waiting (record { list = list; priority = priority; ticket = ticket; deadline = deadline })) h.table (omega arith);
-  }
+  waits deadline =
+      let below : HasTicketBelow (s.next_ticket + 1) (status s.next_ticket deadline) = subst (λ (o : Option ℕ). IfSome o (λ ticket. ticket < s.next_ticket + 1)) (sym (numbered s.next_ticket deadline)) (omega arith) in
+      record {
+        now = h.now;
+        age = h.age;
+        held = h.held;
+        sorted = h.sorted;
+        once = h.once;
+        delayed = due-waiting deadline;
+        awake = asleep_same t s i h ∙ ap (λ (o : Option ℕ). is_some o) (ready_awake (status_at s i) ready);
+        table = table-taken s i (λ ticket. status ticket deadline) h.table below;
+      }
 
 pub stands_waiting : (t : Timeline) (s : State) (i : ℕ) (list : WaitList) → StandsFor t s → i < length s.tasks → is_ready s i ≡ true → StandsBefore i (call_at s i).deadline t (wait_in i list s)
 unfolding wait_in
@@ -501,13 +571,26 @@ stands_waiting t s i list h l ready =
     let table : IsTable s1 = table-set s i u h.table (ticket_at s.next_ticket i s.tasks h.table.tickets) in
     let h1 : StandsFor t s1 = stands_kept t s s1 i u h l refl refl refl (record { key = refl; wake_time = refl }) table in
     let ready1 : is_ready s1 i ≡ true = ap (λ (v : Task). is_some (ticket_if_ready v.status)) at ∙ ready in
-    waits t s1 i h1 (rw length-set l) ready1 list (task_at s i).priority (call_at s i).deadline
+    let priority : ℕ = (task_at s i).priority in
+    waits t s1 i h1 (rw length-set l) ready1 (λ ticket deadline. Waiting (record { list = list; priority = priority; ticket = ticket; deadline = deadline })) (λ n d. refl) (λ n d. refl) (call_at s i).deadline
+
+-- The same, for bits.
+pub stands_waiting_bits : (t : Timeline) (s : State) (i group : ℕ) → StandsFor t s → i < length s.tasks → is_ready s i ≡ true → StandsBefore i (call_at s i).deadline t (wait_for_bits i group s)
+unfolding wait_for_bits
+stands_waiting_bits t s i group h l ready = waits t s i h l ready (λ ticket deadline. WaitingForBits group ticket deadline) (λ n d. refl) (λ n d. refl) (call_at s i).deadline
+
+-- a task is suspended, and is asleep no more
+pub stands_suspended : (old new : Timeline) (s : State) (i : ℕ) → new.now ≡ old.now → new.age ≡ old.age → new.held ≡ old.held → new.delayed_list ≡ without i old.delayed_list → StandsFor old s → i < length s.tasks → StandsFor new (with_status i Suspended s)
+stands_suspended old new s i now age held sleepers h l =
+    let u : Task = record (task_at s i) { status = Suspended } in
+    same_parts (record old { delayed_list = without i old.delayed_list }) new (with_status i Suspended s) now age held sleepers
+    (stands_woken old s (with_status i Suspended s) i u h l refl refl refl refl (table-set s i u h.table tt))
 
 -- a task becomes Ready, and is asleep no more
-pub stands_made_ready : (old new : Timeline) (s : State) (i : ℕ) → new.now ≡ old.now → new.age ≡ old.age → new.delayed_list ≡ without i old.delayed_list → StandsFor old s → i < length s.tasks → StandsFor new (make_ready i s)
-stands_made_ready old new s i now age sleepers h l =
+pub stands_made_ready : (old new : Timeline) (s : State) (i : ℕ) → new.now ≡ old.now → new.age ≡ old.age → new.held ≡ old.held → new.delayed_list ≡ without i old.delayed_list → StandsFor old s → i < length s.tasks → StandsFor new (make_ready i s)
+stands_made_ready old new s i now age held sleepers h l =
     let u : Task = record (task_at s i) { status = Ready s.next_ticket } in
-    same_parts (record old { delayed_list = without i old.delayed_list }) new (make_ready i s) now age sleepers
+    same_parts (record old { delayed_list = without i old.delayed_list }) new (make_ready i s) now age held sleepers
     (stands_woken old s (make_ready i s) i u h l refl refl refl refl (table-make_ready s i h.table))
 
 -- the same while another is still to be placed
@@ -517,13 +600,14 @@ without_apart i j m (Some w) ne = by_test (eqb w m)
     (λ t. rw (t, ne_eqb i j ne) refl)
     (λ t. rw t refl)
 
-pub stands_before_made_ready : (old new : Timeline) (s : State) (i j : ℕ) (deadline : Option ℕ) → new.now ≡ old.now → new.age ≡ old.age → new.delayed_list ≡ without j old.delayed_list → StandsBefore i deadline old s → i ≢ j → j < length s.tasks
+pub stands_before_made_ready : (old new : Timeline) (s : State) (i j : ℕ) (deadline : Option ℕ) → new.now ≡ old.now → new.age ≡ old.age → new.held ≡ old.held → new.delayed_list ≡ without j old.delayed_list → StandsBefore i deadline old s → i ≢ j → j < length s.tasks
     → StandsBefore i deadline new (make_ready j s)
-stands_before_made_ready old new s i j deadline now age sleepers h ne l =
+stands_before_made_ready old new s i j deadline now age held sleepers h ne l =
     let u : Task = record (task_at s j) { status = Ready s.next_ticket } in
     record {
       now = now ∙ h.now;
-      age = age ∙ h.age;
+      age = ap₂ (λ (a b : ℕ). a + b) age held ∙ h.age;
+      held = held ∙ h.held;
       sorted = subst IsSorted (sym sleepers) (IsSorted-without j old.delayed_list h.sorted);
       once = subst EachOnce (sym sleepers) (EachOnce-without j old.delayed_list h.once);
       delayed = λ m.

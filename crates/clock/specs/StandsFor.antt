@@ -1,6 +1,6 @@
 -- What a clock's timeline stands for: the time and the sleepers of a state of the definitions, whose tickets it does not
 -- have.
-use Rattle.std.specs.Prelude.{◌≡◌, ℕ, ◌+◌, ◌==◌, false, List, [], ◌∷◌, ◌++◌, Option, Some, None, map, filter}
+use Rattle.std.specs.Prelude.{◌≡◌, ℕ, ◌+◌, ◌-◌, ◌==◌, false, List, [], ◌∷◌, ◌++◌, Option, Some, None, map, filter}
 use Rattle.model.specs.State.{State}
 use Rattle.model.specs.Order.{tasks_of}
 use Rattle.model.specs.Time.{due}
@@ -16,14 +16,19 @@ tasks_at time delayed_list = map (λ e. e.0) (filter (λ e. e.1 == time) delayed
 abbrev pub at_time : State → ℕ → State
 at_time s time = record s { time = time }
 
--- the state when a tick has come, before anyone wakes
+-- the state when a tick has come that isn't held, before anyone wakes
 abbrev pub at_next_tick : State → State
 at_next_tick s = record s { time = s.time + 1; elapsed = s.elapsed + 1 }
+
+-- the state when a held tick is applied, before anyone wakes
+abbrev pub at_held_tick : State → State
+at_held_tick s = record s { time = s.time + 1; held_ticks = s.held_ticks - 1 }
 
 -- Who sleeps until some time are those that are due when it comes, in the order in which they began.
 pub record StandsFor (t : Timeline) (s : State) : Type 0 where
   pub now : t.now ≡ s.time
-  pub age : t.age ≡ s.elapsed
+  pub age : t.age + t.held ≡ s.elapsed
+  pub held : t.held ≡ s.held_ticks
   pub sorted : IsSorted t.delayed_list
   pub once : EachOnce t.delayed_list
   pub delayed : (time : ℕ) → tasks_at time t.delayed_list ≡ tasks_of (due (at_time s time))
@@ -39,7 +44,8 @@ with_deadline task (Some time) = (task, time) ∷ []
 -- The same, but that this task, which waits until this time already, is to be put among the sleepers: it began last.
 pub record StandsBefore (task : ℕ) (deadline : Option ℕ) (t : Timeline) (s : State) : Type 0 where
   pub now : t.now ≡ s.time
-  pub age : t.age ≡ s.elapsed
+  pub age : t.age + t.held ≡ s.elapsed
+  pub held : t.held ≡ s.held_ticks
   pub sorted : IsSorted t.delayed_list
   pub once : EachOnce t.delayed_list
   pub delayed : (time : ℕ) → tasks_at time t.delayed_list ++ tasks_at time (with_deadline task deadline) ≡ tasks_of (due (at_time s time))

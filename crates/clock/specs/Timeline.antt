@@ -1,12 +1,14 @@
 -- What callers see of a clock: time without bound, and who sleeps until when.
-use Rattle.std.specs.Prelude.{◌≡◌, ◌≢◌, ℕ, ◌+◌, ◌-◌, ◌^◌, ◌<◌, ◌≤◌, ◌==◌, if◌then◌else◌, Bool, Option, Some, None, List, [], ◌∷◌, ◌++◌, map}
+use Rattle.std.specs.Prelude.{◌≡◌, ◌≢◌, ℕ, ◌+◌, ◌^◌, ◌<◌, ◌≤◌, ◌==◌, if◌then◌else◌, Bool, Option, Some, None, List, [], ◌∷◌, ◌++◌, map}
 use Rattle.lists.specs.Lists.{Each, IsSorted, IsSound, entries_of, has_node}
 
 pub record Timeline : Type 0 where
   -- the time
   pub now : ℕ
-  -- the ticks since the clock is new
+  -- the ticks since the clock is new, without those that are held
   pub age : ℕ
+  -- the ticks that have come and wait to be applied (`xPendedTicks`)
+  pub held : ℕ
   -- each sleeper with its wake time: the earliest first, and of one wake time the first to begin
   pub delayed_list : List (ℕ × ℕ)
 
@@ -23,10 +25,11 @@ abbrev pub first_at : ℕ → List (ℕ × ℕ) → Option ℕ
 first_at time [] = None
 first_at time (e ∷ entries) = if e.1 == time then Some e.0 else None
 
--- One tick passes: the sleepers whose wake time has come are due, and the others sleep on.
+-- One tick passes: the sleepers whose wake time has come are due, and the others sleep on. Held ticks stay held.
 pub record Advances (old new : Timeline) (due : List ℕ) : Type 0 where
   pub now : new.now ≡ old.now + 1
   pub age : new.age ≡ old.age + 1
+  pub held : new.held ≡ old.held
   pub delayed : old.delayed_list ≡ all_until new.now due ++ new.delayed_list
   pub later : Each (λ e. new.now < e.1) new.delayed_list
 
@@ -39,10 +42,11 @@ count_from base entries = map (λ e. (e.0, base + e.1)) entries
 abbrev pub delayed_list_of : List (List (ℕ × ℕ)) → ℕ → ℕ → ℕ → List (ℕ × ℕ)
 delayed_list_of lists base current overflow = count_from base (entries_of lists current) ++ count_from (base + 2 ^ 32) (entries_of lists overflow)
 
-abbrev pub timeline_of : List (List (ℕ × ℕ)) → ℕ → ℕ → ℕ → ℕ → ℕ → Timeline
-timeline_of lists age base tick current overflow = record {
+abbrev pub timeline_of : List (List (ℕ × ℕ)) → ℕ → ℕ → ℕ → ℕ → ℕ → ℕ → Timeline
+timeline_of lists age held base tick current overflow = record {
   now = base + tick;
   age = age;
+  held = held;
   delayed_list = delayed_list_of lists base current overflow;
 }
 
@@ -54,6 +58,7 @@ pub record IsClock (lists : List (List (ℕ × ℕ))) (age base tick current ove
   pub overflow_known : overflow < 2
   pub differ : current ≢ overflow
   pub young : base + tick ≤ age + 2 ^ 32
+  pub countable : age ≤ 2 ^ 62
   pub ahead : Each (λ e. tick < e.1) (entries_of lists current)
   pub fits : Each (λ e. e.1 < 2 ^ 32) (entries_of lists current)
   pub overflow_fits : Each (λ e. e.1 < 2 ^ 32) (entries_of lists overflow)

@@ -1,12 +1,13 @@
 //! The clock: its tick, and its two lists of sleepers.
 ghost use Rattle.std.specs.Prelude.{◌≡◌, ◌+◌, ◌-◌, ◌*◌, ◌^◌, ◌<◌, ◌≤◌, ◌%◌, [], min, true, false, length, IsTrue, ◌↔◌, Some, ◌≢◌, ℕ, Option};
 ghost use Rattle.lists.specs.Lists.{insert_sorted, without, Each};
-ghost use Rattle.model.specs.State.{State};
+ghost use Rattle.model.specs.State.{State, Suspended, with_status};
 ghost use Rattle.model.specs.Order.{tasks_of};
 ghost use Rattle.model.specs.Switching as switching;
+ghost use Rattle.model.specs.Switching.{is_scheduler_suspended};
 ghost use Rattle.model.specs.Time as time;
 ghost use Rattle.clock.specs.Timeline.{is_asleep, Advances};
-ghost use Rattle.clock.specs.StandsFor.{StandsFor, StandsBefore, at_next_tick};
+ghost use Rattle.clock.specs.StandsFor.{StandsFor, StandsBefore, at_held_tick, at_next_tick};
 
 use crate::due::{Due, first_due, take_due};
 use lists::ListId;
@@ -30,6 +31,8 @@ pub struct Mark {
 pub struct Clock {
     lists: TaskLists<2>,
     age: u64,
+    /// The ticks that have come and wait to be applied.
+    held: u32,
     overflows: u32,
     tick: u32,
     current: ListId,
@@ -43,7 +46,7 @@ impl Model for Clock {
 
     ghost Value = { Timeline };
 
-    ghost view = { λ c. timeline_of c.lists c.age (2 ^ 32 * c.overflows) c.tick
+    ghost view = { λ c. timeline_of c.lists c.age c.held (2 ^ 32 * c.overflows) c.tick
         c.current.number c.overflow.number };
 
     ghost invariant = { λ c. IsClock c.lists c.age (2 ^ 32 * c.overflows) c.tick
@@ -51,15 +54,17 @@ impl Model for Clock {
 }
 
 impl Clock {
-    /// A clock that shows the tick `start`, 0 to 4294967295, and nobody sleeps.
+    /// A clock that shows the tick `start`, 0 to 4294967295; nobody sleeps, and no tick is held.
     pub fn new(start: u32) -> Self
         ensures now { result.now ≡ start }
         ensures age { result.age ≡ 0 }
+        ensures held { result.held ≡ 0 }
         ensures nobody { result.delayed_list ≡ [] }
     {
         Clock {
             lists: TaskLists::new(),
             age: 0,
+            held: 0,
             overflows: 0,
             tick: start,
             current: ListId { number: 0 },
@@ -75,11 +80,49 @@ impl Clock {
         self.tick
     }
 
-    /// The ticks since `new`.
+    /// The ticks since `new`, without those that are held.
     pub fn age(&self) -> u64
         ensures age { result ≡ self.now.age }
     {
         self.age
+    }
+
+    /// The ticks that have come and wait to be applied (`xPendedTicks`).
+    pub fn held(&self) -> u32
+        ensures held { result ≡ self.now.held }
+    {
+        self.held
+    }
+
+    /// Holds a tick that comes while the scheduler is suspended: it waits to be applied, and the time stays
+    /// (`xTaskIncrementTick`). Before the call less than 4294967295 ticks are held.
+    pub fn hold_tick(&mut self)
+        requires { self.old.held < 4294967295 }
+        ensures held { self.new ≡ record self.old { held = self.old.held + 1 } }
+        // In the definitions, where a `suspend_all` is in force, the tick has come.
+        ensures stands { (s : State) → StandsFor self.old s → is_scheduler_suspended s ≡ true
+            → StandsFor self.new (time.increment_tick s) }
+    {
+        self.held += 1;
+    }
+
+    /// Releases one of the held ticks, of which there is one: `advance` is to apply it (`xTaskResumeAll`).
+    pub fn release(&mut self)
+        requires { 0 < self.old.held }
+        ensures released { self.new ≡ record self.old { held = self.old.held - 1 } }
+        // As `advance` then asks of a clock.
+        ensures stands { (s : State) → StandsFor self.old s
+            → StandsFor (record self.new { held = self.new.held + 1 }) s }
+    {
+        self.held -= 1;
+    }
+
+    /// The ticks since `new`, with those that are held (`hold_tick`).
+    pub fn elapsed(&self) -> u64
+        ensures elapsed { result ≡ self.now.age + self.now.held }
+        ensures stands { (s : State) → StandsFor self.now s → result ≡ s.elapsed }
+    {
+        self.age + self.held as u64
     }
 
     /// The moment that is now, to count from.
@@ -124,6 +167,7 @@ impl Clock {
         requires awake { is_asleep self.old task ≡ false }
         ensures now { self.new.now ≡ self.old.now }
         ensures age { self.new.age ≡ self.old.age }
+        ensures held { self.new.held ≡ self.old.held }
         ensures delayed { self.new.delayed_list
             ≡ insert_sorted (task, self.old.now + ticks) self.old.delayed_list }
         // For a task that is Ready, this is the definitions' `sleep`.
@@ -147,11 +191,15 @@ impl Clock {
     pub fn wake(&mut self, task: TaskId)
         ensures now { self.new.now ≡ self.old.now }
         ensures age { self.new.age ≡ self.old.age }
+        ensures held { self.new.held ≡ self.old.held }
         ensures delayed { self.new.delayed_list ≡ without task self.old.delayed_list }
         // In the definitions it becomes Ready,
         ensures stands { (s : State) → StandsFor self.old s → task < length s.tasks
             → StandsFor self.new (switching.make_ready task s) }
-        // also while another is still to be placed.
+        // or Suspended,
+        ensures suspended { (s : State) → StandsFor self.old s → task < length s.tasks
+            → StandsFor self.new (with_status task Suspended s) }
+        // and it is Ready also while another is still to be placed.
         ensures placing { (s : State) (other : ℕ) (deadline : Option ℕ)
             → StandsBefore other deadline self.old s → other ≢ task → task < length s.tasks
             → StandsBefore other deadline self.new (switching.make_ready task s) }
@@ -167,9 +215,15 @@ impl Clock {
         // They are those whom the definitions have due then.
         ensures due { (s : State) → StandsFor self.old s
             → result.items ≡ tasks_of (time.due (at_next_tick s)) }
-        // Once they are Ready too, the tick has come.
-        ensures woken { (s : State) → StandsFor self.old s
+        // Once they are Ready too, the tick has come, where no `suspend_all` is in force.
+        ensures woken { (s : State) → StandsFor self.old s → is_scheduler_suspended s ≡ false
             → StandsFor self.new (time.increment_tick s) }
+        // For a clock that has just released a tick, they are those whom the definitions have due with it,
+        ensures due_held { (s : State) → StandsFor (record self.old { held = self.old.held + 1 }) s
+            → result.items ≡ tasks_of (time.due (at_held_tick s)) }
+        // and then the held tick is applied.
+        ensures applied { (s : State) → StandsFor (record self.old { held = self.old.held + 1 }) s
+            → StandsFor self.new (time.apply_one s) }
     {
         let mut due = Due::new();
         self.advance_into(&mut due);
@@ -182,8 +236,12 @@ impl Clock {
         ensures advances { Advances self.old self.new due.new.items }
         ensures due { (s : State) → StandsFor self.old s
             → due.new.items ≡ tasks_of (time.due (at_next_tick s)) }
-        ensures woken { (s : State) → StandsFor self.old s
+        ensures woken { (s : State) → StandsFor self.old s → is_scheduler_suspended s ≡ false
             → StandsFor self.new (time.increment_tick s) }
+        ensures due_held { (s : State) → StandsFor (record self.old { held = self.old.held + 1 }) s
+            → due.new.items ≡ tasks_of (time.due (at_held_tick s)) }
+        ensures applied { (s : State) → StandsFor (record self.old { held = self.old.held + 1 }) s
+            → StandsFor self.new (time.apply_one s) }
     {
         due.clear();
         self.age += 1;
@@ -208,8 +266,13 @@ impl Clock {
         // In the definitions nobody is due then either, and the tick has come.
         ensures due { (s : State) → result ≡ true → StandsFor self.old s
             → [] ≡ tasks_of (time.due (at_next_tick s)) }
-        ensures woken { (s : State) → result ≡ true → StandsFor self.old s
+        ensures woken { (s : State) → result ≡ true → StandsFor self.old s → is_scheduler_suspended s ≡ false
             → StandsFor self.new (time.increment_tick s) }
+        // Nor with a tick that has just been released, and then it is applied.
+        ensures due_held { (s : State) → result ≡ true → StandsFor (record self.old { held = self.old.held + 1 }) s
+            → [] ≡ tasks_of (time.due (at_held_tick s)) }
+        ensures applied { (s : State) → result ≡ true → StandsFor (record self.old { held = self.old.held + 1 }) s
+            → StandsFor self.new (time.apply_one s) }
     {
         if self.tick == u32::MAX {
             if first_due(&self.lists, self.overflow, 0).is_some() {

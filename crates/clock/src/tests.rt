@@ -46,3 +46,26 @@ fn sleepers_wake_across_the_wrap(rt: HostRuntime) {
     assert!(rt; mark.moment <= clock.mark().moment);
     assert_eq!(rt; clock.elapsed_since(mark), 3);
 }
+
+#[test]
+fn a_held_tick_is_applied_later(rt: HostRuntime) {
+    let mut clock = Clock::new(5);
+    sleep(&rt, &mut clock, TaskId { number: 3 }, 1);
+    assert!(rt; clock.held() < 10);
+    clock.hold_tick();
+    assert!(rt; clock.held() < 10);
+    clock.hold_tick();
+    assert_eq!(rt; clock.held(), 2);
+    assert_eq!(rt; clock.tick(), 5);
+    assert_eq!(rt; clock.age(), 0);
+    assert!(rt; clock.held() > 0);
+    clock.release();
+    assert_eq!(rt; clock.held(), 1);
+    advance(&rt, &mut clock, &[TaskId { number: 3 }]);
+    assert!(rt; clock.held() > 0);
+    clock.release();
+    advance(&rt, &mut clock, &[]);
+    assert_eq!(rt; clock.held(), 0);
+    assert_eq!(rt; clock.tick(), 7);
+    assert_eq!(rt; clock.age(), 2);
+}

@@ -1,6 +1,6 @@
 -- What the ops make of the states that the kernel stands for.
 use Rattle.std.proofs.Common.{◌≡◌, ◌≢◌, ◌<◌, ◌≤◌, ◌+◌, ◌-◌, ℕ, true, false, eqb, leb, ltb, set, List, [], ◌∷◌, length, get_or-set_same, Option, Some, None, refl, ap, sym, subst, ◌∙◌, arith}
-use Rattle.std.specs.Option.{IfSome, option_eq}
+use Rattle.std.specs.Option.{is_some, IfSome, option_eq}
 use Rattle.std.proofs.lemmas.Bool.{lt-ltb, le-ltb, eq-eqb, ne_eqb}
 use Rattle.std.proofs.lemmas.List.{set-set}
 use Rattle.model.specs.declared.call.Phase.TheVariants.{Place}
@@ -10,7 +10,7 @@ use Rattle.model.specs.declared.event.What.{What}
 use Rattle.model.specs.declared.event.End.{End}
 use Rattle.model.specs.declared.event.End.TheVariants as ending
 use Rattle.model.specs.Application.{Application, op_count}
-use Rattle.model.specs.State.{no_call, State, Task, Progress, task_at, progress_at, with_task, no_task}
+use Rattle.model.specs.State.{no_call, State, Task, Progress, task_at, progress_at, status_at, call_at, with_task, no_task}
 use Rattle.model.specs.State as state
 use Rattle.model.specs.Switching.{write, yield_now, is_ready}
 use Rattle.model.specs.Time.{sleep, set_previous_wake}
@@ -27,6 +27,9 @@ use Rattle.objects.specs.Items.{object_in}
 use Rattle.objects.specs.Queues.{HasRoom}
 use Rattle.objects.proofs.Kept.{stands_same}
 use Rattle.objects.proofs.Awake.{at_locked_same}
+use Rattle.groups.specs.StandsFor.{bits_wait}
+use Rattle.groups.proofs.Standing as on_groups
+use Rattle.groups.proofs.Kept as bits_kept
 use Rattle.model.specs.Invariant.{IsTable}
 use Rattle.kernel.specs.StandsFor.{progress_in, At, Moves, with_progress}
 use Rattle.kernel.specs.Can.{Agrees, Runs, CanTick}
@@ -37,8 +40,8 @@ pub within : (k : Kernel) (log : List Event) (s : State) → At k log s → (i :
 within k log s h i r = let L : Option ℕ → Type 0 = λ o. IfSome o (λ j. j < length s.tasks) in subst L (sym h.stands.sched.current ∙ r) h.stands.sched.table.current
 
 -- A task's progress changes, in the kernel and in its state.
-pub changed : (k : Kernel) (log : List Event) (s : State) → At k log s → (i : ℕ) → i < length s.tasks → (p : Progress) → p.call.phase ≢ Place → At (with_progress i p k) log (state.with_progress i p s)
-changed k log s h i l p off = record { stands = stands-changed k s h.stands i l p off; log = h.log }
+pub changed : (k : Kernel) (log : List Event) (s : State) → At k log s → (i : ℕ) → i < length s.tasks → (p : Progress) → p.call.phase ≢ Place → (is_some (bits_wait (status_at s i)) ≡ true → p.call.wants ≡ (call_at s i).wants) → At (with_progress i p k) log (state.with_progress i p s)
+changed k log s h i l p off wants = record { stands = stands-changed k s h.stands i l p off wants; log = h.log }
 
 -- To change a task's progress and let it go on is to let it go on with the changed progress.
 go_to_after : (app : Application) (s : State) (i op_index : ℕ) (p : Progress) → i < length s.tasks → go_to app i op_index (progress_at (state.with_progress i p s) i) (state.with_progress i p s) ≡ go_to app i op_index p s
@@ -59,9 +62,9 @@ abbrev pub Completes : Application → Kernel → ℕ → Kernel → Type 0
 Completes app k i new = (log : List Event) (s : State) → At k log s → At new log (complete app i (progress_at s i) s)
 
 -- The running task of the kernel makes progress, and then goes on.
-module _ (app : Application) (k mid new : Kernel) (log : List Event) (s : State) (h : At k log s) (i : ℕ) (r : k.sched.current ≡ Some i) (p q : Progress) (is : mid ≡ with_progress i p k) (same : p ≡ q) (off : p.call.phase ≢ Place) where
+module _ (app : Application) (k mid new : Kernel) (log : List Event) (s : State) (h : At k log s) (i : ℕ) (r : k.sched.current ≡ Some i) (p q : Progress) (is : mid ≡ with_progress i p k) (same : p ≡ q) (off : p.call.phase ≢ Place) (wants : q.call.wants ≡ (call_at s i).wants) where
   pub at_mid : At mid log (state.with_progress i q s)
-  at_mid = let Q : Progress → Type 0 = λ x. At mid log (state.with_progress i x s) in subst Q same (rw is (changed k log s h i (within k log s h i r) p off))
+  at_mid = let Q : Progress → Type 0 = λ x. At mid log (state.with_progress i x s) in subst Q same (rw is (changed k log s h i (within k log s h i r) p off (λ _. ap (λ (x : Progress). x.call.wants) same ∙ wants)))
 
   pub goes : (op_index : ℕ) → Goes app mid i op_index new → At new log (go_to app i op_index q s)
   goes op_index g = subst (λ (x : State). At new log x) (go_to_after app s i op_index q (within k log s h i r)) (g log (state.with_progress i q s) at_mid)
@@ -83,7 +86,7 @@ answered app k mid new log told s h i r v e a w one written is g =
     let W : What → Type 0 = λ x. At k told (write x s) in
     let told_is : w ≡ called i p.op_index a = one ∙ ap (λ (x : Progress). called i x.op_index a) same in
     completes app k mid new told (write (called i p.op_index a) s) (subst W told_is written) i r (record (progress_in k.progress i) { answer = a }) (record p { answer = a }) is
-    (ap (λ (x : Progress). record x { answer = a }) (h.stands.rest.progress i)) (h.stands.rest.placed i) g
+    (ap (λ (x : Progress). record x { answer = a }) (h.stands.rest.progress i)) (h.stands.rest.placed i) refl g
 
 -- the step brings about an end
 pub stopped_at : (k : Kernel) (log : List Event) (s : State) → At k log s → (end same : End) → end ≡ same → At (record k { stopped = Some end }) log (record s { stopped = Some same })
@@ -93,12 +96,14 @@ stopped_at k log s h end same e =
     let alike : SameWaits s new = same_parts s new refl refl refl in
     record {
       stands = record {
-        sched = record { ready = h.stands.sched.ready; current = h.stands.sched.current; priorities = h.stands.sched.priorities; base_priorities = h.stands.sched.base_priorities; depth = h.stands.sched.depth; table = table };
+        sched = record { ready = h.stands.sched.ready; current = h.stands.sched.current; priorities = h.stands.sched.priorities; base_priorities = h.stands.sched.base_priorities; depth = h.stands.sched.depth; suspended = h.stands.sched.suspended; table = table };
         rest = record {
           progress = h.stands.rest.progress;
           full = h.stands.rest.full;
           clock = clock-same k.clock s new h.stands.rest.clock refl refl refl table;
           queues = stands_same s new alike k.queues None h.stands.rest.queues table;
+          groups = on_groups.stands_same k.groups s new h.stands.rest.groups (bits_kept.same_parts s new refl refl) table;
+          suspensions = h.stands.rest.suspensions;
           awake = at_locked_same None s new alike h.stands.rest.awake;
           steps = h.stands.rest.steps;
           stopped = ap Some e;
@@ -124,7 +129,7 @@ module _ (app : Application) (k new : Kernel) (log : List Event) (s : State) (h 
   used_more n l is =
       rw (ne_eqb ((progress_at s i).used + 1) n (λ q. l (ap (λ (p : Progress). p.used + 1) same ∙ q)))
       (at_mid app k new new log s h i r (record (progress_in k.progress i) { used = v.used + 1 }) (record (progress_at s i) { used = (progress_at s i).used + 1 }) is
-      (ap (λ (p : Progress). record p { used = v.used + 1 }) (h.stands.rest.progress i) ∙ ap (λ (p : Progress). record (progress_at s i) { used = p.used + 1 }) same) (h.stands.rest.placed i))
+      (ap (λ (p : Progress). record p { used = v.used + 1 }) (h.stands.rest.progress i) ∙ ap (λ (p : Progress). record (progress_at s i) { used = p.used + 1 }) same) (h.stands.rest.placed i) refl)
 
   pub expect_same : (a : Option ℕ) → option_eq eqb v.answer a ≡ true → Completes app k i new → At new log (expect app i a s)
   unfolding expect
@@ -140,7 +145,7 @@ module _ (app : Application) (k new : Kernel) (log : List Event) (s : State) (h 
   unfolding open_loop
   loop_opened mid n is g =
       let opened : Progress → Progress = λ (p : Progress). record p { loops = record { start = p.op_index + 1; left = n } ∷ p.loops } in
-      completes app k mid new log s h i r (opened v) (opened (progress_at s i)) is (ap opened same) placed g
+      completes app k mid new log s h i r (opened v) (opened (progress_at s i)) is (ap opened same) placed refl g
 
   -- the innermost loop ends a turn
   module _ (mid : Kernel) (is : mid ≡ with_progress i (record v { loops = after_turn v.loops }) k) where
@@ -164,14 +169,14 @@ module _ (app : Application) (k new : Kernel) (log : List Event) (s : State) (h 
     turn_last n g =
         let m : next_turn (progress_at s i).loops ≡ None = ap (λ (p : Progress). next_turn p.loops) (sym same) ∙ n in
         rw (none_left (progress_at s i) (progress_at s i).loops refl m)
-        (completes app k mid new log s h i r (record v { loops = after_turn v.loops }) (record (progress_at s i) { loops = after_turn (progress_at s i).loops }) is mid_is placed g)
+        (completes app k mid new log s h i r (record v { loops = after_turn v.loops }) (record (progress_at s i) { loops = after_turn (progress_at s i).loops }) is mid_is placed refl g)
 
     pub turn_next : (start : ℕ) → next_turn v.loops ≡ Some start → Goes app mid i start new → At new log (close_turn app i s)
     unfolding close_turn
     turn_next start n g =
         let m : next_turn (progress_at s i).loops ≡ Some start = ap (λ (p : Progress). next_turn p.loops) (sym same) ∙ n in
         rw (one_left (progress_at s i) (progress_at s i).loops start m)
-        (goes app k mid new log s h i r (record v { loops = after_turn v.loops }) (record (progress_at s i) { loops = after_turn (progress_at s i).loops }) is mid_is placed start g)
+        (goes app k mid new log s h i r (record v { loops = after_turn v.loops }) (record (progress_at s i) { loops = after_turn (progress_at s i).loops }) is mid_is placed refl start g)
 
 -- an answer takes no time
 pub time-answer : (app : Application) (i : ℕ) (a : Option ℕ) (s : State) → (answer app i a s).time ≡ s.time
@@ -220,12 +225,13 @@ agrees_after k new log new_log a deed does =
     let s : State = record (a.0) { log = log } in
     (deed s, (does s (record { stands = stands-told k a.0 a.1 log; log = refl })).stands)
 
-pub can_tick_still : (app : Application) (k new : Kernel) → CanTick app k → new.sched.depth ≡ k.sched.depth → new.clock ≡ k.clock → new.queues ≡ k.queues → (deed : State → State) → Moves k new deed → CanTick app new
-can_tick_still app k new c depth clock queues deed does = record {
+pub can_tick_still : (app : Application) (k new : Kernel) → CanTick app k → new.sched.depth ≡ k.sched.depth → new.clock ≡ k.clock → new.queues ≡ k.queues → new.suspensions ≡ k.suspensions → (deed : State → State) → Moves k new deed → CanTick app new
+can_tick_still app k new c depth clock queues suspensions deed does = record {
   advance = record {
     agrees = agrees_after k new [] [] c.advance.agrees deed (λ s h. does [] s h);
     free = ap (λ (q : Exchange). q.lock) queues ∙ c.advance.free;
     age = let e = ap (λ (t : Timeline). t.age) clock in let l = c.advance.age in omega arith;
+    awake = suspensions ∙ c.advance.awake;
   };
   depth = depth ∙ c.depth;
   objects = λ o a fit. subst (λ (q : Exchange). HasRoom a (object_in q.objects o)) (sym queues) (c.objects o a fit);
@@ -247,7 +253,7 @@ module _ (app : Application) (k moved : Kernel) (log : List Event) (s : State) (
   unfolding go_to
   goes_on off =
       let P : Progress → Type 0 = λ p. At (with_progress i (record p { op_index = op_index; used = 0; call = no_call }) k) log (with_task i (moved_to count op_index (progress_at s i) (task_at s i)) s) in
-      rw (is, ← many) (subst P (sym p_is) (record { stands = stands-gone k s h.stands i l count op_index (progress_at s i) (ne_eqb op_index count off); log = h.log }))
+      rw (is, ← many) (subst P (sym p_is) (record { stands = stands-gone k s h.stands i l count op_index (progress_at s i) (ne_eqb op_index count off) ready; log = h.log }))
 
   pub ends : op_index ≡ count → (v : Schedule) → v ≡ block i moved.sched → At (record moved { sched = v }) log (go_to app i op_index (progress_at s i) s)
   unfolding go_to
@@ -271,7 +277,7 @@ pub counts : (k new : Kernel) (log : List Event) (s : State) → At k log s → 
 unfolding set_previous_wake
 counts k new log s h i l time is =
     let P : Progress → Type 0 = λ p. At (with_progress i (record p { previous_wake = time }) k) log (state.with_progress i (record (progress_at s i) { previous_wake = time }) s) in
-    rw is (subst P (sym (h.stands.rest.progress i)) (changed k log s h i l (record (progress_at s i) { previous_wake = time }) (let Q : Progress → Type 0 = λ p. p.call.phase ≢ Place in subst Q (h.stands.rest.progress i) (h.stands.rest.placed i))))
+    rw is (subst P (sym (h.stands.rest.progress i)) (changed k log s h i l (record (progress_at s i) { previous_wake = time }) (let Q : Progress → Type 0 = λ p. p.call.phase ≢ Place in subst Q (h.stands.rest.progress i) (h.stands.rest.placed i)) (λ _. refl)))
 
 -- the running task is a task after it has answered, and when it sleeps
 pub still_task : (app : Application) (k : Kernel) (log : List Event) (s : State) → At k log s → (i : ℕ) → k.sched.current ≡ Some i → (n : ℕ) → i < length (answer app i (Some n) s).tasks

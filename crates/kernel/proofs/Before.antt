@@ -5,7 +5,7 @@ use Rattle.std.specs.List.{AllByRecursion}
 use Rattle.std.specs.Option.{option_map, option_and_then}
 use Rattle.model.specs.declared.call.Phase.TheVariants.{Place}
 use Rattle.model.specs.declared.call.WaitList.{WaitList}
-use Rattle.model.specs.State.{State, Task, Progress, Status, Object, Ready, Awake, Waiting, Asleep, Ended, wait_of, wait_if_waiting, task_at, status_at, progress_at, call_at, with_object, for_one, no_task}
+use Rattle.model.specs.State.{State, Task, Progress, Status, Object, Ready, Awake, Waiting, Asleep, WaitingForBits, Suspended, Ended, wait_of, wait_if_waiting, task_at, status_at, progress_at, call_at, with_object, for_one, no_task}
 use Rattle.model.specs.Order.{Key, Entry, first, task_of}
 use Rattle.model.specs.Switching.{make_ready}
 use Rattle.model.specs.Waiting.{wait_key, same_list, awake_status, awaken, is_locked, waiters, wake_one, wake_best}
@@ -29,11 +29,15 @@ use Rattle.objects.specs.Queues as queues
 use Rattle.objects.specs.Queues.{Exchange}
 use Rattle.objects.proofs.Keys.{same_list-true, same_list-refl}
 use Rattle.objects.proofs.Awake.{at_locked-stored, at_locked-wake_best}
+use Rattle.groups.specs.StandsFor.{SameBitWaits}
+use Rattle.groups.proofs.Standing as on_groups
+use Rattle.groups.proofs.Kept as bits_kept
+use Rattle.groups.proofs.Elsewhere as bits_elsewhere
 use Rattle.kernel.specs.declared.kernel.Kernel.{Kernel}
 use Rattle.kernel.specs.StandsFor.{StandsBefore, Stands, decider}
 use Rattle.kernel.specs.StandsFor.Stands.{Placed, Placing}
 use Rattle.kernel.proofs.Waking.{progress-ready}
-use Rattle.kernel.proofs.Waits.{awake_unready, awake_alike, best, woken_free, waits_there, opened, wakes_it, Unwoken, unwoken}
+use Rattle.kernel.proofs.Waits.{awake_unready, awake_resumes, awake_alike, best, woken_free, waits_there, opened, wakes_it, Unwoken, unwoken}
 use Rattle.kernel.proofs.Waits.Unwoken.{Nobody, Counted}
 
 -- ---- a status changes, and nothing else
@@ -76,6 +80,8 @@ one_list a b k m (Waiting w) e f = by_test (same_list w.list a)
     (λ u. let g = rw u at f in absurd (cc)))
     (λ t. let g = rw t at e in absurd (cc))
 one_list a b k m (Asleep w n) e f = absurd (cc)
+one_list a b k m (WaitingForBits g n d) e f = absurd (cc)
+one_list a b k m Suspended e f = absurd (cc)
 one_list a b k m Ended e f = absurd (cc)
 
 module _ (task : ℕ) (list : WaitList) (k : Kernel) (s : State) (b : StandsBefore task list k s) where
@@ -101,9 +107,11 @@ module _ (task : ℕ) (list : WaitList) (k : Kernel) (s : State) (b : StandsBefo
   stored_before o x q there =
       let table : IsTable (with_object o x s) = there.waiters.table in
       record {
-        sched = record { ready = b.sched.ready; still = b.sched.still; current = b.sched.current; priorities = b.sched.priorities; base_priorities = b.sched.base_priorities; depth = b.sched.depth; table = table };
-        clock = record { now = b.clock.now; age = b.clock.age; sorted = b.clock.sorted; once = b.clock.once; delayed = b.clock.delayed; awake = b.clock.awake; table = table };
+        sched = record { ready = b.sched.ready; still = b.sched.still; current = b.sched.current; priorities = b.sched.priorities; base_priorities = b.sched.base_priorities; depth = b.sched.depth; suspended = b.sched.suspended; table = table };
+        clock = record { now = b.clock.now; age = b.clock.age; held = b.clock.held; sorted = b.clock.sorted; once = b.clock.once; delayed = b.clock.delayed; awake = b.clock.awake; table = table };
         queues = there;
+        groups = on_groups.stands_same k.groups s (with_object o x s) b.groups (bits_kept.same_object o x s) table;
+        suspensions = b.suspensions;
         awake = at_locked-stored (Some (decider task list s)) o x s b.awake;
         progress = b.progress;
         full = b.full;
@@ -121,13 +129,15 @@ module _ (task : ℕ) (list : WaitList) (k : Kernel) (s : State) (b : StandsBefo
     own_task : task_at (make_ready i s) task ≡ task_at s task
     own_task = get_or-set_other s.tasks i task (record (task_at s i) { status = Ready s.next_ticket }) no_task ne
 
-    pub readied_before : (v : Schedule) (t : Timeline) (q : Exchange) → sched.StandsBefore task v (make_ready i s) → clock.StandsBefore task (call_at s task).deadline t (make_ready i s) → queues.StandsFor q (Some (decider task list s)) (make_ready i s) → AtLocked (Some (decider task list s)) (make_ready i s)
+    pub readied_before : (v : Schedule) (t : Timeline) (q : Exchange) → sched.StandsBefore task v (make_ready i s) → clock.StandsBefore task (call_at s task).deadline t (make_ready i s) → queues.StandsFor q (Some (decider task list s)) (make_ready i s) → AtLocked (Some (decider task list s)) (make_ready i s) → SameBitWaits s (make_ready i s)
         → StandsBefore task list (record k { sched = v; clock = t; queues = q }) (make_ready i s)
-    readied_before v t q on awake there locked =
+    readied_before v t q on awake there locked bits =
         record {
           sched = on;
           clock = subst (λ (u : Task). clock.StandsBefore task u.progress.call.deadline t (make_ready i s)) (sym own_task) awake;
           queues = subst (λ (u : Task). queues.StandsFor q (Some (record { task = task; list = list; priority = u.priority })) (make_ready i s)) (sym own_task) there;
+          groups = on_groups.stands_same k.groups s (make_ready i s) b.groups bits on.table;
+          suspensions = b.suspensions;
           awake = subst (λ (u : Task). AtLocked (Some (record { task = task; list = list; priority = u.priority })) (make_ready i s)) (sym own_task) locked;
           progress = λ j. b.progress j ∙ sym (progress-ready s i j);
           full = b.full;
@@ -141,16 +151,18 @@ module _ (task : ℕ) (list : WaitList) (k : Kernel) (s : State) (b : StandsBefo
         }
 
   -- someone is Awake, perhaps itself
-  pub awakened_before : (i : ℕ) → i < length s.tasks → (q : Exchange) → queues.StandsFor q (Some (decider task list s)) (awaken i s) → AtLocked (Some (decider task list s)) (awaken i s) → StandsBefore task list (record k { queues = q }) (awaken i s)
-  awakened_before i l q there locked =
+  pub awakened_before : (i : ℕ) → i < length s.tasks → (q : Exchange) → queues.StandsFor q (Some (decider task list s)) (awaken i s) → AtLocked (Some (decider task list s)) (awaken i s) → SameBitWaits s (awaken i s) → StandsBefore task list (record k { queues = q }) (awaken i s)
+  awakened_before i l q there locked bits =
       let t : Task = record (task_at s i) { status = awake_status (status_at s i) } in
       let table : IsTable (awaken i s) = there.waiters.table in
       let same_progress : (j : ℕ) → progress_at (awaken i s) j ≡ progress_at s j = λ j. progress-kept s.tasks i j t refl in
       let same_priority : (task_at (awaken i s) task).priority ≡ (task_at s task).priority = priority-kept s.tasks i task t refl in
       record {
-        sched = on_sched.stands_before_kept k.sched s (awaken i s) task i t b.sched l refl refl refl (ap (λ (o : Option ℕ). option_map (λ n. record { priority = (task_at s i).priority; ticket = n }) o) (awake_unready (status_at s i))) refl refl table;
+        sched = on_sched.stands_before_kept k.sched s (awaken i s) task i t b.sched l refl refl refl (ap (λ (o : Option ℕ). option_map (λ n. record { priority = (task_at s i).priority; ticket = n }) o) (awake_unready (status_at s i))) refl refl table (awake_resumes (status_at s i));
         clock = subst (λ (p : Progress). clock.StandsBefore task p.call.deadline k.clock (awaken i s)) (sym (same_progress task)) (on_clock.stands_before_kept k.clock s (awaken i s) task i (call_at s task).deadline t b.clock l refl refl refl (awake_alike (status_at s i)) table);
         queues = subst (λ (n : ℕ). queues.StandsFor q (Some (record { task = task; list = list; priority = n })) (awaken i s)) (sym same_priority) there;
+        groups = on_groups.stands_same k.groups s (awaken i s) b.groups bits table;
+        suspensions = b.suspensions;
         awake = subst (λ (n : ℕ). AtLocked (Some (record { task = task; list = list; priority = n })) (awaken i s)) (sym same_priority) locked;
         progress = λ j. b.progress j ∙ sym (same_progress j);
         full = b.full;
@@ -171,7 +183,7 @@ module _ (task : ℕ) (tl : WaitList) (k : Kernel) (s : State) (b : StandsBefore
   pub free_before : schedule.is_ready k.sched i ≡ false
   free_before =
       let gone : Schedule = record k.sched { ready = without task (lined_up k.sched); pending = [] } in
-      let stands : sched.StandsFor gone s = record { ready = b.sched.ready; current = b.sched.current; priorities = b.sched.priorities; base_priorities = b.sched.base_priorities; depth = b.sched.depth; table = b.sched.table } in
+      let stands : sched.StandsFor gone s = record { ready = b.sched.ready; current = b.sched.current; priorities = b.sched.priorities; base_priorities = b.sched.base_priorities; depth = b.sched.depth; suspended = b.sched.suspended; table = b.sched.table } in
       sym (has_node-without_other task i (lined_up k.sched) (λ e. apart_there (sym e))) ∙ on_sched.ready_same gone s i stands ∙ (waits_there s list i is).unready
 
   pub woken_before : (v : Schedule) (t : Timeline) (q : Exchange) → (task ≢ i → i < length s.tasks → sched.StandsBefore task v (make_ready i s)) → (task ≢ i → i < length s.tasks → clock.StandsBefore task (call_at s task).deadline t (make_ready i s)) → queues.StandsFor q (Some (decider task tl s)) (wake_best list s)
@@ -180,7 +192,7 @@ module _ (task : ℕ) (tl : WaitList) (k : Kernel) (s : State) (b : StandsBefore
       let l = (waits_there s list i is).within in
       let one = wakes_it s list i is in
       subst (StandsBefore task tl (record k { sched = v; clock = t; queues = q })) (sym one)
-      (readied_before task tl k s b i apart_there v t q (on apart_there l) (awake apart_there l) (subst (queues.StandsFor q (Some (decider task tl s))) one there) (subst (AtLocked (Some (decider task tl s))) one (at_locked-wake_best (Some (decider task tl s)) list s b.awake)))
+      (readied_before task tl k s b i apart_there v t q (on apart_there l) (awake apart_there l) (subst (queues.StandsFor q (Some (decider task tl s))) one there) (subst (AtLocked (Some (decider task tl s))) one (at_locked-wake_best (Some (decider task tl s)) list s b.awake)) (subst (SameBitWaits s) one (bits_elsewhere.same_wake_best list s)))
 
 -- in either case whoever is woken isn't Ready in the scheduler
 pub woken_free_any : (k : Kernel) (s : State) (list : WaitList) (i : ℕ) → Stands k s → ((d : Option Decider) → queues.StandsFor k.queues d s → AtLocked d s → Some i ≡ (if is_locked s.locked list then None else best s list)) → schedule.is_ready k.sched i ≡ false
@@ -196,6 +208,8 @@ module _ (task : ℕ) (tl : WaitList) (k : Kernel) (s : State) (b : StandsBefore
       sched = b.sched;
       clock = b.clock;
       queues = subst (queues.StandsFor q (Some (decider task tl s))) one there;
+      groups = b.groups;
+      suspensions = b.suspensions;
       awake = b.awake;
       progress = b.progress;
       full = b.full;
@@ -207,7 +221,7 @@ module _ (task : ℕ) (tl : WaitList) (k : Kernel) (s : State) (b : StandsBefore
       waits = b.waits;
       placed = b.placed;
     })
-    by_case (Counted i l one) = subst (StandsBefore task tl (record k { queues = q })) (sym one) (awakened_before task tl k s b i l q (subst (queues.StandsFor q (Some (decider task tl s))) one there) (subst (AtLocked (Some (decider task tl s))) one (at_locked-wake_best (Some (decider task tl s)) list s b.awake)))
+    by_case (Counted i l one) = subst (StandsBefore task tl (record k { queues = q })) (sym one) (awakened_before task tl k s b i l q (subst (queues.StandsFor q (Some (decider task tl s))) one there) (subst (AtLocked (Some (decider task tl s))) one (at_locked-wake_best (Some (decider task tl s)) list s b.awake)) (subst (SameBitWaits s) one (bits_elsewhere.same_wake_best list s)))
 
 -- what a wake tells: nothing
 pub log-wake_best : (list : WaitList) (s : State) → (wake_best list s).log ≡ s.log

@@ -8,16 +8,16 @@ use Rattle.model.specs.declared.call.Phase.TheVariants.{Place}
 use Rattle.model.specs.declared.op.Op.{Op}
 use Rattle.model.specs.Application.{Application, Definition}
 use Rattle.model.specs.Scripts.{IsDefinition, IsWellFormed}
-use Rattle.model.specs.State.{State, Task, Progress, Object, no_object, no_call, Ready, wake_time_of, no_task, no_progress, task_at, status_at, for_each}
+use Rattle.model.specs.State.{State, Task, Progress, Object, no_object, no_call, Ready, Ended, wake_time_of, no_task, no_progress, task_at, status_at, for_each}
 use Rattle.model.specs.Order.{keyed, list_by, tasks_of}
-use Rattle.model.specs.Switching.{make_ready, ready_key, choice, choose, dispatch, is_same}
+use Rattle.model.specs.Switching.{make_ready, ready_key, choice, choose, dispatch, is_held, is_same}
 use Rattle.model.specs.Time.{delayed_key, due}
 use Rattle.model.specs.Step.{task_at_reset, with_ops, is_empty, reset, nobody_ready, ready_at_reset}
 use Rattle.model.proofs.Sorting.{by_test}
 use Rattle.model.proofs.Lists.{eqb-refl, eqb-same, eqb-apart}
 use Rattle.model.proofs.Chosen.{choice_within, each-end}
 use Rattle.model.proofs.Frames.{keeps-all_ready}
-use Rattle.model.proofs.Settled.{same_eq}
+use Rattle.model.proofs.Settled.{same_eq, held_by_none}
 use Rattle.sched.specs.StandsFor as sched
 use Rattle.sched.specs.StandsFor.{with_priorities}
 use Rattle.sched.specs.Schedule as schedule
@@ -35,8 +35,13 @@ use Rattle.kernel.specs.StandsFor.{progress_in, StandsFor}
 use Rattle.kernel.specs.Boot.{priorities_in, HasNoneFrom}
 use Rattle.kernel.proofs.Parts.{clock-same, ready_alike}
 use Rattle.sched.proofs.LinedUp.{ready_made}
-use Rattle.kernel.proofs.Waking.{progress-all_ready}
-use Rattle.model.specs.Invariant.{Hold, Hold, IsTable}
+use Rattle.kernel.proofs.Waking.{progress-all_ready, still_awake}
+use Rattle.model.specs.Suspension.{can_resume}
+use Rattle.groups.specs.StandsFor as groups
+use Rattle.groups.specs.StandsFor.{bits_wait, SameBitWaits}
+use Rattle.groups.proofs.Standing as on_groups
+use Rattle.groups.proofs.Kept as bits_kept
+use Rattle.model.specs.Invariant.{Hold, Suspension, IsTable}
 use Rattle.model.proofs.Reached.{call-reset}
 use Rattle.model.proofs.Sound.{free_unwoken}
 use Rattle.objects.specs.Queues as queues
@@ -177,12 +182,12 @@ module _ (s : State) (ds : List Definition) (j : ℕ) (d : Definition) (l : j < 
       let same : with_ops 0 (take (j + 1) ds) ≡ with_ops 0 (take j ds) = with_more ∙ rw t (append-nil (with_ops 0 (take j ds))) in
       rw same h
 
-  pub ready_one_more : (new : Schedule) → eqb (length d.script) 0 ≡ false → length s.tasks ≡ length ds → (j < length so.tasks → sched.StandsFor new (make_ready j so)) → sched.StandsFor new (for_each make_ready (with_ops 0 (take (j + 1) ds)) s)
-  ready_one_more new e n goes =
+  pub ready_one_more : (new : Schedule) → eqb (length d.script) 0 ≡ false → length s.tasks ≡ length ds → ((i : ℕ) → can_resume (status_at s i) ≡ false) → (j < length so.tasks → can_resume (status_at so j) ≡ false → sched.StandsFor new (make_ready j so)) → sched.StandsFor new (for_each make_ready (with_ops 0 (take (j + 1) ds)) s)
+  ready_one_more new e n awake goes =
       let t : is_empty d.script ≡ false = sym (empty_is d.script) ∙ e in
       let same : with_ops 0 (take (j + 1) ds) ≡ with_ops 0 (take j ds) ++ j ∷ [] = with_more ∙ rw t refl in
       let low : j < length so.tasks = rw ((keeps-all_ready (with_ops 0 (take j ds)) s).tasks, n) l in
-      rw (same, each-end make_ready s (with_ops 0 (take j ds)) j) (goes low)
+      rw (same, each-end make_ready s (with_ops 0 (take j ds)) j) (goes low (still_awake s (with_ops 0 (take j ds)) j (awake j)))
 
 pub none_more : (v new : Schedule) (j : ℕ) → new ≡ schedule.make_ready j v → HasNoneFrom j v → HasNoneFrom (j + 1) new
 none_more v new j is h task le =
@@ -199,9 +204,9 @@ sched_chosen : (v : Schedule) (s : State) → sched.StandsFor v (choose s) → s
 unfolding choose dispatch
 sched_chosen v s h = by_test (is_same (choice s) s.current)
     (λ t. let g : sched.StandsFor v s = rw t at h in
-    record { ready = g.ready; current = g.current ∙ sym (same_eq (choice s) s.current t); priorities = g.priorities; base_priorities = g.base_priorities; depth = g.depth; table = record { tickets = g.table.tickets; few = g.table.few; current = choice_within s; holders = g.table.holders } })
+    record { ready = g.ready; current = g.current ∙ sym (same_eq (choice s) s.current t); priorities = g.priorities; base_priorities = g.base_priorities; depth = g.depth; suspended = g.suspended; table = record { tickets = g.table.tickets; few = g.table.few; current = choice_within s; holders = g.table.holders } })
     (λ t. let g = rw t at h in
-    record { ready = g.ready; current = g.current; priorities = g.priorities; base_priorities = g.base_priorities; depth = g.depth; table = record { tickets = g.table.tickets; few = g.table.few; current = choice_within s; holders = g.table.holders } })
+    record { ready = g.ready; current = g.current; priorities = g.priorities; base_priorities = g.base_priorities; depth = g.depth; suspended = g.suspended; table = record { tickets = g.table.tickets; few = g.table.few; current = choice_within s; holders = g.table.holders } })
 
 -- Nobody sleeps.
 NobodyAsleep : State → Type 0
@@ -256,9 +261,23 @@ module _ (app : Application) where
   pub none_placing : (ps : List Progress) → ((i : ℕ) → progress_in ps i ≡ (get_or (map (task_at_reset app.start) app.tasks) i no_task).progress) → (i : ℕ) → (progress_in ps i).call.phase ≢ Place
   none_placing ps h i q = let e : (progress_in ps i).call ≡ no_call = ap (λ (p : Progress). p.call) (h i) ∙ (call-reset app.start i app.tasks).0 in let f = rw e at q in absurd (cc)
 
+-- nobody is suspended in a new scheduler
+pub nobody_suspended : (i : ℕ) → get_or (replicate 32 false) i false ≡ false
+nobody_suspended i = all_false 32 i where
+  all_false : (n i : ℕ) → get_or (replicate n false) i false ≡ false
+  all_false zero i = refl
+  all_false (suc n) zero = refl
+  all_false (suc n) (suc i) = all_false n i
+
+-- nobody has been Ready yet
+pub ended_reset : (start i : ℕ) (ds : List Definition) → (get_or (map (task_at_reset start) ds) i no_task).status ≡ Ended
+ended_reset start i [] = refl
+ended_reset start zero (d ∷ ds) = refl
+ended_reset start (suc i) (d ∷ ds) = ended_reset start i ds
+
 pub booted : (app : Application) → IsWellFormed app → (k : Kernel) (v w : Schedule) → StandsFor k (nobody_ready app)
     → sched.StandsFor v (for_each make_ready (with_ops 0 app.tasks) (nobody_ready app))
-    → ((s : State) → sched.StandsFor v s → s.call_hold ≡ false → sched.StandsFor w (choose s))
+    → ((s : State) → sched.StandsFor v s → is_held s ≡ false → sched.StandsFor w (choose s))
     → StandsFor (record k { sched = w }) (reset app)
 unfolding reset ready_at_reset nobody_ready NobodyAsleep
 booted app formed k v w h ready chooses =
@@ -268,8 +287,9 @@ booted app formed k v w h ready chooses =
     let low : AllByRecursion (λ i. i < length none.tasks) is = with_ops_within 0 (length none.tasks) app.tasks (let n : length none.tasks ≡ length app.tasks = length-map app.tasks (task_at_reset app.start) in omega arith) in
     let awake : (i : ℕ) → wake_time_of (status_at none i) ≡ None = ended_at_reset app.start app.tasks in
     let keep = keeps-all_ready is none in
-    let on = sched_chosen w s (chooses s ready (ap (λ (h : Hold). h.held) keep.hold)) in
+    let on = sched_chosen w s (chooses s ready (held_by_none s (ap (λ (h : Hold). h.held) keep.hold) (ap (λ (x : Suspension). x.suspensions) keep.suspension))) in
     let same : SameWaits none (reset app) = same_at_reset app in
+    let bits : SameBitWaits none (reset app) = bits_kept.same_both none s (reset app) (bits_kept.same_all_ready is none (nobody_waits is)) (bits_kept.same_parts s (reset app) refl refl) in
     let c : clock.StandsFor k.clock s = clock-all_ready k.clock is none h.rest.clock awake low in
     record {
       sched = on;
@@ -278,9 +298,14 @@ booted app formed k v w h ready chooses =
         full = h.rest.full;
         clock = clock-same k.clock s (record s { current = choice s }) c refl refl refl on.table;
         queues = stands_same none (reset app) same k.queues None h.rest.queues on.table;
+        groups = on_groups.stands_same k.groups none (reset app) h.rest.groups bits on.table;
+        suspensions = h.rest.suspensions ∙ sym (ap (λ (x : Suspension). x.suspensions) keep.suspension);
         awake = at_locked_same None none (reset app) same h.rest.awake;
         steps = h.rest.steps ∙ sym keep.steps;
         stopped = h.rest.stopped ∙ sym keep.stopped;
         placed = h.rest.placed;
       };
-    }
+    } where
+      nobody_waits : (js : List ℕ) → AllByRecursion (λ i. bits_wait (status_at (nobody_ready app) i) ≡ None) js
+      nobody_waits [] = tt
+      nobody_waits (j ∷ js) = (ap bits_wait (ended_reset app.start j app.tasks), nobody_waits js)

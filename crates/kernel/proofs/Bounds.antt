@@ -1,5 +1,5 @@
 -- A kernel whose run goes on keeps within the numbers of the code.
-use Rattle.std.proofs.Common.{◌≡◌, ◌≢◌, ◌<◌, ◌≤◌, ◌+◌, ℕ, Bool, true, false, cond, leb, ◌&&◌, List, length, Option, Some, None, refl, ap, sym, subst, ◌∙◌, arith}
+use Rattle.std.proofs.Common.{◌≡◌, ◌≢◌, ◌<◌, ◌≤◌, ◌+◌, ℕ, Bool, true, false, cond, leb, List, length, Option, Some, None, refl, ap, sym, subst, ◌∙◌, arith}
 use Rattle.std.specs.Prelude.{if◌then◌else◌}
 use Rattle.std.proofs.lemmas.Bool.{ltb-true}
 use Rattle.std.proofs.lemmas.Bool.Decides.{nat_tests}
@@ -7,7 +7,7 @@ use Rattle.std.proofs.lemmas.Option.{same_Some, slice_get_within}
 use Rattle.std.specs.Option.{IfSome}
 use Rattle.model.specs.declared.ids.TaskId.{TaskId}
 use Rattle.model.specs.declared.call.Phase.{Phase}
-use Rattle.model.specs.declared.call.Phase.TheVariants.{Start, Try, Decide, Place, Unlock, Leave}
+use Rattle.model.specs.declared.call.Phase.TheVariants.{Start, Try, Decide, Place, Unlock, Leave, Final}
 use Rattle.model.specs.declared.event.End.{End}
 use Rattle.model.specs.declared.event.End.TheVariants as ending
 use Rattle.model.specs.declared.op.Access.{Access}
@@ -17,7 +17,7 @@ use Rattle.model.specs.Application.{Application, Limits, script_of, op_at}
 use Rattle.model.specs.Scripts.{may_stand, fits_object, is_wait, knows, IsWellFormed}
 use Rattle.model.specs.State.{State, Progress, Wait, wait_of, task_at, progress_at, call_at, status_at}
 use Rattle.model.specs.Run.{end_of, or_else, are_all_ended, is_stuck, state_after}
-use Rattle.model.specs.Invariant.{IsState, IsUsedBy, IsRunning, IsPlacing, IsWaitOf, RunsIn, awaited, hold_of, holds}
+use Rattle.model.specs.Invariant.{IsState, IsUsedBy, IsRunning, IsPlacing, IsWaitOf, RunsIn, awaited, IsPhaseOf, Suspension, hold_of, holds}
 use Rattle.model.proofs.InScripts.{script_formed, stands_at, known_at, range_at}
 use Rattle.model.proofs.Sound.{ready_reckoned}
 use Rattle.model.proofs.Frames.{keeps-before_step}
@@ -32,7 +32,7 @@ use Rattle.kernel.specs.declared.kernel.Kernel.{Kernel}
 use Rattle.kernel.specs.StandsFor.{StandsFor, StandsBefore, Stands, decider, progress_in}
 use Rattle.kernel.specs.StandsFor.Stands.{Placed, Placing}
 use Rattle.kernel.specs.Can.{Runs, HasLoopRoom, HasRoom, HasObject, HasObjects, CanTick, Can, IsAhead, IsInCall, CanTry, IsShort, CanPlace, CanGoOn, CanOp, CanAct, CanStep, StandsForSome}
-use Rattle.kernel.proofs.Either.{age_is, now_is, current_is, progress_is}
+use Rattle.kernel.proofs.Either.{elapsed_is, now_is, current_is, progress_is, suspensions_are}
 
 leb-less : (a b : ℕ) → leb a b ≡ false → b < a
 leb-less a b e = grind (arith, nat_tests)
@@ -93,24 +93,30 @@ unlocked : (lock : Option Lock) (locked : Option ℕ) → locked_by lock ≡ loc
 unlocked None locked e none = refl
 unlocked (Some l) locked e none = let f = e ∙ none in absurd (cc)
 
-none_held : (b : Bool) (depth : ℕ) → depth ≡ (if b then 1 else 0) → b ≡ false → depth ≡ 0
-none_held true depth e t = absurd (cc)
-none_held false depth e t = e
+none_held : (n : ℕ) (b : Bool) (depth : ℕ) → depth ≡ n + (if b then 1 else 0) → n ≡ 0 → b ≡ false → depth ≡ 0
+none_held n true depth e z t = absurd (cc)
+none_held n false depth e z t = omega (arith, e, z)
 
-some_held : (b : Bool) (depth : ℕ) → depth ≡ (if b then 1 else 0) → b ≡ true → 0 < depth
-some_held true depth e t = omega arith
-some_held false depth e t = absurd (cc)
+once_held : (n : ℕ) (b : Bool) (depth : ℕ) → depth ≡ n + (if b then 1 else 0) → n ≡ 0 → b ≡ true → depth ≡ 1
+once_held n true depth e z t = omega (arith, e, z)
+once_held n false depth e z t = absurd (cc)
 
 -- the kernel stands for a state of a run, early enough
-module _ (app : Application) (formed : IsWellFormed app) (k : Kernel) (state : State) (reached : IsState app state) (stands : Stands k state) (age_low : k.clock.age < 1000000) where
+module _ (app : Application) (formed : IsWellFormed app) (k : Kernel) (state : State) (reached : IsState app state) (stands : Stands k state) (early : state.elapsed < 1000000) where
   time_low : k.clock.now < 4294967296 + 1000000
-  time_low = let e = now_is k state stands in let f = age_is k state stands in let l = age_low in let m = reached.sound.time in let n = formed.start in omega arith
+  time_low = let e = now_is k state stands in let l = early in let m = reached.sound.time in let n = formed.start in omega arith
 
   pub rooms : HasObjects app k
   rooms object access fit = by_stands stands where
     by_stands : Stands k state → HasRoom k object access
     by_stands (Placed h) = has_room app (hold_of state) k.queues None state object access reached.sound h.rest.queues fit
     by_stands (Placing task list b) = has_room app (hold_of state) k.queues (Some (decider task list state)) state object access reached.sound b.queues fit
+
+  calm : state.suspensions ≡ 0
+  calm = ap (λ (x : Suspension). x.suspensions) reached.unsuspended
+
+  awake : k.suspensions ≡ 0
+  awake = suspensions_are k state stands ∙ calm
 
   -- nobody holds the scheduler
   module _ (free : state.call_hold ≡ false) where
@@ -124,10 +130,10 @@ module _ (app : Application) (formed : IsWellFormed app) (k : Kernel) (state : S
     no_lock = unlocked k.queues.lock state.locked placed.rest.queues.locked (reached.locked free)
 
     not_held : k.sched.depth ≡ 0
-    not_held = none_held state.call_hold k.sched.depth placed.sched.depth free
+    not_held = none_held state.suspensions state.call_hold k.sched.depth placed.sched.depth calm free
 
     can_tick : CanTick app k
-    can_tick = record { advance = record { agrees = (state, placed); free = no_lock; age = let l = age_low in omega arith }; depth = not_held; objects = rooms }
+    can_tick = record { advance = record { agrees = (state, placed); free = no_lock; age = let l = early in let f = elapsed_is k state stands in omega arith; awake = awake }; depth = not_held; objects = rooms }
 
   idle_free : k.sched.current ≡ None → state.call_hold ≡ false
   idle_free idle = subst (RunsIn state) (sym (current_is k state stands) ∙ idle) reached.runs
@@ -241,11 +247,11 @@ module _ (app : Application) (formed : IsWellFormed app) (k : Kernel) (state : S
             let there : (call_at state task).phase ≡ Place = subst (λ (i : ℕ). (call_at state i).phase ≡ Place) one b.phase in
             absurd (off (sym e ∙ there))
 
-      depth_in : IsInCall k task → state.call_hold ≡ true → 0 < k.sched.depth
+      depth_in : IsInCall k task → state.call_hold ≡ true → k.sched.depth ≡ 1
       depth_in _ held = by_stands stands where
-        by_stands : Stands k state → 0 < k.sched.depth
-        by_stands (Placed h) = some_held state.call_hold k.sched.depth h.sched.depth held
-        by_stands (Placing other list b) = some_held state.call_hold k.sched.depth b.sched.depth held
+        by_stands : Stands k state → k.sched.depth ≡ 1
+        by_stands (Placed h) = once_held state.suspensions state.call_hold k.sched.depth h.sched.depth calm held
+        by_stands (Placing other list b) = once_held state.suspensions state.call_hold k.sched.depth b.sched.depth calm held
 
       goes_on : (phase : Phase) → (call_at state task).phase ≡ phase → CanGoOn k task object access ticks phase
       goes_on Start e = (can_try (free_in Start e refl), short ticks (range_at (progress_at state task).op_index (script_of app task) (Await object access ticks) (script_formed app formed task).ranges (at_op (Await object access ticks) is)), let l = time_low in omega arith)
@@ -257,7 +263,11 @@ module _ (app : Application) (formed : IsWellFormed app) (k : Kernel) (state : S
       goes_on Unlock e = in_call Unlock e (λ q. absurd (cc))
       goes_on Leave e =
           let there = in_call Leave e (λ q. absurd (cc)) in
-          record { call = there; held = depth_in there (held_in Leave e refl) }
+          record { call = there; held = depth_in there (held_in Leave e refl); awake = awake }
+      goes_on Final e =
+          let P : Option Op → Type 0 = λ op. IsPhaseOf (hold_of state) (awaited op) (call_at state task).phase in
+          let there : IsPhaseOf (hold_of state) (Some object) (call_at state task).phase = subst P (at_op (Await object access ticks) is) (reached.sound.calls task).phase in
+          absurd (subst (IsPhaseOf (hold_of state) (Some object)) e there)
 
     can_op : (op : Op) → op_at app task (progress_in k.progress task).op_index ≡ Some op → CanOp app k task op
     can_op (Work n) is = brief_can (Work n) is refl
@@ -287,17 +297,17 @@ module _ (app : Application) (formed : IsWellFormed app) (k : Kernel) (c : CanSt
   reached_now : IsState app now
   reached_now = reached_after app formed c.plan c.steps
 
-  age_now : k.clock.age < 1000000
-  age_now = let e = age_is k now c.stands in let l = (below_limits app c.limits now c.goes_on).0 in let m = c.tick_limit in omega arith
+  early_now : now.elapsed < 1000000
+  early_now = let l = (below_limits app c.limits now c.goes_on).0 in let m = c.tick_limit in omega arith
 
   pub stood : StandsForSome k
   stood = (now, c.stands)
 
   pub has_objects : HasObjects app k
-  has_objects = rooms app formed k now reached_now c.stands age_now
+  has_objects = rooms app formed k now reached_now c.stands early_now
 
   pub can_act_after : (handlers : List ℕ) (new : Kernel) → Stands new (before_step app handlers now) → CanAct app new
   can_act_after handlers new h =
       let age : (before_step app handlers now).elapsed ≡ now.elapsed = (keeps-before_step app handlers now).elapsed in
-      let low : new.clock.age < 1000000 = (let e = age_is new (before_step app handlers now) h in let f = age_is k now c.stands in let l = age_now in omega arith) in
+      let low : (before_step app handlers now).elapsed < 1000000 = (let l = early_now in omega arith) in
       can_act app formed new (before_step app handlers now) (reached_before_step app formed handlers now reached_now) h low

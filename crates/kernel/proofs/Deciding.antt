@@ -31,21 +31,26 @@ use Rattle.objects.specs.Queues.{CountsNobody, Exchange, SameWaits, locked_by}
 use Rattle.objects.proofs.Kept.{stands_same, same_progress}
 use Rattle.objects.proofs.Awake.{nobody_awake, at_locked_same, at_locked-locked, at_locked-decides, at_locked-placed}
 use Rattle.objects.proofs.Deciding.{stands_deciding}
+use Rattle.groups.specs.StandsFor as groups
+use Rattle.groups.proofs.Standing as on_groups
+use Rattle.groups.proofs.Kept as bits_kept
+use Rattle.groups.proofs.Kept.{ready_waits_not}
+use Rattle.groups.proofs.Elsewhere as bits_elsewhere
 use Rattle.kernel.specs.declared.kernel.Kernel.{Kernel}
 use Rattle.kernel.specs.StandsFor.{StandsBefore, At, AtAny, decider, progress_in, with_progress}
-use Rattle.kernel.specs.StandsFor.Stands.{Placed, Placing}
+use Rattle.kernel.specs.StandsFor.Stands.{Placing}
 use Rattle.kernel.specs.Can.{CanDecide, CanLeave}
 use Rattle.kernel.proofs.Parts.{clock-same, progress-set, same_parts, same_alike}
 use Rattle.kernel.proofs.Acting.{within}
 use Rattle.kernel.proofs.Waits.{recalled}
 
-not_held : (b : Bool) (depth : ℕ) → depth ≡ (if b then 1 else 0) → depth ≡ 0 → b ≡ false
-not_held true depth e z = absurd (cc)
-not_held false depth e z = refl
+not_held : (n : ℕ) (b : Bool) (depth : ℕ) → depth ≡ n + (if b then 1 else 0) → depth ≡ 0 → b ≡ false
+not_held n true depth e z = absurd (omega (arith, e, z))
+not_held n false depth e z = refl
 
-is_held : (b : Bool) (depth : ℕ) → depth ≡ (if b then 1 else 0) → 0 < depth → b ≡ true
-is_held true depth e l = refl
-is_held false depth e l = absurd (omega (arith, e, l))
+is_held : (n : ℕ) (b : Bool) (depth : ℕ) → depth ≡ n + (if b then 1 else 0) → n ≡ 0 → depth ≡ 1 → b ≡ true
+is_held n true depth e z l = refl
+is_held n false depth e z l = absurd (omega (arith, e, z, l))
 
 -- ---- a task begins to wait
 
@@ -124,6 +129,10 @@ module _ (s : State) (i : ℕ) (list : WaitList) (object : ℕ) (l : i < length 
   unfolding wait_in
   begun_free = (refl, refl, refl, refl, refl, refl, refl)
 
+  pub begun_suspensions : begun.suspensions ≡ s.suspensions
+  unfolding wait_in
+  begun_suspensions = refl
+
   -- the scheduler
   pub sched_decided : (v : Schedule) → v.pending ≡ [] → sched.StandsFor v s → is_ready s i ≡ true → s.call_hold ≡ false → (w : Schedule) → w ≡ record v { depth = v.depth + 1 } → IsTable decided → sched.StandsBefore i w decided
   unfolding last next_call
@@ -131,7 +140,7 @@ module _ (s : State) (i : ℕ) (list : WaitList) (object : ℕ) (l : i < length 
       let one : sched.StandsBefore i v begun = on_sched.stands_waiting v s i list calm h l ready in
       let mid : IsTable locked_then = record { tickets = one.table.tickets; few = one.table.few; current = one.table.current; holders = one.table.holders } in
       let two = on_sched.stands_before_held v begun locked_then i one (begun_free.0 ∙ free) refl refl refl mid in
-      rw is (on_sched.stands_before_kept (record v { depth = v.depth + 1 }) locked_then decided i i last two begun_within refl refl refl refl refl refl table)
+      rw is (on_sched.stands_before_kept (record v { depth = v.depth + 1 }) locked_then decided i i last two begun_within refl refl refl refl refl refl table refl)
 
   -- the clock
   pub clock_decided : (t : Timeline) → clock.StandsFor t s → is_ready s i ≡ true → IsTable decided → clock.StandsBefore i (call_at decided i).deadline t decided
@@ -150,7 +159,7 @@ module _ (k : Kernel) (log : List Event) (s : State) (h : At k log s) (i o : ℕ
   l = within k log s h i c.runs.current
 
   free : s.call_hold ≡ false
-  free = not_held s.call_hold k.sched.depth h.stands.sched.depth c.depth
+  free = not_held s.suspensions s.call_hold k.sched.depth h.stands.sched.depth c.depth
 
   unlocked : s.locked ≡ None
   unlocked = sym h.stands.rest.queues.locked ∙ ap locked_by c.free
@@ -173,12 +182,14 @@ module _ (k : Kernel) (log : List Event) (s : State) (h : At k log s) (i o : ℕ
       let same : SameWaits there shut = same_parts there shut refl refl refl in
       record {
         stands = record {
-          sched = record { ready = on.ready; current = on.current; priorities = on.priorities; base_priorities = on.base_priorities; depth = on.depth; table = table };
+          sched = record { ready = on.ready; current = on.current; priorities = on.priorities; base_priorities = on.base_priorities; depth = on.depth; suspended = on.suspended; table = table };
           rest = record {
             progress = h.stands.rest.progress;
             full = h.stands.rest.full;
             clock = clock-same k.clock s shut h.stands.rest.clock refl refl refl table;
             queues = stands_same there shut same q None locking table;
+            groups = on_groups.stands_same k.groups s shut h.stands.rest.groups (bits_kept.same_parts s shut refl refl) table;
+            suspensions = h.stands.rest.suspensions;
             awake = at_locked_same None there shut same (at_locked-locked s o unlocked h.stands.rest.awake);
             steps = h.stands.rest.steps;
             stopped = h.stands.rest.stopped;
@@ -235,6 +246,8 @@ module _ (k : Kernel) (log : List Event) (s : State) (h : At k log s) (i o : ℕ
             sched = sched_there;
             clock = clock_there;
             queues = in_place;
+            groups = groups_then;
+            suspensions = h.stands.rest.suspensions ∙ sym (begun_suspensions s i list o l);
             awake = awake_there;
             progress = progress_then;
             full = rw length-set h.stands.rest.full;
@@ -250,6 +263,14 @@ module _ (k : Kernel) (log : List Event) (s : State) (h : At k log s) (i o : ℕ
         } where
           sched_there : sched.StandsBefore i v after
           sched_there = sched_decided s i list o l k.sched (calm c.depth) h.stands.sched ready free v held table
+
+          groups_then : groups.StandsFor k.groups after
+          groups_then =
+              let begun_then : State = wait_in i (list_for o a) s in
+              let locked_then : State = record begun_then { call_hold = true; locked = Some o } in
+              on_groups.stands_same k.groups s after h.stands.rest.groups
+              (bits_kept.same_both s begun_then after (bits_elsewhere.same_wait_in i (list_for o a) s (ready_waits_not s i ready))
+              (bits_kept.same_both begun_then locked_then after (bits_kept.same_parts begun_then locked_then refl refl) (bits_kept.same_go_on i Place locked_then))) table
 
           clock_there : clock.StandsBefore i (call_at after i).deadline k.clock after
           clock_there = clock_decided s i list o l k.clock h.stands.rest.clock ready table
@@ -320,12 +341,14 @@ module _ (k : Kernel) (log : List Event) (s : State) (i : ℕ) (list : WaitList)
       let table : IsTable later = kept_table in
       subst (λ (x : Kernel). At x log later) (sym is_new) (record {
         stands = record {
-          sched = on_sched.stands_kept v s later i u on l_then refl refl refl refl refl refl table;
+          sched = on_sched.stands_kept v s later i u on l_then refl refl refl refl refl refl table refl;
           rest = record {
             progress = progress-set k.progress s.tasks i u b.progress long_then l_then;
             full = rw length-set b.full;
             clock = on_clock.stands_kept t s later i u awake l_then refl refl refl (same_alike (status_at s i) (status_at s i) refl) table;
             queues = shown table;
+            groups = on_groups.stands_same k.groups s later b.groups (bits_kept.same_task i u s refl (λ _. refl)) table;
+            suspensions = b.suspensions;
             awake = at_locked_same None s later same (at_locked-placed (Some (decider i list s)) s b.awake);
             steps = b.steps;
             stopped = b.stopped;
@@ -351,6 +374,8 @@ unheld_at k log s h v on =
           full = h.stands.rest.full;
           clock = clock-same k.clock s new h.stands.rest.clock refl refl refl on.table;
           queues = stands_same s new same k.queues None h.stands.rest.queues on.table;
+          groups = on_groups.stands_same k.groups s new h.stands.rest.groups (bits_kept.same_parts s new refl refl) on.table;
+          suspensions = h.stands.rest.suspensions;
           awake = at_locked_same None s new same h.stands.rest.awake;
           steps = h.stands.rest.steps;
           stopped = h.stands.rest.stopped;
@@ -367,9 +392,9 @@ module _ (k new : Kernel) (log : List Event) (s : State) (h : At k log s) (i : �
   same = view ∙ h.stands.rest.progress i
 
   pub freed : At new log (end_hold i Try s)
-  freed = recalled (record k { sched = w }) new log (record s { call_hold = false }) (unheld_at k log s h w (unhold (is_held s.call_hold k.sched.depth h.stands.sched.depth c.held))) i
+  freed = recalled (record k { sched = w }) new log (record s { call_hold = false }) (unheld_at k log s h w (unhold (is_held s.suspensions s.call_hold k.sched.depth h.stands.sched.depth (sym h.stands.rest.suspensions ∙ c.awake) c.held))) i
       (runs ∙ c.call.current)
-      (record v.call { phase = Try; list = None }) (record (call_at s i) { phase = Try; list = None }) is (ap (λ (p : Progress). record p.call { phase = Try; list = None }) same) (λ e. absurd (cc))
+      (record v.call { phase = Try; list = None }) (record (call_at s i) { phase = Try; list = None }) is (ap (λ (p : Progress). record p.call { phase = Try; list = None }) same) (λ e. absurd (cc)) (λ _. refl)
 
   pub waited : is_some (call_at s i).list ≡ is_some v.call.list
   waited = ap (λ (p : Progress). is_some p.call.list) (sym same)

@@ -1,5 +1,5 @@
 -- What holds of a kernel whether or not a task is still to be placed.
-use Rattle.std.proofs.Common.{◌≡◌, ◌∙◌, ◌≤◌, ℕ, List, Option, refl, ap, sym, subst, arith}
+use Rattle.std.proofs.Common.{◌+◌, ◌≡◌, ◌∙◌, ◌≤◌, ℕ, List, Option, refl, ap, sym, subst, arith}
 use Rattle.model.specs.declared.call.Phase.{Phase}
 use Rattle.model.specs.declared.call.WaitList.{WaitList}
 use Rattle.model.specs.declared.op.Access.{Access}
@@ -36,9 +36,13 @@ module _ (k : Kernel) (s : State) where
   stopped_is (Placed h) = h.rest.stopped
   stopped_is (Placing task list b) = b.stopped
 
-  pub age_is : Stands k s → k.clock.age ≡ s.elapsed
-  age_is (Placed h) = h.rest.clock.age
-  age_is (Placing task list b) = b.clock.age
+  pub elapsed_is : Stands k s → k.clock.age + k.clock.held ≡ s.elapsed
+  elapsed_is (Placed h) = h.rest.clock.age
+  elapsed_is (Placing task list b) = b.clock.age
+
+  pub suspensions_are : Stands k s → k.suspensions ≡ s.suspensions
+  suspensions_are (Placed h) = h.rest.suspensions
+  suspensions_are (Placing task list b) = b.suspensions
 
   pub now_is : Stands k s → k.clock.now ≡ s.time
   now_is (Placed h) = h.rest.clock.now

@@ -9,7 +9,7 @@ use Rattle.model.specs.declared.event.Event.{Event}
 use Rattle.model.specs.declared.event.End.{End}
 use Rattle.model.specs.declared.event.End.TheVariants.{Pass, Ticks, Steps, Stuck}
 use Rattle.model.specs.Application.{Application, Limits}
-use Rattle.model.specs.State.{State, Task, Status, Ready, Awake, Waiting, Asleep, Ended, wait_of, wake_time_of, task_at, no_task, printed, for_each}
+use Rattle.model.specs.State.{State, Task, Status, Ready, Awake, Waiting, Asleep, WaitingForBits, Suspended, Ended, wait_of, wake_time_of, task_at, no_task, printed, for_each}
 use Rattle.model.specs.Order.{Key, Entry, key, keyed, list_by, in_order, tasks_of}
 use Rattle.model.specs.Switching.{ready_key, settle, unless_held, write}
 use Rattle.model.specs.declared.call.WaitList.{WaitList}
@@ -31,6 +31,12 @@ use Rattle.clock.specs.Timeline.{Timeline}
 use Rattle.objects.specs.WaitingLists.{insert_by_priority, waiting_in}
 use Rattle.objects.specs.WaitersStand.{joined_by, standing}
 use Rattle.objects.proofs.Keys.{same_list-refl}
+use Rattle.groups.specs.StandsFor.{bits_wait}
+use Rattle.kernel.specs.Blocked.{is_blocked}
+use Rattle.model.specs.Suspension.{can_resume}
+use Rattle.groups.specs.StandsFor as groups
+use Rattle.groups.proofs.Standing as on_groups
+use Rattle.groups.proofs.Kept as bits_kept
 use Rattle.kernel.specs.declared.kernel.Kernel.{Kernel}
 use Rattle.kernel.specs.StandsFor.{StandsFor, StandsBefore, Stands, AtAny, DoesAny, decider}
 use Rattle.kernel.specs.Logged.{Logged}
@@ -73,6 +79,8 @@ when_due t (Ready n) k e f = absurd (cc)
 when_due t (Awake w) k e f = until_due w.deadline w.ticket k e f
 when_due t (Waiting w) k e f = until_due w.deadline w.ticket k e f
 when_due t (Asleep w n) k e f = f w (eqb-refl w)
+when_due t (WaitingForBits g n d) k e f = until_due d n k e f
+when_due t Suspended k e f = absurd (cc)
 when_due t Ended k e f = absurd (cc)
 
 none_due : (ts : List Task) (es : List Entry) → AllByRecursion (HasKey delayed_key ts) es → ((m : ℕ) → tasks_of (filter (λ (e : Entry). option_eq eqb (wake_time_of (get_or ts e.task no_task).status) (Some m)) es) ≡ []) → es ≡ []
@@ -104,25 +112,23 @@ and_false : (a b : Bool) → a && false && b ≡ false
 and_false true b = refl
 and_false false b = refl
 
--- a task that waits, or has been woken and isn't Ready yet
-abbrev waits : Task → Bool
-waits t = is_some (wait_of t.status)
-
 and_not_true : (a b : Bool) → a && b && not true ≡ false
 and_not_true true true = refl
 and_not_true true false = refl
 and_not_true false b = refl
 
--- Nobody is Ready, sleeps or waits where everybody is Ended.
-over : (o : ℕ) (ts : List Task) → eqb (length (keyed ready_key o ts)) 0 && eqb (length (keyed delayed_key o ts)) 0 && not (list_any waits ts) ≡ list_all (λ (t : Task). is_ended t.status) ts
+-- Nobody is Ready, sleeps, waits or is suspended where everybody is Ended.
+over : (o : ℕ) (ts : List Task) → eqb (length (keyed ready_key o ts)) 0 && eqb (length (keyed delayed_key o ts)) 0 && not (list_any is_blocked ts) ≡ list_all (λ (t : Task). is_ended t.status) ts
 over o [] = refl
 over o (t ∷ ts) = by_status t t.status (over (o + 1) ts) where
-  by_status : (t : Task) (u : Status) → eqb (length (keyed ready_key (o + 1) ts)) 0 && eqb (length (keyed delayed_key (o + 1) ts)) 0 && not (list_any waits ts) ≡ list_all (λ (t : Task). is_ended t.status) ts
-      → eqb (length (keyed ready_key o (record t { status = u } ∷ ts))) 0 && eqb (length (keyed delayed_key o (record t { status = u } ∷ ts))) 0 && not (is_some (wait_of u) || list_any waits ts) ≡ is_ended u && list_all (λ (v : Task). is_ended v.status) ts
+  by_status : (t : Task) (u : Status) → eqb (length (keyed ready_key (o + 1) ts)) 0 && eqb (length (keyed delayed_key (o + 1) ts)) 0 && not (list_any is_blocked ts) ≡ list_all (λ (t : Task). is_ended t.status) ts
+      → eqb (length (keyed ready_key o (record t { status = u } ∷ ts))) 0 && eqb (length (keyed delayed_key o (record t { status = u } ∷ ts))) 0 && not (is_blocked (record t { status = u }) || list_any is_blocked ts) ≡ is_ended u && list_all (λ (v : Task). is_ended v.status) ts
   by_status t (Ready n) later = rw (some (length (keyed ready_key (o + 1) ts))) refl
   by_status t (Awake x) later = and_not_true (eqb (length (keyed ready_key (o + 1) ts)) 0) (eqb (length (keyed delayed_key o (record t { status = Awake x } ∷ ts))) 0)
   by_status t (Waiting x) later = and_not_true (eqb (length (keyed ready_key (o + 1) ts)) 0) (eqb (length (keyed delayed_key o (record t { status = Waiting x } ∷ ts))) 0)
-  by_status t (Asleep x n) later = rw (some (length (keyed delayed_key (o + 1) ts))) (and_false (eqb (length (keyed ready_key (o + 1) ts)) 0) (not (list_any waits ts)))
+  by_status t (Asleep x n) later = rw (some (length (keyed delayed_key (o + 1) ts))) (and_false (eqb (length (keyed ready_key (o + 1) ts)) 0) (not (list_any is_blocked ts)))
+  by_status t (WaitingForBits g n d) later = and_not_true (eqb (length (keyed ready_key (o + 1) ts)) 0) (eqb (length (keyed delayed_key o (record t { status = WaitingForBits g n d } ∷ ts))) 0)
+  by_status t Suspended later = and_not_true (eqb (length (keyed ready_key (o + 1) ts)) 0) (eqb (length (keyed delayed_key o (record t { status = Suspended } ∷ ts))) 0)
   by_status t Ended later = later
 
 asleep : (o : ℕ) (ts : List Task) → eqb (length (keyed delayed_key o ts)) 0 ≡ not (list_any (λ (t : Task). is_some (wake_time_of t.status)) ts)
@@ -134,6 +140,8 @@ asleep o (t ∷ ts) = by_status t t.status (asleep (o + 1) ts) where
   by_status t (Awake w) later = by_test (is_some w.deadline) (λ e. rw e (some (length (keyed delayed_key (o + 1) ts)))) (λ e. rw e later)
   by_status t (Waiting w) later = by_test (is_some w.deadline) (λ e. rw e (some (length (keyed delayed_key (o + 1) ts)))) (λ e. rw e later)
   by_status t (Asleep w n) later = some (length (keyed delayed_key (o + 1) ts))
+  by_status t (WaitingForBits g n d) later = by_test (is_some d) (λ e. rw e (some (length (keyed delayed_key (o + 1) ts)))) (λ e. rw e later)
+  by_status t Suspended later = later
   by_status t Ended later = later
 
 -- whether nobody sleeps
@@ -142,13 +150,13 @@ is_quiet s = eqb (length (keyed delayed_key 0 s.tasks)) 0
 
 -- What the parts of the kernel say of an end.
 module _ (k : Kernel) (s : State) (h : StandsFor k s) where
-  over_is : not (is_some (first_of (lined_up k.sched))) && is_quiet s && not (list_any waits s.tasks) ≡ are_all_ended s
+  over_is : not (is_some (first_of (lined_up k.sched))) && is_quiet s && not (list_any is_blocked s.tasks) ≡ are_all_ended s
   over_is = rw (none_first (lined_up k.sched), h.sched.ready, length-ready s.tasks) (over 0 s.tasks)
 
   stuck_is : (app : Application) → is_none k.sched.current && is_quiet s && not (is_interrupt_to_come app s) ≡ is_stuck app s
   stuck_is app = rw (h.sched.current, asleep 0 s.tasks) refl
 
-  is_over : (ready q w : Bool) → ready ≡ is_some (first_of (lined_up k.sched)) → (IsTrue q ↔ (k.clock.delayed_list ≡ [])) → w ≡ list_any waits s.tasks → not ready && q && not w ≡ are_all_ended s
+  is_over : (ready q w : Bool) → ready ≡ is_some (first_of (lined_up k.sched)) → (IsTrue q ↔ (k.clock.delayed_list ≡ [])) → w ≡ list_any is_blocked s.tasks → not ready && q && not w ≡ are_all_ended s
   is_over ready q w r is waiting = rw (r, quiet k.clock s h.rest.clock q is, waiting) over_is
 
   not_over : is_some (first_of (lined_up k.sched)) ≡ true → false ≡ are_all_ended s
@@ -166,6 +174,8 @@ standing_none list o (u ∷ us) t = by_status u.status refl (standing_none list 
   by_status (Awake w) e later = absurd (let f = rw e at t in cc)
   by_status (Waiting w) e later = absurd (let f = rw e at t in cc)
   by_status (Asleep w n) e later = absurd (let f = rw e at t in cc)
+  by_status (WaitingForBits g n d) e later = absurd (let f = rw e at t in cc)
+  by_status Suspended e later = absurd (let f = rw e at t in cc)
   by_status Ended e later = rw e (later (rw e at t))
 
 put_in_some : (e : ℕ × ℕ) (es : List (ℕ × ℕ)) → insert_by_priority e es ≡ [] → ⊥
@@ -192,12 +202,12 @@ runs_before app k s task list b = rw b.current refl
 
 -- Whether or not a task is still to be placed.
 module _ (k : Kernel) (s : State) (ready q : Bool) (r : ready ≡ is_some (first_of (lined_up k.sched))) (is : IsTrue q ↔ (k.clock.delayed_list ≡ [])) where
-  pub over_by : Stands k s → ready ≡ false → q ≡ true → (w : Bool) → (queues.StandsFor k.queues None s → w ≡ list_any waits s.tasks) → not w ≡ are_all_ended s
-  over_by (Placed h) none still w waiting = let e = is_over k s h ready q w r is (waiting h.rest.queues) in rw (none, still) at e
+  pub over_by : Stands k s → ready ≡ false → q ≡ true → (w : Bool) → (StandsFor k s → w ≡ list_any is_blocked s.tasks) → not w ≡ are_all_ended s
+  over_by (Placed h) none still w waiting = let e = is_over k s h ready q w r is (waiting h) in rw (none, still) at e
   over_by (Placing task list b) none still w waiting = let some : ready ≡ true = r ∙ ready_before k s task list b in absurd (cc)
 
   pub on_by : Stands k s → not ready && q ≡ false → are_all_ended s ≡ false
-  on_by (Placed h) on = let e = is_over k s h ready q (list_any waits s.tasks) r is refl in sym (rw on at e)
+  on_by (Placed h) on = let e = is_over k s h ready q (list_any is_blocked s.tasks) r is refl in sym (rw on at e)
   on_by (Placing task list b) on = sym (waits_before k s task list b)
 
 pub not_over_by : (k : Kernel) (s : State) (ready : Bool) → ready ≡ is_some (first_of (lined_up k.sched)) → Stands k s → ready ≡ true → are_all_ended s ≡ false
@@ -244,9 +254,11 @@ begun_before k s task list b log steps n e =
     let table : IsTable new = record { tickets = b.sched.table.tickets; few = b.sched.table.few; current = b.sched.table.current; holders = b.sched.table.holders } in
     let same : SameWaits s new = same_parts s new refl refl refl in
     record {
-      sched = record { ready = b.sched.ready; still = b.sched.still; current = b.sched.current; priorities = b.sched.priorities; base_priorities = b.sched.base_priorities; depth = b.sched.depth; table = table };
-      clock = record { now = b.clock.now; age = b.clock.age; sorted = b.clock.sorted; once = b.clock.once; delayed = b.clock.delayed; awake = b.clock.awake; table = table };
+      sched = record { ready = b.sched.ready; still = b.sched.still; current = b.sched.current; priorities = b.sched.priorities; base_priorities = b.sched.base_priorities; depth = b.sched.depth; suspended = b.sched.suspended; table = table };
+      clock = record { now = b.clock.now; age = b.clock.age; held = b.clock.held; sorted = b.clock.sorted; once = b.clock.once; delayed = b.clock.delayed; awake = b.clock.awake; table = table };
       queues = stands_same s new same k.queues (Some (decider task list s)) b.queues table;
+      groups = on_groups.stands_same k.groups s new b.groups (bits_kept.same_parts s new refl refl) table;
+      suspensions = b.suspensions;
       awake = at_locked_same (Some (decider task list s)) s new same b.awake;
       progress = b.progress;
       full = b.full;
@@ -265,12 +277,14 @@ begun_at k s h log steps n e =
     let table : IsTable new = record { tickets = h.sched.table.tickets; few = h.sched.table.few; current = h.sched.table.current; holders = h.sched.table.holders } in
     let same : SameWaits s new = same_parts s new refl refl refl in
     record {
-      sched = record { ready = h.sched.ready; current = h.sched.current; priorities = h.sched.priorities; base_priorities = h.sched.base_priorities; depth = h.sched.depth; table = table };
+      sched = record { ready = h.sched.ready; current = h.sched.current; priorities = h.sched.priorities; base_priorities = h.sched.base_priorities; depth = h.sched.depth; suspended = h.sched.suspended; table = table };
       rest = record {
         progress = h.rest.progress;
         full = h.rest.full;
         clock = clock-same k.clock s new h.rest.clock refl refl refl table;
         queues = stands_same s new same k.queues None h.rest.queues table;
+        groups = on_groups.stands_same k.groups s new h.rest.groups (bits_kept.same_parts s new refl refl) table;
+        suspensions = h.rest.suspensions;
         awake = at_locked_same None s new same h.rest.awake;
         steps = e;
         stopped = h.rest.stopped;
@@ -310,3 +324,36 @@ unfolding step
 stepped app handlers s k log n e a =
     let new : State = unless_held settle (act_current app (before_step app handlers s).current (before_step app handlers s)) in
     renewed k new a.stands new.log (s.steps + 1) (n + 1) (ap (λ m. m + 1) e)
+
+-- ---- who is blocked
+
+or_both : (a b x y : Bool) → (a || b) || (x || y) ≡ (a || x) || (b || y)
+or_both true b x y = refl
+or_both false true true y = refl
+or_both false true false y = refl
+or_both false false x y = refl
+
+-- Some task passes one of two tests where some passes the first, or some the second.
+any_either : (p q : Task → Bool) (ts : List Task) → list_any (λ t. p t || q t) ts ≡ (list_any p ts || list_any q ts)
+any_either p q [] = refl
+any_either p q (t ∷ ts) = ap (λ (b : Bool). (p t || q t) || b) (any_either p q ts) ∙ or_both (p t) (q t) (list_any p ts) (list_any q ts)
+
+pub any_blocked : (ts : List Task) → list_any (λ (t : Task). is_some (wait_of t.status)) ts || list_any (λ (t : Task). is_some (bits_wait t.status)) ts || list_any (λ (t : Task). can_resume t.status) ts ≡ list_any is_blocked ts
+any_blocked ts =
+    ap (λ (b : Bool). b || list_any (λ (t : Task). can_resume t.status) ts) (sym (any_either (λ (t : Task). is_some (wait_of t.status)) (λ (t : Task). is_some (bits_wait t.status)) ts))
+    ∙ sym (any_either (λ (t : Task). is_some (wait_of t.status) || is_some (bits_wait t.status)) (λ (t : Task). can_resume t.status) ts)
+
+-- one of three answers
+pub any_first : (a b c x : Bool) → (a || b || c) ≡ x → a ≡ true → true ≡ x
+any_first true b c x e t = e
+any_first false b c x e t = absurd (cc)
+
+pub any_second : (a b c x : Bool) → (a || b || c) ≡ x → a ≡ false → b ≡ true → true ≡ x
+any_second true b c x e t u = absurd (cc)
+any_second false true c x e t u = e
+any_second false false c x e t u = absurd (cc)
+
+pub any_third : (a b c x : Bool) → (a || b || c) ≡ x → a ≡ false → b ≡ false → c ≡ x
+any_third true b c x e t u = absurd (cc)
+any_third false true c x e t u = absurd (cc)
+any_third false false c x e t u = e

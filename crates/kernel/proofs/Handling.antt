@@ -13,7 +13,7 @@ use Rattle.model.specs.Scripts.{fits_object, IsHandler, IsWellFormed, knows_isr}
 use Rattle.model.specs.State.{State, for_each}
 use Rattle.model.specs.declared.event.Event.{Event}
 use Rattle.model.specs.Switching.{is_held, preempt, write}
-use Rattle.model.proofs.Settled.{when_free, when_held}
+use Rattle.model.proofs.Settled.{when_free, when_held, held_by_call}
 use Rattle.model.specs.Objects.{answer_to, attempt}
 use Rattle.model.specs.Handlers.{isr_told, isr, isr_each, handle, inject}
 use Rattle.model.proofs.Chosen.{each-end}
@@ -105,14 +105,14 @@ module _ (app : Application) (handler : ℕ) (s : State) (mid : Kernel) where
   pub injected_free : (new : Kernel) (log new_log : List Event) → (Stands mid (handle app handler s) → is_held (handle app handler s) ≡ false) → AtAny mid log (handle app handler s) → (At mid log (handle app handler s) → At new new_log (preempt (handle app handler s))) → AtAny new new_log (inject app handler s)
   unfolding inject
   injected_free new log new_log free h goes =
-      let off : t.call_hold ≡ false = free h.stands in
+      let off : is_held t ≡ false = free h.stands in
       either mid log t h
       (λ p. subst (AtAny new new_log) (sym (when_free preempt t off)) (any new new_log (preempt t) (goes p)))
-      (λ task list b. let on : t.call_hold ≡ true = b.held in absurd (cc))
+      (λ task list b. let on : is_held t ≡ true = held_by_call t b.held in absurd (cc))
 
   pub injected_held : (log : List Event) → (Stands mid (handle app handler s) → is_held (handle app handler s) ≡ true) → AtAny mid log (handle app handler s) → AtAny mid log (inject app handler s)
   unfolding inject
-  injected_held log held h = let on : t.call_hold ≡ true = held h.stands in subst (AtAny mid log) (sym (when_held preempt t on)) h
+  injected_held log held h = let on : is_held t ≡ true = held h.stands in subst (AtAny mid log) (sym (when_held preempt t on)) h
 
 -- an element of what a function makes of each
 pub mapped_at : {A B : Type 0} (f : A → B) (xs : List A) (i : ℕ) (x : A) → i < length xs → x ≡ get_or xs i x → f x ≡ get_or (map f xs) i (f x)

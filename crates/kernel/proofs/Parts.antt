@@ -5,7 +5,7 @@ use Rattle.std.specs.Option.{option_eq, is_some}
 use Rattle.std.proofs.Math.ListN.{length-set}
 use Rattle.model.specs.declared.call.Phase.TheVariants.{Place}
 use Rattle.model.specs.declared.event.Event.{Event}
-use Rattle.model.specs.State.{State, Task, Progress, Status, Ready, Awake, Waiting, Asleep, Ended, Object, ticket_if_ready, wait_of, wait_if_awake, wake_time_of, no_call, no_task, no_object, no_progress, task_at, status_at, progress_at, with_task, printed}
+use Rattle.model.specs.State.{State, Task, Progress, Status, Ready, Awake, Waiting, Asleep, WaitingForBits, Suspended, Ended, Object, ticket_if_ready, wait_of, wait_if_awake, wake_time_of, no_call, no_task, no_object, no_progress, task_at, status_at, call_at, with_task, printed}
 use Rattle.model.specs.State as state
 use Rattle.model.specs.Order.{Entry, list_by, tasks_of}
 use Rattle.model.specs.Switching.{is_ready, make_ready, write}
@@ -22,10 +22,14 @@ use Rattle.sched.proofs.Standing as on_sched
 use Rattle.clock.specs.StandsFor as clock
 use Rattle.clock.specs.Timeline.{Timeline, is_asleep}
 use Rattle.clock.proofs.Standing as on_clock
-use Rattle.clock.proofs.Standing.{SleepsAlike, asleep_same}
+use Rattle.clock.proofs.Standing.{SleepsAlike, asleep_same, ticks_of}
 use Rattle.objects.specs.Queues.{SameWaits}
 use Rattle.objects.proofs.Kept.{stands_same, same_free, same_ticket, same_progress, same_ready}
 use Rattle.objects.proofs.Awake.{at_locked_same}
+use Rattle.groups.specs.StandsFor.{bits_wait}
+use Rattle.groups.proofs.Standing as on_groups
+use Rattle.groups.proofs.Kept as bits_kept
+use Rattle.groups.proofs.Kept.{ready_waits_not}
 use Rattle.kernel.specs.declared.kernel.Kernel.{Kernel}
 use Rattle.kernel.specs.StandsFor.{progress_in, RestStandsFor, StandsFor, At, with_progress}
 
@@ -54,11 +58,12 @@ asleep_until : List Task → ℕ → List ℕ
 asleep_until ts m = tasks_of (filter (λ (e : Entry). option_eq eqb (wake_time_of (get_or ts e.task no_task).status) (Some m)) (list_by delayed_key ts))
 
 -- The clock stands for each state of the same table and time.
-pub clock-same : (t : Timeline) (s new : State) → clock.StandsFor t s → new.tasks ≡ s.tasks → new.time ≡ s.time → new.elapsed ≡ s.elapsed → IsTable new → clock.StandsFor t new
+pub clock-same : (t : Timeline) (s new : State) → clock.StandsFor t s → new.tasks ≡ s.tasks → new.time ≡ s.time → ticks_of new ≡ ticks_of s → IsTable new → clock.StandsFor t new
 unfolding asleep_until
-clock-same t s new h tasks time elapsed table = record {
+clock-same t s new h tasks time ticks table = record {
   now = h.now ∙ sym time;
-  age = h.age ∙ sym elapsed;
+  age = h.age ∙ sym (ap (λ (p : ℕ × ℕ). p.0) ticks);
+  held = h.held ∙ sym (ap (λ (p : ℕ × ℕ). p.1) ticks);
   sorted = h.sorted;
   once = h.once;
   delayed = λ m. h.delayed m ∙ ap (λ ts. asleep_until ts m) (sym tasks);
@@ -76,6 +81,8 @@ ready_alike (Ready m) n t = record { key = refl; wake_time = refl }
 ready_alike (Awake w) n t = record { key = rw t refl; wake_time = sym t }
 ready_alike (Waiting w) n t = record { key = rw t refl; wake_time = sym t }
 ready_alike (Asleep w m) n t = absurd (cc)
+ready_alike (WaitingForBits g m d) n t = record { key = rw t refl; wake_time = sym t }
+ready_alike Suspended n t = record { key = refl; wake_time = refl }
 ready_alike Ended n t = record { key = refl; wake_time = refl }
 
 ended_alike : (u : Status) → wake_time_of u ≡ None → SleepsAlike Ended u
@@ -83,6 +90,8 @@ ended_alike (Ready m) t = record { key = refl; wake_time = refl }
 ended_alike (Awake w) t = record { key = rw t refl; wake_time = sym t }
 ended_alike (Waiting w) t = record { key = rw t refl; wake_time = sym t }
 ended_alike (Asleep w m) t = absurd (cc)
+ended_alike (WaitingForBits g m d) t = record { key = rw t refl; wake_time = sym t }
+ended_alike Suspended t = record { key = refl; wake_time = refl }
 ended_alike Ended t = record { key = refl; wake_time = refl }
 
 pub none_if_not : (o : Option ℕ) → is_some o ≡ false → o ≡ None
@@ -111,14 +120,21 @@ same_parts s new tasks objects locked = record {
   locked = locked;
 }
 
-pub rest_same : (k : Kernel) (s new : State) → RestStandsFor k s → new.tasks ≡ s.tasks → new.time ≡ s.time → new.elapsed ≡ s.elapsed → new.steps ≡ s.steps → new.stopped ≡ s.stopped → new.objects ≡ s.objects → new.locked ≡ s.locked → IsTable new → RestStandsFor k new
-rest_same k s new h tasks time elapsed steps stopped objects locked table =
-    let same = same_parts s new tasks objects locked in
+-- what tasks share, and how many `suspend_all` are in force
+abbrev pub shared_of : State → List Object × List ℕ × ℕ
+shared_of s = (s.objects, s.group_bits, s.suspensions)
+
+pub rest_same : (k : Kernel) (s new : State) → RestStandsFor k s → new.tasks ≡ s.tasks → new.time ≡ s.time → ticks_of new ≡ ticks_of s → new.steps ≡ s.steps → new.stopped ≡ s.stopped → shared_of new ≡ shared_of s → new.locked ≡ s.locked → IsTable new → RestStandsFor k new
+rest_same k s new h tasks time ticks steps stopped shared locked table =
+    let same = same_parts s new tasks (ap (λ (x : List Object × List ℕ × ℕ). x.0) shared) locked in
+    let bits = bits_kept.same_parts s new tasks (ap (λ (x : List Object × List ℕ × ℕ). x.1) shared) in
     record {
       progress = λ i. h.progress i ∙ ap (λ ts. (get_or ts i no_task).progress) (sym tasks);
       full = h.full;
-      clock = clock-same k.clock s new h.clock tasks time elapsed table;
+      clock = clock-same k.clock s new h.clock tasks time ticks table;
       queues = stands_same s new same k.queues None h.queues table;
+      groups = on_groups.stands_same k.groups s new h.groups bits table;
+      suspensions = h.suspensions ∙ sym (ap (λ (x : List Object × List ℕ × ℕ). x.2) shared);
       awake = at_locked_same None s new same h.awake;
       steps = h.steps ∙ sym steps;
       stopped = h.stopped ∙ sym stopped;
@@ -132,6 +148,10 @@ ready_within s i t = by_index s.tasks i t where
   by_index [] i t = absurd (cc)
   by_index (u ∷ us) zero t = omega arith
   by_index (u ∷ us) (suc i) t = let l = by_index us i t in omega arith
+
+-- a Ready task waits for no bits
+pub not_for_bits : {X : Type 0} (s : State) (i : ℕ) → is_ready s i ≡ true → is_some (bits_wait (status_at s i)) ≡ true → X
+not_for_bits s i ready some = let none = ready_waits_not s i ready in let f : false ≡ true = sym (ap (λ o. is_some o) none) ∙ some in absurd (cc)
 
 module _ (k : Kernel) (s : State) (h : StandsFor k s) (i : ℕ) (l : i < length s.tasks) where
   pub in_table : i < length k.progress
@@ -148,6 +168,8 @@ module _ (k : Kernel) (s : State) (h : StandsFor k s) (i : ℕ) (l : i < length 
         full = h.rest.full;
         clock = on_clock.stands_kept k.clock s (make_ready i s) i t h.rest.clock l refl refl refl (ready_alike (status_at s i) s.next_ticket (ready_awake (status_at s i) on)) table;
         queues = stands_same s (make_ready i s) same k.queues None h.rest.queues table;
+        groups = on_groups.stands_same k.groups s (make_ready i s) h.rest.groups (bits_kept.same_ready i s (ready_waits_not s i on)) table;
+        suspensions = h.rest.suspensions;
         awake = at_locked_same None s (make_ready i s) same h.rest.awake;
         steps = h.rest.steps;
         stopped = h.rest.stopped;
@@ -164,12 +186,14 @@ module _ (k : Kernel) (s : State) (h : StandsFor k s) (i : ℕ) (l : i < length 
       let c : clock.StandsFor t new = rw on at slept in
       let same = same_ticket i (Asleep wake_time) s refl (ready_free (status_at s i) on) in
       rw on (record {
-        sched = rw blocks (on_sched.stands_blocked k.sched s new i u h.sched l refl refl refl refl refl refl table);
+        sched = rw blocks (on_sched.stands_blocked k.sched s new i u h.sched l refl refl refl refl refl refl table (sym (on_sched.ready_unsuspended (status_at s i) on)));
         rest = record {
           progress = progress-same k.progress s.tasks i u h.rest.progress l refl;
           full = h.rest.full;
           clock = c;
           queues = stands_same s new same k.queues None h.rest.queues table;
+          groups = on_groups.stands_same k.groups s new h.rest.groups (bits_kept.same_ticket i (Asleep wake_time) s refl (ready_waits_not s i on)) table;
+          suspensions = h.rest.suspensions;
           awake = at_locked_same None s new same h.rest.awake;
           steps = h.rest.steps;
           stopped = h.rest.stopped;
@@ -182,18 +206,20 @@ module _ (k : Kernel) (s : State) (h : StandsFor k s) (i : ℕ) (l : i < length 
   still_placed p off j = each-set no_progress (λ _ (q : Progress). q.call.phase ≢ Place) k.progress i p off h.rest.placed j
 
   -- a task's progress changes
-  pub stands-changed : (p : Progress) → p.call.phase ≢ Place → StandsFor (with_progress i p k) (state.with_progress i p s)
-  stands-changed p off =
+  pub stands-changed : (p : Progress) → p.call.phase ≢ Place → (is_some (bits_wait (status_at s i)) ≡ true → p.call.wants ≡ (call_at s i).wants) → StandsFor (with_progress i p k) (state.with_progress i p s)
+  stands-changed p off wants =
       let t : Task = record (task_at s i) { progress = p } in
       let table : IsTable (with_task i t s) = table-set s i t h.sched.table (ticket_at s.next_ticket i s.tasks h.sched.table.tickets) in
       let same = same_progress i p s in
       record {
-        sched = on_sched.stands_kept k.sched s (with_task i t s) i t h.sched l refl refl refl refl refl refl table;
+        sched = on_sched.stands_kept k.sched s (with_task i t s) i t h.sched l refl refl refl refl refl refl table refl;
         rest = record {
           progress = progress-set k.progress s.tasks i t h.rest.progress in_table l;
           full = rw length-set h.rest.full;
           clock = on_clock.stands_kept k.clock s (with_task i t s) i t h.rest.clock l refl refl refl (same_alike (status_at s i) (status_at s i) refl) table;
           queues = stands_same s (with_task i t s) same k.queues None h.rest.queues table;
+          groups = on_groups.stands_same k.groups s (with_task i t s) h.rest.groups (bits_kept.same_task i t s refl wants) table;
+          suspensions = h.rest.suspensions;
           awake = at_locked_same None s (with_task i t s) same h.rest.awake;
           steps = h.rest.steps;
           stopped = h.rest.stopped;
@@ -202,8 +228,8 @@ module _ (k : Kernel) (s : State) (h : StandsFor k s) (i : ℕ) (l : i < length 
       }
 
   -- it goes on at an op of so many, which isn't past the last one
-  pub stands-gone : (count op_index : ℕ) (p : Progress) → eqb op_index count ≡ false → StandsFor (with_progress i (record p { op_index = op_index; used = 0; call = no_call }) k) (with_task i (moved_to count op_index p (task_at s i)) s)
-  stands-gone count op_index p off = rw off (stands-changed (record p { op_index = op_index; used = 0; call = no_call }) (λ e. absurd (cc)))
+  pub stands-gone : (count op_index : ℕ) (p : Progress) → eqb op_index count ≡ false → is_ready s i ≡ true → StandsFor (with_progress i (record p { op_index = op_index; used = 0; call = no_call }) k) (with_task i (moved_to count op_index p (task_at s i)) s)
+  stands-gone count op_index p off ready = rw off (stands-changed (record p { op_index = op_index; used = 0; call = no_call }) (λ e. absurd (cc)) (not_for_bits s i ready))
 
   -- or is Ended
   pub stands-ended : (count op_index : ℕ) (p : Progress) → eqb op_index count ≡ true → is_ready s i ≡ true → (v : Schedule) → v ≡ block i k.sched → StandsFor (record k { progress = set k.progress i (record p { op_index = op_index; used = 0; call = no_call }); sched = v }) (with_task i (moved_to count op_index p (task_at s i)) s)
@@ -213,12 +239,14 @@ module _ (k : Kernel) (s : State) (h : StandsFor k s) (i : ℕ) (l : i < length 
       let table : IsTable (with_task i t s) = table-set s i t h.sched.table tt in
       let same = same_free i t s refl (ready_free (status_at s i) ready) in
       rw on (record {
-        sched = rw blocks (on_sched.stands_blocked k.sched s (with_task i t s) i t h.sched l refl refl refl refl refl refl table);
+        sched = rw blocks (on_sched.stands_blocked k.sched s (with_task i t s) i t h.sched l refl refl refl refl refl refl table (sym (on_sched.ready_unsuspended (status_at s i) ready)));
         rest = record {
           progress = progress-set k.progress s.tasks i t h.rest.progress in_table l;
           full = rw length-set h.rest.full;
           clock = on_clock.stands_kept k.clock s (with_task i t s) i t h.rest.clock l refl refl refl (ended_alike (status_at s i) (ready_awake (status_at s i) ready)) table;
           queues = stands_same s (with_task i t s) same k.queues None h.rest.queues table;
+          groups = on_groups.stands_same k.groups s (with_task i t s) h.rest.groups (bits_kept.same_free i t s refl (ready_waits_not s i ready)) table;
+          suspensions = h.rest.suspensions;
           awake = at_locked_same None s (with_task i t s) same h.rest.awake;
           steps = h.rest.steps;
           stopped = h.rest.stopped;
@@ -232,7 +260,7 @@ at_written k log new_log s e h told step tick =
     let table : IsTable (write e.what s) = record { tickets = h.stands.sched.table.tickets; few = h.stands.sched.table.few; current = h.stands.sched.table.current; holders = h.stands.sched.table.holders } in
     record {
       stands = record {
-        sched = record { ready = h.stands.sched.ready; current = h.stands.sched.current; priorities = h.stands.sched.priorities; base_priorities = h.stands.sched.base_priorities; depth = h.stands.sched.depth; table = table };
+        sched = record { ready = h.stands.sched.ready; current = h.stands.sched.current; priorities = h.stands.sched.priorities; base_priorities = h.stands.sched.base_priorities; depth = h.stands.sched.depth; suspended = h.stands.sched.suspended; table = table };
         rest = rest_same k s (write e.what s) h.stands.rest refl refl refl refl refl refl refl table;
       };
       log = told ∙ rw h.log (ap (λ (x : Event). s.log ++ x ∷ []) (event_same e s.steps (printed s.time) (step ∙ h.stands.rest.steps) (tick ∙ ap printed h.stands.rest.clock.now)));
@@ -245,6 +273,6 @@ pub stands-told : (k : Kernel) (s : State) → StandsFor k s → (log : List Eve
 stands-told k s h log =
     let table : IsTable (record s { log = log }) = record { tickets = h.sched.table.tickets; few = h.sched.table.few; current = h.sched.table.current; holders = h.sched.table.holders } in
     record {
-      sched = record { ready = h.sched.ready; current = h.sched.current; priorities = h.sched.priorities; base_priorities = h.sched.base_priorities; depth = h.sched.depth; table = table };
+      sched = record { ready = h.sched.ready; current = h.sched.current; priorities = h.sched.priorities; base_priorities = h.sched.base_priorities; depth = h.sched.depth; suspended = h.sched.suspended; table = table };
       rest = rest_same k s (record s { log = log }) h.rest refl refl refl refl refl refl refl table;
     }

@@ -1,11 +1,11 @@
 -- What another priority of a task makes of the states that the kernel stands for.
-use Rattle.std.proofs.Common.{◌≡◌, ◌<◌, ℕ, true, false, eqb, ltb, length, Option, Some, None, refl, ap, sym, subst, ◌∙◌}
-use Rattle.std.specs.Option.{IfSome}
+use Rattle.std.proofs.Common.{◌≡◌, ◌<◌, ℕ, true, false, eqb, Option, Some, None, refl, ap, sym, subst, ◌∙◌}
 use Rattle.model.specs.declared.event.Event.{Event}
 use Rattle.model.specs.declared.event.Misuse.{Misuse}
-use Rattle.model.specs.State.{State, Task, task_at, progress_at, call_at, object_at, with_call, with_task, for_one, no_task}
+use Rattle.model.specs.State.{State, Task, task_at, progress_at, call_at, object_at, with_task, for_one, no_task}
 use Rattle.model.specs.Switching.{is_ready, to_back}
-use Rattle.model.specs.Mutexes.{set_priority, mutexes_held, lend, inherits, inherit_from, inherit, best_priority, fall_back, after_timeout, disinherit}
+use Rattle.model.specs.Mutexes.{set_priority, mutexes_held, lend, inherit_from, inherit, best_priority, fall_back, after_timeout, disinherit}
+use Rattle.model.specs.Invariant.{Suspension}
 use Rattle.model.proofs.Sorting.{by_test}
 use Rattle.model.proofs.Sound.{each-set}
 use Rattle.model.proofs.Frames.{keeps-set_priority}
@@ -25,8 +25,10 @@ use Rattle.objects.proofs.Ranking.{stands_ranked, at_locked-ranked}
 use Rattle.clock.proofs.Unmoved.{stands_prioritised}
 use Rattle.sched.specs.StandsFor as sched
 use Rattle.sched.specs.Schedule.{Schedule}
+use Rattle.groups.proofs.Standing as on_groups
+use Rattle.groups.proofs.Kept as bits_kept
 use Rattle.kernel.specs.declared.kernel.Kernel.{Kernel}
-use Rattle.kernel.specs.StandsFor.{StandsFor, At, progress_in}
+use Rattle.kernel.specs.StandsFor.{At}
 use Rattle.kernel.specs.Can.{Agrees, CanDecide, Reranks, Runs}
 use Rattle.kernel.proofs.Waking.{progress-ready}
 
@@ -66,6 +68,8 @@ ranked_at k log s h i priority v on =
           full = h.stands.rest.full;
           clock = stands_prioritised k.clock s i priority h.stands.rest.clock;
           queues = stands_ranked k.queues None s i priority h.stands.rest.queues;
+          groups = on_groups.stands_same k.groups s (set_priority i priority s) h.stands.rest.groups (bits_kept.same_set_priority i priority s) on.table;
+          suspensions = h.stands.rest.suspensions ∙ sym (ap (λ (x : Suspension). x.suspensions) keep.suspension);
           awake = at_locked-ranked None s i priority h.stands.rest.awake;
           steps = h.stands.rest.steps ∙ sym keep.steps;
           stopped = h.stands.rest.stopped ∙ sym keep.stopped;

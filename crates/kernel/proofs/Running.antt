@@ -1,5 +1,5 @@
 -- A run, step by step.
-use Rattle.std.proofs.Common.{◌≡◌, ◌≢◌, ◌<◌, ◌≤◌, ℕ, zero, suc, true, false, eqb, leb, List, [], ◌++◌, Option, Some, None, refl, ap, sym, subst, ◌∙◌, arith, length, length-append}
+use Rattle.std.proofs.Common.{◌+◌, ◌≡◌, ◌≢◌, ◌<◌, ◌≤◌, ℕ, zero, suc, true, false, eqb, leb, List, [], ◌++◌, Option, Some, None, refl, ap, sym, subst, ◌∙◌, arith, length, length-append}
 use Rattle.std.proofs.lemmas.List.{append_assoc}
 use Rattle.std.proofs.lemmas.Bool.Decides.{nat_tests}
 use Rattle.model.proofs.Sorting.{by_test}
@@ -17,7 +17,7 @@ use Rattle.kernel.specs.declared.kernel.Kernel.{Kernel}
 use Rattle.kernel.specs.Logged.{Logged, all_of}
 use Rattle.kernel.specs.StandsFor.{Stands, AtAny, DoesAny, progress_in}
 use Rattle.kernel.specs.Can.{CanStep, IsUnderWay}
-use Rattle.kernel.proofs.Either.{steps_are, age_is, current_is, progress_is}
+use Rattle.kernel.proofs.Either.{steps_are, elapsed_is, current_is, progress_is}
 use Rattle.kernel.proofs.Bounds.{below_limits}
 
 leb-le : (a b : ℕ) → leb a b ≡ true → a ≤ b
@@ -114,8 +114,8 @@ ticks_by app plan limits are (suc n) g =
     let most = are.1 in
     omega arith
 
-pub ticks_low : (app : Application) (plan : List Point) (limits : Limits) → AreLimits limits.ticks limits.steps → (k : Kernel) → IsUnderWay app plan limits k → k.clock.age ≤ 1000000
-ticks_low app plan limits are k h = rw (age_is k (state_after app plan k.steps) h.stands) (ticks_by app plan limits are k.steps h.goes_on)
+pub ticks_low : (app : Application) (plan : List Point) (limits : Limits) → AreLimits limits.ticks limits.steps → (k : Kernel) → IsUnderWay app plan limits k → k.clock.age + k.clock.held ≤ 1000000
+ticks_low app plan limits are k h = rw (elapsed_is k (state_after app plan k.steps) h.stands) (ticks_by app plan limits are k.steps h.goes_on)
 
 -- ---- a run that is broken off has come no further than the run
 

@@ -1,31 +1,29 @@
 -- Who runs: what changes of the processor make of the states that the kernel stands for.
 use Rattle.std.proofs.Common.{◌≡◌, ◌<◌, ℕ, Bool, true, false, not, cond, ◌||◌, List, [], ◌∷◌, ◌++◌, length, Option, Some, None, refl, ap, sym, subst, ◌∙◌, append-nil}
-use Rattle.std.specs.Prelude.{if◌then◌else◌}
+use Rattle.std.specs.Prelude.{nat_lt}
 use Rattle.std.specs.Option.{IfSome}
 use Rattle.std.proofs.lemmas.Option.{same_Some}
 use Rattle.model.specs.declared.call.WaitList.{WaitList}
 use Rattle.model.specs.declared.event.Event.{Event}
 use Rattle.model.specs.declared.event.What.TheVariants as what
 use Rattle.model.specs.State.{State, printed, for_one}
-use Rattle.model.specs.Switching.{choice, dispatch, choose, yield_now, to_back, make_ready, is_ready, is_outranked, is_sharing, is_same, preempt, slice, settle, is_off, unless_held, write}
+use Rattle.model.specs.Switching.{choice, dispatch, choose, yield_now, to_back, make_ready, is_ready, is_outranked, is_sharing, is_same, preempt, slice, settle, is_off, is_held, unless_held, write}
 use Rattle.model.specs.Invariant.{IsTable}
 use Rattle.model.proofs.Sorting.{by_test}
-use Rattle.model.proofs.Settled.{when_held, when_free}
+use Rattle.model.proofs.Settled.{when_held, when_free, held_by_call}
 use Rattle.model.proofs.Lists.{eqb-refl}
 use Rattle.sched.specs.StandsFor as sched
 use Rattle.sched.specs.Schedule as schedule
 use Rattle.sched.specs.Schedule.{Schedule}
 use Rattle.sched.proofs.LinedUp.{ready_if_listed}
+use Rattle.sched.proofs.Standing.{held_by_depth}
 use Rattle.kernel.specs.declared.kernel.Kernel.{Kernel}
 use Rattle.kernel.specs.StandsFor.{RestStandsFor, StandsFor, StandsBefore, At, AtAny, change}
 use Rattle.kernel.proofs.Parts.{rest_same, rest-made_ready}
 
 -- The scheduler isn't held where its depth is 0.
-pub unheld_by : (v : Schedule) (s : State) → sched.StandsFor v s → v.depth ≡ 0 → s.call_hold ≡ false
-unheld_by v s h z = by_hold s.call_hold h.depth where
-  by_hold : (b : Bool) → v.depth ≡ (if b then 1 else 0) → b ≡ false
-  by_hold true e = let f : 1 ≡ 0 = sym e ∙ z in absurd (cc)
-  by_hold false e = refl
+pub unheld_by : (v : Schedule) (s : State) → sched.StandsFor v s → v.depth ≡ 0 → is_held s ≡ false
+unheld_by v s h z = held_by_depth s ∙ ap (λ (n : ℕ). nat_lt 0 n) (sym h.depth ∙ z)
 
 same_self : (r : Option ℕ) → is_same r r ≡ true
 same_self None = refl
@@ -106,7 +104,7 @@ rest-preempt k s h table = by_test (is_outranked s)
 module _ (k : Kernel) (log new_log : List Event) (s : State) (v : Schedule) (before : Option ℕ) (h : At k log s) (b : before ≡ k.sched.current) (told : new_log ≡ log ++ change k.steps k.clock.now before v.current) where
   changed : (new : State) → sched.StandsFor v new → RestStandsFor k new → Tells s new → At (record k { sched = v }) new_log new
   changed new on rest tells = record {
-    stands = record { sched = on; rest = record { progress = rest.progress; full = rest.full; clock = rest.clock; steps = rest.steps; stopped = rest.stopped; queues = rest.queues; awake = rest.awake; placed = rest.placed } };
+    stands = record { sched = on; rest = record { progress = rest.progress; full = rest.full; clock = rest.clock; steps = rest.steps; stopped = rest.stopped; queues = rest.queues; groups = rest.groups; suspensions = rest.suspensions; awake = rest.awake; placed = rest.placed } };
     log = told ∙ rw (h.log, b, h.stands.sched.current, h.stands.rest.steps, h.stands.rest.clock.now, on.current) (sym tells);
   }
 
@@ -153,19 +151,22 @@ not_false false t = absurd (cc)
 
 -- ---- whether the scheduler is held
 
-pub settled_free : (k : Kernel) (log : List Event) (s : State) → s.call_hold ≡ false → At k log (settle s) → At k log (unless_held settle s)
+pub settled_free : (k : Kernel) (log : List Event) (s : State) → is_held s ≡ false → At k log (settle s) → At k log (unless_held settle s)
 settled_free k log s none a = subst (At k log) (sym (when_free settle s none)) a
 
-pub settled_held : (k : Kernel) (log : List Event) (s : State) → s.call_hold ≡ true → At k log s → At k log (unless_held settle s)
+pub settled_held : (k : Kernel) (log : List Event) (s : State) → is_held s ≡ true → At k log s → At k log (unless_held settle s)
 settled_held k log s held a = subst (At k log) (sym (when_held settle s held)) a
+
+pub sliced_free : (k : Kernel) (log : List Event) (s : State) → is_held s ≡ false → At k log (slice s) → At k log (unless_held slice s)
+sliced_free k log s none a = subst (At k log) (sym (when_free slice s none)) a
 
 -- Where it stands for the state, and for that settled, it is all one.
 pub settled_either : (k : Kernel) (log : List Event) (s : State) → At k log s → At k log (settle s) → At k log (unless_held settle s)
-settled_either k log s held free = by_test s.call_hold (λ t. settled_held k log s t held) (λ t. settled_free k log s t free)
+settled_either k log s held free = by_test (is_held s) (λ t. settled_held k log s t held) (λ t. settled_free k log s t free)
 
 -- While a task is still to be placed the scheduler is held, and nothing switches.
 pub settled_before : (k : Kernel) (log : List Event) (s : State) → AtAny k log s → (task : ℕ) (list : WaitList) → StandsBefore task list k s → AtAny k log (unless_held settle s)
-settled_before k log s h task list b = subst (AtAny k log) (sym (when_held settle s b.held)) h
+settled_before k log s h task list b = subst (AtAny k log) (sym (when_held settle s (held_by_call s b.held))) h
 
 runs_before : (k : Kernel) (s : State) (task i : ℕ) (list : WaitList) → StandsBefore task list k s → k.sched.current ≡ Some i → task ≡ i
 runs_before k s task i list b r = same_Some task i (sym b.current ∙ sym b.sched.current ∙ r)

@@ -1,14 +1,15 @@
 -- A queue is unlocked, and whoever is Awake becomes Ready.
-use Rattle.std.proofs.Common.{◌≡◌, ◌≢◌, ◌<◌, ℕ, true, false, List, [], ◌∷◌, ◌++◌, length, Option, Some, None, IsSome, refl, ap, sym, subst, ◌∙◌}
+use Rattle.std.proofs.Common.{◌≡◌, ◌≢◌, ℕ, true, false, List, [], ◌∷◌, ◌++◌, Option, Some, None, IsSome, refl, ap, sym, subst, ◌∙◌}
 use Rattle.std.specs.List.{AllByRecursion}
 use Rattle.std.specs.Option.{option_and_then}
 use Rattle.model.specs.declared.call.WaitList.{WaitList}
 use Rattle.model.specs.declared.call.WaitList.TheVariants.{ToReceive, ToSend}
 use Rattle.model.specs.declared.event.Event.{Event}
-use Rattle.model.specs.State.{State, Task, Status, Ready, Awake, Waiting, Asleep, Ended, wait_if_awake, status_at, for_one, for_each}
+use Rattle.model.specs.State.{State, Task, Status, Ready, Awake, Waiting, Asleep, WaitingForBits, Suspended, Ended, wait_if_awake, status_at, for_one, for_each}
 use Rattle.model.specs.Order.{Key, Entry, tasks_of}
 use Rattle.model.specs.Switching.{is_ready, make_ready}
 use Rattle.model.specs.Waiting.{awakened, wait_key, unlock, unlock_object}
+use Rattle.model.specs.Invariant.{Suspension}
 use Rattle.model.proofs.Lists.{HasKey, list_has}
 use Rattle.model.proofs.Frames.{keeps-all_ready}
 use Rattle.model.proofs.Unlocking.{current-all_ready}
@@ -24,12 +25,16 @@ use Rattle.objects.specs.Queues.{Exchange, locked_by}
 use Rattle.objects.proofs.Awake.{at_locked-unlock}
 use Rattle.objects.proofs.Unlocking.{each_append}
 use Rattle.objects.proofs.Counting.{Distinct, distinct_from}
+use Rattle.groups.specs.StandsFor.{SameBitWaits}
+use Rattle.groups.proofs.Standing as on_groups
+use Rattle.groups.proofs.Kept as bits_kept
+use Rattle.groups.proofs.Elsewhere as bits_elsewhere
 use Rattle.kernel.specs.declared.kernel.Kernel.{Kernel}
 use Rattle.kernel.specs.StandsFor.{StandsFor, At}
-use Rattle.kernel.specs.Can.{AreToWake}
+use Rattle.kernel.specs.Can.{AreThere, AreToWake}
 use Rattle.kernel.proofs.Parts.{clock-same}
 use Rattle.kernel.proofs.Waking.{progress-all_ready, log-all_ready}
-use Rattle.kernel.proofs.Waits.{unready_awake}
+use Rattle.kernel.proofs.Waits.{unready_awake, awake_unsuspended}
 
 -- ---- those who are Awake can all become Ready
 
@@ -45,6 +50,8 @@ in_one o (Awake w) k m e f = by_list w.list refl where
   by_list (ToSend a) is = let g = rw is at e in absurd (cc)
 in_one o (Waiting w) k m e f = absurd (cc)
 in_one o (Asleep w n) k m e f = absurd (cc)
+in_one o (WaitingForBits g n d) k m e f = absurd (cc)
+in_one o Suspended k m e f = absurd (cc)
 in_one o Ended k m e f = absurd (cc)
 
 module _ (k : Kernel) (s : State) (h : StandsFor k s) (o : ℕ) where
@@ -78,9 +85,10 @@ module _ (k : Kernel) (s : State) (h : StandsFor k s) (o : ℕ) where
   all_wake [] fs has d more c = senders_wake fs more c
   all_wake (e ∷ es) fs has d more c = (unready e.task (unready_awake (ToReceive o) (status_at s e.task) e.key has.0.key), apart_from e has.0 es fs d.0 more, all_wake es fs has.1 d.1 more c)
 
-  within_by : (list : WaitList) (es : List Entry) → AllByRecursion (HasKey (awake_key list) s.tasks) es → AllByRecursion (λ i. i < length s.tasks) (tasks_of es)
+  within_by : (list : WaitList) (es : List Entry) → AllByRecursion (HasKey (awake_key list) s.tasks) es → AreThere s (tasks_of es)
+  unfolding awake_key
   within_by list [] has = tt
-  within_by list (e ∷ es) has = (has.0.within, within_by list es has.1)
+  within_by list (e ∷ es) has = ((has.0.within, awake_unsuspended list (status_at s e.task) e.key has.0.key), within_by list es has.1)
 
   module _ (xs ys : List ℕ) (are : AreAwakened s o xs ys) where
     pub are_to_wake : AreToWake k.sched (xs ++ ys)
@@ -90,11 +98,11 @@ module _ (k : Kernel) (s : State) (h : StandsFor k s) (o : ℕ) where
         (list_has (awake_key (ToReceive o)) s.tasks) (distinct_from (awake_key (ToReceive o)) 0 s.tasks)
         (list_has (awake_key (ToSend o)) s.tasks) (distinct_from (awake_key (ToSend o)) 0 s.tasks))
 
-    pub receivers_within : AllByRecursion (λ i. i < length s.tasks) xs
+    pub receivers_within : AreThere s xs
     unfolding awake_key
     receivers_within = rw are.0 (within_by (ToReceive o) (awakened s (ToReceive o)) (list_has (awake_key (ToReceive o)) s.tasks))
 
-    pub senders_within : AllByRecursion (λ i. i < length s.tasks) ys
+    pub senders_within : AreThere s ys
     unfolding awake_key
     senders_within = rw are.1 (within_by (ToSend o) (awakened s (ToSend o)) (list_has (awake_key (ToSend o)) s.tasks))
 
@@ -102,7 +110,7 @@ module _ (k : Kernel) (s : State) (h : StandsFor k s) (o : ℕ) where
 
 module _ (k : Kernel) (log : List Event) (s : State) (h : At k log s) where
   pub sched_opened : sched.StandsFor k.sched (opened s)
-  sched_opened = record { ready = h.stands.sched.ready; current = h.stands.sched.current; priorities = h.stands.sched.priorities; base_priorities = h.stands.sched.base_priorities; depth = h.stands.sched.depth; table = record { tickets = h.stands.sched.table.tickets; few = h.stands.sched.table.few; current = h.stands.sched.table.current; holders = h.stands.sched.table.holders } }
+  sched_opened = record { ready = h.stands.sched.ready; current = h.stands.sched.current; priorities = h.stands.sched.priorities; base_priorities = h.stands.sched.base_priorities; depth = h.stands.sched.depth; suspended = h.stands.sched.suspended; table = record { tickets = h.stands.sched.table.tickets; few = h.stands.sched.table.few; current = h.stands.sched.table.current; holders = h.stands.sched.table.holders } }
 
   pub clock_opened : clock.StandsFor k.clock (opened s)
   clock_opened = clock-same k.clock s (opened s) h.stands.rest.clock refl refl refl sched_opened.table
@@ -122,6 +130,8 @@ module _ (k : Kernel) (log : List Event) (s : State) (h : At k log s) where
             full = h.stands.rest.full;
             clock = awake;
             queues = subst (λ (x : State). queues.StandsFor q None x) e there;
+            groups = on_groups.stands_same k.groups s new h.stands.rest.groups (subst (SameBitWaits s) e (bits_elsewhere.same_unlock s)) on.table;
+            suspensions = h.stands.rest.suspensions ∙ sym (ap (λ (x : Suspension). x.suspensions) keep.suspension);
             awake = subst (λ (x : State). AtLocked None x) e (at_locked-unlock None s h.stands.rest.awake);
             steps = h.stands.rest.steps ∙ sym keep.steps;
             stopped = h.stands.rest.stopped ∙ sym keep.stopped;
@@ -141,7 +151,7 @@ module _ (k : Kernel) (log : List Event) (s : State) (h : At k log s) where
       subst (λ (o : Option ℕ). At k2 log (for_one unlock_object o s)) is (record {
         stands = record {
           sched = h.stands.sched;
-          rest = record { progress = h.stands.rest.progress; full = h.stands.rest.full; clock = h.stands.rest.clock; queues = back; awake = h.stands.rest.awake; steps = h.stands.rest.steps; stopped = h.stands.rest.stopped; placed = h.stands.rest.placed };
+          rest = record { progress = h.stands.rest.progress; full = h.stands.rest.full; clock = h.stands.rest.clock; queues = back; groups = h.stands.rest.groups; suspensions = h.stands.rest.suspensions; awake = h.stands.rest.awake; steps = h.stands.rest.steps; stopped = h.stands.rest.stopped; placed = h.stands.rest.placed };
         };
         log = h.log;
       })
@@ -166,9 +176,6 @@ current-unlock s = by_locked s.locked where
 -- one list after the other
 pub in_turn : (P : State → Type 0) (s : State) (is js : List ℕ) → P (for_each make_ready js (for_each make_ready is s)) → P (for_each make_ready (is ++ js) s)
 in_turn P s is js h = subst P (sym (each_append is js s)) h
-
-pub still_within : (s : State) (is js : List ℕ) → AllByRecursion (λ j. j < length s.tasks) js → AllByRecursion (λ j. j < length (for_each make_ready is s).tasks) js
-still_within s is js h = subst (λ (n : ℕ). AllByRecursion (λ j. j < n) js) (sym (keeps-all_ready is s).tasks) h
 
 -- where nothing was unlocked
 pub none_by : {Y : Type 0} (lock : Option Y) → (IsSome lock → false ≡ true) → lock ≡ None

@@ -10,12 +10,13 @@ use Rattle.model.specs.declared.call.WaitList.{WaitList}
 use Rattle.model.specs.declared.op.Access.{Access}
 use Rattle.model.specs.declared.event.Event.{Event}
 use Rattle.model.specs.Application.{Application}
-use Rattle.model.specs.State.{State, Task, Progress, Object, Status, Wait, Ready, Awake, Waiting, Asleep, Ended, ticket_if_ready, wait_if_waiting, wait_if_awake, wait_of, task_at, status_at, progress_at, call_at, object_at, with_call, with_object, go_on, for_one, no_task}
+use Rattle.model.specs.State.{State, Task, Progress, Object, Status, Wait, Ready, Awake, Waiting, Asleep, WaitingForBits, Suspended, Ended, ticket_if_ready, wait_if_waiting, wait_if_awake, wait_of, task_at, status_at, progress_at, call_at, with_call, with_object, go_on, for_one}
 use Rattle.model.specs.State as state
 use Rattle.model.specs.Order.{Key, Entry, first, task_of}
 use Rattle.model.specs.Switching.{is_ready, make_ready, preempt, choose}
 use Rattle.model.specs.Ops.{answer}
 use Rattle.model.specs.Waiting.{wait_key, waiters, awake_status, awaken, is_locked, wake_one, wake_best, set_deadline, is_expired, end_hold}
+use Rattle.model.specs.Suspension.{can_resume}
 use Rattle.model.specs.Objects.{possible, answer_to, fulfil, attempt}
 use Rattle.model.specs.Mutexes.{after_timeout}
 use Rattle.model.specs.Calls.{try, do_now, leave_call}
@@ -32,8 +33,12 @@ use Rattle.clock.proofs.Standing as on_clock
 use Rattle.clock.proofs.Standing.{SleepsAlike}
 use Rattle.objects.specs.WaitersStand.{AtLocked}
 use Rattle.objects.specs.Queues as queues
-use Rattle.objects.specs.Queues.{Exchange, SameWaits}
+use Rattle.objects.specs.Queues.{Exchange}
 use Rattle.objects.proofs.Awake.{at_locked-stored, at_locked-wake_best}
+use Rattle.groups.specs.StandsFor.{SameBitWaits, bits_wait}
+use Rattle.groups.proofs.Standing as on_groups
+use Rattle.groups.proofs.Kept as bits_kept
+use Rattle.groups.proofs.Elsewhere as bits_elsewhere
 use Rattle.kernel.specs.declared.kernel.Kernel.{Kernel}
 use Rattle.kernel.specs.StandsFor.{StandsFor, At, progress_in, with_progress}
 use Rattle.kernel.specs.Can.{Runs}
@@ -48,13 +53,13 @@ module _ (k new : Kernel) (log : List Event) (s : State) (h : At k log s) (i : �
   pub not_placing : (call_at s i).phase ≢ Place
   not_placing e = h.stands.rest.placed i (ap (λ (p : Progress). p.call.phase) (h.stands.rest.progress i) ∙ e)
 
-  pub recalled : (c d : CallProgress) → new ≡ with_progress i (record (progress_in k.progress i) { call = c }) k → c ≡ d → d.phase ≢ Place → At new log (with_call i d s)
-  recalled c d is e off =
+  pub recalled : (c d : CallProgress) → new ≡ with_progress i (record (progress_in k.progress i) { call = c }) k → c ≡ d → d.phase ≢ Place → (is_some (bits_wait (status_at s i)) ≡ true → d.wants ≡ (call_at s i).wants) → At new log (with_call i d s)
+  recalled c d is e off wants =
       let P : Progress → Type 0 = λ p. At (with_progress i (record p { call = d }) k) log (state.with_progress i (record (progress_at s i) { call = d }) s) in
-      rw (is, e) (subst P (sym (h.stands.rest.progress i)) (changed k log s h i (within k log s h i r) (record (progress_at s i) { call = d }) off))
+      rw (is, e) (subst P (sym (h.stands.rest.progress i)) (changed k log s h i (within k log s h i r) (record (progress_at s i) { call = d }) off wants))
 
   pub gone_on : (phase : Phase) → new ≡ with_progress i (record (progress_in k.progress i) { call = record (progress_in k.progress i).call { phase = phase } }) k → phase ≢ Place → At new log (go_on i phase s)
-  gone_on phase is off = recalled (record (progress_in k.progress i).call { phase = phase }) (record (call_at s i) { phase = phase }) is (ap (λ (p : Progress). record p.call { phase = phase }) (h.stands.rest.progress i)) off
+  gone_on phase is off = recalled (record (progress_in k.progress i).call { phase = phase }) (record (call_at s i) { phase = phase }) is (ap (λ (p : Progress). record p.call { phase = phase }) (h.stands.rest.progress i)) off (λ _. refl)
 
   pub dated : (v : Progress) → v ≡ progress_in k.progress i → (deadline ticks : Option ℕ) → deadline ≡ option_map (λ n. k.clock.now + n) ticks → new ≡ with_progress i (record (progress_in k.progress i) { call = record v.call { deadline = deadline } }) k → At new log (set_deadline i ticks s)
   unfolding set_deadline
@@ -62,7 +67,7 @@ module _ (k new : Kernel) (log : List Event) (s : State) (h : At k log s) (i : �
       let now : deadline ≡ option_map (λ n. s.time + n) ticks = d ∙ ap (λ (m : ℕ). option_map (λ n. m + n) ticks) h.stands.rest.clock.now in
       recalled (record v.call { deadline = deadline }) (record (call_at s i) { deadline = option_map (λ n. s.time + n) ticks }) is
       (ap (λ (p : Progress). record p.call { deadline = deadline }) (e ∙ h.stands.rest.progress i) ∙ ap (λ (o : Option ℕ). record (call_at s i) { deadline = o }) now)
-      not_placing
+      not_placing (λ _. refl)
 
 -- ---- a wake
 
@@ -86,6 +91,8 @@ unready (Ready n) e = absurd (cc)
 unready (Awake w) e = refl
 unready (Waiting w) e = refl
 unready (Asleep w n) e = refl
+unready (WaitingForBits g m d) e = refl
+unready Suspended e = refl
 unready Ended e = refl
 
 some_wait : (list : WaitList) (o : Option Wait) (k : Key) → option_and_then (wait_key list) o ≡ Some k → is_some o ≡ true
@@ -97,6 +104,8 @@ waiting_waits (Ready n) e = absurd (cc)
 waiting_waits (Awake w) e = refl
 waiting_waits (Waiting w) e = refl
 waiting_waits (Asleep w n) e = absurd (cc)
+waiting_waits (WaitingForBits g m d) e = absurd (cc)
+waiting_waits Suspended e = absurd (cc)
 waiting_waits Ended e = absurd (cc)
 
 awake_waits : (u : Status) → is_some (wait_if_awake u) ≡ true → is_some (wait_of u) ≡ true
@@ -104,6 +113,8 @@ awake_waits (Ready n) e = absurd (cc)
 awake_waits (Awake w) e = refl
 awake_waits (Waiting w) e = refl
 awake_waits (Asleep w n) e = absurd (cc)
+awake_waits (WaitingForBits g m d) e = absurd (cc)
+awake_waits Suspended e = absurd (cc)
 awake_waits Ended e = absurd (cc)
 
 pub unready_waiting : (list : WaitList) (u : Status) (k : Key) → option_and_then (wait_key list) (wait_if_waiting u) ≡ Some k → is_some (ticket_if_ready u) ≡ false
@@ -120,6 +131,23 @@ best_waits s list i is = by_entries (waiters s list) (list_has (waits_key list) 
   by_entries (x ∷ xs) has e =
       let same : i ≡ x.task = cc in
       record { within = rw same has.0.within; unready = rw same (unready_waiting list (status_at s x.task) x.key has.0.key); key = x.key; there = rw same has.0.key }
+
+waiting_unsuspended : (u : Status) → is_some (wait_of u) ≡ true → can_resume u ≡ false
+waiting_unsuspended (Ready n) e = refl
+waiting_unsuspended (Awake w) e = refl
+waiting_unsuspended (Waiting w) e = refl
+waiting_unsuspended (Asleep w n) e = refl
+waiting_unsuspended (WaitingForBits g m d) e = refl
+waiting_unsuspended Suspended e = absurd (cc)
+waiting_unsuspended Ended e = refl
+
+-- who waits there isn't suspended
+pub there_unsuspended : (s : State) (list : WaitList) (i : ℕ) → WaitsThere s list i → can_resume (status_at s i) ≡ false
+there_unsuspended s list i w = waiting_unsuspended (status_at s i) (waiting_waits (status_at s i) (some_wait list (wait_if_waiting (status_at s i)) w.key w.there))
+
+-- nor who was woken there
+pub awake_unsuspended : (list : WaitList) (u : Status) (k : Key) → option_and_then (wait_key list) (wait_if_awake u) ≡ Some k → can_resume u ≡ false
+awake_unsuspended list u k e = waiting_unsuspended u (awake_waits u (some_wait list (wait_if_awake u) k e))
 
 -- the answer where someone becomes Ready
 open_then : (b : Bool) (o : Option ℕ) (i : ℕ) → Some i ≡ (if b then None else o) → (b ≡ false) × (Some i ≡ o)
@@ -142,6 +170,9 @@ module _ (k : Kernel) (s : State) (h : StandsFor k s) (list : WaitList) (i : ℕ
   pub woken_free : schedule.is_ready k.sched i ≡ false
   woken_free = on_sched.ready_same k.sched s i h.sched ∙ (waits_there s list i is).unready
 
+  pub woken_unsuspended : can_resume (status_at s i) ≡ false
+  woken_unsuspended = there_unsuspended s list i (waits_there s list i is)
+
   pub woken_at : (log : List Event) → log ≡ s.log → (v : Schedule) (t : Timeline) (q : Exchange) → (i < length s.tasks → sched.StandsFor v (make_ready i s)) → (i < length s.tasks → clock.StandsFor t (make_ready i s)) → queues.StandsFor q None (wake_best list s)
       → At (record k { sched = v; clock = t; queues = q }) log (wake_best list s)
   woken_at log same v t q on awake left =
@@ -155,6 +186,8 @@ module _ (k : Kernel) (s : State) (h : StandsFor k s) (list : WaitList) (i : ℕ
             full = h.rest.full;
             clock = awake l;
             queues = subst (queues.StandsFor q None) (wakes_it s list i is) left;
+            groups = on_groups.stands_same k.groups s (make_ready i s) h.rest.groups (subst (SameBitWaits s) (wakes_it s list i is) (bits_elsewhere.same_wake_best list s)) (on l).table;
+            suspensions = h.rest.suspensions;
             awake = subst (AtLocked None) (wakes_it s list i is) (at_locked-wake_best None list s h.rest.awake);
             steps = h.rest.steps;
             stopped = h.rest.stopped;
@@ -191,28 +224,44 @@ awake_unready (Ready n) = refl
 awake_unready (Awake w) = refl
 awake_unready (Waiting w) = refl
 awake_unready (Asleep w n) = refl
+awake_unready (WaitingForBits g m d) = refl
+awake_unready Suspended = refl
 awake_unready Ended = refl
+
+-- whether a task is suspended stays
+pub awake_resumes : (u : Status) → can_resume (awake_status u) ≡ can_resume u
+awake_resumes (Ready n) = refl
+awake_resumes (Awake w) = refl
+awake_resumes (Waiting w) = refl
+awake_resumes (Asleep w n) = refl
+awake_resumes (WaitingForBits g m d) = refl
+awake_resumes Suspended = refl
+awake_resumes Ended = refl
 
 pub awake_alike : (u : Status) → SleepsAlike (awake_status u) u
 awake_alike (Ready n) = record { key = refl; wake_time = refl }
 awake_alike (Awake w) = record { key = refl; wake_time = refl }
 awake_alike (Waiting w) = record { key = refl; wake_time = refl }
 awake_alike (Asleep w n) = record { key = refl; wake_time = refl }
+awake_alike (WaitingForBits g m d) = record { key = refl; wake_time = refl }
+awake_alike Suspended = record { key = refl; wake_time = refl }
 awake_alike Ended = record { key = refl; wake_time = refl }
 
 module _ (k : Kernel) (log : List Event) (s : State) (h : At k log s) (list : WaitList) (is : None ≡ (if is_locked s.locked list then None else best s list)) (q : Exchange) (left : queues.StandsFor q None (wake_best list s)) where
-  awakened_at : (i : ℕ) → i < length s.tasks → queues.StandsFor q None (awaken i s) → AtLocked None (awaken i s) → At (record k { queues = q }) log (awaken i s)
-  awakened_at i l there locked =
+  awakened_at : (i : ℕ) → i < length s.tasks → queues.StandsFor q None (awaken i s) → AtLocked None (awaken i s) → SameBitWaits s (awaken i s) → At (record k { queues = q }) log (awaken i s)
+  awakened_at i l there locked bits =
       let t : Task = record (task_at s i) { status = awake_status (status_at s i) } in
       let table : IsTable (awaken i s) = there.waiters.table in
       record {
         stands = record {
-          sched = on_sched.stands_kept k.sched s (awaken i s) i t h.stands.sched l refl refl refl (ap (λ (o : Option ℕ). option_map (λ n. record { priority = (task_at s i).priority; ticket = n }) o) (awake_unready (status_at s i))) refl refl table;
+          sched = on_sched.stands_kept k.sched s (awaken i s) i t h.stands.sched l refl refl refl (ap (λ (o : Option ℕ). option_map (λ n. record { priority = (task_at s i).priority; ticket = n }) o) (awake_unready (status_at s i))) refl refl table (awake_resumes (status_at s i));
           rest = record {
             progress = progress-same k.progress s.tasks i t h.stands.rest.progress l refl;
             full = h.stands.rest.full;
             clock = on_clock.stands_kept k.clock s (awaken i s) i t h.stands.rest.clock l refl refl refl (awake_alike (status_at s i)) table;
             queues = there;
+            groups = on_groups.stands_same k.groups s (awaken i s) h.stands.rest.groups bits table;
+            suspensions = h.stands.rest.suspensions;
             awake = locked;
             steps = h.stands.rest.steps;
             stopped = h.stands.rest.stopped;
@@ -228,11 +277,11 @@ module _ (k : Kernel) (log : List Event) (s : State) (h : At k log s) (list : Wa
     by_case (Nobody one) = subst (At (record k { queues = q }) log) (sym one) (record {
       stands = record {
         sched = h.stands.sched;
-        rest = record { progress = h.stands.rest.progress; full = h.stands.rest.full; clock = h.stands.rest.clock; queues = subst (queues.StandsFor q None) one left; awake = h.stands.rest.awake; steps = h.stands.rest.steps; stopped = h.stands.rest.stopped; placed = h.stands.rest.placed };
+        rest = record { progress = h.stands.rest.progress; full = h.stands.rest.full; clock = h.stands.rest.clock; queues = subst (queues.StandsFor q None) one left; groups = h.stands.rest.groups; suspensions = h.stands.rest.suspensions; awake = h.stands.rest.awake; steps = h.stands.rest.steps; stopped = h.stands.rest.stopped; placed = h.stands.rest.placed };
       };
       log = h.log;
     })
-    by_case (Counted i l one) = subst (At (record k { queues = q }) log) (sym one) (awakened_at i l (subst (queues.StandsFor q None) one left) (subst (AtLocked None) one (at_locked-wake_best None list s h.stands.rest.awake)))
+    by_case (Counted i l one) = subst (At (record k { queues = q }) log) (sym one) (awakened_at i l (subst (queues.StandsFor q None) one left) (subst (AtLocked None) one (at_locked-wake_best None list s h.stands.rest.awake)) (subst (SameBitWaits s) one (bits_elsewhere.same_wake_best list s)))
 
 -- one task more is Ready, and the running one is as before
 pub still_runs : (k new : Kernel) (i j : ℕ) → Runs k j → schedule.is_ready k.sched i ≡ false → new.sched ≡ schedule.wake i k.sched → new.sched.current ≡ k.sched.current → new.progress ≡ k.progress → Runs new j
@@ -253,12 +302,14 @@ stored_at k log s h o x q there =
     let table : IsTable new = there.waiters.table in
     record {
       stands = record {
-        sched = record { ready = h.stands.sched.ready; current = h.stands.sched.current; priorities = h.stands.sched.priorities; base_priorities = h.stands.sched.base_priorities; depth = h.stands.sched.depth; table = table };
+        sched = record { ready = h.stands.sched.ready; current = h.stands.sched.current; priorities = h.stands.sched.priorities; base_priorities = h.stands.sched.base_priorities; depth = h.stands.sched.depth; suspended = h.stands.sched.suspended; table = table };
         rest = record {
           progress = h.stands.rest.progress;
           full = h.stands.rest.full;
           clock = clock-same k.clock s new h.stands.rest.clock refl refl refl table;
           queues = there;
+          groups = on_groups.stands_same k.groups s new h.stands.rest.groups (bits_kept.same_object o x s) table;
+          suspensions = h.stands.rest.suspensions;
           awake = at_locked-stored None o x s h.stands.rest.awake;
           steps = h.stands.rest.steps;
           stopped = h.stands.rest.stopped;

@@ -1,15 +1,18 @@
 -- Who is due becomes Ready, one after the other.
-use Rattle.std.proofs.Common.{None, ◌≡◌, ◌≢◌, ◌<◌, ◌+◌, ℕ, zero, suc, true, false, eqb, List, [], ◌∷◌, ◌++◌, length, get_or, set, take, drop, refl, ap, sym, subst, ◌∙◌, arith}
-use Rattle.std.specs.List.{AllByRecursion, IsDistinct}
+use Rattle.std.proofs.Common.{None, Some, ◌≡◌, ◌≢◌, ◌<◌, ◌+◌, ℕ, zero, suc, true, false, eqb, List, [], ◌∷◌, ◌++◌, length, get_or, set, take, drop, refl, ap, sym, subst, ◌∙◌, arith}
+use Rattle.std.specs.List.{AllByRecursion, IsDistinct, filter}
+use Rattle.std.specs.Option.{option_eq}
 use Rattle.std.proofs.lemmas.List.{take_more}
 use Rattle.model.specs.declared.event.Event.{Event}
-use Rattle.model.specs.State.{State, Task, Ready, task_at, progress_at, for_each, no_task}
-use Rattle.model.specs.Order.{tasks_of}
-use Rattle.model.specs.Switching.{make_ready}
-use Rattle.model.specs.Time.{due, wake_due, advance, increment_tick}
+use Rattle.model.specs.State.{State, Task, Status, Ready, Awake, Waiting, WaitingForBits, Asleep, Suspended, Ended, wake_time_of, task_at, status_at, progress_at, for_each, no_task}
+use Rattle.model.specs.Suspension.{can_resume}
+use Rattle.model.specs.Order.{Entry, tasks_of}
+use Rattle.model.specs.Switching.{make_ready, is_scheduler_suspended}
+use Rattle.model.specs.Time.{delayed_key, delayed_list, is_due, due, wake_due, advance, increment_tick}
 use Rattle.model.proofs.Sorting.{by_test}
 use Rattle.model.proofs.Lists.{eqb-refl}
-use Rattle.model.proofs.Chosen.{each-end}
+use Rattle.model.proofs.Chosen.{each-end, list_within}
+use Rattle.model.proofs.Sound.{each-set}
 use Rattle.model.proofs.Frames.{keeps-all_ready}
 use Rattle.lists.specs.Lists.{Each}
 use Rattle.sched.specs.StandsFor as sched
@@ -25,9 +28,14 @@ use Rattle.objects.specs.Queues as queues
 use Rattle.objects.specs.Queues.{Exchange}
 use Rattle.objects.proofs.Kept.{stands_same}
 use Rattle.objects.proofs.Awake.{at_locked-all_ready}
+use Rattle.groups.specs.StandsFor as groups
+use Rattle.groups.specs.EventGroups.{EventGroups}
+use Rattle.groups.proofs.Standing as on_groups
+use Rattle.groups.proofs.Kept as bits_kept
+use Rattle.model.specs.Invariant.{Suspension}
 use Rattle.kernel.specs.declared.kernel.Kernel.{Kernel}
 use Rattle.kernel.specs.StandsFor.{StandsFor, At}
-use Rattle.kernel.specs.Can.{AreToWake}
+use Rattle.kernel.specs.Can.{AreThere, AreToWake}
 use Rattle.kernel.proofs.Parts.{apart_back, same_parts}
 
 -- ---- the tasks that are to wake
@@ -77,20 +85,50 @@ module _ (v : Schedule) (ts : List ℕ) (j : ℕ) (i : ℕ) (l : j < length ts) 
       let P : Schedule → Type 0 = λ x. AreToWake x (drop (j + 1) ts ++ more) in
       subst P (sym is) (still_to_wake v i (drop (j + 1) ts ++ more) w.1 w.2)
 
-at_within : (n : ℕ) (ts : List ℕ) (j : ℕ) (d : ℕ) → j < length ts → AllByRecursion (λ i. i < n) ts → get_or ts j d < n
-at_within n [] j d l h = absurd (omega arith)
-at_within n (t ∷ ts) zero d l h = h.0
-at_within n (t ∷ ts) (suc j) d l h = at_within n ts j d (omega arith) h.1
+-- one of those who are there
+at_there : (s : State) (ts : List ℕ) (j : ℕ) (d : ℕ) → j < length ts → AreThere s ts → (get_or ts j d < length s.tasks) × (can_resume (status_at s (get_or ts j d)) ≡ false)
+at_there s [] j d l h = absurd (omega arith)
+at_there s (t ∷ ts) zero d l h = h.0
+at_there s (t ∷ ts) (suc j) d l h = at_there s ts j d (omega arith) h.1
+
+-- Who isn't suspended isn't when others have become Ready either.
+pub still_awake : (s : State) (js : List ℕ) (i : ℕ) → can_resume (status_at s i) ≡ false → can_resume (status_at (for_each make_ready js s) i) ≡ false
+still_awake s [] i e = e
+still_awake s (j ∷ js) i e =
+    let P : ℕ → Task → Type 0 = λ k t. k ≡ i → can_resume t.status ≡ false in
+    still_awake (make_ready j s) js i (each-set no_task P s.tasks j (record (task_at s j) { status = Ready s.next_ticket }) (λ _. refl) (λ k q. subst (λ (m : ℕ). can_resume (status_at s m) ≡ false) (sym q) e) i refl)
+
+pub still_there : (s : State) (js is : List ℕ) → AreThere s is → AreThere (for_each make_ready js s) is
+still_there s js [] h = tt
+still_there s js (i ∷ is) h = ((rw (keeps-all_ready js s).tasks h.0.0, still_awake s js i h.0.1), still_there s js is h.1)
+
+due_unsuspended : (s : State) (u : Status) → option_eq eqb (wake_time_of u) (Some s.time) ≡ true → can_resume u ≡ false
+due_unsuspended s (Ready n) e = refl
+due_unsuspended s (Awake w) e = refl
+due_unsuspended s (Waiting w) e = refl
+due_unsuspended s (WaitingForBits g n d) e = refl
+due_unsuspended s (Asleep w n) e = refl
+due_unsuspended s Suspended e = absurd (cc)
+due_unsuspended s Ended e = refl
+
+-- those who are due
+pub due_there : (s : State) → AreThere s (tasks_of (due s))
+due_there s = of_list (delayed_list s) (list_within delayed_key s.tasks) where
+  of_list : (es : List Entry) → AllByRecursion (λ (e : Entry). e.task < length s.tasks) es → AreThere s (tasks_of (filter (is_due s) es))
+  of_list [] h = tt
+  of_list (e ∷ es) h = by_test (is_due s e) (λ t. rw t ((h.0, due_unsuspended s (status_at s e.task) t), of_list es h.1)) (λ t. rw t (of_list es h.1))
 
 -- What holds after one more of the tasks was made Ready.
-pub ready_more : (P : State → Type 0) (s : State) (ts : List ℕ) (j i : ℕ) → j < length ts → i ≡ get_or ts j i → AllByRecursion (λ n. n < length s.tasks) ts
-    → (i < length (for_each make_ready (take j ts) s).tasks → P (make_ready i (for_each make_ready (take j ts) s))) → P (for_each make_ready (take (j + 1) ts) s)
-ready_more P s ts j i l e within goes =
+pub ready_more : (P : State → Type 0) (s : State) (ts : List ℕ) (j i : ℕ) → j < length ts → i ≡ get_or ts j i → AreThere s ts
+    → (i < length (for_each make_ready (take j ts) s).tasks → can_resume (status_at (for_each make_ready (take j ts) s) i) ≡ false → P (make_ready i (for_each make_ready (take j ts) s))) → P (for_each make_ready (take (j + 1) ts) s)
+ready_more P s ts j i l e there goes =
     let so : State = for_each make_ready (take j ts) s in
-    let low : i < length s.tasks = rw e (at_within (length s.tasks) ts j i l within) in
+    let own = at_there s ts j i l there in
+    let low : i < length s.tasks = rw e own.0 in
     let here : i < length so.tasks = rw (keeps-all_ready (take j ts) s).tasks low in
+    let awake : can_resume (status_at s i) ≡ false = subst (λ (m : ℕ). can_resume (status_at s m) ≡ false) (sym e) own.1 in
     let more : take (j + 1) ts ≡ take j ts ++ i ∷ [] = take_more ts j i l ∙ ap (λ (x : ℕ). take j ts ++ x ∷ []) (sym e) in
-    rw (more, each-end make_ready s (take j ts) i) (goes here)
+    rw (more, each-end make_ready s (take j ts) i) (goes here (still_awake s (take j ts) i awake))
 
 -- ---- a tick
 
@@ -112,6 +150,10 @@ pub log-all_ready : (is : List ℕ) (s : State) → (for_each make_ready is s).l
 log-all_ready [] s = refl
 log-all_ready (i ∷ is) s = log-all_ready is (make_ready i s)
 
+-- Where no `suspend_all` is in force the scheduler isn't suspended.
+pub unsuspended_by : (s : State) → s.suspensions ≡ 0 → is_scheduler_suspended s ≡ false
+unsuspended_by s none = rw none refl
+
 -- The scheduler and the clock have done their part.
 module _ (k : Kernel) (log : List Event) (s : State) (h : At k log s) where
   pub sched-ticked : sched.StandsFor k.sched (at_next_tick s)
@@ -121,26 +163,34 @@ module _ (k : Kernel) (log : List Event) (s : State) (h : At k log s) where
     priorities = h.stands.sched.priorities;
     base_priorities = h.stands.sched.base_priorities;
     depth = h.stands.sched.depth;
+    suspended = h.stands.sched.suspended;
     table = record { tickets = h.stands.sched.table.tickets; few = h.stands.sched.table.few; current = h.stands.sched.table.current; holders = h.stands.sched.table.holders };
   }
+
+  pub groups-ticked : groups.StandsFor k.groups (at_next_tick s)
+  groups-ticked = on_groups.stands_same k.groups s (at_next_tick s) h.stands.rest.groups (bits_kept.same_parts s (at_next_tick s) refl refl) sched-ticked.table
 
   pub queues-ticked : queues.StandsFor k.queues None (at_next_tick s)
   queues-ticked = stands_same s (at_next_tick s) (same_parts s (at_next_tick s) refl refl refl) k.queues None h.stands.rest.queues sched-ticked.table
 
-  pub woken : (ds : List ℕ) (v : Schedule) (q : Exchange) (t : Timeline) → ds ≡ tasks_of (due (at_next_tick s)) → sched.StandsFor v (for_each make_ready ds (at_next_tick s)) → queues.StandsFor q None (for_each make_ready ds (at_next_tick s)) → clock.StandsFor t (increment_tick s) → At (record k { sched = v; clock = t; queues = q }) log (increment_tick s)
+  pub woken : (ds : List ℕ) (v : Schedule) (q : Exchange) (t : Timeline) (g : EventGroups) → ds ≡ tasks_of (due (at_next_tick s)) → sched.StandsFor v (for_each make_ready ds (at_next_tick s)) → queues.StandsFor q None (for_each make_ready ds (at_next_tick s)) → groups.StandsFor g (for_each make_ready ds (at_next_tick s)) → clock.StandsFor t (increment_tick s) → s.suspensions ≡ 0 → At (record k { sched = v; clock = t; queues = q; groups = g }) log (increment_tick s)
   unfolding increment_tick advance wake_due
-  woken ds v q t is ready left awake =
+  woken ds v q t g is ready left bits awake none =
       let next : State = at_next_tick s in
       let due_ones : List ℕ = tasks_of (due next) in
       let keep = keeps-all_ready due_ones next in
       let ticked : AtLocked None next = record { awake = h.stands.rest.awake.awake; to_place = tt } in
-      record {
+      let come : increment_tick s ≡ for_each make_ready due_ones next = rw none refl in
+      let new : Kernel = record k { sched = v; clock = t; queues = q; groups = g } in
+      subst (λ (x : State). At new log x) (sym come) (record {
         stands = record {
           sched = let P : List ℕ → Type 0 = λ ds. sched.StandsFor v (for_each make_ready ds next) in subst P is ready;
           rest = record {
             progress = λ i. h.stands.rest.progress i ∙ sym (progress-all_ready due_ones next i);
             full = h.stands.rest.full;
-            clock = awake;
+            clock = subst (clock.StandsFor t) come awake;
+            groups = let P : List ℕ → Type 0 = λ ds. groups.StandsFor g (for_each make_ready ds next) in subst P is bits;
+            suspensions = h.stands.rest.suspensions ∙ sym (ap (λ (x : Suspension). x.suspensions) keep.suspension);
             queues = let P : List ℕ → Type 0 = λ ds. queues.StandsFor q None (for_each make_ready ds next) in subst P is left;
             awake = at_locked-all_ready None due_ones next ticked;
             steps = h.stands.rest.steps ∙ sym keep.steps;
@@ -149,4 +199,4 @@ module _ (k : Kernel) (log : List Event) (s : State) (h : At k log s) where
           };
         };
         log = h.log ∙ sym (log-all_ready due_ones next);
-      }
+      })

@@ -7,13 +7,14 @@ use Rattle.model.specs.declared.op.IsrOp.TheVariants as isr
 use Rattle.model.specs.declared.op.Op.{Op}
 use Rattle.model.specs.declared.op.Op.TheVariants.{Repeat, Await, Do}
 use Rattle.model.specs.declared.call.Phase.{Phase}
-use Rattle.model.specs.declared.call.Phase.TheVariants.{Start, Try, Decide, Place, Unlock, Leave}
+use Rattle.model.specs.declared.call.Phase.TheVariants.{Start, Try, Decide, Place, Unlock, Leave, Final}
 use Rattle.model.specs.declared.call.WaitList.{WaitList}
 use Rattle.model.specs.declared.ids.TaskId.{TaskId}
 use Rattle.model.specs.declared.plan.Point.{Point}
 use Rattle.model.specs.Application.{Application, Limits, op_at}
 use Rattle.model.specs.Scripts.{fits_object}
-use Rattle.model.specs.State.{State}
+use Rattle.model.specs.State.{State, status_at}
+use Rattle.model.specs.Suspension.{can_resume}
 use Rattle.model.specs.Run.{end_of, state_after}
 use Rattle.model.specs.Invariant.{IsUsedBy}
 use Rattle.sched.specs.Schedule.{Schedule, is_ready}
@@ -68,6 +69,7 @@ pub record CanAdvance (k : Kernel) : Type 0 where
   pub agrees : Agrees k
   pub free : k.queues.lock ≡ None
   pub age : k.clock.age < 2 ^ 62
+  pub awake : k.suspensions ≡ 0
 
 -- A tick interrupt can come.
 pub record CanTick (app : Application) (k : Kernel) : Type 0 where
@@ -125,7 +127,8 @@ pub record CanPlace (k : Kernel) (task : ℕ) : Type 0 where
 -- The hold can end.
 pub record CanLeave (k : Kernel) (task : ℕ) : Type 0 where
   pub call : IsInCall k task
-  pub held : 0 < k.sched.depth
+  pub held : k.sched.depth ≡ 1
+  pub awake : k.suspensions ≡ 0
 
 -- What the call can do next in this phase.
 abbrev pub CanGoOn : Kernel → ℕ → ℕ → Access → Option ℕ → Phase → Type 0
@@ -135,6 +138,7 @@ CanGoOn k task object access ticks Decide = CanDecide k task
 CanGoOn k task object access ticks Place = CanPlace k task
 CanGoOn k task object access ticks Unlock = IsInCall k task
 CanGoOn k task object access ticks Leave = CanLeave k task
+CanGoOn k task object access ticks Final = CanLeave k task
 
 -- The running task can do what its op is to do next.
 abbrev pub CanOp : Application → Kernel → ℕ → Op → Type 0
@@ -175,6 +179,10 @@ pub record Reranks (old new : Kernel) : Type 0 where
   pub op_index : (task : ℕ) → (progress_in new.progress task).op_index ≡ (progress_in old.progress task).op_index
   pub clock : new.clock ≡ old.clock
   pub queues : new.queues ≡ old.queues
+
+-- These tasks are there, and none is suspended.
+abbrev pub AreThere : State → List ℕ → Type 0
+AreThere s tasks = AllByRecursion (λ task. (task < length s.tasks) × (can_resume (status_at s task) ≡ false)) tasks
 
 -- These tasks can become Ready: none is so already, and none comes twice.
 abbrev pub AreToWake : Schedule → List ℕ → Type 0

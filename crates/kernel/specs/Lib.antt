@@ -1,5 +1,6 @@
 pub mod Logged
 pub mod Loops
 pub mod StandsFor
+pub mod Blocked
 pub mod Can
 pub mod Boot

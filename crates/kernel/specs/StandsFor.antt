@@ -10,6 +10,7 @@ use Rattle.sched.specs.StandsFor as sched
 use Rattle.clock.specs.StandsFor as clock
 use Rattle.objects.specs.WaitersStand.{Decider, AtLocked}
 use Rattle.objects.specs.Queues as queues
+use Rattle.groups.specs.StandsFor as groups
 use Rattle.kernel.specs.declared.kernel.Kernel.{Kernel}
 use Rattle.kernel.specs.Logged.{Logged}
 
@@ -23,13 +24,16 @@ pub record RestStandsFor (k : Kernel) (s : State) : Type 0 where
   pub full : length k.progress ≡ 32
   pub clock : clock.StandsFor k.clock s
   pub queues : queues.StandsFor k.queues None s
+  pub groups : groups.StandsFor k.groups s
+  pub suspensions : k.suspensions ≡ s.suspensions
   pub awake : AtLocked None s
   pub steps : k.steps ≡ s.steps
   pub stopped : k.stopped ≡ s.stopped
   pub placed : (task : ℕ) → (progress_in k.progress task).call.phase ≢ Place
 
 -- Where each task is in its script is kept as it is; the scheduler stands for who is Ready and who runs, the clock for
--- the time and who wakes when, the queues for what they hold, who waits at them, and which one is locked.
+-- the time and who wakes when, the queues for what they hold, who waits at them, and which one is locked, the groups for
+-- their bits and who waits for them; how many `suspend_all` are in force is kept as it is.
 pub record StandsFor (k : Kernel) (s : State) : Type 0 where
   pub sched : sched.StandsFor k.sched s
   pub rest : RestStandsFor k s
@@ -44,6 +48,8 @@ pub record StandsBefore (task : ℕ) (list : WaitList) (k : Kernel) (s : State) 
   pub sched : sched.StandsBefore task k.sched s
   pub clock : clock.StandsBefore task (call_at s task).deadline k.clock s
   pub queues : queues.StandsFor k.queues (Some (decider task list s)) s
+  pub groups : groups.StandsFor k.groups s
+  pub suspensions : k.suspensions ≡ s.suspensions
   pub awake : AtLocked (Some (decider task list s)) s
   pub progress : (other : ℕ) → progress_in k.progress other ≡ progress_at s other
   pub full : length k.progress ≡ 32

@@ -3,6 +3,7 @@ ghost use Rattle.std.specs.Prelude.{◌≡◌, ◌<◌, ◌≤◌, if◌then◌e
 ghost use Rattle.std.specs.List.{AllByRecursion};
 ghost use Rattle.model.specs.State.{State, no_task, no_progress, status_at, for_each};
 ghost use Rattle.model.specs.Switching.{make_ready};
+ghost use Rattle.model.specs.Suspension.{can_resume};
 ghost use Rattle.model.specs.Step.{reset, nobody_ready, task_at_reset, with_ops};
 ghost use Rattle.model.specs.Scripts.{IsDefinition};
 ghost use Rattle.sched.specs.Schedule.{priority_in, is_ready};
@@ -13,6 +14,7 @@ ghost use Rattle.kernel.specs.Boot.{priorities_in, HasNoneFrom};
 use crate::kernel::Kernel;
 use crate::progress::Progress;
 use clock::Clock;
+use groups::Groups;
 use model::{App, TaskDefinition, TaskId};
 use objects::Queues;
 use sched::Sched;
@@ -61,6 +63,7 @@ fn make_ready_at_reset(sched: &mut Sched, tasks: &[TaskDefinition])
     requires calm { sched.old.depth ≡ 0 }
     requires none { HasNoneFrom 0 sched.old }
     ensures { (s : State) → ScheduleStandsFor sched.old s → length s.tasks ≡ length tasks.now
+        → ((task : ℕ) → can_resume (status_at s task) ≡ false)
         → ScheduleStandsFor sched.new (for_each make_ready (with_ops 0 tasks.now) s) }
 {
     for (index, task) in tasks.iter().enumerate() {
@@ -96,6 +99,8 @@ impl Kernel {
             sched: Sched::new(priorities_of(app.tasks())),
             clock: Clock::new(app.start()),
             queues: Queues::new(app.objects()),
+            groups: Groups::new(),
+            suspensions: 0,
             steps: 0,
             stopped: None,
         }

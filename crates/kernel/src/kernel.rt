@@ -5,6 +5,7 @@ ghost use Rattle.model.specs.State.{State, call_at, no_call, printed};
 ghost use Rattle.sched.specs.StandsFor.{StandsFor as ScheduleStandsFor, StandsBefore as ScheduleStandsBefore};
 ghost use Rattle.clock.specs.StandsFor.{StandsFor as ClockStandsFor, StandsBefore as ClockStandsBefore};
 ghost use Rattle.objects.specs.Queues.{StandsFor as QueuesStandFor};
+ghost use Rattle.groups.specs.StandsFor.{StandsFor as GroupsStandFor};
 ghost use Rattle.model.specs.Switching.{write};
 ghost use Rattle.kernel.specs.Loops.{after_turn, next_turn};
 ghost use Rattle.kernel.specs.StandsFor.{StandsFor, StandsBefore, Does, DoesAny, decider, progress_in, with_progress};
@@ -12,7 +13,8 @@ ghost use Rattle.kernel.specs.StandsFor.{StandsFor, StandsBefore, Does, DoesAny,
 use crate::log::Log;
 use crate::progress::Progress;
 use clock::Clock;
-use model::{CallProgress, End, Event, Loop, TaskId, What};
+use groups::Groups;
+use model::{CallProgress, End, Event, Loop, Phase, TaskId, WaitList, What};
 use objects::Queues;
 use sched::Sched;
 
@@ -23,6 +25,9 @@ pub struct Kernel {
     pub(crate) sched: Sched,
     pub(crate) clock: Clock,
     pub(crate) queues: Queues,
+    pub(crate) groups: Groups,
+    /// How many `suspend_all` are in force.
+    pub(crate) suspensions: u32,
     pub(crate) steps: u32,
     pub(crate) stopped: Option<End>,
 }
@@ -59,6 +64,16 @@ impl Kernel {
         &self.queues
     }
 
+    /// The event groups, as they stand for each state that the kernel stands for, also where a task is still to be placed in
+    /// a waiting list.
+    pub fn groups(&self) -> &Groups
+        ensures stands { (s : State) → StandsFor self.now s → GroupsStandFor result.now s }
+        ensures before { (task : ℕ) (list : definitions.WaitList) (s : State)
+            → StandsBefore task list self.now s → GroupsStandFor result.now s }
+    {
+        &self.groups
+    }
+
     /// Where a task is in its script.
     pub(crate) fn progress(&self, task: TaskId) -> &Progress
         ensures { result.now ≡ progress_in self.now.progress task }
@@ -93,12 +108,41 @@ impl Kernel {
         progress.call = CallProgress::default();
     }
 
-    /// A task's call has come so far.
-    pub(crate) fn set_call(&mut self, task: TaskId, call: CallProgress)
-        ensures { self.new ≡ with_progress task (record (progress_in self.old.progress task) { call = call }) self.old }
+    /// A task's call goes on with this phase.
+    pub(crate) fn set_phase(&mut self, task: TaskId, phase: Phase)
+        ensures { let p = progress_in self.old.progress task in
+            self.new ≡ with_progress task (record p { call = record p.call { phase = phase } }) self.old }
     {
         let progress = &mut self.progress[task.number as usize];
-        progress.call = call;
+        progress.call.phase = phase;
+    }
+
+    /// A task's call goes on with this phase, and waits in this list, if in any.
+    pub(crate) fn set_wait(&mut self, task: TaskId, phase: Phase, list: Option<WaitList>)
+        ensures { let p = progress_in self.old.progress task in
+            self.new ≡ with_progress task (record p { call = record p.call { phase = phase; list = list } }) self.old }
+    {
+        let progress = &mut self.progress[task.number as usize];
+        progress.call.phase = phase;
+        progress.call.list = list;
+    }
+
+    /// A task's call waits until this time at the latest, in ticks without bound, or for ever.
+    pub(crate) fn set_call_deadline(&mut self, task: TaskId, deadline: Option<u64>)
+        ensures { let p = progress_in self.old.progress task in
+            self.new ≡ with_progress task (record p { call = record p.call { deadline = deadline } }) self.old }
+    {
+        let progress = &mut self.progress[task.number as usize];
+        progress.call.deadline = deadline;
+    }
+
+    /// Whether the wait that a task begins has inherited.
+    pub(crate) fn set_inherited(&mut self, task: TaskId, inherited: bool)
+        ensures { let p = progress_in self.old.progress task in
+            self.new ≡ with_progress task (record p { call = record p.call { inherited = inherited } }) self.old }
+    {
+        let progress = &mut self.progress[task.number as usize];
+        progress.call.inherited = inherited;
     }
 
     /// So much is used up of a task's `work`.
@@ -116,6 +160,7 @@ impl Kernel {
         let progress = &mut self.progress[task.number as usize];
         progress.answer = answer;
     }
+
     /// A task's `delay_until` counts from this time on.
     pub(crate) fn set_previous_wake(&mut self, task: TaskId, time: u64)
         ensures { self.new ≡ with_progress task

@@ -38,6 +38,7 @@ impl Kernel {
         ensures depth { self.new.sched.depth ≡ self.old.sched.depth }
         ensures clock { self.new.clock ≡ self.old.clock }
         ensures queues { self.new.queues ≡ self.old.queues }
+        ensures suspensions { self.new.suspensions ≡ self.old.suspensions }
     {
         self.set_op_index(task, op_index);
         if op_index as usize == app.op_count(task) {
@@ -53,6 +54,7 @@ impl Kernel {
         ensures depth { self.new.sched.depth ≡ self.old.sched.depth }
         ensures clock { self.new.clock ≡ self.old.clock }
         ensures queues { self.new.queues ≡ self.old.queues }
+        ensures suspensions { self.new.suspensions ≡ self.old.suspensions }
     {
         let next = self.progress(task).op_index + 1;
         self.go_to(app, task, next);

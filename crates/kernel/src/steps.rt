@@ -1,6 +1,7 @@
 //! Steps, and whole runs.
 ghost use Rattle.std.specs.Prelude.{◌≡◌, ◌<◌, ◌≤◌, ◌+◌, ◌^◌, ◌++◌, [], Some, None, ◌||◌, IfOk, OnOk, OnErr, drop, length, slice_get};
 ghost use Rattle.std.specs.List.{AllByRecursion};
+ghost use Rattle.std.specs.List.{list_any};
 ghost use Rattle.model.specs.State.{State};
 ghost use Rattle.model.specs.Step.{act_current, step, reset};
 ghost use Rattle.model.specs.Run as definition;
@@ -9,7 +10,8 @@ ghost use Rattle.model.specs.Plans.{is_at};
 ghost use Rattle.model.specs.Scripts.{Rises};
 ghost use Rattle.model.specs.Run.{end_of, injected, IsRun, state_after, events_after, are_all_ended, is_stuck};
 ghost use Rattle.kernel.specs.Logged.{all_of};
-ghost use Rattle.kernel.specs.StandsFor.{Stands, DoesAny};
+ghost use Rattle.kernel.specs.StandsFor.{Stands, StandsFor, DoesAny};
+ghost use Rattle.kernel.specs.Blocked.{is_blocked};
 ghost use Rattle.kernel.specs.Can.{CanAct, CanStep, IsUnderWay};
 
 use crate::kernel::Kernel;
@@ -86,11 +88,18 @@ impl Kernel {
         self.step_onto(app, handlers, meter, log);
     }
 
-    /// Whether every task is Ended: nobody is Ready, sleeps or waits.
+    /// Whether any task waits, for an object or for bits, or is suspended.
+    fn has_waiter(&self) -> bool
+        ensures { (s : State) → StandsFor self.now s → result ≡ list_any is_blocked s.tasks }
+    {
+        self.queues.has_waiter() || self.groups.has_waiter() || self.sched.has_suspended()
+    }
+
+    /// Whether every task is Ended: nobody is Ready, sleeps, waits or is suspended.
     fn are_all_ended(&self) -> bool
         ensures { (s : State) → Stands self.now s → result ≡ are_all_ended s }
     {
-        !self.sched.has_ready() && self.clock.is_quiet() && !self.queues.has_waiter()
+        !self.sched.has_ready() && self.clock.is_quiet() && !self.has_waiter()
     }
 
     /// Whether idle runs, no task will wake by itself, and no base interrupt is to come.
@@ -103,7 +112,7 @@ impl Kernel {
         if !self.clock.is_quiet() {
             return false;
         }
-        !app.has_interrupt_after(self.clock.age())
+        !app.has_interrupt_after(self.clock.elapsed())
     }
 
     /// The end of the run before its next step, under these limits: the first that holds of a failed `expect`, every task
@@ -117,7 +126,7 @@ impl Kernel {
         if self.are_all_ended() {
             return Some(End::Pass);
         }
-        if limits.ticks as u64 <= self.clock.age() {
+        if limits.ticks as u64 <= self.clock.elapsed() {
             return Some(End::Ticks);
         }
         if limits.steps <= self.steps {
@@ -353,7 +362,7 @@ pub fn run(
     Ok(Run {
         events: trail.into_events(),
         steps: kernel.steps,
-        ticks: kernel.clock.age() as u32,
+        ticks: kernel.clock.elapsed() as u32,
         end,
     })
 }

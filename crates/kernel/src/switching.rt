@@ -1,6 +1,5 @@
 //! Who runs: each way in which the processor changes.
 ghost use Rattle.std.specs.Prelude.{◌≡◌, ℕ, ◌<◌, ◌≤◌, ◌+◌, ◌++◌, List, None, length, nat_lt};
-ghost use Rattle.std.specs.List.{AllByRecursion};
 ghost use Rattle.model.specs.State.{State, for_each};
 ghost use Rattle.model.specs.Switching.{choose, is_held, is_ready, preempt, slice, settle, unless_held, yield_now, make_ready};
 ghost use Rattle.model.specs.Time.{increment_tick};
@@ -9,31 +8,36 @@ ghost use Rattle.sched.specs.StandsFor.{StandsFor as ScheduleStandsFor};
 ghost use Rattle.sched.specs.Schedule as schedule;
 ghost use Rattle.clock.specs.StandsFor.{StandsFor as ClockStandsFor};
 ghost use Rattle.objects.specs.Queues.{StandsFor as QueuesStandFor};
+ghost use Rattle.groups.specs.StandsFor.{StandsFor as GroupsStandFor};
 ghost use Rattle.kernel.specs.StandsFor.{StandsFor, Stands, Does, DoesAny, Moves, change};
-ghost use Rattle.kernel.specs.Can.{CanAdvance, CanTick, AreToWake, Leaves};
+ghost use Rattle.kernel.specs.Can.{CanAdvance, CanTick, AreThere, AreToWake, Leaves};
 
 use crate::kernel::Kernel;
 use crate::log::Log;
 use clock::Clock;
+use groups::Groups;
 use model::{App, TaskId, What};
 use objects::Queues;
 use sched::Sched;
 
 /// Each of these tasks wakes at its time: it becomes Ready, one after the other, and no longer waits, if it did.
-fn make_all_ready(sched: &mut Sched, queues: &mut Queues, tasks: &[TaskId])
+fn make_all_ready(sched: &mut Sched, queues: &mut Queues, groups: &mut Groups, tasks: &[TaskId])
     requires free { AreToWake sched.old tasks.now }
     requires unlocked { queues.old.lock ≡ None }
     ensures ready { (s : State) → ScheduleStandsFor sched.old s
-        → AllByRecursion (λ i. i < length s.tasks) tasks.now
+        → AreThere s tasks.now
         → ScheduleStandsFor sched.new (for_each make_ready tasks.now s) }
     ensures left { (s : State) → QueuesStandFor queues.old None s
-        → AllByRecursion (λ i. i < length s.tasks) tasks.now
+        → AreThere s tasks.now
         → QueuesStandFor queues.new None (for_each make_ready tasks.now s) }
+    ensures gone { (s : State) → GroupsStandFor groups.old s → AreThere s tasks.now
+        → GroupsStandFor groups.new (for_each make_ready tasks.now s) }
     ensures depth { sched.new.depth ≡ sched.old.depth }
     ensures objects { queues.new.objects ≡ queues.old.objects }
 {
     for task in tasks {
         queues.drop_waiter(*task);
+        groups.drop_waiter(*task);
         sched.wake(*task);
     }
 }
@@ -43,10 +47,10 @@ fn make_all_ready(sched: &mut Sched, queues: &mut Queues, tasks: &[TaskId])
 pub(crate) fn wake_all(sched: &mut Sched, clock: &mut Clock, tasks: &[TaskId])
     requires { AreToWake sched.old tasks.now }
     ensures ready { (s : State) → ScheduleStandsFor sched.old s
-        → AllByRecursion (λ i. i < length s.tasks) tasks.now
+        → AreThere s tasks.now
         → ScheduleStandsFor sched.new (for_each make_ready tasks.now s) }
     ensures woken { (s : State) → ClockStandsFor clock.old s
-        → AllByRecursion (λ i. i < length s.tasks) tasks.now
+        → AreThere s tasks.now
         → ClockStandsFor clock.new (for_each make_ready tasks.now s) }
     ensures rest { (more : List ℕ) → AreToWake sched.old (tasks.now ++ more) → AreToWake sched.new more }
 {
@@ -171,7 +175,12 @@ impl Kernel {
     {
         let mut due = clock::Due::new();
         self.clock.advance_into(&mut due);
-        make_all_ready(&mut self.sched, &mut self.queues, due.as_slice());
+        make_all_ready(
+            &mut self.sched,
+            &mut self.queues,
+            &mut self.groups,
+            due.as_slice(),
+        );
     }
 
     /// The tick interrupt: one tick, then its base interrupts, and then a switch if one is due.

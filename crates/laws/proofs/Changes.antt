@@ -9,7 +9,7 @@ use Rattle.model.specs.declared.op.Op.TheVariants.{Work, Delay, DelayUntil, Yiel
 use Rattle.model.specs.declared.op.Access.{Access}
 use Rattle.model.specs.declared.call.CallProgress.{CallProgress}
 use Rattle.model.specs.declared.call.Phase.{Phase}
-use Rattle.model.specs.declared.call.Phase.TheVariants.{Start, Try, Decide, Place, Unlock, Leave}
+use Rattle.model.specs.declared.call.Phase.TheVariants.{Start, Try, Decide, Place, Unlock, Leave, Final}
 use Rattle.model.specs.declared.call.WaitList.{WaitList}
 use Rattle.model.specs.declared.call.WaitList.TheVariants.{ToReceive, ToSend}
 use Rattle.model.specs.declared.event.What.{What}
@@ -17,9 +17,9 @@ use Rattle.model.specs.declared.event.What.TheVariants as what
 use Rattle.model.specs.declared.event.Misuse.{Misuse}
 use Rattle.model.specs.declared.loops.Loop.{Loop}
 use Rattle.model.specs.Application.{Application, Definition, op_at, op_count, ops_of, interrupts_at}
-use Rattle.model.specs.State.{State, Task, Progress, Status, Ready, Awake, Waiting, Asleep, Ended, ticket_of, wake_time_of, no_call, task_at, progress_at, status_at, call_at, object_at, with_task, with_call, with_object, take_ticket, for_one, for_each, no_task, printed}
+use Rattle.model.specs.State.{State, Task, Progress, Status, Ready, Awake, Waiting, Asleep, WaitingForBits, Suspended, Ended, ticket_of, wake_time_of, no_call, task_at, progress_at, status_at, call_at, object_at, with_task, with_call, with_object, take_ticket, for_one, for_each, no_task, printed}
 use Rattle.model.specs.Order.{Entry, Key, key, entry, keyed, tasks_of, task_of, first}
-use Rattle.model.specs.Switching.{make_ready, to_back, dispatch, choose, choice, is_same, is_ready, yield_now, is_outranked, is_sharing, preempt, slice, settle, is_off, unless_held, write}
+use Rattle.model.specs.Switching.{make_ready, to_back, dispatch, choose, choice, is_same, is_ready, yield_now, is_outranked, is_sharing, preempt, slice, settle, is_off, unless_held, write, is_held, is_scheduler_suspended}
 use Rattle.model.specs.Waiting.{waiters, awakened, awake_status, is_locked, wake_one, wake_best, wait_in, set_deadline, is_expired, end_hold, unlock_object, unlock}
 use Rattle.model.specs.Objects.{possible, answer_to, object_after, list_woken, list_for, fulfil, attempt}
 use Rattle.model.specs.Mutexes.{set_priority, mutexes_held, lend, inherit_from, inherit, fall_back, after_timeout, disinherit, give_mutex}
@@ -50,6 +50,8 @@ same_awake (Ready n) = (refl, refl)
 same_awake (Awake w) = (refl, refl)
 same_awake (Waiting w) = (refl, refl)
 same_awake (Asleep w n) = (refl, refl)
+same_awake (WaitingForBits g n d) = (refl, refl)
+same_awake Suspended = (refl, refl)
 same_awake Ended = (refl, refl)
 
 still_to_come : (deadline : Option ℕ) (now : ℕ) → unwrap_or (option_map (λ d. leb d now) deadline) false ≡ false → IfSome deadline (λ d. now < d)
@@ -291,6 +293,7 @@ module _ (P : State → Type 0)
   kept-await app i o a ticks Place s h = kept-with_call i _ s h
   kept-await app i o a ticks Unlock s h = kept-with_call i _ (unlock s) (kept-unlock s h)
   kept-await app i o a ticks Leave s h = kept-leave_call i s h
+  kept-await app i o a ticks Final s h = kept-leave_call i s h
 
   kept-do_now : (app : Application) (i o : ℕ) (a : Access) (s : State) → P s → P (do_now app i o a s)
   unfolding do_now
@@ -318,7 +321,7 @@ module _ (P : State → Type 0)
   kept-each deed k (a ∷ ones) s h = kept-each deed k ones (deed a s) (k a s h)
 
   kept-unless_held : (deed : State → State) (k : (s : State) → P s → P (deed s)) (s : State) → P s → P (unless_held deed s)
-  kept-unless_held deed k s h = by_test s.call_hold
+  kept-unless_held deed k s h = by_test (is_held s)
       (λ t. subst P (sym (when_held deed s t)) h)
       (λ t. subst P (sym (when_free deed s t)) (k s h))
 
@@ -330,12 +333,19 @@ module _ (P : State → Type 0)
   unfolding before_step
   kept-before_step app handlers s h = let t : State = record s { log = [] } in kept-each (inject app) (kept-inject app) handlers t (framed s t refl refl refl h)
 
-  kept-tick : (app : Application) (s : State) → P s → P (tick_interrupt app s)
-  unfolding tick_interrupt interrupt increment_tick advance
-  kept-tick app s h =
+  kept-increment : (s : State) → P s → P (increment_tick s)
+  unfolding increment_tick advance
+  kept-increment s h =
       let t : State = record s { elapsed = s.elapsed + 1 } in
-      let woken : State = wake_due (record t { time = t.time + 1 }) in
-      kept-slice _ (kept-each (handle app) (kept-handle app) (interrupts_at app woken.elapsed) woken (passed t (framed s t refl refl refl h)))
+      by_test (is_scheduler_suspended s)
+      (λ u. rw u (framed s (record t { held_ticks = s.held_ticks + 1 }) refl refl refl h))
+      (λ u. rw u (passed t (framed s t refl refl refl h)))
+
+  kept-tick : (app : Application) (s : State) → P s → P (tick_interrupt app s)
+  unfolding tick_interrupt interrupt
+  kept-tick app s h =
+      let come : State = increment_tick s in
+      kept-unless_held slice kept-slice _ (kept-each (handle app) (kept-handle app) (interrupts_at app come.elapsed) come (kept-increment s h))
 
   -- ---- a step, and a run
 
@@ -477,6 +487,8 @@ delayed_some t (Ready n) time e v = absurd (cc)
 delayed_some t (Awake w) time e v = (key 0 w.ticket, ap (λ (u : Status). delayed_key (record t { status = u })) e ∙ until_key w.deadline w.ticket time v)
 delayed_some t (Waiting w) time e v = (key 0 w.ticket, ap (λ (u : Status). delayed_key (record t { status = u })) e ∙ until_key w.deadline w.ticket time v)
 delayed_some t (Asleep w n) time e v = (key 0 n, ap (λ (u : Status). delayed_key (record t { status = u })) e)
+delayed_some t (WaitingForBits g n d) time e v = (key 0 n, ap (λ (u : Status). delayed_key (record t { status = u })) e ∙ until_key d n time v)
+delayed_some t Suspended time e v = absurd (cc)
 delayed_some t Ended time e v = absurd (cc)
 
 -- One who wakes now is among those who are due.

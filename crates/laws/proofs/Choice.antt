@@ -2,7 +2,7 @@
 use Rattle.std.proofs.Common.{◌≡◌, ◌+◌, ℕ, zero, suc, true, false, List, [], ◌∷◌, get_or, Option, Some, None, refl, ap, sym, subst, arith}
 use Rattle.std.specs.List.{AllByRecursion, cons_option}
 use Rattle.std.specs.Option.{option_map, is_some}
-use Rattle.model.specs.State.{State, Task, Status, Ready, Awake, Waiting, Asleep, Ended, ticket_if_ready, task_at, no_task}
+use Rattle.model.specs.State.{State, Task, Status, Ready, Awake, Waiting, Asleep, WaitingForBits, Suspended, Ended, ticket_if_ready, task_at, no_task}
 use Rattle.model.specs.Order.{Key, Entry, key, put, in_order, entry, keyed, first, before, task_of}
 use Rattle.model.specs.Switching.{ready_list, ready_key, is_ready, choice}
 use Rattle.laws.specs.Choice.{IsBestReady, IsChoice}
@@ -41,6 +41,8 @@ ready_is (Ready n) h = (n, refl)
 ready_is (Awake w) h = absurd (cc)
 ready_is (Waiting w) h = absurd (cc)
 ready_is (Asleep w n) h = absurd (cc)
+ready_is (WaitingForBits g n d) h = absurd (cc)
+ready_is Suspended h = absurd (cc)
 ready_is Ended h = absurd (cc)
 
 pub key_is : (p : ℕ) (u : Status) (k : Key) → option_map (key p) (ticket_if_ready u) ≡ Some k → (u ≡ Ready k.ticket) × (k.priority ≡ p)
@@ -48,6 +50,8 @@ key_is p (Ready n) k h = let e : key p n ≡ k = cc in (ap (λ (j : Key). Ready 
 key_is p (Awake w) k h = absurd (cc)
 key_is p (Waiting w) k h = absurd (cc)
 key_is p (Asleep w n) k h = absurd (cc)
+key_is p (WaitingForBits g n d) k h = absurd (cc)
+key_is p Suspended k h = absurd (cc)
 key_is p Ended k h = absurd (cc)
 
 module _ (s : State) where

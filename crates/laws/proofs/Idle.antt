@@ -1,5 +1,5 @@
 -- Idle runs only where no task is Ready, and after a tick nobody outranks the running task.
-use Rattle.std.proofs.Common.{◌≡◌, ◌≤◌, ◌||◌, ◌+◌, ℕ, zero, suc, Bool, true, false, eqb, leb, ltb, List, [], ◌∷◌, Option, Some, None, refl, sym, subst, ◌∙◌, arith}
+use Rattle.std.proofs.Common.{◌≡◌, ◌≤◌, ◌||◌, ◌+◌, ℕ, zero, suc, Bool, true, false, eqb, leb, ltb, List, [], ◌∷◌, Option, Some, None, refl, ap, sym, subst, ◌∙◌, arith}
 use Rattle.std.specs.List.{AllByRecursion, list_any}
 use Rattle.std.specs.Option.{option_eq, is_some}
 use Rattle.std.proofs.lemmas.Bool.{le-ltb}
@@ -7,26 +7,31 @@ use Rattle.model.specs.declared.op.Op.{Op}
 use Rattle.model.specs.declared.op.Op.TheVariants.{Work, Delay, DelayUntil, Yield, Time, Mark, Expect, Repeat, End, Await, Do, GiveMutex, MessagesWaiting, SpacesAvailable}
 use Rattle.model.specs.declared.op.Access.{Access}
 use Rattle.model.specs.declared.call.Phase.{Phase}
-use Rattle.model.specs.declared.call.Phase.TheVariants.{Start, Try, Decide, Place, Unlock, Leave}
+use Rattle.model.specs.declared.call.Phase.TheVariants.{Start, Try, Decide, Place, Unlock, Leave, Final}
 use Rattle.model.specs.declared.event.Misuse.{Misuse}
 use Rattle.model.specs.declared.loops.Loop.{Loop}
-use Rattle.model.specs.Application.{Application, op_at}
-use Rattle.model.specs.State.{State, Progress, task_at, progress_at, call_at, go_on, for_one}
-use Rattle.model.specs.Order.{Entry, first, task_of}
-use Rattle.model.specs.Switching.{to_back, dispatch, choose, choice, is_same, is_ready, ready_list, ready_key, yield_now, is_above, is_outranked, is_sharing, preempt, slice, settle, is_off}
+use Rattle.model.specs.Application.{Application, interrupts_at, op_at}
+use Rattle.model.specs.State.{State, Progress, task_at, progress_at, call_at, go_on, for_each, for_one}
+use Rattle.model.specs.Order.{Entry, first, task_of, tasks_of}
+use Rattle.model.specs.Switching.{to_back, dispatch, choose, choice, is_same, is_ready, ready_list, ready_key, yield_now, is_above, is_outranked, is_sharing, preempt, slice, settle, is_off, is_held, is_scheduler_suspended}
 use Rattle.model.specs.Waiting.{wait_in, set_deadline, is_expired, end_hold, unlock_object, unlock}
 use Rattle.model.specs.Objects.{possible, answer_to, list_for}
 use Rattle.model.specs.Mutexes.{inherit, after_timeout, give_mutex}
 use Rattle.model.specs.Calls.{try, lock, decide, leave_call, await, do_now}
 use Rattle.model.specs.declared.plan.Point.{Point}
-use Rattle.model.specs.Handlers.{interrupt, tick_interrupt}
-use Rattle.model.specs.Time.{increment_tick, sleep, set_previous_wake}
+use Rattle.model.specs.Handlers.{handle, interrupt, tick_interrupt}
+use Rattle.model.specs.Time.{advance, due, increment_tick, sleep, set_previous_wake, wake_due}
 use Rattle.model.specs.Ops.{go_to, answer, use_up, delay, delay_until, expect, open_loop, turn, close_turn}
 use Rattle.model.specs.Step.{act, misuse, act_unless, act_if, act_current, before_step, step, ready_at_reset, reset}
 use Rattle.model.specs.Run.{injected, state_after}
 use Rattle.model.proofs.Sorting.{by_test, Falls, Falls-in_order, IsAfter}
 use Rattle.model.proofs.Lists.{HasKey, list_has}
-use Rattle.model.proofs.Settled.{same_eq, when_held, when_free}
+use Rattle.model.proofs.Settled.{same_eq, when_held, when_free, held_by_none}
+use Rattle.model.proofs.Frames.{held-told}
+use Rattle.model.proofs.Handled.{spares-handle}
+use Rattle.model.proofs.Reached.{reached_after, reached_before_step}
+use Rattle.model.specs.Invariant.{IsState, RunsIn, Suspension}
+use Rattle.model.specs.Scripts.{IsWellFormed}
 use Rattle.model.proofs.Inheriting.{reranks-after_timeout, reranks-inherit}
 use Rattle.model.proofs.Unlocking.{opened_by, current-all_ready}
 use Rattle.model.specs.Order.{keyed}
@@ -72,9 +77,38 @@ idle-preempt s = by_test (is_outranked s)
     (λ t. rw t (idle-yield_now s))
     (λ t. rw t (idle_below s t))
 
-idle-tick : (app : Application) (s : State) → IdleAlone (tick_interrupt app s)
+idle-tick : (app : Application) (s : State) → is_held s ≡ false → IdleAlone (tick_interrupt app s)
 unfolding tick_interrupt
-idle-tick app s = idle-slice (interrupt app (increment_tick s))
+idle-tick app s free =
+    let told : State = interrupt app (increment_tick s) in
+    subst IdleAlone (sym (when_free slice told (held-told app s ∙ free))) (idle-slice told)
+
+current-handles : (app : Application) (handlers : List ℕ) (s : State) → (for_each (handle app) handlers s).current ≡ s.current
+current-handles app [] s = refl
+current-handles app (h ∷ hs) s = current-handles app hs (handle app h s) ∙ (spares-handle app h s).current
+
+current-increment : (s : State) → (increment_tick s).current ≡ s.current
+unfolding increment_tick advance wake_due
+current-increment s =
+    let later : State = record s { time = s.time + 1; elapsed = s.elapsed + 1 } in
+    by_test (is_scheduler_suspended s) (λ t. rw t refl) (λ t. rw t (current-all_ready later (tasks_of (due later))))
+
+current-told : (app : Application) (s : State) → (interrupt app (increment_tick s)).current ≡ s.current
+unfolding interrupt
+current-told app s = let come : State = increment_tick s in current-handles app (interrupts_at app come.elapsed) come ∙ current-increment s
+
+current-use_up : (app : Application) (i n : ℕ) (s : State) → (use_up app i n s).current ≡ s.current
+unfolding use_up go_to
+current-use_up app i n s = by_test (eqb ((progress_at s i).used + 1) n) (λ t. rw t refl) (λ t. rw t refl)
+
+-- a task runs while the tick passes, or after it somebody may
+idle-work : (app : Application) (i : ℕ) (s : State) → s.current ≡ Some i → IdleAlone (tick_interrupt app s)
+unfolding tick_interrupt
+idle-work app i s r =
+    let told : State = interrupt app (increment_tick s) in
+    by_test (is_held told)
+    (λ t. subst IdleAlone (sym (when_held slice told t)) (λ e. let f : Some i ≡ None = sym r ∙ sym (current-told app s) ∙ e in absurd (cc)))
+    (λ t. subst IdleAlone (sym (when_free slice told t)) (idle-slice told))
 
 idle-settle : (s : State) → IdleAlone s → IdleAlone (settle s)
 unfolding settle
@@ -143,6 +177,7 @@ idle-await app i o a ticks Decide s r = idle-decide i o a s r
 idle-await app i o a ticks Place s r = still_runs i s (go_on i Unlock s) r refl
 idle-await app i o a ticks Unlock s r = still_runs i s (go_on i Leave (unlock s)) r (current-unlock s)
 idle-await app i o a ticks Leave s r = idle-leave_call i s
+idle-await app i o a ticks Final s r = idle-leave_call i s
 
 idle-do_now : (app : Application) (i o : ℕ) (a : Access) (s : State) → IdleAlone (do_now app i o a s)
 unfolding do_now
@@ -154,7 +189,7 @@ idle-give_mutex app i o s = idle-preempt _
 
 idle-act : (app : Application) (i : ℕ) (op : Op) (s : State) → s.current ≡ Some i → IdleAlone (act app i op s)
 unfolding answer go_to open_loop close_turn
-idle-act app i (Work n) s r = idle-tick app (use_up app i n s)
+idle-act app i (Work n) s r = idle-work app i (use_up app i n s) (current-use_up app i n s ∙ r)
 idle-act app i (Delay n) s r = idle-delay app i n s r
 idle-act app i (DelayUntil n) s r = still_runs i s (delay_until app i ((progress_at s i).previous_wake + n) s) r (current-delay_until app i ((progress_at s i).previous_wake + n) s)
 idle-act app i Yield s r = idle-yield_now (answer app i (Some 0) s)
@@ -177,17 +212,20 @@ idle-act_if : (app : Application) (i : ℕ) (o : Option Op) (s : State) → s.cu
 idle-act_if app i None s r = still_runs i s s r refl
 idle-act_if app i (Some op) s r = idle-act_unless app i (misuse s i op) op s r
 
-idle-act_current : (app : Application) (r : Option ℕ) (s : State) → s.current ≡ r → IdleAlone (act_current app r s)
-idle-act_current app None s e = idle-tick app s
-idle-act_current app (Some i) s e = idle-act_if app i (op_at app i (progress_at s i).op_index) s e
+idle-act_current : (app : Application) (r : Option ℕ) (s : State) → s.current ≡ r → (r ≡ None → is_held s ≡ false) → IdleAlone (act_current app r s)
+idle-act_current app None s e free = idle-tick app s (free refl)
+idle-act_current app (Some i) s e free = idle-act_if app i (op_at app i (progress_at s i).op_index) s e
 
-idle-step : (app : Application) (handlers : List ℕ) (s : State) → IdleAlone (step app handlers s)
+idle_free : (app : Application) (s : State) → IsState app s → s.current ≡ None → is_held s ≡ false
+idle_free app s h e = held_by_none s (subst (RunsIn s) e h.runs) (ap (λ (x : Suspension). x.suspensions) h.unsuspended)
+
+idle-step : (app : Application) → IsWellFormed app → (handlers : List ℕ) (s : State) → IsState app s → IdleAlone (step app handlers s)
 unfolding step
-idle-step app handlers s =
+idle-step app formed handlers s reached =
     let r : State = before_step app handlers s in
     let t : State = act_current app r.current r in
-    let h : IdleAlone t = idle-act_current app r.current r refl in
-    by_test t.call_hold
+    let h : IdleAlone t = idle-act_current app r.current r refl (idle_free app r (reached_before_step app formed handlers s reached)) in
+    by_test (is_held t)
     (λ q. subst IdleAlone (sym (when_held settle t q)) h)
     (λ q. subst IdleAlone (sym (when_free settle t q)) (idle-settle t h))
 
@@ -195,12 +233,12 @@ idle-reset : (app : Application) → IdleAlone (reset app)
 unfolding reset
 idle-reset app = λ e. chosen_none (ready_at_reset app) e
 
-idle_all : (app : Application) (plan : List Point) (n : ℕ) → IdleAlone (state_after app plan n)
-idle_all app plan zero = idle-reset app
-idle_all app plan (suc n) = idle-step app (injected plan n) (state_after app plan n)
+idle_all : (app : Application) → IsWellFormed app → (plan : List Point) (n : ℕ) → IdleAlone (state_after app plan n)
+idle_all app formed plan zero = idle-reset app
+idle_all app formed plan (suc n) = idle-step app formed (injected plan n) (state_after app plan n) (reached_after app formed plan n)
 
-pub idle_after : (app : Application) (plan : List Point) (n task : ℕ) → (state_after app plan n).current ≡ None → is_ready (state_after app plan n) task ≡ false
-idle_after app plan n task e = idle_all app plan n e task
+pub idle_after : (app : Application) → IsWellFormed app → (plan : List Point) (n task : ℕ) → (state_after app plan n).current ≡ None → is_ready (state_after app plan n) task ≡ false
+idle_after app formed plan n task e = idle_all app formed plan n e task
 
 -- ---- after a tick
 
@@ -233,6 +271,8 @@ top-slice s = by_test (is_outranked s || is_sharing s)
     (λ t. rw t (top-choose (for_one to_back s.current s)))
     (λ t. rw t (or_false (is_outranked s) (is_sharing s) t))
 
-pub not_outranked-tick : (app : Application) (s : State) → is_outranked (tick_interrupt app s) ≡ false
+pub not_outranked-tick : (app : Application) (s : State) → is_held s ≡ false → is_outranked (tick_interrupt app s) ≡ false
 unfolding tick_interrupt
-not_outranked-tick app s = top-slice (interrupt app (increment_tick s))
+not_outranked-tick app s free =
+    let told : State = interrupt app (increment_tick s) in
+    subst (λ (t : State). is_outranked t ≡ false) (sym (when_free slice told (held-told app s ∙ free))) (top-slice told)

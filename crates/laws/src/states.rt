@@ -4,7 +4,7 @@ ghost use Rattle.model.specs.declared.plan.Point.{Point};
 ghost use Rattle.model.specs.Application.{Application, definition_of};
 ghost use Rattle.model.specs.Scripts.{IsWellFormed};
 ghost use Rattle.model.specs.State.{State, status_at, task_at, ticket_of, wake_time_of};
-ghost use Rattle.model.specs.Switching.{choice, is_ready, is_outranked};
+ghost use Rattle.model.specs.Switching.{choice, is_held, is_ready, is_outranked};
 ghost use Rattle.model.specs.Handlers.{inject, tick_interrupt};
 ghost use Rattle.model.specs.Run.{state_after};
 ghost use Rattle.model.specs.Invariant.{IsState};
@@ -22,21 +22,24 @@ pub fn states_are_sound()
     ensures { (app : Application) → IsWellFormed app → (plan : List Point) (n : ℕ) → IsState app (state_after app plan n) }
 {}
 
-/// Between two steps the running task is Ready, where no call of it holds the scheduler.
+/// Between two steps the running task is Ready, where the scheduler isn't held.
 pub fn running_task_is_ready()
-    ensures { (app : Application) (plan : List Point) (n : ℕ) → (state_after app plan n).call_hold ≡ false
+    ensures { (app : Application) (plan : List Point) (n : ℕ) → is_held (state_after app plan n) ≡ false
         → IfSome (state_after app plan n).current (λ task. is_ready (state_after app plan n) task ≡ true) }
 {}
 
 /// Idle runs only where no task is Ready.
 pub fn idle_runs_alone()
-    ensures { (app : Application) (plan : List Point) (n task : ℕ) → (state_after app plan n).current ≡ None
+    ensures { (app : Application) → IsWellFormed app → (plan : List Point) (n task : ℕ)
+        → (state_after app plan n).current ≡ None
         → is_ready (state_after app plan n) task ≡ false }
 {}
 
-/// After a tick no Ready task is of higher priority than the running one, and idle doesn't run beside a Ready task.
+/// After a tick no Ready task is of higher priority than the running one, and idle doesn't run beside a Ready task, where
+/// the scheduler isn't held.
 pub fn no_one_outranks_after_a_tick()
-    ensures { (app : Application) (s : State) → is_outranked (tick_interrupt app s) ≡ false }
+    ensures { (app : Application) (s : State) → is_held s ≡ false
+        → is_outranked (tick_interrupt app s) ≡ false }
 {}
 
 /// The time at which a task wakes by itself is after now: a sleeper's, and that at which a wait ends at the latest.
@@ -46,10 +49,11 @@ pub fn sleepers_wake_later()
         (λ wake_time. (state_after app plan n).time < wake_time) }
 {}
 
-/// The time is the start and the elapsed ticks.
+/// The time, and the ticks that are held, are the start and the elapsed ticks.
 pub fn time_is_start_and_elapsed()
     ensures { (app : Application) → IsWellFormed app → (plan : List Point) (n : ℕ)
-        → (state_after app plan n).time ≡ app.start + (state_after app plan n).elapsed }
+        → (state_after app plan n).time + (state_after app plan n).held_ticks
+        ≡ app.start + (state_after app plan n).elapsed }
 {}
 
 /// Two tasks have two tickets, so that none is chosen by a tie.
@@ -68,8 +72,8 @@ pub fn priorities_are_at_least_those_of_the_file()
         → (task_at (state_after app plan n) task).base_priority ≤ (task_at (state_after app plan n) task).priority }
 {}
 
-/// While a call holds the scheduler, a handler that comes before a step switches nothing: the same task runs.
+/// While the scheduler is held, a handler that comes before a step switches nothing: the same task runs.
 pub fn no_switch_while_held()
-    ensures { (app : Application) (handler : ℕ) (s : State) → s.call_hold ≡ true
+    ensures { (app : Application) (handler : ℕ) (s : State) → is_held s ≡ true
         → (inject app handler s).current ≡ s.current }
 {}

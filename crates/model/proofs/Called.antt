@@ -12,15 +12,15 @@ use Rattle.model.specs.declared.op.Access.{Access}
 use Rattle.model.specs.declared.op.Access.TheVariants.{Send, SendFront, Overwrite, Receive, Peek, Take, Give, Lock}
 use Rattle.model.specs.declared.call.CallProgress.{CallProgress}
 use Rattle.model.specs.declared.call.Phase.{Phase}
-use Rattle.model.specs.declared.call.Phase.TheVariants.{Start, Try, Decide, Place, Unlock, Leave}
+use Rattle.model.specs.declared.call.Phase.TheVariants.{Start, Try, Decide, Place, Unlock, Leave, Final}
 use Rattle.model.specs.declared.call.WaitList.{WaitList}
 use Rattle.model.specs.declared.call.WaitList.TheVariants.{ToReceive, ToSend}
 use Rattle.model.specs.Application.{Application, op_at}
 use Rattle.model.specs.Scripts.{IsWellFormed, fits, fits_object, is_wait, nesting_past}
-use Rattle.model.specs.State.{State, Task, Object, Status, Wait, Ready, Awake, Waiting, Asleep, Ended, ticket_if_ready, wait_if_waiting, wait_if_awake, wait_of, task_at, status_at, progress_at, call_at, object_at, with_task, with_call, with_object, go_on, for_one, no_task, no_object}
+use Rattle.model.specs.State.{State, Task, Object, Status, Wait, Ready, Awake, Waiting, Asleep, WaitingForBits, Suspended, Ended, ticket_if_ready, wait_if_waiting, wait_if_awake, wait_of, task_at, status_at, progress_at, call_at, object_at, with_task, with_call, with_object, go_on, for_one, no_task, no_object}
 use Rattle.model.specs.Order.{Key, Entry, first, task_of}
 use Rattle.model.specs.Switching.{is_ready}
-use Rattle.model.specs.Waiting.{same_list, wait_key, waiters, awake_status, awaken, is_locked, wake_one, wake_best, wait_in, set_deadline, is_expired}
+use Rattle.model.specs.Waiting.{same_list, wait_key, waiters, awake_status, awaken, is_locked, wake_one, wake_best, wait_in, set_deadline}
 use Rattle.model.specs.Objects.{allows, object_after, list_woken, list_for, possible, answer_to, fulfil, attempt}
 use Rattle.model.specs.Calls.{do_now}
 use Rattle.model.specs.Ops.{answer}
@@ -51,6 +51,8 @@ waits_in list (Waiting w) k e = by_test (same_list w.list list)
     (λ t. record { wait = w; is = refl; there = t })
     (λ t. let none : None ≡ Some k = rw t at e in absurd (cc))
 waits_in list (Asleep v n) k e = absurd (cc)
+waits_in list (WaitingForBits g m d) k e = absurd (cc)
+waits_in list Suspended k e = absurd (cc)
 waits_in list Ended k e = absurd (cc)
 
 unfoldable pub waits_key : WaitList → Task → Option Key
@@ -287,11 +289,13 @@ phase_apart old new None Decide t p = p
 phase_apart old new None Place t p = p
 phase_apart old new None Unlock t p = p
 phase_apart old new None Leave t p = p
+phase_apart old new None Final t p = p
 phase_apart old new (Some o) Try t p = tt
 phase_apart old new (Some o) Decide t p = tt
 phase_apart old new (Some o) Place t p = absurd (cc)
 phase_apart old new (Some o) Unlock t p = absurd (cc)
 phase_apart old new (Some o) Leave t p = absurd (cc)
+phase_apart old new (Some o) Final t p = p
 
 -- where nothing is held, no phase holds
 pub phase_free : (hold : Hold) (object : Option ℕ) (phase : Phase) → hold.held ≡ false → IsPhaseOf hold object phase → holds phase ≡ false
@@ -301,11 +305,13 @@ phase_free hold None Decide t p = absurd p
 phase_free hold None Place t p = absurd p
 phase_free hold None Unlock t p = absurd p
 phase_free hold None Leave t p = absurd p
+phase_free hold None Final t p = absurd p
 phase_free hold (Some o) Try t p = refl
 phase_free hold (Some o) Decide t p = refl
 phase_free hold (Some o) Place t p = let held = p.0 in absurd (cc)
 phase_free hold (Some o) Unlock t p = let held = p.0 in absurd (cc)
 phase_free hold (Some o) Leave t p = let held = p.0 in absurd (cc)
+phase_free hold (Some o) Final t p = absurd p
 
 pub call_apart : (old new : Hold) (now : ℕ) (op : Option Op) (t : Task) → holds t.progress.call.phase ≡ false → wait_if_awake t.status ≡ None → IsCall old now op t → IsCall new now op t
 call_apart old new now op t free asleep c =

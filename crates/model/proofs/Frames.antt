@@ -1,5 +1,6 @@
 -- What a deed leaves as it was, as one record for each deed: a field more of the state is a field more here.
-use Rattle.std.proofs.Common.{max, ◌≡◌, ◌≤◌, ◌+◌, ◌-◌, ◌||◌, ℕ, eqb, leb, ltb, List, [], ◌∷◌, ◌++◌, Option, Some, None, refl, sym, subst, ◌∙◌, arith, length}
+use Rattle.std.proofs.Common.{ap₂, Bool, ap, max, ◌≡◌, ◌≤◌, ◌+◌, ◌-◌, ◌||◌, ℕ, eqb, leb, ltb, List, [], ◌∷◌, ◌++◌, Option, Some, None, refl, sym, subst, ◌∙◌, arith, length}
+use Rattle.std.specs.Prelude.{if◌then◌else◌}
 use Rattle.std.specs.Option.{option_eq, option_map, is_some}
 use Rattle.std.proofs.Math.ListN.{length-set}
 use Rattle.model.specs.declared.op.Op.{Op}
@@ -7,7 +8,7 @@ use Rattle.model.specs.declared.op.Op.TheVariants.{Work, Delay, DelayUntil, Yiel
 use Rattle.model.specs.declared.op.Access.{Access}
 use Rattle.model.specs.declared.call.CallProgress.{CallProgress}
 use Rattle.model.specs.declared.call.Phase.{Phase}
-use Rattle.model.specs.declared.call.Phase.TheVariants.{Start, Try, Decide, Place, Unlock, Leave}
+use Rattle.model.specs.declared.call.Phase.TheVariants.{Start, Try, Decide, Place, Unlock, Leave, Final}
 use Rattle.model.specs.declared.call.WaitList.{WaitList}
 use Rattle.model.specs.declared.call.WaitList.TheVariants.{ToReceive, ToSend}
 use Rattle.model.specs.declared.loops.Loop.{Loop}
@@ -19,20 +20,21 @@ use Rattle.model.specs.declared.op.IsrOp.TheVariants as isr_op
 use Rattle.model.specs.Application.{Application, op_at, op_count, ops_of, interrupts_at}
 use Rattle.model.specs.State.{State, Task, Object, Progress, Status, Ready, Asleep, task_at, status_at, progress_at, call_at, object_at, with_task, with_call, with_object, take_ticket, for_one, for_each, printed}
 use Rattle.model.specs.Order.{tasks_of, task_of, first}
-use Rattle.model.specs.Switching.{make_ready, to_back, dispatch, choose, choice, is_same, is_ready, yield_now, is_outranked, is_sharing, preempt, slice, settle, unless_held, is_off, write}
+use Rattle.model.specs.Switching.{make_ready, to_back, dispatch, choose, choice, is_same, is_ready, yield_now, is_outranked, is_sharing, preempt, slice, settle, is_scheduler_suspended, is_held, unless_held, is_off, write}
 use Rattle.model.specs.Time.{wake_due, due, advance, increment_tick, sleep, set_previous_wake}
 use Rattle.model.specs.Waiting.{waiters, awakened, awake_status, is_locked, wake_one, wake_best, wait_in, set_deadline, is_expired, end_hold, unlock_object, unlock}
 use Rattle.model.specs.Objects.{possible, answer_to, object_after, list_woken, fulfil, attempt}
 use Rattle.model.specs.Calls.{try, decide, leave_call, await, do_now}
 use Rattle.model.specs.Ops.{go_to, moved_to, complete, called, answer, use_up, delay, delay_until, expect, open_loop, turn, close_turn}
 use Rattle.model.specs.Mutexes.{set_priority, mutexes_held, lend, inherits, inherit_from, inherit, best_priority, fall_back, after_timeout, disinherit, give_mutex}
-use Rattle.model.specs.Invariant.{hold_of, awaited}
+use Rattle.model.specs.Invariant.{Hold, hold_of, awaited, Suspension, suspension_of}
 use Rattle.model.specs.Handlers.{isr_told, isr, isr_each, handle, inject, interrupt, tick_interrupt}
 use Rattle.model.specs.Step.{act, act_unless, misuse, act_if, act_current, before_step, step, reset, nobody_ready, ready_at_reset, with_ops}
 use Rattle.model.proofs.Sorting.{by_test}
 use Rattle.model.proofs.Settled.{when_held, when_free}
 
--- No time passes, no step is done, the run is not stopped, there are as many tasks, and the same is held and locked.
+-- No time passes, no step is done, the run is not stopped, there are as many tasks, the same is held and locked, and as many
+-- `suspend_all` are in force.
 pub record Keeps (old new : State) : Type 0 where
   pub time : new.time ≡ old.time
   pub elapsed : new.elapsed ≡ old.elapsed
@@ -40,21 +42,22 @@ pub record Keeps (old new : State) : Type 0 where
   pub stopped : new.stopped ≡ old.stopped
   pub tasks : length new.tasks ≡ length old.tasks
   pub hold : hold_of new ≡ hold_of old
+  pub suspension : suspension_of new ≡ suspension_of old
 
 pub keeps : (s : State) → Keeps s s
-keeps s = record { time = refl; elapsed = refl; steps = refl; stopped = refl; tasks = refl; hold = refl }
+keeps s = record { time = refl; elapsed = refl; steps = refl; stopped = refl; tasks = refl; hold = refl; suspension = refl }
 
 -- one deed, and then another
 pub keeps_both : (a b c : State) → Keeps a b → Keeps b c → Keeps a c
-keeps_both a b c h k = record { time = k.time ∙ h.time; elapsed = k.elapsed ∙ h.elapsed; steps = k.steps ∙ h.steps; stopped = k.stopped ∙ h.stopped; tasks = k.tasks ∙ h.tasks; hold = k.hold ∙ h.hold }
+keeps_both a b c h k = record { time = k.time ∙ h.time; elapsed = k.elapsed ∙ h.elapsed; steps = k.steps ∙ h.steps; stopped = k.stopped ∙ h.stopped; tasks = k.tasks ∙ h.tasks; hold = k.hold ∙ h.hold; suspension = k.suspension ∙ h.suspension }
 
 -- ---- who runs
 
 pub keeps-with_task : (i : ℕ) (t : Task) (s : State) → Keeps s (with_task i t s)
-keeps-with_task i t s = record { time = refl; elapsed = refl; steps = refl; stopped = refl; tasks = length-set s.tasks i t; hold = refl }
+keeps-with_task i t s = record { time = refl; elapsed = refl; steps = refl; stopped = refl; tasks = length-set s.tasks i t; hold = refl; suspension = refl }
 
 pub keeps-take_ticket : (i : ℕ) (f : ℕ → Status) (s : State) → Keeps s (take_ticket i f s)
-keeps-take_ticket i f s = record { time = refl; elapsed = refl; steps = refl; stopped = refl; tasks = length-set s.tasks i (record (task_at s i) { status = f s.next_ticket }); hold = refl }
+keeps-take_ticket i f s = record { time = refl; elapsed = refl; steps = refl; stopped = refl; tasks = length-set s.tasks i (record (task_at s i) { status = f s.next_ticket }); hold = refl; suspension = refl }
 
 pub keeps-to_back : (i : ℕ) (s : State) → Keeps s (to_back i s)
 unfolding to_back
@@ -66,7 +69,7 @@ keeps-one_back (Some i) s = keeps-to_back i s
 
 pub keeps-choose : (s : State) → Keeps s (choose s)
 unfolding choose dispatch
-keeps-choose s = by_test (is_same (choice s) s.current) (λ t. rw t (keeps s)) (λ t. rw t (record { time = refl; elapsed = refl; steps = refl; stopped = refl; tasks = refl; hold = refl }))
+keeps-choose s = by_test (is_same (choice s) s.current) (λ t. rw t (keeps s)) (λ t. rw t (record { time = refl; elapsed = refl; steps = refl; stopped = refl; tasks = refl; hold = refl; suspension = refl }))
 
 pub keeps-yield_now : (s : State) → Keeps s (yield_now s)
 unfolding yield_now
@@ -85,7 +88,7 @@ unfolding settle
 keeps-settle s = by_test (is_off s s.current) (λ t. rw t (keeps-choose s)) (λ t. rw t (keeps s))
 
 pub keeps-unless_held : (deed : State → State) (s : State) → ((t : State) → Keeps t (deed t)) → Keeps s (unless_held deed s)
-keeps-unless_held deed s k = by_test s.call_hold
+keeps-unless_held deed s k = by_test (is_held s)
     (λ t. subst (Keeps s) (sym (when_held deed s t)) (keeps s))
     (λ t. subst (Keeps s) (sym (when_free deed s t)) (k s))
 
@@ -108,7 +111,7 @@ unfolding answer
 keeps-answer app i a s =
     let p : Progress = record (progress_at s i) { answer = a } in
     let k = keeps-go_to app i (p.op_index + 1) p (write (called i p.op_index a) s) in
-    record { time = k.time; elapsed = k.elapsed; steps = k.steps; stopped = k.stopped; tasks = k.tasks; hold = k.hold }
+    record { time = k.time; elapsed = k.elapsed; steps = k.steps; stopped = k.stopped; tasks = k.tasks; hold = k.hold; suspension = k.suspension }
 
 pub keeps-use_up : (app : Application) (i n : ℕ) (s : State) → Keeps s (use_up app i n s)
 unfolding use_up
@@ -180,7 +183,7 @@ unfolding fulfil
 keeps-fulfil caller o a s =
     let t : State = with_object o (object_after caller a (object_at s o)) s in
     let k : Keeps t (for_one wake_best (list_woken caller o a) t) = keeps-for_one wake_best (list_woken caller o a) t (λ list. keeps-wake_best list t) in
-    record { time = k.time; elapsed = k.elapsed; steps = k.steps; stopped = k.stopped; tasks = k.tasks; hold = k.hold }
+    record { time = k.time; elapsed = k.elapsed; steps = k.steps; stopped = k.stopped; tasks = k.tasks; hold = k.hold; suspension = k.suspension }
 
 pub keeps-attempt : (caller : Option ℕ) (o : ℕ) (a : Access) (s : State) → Keeps s (attempt caller o a s)
 unfolding attempt
@@ -235,7 +238,7 @@ keeps-disinherit i s = by_test (eqb (mutexes_held s i) 0)
     (λ t. rw t (keeps s))
 
 pub keeps-with_object : (o : ℕ) (x : Object) (s : State) → Keeps s (with_object o x s)
-keeps-with_object o x s = record { time = refl; elapsed = refl; steps = refl; stopped = refl; tasks = refl; hold = refl }
+keeps-with_object o x s = record { time = refl; elapsed = refl; steps = refl; stopped = refl; tasks = refl; hold = refl; suspension = refl }
 
 pub keeps-give_mutex : (app : Application) (i o : ℕ) (s : State) → Keeps s (give_mutex app i o s)
 unfolding give_mutex
@@ -271,7 +274,7 @@ keeps-do_now app i o a s =
 -- ---- handlers
 
 pub keeps-write : (w : What) (s : State) → Keeps s (write w s)
-keeps-write w s = record { time = refl; elapsed = refl; steps = refl; stopped = refl; tasks = refl; hold = refl }
+keeps-write w s = record { time = refl; elapsed = refl; steps = refl; stopped = refl; tasks = refl; hold = refl; suspension = refl }
 
 pub keeps-isr : (handler op_index : ℕ) (op : IsrOp) (s : State) → Keeps s (isr handler op_index op s)
 keeps-isr handler op_index (isr_op.Do o a) s =
@@ -309,7 +312,7 @@ pub keeps-before_step : (app : Application) (handlers : List ℕ) (s : State) �
 unfolding before_step
 keeps-before_step app handlers s =
     let k : Keeps (record s { log = [] }) (for_each (inject app) handlers (record s { log = [] })) = keeps-each (inject app) (keeps-inject app) handlers (record s { log = [] }) in
-    record { time = k.time; elapsed = k.elapsed; steps = k.steps; stopped = k.stopped; tasks = k.tasks; hold = k.hold }
+    record { time = k.time; elapsed = k.elapsed; steps = k.steps; stopped = k.stopped; tasks = k.tasks; hold = k.hold; suspension = k.suspension }
 
 elapsed-unlock : (s : State) → (unlock s).elapsed ≡ s.elapsed
 unfolding unlock
@@ -337,23 +340,81 @@ elapsed-await app i o a ticks Decide s = elapsed-decide i o a s
 elapsed-await app i o a ticks Place s = refl
 elapsed-await app i o a ticks Unlock s = elapsed-unlock s
 elapsed-await app i o a ticks Leave s = elapsed-leave_call i s
+elapsed-await app i o a ticks Final s = elapsed-leave_call i s
+
+suspension-unlock : (s : State) → suspension_of (unlock s) ≡ suspension_of s
+unfolding unlock
+suspension-unlock s = by_locked s.locked where
+  by_locked : (o : Option ℕ) → suspension_of (for_one unlock_object o s) ≡ suspension_of s
+  by_locked None = refl
+  by_locked (Some o) = (keeps-all_ready (tasks_of (awakened s (ToReceive o)) ++ tasks_of (awakened s (ToSend o))) (record s { locked = None })).suspension
+
+suspension-decide : (i o : ℕ) (a : Access) (s : State) → suspension_of (decide i o a s) ≡ suspension_of s
+unfolding decide wait_in
+suspension-decide i o a s = by_test (possible s o a || is_expired s i) (λ t. rw t refl) (λ t. rw t (keeps-inherit i o s).suspension)
+
+pub suspension-leave_call : (i : ℕ) (s : State) → suspension_of (leave_call i s) ≡ suspension_of s
+unfolding leave_call
+suspension-leave_call i s =
+    let free : State = end_hold i Try s in
+    by_test (is_some (call_at s i).list)
+    (λ t. rw t (keeps-choose free).suspension)
+    (λ t. rw t (keeps-preempt free).suspension)
+
+suspension-await : (app : Application) (i o : ℕ) (a : Access) (ticks : Option ℕ) (phase : Phase) (s : State) → suspension_of (await app i o a ticks phase s) ≡ suspension_of s
+suspension-await app i o a ticks Start s = (keeps-try app i o a (set_deadline i ticks s)).suspension ∙ (keeps-set_deadline i ticks s).suspension
+suspension-await app i o a ticks Try s = (keeps-try app i o a s).suspension
+suspension-await app i o a ticks Decide s = suspension-decide i o a s
+suspension-await app i o a ticks Place s = refl
+suspension-await app i o a ticks Unlock s = suspension-unlock s
+suspension-await app i o a ticks Leave s = suspension-leave_call i s
+suspension-await app i o a ticks Final s = suspension-leave_call i s
 
 -- ---- the tick: it alone lets time pass
 
+-- a tick that has come, and has not been acted upon
+abbrev pub tick_come : State → State
+tick_come s =
+    if is_scheduler_suspended s
+    then record s { elapsed = s.elapsed + 1; held_ticks = s.held_ticks + 1 }
+    else record s { time = s.time + 1; elapsed = s.elapsed + 1 }
+
+keeps-increment : (s : State) → Keeps (tick_come s) (increment_tick s)
+unfolding increment_tick advance
+keeps-increment s = by_test (is_scheduler_suspended s)
+    (λ t. rw t (keeps (record s { elapsed = s.elapsed + 1; held_ticks = s.held_ticks + 1 })))
+    (λ t. rw t (keeps-wake_due (record s { time = s.time + 1; elapsed = s.elapsed + 1 })))
+
+pub hold-increment : (s : State) → hold_of (increment_tick s) ≡ hold_of s
+hold-increment s = (keeps-increment s).hold ∙ by_test (is_scheduler_suspended s) (λ t. rw t refl) (λ t. rw t refl)
+
 -- from when it has come on, no more time passes
-keeps-tick : (app : Application) (s : State) → Keeps (record s { time = s.time + 1; elapsed = s.elapsed + 1 }) (tick_interrupt app s)
-unfolding tick_interrupt increment_tick advance
+keeps-tick : (app : Application) (s : State) → Keeps (tick_come s) (tick_interrupt app s)
+unfolding tick_interrupt
 keeps-tick app s =
-    let later : State = record s { time = s.time + 1; elapsed = s.elapsed + 1 } in
-    let woken : State = wake_due later in
-    let told : State = interrupt app woken in
-    keeps_both later woken (slice told) (keeps-wake_due later) (keeps_both woken told (slice told) (keeps-interrupt app woken) (keeps-slice told))
+    let come : State = increment_tick s in
+    let told : State = interrupt app come in
+    keeps_both (tick_come s) come (unless_held slice told) (keeps-increment s)
+    (keeps_both come told (unless_held slice told) (keeps-interrupt app come) (keeps-unless_held slice told keeps-slice))
+
+-- a tick and its base interrupts hold nothing, and let go of nothing
+pub held-told : (app : Application) (s : State) → is_held (interrupt app (increment_tick s)) ≡ is_held s
+held-told app s =
+    let come : State = increment_tick s in
+    let told : State = interrupt app come in
+    let k : Keeps (tick_come s) told = keeps_both (tick_come s) come told (keeps-increment s) (keeps-interrupt app come) in
+    let hold : told.call_hold ≡ s.call_hold = ap (λ (x : Hold). x.held) k.hold ∙ by_test (is_scheduler_suspended s) (λ t. rw t refl) (λ t. rw t refl) in
+    let count : told.suspensions ≡ s.suspensions = ap (λ (x : Suspension). x.suspensions) k.suspension ∙ by_test (is_scheduler_suspended s) (λ t. rw t refl) (λ t. rw t refl) in
+    ap₂ (λ (b : Bool) (n : ℕ). b || ltb 0 n) hold count
 
 pub elapsed-tick : (app : Application) (s : State) → (tick_interrupt app s).elapsed ≡ s.elapsed + 1
-elapsed-tick app s = (keeps-tick app s).elapsed
+elapsed-tick app s = (keeps-tick app s).elapsed ∙ by_test (is_scheduler_suspended s) (λ t. rw t refl) (λ t. rw t refl)
 
 pub hold-tick : (app : Application) (s : State) → hold_of (tick_interrupt app s) ≡ hold_of s
-hold-tick app s = (keeps-tick app s).hold
+hold-tick app s = (keeps-tick app s).hold ∙ by_test (is_scheduler_suspended s) (λ t. rw t refl) (λ t. rw t refl)
+
+pub suspension-tick : (app : Application) (s : State) → s.suspensions ≡ 0 → suspension_of (tick_interrupt app s) ≡ suspension_of s
+suspension-tick app s none = (keeps-tick app s).suspension ∙ rw none refl
 
 hold-expect : (app : Application) (i : ℕ) (a : Option ℕ) (s : State) → hold_of (expect app i a s) ≡ hold_of s
 unfolding expect
@@ -415,6 +476,41 @@ elapsed-act_if app i (Some op) s = elapsed-act_unless app i (misuse s i op) op s
 elapsed-act_current : (app : Application) (r : Option ℕ) (s : State) → (act_current app r s).elapsed ≤ s.elapsed + 1
 elapsed-act_current app None s = let e = elapsed-tick app s in omega arith
 elapsed-act_current app (Some i) s = elapsed-act_if app i (op_at app i (progress_at s i).op_index) s
+
+suspension-expect : (app : Application) (i : ℕ) (a : Option ℕ) (s : State) → suspension_of (expect app i a s) ≡ suspension_of s
+unfolding expect
+suspension-expect app i a s = by_test (option_eq eqb (progress_at s i).answer a)
+    (λ t. rw t (keeps-go_to app i ((progress_at s i).op_index + 1) (progress_at s i) s).suspension)
+    (λ t. rw t refl)
+
+-- No op is a `suspend_all`.
+pub suspension-act : (app : Application) (i : ℕ) (op : Op) (s : State) → s.suspensions ≡ 0 → suspension_of (act app i op s) ≡ suspension_of s
+suspension-act app i (Work n) s none = let k = (keeps-use_up app i n s).suspension in suspension-tick app (use_up app i n s) (ap (λ (x : Suspension). x.suspensions) k ∙ none) ∙ k
+suspension-act app i (Delay n) s none = (keeps-delay app i n s).suspension
+suspension-act app i (DelayUntil n) s none = (keeps-delay_until app i ((progress_at s i).previous_wake + n) s).suspension
+suspension-act app i Yield s none = let t : State = answer app i (Some 0) s in (keeps-yield_now t).suspension ∙ (keeps-answer app i (Some 0) s).suspension
+suspension-act app i Time s none = (keeps-answer app i (Some (printed s.time)) s).suspension
+suspension-act app i (Mark n) s none = (keeps-go_to app i ((progress_at s i).op_index + 1) (progress_at s i) (write (what.Mark i n) s)).suspension
+suspension-act app i (Expect a) s none = suspension-expect app i a s
+suspension-act app i (Repeat n) s none = (keeps-open_loop app i n s).suspension
+suspension-act app i End s none = (keeps-close_turn app i s).suspension
+suspension-act app i (Await o a ticks) s none = suspension-await app i o a ticks (call_at s i).phase s
+suspension-act app i (Do o a) s none = (keeps-do_now app i o a s).suspension
+suspension-act app i (GiveMutex o) s none = (keeps-give_mutex app i o s).suspension
+suspension-act app i (MessagesWaiting o) s none = (keeps-answer app i (Some (length (object_at s o).items)) s).suspension
+suspension-act app i (SpacesAvailable o) s none = (keeps-answer app i (Some ((object_at s o).size - length (object_at s o).items)) s).suspension
+
+suspension-act_unless : (app : Application) (i : ℕ) (kind : Option Misuse) (op : Op) (s : State) → s.suspensions ≡ 0 → suspension_of (act_unless app i kind op s) ≡ suspension_of s
+suspension-act_unless app i None op s none = suspension-act app i op s none
+suspension-act_unless app i (Some kind) op s none = refl
+
+suspension-act_if : (app : Application) (i : ℕ) (o : Option Op) (s : State) → s.suspensions ≡ 0 → suspension_of (act_if app i o s) ≡ suspension_of s
+suspension-act_if app i None s none = refl
+suspension-act_if app i (Some op) s none = suspension-act_unless app i (misuse s i op) op s none
+
+suspension-act_current : (app : Application) (r : Option ℕ) (s : State) → s.suspensions ≡ 0 → suspension_of (act_current app r s) ≡ suspension_of s
+suspension-act_current app None s none = suspension-tick app s none
+suspension-act_current app (Some i) s none = suspension-act_if app i (op_at app i (progress_at s i).op_index) s none
 
 -- ---- a step, and reset
 

@@ -14,19 +14,20 @@ use Rattle.model.specs.declared.event.What.{What}
 use Rattle.model.specs.declared.event.What.TheVariants as what
 use Rattle.model.specs.Application.{Application, op_at, ops_of, interrupts_at}
 use Rattle.model.specs.Scripts.{IsWellFormed, fits_object, knows_isr}
-use Rattle.model.specs.State.{State, Task, Progress, Object, Status, Wait, Ready, Awake, Waiting, Asleep, Ended, ticket_if_ready, wait_of, task_at, status_at, progress_at, call_at, object_at, with_object, for_one, for_each, no_task}
+use Rattle.model.specs.State.{State, Task, Progress, Object, Status, Wait, Ready, Awake, Waiting, Asleep, WaitingForBits, Suspended, Ended, ticket_if_ready, wait_of, task_at, status_at, progress_at, call_at, object_at, with_object, for_one, for_each, no_task}
 use Rattle.model.specs.Order.{Entry, first, task_of}
-use Rattle.model.specs.Switching.{is_ready, write}
+use Rattle.model.specs.Switching.{is_ready, is_scheduler_suspended, is_held, slice, write}
 use Rattle.model.specs.Waiting.{waiters, awake_status, is_locked, wake_one, wake_best}
-use Rattle.model.specs.Time.{wake_due, advance, increment_tick}
+use Rattle.model.specs.Time.{advance, increment_tick}
 use Rattle.model.specs.Objects.{possible, answer_to, object_after, list_woken, list_for, fulfil, attempt}
 use Rattle.model.specs.Handlers.{isr_told, isr, isr_each, handle, interrupt, tick_interrupt}
 use Rattle.model.specs.Invariant.{Hold, hold_of, awaited, list_of_op, IsPhaseOf, IsWaitOf, IsSound, holds, IsPlacing, RunsIn, IsState}
 use Rattle.model.proofs.Sorting.{by_test}
 use Rattle.model.proofs.Lists.{HasKey, eqb-refl, list_has}
+use Rattle.model.proofs.Settled.{when_held, when_free}
 use Rattle.model.proofs.InScripts.{isr_known}
-use Rattle.model.proofs.Frames.{Keeps, keeps, keeps_both, keeps-wake_one, keeps-isr, keeps-handle, keeps-wake_due, keeps-write}
-use Rattle.model.proofs.Sound.{each-set, logged, sliced, woken, later}
+use Rattle.model.proofs.Frames.{Keeps, keeps, keeps_both, keeps-wake_one, keeps-isr, keeps-handle, hold-increment, keeps-write}
+use Rattle.model.proofs.Sound.{each-set, logged, sliced, woken, later, held_up}
 use Rattle.model.proofs.Called.{WaitsIn, waits_in, waits_key, same_list_eq, attempted, spared_one}
 
 pub and_left : (a b : Bool) → (a && b) ≡ true → a ≡ true
@@ -58,12 +59,23 @@ module _ (app : Application) (formed : IsWellFormed app) (hold : Hold) where
   unfolding interrupt
   interrupted s h same = all_handled (interrupts_at app s.elapsed) s h same
 
+  incremented : (s : State) → IsSound app hold s → IsSound app hold (increment_tick s)
+  unfolding increment_tick advance
+  incremented s h = by_test (is_scheduler_suspended s)
+      (λ t. rw t (held_up app formed hold s h))
+      (λ t. rw t (woken app formed hold (record s { time = s.time + 1; elapsed = s.elapsed + 1 }) (later app formed hold s h)))
+
   -- a tick, and its base interrupts
   pub ticked : (s : State) → IsSound app hold s → s.locked ≡ hold.locked → IsSound app hold (tick_interrupt app s)
-  unfolding tick_interrupt increment_tick advance
+  unfolding tick_interrupt
   ticked s h same =
-      let now : State = record s { time = s.time + 1; elapsed = s.elapsed + 1 } in
-      sliced app formed hold _ (interrupted (wake_due now) (woken app formed hold now (later app formed hold s h)) (ap (λ (x : Hold). x.locked) (keeps-wake_due now).hold ∙ same))
+      let come : State = increment_tick s in
+      let still : come.locked ≡ hold.locked = ap (λ (x : Hold). x.locked) (hold-increment s) ∙ same in
+      let told : State = interrupt app come in
+      let done : IsSound app hold told = interrupted come (incremented s h) still in
+      by_test (is_held told)
+      (λ t. subst (IsSound app hold) (sym (when_held slice told t)) done)
+      (λ t. subst (IsSound app hold) (sym (when_free slice told t)) (sliced app formed hold told done))
 
 -- ---- what is spared
 
@@ -99,6 +111,8 @@ same_wait (Ready n) = refl
 same_wait (Awake w) = refl
 same_wait (Waiting w) = refl
 same_wait (Asleep v n) = refl
+same_wait (WaitingForBits g m d) = refl
+same_wait Suspended = refl
 same_wait Ended = refl
 
 -- a task that gets a status, and no other
@@ -149,7 +163,7 @@ spares-for None s = spares s
 spares-for (Some list) s = spares-wake_best list s
 
 spares-object : (o : ℕ) (x : Object) (s : State) → Spares s (with_object o x s)
-spares-object o x s = record { kept = record { time = refl; elapsed = refl; steps = refl; stopped = refl; tasks = refl; hold = refl }; current = refl; at = λ i. refl; ready = λ i r. refl; waits = λ i w e l. e }
+spares-object o x s = record { kept = record { time = refl; elapsed = refl; steps = refl; stopped = refl; tasks = refl; hold = refl; suspension = refl }; current = refl; at = λ i. refl; ready = λ i r. refl; waits = λ i w e l. e }
 
 spares-attempt : (caller : Option ℕ) (o : ℕ) (a : Access) (s : State) → Spares s (attempt caller o a s)
 unfolding attempt fulfil
@@ -250,6 +264,7 @@ module _ (app : Application) (formed : IsWellFormed app) (s t : State) (h : IsSt
     runs = subst (RunsIn t) (sym sp.current) (runs_still s.current h.runs);
     alone = λ i on. sp.current ∙ h.alone i (ap holds (sym (same_phase i)) ∙ on);
     locked = λ none. ap (λ (x : Hold). x.locked) sp.kept.hold ∙ h.locked (sym same_held ∙ none);
+    unsuspended = sp.kept.suspension ∙ h.unsuspended;
   }
 
 -- a handler that comes between two steps

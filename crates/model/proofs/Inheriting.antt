@@ -1,5 +1,5 @@
 -- What each change of a priority keeps.
-use Rattle.std.proofs.Common.{max, ◌≡◌, ◌≢◌, ◌<◌, ◌≤◌, ◌+◌, ℕ, true, false, eqb, ltb, List, [], ◌∷◌, length, get_or, set, Option, Some, None, refl, ap, sym, subst, ◌∙◌, arith, get_or-set_same, get_or-set_other}
+use Rattle.std.proofs.Common.{max, ◌≡◌, ◌<◌, ◌≤◌, ℕ, eqb, ltb, List, [], ◌∷◌, length, Option, Some, None, refl, sym, subst, ◌∙◌, arith}
 use Rattle.std.specs.Prelude.{Bool}
 use Rattle.std.specs.List.{AllByRecursion}
 use Rattle.std.specs.Option.{IfSome, is_some, option_and_then, option_map, unwrap_or}
@@ -7,11 +7,11 @@ use Rattle.std.proofs.Math.ListN.{length-set}
 use Rattle.std.proofs.lemmas.Bool.{ltb-true}
 use Rattle.model.specs.declared.call.WaitList.{WaitList}
 use Rattle.model.specs.declared.call.WaitList.TheVariants.{ToReceive}
-use Rattle.model.specs.Application.{Application, op_at}
+use Rattle.model.specs.Application.{Application}
 use Rattle.model.specs.Scripts.{IsWellFormed}
-use Rattle.model.specs.State.{State, Task, Object, Status, Ready, Awake, Waiting, Asleep, Ended, ticket_if_ready, wait_of, wait_if_waiting, task_at, status_at, progress_at, call_at, object_at, with_task, with_call, with_object, for_one, no_task}
+use Rattle.model.specs.State.{State, Task, Status, Ready, Awake, Waiting, Asleep, WaitingForBits, Suspended, Ended, ticket_if_ready, wait_of, wait_if_waiting, task_at, status_at, progress_at, call_at, object_at, with_task, for_one, no_task}
 use Rattle.model.specs.Order.{Key, Entry, key, first}
-use Rattle.model.specs.Switching.{is_ready, make_ready, to_back}
+use Rattle.model.specs.Switching.{is_ready, to_back}
 use Rattle.model.specs.Waiting.{waiters, wait_key, same_list}
 use Rattle.model.specs.Mutexes.{set_priority, mutexes_held, lend, inherits, inherit_from, inherit, best_priority, fall_back, after_timeout, disinherit}
 use Rattle.model.specs.Invariant.{Hold, HasPriority, IsSound}
@@ -136,6 +136,8 @@ key_below list (Waiting w) k h e = by_test (same_list w.list list)
     (λ t. let same : Some (key w.priority w.ticket) ≡ Some k = rw t at e in let q : key w.priority w.ticket ≡ k = cc in subst (λ (x : Key). x.priority < 32) q h)
     (λ t. let none : None ≡ Some k = rw t at e in absurd (cc))
 key_below list (Asleep v n) k h e = absurd (cc)
+key_below list (WaitingForBits g m d) k h e = absurd (cc)
+key_below list Suspended k h e = absurd (cc)
 key_below list Ended k h e = absurd (cc)
 
 best_below : (s : State) (list : WaitList) → ((j : ℕ) → HasPriority (task_at s j)) → best_priority s list < 32

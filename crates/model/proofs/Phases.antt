@@ -17,7 +17,7 @@ use Rattle.model.specs.Waiting.{is_locked, wait_in, is_expired, end_hold, unlock
 use Rattle.model.specs.Objects.{list_for, possible}
 use Rattle.model.specs.Calls.{lock, decide, leave_call}
 use Rattle.model.specs.Mutexes.{inherit}
-use Rattle.model.specs.Invariant.{Hold, hold_of, awaited, IsPhaseOf, IsSound, holds, IsPlacing, IsRunning, RunsIn, IsState}
+use Rattle.model.specs.Invariant.{Hold, hold_of, awaited, IsPhaseOf, IsSound, holds, IsPlacing, IsRunning, RunsIn, suspension_of, unsuspended, IsState}
 use Rattle.model.proofs.Sorting.{by_test}
 use Rattle.model.proofs.Tables.{ticket_at}
 use Rattle.model.proofs.Sound.{each-set_but, framed, all_made_ready, chosen, preempted}
@@ -36,8 +36,8 @@ module _ (app : Application) (formed : IsWellFormed app) where
   -- the running task goes on in a phase that holds the scheduler
   in_hold : (s : State) (i : ℕ) (t : Task) → IsSound app (hold_of s) (with_task i t s) → s.current ≡ Some i → i < length s.tasks → s.call_hold ≡ true
       → holds t.progress.call.phase ≡ true → (t.progress.call.phase ≡ Place → IsPlacing s.time t (wait_of t.status))
-      → ((j : ℕ) → j ≢ i → holds (call_at s j).phase ≡ false) → IsState app (with_task i t s)
-  in_hold s i t h runs l held phase placing others =
+      → ((j : ℕ) → j ≢ i → holds (call_at s j).phase ≡ false) → suspension_of s ≡ unsuspended → IsState app (with_task i t s)
+  in_hold s i t h runs l held phase placing others calm =
       let at : task_at (with_task i t s) i ≡ t = get_or-set_same s.tasks i t no_task l in
       let H : Task → Type 0 = λ u. holds u.progress.call.phase ≡ s.call_hold in
       let Q : Task → Type 0 = λ u. u.progress.call.phase ≡ Place → IsPlacing s.time u (wait_of u.status) in
@@ -51,6 +51,7 @@ module _ (app : Application) (formed : IsWellFormed app) where
         });
         alone = each-set_but no_task P s.tasks i t l (λ _. runs) (λ j ne on. let off = others j ne in absurd (cc));
         locked = λ none. absurd (cc);
+        unsuspended = calm;
       }
 
   -- ---- Decide
@@ -70,7 +71,7 @@ module _ (app : Application) (formed : IsWellFormed app) where
   still_to_come None now t = tt
   still_to_come (Some d) now t = leb-false d now t
 
-  module _ (s : State) (i o : ℕ) (a : Access) (ticks : Option ℕ) (h : IsSound app (hold_of s) s) (none : s.call_hold ≡ false) (unlocked : s.locked ≡ None)
+  module _ (s : State) (i o : ℕ) (a : Access) (ticks : Option ℕ) (h : IsSound app (hold_of s) s) (none : s.call_hold ≡ false) (unlocked : s.locked ≡ None) (calm : suspension_of s ≡ unsuspended)
       (runs : s.current ≡ Some i) (l : i < length s.tasks) (r : is_ready s i ≡ true) (is : op_at app i (progress_at s i).op_index ≡ Some (Await o a ticks)) where
     locking : Hold
     locking = record { held = true; locked = Some o }
@@ -84,7 +85,7 @@ module _ (app : Application) (formed : IsWellFormed app) where
         let t : State = record s { call_hold = true; locked = Some o } in
         let h1 : IsSound app locking t = framed app formed locking s s.log s.steps s.stopped (Some o) true (held_by_all s locking h none unlocked) in
         in_hold t i (record (task_at s i) { progress = record (progress_at s i) { call = record (call_at s i) { phase = Unlock } } })
-        (went_on app formed locking t i Unlock h1 (phase_there Unlock (refl, refl))) runs l refl refl (λ e. absurd (cc)) (λ j ne. others_free s h none j)
+        (went_on app formed locking t i Unlock h1 (phase_there Unlock (refl, refl))) runs l refl refl (λ e. absurd (cc)) (λ j ne. others_free s h none j) calm
 
     -- what the task is when it has begun to wait
     waiting_task : Task
@@ -115,6 +116,10 @@ module _ (app : Application) (formed : IsWellFormed app) where
     unfolding wait_in
     begun_kept = (refl, refl)
 
+    begun_calm : suspension_of (wait_in i (list_for o a) s) ≡ suspension_of s
+    unfolding wait_in
+    begun_calm = refl
+
     decided_to_wait : is_expired s i ≡ false → IsState app (lock i o Place (wait_in i (list_for o a) s))
     unfolding locking waiting_task
     decided_to_wait to_come =
@@ -129,15 +134,15 @@ module _ (app : Application) (formed : IsWellFormed app) where
         (went_on app formed locking t i Place h1 (subst O (sym begun_at) (phase_there Place (refl, refl))))
         (begun_kept.1 ∙ runs) (rw begun_length l) refl refl
         (λ _. subst (λ now. F now (task_at b i)) (sym begun_kept.0) (subst (F s.time) (sym begun_at) placing))
-        (λ j ne. subst (λ (u : Task). holds u.progress.call.phase ≡ false) (sym (begun_others j ne)) (others_free s h none j))
+        (λ j ne. subst (λ (u : Task). holds u.progress.call.phase ≡ false) (sym (begun_others j ne)) (others_free s h none j)) (begun_calm ∙ calm)
 
-  module _ (s : State) (i o : ℕ) (a : Access) (ticks : Option ℕ) (h : IsSound app (hold_of s) s) (none : s.call_hold ≡ false) (unlocked : s.locked ≡ None)
+  module _ (s : State) (i o : ℕ) (a : Access) (ticks : Option ℕ) (h : IsSound app (hold_of s) s) (none : s.call_hold ≡ false) (unlocked : s.locked ≡ None) (calm : suspension_of s ≡ unsuspended)
       (runs : s.current ≡ Some i) (l : i < length s.tasks) (r : is_ready s i ≡ true) (is : op_at app i (progress_at s i).op_index ≡ Some (Await o a ticks)) where
     pub decided : IsState app (decide i o a s)
     unfolding decide
     decided = by_test (possible s o a || is_expired s i)
-        (λ t. rw t (decided_not s i o a ticks h none unlocked runs l r is))
-        (λ t. rw t (decided_to_wait lent i o a ticks lent_sound (ap (λ (x : Hold). x.held) kept.hold ∙ none) (ap (λ (x : Hold). x.locked) kept.hold ∙ unlocked)
+        (λ t. rw t (decided_not s i o a ticks h none unlocked calm runs l r is))
+        (λ t. rw t (decided_to_wait lent i o a ticks lent_sound (ap (λ (x : Hold). x.held) kept.hold ∙ none) (ap (λ (x : Hold). x.locked) kept.hold ∙ unlocked) (kept.suspension ∙ calm)
         (ranks.current ∙ runs) (rw kept.tasks l) ((ranks.at i).ready ∙ r) (ap (op_at app i) (ranks.at i).op_index ∙ is) (still_ahead ∙ expired_not (possible s o a) (is_expired s i) t))) where
           lent : State
           lent = inherit i o s
@@ -180,7 +185,7 @@ module _ (app : Application) (formed : IsWellFormed app) where
           let P : Option ℕ → Phase → Type 0 = λ object phase. IsPhaseOf (hold_of s) object phase in
           let p : IsPhaseOf (hold_of s) (Some o) Place = subst (P (Some o)) is (subst (λ object. P object (call_at s i).phase) on (h.sound.calls i).phase) in
           in_hold s i (record (task_at s i) { progress = record (progress_at s i) { call = record (call_at s i) { phase = Unlock } } })
-          (went_on app formed (hold_of s) s i Unlock h.sound (subst (λ object. P object Unlock) (sym on) p)) runs l held refl (λ e. absurd (cc)) only
+          (went_on app formed (hold_of s) s i Unlock h.sound (subst (λ object. P object Unlock) (sym on) p)) runs l held refl (λ e. absurd (cc)) only h.unsuspended
 
       -- ---- Unlock
 
@@ -249,7 +254,7 @@ module _ (app : Application) (formed : IsWellFormed app) where
             let hold : opened.call_hold ≡ true = ap (λ (x : Hold). x.held) kept ∙ held in
             let l1 : i < length opened.tasks = rw kept_opened.tasks l in
             subst (λ u. IsState app (go_on i Leave u)) (sym opened_is)
-            (in_hold opened i left_task (subst (λ x. IsSound app x (with_task i left_task opened)) (sym kept) sound_left) runs_opened l1 hold refl (λ e. absurd (cc)) off_opened)
+            (in_hold opened i left_task (subst (λ x. IsSound app x (with_task i left_task opened)) (sym kept) sound_left) runs_opened l1 hold refl (λ e. absurd (cc)) off_opened (kept_opened.suspension ∙ h.unsuspended))
 
         pub unlocked_held : (go_on i Leave (unlock s)).call_hold ≡ true
         unlocked_held =

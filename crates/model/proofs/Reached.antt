@@ -1,5 +1,5 @@
 -- What is true of every state that a run comes to.
-use Rattle.std.proofs.Common.{◌≡◌, ◌<◌, ◌≤◌, ◌+◌, ◌&&◌, ℕ, zero, suc, true, false, List, [], ◌∷◌, length, map, get_or, Option, Some, None, refl, ap, sym, subst, ◌∙◌, arith}
+use Rattle.std.proofs.Common.{◌≡◌, ◌<◌, ◌≤◌, ◌+◌, ◌||◌, ℕ, zero, suc, true, false, List, [], ◌∷◌, length, map, get_or, Option, Some, None, refl, ap, sym, subst, ◌∙◌, arith}
 use Rattle.std.specs.Prelude.{Bool}
 use Rattle.std.specs.List.{AllByRecursion, slice_get}
 use Rattle.std.specs.Option.{IfSome, option_map, unwrap_or}
@@ -11,25 +11,25 @@ use Rattle.model.specs.declared.event.Misuse.{Misuse}
 use Rattle.model.specs.declared.op.Op.TheVariants.{Work, Delay, DelayUntil, Yield, Time, Mark, Expect, Repeat, End, Await, Do, GiveMutex, MessagesWaiting, SpacesAvailable}
 use Rattle.model.specs.declared.op.Access.{Access}
 use Rattle.model.specs.declared.call.Phase.{Phase}
-use Rattle.model.specs.declared.call.Phase.TheVariants.{Start, Try, Decide, Place, Unlock, Leave}
+use Rattle.model.specs.declared.call.Phase.TheVariants.{Start, Try, Decide, Place, Unlock, Leave, Final}
 use Rattle.model.specs.declared.event.Event.{Event}
 use Rattle.model.specs.declared.plan.Point.{Point}
 use Rattle.model.specs.declared.event.What.TheVariants as what
 use Rattle.model.specs.Application.{Application, Definition, script_of, op_at}
 use Rattle.model.specs.Scripts.{IsDefinition, IsObjectKind, IsWellFormed, fits_object, is_wait}
 use Rattle.model.specs.State.{State, wait_of, progress_at, status_at, call_at, no_call, no_task, no_object, for_each}
-use Rattle.model.specs.Switching.{make_ready, choice, is_ready, preempt, settle, unless_held, write}
+use Rattle.model.specs.Switching.{make_ready, choice, is_ready, preempt, settle, is_held, unless_held, write}
 use Rattle.model.specs.Waiting.{set_deadline}
 use Rattle.model.specs.Calls.{await}
 use Rattle.model.specs.Handlers.{handle, inject}
 use Rattle.model.specs.Step.{act, act_unless, misuse, act_if, act_current, before_step, step, reset, nobody_ready, ready_at_reset, task_at_reset, object_at_reset, with_ops, is_empty}
 use Rattle.model.specs.Run.{injected, state_after}
-use Rattle.model.specs.Invariant.{AllTicketsBelow, IsAt, Hold, hold_of, awaited, IsPhaseOf, IsObject, HasPriority, IsSound, holds, IsRunning, RunsIn, IsState}
+use Rattle.model.specs.Invariant.{AllTicketsBelow, IsAt, Hold, hold_of, awaited, IsPhaseOf, IsObject, HasPriority, IsSound, holds, IsRunning, RunsIn, Suspension, suspension_of, unsuspended, IsState}
 use Rattle.model.proofs.Sorting.{by_test}
 use Rattle.model.proofs.Chosen.{choice_within}
-use Rattle.model.proofs.Settled.{IsSettled, settled-settle, settled-preempt, settled-reset, when_held, when_free}
+use Rattle.model.proofs.Settled.{IsSettled, settled-settle, settled-preempt, settled-reset, when_held, when_free, held_by_call, held_by_none}
 use Rattle.model.proofs.InScripts.{script_formed, used_none, range_at, known_at}
-use Rattle.model.proofs.Frames.{keeps-settle, keeps-try, keeps-set_deadline, keeps-all_ready, keeps-use_up, keeps-preempt, hold-tick, hold-act}
+use Rattle.model.proofs.Frames.{keeps-settle, keeps-try, keeps-set_deadline, keeps-all_ready, keeps-use_up, keeps-preempt, hold-tick, hold-act, suspension-tick, suspension-leave_call, suspension-act}
 use Rattle.model.proofs.Sound.{CanBeReady, all_made_ready, runs, logged, settled, preempted, yielded, answered, used_up, expected, opened, closed, plain, delayed, delayed_until, ready_free, call_none}
 use Rattle.model.proofs.Handled.{and_left, ticked, handled_between}
 use Rattle.model.proofs.Trying.{tried, gave}
@@ -57,8 +57,8 @@ misuse_rests s i (SpacesAvailable o) kind e = refl
 
 module _ (app : Application) (formed : IsWellFormed app) where
   -- the running task is Ready, and nothing is held
-  at_rest : (s : State) → IsSound app free s → hold_of s ≡ free → IsSettled s → IsState app s
-  at_rest s h same on =
+  at_rest : (s : State) → IsSound app free s → hold_of s ≡ free → suspension_of s ≡ unsuspended → IsSettled s → IsState app s
+  at_rest s h same calm on =
       let none : s.call_hold ≡ false = ap (λ (x : Hold). x.held) same in
       let unlocked_ : s.locked ≡ None = ap (λ (x : Hold). x.locked) same in
       let off : (j : ℕ) → holds (call_at s j).phase ≡ false = λ j. phase_free free _ (call_at s j).phase refl (h.calls j).phase in
@@ -67,22 +67,23 @@ module _ (app : Application) (formed : IsWellFormed app) where
         runs = by_current s.current on none off;
         alone = λ j t. let f = off j in absurd (cc);
         locked = λ _. unlocked_;
+        unsuspended = calm;
       } where
         by_current : (r : Option ℕ) → IfSome r (λ task. is_ready s task ≡ true) → s.call_hold ≡ false → ((j : ℕ) → holds (call_at s j).phase ≡ false) → RunsIn s r
         by_current None on none off = none
         by_current (Some i) on none off = record { holding = off i ∙ sym none; ready = λ _. on; placing = λ e. let f : holds Place ≡ false = subst (λ phase. holds phase ≡ false) e (off i) in absurd (cc) }
 
-  settled_at_rest : (s : State) → IsSound app free s → hold_of s ≡ free → IsState app (unless_held settle s)
-  settled_at_rest s h same =
-      let none : s.call_hold ≡ false = ap (λ (x : Hold). x.held) same in
-      subst (IsState app) (sym (when_free settle s none)) (at_rest (settle s) (settled app formed free s h) ((keeps-settle s).hold ∙ same) (settled-settle s))
+  settled_at_rest : (s : State) → IsSound app free s → hold_of s ≡ free → suspension_of s ≡ unsuspended → IsState app (unless_held settle s)
+  settled_at_rest s h same calm =
+      let none : is_held s ≡ false = held_by_none s (ap (λ (x : Hold). x.held) same) (ap (λ (x : Suspension). x.suspensions) calm) in
+      subst (IsState app) (sym (when_free settle s none)) (at_rest (settle s) (settled app formed free s h) ((keeps-settle s).hold ∙ same) ((keeps-settle s).suspension ∙ calm) (settled-settle s))
 
   still_held : (s : State) → IsState app s → s.call_hold ≡ true → IsState app (unless_held settle s)
-  still_held s h held = subst (IsState app) (sym (when_held settle s held)) h
+  still_held s h held = subst (IsState app) (sym (when_held settle s (held_by_call s held))) h
 
   -- the events don't matter, nor the steps done
   told : (s : State) (log : List Event) (steps : ℕ) → IsState app s → IsState app (record s { log = log; steps = steps })
-  told s log steps h = record { sound = logged app formed (hold_of s) s log steps s.stopped h.sound; runs = by_current s.current h.runs; alone = h.alone; locked = h.locked } where
+  told s log steps h = record { sound = logged app formed (hold_of s) s log steps s.stopped h.sound; runs = by_current s.current h.runs; alone = h.alone; locked = h.locked; unsuspended = h.unsuspended } where
     by_current : (r : Option ℕ) → RunsIn s r → RunsIn (record s { log = log; steps = steps }) r
     by_current None r = r
     by_current (Some i) r = record { holding = r.holding; ready = r.ready; placing = r.placing }
@@ -113,6 +114,9 @@ module _ (app : Application) (formed : IsWellFormed app) where
     there : i < length s.tasks
     there = subst (λ r. IfSome r (λ task. task < length s.tasks)) on h.sound.table.current
 
+    calm : s.suspensions ≡ 0
+    calm = ap (λ (x : Suspension). x.suspensions) h.unsuspended
+
     -- where nothing is held
     module _ (none : s.call_hold ≡ false) where
       hold_none : hold_of s ≡ free
@@ -122,7 +126,7 @@ module _ (app : Application) (formed : IsWellFormed app) where
       sound_free = subst (λ x. IsSound app x s) hold_none h.sound
 
       rested : (op : Op) → op_at app i (progress_at s i).op_index ≡ Some op → awaited (Some op) ≡ None → IsState app (unless_held settle (act app i op s))
-      rested op is w = settled_at_rest (act app i op s) (acted s i op sound_free (h.locked none) there (running.ready none) is w) (hold-act app i op s w ∙ hold_none)
+      rested op is w = settled_at_rest (act app i op s) (acted s i op sound_free (h.locked none) there (running.ready none) is w) (hold-act app i op s w ∙ hold_none) (suspension-act app i op s calm ∙ h.unsuspended)
 
       module _ (o : ℕ) (a : Access) (ticks : Option ℕ) (is : op_at app i (progress_at s i).op_index ≡ Some (Await o a ticks)) where
         fit : fits_object app o a ≡ true
@@ -132,7 +136,7 @@ module _ (app : Application) (formed : IsWellFormed app) where
         in_range = range_at (progress_at s i).op_index (script_of app i) (Await o a ticks) (script_formed app formed i).ranges is
 
         tried_again : IsState app (unless_held settle (await app i o a ticks Try s))
-        tried_again = settled_at_rest _ (tried app formed free s i o a ticks sound_free (h.locked none) there (running.ready none) is fit) ((keeps-try app i o a s).hold ∙ hold_none)
+        tried_again = settled_at_rest _ (tried app formed free s i o a ticks sound_free (h.locked none) there (running.ready none) is fit) ((keeps-try app i o a s).hold ∙ hold_none) ((keeps-try app i o a s).suspension ∙ h.unsuspended)
 
         tried_first : IsState app (unless_held settle (await app i o a ticks Start s))
         tried_first =
@@ -142,10 +146,10 @@ module _ (app : Application) (formed : IsWellFormed app) where
             let h1 : IsSound app free t = dated app formed free s i ticks sound_free (ready_free (status_at s i) (running.ready none)) in_range in
             let unlocked_ : t.locked ≡ None = ap (λ (x : Hold). x.locked) k.hold ∙ h.locked none in
             let op_is : op_at app i (progress_at t i).op_index ≡ Some (Await o a ticks) = ap (op_at app i) at.1 ∙ is in
-            settled_at_rest _ (tried app formed free t i o a ticks h1 unlocked_ (rw k.tasks there) (at.0 ∙ running.ready none) op_is fit) ((keeps-try app i o a t).hold ∙ k.hold ∙ hold_none)
+            settled_at_rest _ (tried app formed free t i o a ticks h1 unlocked_ (rw k.tasks there) (at.0 ∙ running.ready none) op_is fit) ((keeps-try app i o a t).hold ∙ k.hold ∙ hold_none) ((keeps-try app i o a t).suspension ∙ k.suspension ∙ h.unsuspended)
 
         decided_next : IsState app (unless_held settle (await app i o a ticks Decide s))
-        decided_next = still_held _ (decided app formed s i o a ticks h.sound none (h.locked none) on there (running.ready none) is) (decided_held app formed s i o a ticks h.sound none (h.locked none) on there (running.ready none) is)
+        decided_next = still_held _ (decided app formed s i o a ticks h.sound none (h.locked none) h.unsuspended on there (running.ready none) is) (decided_held app formed s i o a ticks h.sound none (h.locked none) h.unsuspended on there (running.ready none) is)
 
     free_in : (phase : Phase) → (call_at s i).phase ≡ phase → holds phase ≡ false → s.call_hold ≡ false
     free_in phase e off = sym running.holding ∙ ap holds e ∙ off
@@ -164,7 +168,8 @@ module _ (app : Application) (formed : IsWellFormed app) where
       next Decide e = decided_next (free_in Decide e refl) o a ticks is
       next Place e = let held = held_in Place e refl in still_held _ (placed app formed s i o h on there waits held e) held
       next Unlock e = let held = held_in Unlock e refl in still_held _ (unlocked app formed s i o h on there waits held e) (unlocked_held app formed s i o h on there waits held e)
-      next Leave e = let held = held_in Leave e refl in settled_at_rest _ (left app formed s i o h on there waits held e) (left_hold app formed s i o h on there waits held e)
+      next Leave e = let held = held_in Leave e refl in settled_at_rest _ (left app formed s i o h on there waits held e) (left_hold app formed s i o h on there waits held e) (suspension-leave_call i s ∙ h.unsuspended)
+      next Final e = absurd (subst (IsPhaseOf (hold_of s) (Some o)) e (subst (λ object. IsPhaseOf (hold_of s) object (call_at s i).phase) waits (h.sound.calls i).phase))
 
     pub start_only : (op : Op) → awaited (Some op) ≡ None → op_at app i (progress_at s i).op_index ≡ Some op → s.call_hold ≡ false
     start_only op w is = free_in (call_at s i).phase refl (only_start (call_at s i).phase (subst (λ object. IsPhaseOf (hold_of s) object (call_at s i).phase) (ap awaited is ∙ w) (h.sound.calls i).phase)) where
@@ -175,6 +180,7 @@ module _ (app : Application) (formed : IsWellFormed app) where
       only_start Place p = absurd p
       only_start Unlock p = absurd p
       only_start Leave p = absurd p
+      only_start Final p = absurd p
 
     act_done : (op : Op) → op_at app i (progress_at s i).op_index ≡ Some op → IsState app (unless_held settle (act app i op s))
     act_done (Work n) is = rested (start_only (Work n) refl is) (Work n) is refl
@@ -196,18 +202,18 @@ module _ (app : Application) (formed : IsWellFormed app) where
     act_if_done None is = none_done (s.call_hold) refl where
       none_done : (b : Bool) → s.call_hold ≡ b → IsState app (unless_held settle s)
       none_done true e = still_held s h e
-      none_done false e = settled_at_rest s (sound_free e) (hold_none e)
+      none_done false e = settled_at_rest s (sound_free e) (hold_none e) h.unsuspended
     act_if_done (Some op) is = act_unless_done (misuse s i op) refl where
       act_unless_done : (kind : Option Misuse) → misuse s i op ≡ kind → IsState app (unless_held settle (act_unless app i kind op s))
       act_unless_done None e = act_done op is
-      act_unless_done (Some kind) e = settled_at_rest _ (logged app formed free s s.log s.steps _ (sound_free (misused kind e))) (hold_none (misused kind e)) where
+      act_unless_done (Some kind) e = settled_at_rest _ (logged app formed free s s.log s.steps _ (sound_free (misused kind e))) (hold_none (misused kind e)) h.unsuspended where
         misused : (kind : Misuse) → misuse s i op ≡ Some kind → s.call_hold ≡ false
         misused kind e = start_only op (misuse_rests s i op kind e) is
 
   current_done : (s : State) (r : Option ℕ) → IsState app s → s.current ≡ r → IsState app (unless_held settle (act_current app r s))
   current_done s None h on =
       let none : s.call_hold ≡ false = subst (RunsIn s) on h.runs in
-      settled_at_rest _ (ticked app formed free s (sound_free_idle none) (h.locked none)) (hold-tick app s ∙ hold_none_idle none) where
+      settled_at_rest _ (ticked app formed free s (sound_free_idle none) (h.locked none)) (hold-tick app s ∙ hold_none_idle none) (suspension-tick app s (ap (λ (x : Suspension). x.suspensions) h.unsuspended) ∙ h.unsuspended) where
         hold_none_idle : s.call_hold ≡ false → hold_of s ≡ free
         hold_none_idle none = ap (λ l. record { held = s.call_hold; locked = l }) (h.locked none) ∙ ap (λ b. record { held = b; locked = None }) none
 
@@ -220,11 +226,15 @@ module _ (app : Application) (formed : IsWellFormed app) where
   -- an injected handler
   pub injected_between : (handler : ℕ) (s : State) → IsState app s → IsState app (inject app handler s)
   unfolding inject
-  injected_between handler s h = by_test t.call_hold
+  injected_between handler s h = by_test (is_held t)
       (λ held. subst (IsState app) (sym (when_held preempt t held)) k)
-      (λ none. subst (IsState app) (sym (when_free preempt t none)) (preempted_at_rest none)) where
+      (λ none. subst (IsState app) (sym (when_free preempt t none)) (preempted_at_rest (not_left t.call_hold _ none))) where
         t : State
         t = handle app handler s
+
+        not_left : (a b : Bool) → (a || b) ≡ false → a ≡ false
+        not_left false b e = refl
+        not_left true b e = absurd (cc)
 
         k : IsState app t
         k = handled_between app formed handler s h
@@ -232,7 +242,7 @@ module _ (app : Application) (formed : IsWellFormed app) where
         preempted_at_rest : t.call_hold ≡ false → IsState app (preempt t)
         preempted_at_rest none =
             let same : hold_of t ≡ free = ap (λ l. record { held = t.call_hold; locked = l }) (k.locked none) ∙ ap (λ b. record { held = b; locked = None }) none in
-            at_rest (preempt t) (preempted app formed free t (subst (λ x. IsSound app x t) same k.sound)) ((keeps-preempt t).hold ∙ same) (settled-preempt t (by_current t.current k.runs none)) where
+            at_rest (preempt t) (preempted app formed free t (subst (λ x. IsSound app x t) same k.sound)) ((keeps-preempt t).hold ∙ same) ((keeps-preempt t).suspension ∙ k.unsuspended) (settled-preempt t (by_current t.current k.runs none)) where
               by_current : (r : Option ℕ) → RunsIn t r → t.call_hold ≡ false → IfSome r (λ task. is_ready t task ≡ true)
               by_current None r none = tt
               by_current (Some i) r none = r.ready none
@@ -321,16 +331,23 @@ module _ (app : Application) (formed : IsWellFormed app) where
   unfolding ready_at_reset
   reached_ready = all_made_ready app formed free (nobody_ready app) (with_ops 0 app.tasks) reached_nobody (all_can (with_ops 0 app.tasks) (with_ops_within 0 (length app.tasks) app.tasks (omega arith)))
 
-  held_by_none : (js : List ℕ) (s : State) → hold_of (for_each make_ready js s) ≡ hold_of s
-  held_by_none js s = (keeps-all_ready js s).hold
+  held_as_before : (js : List ℕ) (s : State) → hold_of (for_each make_ready js s) ≡ hold_of s
+  held_as_before js s = (keeps-all_ready js s).hold
 
   reset_hold : hold_of (ready_at_reset app) ≡ free
   unfolding ready_at_reset nobody_ready
-  reset_hold = held_by_none (with_ops 0 app.tasks) _
+  reset_hold = held_as_before (with_ops 0 app.tasks) _
+
+  calm_by_none : (js : List ℕ) (s : State) → suspension_of (for_each make_ready js s) ≡ suspension_of s
+  calm_by_none js s = (keeps-all_ready js s).suspension
+
+  reset_calm : suspension_of (ready_at_reset app) ≡ unsuspended
+  unfolding ready_at_reset nobody_ready
+  reset_calm = calm_by_none (with_ops 0 app.tasks) _
 
   pub reached_reset : IsState app (reset app)
   unfolding reset
-  reached_reset = at_rest app formed _ (runs app formed free (ready_at_reset app) (choice (ready_at_reset app)) reached_ready (choice_within (ready_at_reset app))) reset_hold (settled-reset app)
+  reached_reset = at_rest app formed _ (runs app formed free (ready_at_reset app) (choice (ready_at_reset app)) reached_ready (choice_within (ready_at_reset app))) reset_hold reset_calm (settled-reset app)
 
   -- every state of a run
   pub reached_after : (plan : List Point) (n : ℕ) → IsState app (state_after app plan n)

@@ -4,9 +4,9 @@ use Rattle.std.specs.List.{AllByRecursion}
 use Rattle.std.specs.Prelude.{Bool, if◌then◌else◌}
 use Rattle.std.specs.Option.{IfSome, is_some, option_map}
 use Rattle.model.specs.Application.{Application}
-use Rattle.model.specs.State.{State, Status, Ready, Awake, Waiting, Asleep, Ended, ticket_if_ready, task_at, for_one}
+use Rattle.model.specs.State.{State, Status, Ready, Awake, Waiting, Asleep, WaitingForBits, Suspended, Ended, ticket_if_ready, task_at, for_one}
 use Rattle.model.specs.Order.{Key, Entry, key, first, task_of}
-use Rattle.model.specs.Switching.{ready_key, ready_list, is_ready, to_back, choice, is_same, choose, dispatch, yield_now, is_outranked, preempt, is_off, settle, unless_held}
+use Rattle.model.specs.Switching.{ready_key, ready_list, is_ready, to_back, choice, is_same, choose, dispatch, yield_now, is_outranked, preempt, is_off, settle, is_held, unless_held}
 use Rattle.model.specs.declared.plan.Point.{Point}
 use Rattle.model.specs.Step.{act_current, before_step, step, ready_at_reset, reset}
 use Rattle.model.specs.Run.{injected, state_after}
@@ -27,6 +27,8 @@ keyed_ready priority (Ready n) k e = refl
 keyed_ready priority (Awake w) k e = absurd (cc)
 keyed_ready priority (Waiting w) k e = absurd (cc)
 keyed_ready priority (Asleep w n) k e = absurd (cc)
+keyed_ready priority (WaitingForBits g m d) k e = absurd (cc)
+keyed_ready priority Suspended k e = absurd (cc)
 keyed_ready priority Ended k e = absurd (cc)
 
 first_ready : (s : State) (es : List Entry) → AllByRecursion (HasKey ready_key s.tasks) es → IfSome (task_of (first es)) (λ task. is_ready s task ≡ true)
@@ -67,17 +69,25 @@ if_true b x y e = rw e refl
 if_false : {A : Type 0} (b : Bool) (x y : A) → b ≡ false → (if b then x else y) ≡ y
 if_false b x y e = rw e refl
 
-pub when_held : (deed : State → State) (s : State) → s.call_hold ≡ true → unless_held deed s ≡ s
-when_held deed s held = if_true s.call_hold s (deed s) held
+pub when_held : (deed : State → State) (s : State) → is_held s ≡ true → unless_held deed s ≡ s
+when_held deed s held = if_true (is_held s) s (deed s) held
 
-pub when_free : (deed : State → State) (s : State) → s.call_hold ≡ false → unless_held deed s ≡ deed s
-when_free deed s free = if_false s.call_hold s (deed s) free
+pub when_free : (deed : State → State) (s : State) → is_held s ≡ false → unless_held deed s ≡ deed s
+when_free deed s free = if_false (is_held s) s (deed s) free
+
+-- A call that holds the scheduler holds it.
+pub held_by_call : (s : State) → s.call_hold ≡ true → is_held s ≡ true
+held_by_call s held = rw held refl
+
+-- Where no call does, and no `suspend_all` is in force, nothing holds it.
+pub held_by_none : (s : State) → s.call_hold ≡ false → s.suspensions ≡ 0 → is_held s ≡ false
+held_by_none s free none = rw (free, none) refl
 
 -- where it isn't held
-pub settled-step : (app : Application) (handlers : List ℕ) (s : State) → (step app handlers s).call_hold ≡ false → IsSettled (step app handlers s)
+pub settled-step : (app : Application) (handlers : List ℕ) (s : State) → is_held (step app handlers s) ≡ false → IsSettled (step app handlers s)
 unfolding step
-settled-step app handlers s free = by_test t.call_hold
-    (λ held. let same : (unless_held settle t).call_hold ≡ t.call_hold = ap (λ (u : State). u.call_hold) (when_held settle t held) in absurd (cc))
+settled-step app handlers s free = by_test (is_held t)
+    (λ held. let same : is_held (unless_held settle t) ≡ is_held t = ap is_held (when_held settle t held) in absurd (cc))
     (λ none. subst IsSettled (sym (when_free settle t none)) (settled-settle t)) where
       t : State
       t = let r : State = before_step app handlers s in act_current app r.current r
@@ -86,6 +96,6 @@ pub settled-reset : (app : Application) → IsSettled (reset app)
 unfolding reset
 settled-reset app = choice_ready (ready_at_reset app)
 
-pub settled_after : (app : Application) (plan : List Point) (n : ℕ) → (state_after app plan n).call_hold ≡ false → IsSettled (state_after app plan n)
+pub settled_after : (app : Application) (plan : List Point) (n : ℕ) → is_held (state_after app plan n) ≡ false → IsSettled (state_after app plan n)
 settled_after app plan zero free = settled-reset app
 settled_after app plan (suc n) free = settled-step app (injected plan n) (state_after app plan n) free

@@ -12,7 +12,7 @@ use Rattle.model.specs.declared.event.Event.{Event}
 use Rattle.model.specs.declared.event.End as ending
 use Rattle.model.specs.Application.{Application, script_of, op_at, op_count}
 use Rattle.model.specs.Scripts.{may_stand, nesting_past, Nests, IsWellFormed}
-use Rattle.model.specs.State.{State, Task, Progress, Status, Wait, Ready, Awake, Waiting, Asleep, Ended, ticket_if_ready, wait_of, wait_if_awake, wake_time_of, no_call, task_at, progress_at, status_at, with_task, take_ticket, for_one, for_each, no_task}
+use Rattle.model.specs.State.{State, Task, Progress, Status, Wait, Ready, Awake, Waiting, Asleep, WaitingForBits, Suspended, Ended, ticket_if_ready, ticket_of, wait_of, wait_if_awake, wake_time_of, no_call, task_at, progress_at, status_at, with_task, take_ticket, for_one, for_each, no_task}
 use Rattle.model.specs.Order.{Entry, tasks_of}
 use Rattle.model.specs.Switching.{make_ready, to_back, dispatch, choose, choice, is_same, is_ready, yield_now, is_outranked, is_sharing, preempt, slice, settle, is_off, write}
 use Rattle.model.specs.Waiting.{is_locked}
@@ -33,6 +33,8 @@ later_reckoned now p (Ready n) h = omega arith
 later_reckoned now p (Awake w) h = omega arith
 later_reckoned now p (Waiting w) h = omega arith
 later_reckoned now p (Asleep w n) h = h
+later_reckoned now p (WaitingForBits g m d) h = omega arith
+later_reckoned now p Suspended h = tt
 later_reckoned now p Ended h = tt
 
 pub ready_reckoned : (now previous : ℕ) (u : Status) → IsReckoned now previous u → is_some (ticket_if_ready u) ≡ true → previous ≤ now
@@ -40,6 +42,8 @@ ready_reckoned now p (Ready n) h t = h
 ready_reckoned now p (Awake w) h t = h
 ready_reckoned now p (Waiting w) h t = h
 ready_reckoned now p (Asleep w n) h t = absurd (cc)
+ready_reckoned now p (WaitingForBits g m d) h t = absurd (cc)
+ready_reckoned now p Suspended h t = absurd (cc)
 ready_reckoned now p Ended h t = absurd (cc)
 
 reckoned_now : (now previous : ℕ) (u : Status) → previous ≤ now → wake_time_of u ≡ None → IsReckoned now previous u
@@ -47,20 +51,36 @@ reckoned_now now p (Ready n) h t = h
 reckoned_now now p (Awake w) h t = h
 reckoned_now now p (Waiting w) h t = h
 reckoned_now now p (Asleep w n) h t = absurd (cc)
+reckoned_now now p (WaitingForBits g m d) h t = h
+reckoned_now now p Suspended h t = tt
 reckoned_now now p Ended h t = tt
 
-reckoned_ended : (now previous : ℕ) (u : Status) → is_some (ticket_if_ready u) ≡ false → wake_time_of u ≡ None → wait_of u ≡ None → IsReckoned now previous u
-reckoned_ended now p (Ready n) h t f = absurd (cc)
-reckoned_ended now p (Awake w) h t f = absurd (cc)
-reckoned_ended now p (Waiting w) h t f = absurd (cc)
-reckoned_ended now p (Asleep w n) h t f = absurd (cc)
-reckoned_ended now p Ended h t f = tt
+-- one who isn't Ready, and has no other ticket either
+reckoned_ended : (now previous : ℕ) (u : Status) → is_some (ticket_if_ready u) ≡ false → is_some (ticket_of u) ≡ is_some (ticket_if_ready u) → IsReckoned now previous u
+reckoned_ended now p (Ready n) h t = absurd (cc)
+reckoned_ended now p (Awake w) h t = absurd (cc)
+reckoned_ended now p (Waiting w) h t = absurd (cc)
+reckoned_ended now p (Asleep w n) h t = absurd (cc)
+reckoned_ended now p (WaitingForBits g m d) h t = absurd (cc)
+reckoned_ended now p Suspended h t = tt
+reckoned_ended now p Ended h t = tt
+
+ready_alone : (u : Status) → is_some (ticket_if_ready u) ≡ true → is_some (ticket_of u) ≡ is_some (ticket_if_ready u)
+ready_alone (Ready n) t = refl
+ready_alone (Awake w) t = absurd (cc)
+ready_alone (Waiting w) t = absurd (cc)
+ready_alone (Asleep w n) t = absurd (cc)
+ready_alone (WaitingForBits g m d) t = absurd (cc)
+ready_alone Suspended t = absurd (cc)
+ready_alone Ended t = absurd (cc)
 
 pub ready_awake : (u : Status) → is_some (ticket_if_ready u) ≡ true → wake_time_of u ≡ None
 ready_awake (Ready n) t = refl
 ready_awake (Awake w) t = absurd (cc)
 ready_awake (Waiting w) t = absurd (cc)
 ready_awake (Asleep w n) t = absurd (cc)
+ready_awake (WaitingForBits g m d) t = absurd (cc)
+ready_awake Suspended t = absurd (cc)
 ready_awake Ended t = absurd (cc)
 
 pub ready_free : (u : Status) → is_some (ticket_if_ready u) ≡ true → wait_of u ≡ None
@@ -68,6 +88,8 @@ ready_free (Ready n) t = refl
 ready_free (Awake w) t = absurd (cc)
 ready_free (Waiting w) t = absurd (cc)
 ready_free (Asleep w n) t = absurd (cc)
+ready_free (WaitingForBits g m d) t = absurd (cc)
+ready_free Suspended t = absurd (cc)
 ready_free Ended t = absurd (cc)
 
 pub free_unwoken : (u : Status) → wait_of u ≡ None → wait_if_awake u ≡ None
@@ -75,6 +97,8 @@ free_unwoken (Ready n) e = refl
 free_unwoken (Awake w) e = absurd (cc)
 free_unwoken (Waiting w) e = absurd (cc)
 free_unwoken (Asleep w n) e = refl
+free_unwoken (WaitingForBits g m d) e = refl
+free_unwoken Suspended e = refl
 free_unwoken Ended e = refl
 
 due_reckoned : (now previous : ℕ) (u : Status) → IsReckoned now previous u → option_eq eqb (wake_time_of u) (Some now) ≡ true → previous ≤ now
@@ -82,6 +106,8 @@ due_reckoned now p (Ready n) h t = absurd (cc)
 due_reckoned now p (Awake w) h t = h
 due_reckoned now p (Waiting w) h t = h
 due_reckoned now p (Asleep w n) h t = let e = eqb-same w now t in omega arith
+due_reckoned now p (WaitingForBits g m d) h t = h
+due_reckoned now p Suspended h t = absurd (cc)
 due_reckoned now p Ended h t = absurd (cc)
 
 -- a task that may become Ready now
@@ -275,6 +301,19 @@ module _ (app : Application) (formed : IsWellFormed app) (hold : Hold) where
     time = omega arith;
   }
 
+  -- a tick that is held
+  pub held_up : (s : State) → IsSound app hold s → IsSound app hold (record s { elapsed = s.elapsed + 1; held_ticks = s.held_ticks + 1 })
+  held_up s h = let e = h.time in record {
+    table = record { tickets = h.table.tickets; few = h.table.few; current = h.table.current; holders = h.table.holders };
+    tasks = h.tasks;
+    objects = h.objects;
+    progress = h.progress;
+    calls = h.calls;
+    contents = h.contents;
+    priorities = h.priorities;
+    time = omega arith;
+  }
+
   -- The task of the state, which doesn't wait, is at an op, which does something and goes on.
   module _ (s : State) (i : ℕ) (h : IsSound app hold s) (free : wait_of (status_at s i) ≡ None) where
     ticket_kept : HasTicketBelow s.next_ticket (status_at s i)
@@ -372,13 +411,13 @@ module _ (app : Application) (formed : IsWellFormed app) (hold : Hold) where
       (record { nests = a.nests; loops = a.loops; used = a.used; reckoned = r }, record { phase = c.phase; wait = c.wait; awake = c.awake; near = c.near }, h.priorities i)
 
   -- One who has begun to sleep until a time may count from it.
-  reckoned_asleep : (s : State) (i wake_time : ℕ) → i < length s.tasks → wake_time_of (status_at s i) ≡ None → wait_of (status_at s i) ≡ None → IsReckoned (sleep i wake_time s).time wake_time (status_at (sleep i wake_time s) i)
+  reckoned_asleep : (s : State) (i wake_time : ℕ) → i < length s.tasks → is_some (ticket_of (status_at s i)) ≡ is_ready s i → IsReckoned (sleep i wake_time s).time wake_time (status_at (sleep i wake_time s) i)
   unfolding sleep
-  reckoned_asleep s i wake_time l awake free =
+  reckoned_asleep s i wake_time l same =
       let t : Task = record (task_at s i) { status = Asleep wake_time s.next_ticket } in
       by_test (is_ready s i)
       (λ u. rw (u, get_or-set_same s.tasks i t no_task l, status_at) (omega arith))
-      (λ u. rw u (reckoned_ended s.time wake_time (status_at s i) u awake free))
+      (λ u. rw u (reckoned_ended s.time wake_time (status_at s i) u same))
 
   still_task : (s : State) (i : ℕ) (a : Option ℕ) → i < length s.tasks → i < length (answer app i a s).tasks
   still_task s i a l = rw (keeps-answer app i a s).tasks l
@@ -396,9 +435,9 @@ module _ (app : Application) (formed : IsWellFormed app) (hold : Hold) where
     unfolding answering
     awake_answer t = rw (at_answer, status_at) (by_test (eqb ((progress_at s i).op_index + 1) (op_count app i)) (λ u. rw u refl) (λ u. rw u (ready_awake (status_at s i) t)))
 
-    free_answer : is_ready s i ≡ true → wait_of (status_at (answer app i a s) i) ≡ None
+    alone_answer : is_ready s i ≡ true → is_some (ticket_of (status_at (answer app i a s) i)) ≡ is_ready (answer app i a s) i
     unfolding answering
-    free_answer t = rw (at_answer, status_at) (by_test (eqb ((progress_at s i).op_index + 1) (op_count app i)) (λ u. rw u refl) (λ u. rw u (ready_free (status_at s i) t)))
+    alone_answer t = rw (at_answer, status_at) (by_test (eqb ((progress_at s i).op_index + 1) (op_count app i)) (λ u. rw u refl) (λ u. rw u (ready_alone (status_at s i) t)))
 
     previous_answer : (progress_at (answer app i a s) i).previous_wake ≡ (progress_at s i).previous_wake
     unfolding answering
@@ -427,7 +466,7 @@ module _ (app : Application) (formed : IsWellFormed app) (hold : Hold) where
       let there : i < length one.tasks = still_task s i (Some 1) l in
       let before : (progress_at one i).previous_wake ≡ (progress_at s i).previous_wake = previous_answer s i (Some 1) l in
       let asleep : IsSound app hold (sleep i time one) = slept one i time (answered s i (DelayUntil n) h free is (Some 1) refl) (λ _. omega arith) in
-      rw t (counted (sleep i time one) i time asleep (reckoned_asleep one i time there (awake_answer s i (Some 1) l ready) (free_answer s i (Some 1) l ready))))
+      rw t (counted (sleep i time one) i time asleep (reckoned_asleep one i time there (alone_answer s i (Some 1) l ready))))
       (λ t.
       let le : time ≤ (answer app i (Some 0) s).time = rw (keeps-answer app i (Some 0) s).time (ltb-false s.time time t) in
       rw t (counted _ i time (answered s i (DelayUntil n) h free is (Some 0) refl) (reckoned_now _ time _ le (awake_answer s i (Some 0) l ready))))

@@ -4,7 +4,7 @@ use Rattle.std.specs.List.{AllByRecursion, cons_option}
 use Rattle.std.specs.Option.{IfSome, is_some}
 use Rattle.std.specs.Prelude.{if◌then◌else◌}
 use Rattle.std.proofs.Math.ListN.{length-set}
-use Rattle.model.specs.State.{State, Task, Status, Ready, Awake, Waiting, Asleep, Ended, ticket_of, task_at, with_task, take_ticket, no_task}
+use Rattle.model.specs.State.{State, Task, Status, Ready, Awake, Waiting, Asleep, WaitingForBits, Suspended, Ended, ticket_of, task_at, with_task, take_ticket, no_task}
 use Rattle.model.specs.Order.{Key, key}
 use Rattle.model.specs.Switching.{ready_key, make_ready}
 use Rattle.model.specs.Time.{delayed_key}
@@ -19,6 +19,8 @@ ready_below n t (Ready m) b = (b, tt)
 ready_below n t (Awake w) b = tt
 ready_below n t (Waiting w) b = tt
 ready_below n t (Asleep w m) b = tt
+ready_below n t (WaitingForBits g m d) b = tt
+ready_below n t Suspended b = tt
 ready_below n t Ended b = tt
 
 until_below : (n : ℕ) (deadline : Option ℕ) (ticket : ℕ) → ticket < n → KeyBelow n (if is_some deadline then Some (key 0 ticket) else None)
@@ -30,6 +32,8 @@ delayed_below n t (Ready m) b = tt
 delayed_below n t (Awake w) b = until_below n w.deadline w.ticket b
 delayed_below n t (Waiting w) b = until_below n w.deadline w.ticket b
 delayed_below n t (Asleep w m) b = (b, tt)
+delayed_below n t (WaitingForBits g m d) b = until_below n d m b
+delayed_below n t Suspended b = tt
 delayed_below n t Ended b = tt
 
 pub below_ready : (n : ℕ) (ts : List Task) → AllTicketsBelow n ts → Below ready_key n ts

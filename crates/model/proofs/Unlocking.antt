@@ -6,7 +6,7 @@ use Rattle.std.specs.Option.{IfSome, option_and_then, is_some}
 use Rattle.std.proofs.Math.ListN.{length-set}
 use Rattle.model.specs.declared.call.WaitList.{WaitList}
 use Rattle.model.specs.declared.call.WaitList.TheVariants.{ToReceive, ToSend}
-use Rattle.model.specs.State.{State, Task, Status, Wait, Ready, Awake, Waiting, Asleep, Ended, ticket_if_ready, wait_if_awake, task_at, status_at, progress_at, for_each, no_task}
+use Rattle.model.specs.State.{State, Task, Status, Wait, Ready, Awake, Waiting, Asleep, WaitingForBits, Suspended, Ended, ticket_if_ready, wait_if_awake, task_at, status_at, progress_at, for_each, no_task}
 use Rattle.model.specs.Order.{Key, Entry, key, tasks_of}
 use Rattle.model.specs.Switching.{is_ready, make_ready}
 use Rattle.model.specs.Waiting.{same_list, wait_key, awakened, is_locked, unlock_object}
@@ -64,6 +64,8 @@ ready_not_woken (Ready n) t = refl
 ready_not_woken (Awake w) t = absurd (cc)
 ready_not_woken (Waiting w) t = refl
 ready_not_woken (Asleep v n) t = refl
+ready_not_woken (WaitingForBits g m d) t = refl
+ready_not_woken Suspended t = refl
 ready_not_woken Ended t = refl
 
 -- those whom the unlock of an object makes Ready
@@ -125,6 +127,8 @@ awake_reckoned list now p (Ready n) k e h = absurd (cc)
 awake_reckoned list now p (Awake w) k e h = h
 awake_reckoned list now p (Waiting w) k e h = absurd (cc)
 awake_reckoned list now p (Asleep v n) k e h = absurd (cc)
+awake_reckoned list now p (WaitingForBits g m d) k e h = absurd (cc)
+awake_reckoned list now p Suspended k e h = absurd (cc)
 awake_reckoned list now p Ended k e h = absurd (cc)
 
 -- those who are woken can be Ready

@@ -46,7 +46,7 @@ await app task object access ticks Try s = try app task object access s
 await app task object access ticks Decide s = decide task object access s
 await app task object access ticks Place s = go_on task Unlock s
 await app task object access ticks Unlock s = go_on task Leave (unlock s)
-await app task object access ticks Leave s = leave_call task s
+await app task object access ticks _ s = leave_call task s
 
 -- A call that does not wait is done if it is possible, and answers.
 unfoldable pub do_now : Application → ℕ → ℕ → Access → State → State

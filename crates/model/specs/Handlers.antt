@@ -42,4 +42,4 @@ interrupt app s = for_each (handle app) (interrupts_at app s.elapsed) s
 -- The tick interrupt: one tick comes, then its base interrupts, and then a switch if one is due (a port's
 -- `xPortSysTickHandler`).
 unfoldable pub tick_interrupt : Application → State → State
-tick_interrupt app s = slice (interrupt app (increment_tick s))
+tick_interrupt app s = unless_held slice (interrupt app (increment_tick s))

@@ -6,12 +6,12 @@ use Rattle.model.specs.declared.object.ObjectKind.TheVariants.{Queue, Semaphore,
 use Rattle.model.specs.declared.op.Op.{Op}
 use Rattle.model.specs.declared.op.Op.TheVariants.{Work, Await}
 use Rattle.model.specs.declared.call.Phase.{Phase}
-use Rattle.model.specs.declared.call.Phase.TheVariants.{Start, Try, Decide, Place, Unlock, Leave}
+use Rattle.model.specs.declared.call.Phase.TheVariants.{Start, Try, Decide, Place, Unlock, Leave, Final}
 use Rattle.model.specs.declared.call.WaitList.{WaitList}
 use Rattle.model.specs.declared.loops.Loop.{Loop}
 use Rattle.model.specs.Application.{Application, script_of, op_at}
 use Rattle.model.specs.Scripts.{Nests, priorities}
-use Rattle.model.specs.State.{State, Task, Progress, Object, Status, Wait, Asleep, Ended, wait_of, wait_if_awake, ticket_of, task_at, status_at, progress_at, call_at, object_at}
+use Rattle.model.specs.State.{State, Task, Progress, Object, Status, Wait, Asleep, Suspended, Ended, wait_of, wait_if_awake, ticket_of, task_at, status_at, progress_at, call_at, object_at}
 use Rattle.model.specs.Switching.{is_ready}
 use Rattle.model.specs.Waiting.{is_locked}
 use Rattle.model.specs.Objects.{list_for}
@@ -42,9 +42,11 @@ abbrev pub LoopsNest : List Op → List Loop → Type 0
 LoopsNest script [] = Unit {0}
 LoopsNest script (l ∷ ls) = Nests (length (l ∷ ls)) (drop l.start script) × LoopsNest script ls
 
--- The time from which a task's `delay_until` counts is not after now, and that of a sleeper not after the end of its sleep.
+-- The time from which a task's `delay_until` counts is not after now, and that of a sleeper not after the end of its sleep; a
+-- Suspended task will count anew.
 abbrev pub IsReckoned : ℕ → ℕ → Status → Type 0
 IsReckoned now previous_wake (Asleep wake_time ticket) = previous_wake ≤ wake_time
+IsReckoned now previous_wake Suspended = Unit {0}
 IsReckoned now previous_wake Ended = Unit {0}
 IsReckoned now previous_wake _ = previous_wake ≤ now
 
@@ -81,6 +83,7 @@ IsPhaseOf hold (Some object) Decide = Unit {0}
 IsPhaseOf hold (Some object) Place = (hold.held ≡ true) × (hold.locked ≡ Some object)
 IsPhaseOf hold (Some object) Unlock = (hold.held ≡ true) × (hold.locked ≡ Some object)
 IsPhaseOf hold (Some object) Leave = (hold.held ≡ true) × (hold.locked ≡ None)
+IsPhaseOf hold (Some object) Final = ⊥
 
 -- the list in which a task waits in this op
 abbrev pub list_of_op : Option Op → Option WaitList
@@ -123,8 +126,21 @@ pub record IsSound (app : Application) (hold : Hold) (s : State) : Type 0 where
   pub calls : (task : ℕ) → IsCall hold s.time (op_at app task (progress_at s task).op_index) (task_at s task)
   pub contents : (object : ℕ) → IsObject (slice_get app.objects object) (object_at s object)
   pub priorities : (task : ℕ) → HasPriority (task_at s task)
-  -- the time is the start and the elapsed ticks
-  pub time : s.time ≡ app.start + s.elapsed
+  -- the time and the held ticks are the start and the elapsed ticks
+  pub time : s.time + s.held_ticks ≡ app.start + s.elapsed
+
+-- how many `suspend_all` are in force, and how many ticks are held
+pub record Suspension : Type 0 where
+  pub suspensions : ℕ
+  pub held_ticks : ℕ
+
+-- those of a state
+abbrev pub suspension_of : State → Suspension
+suspension_of s = record { suspensions = s.suspensions; held_ticks = s.held_ticks }
+
+-- no `suspend_all` is in force
+abbrev pub unsuspended : Suspension
+unsuspended = record { suspensions = 0; held_ticks = 0 }
 
 -- In these phases a call holds the scheduler.
 abbrev pub holds : Phase → Bool
@@ -158,3 +174,5 @@ pub record IsState (app : Application) (s : State) : Type 0 where
   pub alone : (task : ℕ) → holds (call_at s task).phase ≡ true → s.current ≡ Some task
   -- what is locked is locked by a call that holds the scheduler
   pub locked : s.call_hold ≡ false → s.locked ≡ None
+  -- no `suspend_all` is in force, and no tick is held
+  pub unsuspended : suspension_of s ≡ unsuspended

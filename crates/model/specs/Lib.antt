@@ -9,6 +9,8 @@ pub mod Ops
 pub mod Mutexes
 pub mod Objects
 pub mod Calls
+pub mod Groups
+pub mod Suspension
 pub mod Handlers
 pub mod Step
 pub mod Run

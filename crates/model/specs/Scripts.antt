@@ -29,6 +29,10 @@ priorities = 32
 abbrev pub most_objects : ℕ
 most_objects = 32
 
+-- of event groups of an application
+abbrev pub most_groups : ℕ
+most_groups = 16
+
 -- of items of a queue
 abbrev pub most_items : ℕ
 most_items = 256

@@ -2,7 +2,7 @@
 --
 -- Every entry to the ready list and every beginning of a sleep or a wait takes the next ticket. Tickets say who came
 -- first; the code has none.
-use Rattle.std.specs.Prelude.{ℕ, ◌+◌, ◌%◌, Bool, false, List, Option, Some, None, [], slice_index_or, slice_set, fold}
+use Rattle.std.specs.Prelude.{ℕ, ◌+◌, ◌%◌, ◌==◌, if◌then◌else◌, Bool, false, List, Option, Some, None, [], slice_index_or, slice_set, fold}
 use Rattle.model.specs.declared.call.CallProgress.{CallProgress}
 use Rattle.model.specs.declared.call.Phase.{Phase}
 use Rattle.model.specs.declared.call.Phase.TheVariants.{Start}
@@ -13,7 +13,7 @@ use Rattle.model.specs.declared.event.End.{End}
 
 -- ---- a task's status
 
--- a wait: in which list, what orders the task there, and until when at most
+-- a wait at an object: in which list, what orders the task there, and until when at most
 pub record Wait : Type 0 where
   pub list : WaitList
   -- the task's priority when the wait began
@@ -27,7 +27,10 @@ pub data Status : Type 0 where
   -- woken through the locked queue, and Ready as soon as that is unlocked
   Awake : (wait : Wait) → Status
   Waiting : (wait : Wait) → Status
+  -- waiting for bits of an event group, until a deadline at most
+  WaitingForBits : (group ticket : ℕ) (deadline : Option ℕ) → Status
   Asleep : (wake_time ticket : ℕ) → Status
+  Suspended : Status
   Ended : Status
 
 -- the ticket of a Ready task
@@ -51,11 +54,17 @@ wait_of (Waiting wait) = Some wait
 wait_of (Awake wait) = Some wait
 wait_of _ = None
 
+-- the ticket of a task that waits for bits of this group
+abbrev pub ticket_if_for_bits : ℕ → Status → Option ℕ
+ticket_if_for_bits group (WaitingForBits other ticket deadline) = if other == group then Some ticket else None
+ticket_if_for_bits group _ = None
+
 -- the ticket that a task has
 abbrev pub ticket_of : Status → Option ℕ
 ticket_of (Ready ticket) = Some ticket
 ticket_of (Awake wait) = Some wait.ticket
 ticket_of (Waiting wait) = Some wait.ticket
+ticket_of (WaitingForBits group ticket deadline) = Some ticket
 ticket_of (Asleep wake_time ticket) = Some ticket
 ticket_of _ = None
 
@@ -64,6 +73,7 @@ abbrev pub wake_time_of : Status → Option ℕ
 wake_time_of (Asleep wake_time ticket) = Some wake_time
 wake_time_of (Waiting wait) = wait.deadline
 wake_time_of (Awake wait) = wait.deadline
+wake_time_of (WaitingForBits group ticket deadline) = deadline
 wake_time_of _ = None
 
 -- ---- tasks, objects, and the whole
@@ -108,17 +118,23 @@ pub record Object : Type 0 where
 pub record State : Type 0 where
   pub tasks : List Task
   pub objects : List Object
+  -- the bits of each event group, of those too that the application doesn't have
+  pub group_bits : List ℕ
   -- the time, without bound (`xTickCount`)
   pub time : ℕ
-  -- the ticks since reset
+  -- the ticks since reset, held ones too
   pub elapsed : ℕ
   -- the running task, or idle (`pxCurrentTCB`)
   pub current : Option ℕ
   pub next_ticket : ℕ
   -- the object that a call has locked
   pub locked : Option ℕ
-  -- whether a call holds the scheduler (`uxSchedulerSuspended`)
+  -- whether a call holds the scheduler (`uxSchedulerSuspended` counts this and the next)
   pub call_hold : Bool
+  -- how many `suspend_all` are in force
+  pub suspensions : ℕ
+  -- the ticks that came meanwhile, which are still to be applied (`xPendedTicks`)
+  pub held_ticks : ℕ
   -- the steps done
   pub steps : ℕ
   -- the end that a step has brought about by itself: a failed `expect`, or a misuse
@@ -130,7 +146,7 @@ pub record State : Type 0 where
 
 -- a call that has not begun
 abbrev pub no_call : CallProgress
-no_call = record { phase = Start; deadline = None; list = None; inherited = false }
+no_call = record { phase = Start; deadline = None; list = None; inherited = false; wants = None; kept = None }
 
 -- at the first op, of which nothing is done
 abbrev pub no_progress : Progress
@@ -192,6 +208,14 @@ object_at s object = slice_index_or s.objects object no_object
 -- The object is now as given.
 abbrev pub with_object : ℕ → Object → State → State
 with_object object o s = record s { objects = slice_set s.objects object o }
+
+-- the bits of this event group
+abbrev pub bits_at : State → ℕ → ℕ
+bits_at s group = slice_index_or s.group_bits group 0
+
+-- The event group's bits are now these.
+abbrev pub with_bits : ℕ → ℕ → State → State
+with_bits group bits s = record s { group_bits = slice_set s.group_bits group bits }
 
 -- A deed is done with this one, if there is one.
 abbrev pub for_one : {A : Type 0} → (A → State → State) → Option A → State → State

@@ -97,9 +97,13 @@ settle s = if is_off s s.current then choose s else s
 
 -- ---- the scheduler held
 
--- The scheduler is held (`uxSchedulerSuspended` above 0).
+-- A `suspend_all` is in force.
+abbrev pub is_scheduler_suspended : State → Bool
+is_scheduler_suspended s = nat_lt 0 s.suspensions
+
+-- A call holds the scheduler, or a `suspend_all` does (`uxSchedulerSuspended` above 0).
 abbrev pub is_held : State → Bool
-is_held s = s.call_hold
+is_held s = s.call_hold || is_scheduler_suspended s
 
 -- While the scheduler is held nothing switches (`vTaskSwitchContext` sets `xYieldPending` then).
 abbrev pub unless_held : (State → State) → State → State

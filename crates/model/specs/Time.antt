@@ -1,9 +1,9 @@
 -- Time passes: who wakes when, and how a task goes to sleep.
-use Rattle.std.specs.Prelude.{ℕ, ◌+◌, Bool, List, Option, Some, None, is_some, option_map, nat_eq, if◌then◌else◌, filter}
+use Rattle.std.specs.Prelude.{ℕ, zero, suc, ◌+◌, ◌-◌, Bool, List, Option, Some, None, is_some, option_map, nat_eq, if◌then◌else◌, filter}
 use Rattle.std.specs.Option.{option_eq}
 use Rattle.model.specs.State.{State, Task, Asleep, ticket_of, wake_time_of, status_at, progress_at, take_ticket, with_progress, for_each}
 use Rattle.model.specs.Order.{Key, Entry, key, list_by, tasks_of}
-use Rattle.model.specs.Switching.{is_ready, make_ready}
+use Rattle.model.specs.Switching.{is_ready, make_ready, is_scheduler_suspended}
 
 -- ---- who is due
 
@@ -34,9 +34,20 @@ wake_due s = for_each make_ready (tasks_of (due s)) s
 unfoldable pub advance : State → State
 advance s = wake_due (record s { time = s.time + 1 })
 
--- One tick comes, and time advances (`xTaskIncrementTick`).
+-- One tick comes: time advances, or else, while a `suspend_all` is in force, the tick is held (`xTaskIncrementTick`).
 unfoldable pub increment_tick : State → State
-increment_tick s = advance (record s { elapsed = s.elapsed + 1 })
+increment_tick s =
+    let t : State = record s { elapsed = s.elapsed + 1 } in
+    if is_scheduler_suspended s then record t { held_ticks = s.held_ticks + 1 } else advance t
+
+-- A tick that was held is applied.
+unfoldable pub apply_one : State → State
+apply_one s = advance (record s { held_ticks = s.held_ticks - 1 })
+
+-- So many are, one after another (in `xTaskResumeAll`).
+abbrev pub apply_held : ℕ → State → State
+apply_held zero s = s
+apply_held (suc n) s = apply_held n (apply_one s)
 
 -- ---- sleep
 

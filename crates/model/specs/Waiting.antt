@@ -1,4 +1,4 @@
--- Tasks that wait: how a wait begins, and how a task is woken.
+-- Tasks that wait at an object: how a wait begins, and how a task is woken.
 use Rattle.std.specs.Prelude.{ℕ, ◌+◌, ◌==◌, Bool, false, List, ◌++◌, Option, Some, None, nat_le, if◌then◌else◌, option_map, option_and_then, unwrap_or}
 use Rattle.model.specs.declared.call.CallProgress.{CallProgress}
 use Rattle.model.specs.declared.call.Phase.{Phase}

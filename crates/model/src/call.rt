@@ -18,9 +18,22 @@ pub enum Phase {
     Unlock,
     /// The scheduler is held no more.
     Leave,
+    /// A wait for bits is over, and answers.
+    Final,
 }
 
-/// A list in which tasks wait.
+/// For which bits of an event group a task waits (`xEventGroupWaitBits`).
+#[derive(Clone, Copy, Debug, PartialEq, Eq)]
+pub struct Condition {
+    /// The bits, 1 to 16,777,215.
+    pub mask: u32,
+    /// Whether all of them must be set, or any.
+    pub all: bool,
+    /// Whether they are cleared when it is met (`xClearOnExit`).
+    pub clear: bool,
+}
+
+/// A list in which tasks wait at an object.
 #[derive(Clone, Copy, Debug, PartialEq, Eq)]
 pub enum WaitList {
     /// For an item, a count or a mutex (`xTasksWaitingToReceive`).
@@ -40,4 +53,8 @@ pub struct CallProgress {
     pub list: Option<WaitList>,
     /// Whether its last wait has inherited: the mutex was held by another task, of lower base priority.
     pub inherited: bool,
+    /// For which bits of an event group it waits.
+    pub wants: Option<Condition>,
+    /// The answer that is kept for it: bits of an event group.
+    pub kept: Option<u32>,
 }

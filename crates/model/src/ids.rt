@@ -1,4 +1,4 @@
-//! Typed numbers: which task, which handler, which object.
+//! Typed numbers: which task, which handler, which object, which event group.
 ghost use Rattle.std.specs.Prelude.{◌≡◌, ◌<◌, ◌↔◌, IsSome, IfSome};
 
 use std::marker::Model;
@@ -108,6 +108,39 @@ impl ObjectId {
     {
         if number < 32 {
             Some(ObjectId { number })
+        } else {
+            None
+        }
+    }
+}
+
+/// An event group, by its index in the file: 0 to 15.
+#[derive(Clone, Copy, Debug, PartialEq, Eq)]
+pub struct GroupId {
+    pub number: u8,
+}
+
+// Clauses see the number.
+impl Model for GroupId {
+    ghost use Rattle.std.specs.Prelude.{ℕ, ◌<◌};
+
+    ghost Value = { ℕ };
+
+    ghost view = { λ group. group.number };
+
+    ghost invariant = { λ group. group.number < 16 };
+
+    ghost inverse = { λ number. record { number = number } };
+}
+
+impl GroupId {
+    /// The event group of this index; `None` from 16 on.
+    pub fn new(number: u8) -> Option<Self>
+        ensures known { IsSome result ↔ (number < 16) }
+        ensures value { IfSome result (λ group. group ≡ number) }
+    {
+        if number < 16 {
+            Some(GroupId { number })
         } else {
             None
         }

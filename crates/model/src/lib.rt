@@ -15,9 +15,9 @@ mod run;
 mod script;
 
 pub use app::{App, HandlerDefinition, Interrupt, TaskDefinition};
-pub use call::{CallProgress, Phase, WaitList};
+pub use call::{CallProgress, Condition, Phase, WaitList};
 pub use event::{End, Event, Misuse, What};
-pub use ids::{HandlerId, ObjectId, TaskId};
+pub use ids::{GroupId, HandlerId, ObjectId, TaskId};
 pub use limits::{Limits, Meter};
 pub use loops::Loop;
 pub use object::ObjectKind;

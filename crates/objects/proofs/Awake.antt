@@ -9,9 +9,9 @@ use Rattle.model.specs.declared.op.IsrOp.{IsrOp}
 use Rattle.model.specs.declared.op.IsrOp.TheVariants as isr_op
 use Rattle.model.specs.declared.event.What.TheVariants as what
 use Rattle.model.specs.Application.{Application, interrupts_at, ops_of}
-use Rattle.model.specs.State.{State, Object, Status, Task, Wait, Ready, Awake, Waiting, Asleep, Ended, no_task, wait_if_awake, wait_if_waiting, status_at, task_at, object_at, with_object, go_on, for_one, for_each}
+use Rattle.model.specs.State.{State, Object, Status, Task, Wait, Ready, Awake, Waiting, Asleep, WaitingForBits, Suspended, Ended, no_task, wait_if_awake, wait_if_waiting, status_at, task_at, object_at, with_object, go_on, for_one, for_each}
 use Rattle.model.specs.Order.{Entry, Key, first, task_of, tasks_of}
-use Rattle.model.specs.Switching.{make_ready, slice, write}
+use Rattle.model.specs.Switching.{make_ready, slice, write, is_scheduler_suspended, unless_held}
 use Rattle.model.specs.Time.{advance, due, increment_tick, wake_due}
 use Rattle.model.specs.Handlers.{handle, interrupt, isr, isr_each, isr_told, tick_interrupt}
 use Rattle.model.specs.Objects.{answer_to, attempt, fulfil, list_for, list_woken, object_after, possible}
@@ -28,7 +28,7 @@ use Rattle.objects.specs.WaitersStand.{AtLocked, Decider}
 use Rattle.objects.specs.Queues.{SameWaits}
 use Rattle.objects.proofs.Deciding.{others_as_before, waits_now}
 use Rattle.objects.proofs.Keys.{same_list-true, waiting_key}
-use Rattle.objects.proofs.Kept.{same_go_on, same_slice, same_write}
+use Rattle.objects.proofs.Kept.{same_go_on, same_slice, same_unless_held, same_write}
 
 -- a wait of the locked object, if it is one
 abbrev WokenAt : Option ℕ → Option Wait → Type 0
@@ -85,6 +85,8 @@ woken_at locked list k (Waiting w) shown e = by_test (same_list w.list list)
     (λ t. ap (is_locked locked) (same_list-true w.list list t) ∙ shown)
     (λ t. let f = rw t at e in absurd cc)
 woken_at locked list k (Asleep m n) shown e = absurd cc
+woken_at locked list k (WaitingForBits g m d) shown e = absurd cc
+woken_at locked list k Suspended shown e = absurd cc
 woken_at locked list k Ended shown e = absurd cc
 
 at_locked-woken_first : (d : Option Decider) (list : WaitList) (s : State) (es : List Entry) → AllByRecursion (HasKey (waiting_key list) s.tasks) es → AtLocked d s → AtLocked d (for_one (λ task. wake_one task list) (task_of (first es)) s)
@@ -132,13 +134,22 @@ at_locked-handles : (d : Option Decider) (app : Application) (handlers : List �
 at_locked-handles d app [] s h = h
 at_locked-handles d app (handler ∷ handlers) s h = at_locked-handles d app handlers (handle app handler s) (at_locked-handle d app handler s h)
 
+pub at_locked-wake_due : (d : Option Decider) (s : State) → AtLocked d s → AtLocked d (wake_due s)
+unfolding wake_due
+at_locked-wake_due d s h = at_locked-all_ready d (tasks_of (due s)) s h
+
+pub at_locked-increment : (d : Option Decider) (s : State) → AtLocked d s → AtLocked d (increment_tick s)
+unfolding increment_tick advance
+at_locked-increment d s h = by_test (is_scheduler_suspended s)
+    (λ t. rw t (record { awake = h.awake; to_place = h.to_place }))
+    (λ t. rw t (at_locked-wake_due d (record s { time = s.time + 1; elapsed = s.elapsed + 1 }) (record { awake = h.awake; to_place = h.to_place })))
+
 pub at_locked-tick : (d : Option Decider) (app : Application) (s : State) → AtLocked d s → AtLocked d (tick_interrupt app s)
-unfolding tick_interrupt interrupt increment_tick advance wake_due
+unfolding tick_interrupt interrupt
 at_locked-tick d app s h =
-    let later : State = record s { time = s.time + 1; elapsed = s.elapsed + 1 } in
-    let woken : State = for_each make_ready (tasks_of (due later)) later in
-    let told : State = for_each (handle app) (interrupts_at app woken.elapsed) woken in
-    at_locked_same d told (slice told) (same_slice told) (at_locked-handles d app (interrupts_at app woken.elapsed) woken (at_locked-all_ready d (tasks_of (due later)) later (record { awake = h.awake; to_place = h.to_place })))
+    let come : State = increment_tick s in
+    let told : State = for_each (handle app) (interrupts_at app come.elapsed) come in
+    at_locked_same d told (unless_held slice told) (same_unless_held slice told same_slice) (at_locked-handles d app (interrupts_at app come.elapsed) come (at_locked-increment d s h))
 
 -- ---- a decision, and an unlock
 

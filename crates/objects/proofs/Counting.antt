@@ -6,7 +6,7 @@ use Rattle.std.proofs.lemmas.Bool.{ltb-false}
 use Rattle.std.proofs.lemmas.List.{get_or-set_same, get_or-set_other}
 use Rattle.model.specs.declared.call.WaitList.{WaitList}
 use Rattle.model.specs.declared.call.WaitList.TheVariants.{ToReceive, ToSend}
-use Rattle.model.specs.State.{State, Status, Ready, Awake, Waiting, Asleep, Ended, Task, Wait, no_task, wait_of, wait_if_awake, wait_if_waiting, task_at, status_at, for_one}
+use Rattle.model.specs.State.{State, Status, Ready, Awake, Waiting, Asleep, WaitingForBits, Suspended, Ended, Task, Wait, no_task, wait_of, wait_if_awake, wait_if_waiting, task_at, status_at, for_one}
 use Rattle.model.specs.Order.{Key, Entry, entry, first, in_order, keyed, list_by, put, before, task_of}
 use Rattle.model.specs.Switching.{is_same}
 use Rattle.model.specs.Waiting.{awaken, awake_status, is_locked, same_list, wait_key, waiters, wake_best, wake_one}
@@ -103,6 +103,8 @@ waits_stands q k (Ready n) h = absurd (cc)
 waits_stands q k (Awake w) h = absurd (cc)
 waits_stands q k (Waiting w) h = h
 waits_stands q k (Asleep m b) h = absurd (cc)
+waits_stands q k (WaitingForBits g m d) h = absurd (cc)
+waits_stands q k Suspended h = absurd (cc)
 waits_stands q k Ended h = absurd (cc)
 
 key_elsewhere : (q p : WaitList) (k : Key) (w : Wait) → wait_key q w ≡ Some k → same_list q p ≡ false → wait_key p w ≡ None
@@ -117,6 +119,8 @@ stands_once q p k (Ready n) h e = refl
 stands_once q p k (Awake w) h e = key_elsewhere q p k w h e
 stands_once q p k (Waiting w) h e = key_elsewhere q p k w h e
 stands_once q p k (Asleep m b) h e = refl
+stands_once q p k (WaitingForBits g m d) h e = refl
+stands_once q p k Suspended h e = refl
 stands_once q p k Ended h e = refl
 
 awakes : (list : WaitList) (k : Key) (u : Status) → option_and_then (wait_key list) (wait_of u) ≡ Some k → is_some (wait_if_awake (awake_status u)) ≡ true
@@ -124,6 +128,8 @@ awakes q k (Ready n) h = absurd (cc)
 awakes q k (Awake w) h = refl
 awakes q k (Waiting w) h = refl
 awakes q k (Asleep m b) h = absurd (cc)
+awakes q k (WaitingForBits g m d) h = absurd (cc)
+awakes q k Suspended h = absurd (cc)
 awakes q k Ended h = absurd (cc)
 
 -- The best waiter is Awake: one more of its list, and of any other list as many.

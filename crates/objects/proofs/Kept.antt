@@ -12,7 +12,7 @@ use Rattle.model.specs.declared.event.What.{What}
 use Rattle.model.specs.Application.{Application, op_count}
 use Rattle.model.specs.State.{State, Task, Progress, Status, Ready, Asleep, no_task, wait_of, wait_if_awake, task_at, status_at, progress_at, call_at, with_task, with_call, with_progress, go_on, take_ticket, for_one}
 use Rattle.model.specs.Order.{Key, Entry, in_order, keyed}
-use Rattle.model.specs.Switching.{make_ready, to_back, dispatch, choose, choice, is_same, is_ready, yield_now, is_outranked, is_sharing, preempt, slice, settle, unless_held, is_off, write}
+use Rattle.model.specs.Switching.{make_ready, to_back, dispatch, choose, choice, is_same, is_ready, yield_now, is_outranked, is_sharing, preempt, slice, settle, unless_held, is_off, write, is_held}
 use Rattle.model.specs.Time.{sleep, set_previous_wake}
 use Rattle.model.specs.Waiting.{end_hold, set_deadline}
 use Rattle.model.specs.Calls.{leave_call}
@@ -127,7 +127,7 @@ unfolding settle
 same_settle s = by_test (is_off s s.current) (λ t. rw t (same_choose s)) (λ t. rw t (same s))
 
 pub same_unless_held : (deed : State → State) (s : State) → ((t : State) → SameWaits t (deed t)) → SameWaits s (unless_held deed s)
-same_unless_held deed s k = by_test s.call_hold
+same_unless_held deed s k = by_test (is_held s)
     (λ t. subst (SameWaits s) (sym (when_held deed s t)) (same s))
     (λ t. subst (SameWaits s) (sym (when_free deed s t)) (k s))
 

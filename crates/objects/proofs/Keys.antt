@@ -4,7 +4,7 @@ use Rattle.std.specs.List.{AllByRecursion, cons_option}
 use Rattle.std.specs.Option.{IfSome, option_and_then, option_map}
 use Rattle.model.specs.declared.call.WaitList.{WaitList}
 use Rattle.model.specs.declared.call.WaitList.TheVariants.{ToReceive, ToSend}
-use Rattle.model.specs.State.{State, Status, Ready, Awake, Waiting, Asleep, Ended, Task, Wait, no_task, wait_of, wait_if_waiting, wait_if_awake, ticket_of, status_at}
+use Rattle.model.specs.State.{State, Status, Ready, Awake, Waiting, Asleep, WaitingForBits, Suspended, Ended, Task, Wait, no_task, wait_of, wait_if_waiting, wait_if_awake, ticket_of, status_at}
 use Rattle.model.specs.Order.{Key, Entry, entry, in_order, keyed}
 use Rattle.model.specs.Waiting.{same_list, wait_key, waiters, is_locked, awake_status}
 use Rattle.model.specs.Invariant.{AllTicketsBelow, HasTicketBelow}
@@ -54,6 +54,8 @@ standing_below n list (Ready m) h = tt
 standing_below n list (Awake w) h = key_below n list w h
 standing_below n list (Waiting w) h = key_below n list w h
 standing_below n list (Asleep m b) h = tt
+standing_below n list (WaitingForBits g m d) h = tt
+standing_below n list Suspended h = tt
 standing_below n list Ended h = tt
 
 pub below_standing : (n : ℕ) (list : WaitList) (ts : List Task) → AllTicketsBelow n ts → Below (standing_key list) n ts
@@ -66,6 +68,8 @@ wait_of-awake (Ready m) = refl
 wait_of-awake (Awake w) = refl
 wait_of-awake (Waiting w) = refl
 wait_of-awake (Asleep m b) = refl
+wait_of-awake (WaitingForBits g m d) = refl
+wait_of-awake Suspended = refl
 wait_of-awake Ended = refl
 
 pub ticket_of-awake : (u : Status) → ticket_of (awake_status u) ≡ ticket_of u
@@ -73,6 +77,8 @@ ticket_of-awake (Ready m) = refl
 ticket_of-awake (Awake w) = refl
 ticket_of-awake (Waiting w) = refl
 ticket_of-awake (Asleep m b) = refl
+ticket_of-awake (WaitingForBits g m d) = refl
+ticket_of-awake Suspended = refl
 ticket_of-awake Ended = refl
 
 -- where an object isn't locked, all who stand there wait
@@ -90,6 +96,8 @@ waiting_same s list (Ready m) shut h = refl
 waiting_same s list (Awake w) shut h = sym (locked_key s list w shut h)
 waiting_same s list (Waiting w) shut h = refl
 waiting_same s list (Asleep m b) shut h = refl
+waiting_same s list (WaitingForBits g m d) shut h = refl
+waiting_same s list Suspended shut h = refl
 waiting_same s list Ended shut h = refl
 
 keyed_same : (f g : Task → Option Key) (o : ℕ) (ts : List Task) → ((i : ℕ) → i < length ts → f (get_or ts i no_task) ≡ g (get_or ts i no_task)) → keyed f o ts ≡ keyed g o ts

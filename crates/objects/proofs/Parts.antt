@@ -3,7 +3,7 @@ use Rattle.std.proofs.Common.{◌≡◌, ℕ, ◌+◌, zero, suc, Bool, not, con
 use Rattle.std.specs.List.{cons_option, filter}
 use Rattle.std.specs.Option.{is_some, option_and_then, option_map}
 use Rattle.model.specs.declared.call.WaitList.{WaitList}
-use Rattle.model.specs.State.{State, Status, Ready, Awake, Waiting, Asleep, Ended, Task, no_task, wait_of, wait_if_waiting, wait_if_awake}
+use Rattle.model.specs.State.{State, Status, Ready, Awake, Waiting, Asleep, WaitingForBits, Suspended, Ended, Task, no_task, wait_of, wait_if_waiting, wait_if_awake}
 use Rattle.model.specs.Order.{Key, Entry, entry, in_order, keyed, list_by, tasks_of}
 use Rattle.model.specs.Waiting.{awakened, wait_key, waiters}
 use Rattle.model.proofs.Sorting.{Falls-in_order, by_test, filter-put}
@@ -52,6 +52,8 @@ awake-part list (Ready m) = refl
 awake-part list (Awake w) = refl
 awake-part list (Waiting w) = refl
 awake-part list (Asleep m b) = refl
+awake-part list (WaitingForBits g m d) = refl
+awake-part list Suspended = refl
 awake-part list Ended = refl
 
 waiting-part : (list : WaitList) (u : Status) → option_and_then (wait_key list) (wait_if_waiting u) ≡ cond (not (is_some (wait_if_awake u))) (option_and_then (wait_key list) (wait_of u)) None
@@ -59,6 +61,8 @@ waiting-part list (Ready m) = refl
 waiting-part list (Awake w) = refl
 waiting-part list (Waiting w) = refl
 waiting-part list (Asleep m b) = refl
+waiting-part list (WaitingForBits g m d) = refl
+waiting-part list Suspended = refl
 waiting-part list Ended = refl
 
 filter-awake : (s : State) (k : ℕ) (es : List Entry) → FirstAwake s k es → filter (λ e. is_awake s e.task) es ≡ take k es

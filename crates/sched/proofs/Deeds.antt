@@ -1,5 +1,5 @@
 -- What the calls make of the lists, and of the schedule that they spell.
-use Rattle.std.proofs.Common.{◌≡◌, ◌≢◌, ℕ, ◌<◌, inl, inr, true, false, Option, List, [], ◌∷◌, ◌++◌, length, map, set, sym, ◌∙◌, ap, arith}
+use Rattle.std.proofs.Common.{◌≡◌, ◌≢◌, ℕ, ◌<◌, inl, inr, Bool, true, false, Option, List, [], ◌∷◌, ◌++◌, length, map, set, sym, ◌∙◌, ap, arith}
 use Rattle.std.proofs.lemmas.Bool.{cases_eq}
 use Rattle.lists.specs.Lists.{IsSound, entries_of, has_node, without}
 use Rattle.lists.proofs.Entries.{has_node-without_it, has_node-without_other}
@@ -31,8 +31,8 @@ sched_block {lists} {pending} {priorities} {base} {depth} h task sound = record 
   calm = λ free. ap (without_task task) (h.calm free);
 }
 
-pub schedule_block : (lists : List (List (ℕ × ℕ))) (pending : List ℕ) (current : Option ℕ) (priorities base : List ℕ) (depth task : ℕ) → schedule_of (map (without task) lists) (without_task task pending) current priorities base depth ≡ block task (schedule_of lists pending current priorities base depth)
-schedule_block lists pending current priorities base depth task = ap (with_ready (schedule_of lists (without_task task pending) current priorities base depth)) (ready_list_of-without task lists)
+pub schedule_block : (lists : List (List (ℕ × ℕ))) (pending : List ℕ) (current : Option ℕ) (priorities base : List ℕ) (depth : ℕ) (suspended : List Bool) (task : ℕ) → schedule_of (map (without task) lists) (without_task task pending) current priorities base depth suspended ≡ block task (schedule_of lists pending current priorities base depth suspended)
+schedule_block lists pending current priorities base depth suspended task = ap (with_ready (schedule_of lists (without_task task pending) current priorities base depth suspended)) (ready_list_of-without task lists)
 
 -- a task is made Ready, in the list of its priority
 
@@ -58,8 +58,8 @@ sched_push {lists} {pending} {priorities} {base} {depth} h task p is below free 
   calm = h.calm;
 }
 
-pub schedule_push : {lists : List (List (ℕ × ℕ))} {priorities : List ℕ} → AreByPriority lists priorities → (pending : List ℕ) (current : Option ℕ) (base : List ℕ) (depth task p : ℕ) → p ≡ priority_in priorities task → p < length lists → schedule_of (push task p lists) pending current priorities base depth ≡ make_ready task (schedule_of lists pending current priorities base depth)
-schedule_push {lists} {priorities} h pending current base depth task p is below = ap (with_ready (schedule_of lists pending current priorities base depth)) (ready_push h task p is below)
+pub schedule_push : {lists : List (List (ℕ × ℕ))} {priorities : List ℕ} → AreByPriority lists priorities → (pending : List ℕ) (current : Option ℕ) (base : List ℕ) (depth : ℕ) (suspended : List Bool) (task p : ℕ) → p ≡ priority_in priorities task → p < length lists → schedule_of (push task p lists) pending current priorities base depth suspended ≡ make_ready task (schedule_of lists pending current priorities base depth suspended)
+schedule_push {lists} {priorities} h pending current base depth suspended task p is below = ap (with_ready (schedule_of lists pending current priorities base depth suspended)) (ready_push h task p is below)
 
 -- a task is pending
 
@@ -90,8 +90,8 @@ module _ {lists : List (List (ℕ × ℕ))} {priorities : List ℕ} (h : AreByPr
   ready_moved : ready_list_of (push task p (map (without task) lists)) ≡ add_to_ready_list (task, priority_in priorities task) (without task (ready_list_of lists))
   ready_moved = ready_push left task p is below ∙ ap (add_to_ready_list (task, priority_in priorities task)) (ready_list_of-without task lists)
 
-  pub schedule_moved : (pending : List ℕ) (current : Option ℕ) (base : List ℕ) (depth : ℕ) → schedule_of (push task p (map (without task) lists)) pending current priorities base depth ≡ to_back task (schedule_of lists pending current priorities base depth)
-  schedule_moved pending current base depth = rw listed (ap (with_ready (schedule_of lists pending current priorities base depth)) ready_moved)
+  pub schedule_moved : (pending : List ℕ) (current : Option ℕ) (base : List ℕ) (depth : ℕ) (suspended : List Bool) → schedule_of (push task p (map (without task) lists)) pending current priorities base depth suspended ≡ to_back task (schedule_of lists pending current priorities base depth suspended)
+  schedule_moved pending current base depth suspended = rw listed (ap (with_ready (schedule_of lists pending current priorities base depth suspended)) ready_moved)
 
   pub sched_moved : {pending base : List ℕ} {depth : ℕ} → IsSched lists pending priorities base depth → IsSound 32 32 (push task p (map (without task) lists)) → IsSched (push task p (map (without task) lists)) pending priorities base depth
   sched_moved {pending} {base} {depth} all after = record {

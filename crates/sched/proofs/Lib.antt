@@ -4,4 +4,5 @@ pub mod LinedUp
 pub mod OneList
 pub mod ReadyList
 pub mod Standing
+pub mod Suspending
 pub mod Turning

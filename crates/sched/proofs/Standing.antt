@@ -4,16 +4,18 @@ use Rattle.std.specs.Prelude.{◌==◌, ◌||◌, ◌&&◌, nat_lt, nat_eq, if�
 use Rattle.std.specs.List.{AllByRecursion, filter, list_any}
 use Rattle.std.specs.Option.{IfSome, is_some, option_map}
 use Rattle.std.proofs.Math.ListN.{length-set}
-use Rattle.std.proofs.lemmas.Bool.{cases_eq, ltb-false, ltb-true}
+use Rattle.std.proofs.lemmas.Bool.{cases_eq, lt-ltb, ltb-false, ltb-true}
 use Rattle.std.proofs.lemmas.List.{get_or-set_other, get_or-set_same, set-set}
 use Rattle.model.specs.declared.call.CallProgress.{CallProgress}
 use Rattle.model.specs.declared.call.WaitList.{WaitList}
 use Rattle.model.specs.Waiting.{wait_in}
-use Rattle.model.specs.State.{State, Status, Task, Ready, Awake, Waiting, Asleep, Ended, no_task, task_at, progress_at, call_at, with_task, with_call, take_ticket, ticket_if_ready, for_one}
+use Rattle.model.specs.Groups.{wait_for_bits}
+use Rattle.model.specs.Suspension.{can_resume}
+use Rattle.model.specs.State.{State, Status, Task, Ready, Awake, Waiting, Asleep, WaitingForBits, Suspended, Ended, no_task, task_at, status_at, progress_at, call_at, with_task, with_call, take_ticket, ticket_if_ready, for_one}
 use Rattle.model.specs.Order.{Entry, entry, first, key, keyed, list_by, put, task_of}
-use Rattle.model.specs.Switching.{choice, choose, dispatch, is_above, is_beside, is_outranked, is_ready, is_same, is_sharing, make_ready, preempt, ready_key, ready_list, slice, to_back, yield_now}
+use Rattle.model.specs.Switching.{choice, choose, dispatch, is_above, is_beside, is_held, is_outranked, is_ready, is_same, is_sharing, make_ready, preempt, ready_key, ready_list, slice, to_back, yield_now}
 use Rattle.model.specs.Mutexes.{set_priority}
-use Rattle.model.specs.Invariant.{IsTable}
+use Rattle.model.specs.Invariant.{HasTicketBelow, IsTable}
 use Rattle.model.proofs.Sorting.{All-filtered, Falls, Falls-in_order, IsAfter, before_false, before_true, by_test}
 use Rattle.model.proofs.Lists.{list-entered, list-gone, list-kept, list_below, other}
 use Rattle.model.proofs.Members.{has_task, has_task-key, has_task-none}
@@ -24,8 +26,8 @@ use Rattle.model.proofs.Sound.{each-set}
 use Rattle.lists.specs.Lists.{Each, first_of, has_node, without}
 use Rattle.lists.proofs.Entries.{apart_from_test, has_node-without_other, without-apart}
 use Rattle.sched.specs.Schedule as mine
-use Rattle.sched.specs.Schedule.{IsCalm, Schedule, add_to_ready_list, lined_up, priority_in}
-use Rattle.sched.specs.StandsFor.{DoesFree, StandsFor, StandsBefore, with_priorities}
+use Rattle.sched.specs.Schedule.{IsCalm, Schedule, add_to_ready_list, is_suspended, lined_up, priority_in}
+use Rattle.sched.specs.StandsFor.{DoesFree, StandsFor, StandsBefore, depth_of, with_priorities}
 use Rattle.sched.proofs.ReadyList.{none_of}
 use Rattle.sched.proofs.LinedUp.{IsFalling, has_node-added, line_up-append, line_up-falling, line_up-under, lined_up-block, lined_up_calm, without-added}
 
@@ -40,7 +42,7 @@ with_priorities-put e (x ∷ xs) h =
     (λ t. let lt = ltb-true x.key.priority e.key.priority t in rw (before_true e.key x.key (record { high = omega arith; early = λ le. absurd (omega arith) }), t) refl)
     (λ t. let le = ltb-false x.key.priority e.key.priority t in rw (before_false e.key x.key (record { low = le; late = λ ge. omega arith }), t) (ap (λ (l : List (ℕ × ℕ)). (x.task, x.key.priority) ∷ l) (with_priorities-put e xs h.1)))
 
-with_priorities-filter : (i : ℕ) (xs : List Entry) → with_priorities (filter (other i) xs) ≡ without i (with_priorities xs)
+pub with_priorities-filter : (i : ℕ) (xs : List Entry) → with_priorities (filter (other i) xs) ≡ without i (with_priorities xs)
 with_priorities-filter i [] = refl
 with_priorities-filter i (x ∷ xs) = by_test (eqb x.task i) (λ t. rw t (with_priorities-filter i xs)) (λ t. rw t (ap (λ (l : List (ℕ × ℕ)). (x.task, x.key.priority) ∷ l) (with_priorities-filter i xs)))
 
@@ -58,7 +60,7 @@ ready_list-make_ready : (s : State) (i : ℕ) → IsTable s → i < length s.tas
 ready_list-make_ready s i h l = ready_list-entered s (make_ready i s) i (task_at s i).priority (record (task_at s i) { status = Ready s.next_ticket }) h l refl refl
 
 -- these are each task's numbers still, where the task that changes keeps its own
-numbers_kept : (number : Task → ℕ) (ns : List ℕ) (s new : State) (i : ℕ) (t : Task) → ((j : ℕ) → priority_in ns j ≡ number (task_at s j)) → new.tasks ≡ set s.tasks i t → number t ≡ number (task_at s i) → (j : ℕ) → priority_in ns j ≡ number (task_at new j)
+pub numbers_kept : (number : Task → ℕ) (ns : List ℕ) (s new : State) (i : ℕ) (t : Task) → ((j : ℕ) → priority_in ns j ≡ number (task_at s j)) → new.tasks ≡ set s.tasks i t → number t ≡ number (task_at s i) → (j : ℕ) → priority_in ns j ≡ number (task_at new j)
 numbers_kept number ns s new i t h is same =
     subst (λ (ts : List Task). (j : ℕ) → priority_in ns j ≡ number (get_or ts j no_task)) (sym is)
     (each-set no_task (λ j u. priority_in ns j ≡ number u) s.tasks i t (h i ∙ sym same) h)
@@ -67,9 +69,36 @@ numbers_kept number ns s new i t h is same =
 numbers_readied : (number : Task → ℕ) (ns : List ℕ) (s : State) (i : ℕ) → ((j : ℕ) → priority_in ns j ≡ number (task_at s j)) → number (record (task_at s i) { status = Ready s.next_ticket }) ≡ number (task_at s i) → (j : ℕ) → priority_in ns j ≡ number (task_at (make_ready i s) j)
 numbers_readied number ns s i h same = numbers_kept number ns s (make_ready i s) i (record (task_at s i) { status = Ready s.next_ticket }) h refl same
 
--- a task goes to the back, from wherever it was, where nobody is pending
-stands_back : (v : Schedule) (s : State) (i : ℕ) → v.pending ≡ [] → StandsFor v s → i < length s.tasks → StandsFor (mine.make_ready i (record v { ready = without i v.ready })) (make_ready i s)
-stands_back v s i none h l = record {
+-- these say still who is suspended, where the task that changes is it as before
+suspended_kept : (f : ℕ → Bool) (s new : State) (i : ℕ) (t : Task) → ((j : ℕ) → f j ≡ can_resume (status_at s j)) → new.tasks ≡ set s.tasks i t → can_resume t.status ≡ can_resume (status_at s i) → (j : ℕ) → f j ≡ can_resume (status_at new j)
+suspended_kept f s new i t h is same =
+    subst (λ (ts : List Task). (j : ℕ) → f j ≡ can_resume (get_or ts j no_task).status) (sym is)
+    (each-set no_task (λ j u. f j ≡ can_resume u.status) s.tasks i t (h i ∙ sym same) h)
+
+-- and these, where they are changed with it
+pub suspended_changed : (f g : ℕ → Bool) (s new : State) (i : ℕ) (t : Task) → ((j : ℕ) → f j ≡ can_resume (status_at s j)) → ((j : ℕ) → j ≢ i → g j ≡ f j) → g i ≡ can_resume t.status → i < length s.tasks → new.tasks ≡ set s.tasks i t → (j : ℕ) → g j ≡ can_resume (status_at new j)
+suspended_changed f g s new i t h others own l is j =
+    let at : can_resume (status_at new j) ≡ can_resume (get_or (set s.tasks i t) j no_task).status = ap (λ (ts : List Task). can_resume (get_or ts j no_task).status) is in
+    elim (cases_eq j i) [
+      | inl here ↦
+          ap g here ∙ own ∙ sym (ap (λ (u : Task). can_resume u.status) (get_or-set_same s.tasks i t no_task l))
+          ∙ sym (at ∙ ap (λ (k : ℕ). can_resume (get_or (set s.tasks i t) k no_task).status) here)
+      | inr apart ↦ others j apart ∙ h j ∙ sym (at ∙ ap (λ (u : Task). can_resume u.status) (get_or-set_other s.tasks i j t no_task apart))
+    ]
+
+-- a Ready task isn't suspended
+pub ready_unsuspended : (u : Status) → is_some (ticket_if_ready u) ≡ true → can_resume u ≡ false
+ready_unsuspended (Ready n) t = refl
+ready_unsuspended (Awake w) t = absurd cc
+ready_unsuspended (Waiting w) t = absurd cc
+ready_unsuspended (Asleep m n) t = absurd cc
+ready_unsuspended (WaitingForBits g m d) t = absurd cc
+ready_unsuspended Suspended t = absurd cc
+ready_unsuspended Ended t = absurd cc
+
+-- a task goes to the back, from wherever it was, where nobody is pending and it isn't suspended
+stands_back : (v : Schedule) (s : State) (i : ℕ) → v.pending ≡ [] → StandsFor v s → i < length s.tasks → can_resume (status_at s i) ≡ false → StandsFor (mine.make_ready i (record v { ready = without i v.ready })) (make_ready i s)
+stands_back v s i none h l awake = record {
   ready =
       lined_up_calm (mine.make_ready i (record v { ready = without i v.ready })) none
       ∙ ap (λ (p : ℕ). add_to_ready_list (i, p) (without i v.ready)) (h.priorities i)
@@ -79,32 +108,45 @@ stands_back v s i none h l = record {
   priorities = numbers_readied (λ (t : Task). t.priority) v.priorities s i h.priorities refl;
   base_priorities = numbers_readied (λ (t : Task). t.base_priority) v.base_priorities s i h.base_priorities refl;
   depth = h.depth;
+  suspended = suspended_kept (is_suspended v) s (make_ready i s) i (record (task_at s i) { status = Ready s.next_ticket }) h.suspended refl (sym awake);
   table = table-make_ready s i h.table;
 }
 
 -- ---- a task that isn't Ready becomes so: it goes behind its equals among those lined up
 
--- in the schedule w, which is v but for its lists
-record Adds (i : ℕ) (v w : Schedule) : Type 0 where
+-- in the schedule w, which is v but for its lists, and for the task, which isn't suspended
+pub record Adds (i : ℕ) (v w : Schedule) : Type 0 where
   pub ready : lined_up w ≡ add_to_ready_list (i, priority_in v.priorities i) (lined_up v)
   pub current : w.current ≡ v.current
   pub priorities : w.priorities ≡ v.priorities
   pub base_priorities : w.base_priorities ≡ v.base_priorities
   pub depth : w.depth ≡ v.depth
+  pub others : (j : ℕ) → j ≢ i → is_suspended w j ≡ is_suspended v j
+  pub awake : is_suspended w i ≡ false
 
-adds_made_ready : (v : Schedule) (i : ℕ) → v.pending ≡ [] → Adds i v (mine.make_ready i v)
-adds_made_ready v i none = record {
+pub adds_made_ready : (v : Schedule) (i : ℕ) → v.pending ≡ [] → is_suspended v i ≡ false → Adds i v (mine.make_ready i v)
+adds_made_ready v i none awake = record {
   ready = lined_up_calm (mine.make_ready i v) none ∙ ap (add_to_ready_list (i, priority_in v.priorities i)) (sym (lined_up_calm v none));
   current = refl;
   priorities = refl;
   base_priorities = refl;
   depth = refl;
+  others = λ j ne. refl;
+  awake = awake;
 }
 
-adds_pended : (v : Schedule) (i : ℕ) → Adds i v (mine.pend_ready i v)
-adds_pended v i = record { ready = line_up-append v.pending i v.priorities v.ready; current = refl; priorities = refl; base_priorities = refl; depth = refl }
+pub adds_pended : (v : Schedule) (i : ℕ) → is_suspended v i ≡ false → Adds i v (mine.pend_ready i v)
+adds_pended v i awake = record {
+  ready = line_up-append v.pending i v.priorities v.ready;
+  current = refl;
+  priorities = refl;
+  base_priorities = refl;
+  depth = refl;
+  others = λ j ne. refl;
+  awake = awake;
+}
 
-stands_added : (v w : Schedule) (s : State) (i : ℕ) → Adds i v w → StandsFor v s → i < length s.tasks → mine.is_ready v i ≡ false → StandsFor w (make_ready i s)
+pub stands_added : (v w : Schedule) (s : State) (i : ℕ) → Adds i v w → StandsFor v s → i < length s.tasks → mine.is_ready v i ≡ false → StandsFor w (make_ready i s)
 stands_added v w s i adds h l free = record {
   ready =
       adds.ready
@@ -115,11 +157,12 @@ stands_added v w s i adds h l free = record {
   priorities = λ j. ap (λ (ps : List ℕ). priority_in ps j) adds.priorities ∙ numbers_readied (λ (t : Task). t.priority) v.priorities s i h.priorities refl j;
   base_priorities = λ j. ap (λ (ps : List ℕ). priority_in ps j) adds.base_priorities ∙ numbers_readied (λ (t : Task). t.base_priority) v.base_priorities s i h.base_priorities refl j;
   depth = adds.depth ∙ h.depth;
+  suspended = suspended_changed (is_suspended v) (is_suspended w) s (make_ready i s) i (record (task_at s i) { status = Ready s.next_ticket }) h.suspended adds.others adds.awake l refl;
   table = table-make_ready s i h.table;
 }
 
 -- while another is still to be placed
-placing_added : (v w : Schedule) (s : State) (decider i : ℕ) → Adds i v w → has_node decider w.ready ≡ true → IsFalling v.ready → StandsBefore decider v s → decider ≢ i → i < length s.tasks → mine.is_ready v i ≡ false → StandsBefore decider w (make_ready i s)
+pub placing_added : (v w : Schedule) (s : State) (decider i : ℕ) → Adds i v w → has_node decider w.ready ≡ true → IsFalling v.ready → StandsBefore decider v s → decider ≢ i → i < length s.tasks → mine.is_ready v i ≡ false → StandsBefore decider w (make_ready i s)
 placing_added v w s decider i adds still falling h ne l free =
     let left = without decider (lined_up v) in
     let out : has_node i left ≡ false = has_node-without_other decider i (lined_up v) (λ same. ne (sym same)) ∙ free in
@@ -135,24 +178,25 @@ placing_added v w s decider i adds still falling h ne l free =
       priorities = λ j. ap (λ (ps : List ℕ). priority_in ps j) adds.priorities ∙ numbers_readied (λ (t : Task). t.priority) v.priorities s i h.priorities refl j;
       base_priorities = λ j. ap (λ (ps : List ℕ). priority_in ps j) adds.base_priorities ∙ numbers_readied (λ (t : Task). t.base_priority) v.base_priorities s i h.base_priorities refl j;
       depth = adds.depth ∙ h.depth;
+      suspended = suspended_changed (is_suspended v) (is_suspended w) s (make_ready i s) i (record (task_at s i) { status = Ready s.next_ticket }) h.suspended adds.others adds.awake l refl;
       table = table-make_ready s i h.table;
     }
 
 -- it goes to its ready list, where nobody is pending
-pub stands_made_ready : (v : Schedule) (s : State) (i : ℕ) → v.pending ≡ [] → StandsFor v s → i < length s.tasks → mine.is_ready v i ≡ false → StandsFor (mine.make_ready i v) (make_ready i s)
-stands_made_ready v s i none h l free = stands_added v (mine.make_ready i v) s i (adds_made_ready v i none) h l free
+pub stands_made_ready : (v : Schedule) (s : State) (i : ℕ) → v.pending ≡ [] → StandsFor v s → i < length s.tasks → can_resume (status_at s i) ≡ false → mine.is_ready v i ≡ false → StandsFor (mine.make_ready i v) (make_ready i s)
+stands_made_ready v s i none h l awake free = stands_added v (mine.make_ready i v) s i (adds_made_ready v i none (h.suspended i ∙ awake)) h l free
 
-pub placing_made_ready : (v : Schedule) (s : State) (decider i : ℕ) → v.pending ≡ [] → IsFalling v.ready → StandsBefore decider v s → decider ≢ i → i < length s.tasks → mine.is_ready v i ≡ false → StandsBefore decider (mine.make_ready i v) (make_ready i s)
-placing_made_ready v s decider i none falling h ne l free =
+pub placing_made_ready : (v : Schedule) (s : State) (decider i : ℕ) → v.pending ≡ [] → IsFalling v.ready → StandsBefore decider v s → decider ≢ i → i < length s.tasks → can_resume (status_at s i) ≡ false → mine.is_ready v i ≡ false → StandsBefore decider (mine.make_ready i v) (make_ready i s)
+placing_made_ready v s decider i none falling h ne l awake free =
     let still : has_node decider (mine.make_ready i v).ready ≡ true = has_node-added decider (i, priority_in v.priorities i) v.ready (λ same. ne (sym same)) ∙ h.still in
-    placing_added v (mine.make_ready i v) s decider i (adds_made_ready v i none) still falling h ne l free
+    placing_added v (mine.make_ready i v) s decider i (adds_made_ready v i none (h.suspended i ∙ awake)) still falling h ne l free
 
 -- it is pending
-pub stands_pended : (v : Schedule) (s : State) (i : ℕ) → StandsFor v s → i < length s.tasks → mine.is_ready v i ≡ false → StandsFor (mine.pend_ready i v) (make_ready i s)
-stands_pended v s i h l free = stands_added v (mine.pend_ready i v) s i (adds_pended v i) h l free
+pub stands_pended : (v : Schedule) (s : State) (i : ℕ) → StandsFor v s → i < length s.tasks → can_resume (status_at s i) ≡ false → mine.is_ready v i ≡ false → StandsFor (mine.pend_ready i v) (make_ready i s)
+stands_pended v s i h l awake free = stands_added v (mine.pend_ready i v) s i (adds_pended v i (h.suspended i ∙ awake)) h l free
 
-pub placing_pended : (v : Schedule) (s : State) (decider i : ℕ) → IsFalling v.ready → StandsBefore decider v s → decider ≢ i → i < length s.tasks → mine.is_ready v i ≡ false → StandsBefore decider (mine.pend_ready i v) (make_ready i s)
-placing_pended v s decider i falling h ne l free = placing_added v (mine.pend_ready i v) s decider i (adds_pended v i) h.still falling h ne l free
+pub placing_pended : (v : Schedule) (s : State) (decider i : ℕ) → IsFalling v.ready → StandsBefore decider v s → decider ≢ i → i < length s.tasks → can_resume (status_at s i) ≡ false → mine.is_ready v i ≡ false → StandsBefore decider (mine.pend_ready i v) (make_ready i s)
+placing_pended v s decider i falling h ne l awake free = placing_added v (mine.pend_ready i v) s decider i (adds_pended v i (h.suspended i ∙ awake)) h.still falling h ne l free
 
 -- whether a task is Ready
 
@@ -168,12 +212,17 @@ ready_at s i p (Ready n) ep eu = has_task-key ready_key refl i (key p n) s.tasks
 ready_at s i p (Awake w) ep eu = has_task-none ready_key i s.tasks (ready_key_of ep eu)
 ready_at s i p (Waiting w) ep eu = has_task-none ready_key i s.tasks (ready_key_of ep eu)
 ready_at s i p (Asleep w n) ep eu = has_task-none ready_key i s.tasks (ready_key_of ep eu)
+ready_at s i p (WaitingForBits g m d) ep eu = has_task-none ready_key i s.tasks (ready_key_of ep eu)
+ready_at s i p Suspended ep eu = has_task-none ready_key i s.tasks (ready_key_of ep eu)
 ready_at s i p Ended ep eu = has_task-none ready_key i s.tasks (ready_key_of ep eu)
+
+-- a task is in the ready list where it is Ready
+pub ready_in_list : (s : State) (i : ℕ) → has_task i (ready_list s) ≡ is_ready s i
+ready_in_list s i = ready_at s i (task_at s i).priority (task_at s i).status refl refl
 
 pub ready_same : (v : Schedule) (s : State) (i : ℕ) → StandsFor v s → mine.is_ready v i ≡ is_ready s i
 ready_same v s i h =
-    ap (has_node i) h.ready ∙ has_node-with_priorities i (ready_list s)
-    ∙ ready_at s i (task_at s i).priority (task_at s i).status refl refl
+    ap (has_node i) h.ready ∙ has_node-with_priorities i (ready_list s) ∙ ready_in_list s i
 
 -- whether a Ready task is above the running one, or beside it, where nobody is pending
 
@@ -210,13 +259,14 @@ unfolding choose dispatch
 stands_chosen v s none h =
     let is : first_of v.ready ≡ choice s = ap first_of (sym (lined_up_calm v none) ∙ h.ready) ∙ first_task (ready_list s) in
     by_test (is_same (choice s) s.current)
-    (λ t. rw t (record { ready = h.ready; current = is ∙ same_eq (choice s) s.current t; priorities = h.priorities; base_priorities = h.base_priorities; depth = h.depth; table = h.table }))
+    (λ t. rw t (record { ready = h.ready; current = is ∙ same_eq (choice s) s.current t; priorities = h.priorities; base_priorities = h.base_priorities; depth = h.depth; suspended = h.suspended; table = h.table }))
     (λ t. rw t (record {
       ready = h.ready;
       current = is;
       priorities = h.priorities;
       base_priorities = h.base_priorities;
       depth = h.depth;
+      suspended = h.suspended;
       table = record { tickets = h.table.tickets; few = h.table.few; current = choice_within s; holders = h.table.holders };
     }))
 
@@ -228,7 +278,7 @@ one_back v s None none h within = h
 one_back v s (Some task) none h within =
     let same : has_node task v.ready ≡ is_ready s task = ap (has_node task) (sym (lined_up_calm v none)) ∙ ready_same v s task h in
     by_test (is_ready s task)
-    (λ t. let u = same ∙ t in rw (t, u) (stands_back v s task none h within))
+    (λ t. let u = same ∙ t in rw (t, u) (stands_back v s task none h within (ready_unsuspended (status_at s task) t)))
     (λ t. let u = same ∙ t in rw (t, u) h)
 
 pending_kept : (v : Schedule) (o : Option ℕ) → (mine.for_one mine.to_back o v).pending ≡ v.pending
@@ -248,11 +298,21 @@ yielded_if v s b c same none h = by_test c
     (λ t. let u = same ∙ t in rw (t, u) (stands_yielded v s none h))
     (λ t. let u = same ∙ t in rw (t, u) h)
 
+-- the scheduler is held where it is held at least once
+pub held_by_depth : (s : State) → is_held s ≡ nat_lt 0 (depth_of s)
+held_by_depth s = either s.call_hold s.suspensions where
+  either : (b : Bool) (n : ℕ) → (b || nat_lt 0 n) ≡ nat_lt 0 (n + (if b then 1 else 0))
+  either true n = sym (lt-ltb 0 (n + 1) (omega arith))
+  either false n = ap (nat_lt 0) (let same : n ≡ n + 0 = omega arith in same)
+
+pub free_depth : (s : State) → is_held s ≡ false → depth_of s ≡ 0
+free_depth s free = let le = ltb-false 0 (depth_of s) (sym (held_by_depth s) ∙ free) in omega (arith, le)
+
 -- the deeds, as the contracts name them
 
 does : {old new : Schedule} {next : Schedule → Schedule} (deed : State → State) → ((v : Schedule) (s : State) → v.pending ≡ [] → StandsFor v s → StandsFor (next v) (deed s)) → IsCalm old → new ≡ next old → DoesFree old new deed
 does {old} {new} {next} deed stands calm is = λ s h free.
-    let none : old.pending ≡ [] = calm (h.depth ∙ ap (λ b. if b then 1 else 0) free) in
+    let none : old.pending ≡ [] = calm (h.depth ∙ free_depth s free) in
     subst (λ (v : Schedule). StandsFor v (deed s)) (sym is) (stands old s none h)
 
 pub does_choose : {old new : Schedule} → IsCalm old → new ≡ mine.choose old → DoesFree old new choose
@@ -279,19 +339,20 @@ falling_with_priorities (e ∷ es) h = (each es h.0, falling_with_priorities es 
   each (f ∷ fs) k = (k.0.low, each fs k.1)
 
 -- the tasks in the ready lists are in order, as the lined up ones are
-falling_ready : (v : Schedule) (s : State) → StandsFor v s → IsFalling v.ready
+pub falling_ready : (v : Schedule) (s : State) → StandsFor v s → IsFalling v.ready
 falling_ready v s h = line_up-under v.pending v.priorities v.ready (subst IsFalling (sym h.ready) (falling_with_priorities (ready_list s) (Falls-in_order (keyed ready_key 0 s.tasks))))
 
 -- it is Ready no more
-pub stands_blocked : (v : Schedule) (s new : State) (i : ℕ) (t : Task) → StandsFor v s → i < length s.tasks → new.tasks ≡ set s.tasks i t → new.current ≡ s.current → new.call_hold ≡ s.call_hold → ready_key t ≡ None → t.priority ≡ (task_at s i).priority → t.base_priority ≡ (task_at s i).base_priority → IsTable new → StandsFor (mine.block i v) new
-stands_blocked v s new i t h l is current held none same same_base table = record {
+pub stands_blocked : (v : Schedule) (s new : State) (i : ℕ) (t : Task) → StandsFor v s → i < length s.tasks → new.tasks ≡ set s.tasks i t → new.current ≡ s.current → depth_of new ≡ depth_of s → ready_key t ≡ None → t.priority ≡ (task_at s i).priority → t.base_priority ≡ (task_at s i).base_priority → IsTable new → can_resume t.status ≡ can_resume (status_at s i) → StandsFor (mine.block i v) new
+stands_blocked v s new i t h l is current held none same same_base table alike = record {
   ready =
       lined_up-block i v (falling_ready v s h) ∙ ap (without i) h.ready ∙ sym (with_priorities-filter i (ready_list s))
       ∙ sym (ap with_priorities (ap (list_by ready_key) is ∙ list-gone ready_key i t s.tasks l none));
   current = h.current ∙ sym current;
   priorities = numbers_kept (λ (u : Task). u.priority) v.priorities s new i t h.priorities is same;
   base_priorities = numbers_kept (λ (u : Task). u.base_priority) v.base_priorities s new i t h.base_priorities is same_base;
-  depth = h.depth ∙ sym (ap (λ b. if b then 1 else 0) held);
+  depth = h.depth ∙ sym held;
+  suspended = suspended_kept (is_suspended v) s new i t h.suspended is alike;
   table = table;
 }
 
@@ -299,13 +360,14 @@ list_kept : (s new : State) (i : ℕ) (t : Task) → new.tasks ≡ set s.tasks i
 list_kept s new i t is key_same = sym (ap with_priorities (ap (list_by ready_key) is ∙ list-kept ready_key i t s.tasks key_same))
 
 -- it keeps its key
-pub stands_kept : (v : Schedule) (s new : State) (i : ℕ) (t : Task) → StandsFor v s → i < length s.tasks → new.tasks ≡ set s.tasks i t → new.current ≡ s.current → new.call_hold ≡ s.call_hold → ready_key t ≡ ready_key (task_at s i) → t.priority ≡ (task_at s i).priority → t.base_priority ≡ (task_at s i).base_priority → IsTable new → StandsFor v new
-stands_kept v s new i t h l is current held key_same same same_base table = record {
+pub stands_kept : (v : Schedule) (s new : State) (i : ℕ) (t : Task) → StandsFor v s → i < length s.tasks → new.tasks ≡ set s.tasks i t → new.current ≡ s.current → depth_of new ≡ depth_of s → ready_key t ≡ ready_key (task_at s i) → t.priority ≡ (task_at s i).priority → t.base_priority ≡ (task_at s i).base_priority → IsTable new → can_resume t.status ≡ can_resume (status_at s i) → StandsFor v new
+stands_kept v s new i t h l is current held key_same same same_base table alike = record {
   ready = h.ready ∙ list_kept s new i t is key_same;
   current = h.current ∙ sym current;
   priorities = numbers_kept (λ (u : Task). u.priority) v.priorities s new i t h.priorities is same;
   base_priorities = numbers_kept (λ (u : Task). u.base_priority) v.base_priorities s new i t h.base_priorities is same_base;
-  depth = h.depth ∙ sym (ap (λ b. if b then 1 else 0) held);
+  depth = h.depth ∙ sym held;
+  suspended = suspended_kept (is_suspended v) s new i t h.suspended is alike;
   table = table;
 }
 
@@ -319,8 +381,8 @@ priority_changed ps s new i p t h lp ls is has j =
     ])
 
 -- a Ready one goes behind its new equals
-stands_moved : (v : Schedule) (s : State) (i p : ℕ) → v.pending ≡ [] → StandsFor v s → i < length s.tasks → i < length v.priorities → StandsFor (mine.make_ready i (record v { ready = without i v.ready; priorities = set v.priorities i p })) (make_ready i (with_task i (record (task_at s i) { priority = p }) s))
-stands_moved v s i p none h l known =
+stands_moved : (v : Schedule) (s : State) (i p : ℕ) → v.pending ≡ [] → StandsFor v s → i < length s.tasks → i < length v.priorities → is_ready s i ≡ true → StandsFor (mine.make_ready i (record v { ready = without i v.ready; priorities = set v.priorities i p })) (make_ready i (with_task i (record (task_at s i) { priority = p }) s))
+stands_moved v s i p none h l known on =
     let u : Task = record (task_at s i) { priority = p } in
     let ranked : State = with_task i u s in
     let at : task_at ranked i ≡ u = get_or-set_same s.tasks i u no_task l in
@@ -337,6 +399,7 @@ stands_moved v s i p none h l known =
       priorities = priority_changed v.priorities s new i p w h.priorities known l is (ap (λ (x : Task). x.priority) at);
       base_priorities = numbers_kept (λ (x : Task). x.base_priority) v.base_priorities s new i w h.base_priorities is (ap (λ (x : Task). x.base_priority) at);
       depth = h.depth;
+      suspended = suspended_kept (is_suspended v) s new i w h.suspended is (sym (ready_unsuspended (status_at s i) on));
       table = table-make_ready ranked i (table-set s i u h.table (ticket_at s.next_ticket i s.tasks h.table.tickets));
     }
 
@@ -356,6 +419,7 @@ stands_ranked v s i p none h l known off =
       priorities = priority_changed v.priorities s new i p u h.priorities known l refl refl;
       base_priorities = numbers_kept (λ (x : Task). x.base_priority) v.base_priorities s new i u h.base_priorities refl refl;
       depth = h.depth;
+      suspended = suspended_kept (is_suspended v) s new i u h.suspended refl refl;
       table = table-set s i u h.table (ticket_at s.next_ticket i s.tasks h.table.tickets);
     }
 
@@ -369,7 +433,7 @@ stands_prioritised v s i p none h l known =
     (λ t. let e : eqb (priority_in v.priorities i) p ≡ true = ap (λ (n : ℕ). eqb n p) (h.priorities i) ∙ t in rw (t, e) h)
     (λ t. let e : eqb (priority_in v.priorities i) p ≡ false = ap (λ (n : ℕ). eqb n p) (h.priorities i) ∙ t in
     by_test (is_ready s i)
-    (λ on. let a = listed ∙ on in let b = still ∙ on in rw (t, e, a, b) (stands_moved v s i p none h l known))
+    (λ on. let a = listed ∙ on in let b = still ∙ on in rw (t, e, a, b) (stands_moved v s i p none h l known on))
     (λ off. let a = listed ∙ off in let b = still ∙ off in rw (t, e, a, b) (stands_ranked v s i p none h l known off)))
 
 pub does_set_priority : {old new : Schedule} (i p : ℕ) → IsCalm old → old.depth ≡ 0 → i < length old.priorities → new ≡ mine.set_priority i p old → (s : State) → StandsFor old s → i < length s.tasks → StandsFor new (set_priority i p s)
@@ -377,21 +441,16 @@ does_set_priority {old} {new} i p calm free known is = λ s h l. subst (λ (v : 
 
 -- a task that waits already leaves the Ready tasks
 pub stands_placed : (v : Schedule) (s : State) (i : ℕ) → IsFalling v.ready → StandsBefore i v s → StandsFor (mine.block i v) s
-stands_placed v s i falling h = record { ready = lined_up-block i v falling ∙ h.ready; current = h.current; priorities = h.priorities; base_priorities = h.base_priorities; depth = h.depth; table = h.table }
+stands_placed v s i falling h = record { ready = lined_up-block i v falling ∙ h.ready; current = h.current; priorities = h.priorities; base_priorities = h.base_priorities; depth = h.depth; suspended = h.suspended; table = h.table }
 
 -- A Ready task begins to wait while nobody is pending, and stays in its ready list until it is placed.
-pub stands_waiting : (v : Schedule) (s : State) (i : ℕ) (list : WaitList) → v.pending ≡ [] → StandsFor v s → i < length s.tasks → is_ready s i ≡ true → StandsBefore i v (wait_in i list s)
-unfolding wait_in
-stands_waiting v s i list none h l ready =
-    let call : CallProgress = record (call_at s i) { list = Some list } in
-    let u : Task = record (task_at s i) { progress = record (progress_at s i) { call = call } } in
-    let s1 : State = with_call i call s in
-    let table1 : IsTable s1 = table-set s i u h.table (ticket_at s.next_ticket i s.tasks h.table.tickets) in
-    let h1 : StandsFor v s1 = stands_kept v s s1 i u h l refl refl refl refl refl refl table1 in
-    let status : ℕ → Status = λ ticket. Waiting (record { list = list; priority = (task_at s i).priority; ticket = ticket; deadline = (call_at s i).deadline }) in
-    let w : Task = record (task_at s1 i) { status = status s1.next_ticket } in
-    let table2 : IsTable (take_ticket i status s1) = table-taken s1 i status table1 (omega arith) in
-    let b : StandsFor (mine.block i v) (take_ticket i status s1) = stands_blocked v s1 (take_ticket i status s1) i w h1 (rw length-set l) refl refl refl refl refl refl table2 in
+stands_begun : (v : Schedule) (s : State) (i : ℕ) (status : ℕ → Status) → v.pending ≡ [] → StandsFor v s → i < length s.tasks → is_ready s i ≡ true → HasTicketBelow (s.next_ticket + 1) (status s.next_ticket)
+    → ticket_if_ready (status s.next_ticket) ≡ None → can_resume (status s.next_ticket) ≡ false → StandsBefore i v (take_ticket i status s)
+stands_begun v s i status none h l ready below unready awake =
+    let w : Task = record (task_at s i) { status = status s.next_ticket } in
+    let table : IsTable (take_ticket i status s) = table-taken s i status h.table below in
+    let keyless : ready_key w ≡ None = ap (λ (o : Option ℕ). option_map (key (task_at s i).priority) o) unready in
+    let b : StandsFor (mine.block i v) (take_ticket i status s) = stands_blocked v s (take_ticket i status s) i w h l refl refl refl keyless refl refl table (awake ∙ sym (ready_unsuspended (status_at s i) ready)) in
     record {
       ready = sym (lined_up-block i v (falling_ready v s h)) ∙ b.ready;
       still = ap (has_node i) (sym (lined_up_calm v none)) ∙ ready_same v s i h ∙ ready;
@@ -399,31 +458,60 @@ stands_waiting v s i list none h l ready =
       priorities = b.priorities;
       base_priorities = b.base_priorities;
       depth = b.depth;
-      table = table2;
+      suspended = b.suspended;
+      table = table;
     }
 
+-- at an object
+pub stands_waiting : (v : Schedule) (s : State) (i : ℕ) (list : WaitList) → v.pending ≡ [] → StandsFor v s → i < length s.tasks → is_ready s i ≡ true → StandsBefore i v (wait_in i list s)
+unfolding wait_in
+stands_waiting v s i list none h l ready =
+    let call : CallProgress = record (call_at s i) { list = Some list } in
+    let u : Task = record (task_at s i) { progress = record (progress_at s i) { call = call } } in
+    let s1 : State = with_call i call s in
+    let table : IsTable s1 = table-set s i u h.table (ticket_at s.next_ticket i s.tasks h.table.tickets) in
+    let h1 : StandsFor v s1 = stands_kept v s s1 i u h l refl refl refl refl refl refl table refl in
+    let ready1 : is_ready s1 i ≡ true = ap (λ (x : Task). is_some (ticket_if_ready x.status)) (get_or-set_same s.tasks i u no_task l) ∙ ready in
+    let priority : ℕ = (task_at s i).priority in
+    let deadline : Option ℕ = (call_at s i).deadline in
+    stands_begun v s1 i (λ ticket. Waiting (record { list = list; priority = priority; ticket = ticket; deadline = deadline })) none h1 (rw length-set l) ready1 (omega arith) refl refl
+
+-- and for bits
+pub stands_waiting_bits : (v : Schedule) (s : State) (i group : ℕ) → v.pending ≡ [] → StandsFor v s → i < length s.tasks → is_ready s i ≡ true → StandsBefore i v (wait_for_bits i group s)
+unfolding wait_for_bits
+stands_waiting_bits v s i group none h l ready =
+    let deadline : Option ℕ = (call_at s i).deadline in
+    stands_begun v s i (λ ticket. WaitingForBits group ticket deadline) none h l ready (omega arith) refl refl
+
 -- A task that is still to be placed, or another, keeps its key.
-pub stands_before_kept : (v : Schedule) (s new : State) (i j : ℕ) (t : Task) → StandsBefore i v s → j < length s.tasks → new.tasks ≡ set s.tasks j t → new.current ≡ s.current → new.call_hold ≡ s.call_hold → ready_key t ≡ ready_key (task_at s j) → t.priority ≡ (task_at s j).priority → t.base_priority ≡ (task_at s j).base_priority → IsTable new → StandsBefore i v new
-stands_before_kept v s new i j t h l is current held key_same same same_base table = record {
+pub stands_before_kept : (v : Schedule) (s new : State) (i j : ℕ) (t : Task) → StandsBefore i v s → j < length s.tasks → new.tasks ≡ set s.tasks j t → new.current ≡ s.current → depth_of new ≡ depth_of s → ready_key t ≡ ready_key (task_at s j) → t.priority ≡ (task_at s j).priority → t.base_priority ≡ (task_at s j).base_priority → IsTable new → can_resume t.status ≡ can_resume (status_at s j) → StandsBefore i v new
+stands_before_kept v s new i j t h l is current held key_same same same_base table alike = record {
   ready = h.ready ∙ list_kept s new j t is key_same;
   still = h.still;
   current = h.current ∙ sym current;
   priorities = numbers_kept (λ (u : Task). u.priority) v.priorities s new j t h.priorities is same;
   base_priorities = numbers_kept (λ (u : Task). u.base_priority) v.base_priorities s new j t h.base_priorities is same_base;
-  depth = h.depth ∙ sym (ap (λ b. if b then 1 else 0) held);
+  depth = h.depth ∙ sym held;
+  suspended = suspended_kept (is_suspended v) s new j t h.suspended is alike;
   table = table;
 }
 
+-- how many `suspend_all` are in force, and whether a call holds the scheduler
+abbrev pub holds_of : State → ℕ × Bool
+holds_of s = (s.suspensions, s.call_hold)
+
 -- A call holds the scheduler, where none did.
-pub stands_before_held : (v : Schedule) (s new : State) (i : ℕ) → StandsBefore i v s → s.call_hold ≡ false → new.tasks ≡ s.tasks → new.current ≡ s.current → new.call_hold ≡ true → IsTable new → StandsBefore i (record v { depth = v.depth + 1 }) new
+pub stands_before_held : (v : Schedule) (s new : State) (i : ℕ) → StandsBefore i v s → s.call_hold ≡ false → new.tasks ≡ s.tasks → new.current ≡ s.current → holds_of new ≡ (s.suspensions, true) → IsTable new → StandsBefore i (record v { depth = v.depth + 1 }) new
 stands_before_held v s new i h free tasks current held table =
-    let none : v.depth ≡ 0 = h.depth ∙ ap (λ b. if b then 1 else 0) free in
+    let before : v.depth ≡ s.suspensions + 0 = h.depth ∙ ap (λ (b : Bool). s.suspensions + (if b then 1 else 0)) free in
+    let after : depth_of new ≡ s.suspensions + 1 = ap (λ (p : ℕ × Bool). p.0 + (if p.1 then 1 else 0)) held in
     record {
       ready = h.ready ∙ sym (ap (λ ts. with_priorities (list_by ready_key ts)) tasks);
       still = h.still;
       current = h.current ∙ sym current;
       priorities = λ j. h.priorities j ∙ sym (ap (λ (ts : List Task). (get_or ts j no_task).priority) tasks);
       base_priorities = λ j. h.base_priorities j ∙ sym (ap (λ (ts : List Task). (get_or ts j no_task).base_priority) tasks);
-      depth = ap (λ (n : ℕ). n + 1) none ∙ sym (ap (λ b. if b then 1 else 0) held);
+      depth = omega (arith, before, after);
+      suspended = λ j. h.suspended j ∙ sym (ap (λ (ts : List Task). can_resume (get_or ts j no_task).status) tasks);
       table = table;
     }

@@ -1,5 +1,5 @@
 -- How lists of tasks, one for each priority (`pxReadyTasksLists`), spell the Ready tasks in order.
-use Rattle.std.specs.Prelude.{◌≡◌, ◌≢◌, ℕ, suc, ◌<◌, true, false, List, [], ◌∷◌, ◌++◌, Option, Some, None, map}
+use Rattle.std.specs.Prelude.{◌≡◌, ◌≢◌, ℕ, suc, ◌<◌, Bool, true, false, List, [], ◌∷◌, ◌++◌, Option, Some, None, map}
 use Rattle.std.specs.Int.{bit_at}
 use Rattle.lists.specs.Lists.{Each, IsSound, entries_of, has_node}
 use Rattle.sched.specs.Schedule.{Schedule, is_among, priority_in}
@@ -43,14 +43,15 @@ pub record IsSched (lists : List (List (ℕ × ℕ))) (pending priorities base_p
   pub apart : (task : ℕ) → is_among task pending ≡ true → has_node task (ready_list_of lists) ≡ false
   pub calm : depth ≡ 0 → pending ≡ []
 
-abbrev pub schedule_of : List (List (ℕ × ℕ)) → List ℕ → Option ℕ → List ℕ → List ℕ → ℕ → Schedule
-schedule_of lists pending current priorities base_priorities depth = record {
+abbrev pub schedule_of : List (List (ℕ × ℕ)) → List ℕ → Option ℕ → List ℕ → List ℕ → ℕ → List Bool → Schedule
+schedule_of lists pending current priorities base_priorities depth suspended = record {
   ready = ready_list_of lists;
   pending = pending;
   current = current;
   priorities = priorities;
   base_priorities = base_priorities;
   depth = depth;
+  suspended = suspended;
 }
 
 -- the tasks of a list, without their values

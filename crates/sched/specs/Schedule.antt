@@ -16,10 +16,16 @@ pub record Schedule : Type 0 where
   pub base_priorities : List ℕ
   -- how often the scheduler is held (`uxSchedulerSuspended`)
   pub depth : ℕ
+  -- of each task whether it is suspended (`xSuspendedTaskList`)
+  pub suspended : List Bool
 
 -- the priority of this task
 abbrev pub priority_in : List ℕ → ℕ → ℕ
 priority_in priorities task = slice_index_or priorities task 0
+
+-- The task is suspended.
+abbrev pub is_suspended : Schedule → ℕ → Bool
+is_suspended s task = slice_index_or s.suspended task false
 
 -- a task with its priority put behind all that are not of lower priority (`prvAddTaskToReadyList`)
 abbrev pub add_to_ready_list : ℕ × ℕ → List (ℕ × ℕ) → List (ℕ × ℕ)
@@ -65,6 +71,18 @@ without_task task tasks = filter (λ other. not (other == task)) tasks
 -- The task is Ready no more.
 abbrev pub block : ℕ → Schedule → Schedule
 block task s = record s { ready = without task s.ready; pending = without_task task s.pending }
+
+-- The task is Ready no more, and it is suspended (`vTaskSuspend`).
+abbrev pub suspend : ℕ → Schedule → Schedule
+suspend task s = record (block task s) { suspended = slice_set s.suspended task true }
+
+-- The task is suspended no more, and not yet Ready.
+abbrev pub unsuspend : ℕ → Schedule → Schedule
+unsuspend task s = record s { suspended = slice_set s.suspended task false }
+
+-- A suspended task is so no more, and is woken (`vTaskResume`).
+abbrev pub resume : ℕ → Schedule → Schedule
+resume task s = if is_suspended s task then wake task (unsuspend task s) else s
 
 -- The scheduler is held once more (`vTaskSuspendAll`).
 abbrev pub hold : Schedule → Schedule

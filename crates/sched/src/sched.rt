@@ -1,12 +1,14 @@
 //! The scheduler: the Ready tasks, and the running one.
-ghost use Rattle.std.specs.Prelude.{◌≡◌, ◌≢◌, ℕ, ◌<◌, ◌-◌, ◌||◌, true, [], None, false, length, drop, slice_get, IfSome};
-ghost use Rattle.std.specs.List.{AllByRecursion};
+ghost use Rattle.std.specs.Prelude.{◌≡◌, ◌≢◌, ℕ, ◌+◌, ◌<◌, ◌-◌, ◌||◌, true, [], None, false, length, drop, replicate, slice_get, IfSome};
+ghost use Rattle.std.specs.List.{AllByRecursion, list_any};
 ghost use Rattle.std.specs.Option.{is_some};
-ghost use Rattle.model.specs.State.{State};
+ghost use Rattle.model.specs.State.{Task, State, Suspended, status_at, with_status};
 ghost use Rattle.model.specs.Mutexes as mutexes;
 ghost use Rattle.model.specs.Switching as switching;
+ghost use Rattle.model.specs.Suspension as suspension;
+ghost use Rattle.model.specs.Suspension.{can_resume};
 ghost use Rattle.lists.specs.Lists.{first_of};
-ghost use Rattle.sched.specs.Schedule.{IsCalm, priority_in, is_ready, is_outranked, is_sharing, block, choose, hold, line_up_pending, lined_up, make_ready, pend_ready, preempt, set_priority, slice, to_back, unhold, wake, yield_now};
+ghost use Rattle.sched.specs.Schedule.{IsCalm, priority_in, is_ready, is_outranked, is_sharing, is_suspended, block, choose, hold, line_up_pending, lined_up, make_ready, pend_ready, preempt, resume, set_priority, slice, suspend, to_back, unhold, wake, yield_now};
 ghost use Rattle.sched.specs.StandsFor.{StandsFor, StandsBefore, DoesFree};
 
 use crate::pending::PendingReadyList;
@@ -30,6 +32,8 @@ pub struct Sched {
     priorities: [u8; 32],
     base_priorities: [u8; 32],
     depth: u32,
+    /// Of each task whether it is suspended.
+    suspended: [bool; 32],
 }
 
 // Clauses see the Ready tasks in one list, each before those that it would run before.
@@ -39,13 +43,13 @@ impl Model for Sched {
 
     ghost Value = { Schedule };
 
-    ghost view = { λ s. schedule_of s.ready s.pending s.current s.priorities s.base_priorities s.depth };
+    ghost view = { λ s. schedule_of s.ready s.pending s.current s.priorities s.base_priorities s.depth s.suspended };
 
     ghost invariant = { λ s. IsSched s.ready s.pending s.priorities s.base_priorities s.depth };
 }
 
 impl Sched {
-    /// No task is Ready, idle runs, and the scheduler isn't held. Place `i` of `priorities` is the priority of task `i`, 0 to 31,
+    /// No task is Ready or suspended, idle runs, and the scheduler isn't held. Place `i` of `priorities` is the priority of task `i`, 0 to 31,
     /// and its base priority too; a larger number is a higher priority.
     pub fn new(priorities: [u8; 32]) -> Self
         requires { AllByRecursion (λ priority. priority < 32) priorities }
@@ -56,6 +60,7 @@ impl Sched {
           priorities = priorities;
           base_priorities = priorities;
           depth = 0;
+          suspended = replicate 32 false;
         } }
     {
         Sched {
@@ -65,6 +70,7 @@ impl Sched {
             priorities,
             base_priorities: priorities,
             depth: 0,
+            suspended: [false; 32],
         }
     }
 
@@ -141,6 +147,9 @@ impl Sched {
         // In the definitions a call holds it, where none did.
         ensures stands { (s : State) → StandsFor self.old s → s.call_hold ≡ false
             → StandsFor self.new (record s { call_hold = true }) }
+        // Or one `suspend_all` more is in force.
+        ensures suspends { (s : State) → StandsFor self.old s
+            → StandsFor self.new (record s { suspensions = s.suspensions + 1 }) }
     {
         self.depth += 1;
     }
@@ -154,6 +163,9 @@ impl Sched {
         ensures current { self.new.current ≡ self.old.current }
         ensures stands { (s : State) → StandsFor self.old s → s.call_hold ≡ true
             → StandsFor self.new (record s { call_hold = false }) }
+        // Or one `suspend_all` less is.
+        ensures resumes { (s : State) → StandsFor self.old s → 0 < s.suspensions
+            → StandsFor self.new (record s { suspensions = s.suspensions - 1 }) }
     {
         if self.depth == 1 {
             self.line_up_pending();
@@ -167,9 +179,9 @@ impl Sched {
         requires free { is_ready self.old task ≡ false }
         requires calm { self.old.depth ≡ 0 }
         ensures schedule { self.new ≡ make_ready task self.old }
-        // In the definitions it takes the next ticket.
+        // In the definitions, where it isn't suspended, it takes the next ticket.
         ensures stands { (s : State) → StandsFor self.old s → task < length s.tasks
-            → StandsFor self.new (switching.make_ready task s) }
+            → can_resume (status_at s task) ≡ false → StandsFor self.new (switching.make_ready task s) }
         ensures current { self.new.current ≡ self.old.current }
     {
         self.put_last(task);
@@ -181,12 +193,13 @@ impl Sched {
         requires held { 0 < self.old.depth }
         ensures schedule { self.new ≡ pend_ready task self.old }
         ensures current { self.new.current ≡ self.old.current }
-        // In the definitions it is Ready at once, with the next ticket.
+        // In the definitions, where it isn't suspended, it is Ready at once, with the next ticket.
         ensures stands { (s : State) → StandsFor self.old s → task < length s.tasks
-            → StandsFor self.new (switching.make_ready task s) }
+            → can_resume (status_at s task) ≡ false → StandsFor self.new (switching.make_ready task s) }
         // Another that is still to be placed stays so.
         ensures placing { (s : State) (decider : ℕ) → StandsBefore decider self.old s → decider ≢ task
-            → task < length s.tasks → StandsBefore decider self.new (switching.make_ready task s) }
+            → task < length s.tasks → can_resume (status_at s task) ≡ false
+            → StandsBefore decider self.new (switching.make_ready task s) }
     {
         self.pending.push_back(task);
     }
@@ -197,9 +210,10 @@ impl Sched {
         ensures schedule { self.new ≡ wake task self.old }
         ensures current { self.new.current ≡ self.old.current }
         ensures stands { (s : State) → StandsFor self.old s → task < length s.tasks
-            → StandsFor self.new (switching.make_ready task s) }
+            → can_resume (status_at s task) ≡ false → StandsFor self.new (switching.make_ready task s) }
         ensures placing { (s : State) (decider : ℕ) → StandsBefore decider self.old s → decider ≢ task
-            → task < length s.tasks → StandsBefore decider self.new (switching.make_ready task s) }
+            → task < length s.tasks → can_resume (status_at s task) ≡ false
+            → StandsBefore decider self.new (switching.make_ready task s) }
     {
         if self.depth == 0 {
             self.make_ready(task);
@@ -216,6 +230,60 @@ impl Sched {
     {
         self.ready.remove(task);
         self.pending.remove(task);
+    }
+
+    /// Suspends a task: it leaves the Ready tasks, if it is one, and is Ready again only when it is resumed (`vTaskSuspend`). It
+    /// stays the running one, if it is, until the next choice. One that is suspended already stays so.
+    pub fn suspend(&mut self, task: TaskId)
+        ensures schedule { self.new ≡ suspend task self.old }
+        ensures current { self.new.current ≡ self.old.current }
+        ensures stands { (s : State) → StandsFor self.old s → task < length s.tasks
+            → StandsFor self.new (with_status task Suspended s) }
+    {
+        self.suspended[task.number as usize] = true;
+        self.block(task);
+    }
+
+    /// Whether a task is suspended.
+    pub fn is_suspended(&self, task: TaskId) -> bool
+        ensures suspended { result ≡ is_suspended self.now task }
+    {
+        self.suspended[task.number as usize]
+    }
+
+    /// Whether any task is suspended.
+    pub fn has_suspended(&self) -> bool
+        ensures stands { (s : State) → StandsFor self.now s
+            → result ≡ list_any (λ (t : Task). can_resume t.status) s.tasks }
+    {
+        for number in 0..32 {
+            if self.is_suspended(TaskId { number }) {
+                return true;
+            }
+        }
+        false
+    }
+
+    /// Ends a task's suspension, however often it was suspended, and answers whether it was: then it is Ready, as `wake`
+    /// makes it (`vTaskResume`, `xTaskResumeFromISR`). One that isn't suspended is left as it is.
+    pub fn resume(&mut self, task: TaskId) -> bool
+        // As in each schedule that stands for some state.
+        requires free { is_suspended self.old task ≡ true → is_ready self.old task ≡ false }
+        ensures answer { result ≡ is_suspended self.old task }
+        ensures schedule { self.new ≡ resume task self.old }
+        ensures current { self.new.current ≡ self.old.current }
+        ensures stands { (s : State) → StandsFor self.old s → task < length s.tasks
+            → StandsFor self.new (suspension.resume task s) }
+        // Another that is still to be placed stays so.
+        ensures placing { (s : State) (decider : ℕ) → StandsBefore decider self.old s → decider ≢ task
+            → task < length s.tasks → StandsBefore decider self.new (suspension.resume task s) }
+    {
+        if !self.suspended[task.number as usize] {
+            return false;
+        }
+        self.suspended[task.number as usize] = false;
+        self.wake(task);
+        true
     }
 
     /// Lets the choice run: of the tasks in the ready lists the one of highest priority, and of these the first; else idle.

@@ -27,6 +27,15 @@ fn set_priority(rt: &impl Abort, sched: &mut Sched, task: TaskId, priority: u8) 
     sched.set_priority(task, priority);
 }
 
+/// Ends a task's suspension, and answers whether it was suspended.
+fn resume(rt: &impl Abort, sched: &mut Sched, task: TaskId) -> bool {
+    if !sched.is_suspended(task) {
+        return sched.resume(task);
+    }
+    assert!(rt; !sched.is_ready(task), "task {} isn't Ready", task.number);
+    sched.resume(task)
+}
+
 #[test]
 fn tasks_take_turns_and_give_way(rt: HostRuntime) {
     let low = TaskId { number: 0 };
@@ -140,4 +149,43 @@ fn a_task_goes_behind_its_new_equals(rt: HostRuntime) {
     assert!(rt; !sched.is_ready(high));
     wake(&rt, &mut sched, high);
     assert!(rt; !sched.preempt());
+}
+
+#[test]
+fn a_suspended_task_is_ready_once_it_is_resumed(rt: HostRuntime) {
+    let low = TaskId { number: 0 };
+    let other = TaskId { number: 1 };
+    let high = TaskId { number: 3 };
+    let mut sched = Sched::new([
+        1, 1, 0, 2, 0, 0, 0, 0, 0, 0, 0, 0, 0, 0, 0, 0, 0, 0, 0, 0, 0, 0, 0, 0, 0, 0, 0, 0, 0, 0,
+        0, 0,
+    ]);
+    wake(&rt, &mut sched, low);
+    wake(&rt, &mut sched, high);
+    assert_eq!(rt; sched.choose(), Some(high));
+    sched.suspend(high);
+    sched.suspend(high);
+    assert!(rt; sched.is_suspended(high) && !sched.is_ready(high));
+    assert!(rt; !sched.is_suspended(low));
+    assert_eq!(rt; sched.choose(), Some(low));
+    assert!(rt; !resume(&rt, &mut sched, low));
+    // One resume undoes both.
+    assert!(rt; resume(&rt, &mut sched, high));
+    assert!(rt; !sched.is_suspended(high));
+    assert!(rt; !resume(&rt, &mut sched, high));
+    assert_eq!(rt; sched.choose(), Some(high));
+    // While the scheduler is held, one that is pending is suspended, and one that is resumed is pending.
+    hold(&rt, &mut sched);
+    wake(&rt, &mut sched, other);
+    sched.suspend(other);
+    sched.suspend(high);
+    assert!(rt; !sched.is_ready(other));
+    assert!(rt; resume(&rt, &mut sched, high));
+    assert!(rt; sched.is_ready(high));
+    assert!(rt; !sched.preempt());
+    unhold(&rt, &mut sched);
+    assert_eq!(rt; sched.choose(), Some(high));
+    sched.block(high);
+    sched.block(low);
+    assert_eq!(rt; sched.choose(), None);
 }

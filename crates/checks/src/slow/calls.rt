@@ -288,6 +288,8 @@ impl SlowKernel {
             Phase::Place => self.set_phase(id, Phase::Unlock),
             Phase::Unlock => self.unlock(id),
             Phase::Leave => self.leave(id),
+            // A call on an object has no such phase.
+            Phase::Final => self.leave(id),
         }
     }
 }

@@ -23,7 +23,7 @@ use crate::kernel::Kernel;
 use crate::log::Log;
 use crate::switching::wake_all;
 use clock::Clock;
-use model::{Access, App, CallProgress, ObjectId, Phase, TaskId, WaitList};
+use model::{Access, App, ObjectId, Phase, TaskId, WaitList};
 use objects::Queues;
 
 /// The list in which a call waits.
@@ -70,15 +70,6 @@ fn place_sleeper(clock: &mut Clock, deadline: Option<u64>, task: TaskId)
 }
 
 impl Kernel {
-    /// A task's call goes on with this phase.
-    fn set_phase(&mut self, task: TaskId, phase: Phase)
-        ensures { let p = progress_in self.old.progress task in
-            self.new ≡ with_progress task (record p { call = record p.call { phase = phase } }) self.old }
-    {
-        let call = self.progress(task).call;
-        self.set_call(task, CallProgress { phase, ..call });
-    }
-
     /// The call of the running task, which begins, may wait for so many ticks from now, or for ever.
     fn set_deadline(&mut self, task: TaskId, ticks: Option<u32>)
         requires can { IsInCall self.old task }
@@ -88,8 +79,7 @@ impl Kernel {
         ensures op_index { (progress_in self.new.progress task).op_index ≡ (progress_in self.old.progress task).op_index }
     {
         let deadline = deadline_after(self.clock.mark().moment, ticks);
-        let call = self.progress(task).call;
-        self.set_call(task, CallProgress { deadline, ..call });
+        self.set_call_deadline(task, deadline);
     }
 
     /// Whether the deadline of a task's call has come.
@@ -169,15 +159,7 @@ impl Kernel {
     {
         self.sched.hold();
         self.queues.lock(object);
-        let call = self.progress(task).call;
-        self.set_call(
-            task,
-            CallProgress {
-                phase: Phase::Place,
-                list: Some(list_for(object, access)),
-                ..call
-            },
-        );
+        self.set_wait(task, Phase::Place, Some(list_for(object, access)));
     }
 
     /// The task is put into its waiting list and, if it waits until a deadline, among those who wake by themselves.
@@ -220,16 +202,9 @@ impl Kernel {
         ensures { Does 1 self.old (L.logged log.old) self.new (L.logged log.new) (leave_call task) }
     {
         self.sched.unhold();
-        let call = self.progress(task).call;
-        self.set_call(
-            task,
-            CallProgress {
-                phase: Phase::Try,
-                list: None,
-                ..call
-            },
-        );
-        if call.list.is_some() {
+        let waits = self.progress(task).call.list.is_some();
+        self.set_wait(task, Phase::Try, None);
+        if waits {
             self.choose(log);
         } else {
             self.preempt(log);
@@ -261,6 +236,8 @@ impl Kernel {
             Phase::Place => self.place(task),
             Phase::Unlock => self.unlock(task),
             Phase::Leave => self.leave_call(task, log),
+            // A call on an object has no such phase.
+            Phase::Final => self.leave_call(task, log),
         }
     }
 }

@@ -14,7 +14,7 @@ ghost use Rattle.kernel.specs.Can.{Agrees, Can, CanDecide, Reranks, Runs};
 
 use crate::kernel::Kernel;
 use crate::log::Log;
-use model::{App, CallProgress, End, Misuse, ObjectId, TaskId, WaitList};
+use model::{App, End, Misuse, ObjectId, TaskId, WaitList};
 use objects::NotHolder;
 
 impl Kernel {
@@ -57,8 +57,7 @@ impl Kernel {
         ensures reranks { Reranks self.old self.new }
     {
         let inherited = self.inherits(task, holder);
-        let call = self.progress(task).call;
-        self.set_call(task, CallProgress { inherited, ..call });
+        self.set_inherited(task, inherited);
         let priority = self.sched.priority(task);
         self.lend(priority, holder);
     }

@@ -21,6 +21,7 @@ impl Kernel {
         ensures depth { self.new.sched.depth ≡ self.old.sched.depth }
         ensures clock { self.new.clock ≡ self.old.clock }
         ensures queues { self.new.queues ≡ self.old.queues }
+        ensures suspensions { self.new.suspensions ≡ self.old.suspensions }
     {
         let used = self.progress(task).used + 1;
         if used == ticks {

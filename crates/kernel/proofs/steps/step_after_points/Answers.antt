@@ -1,9 +1,8 @@
-use Rattle.std.proofs.Common.{◌≡◌, ◌<◌, ◌++◌, ℕ, List, [], drop, length, ap, subst, sym, ◌∙◌}
+use Rattle.std.proofs.Common.{◌≡◌, ◌<◌, ◌++◌, ℕ, List, length, subst, ◌∙◌}
 use Rattle.std.proofs.lemmas.Result.{err_from_is_err_and}
-use Rattle.model.specs.declared.plan.Point.{Point}
 use Rattle.model.specs.Step.{step}
 use Rattle.kernel.specs.Logged.{all_of}
-use Rattle.kernel.proofs.Planned.{no_more, none_due, stands_as}
+use Rattle.kernel.proofs.Planned.{no_more, stands_as}
 use Rattle.kernel.proofs.steps.step_after_points.Goals as goal
 
 pub split_at-requires : goal.split_at-requires

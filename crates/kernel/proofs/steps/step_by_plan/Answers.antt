@@ -3,7 +3,7 @@ use Rattle.std.proofs.lemmas.Result.{err_from_is_err_and}
 use Rattle.model.specs.declared.plan.Point.{Point}
 use Rattle.model.specs.Step.{step}
 use Rattle.kernel.specs.Logged.{all_of}
-use Rattle.kernel.proofs.Planned.{no_more, none_due, stands_as}
+use Rattle.kernel.proofs.Planned.{none_due, stands_as}
 use Rattle.kernel.proofs.steps.step_by_plan.Goals as goal
 
 pub returns-in_err-step_along-clause-stands : goal.returns-in_err-step_along-clause-stands

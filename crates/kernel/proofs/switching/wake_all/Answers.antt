@@ -10,8 +10,8 @@ wake-requires-in-loop-task c = record { free = next_free c.loop-task.sched c.arg
 
 pub loop-task-preserved : goal.loop-task-preserved
 loop-task-preserved c = record {
-  ready = λ s h a. ready_more (StandsFor c.wake-in-loop-task.new.self) s c.args.tasks.now c.loop-task.task-index c.task-item.result c.loop-task-test.true c.task-item.is a (λ l. c.wake-in-loop-task.ensures.stands _ (c.loop-task.invariant.ready s h a) l);
-  woken = λ s h a. ready_more (clock.StandsFor c.wake.new.self) s c.args.tasks.now c.loop-task.task-index c.task-item.result c.loop-task-test.true c.task-item.is a (λ l. c.wake.ensures.stands _ (c.loop-task.invariant.woken s h a) l);
+  ready = λ s h a. ready_more (StandsFor c.wake-in-loop-task.new.self) s c.args.tasks.now c.loop-task.task-index c.task-item.result c.loop-task-test.true c.task-item.is a (λ l u. c.wake-in-loop-task.ensures.stands _ (c.loop-task.invariant.ready s h a) l u);
+  woken = λ s h a. ready_more (clock.StandsFor c.wake.new.self) s c.args.tasks.now c.loop-task.task-index c.task-item.result c.loop-task-test.true c.task-item.is a (λ l u. c.wake.ensures.stands _ (c.loop-task.invariant.woken s h a) l);
   free = more_free c.loop-task.sched c.args.tasks.now c.loop-task.task-index c.task-item.result c.loop-task-test.true c.task-item.is c.loop-task.invariant.free c.wake-in-loop-task.new.self c.wake-in-loop-task.ensures.schedule;
   rest = λ more a. more_left c.loop-task.sched c.args.tasks.now c.loop-task.task-index c.task-item.result c.loop-task-test.true c.task-item.is more (c.loop-task.invariant.rest more a) c.wake-in-loop-task.new.self c.wake-in-loop-task.ensures.schedule;
 }

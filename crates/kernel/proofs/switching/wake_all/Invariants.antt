@@ -1,16 +1,15 @@
-use Rattle.std.proofs.Common.{ℕ, List, ◌++◌, ◌<◌, length, take, drop}
-use Rattle.std.specs.List.{AllByRecursion}
+use Rattle.std.proofs.Common.{ℕ, List, ◌++◌, take, drop}
 use Rattle.model.specs.State.{State, for_each}
 use Rattle.model.specs.Switching.{make_ready}
 use Rattle.sched.specs.StandsFor.{StandsFor}
 use Rattle.clock.specs.StandsFor as clock
-use Rattle.kernel.specs.Can.{AreToWake}
+use Rattle.kernel.specs.Can.{AreThere, AreToWake}
 use Rattle.kernel.proofs.switching.wake_all.Given as goal
 
 abbrev pub invariant-loop-task : goal.invariant-loop-task
 invariant-loop-task l = record {
-  ready : (s : State) → StandsFor l.fn.sched s → AllByRecursion (λ i. i < length s.tasks) l.tasks → StandsFor l.sched (for_each make_ready (take l.task-index l.tasks) s);
-  woken : (s : State) → clock.StandsFor l.fn.clock s → AllByRecursion (λ i. i < length s.tasks) l.tasks → clock.StandsFor l.clock (for_each make_ready (take l.task-index l.tasks) s);
+  ready : (s : State) → StandsFor l.fn.sched s → AreThere s l.tasks → StandsFor l.sched (for_each make_ready (take l.task-index l.tasks) s);
+  woken : (s : State) → clock.StandsFor l.fn.clock s → AreThere s l.tasks → clock.StandsFor l.clock (for_each make_ready (take l.task-index l.tasks) s);
   free : AreToWake l.sched (drop l.task-index l.tasks);
   rest : (more : List ℕ) → AreToWake l.fn.sched (l.tasks ++ more) → AreToWake l.sched (drop l.task-index l.tasks ++ more);
 }

@@ -1,7 +1,8 @@
-use Rattle.std.proofs.Common.{◌+◌, ◌*◌, ◌^◌, sym, subst, arith}
+use Rattle.std.proofs.Common.{◌≡◌, ◌+◌, ◌*◌, ◌^◌, sym, ap, subst, arith}
+use Rattle.clock.specs.Timeline.{Timeline}
 use Rattle.clock.specs.declared.clock.Clock.TheInside.{Inside}
 use Rattle.clock.proofs.Advancing.{Turned, turned_over, ticked, clock_after, advances}
-use Rattle.clock.proofs.Standing.{due_next, stands_advanced}
+use Rattle.clock.proofs.Standing.{due_held, due_next, stands_advanced, stands_applied}
 use Rattle.clock.proofs.clock.Clock.advance_into.Goals.{then-self, else-self}
 use Rattle.clock.proofs.clock.Clock.advance_into.Goals as goal
 
@@ -14,7 +15,7 @@ invariant_of-self c =
       | then-self w ↦ subst P (sym w.self-inside-is) (rw (w.swap.ensures.x_after, w.swap.ensures.y_after) (turned_over c.self.invariant c.self.view_is (2 ^ 32 * (q.overflows + 1)) (omega arith) (omega (arith, w.if-self.true))))
       | else-self w ↦ subst P (sym w.self-inside-is) (ticked c.self.invariant c.self.view_is (let ne = w.if-self.false in omega (arith, ne)))
     ] in
-    clock_after turned c.take_due.new.lists _ c.take_due.ensures.due c.take_due.ensures.later c.take_due.ensures.others c.take_due.ensures.sound
+    clock_after turned c.take_due.new.lists _ c.take_due.ensures.due c.take_due.ensures.later c.take_due.ensures.others c.take_due.ensures.sound c.requires
 
 pub returns-clause-advances : goal.returns-clause-advances
 returns-clause-advances c =
@@ -25,10 +26,21 @@ returns-clause-advances c =
       | then-self w ↦ subst P (sym w.self-inside-is) (rw (w.swap.ensures.x_after, w.swap.ensures.y_after) (turned_over c.self.invariant c.self.view_is (2 ^ 32 * (q.overflows + 1)) (omega arith) (omega (arith, w.if-self.true))))
       | else-self w ↦ subst P (sym w.self-inside-is) (ticked c.self.invariant c.self.view_is (let ne = w.if-self.false in omega (arith, ne)))
     ] in
-    advances turned c.take_due.new.lists _ c.take_due.ensures.due c.take_due.ensures.later c.take_due.ensures.others
+    let H : Inside → Type 0 = λ i. i.held ≡ c.args.self.now.held in
+    let held : H s = elim c.if-self.branch [
+      | then-self w ↦ subst H (sym w.self-inside-is) (ap (λ (t : Timeline). t.held) c.self.view_is)
+      | else-self w ↦ subst H (sym w.self-inside-is) (ap (λ (t : Timeline). t.held) c.self.view_is)
+    ] in
+    advances turned c.take_due.new.lists _ c.take_due.ensures.due c.take_due.ensures.later c.take_due.ensures.others s.held held
 
 pub returns-clause-due : goal.returns-clause-due
 returns-clause-due c = λ s h. due_next c.args.self.now _ s _ (returns-clause-advances c) h
 
 pub returns-clause-woken : goal.returns-clause-woken
-returns-clause-woken c = λ s h. stands_advanced c.args.self.now _ s _ (returns-clause-advances c) h
+returns-clause-woken c = λ s h free. stands_advanced c.args.self.now _ s _ (returns-clause-advances c) h free
+
+pub returns-clause-due_held : goal.returns-clause-due_held
+returns-clause-due_held c = λ s h. due_held c.args.self.now _ s _ (returns-clause-advances c) h
+
+pub returns-clause-applied : goal.returns-clause-applied
+returns-clause-applied c = λ s h. stands_applied c.args.self.now _ s _ (returns-clause-advances c) h

@@ -68,22 +68,26 @@ pub returns-in-Some-clause-stands : goal.returns-in-Some-clause-stands
 returns-in-Some-clause-stands c = λ s h l ready.
     let now = ap (λ (t : Timeline). t.now) c.self.view_is in
     let age = ap (λ (t : Timeline). t.age) c.self.view_is in
-    stands_slept c.args.self.now _ s c.args.task c.args.ticks now age (returns-in-Some-clause-delayed c) c.requires.awake h l ready
+    let held = ap (λ (t : Timeline). t.held) c.self.view_is in
+    stands_slept c.args.self.now _ s c.args.task c.args.ticks now age held (returns-in-Some-clause-delayed c) c.requires.awake h l ready
 
 pub returns-in-None-clause-stands : goal.returns-in-None-clause-stands
 returns-in-None-clause-stands c = λ s h l ready.
     let now = ap (λ (t : Timeline). t.now) c.self.view_is in
     let age = ap (λ (t : Timeline). t.age) c.self.view_is in
-    stands_slept c.args.self.now _ s c.args.task c.args.ticks now age (returns-in-None-clause-delayed c) c.requires.awake h l ready
+    let held = ap (λ (t : Timeline). t.held) c.self.view_is in
+    stands_slept c.args.self.now _ s c.args.task c.args.ticks now age held (returns-in-None-clause-delayed c) c.requires.awake h l ready
 
 pub returns-in-Some-clause-placed : goal.returns-in-Some-clause-placed
 returns-in-Some-clause-placed c = λ s h.
     let now = ap (λ (t : Timeline). t.now) c.self.view_is in
     let age = ap (λ (t : Timeline). t.age) c.self.view_is in
-    stands_placed c.args.self.now _ s c.args.task (c.args.self.now.now + c.args.ticks) now age (returns-in-Some-clause-delayed c) c.requires.awake h
+    let held = ap (λ (t : Timeline). t.held) c.self.view_is in
+    stands_placed c.args.self.now _ s c.args.task (c.args.self.now.now + c.args.ticks) now age held (returns-in-Some-clause-delayed c) c.requires.awake h
 
 pub returns-in-None-clause-placed : goal.returns-in-None-clause-placed
 returns-in-None-clause-placed c = λ s h.
     let now = ap (λ (t : Timeline). t.now) c.self.view_is in
     let age = ap (λ (t : Timeline). t.age) c.self.view_is in
-    stands_placed c.args.self.now _ s c.args.task (c.args.self.now.now + c.args.ticks) now age (returns-in-None-clause-delayed c) c.requires.awake h
+    let held = ap (λ (t : Timeline). t.held) c.self.view_is in
+    stands_placed c.args.self.now _ s c.args.task (c.args.self.now.now + c.args.ticks) now age held (returns-in-None-clause-delayed c) c.requires.awake h

@@ -1,7 +1,6 @@
 use Rattle.std.proofs.Common.{max, ℕ, None, ap, subst, sym, ◌∙◌}
 use Rattle.model.specs.State.{task_at}
-use Rattle.model.specs.declared.call.WaitList.TheVariants.{ToReceive}
-use Rattle.model.specs.Mutexes.{best_priority, set_priority}
+use Rattle.model.specs.Mutexes.{set_priority}
 use Rattle.kernel.specs.StandsFor.{At}
 use Rattle.kernel.proofs.Ranking.{fell_back, fell_nowhere}
 use Rattle.kernel.proofs.kernel.Kernel.fall_back.Goals as goal

@@ -1,4 +1,4 @@
-use Rattle.std.proofs.Common.{None, refl, sym, ◌∙◌}
+use Rattle.std.proofs.Common.{refl, sym, ◌∙◌}
 use Rattle.kernel.proofs.Calling.{answers, fulfilled, fulfilled_any, fulfilled_none, fulfilled_none_any, room_still, stored_any, stored_placed, stored_some}
 use Rattle.kernel.proofs.kernel.Kernel.fulfil.Goals as goal
 

@@ -1,9 +1,8 @@
-use Rattle.std.proofs.Common.{arith, None, refl, subst, sym, ◌∙◌}
+use Rattle.std.proofs.Common.{arith, None, refl, subst, sym}
 use Rattle.model.specs.declared.event.Misuse.TheVariants.{NotHolder}
 use Rattle.model.specs.State.{State, object_at, with_object}
 use Rattle.objects.specs.Queues.{Exchange}
 use Rattle.kernel.specs.StandsFor.{At}
-use Rattle.kernel.specs.StandsFor.Stands.{Placed}
 use Rattle.kernel.proofs.Ranking.{gave, gave_nothing}
 use Rattle.kernel.proofs.Waits.{stored_at}
 use Rattle.kernel.proofs.kernel.Kernel.give_mutex.Goals as goal

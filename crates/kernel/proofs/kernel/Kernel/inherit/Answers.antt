@@ -1,4 +1,4 @@
-use Rattle.std.proofs.Common.{refl, sym, [], ◌∙◌}
+use Rattle.std.proofs.Common.{[]}
 use Rattle.kernel.specs.StandsFor.{At}
 use Rattle.kernel.proofs.Acting.{agrees_after}
 use Rattle.kernel.proofs.Ranking.{inherited, inherited_nothing, still_decides}

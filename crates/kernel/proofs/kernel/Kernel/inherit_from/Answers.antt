@@ -1,12 +1,11 @@
-use Rattle.std.proofs.Common.{Bool, ℕ, ap, subst, ◌∙◌}
+use Rattle.std.proofs.Common.{Bool, ℕ, ap, subst, ◌∙◌, refl}
 use Rattle.std.proofs.Math.ListN.{length-set}
 use Rattle.model.specs.declared.call.CallProgress.{CallProgress}
-use Rattle.model.specs.State.{Progress, State, call_at, with_call}
+use Rattle.model.specs.State.{Progress, call_at, with_call}
 use Rattle.model.specs.Mutexes.{inherits, lend}
 use Rattle.sched.specs.Schedule.{priority_in}
 use Rattle.kernel.specs.declared.kernel.Kernel.{Kernel}
-use Rattle.kernel.specs.contracts.progress.Progress.{the_view}
-use Rattle.kernel.specs.StandsFor.{At}
+use Rattle.kernel.specs.StandsFor.{At, progress_in}
 use Rattle.kernel.proofs.Waits.{not_placing, recalled}
 use Rattle.kernel.proofs.kernel.Kernel.inherit_from.Goals as goal
 
@@ -15,9 +14,9 @@ returns-clause-does c = λ log s h l.
     let k = c.args.self.now in
     let i : ℕ = c.args.task in
     let runs = c.requires.runs.current in
-    let view = c.behind-self.view_is ∙ c.progress.ensures ∙ h.stands.rest.progress i in
+    let view = h.stands.rest.progress i in
     let then : CallProgress = record (call_at s i) { inherited = inherits i c.args.holder s } in
     let same = ap (λ (p : Progress). record p.call { inherited = c.inherits-inherited.result }) view ∙ ap (λ (b : Bool). record (call_at s i) { inherited = b }) (c.inherits-inherited.ensures s h.stands) in
-    let mid = recalled k c.set_call.new.self log s h i runs (record (the_view c.behind-self.inside).call { inherited = c.inherits-inherited.result }) then c.set_call.ensures same (not_placing k c.set_call.new.self log s h i runs) in
-    let priority = c.priority-priority.ensures.priority ∙ ap (λ (x : Kernel). priority_in x.sched.priorities i) c.set_call.ensures ∙ h.stands.sched.priorities i in
+    let mid = recalled k c.set_inherited.new.self log s h i runs (record (progress_in k.progress i).call { inherited = c.inherits-inherited.result }) then c.set_inherited.ensures same (not_placing k c.set_inherited.new.self log s h i runs) (λ _. refl) in
+    let priority = c.priority-priority.ensures.priority ∙ ap (λ (x : Kernel). priority_in x.sched.priorities i) c.set_inherited.ensures ∙ h.stands.sched.priorities i in
     subst (λ (n : ℕ). At c.lend.new.self log (lend n c.args.holder (with_call i then s))) priority (c.lend.ensures.does log (with_call i then s) mid (rw length-set l))

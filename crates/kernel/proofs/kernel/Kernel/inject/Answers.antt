@@ -1,4 +1,4 @@
-use Rattle.std.proofs.Common.{◌<◌, arith, ◌∙◌, subst, sym}
+use Rattle.std.proofs.Common.{arith, ◌∙◌, subst, sym}
 use Rattle.objects.specs.Items.{object_in}
 use Rattle.objects.specs.Queues.{HasRoom}
 use Rattle.objects.specs.Queues.{Exchange}

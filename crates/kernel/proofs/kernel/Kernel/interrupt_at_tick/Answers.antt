@@ -14,8 +14,8 @@ handle-requires-clause-room g c =
     let a = c.loop-interrupt.invariant.does.few in
     let room = c.requires.room in
     let one = c.loop-interrupt-test.true in
-    let few = c.well_formed-2.ensures.few_at_once c.age.result in
-    let many : length c.interrupts_at-interrupts.result.now ≡ length (interrupts_at c.args.app.now c.age.result) = sym (length-map c.interrupts_at-interrupts.result.now (λ (i : Interrupt). i.handler)) ∙ ap (λ (hs : List ℕ). length hs) c.interrupts_at-interrupts.ensures in
+    let few = c.well_formed-2.ensures.few_at_once c.elapsed.result in
+    let many : length c.interrupts_at-interrupts.result.now ≡ length (interrupts_at c.args.app.now c.elapsed.result) = sym (length-map c.interrupts_at-interrupts.result.now (λ (i : Interrupt). i.handler)) ∙ ap (λ (hs : List ℕ). length hs) c.interrupts_at-interrupts.ensures in
     omega arith
 
 pub handle-requires-clause-stands : goal.handle-requires-clause-stands
@@ -46,13 +46,13 @@ unfolding interrupt
 returns-clause-does g c =
     let so = c.loop-interrupt.invariant in
     let app = c.args.app.now in
-    let many : length c.interrupts_at-interrupts.result.now ≡ length (interrupts_at app c.age.result) = sym (length-map c.interrupts_at-interrupts.result.now (λ (i : Interrupt). i.handler)) ∙ ap (λ (hs : List ℕ). length hs) c.interrupts_at-interrupts.ensures in
+    let many : length c.interrupts_at-interrupts.result.now ≡ length (interrupts_at app c.elapsed.result) = sym (length-map c.interrupts_at-interrupts.result.now (λ (i : Interrupt). i.handler)) ∙ ap (λ (hs : List ℕ). length hs) c.interrupts_at-interrupts.ensures in
     record {
       at = λ s h.
           let P : List ℕ → Type 0 = λ hs. At c.loop-interrupt.self (g.L.Log.logged c.loop-interrupt.log).told (for_each (handle app) hs s) in
           let all : take c.loop-interrupt.interrupt-index (map (λ (i : Interrupt). i.handler) c.interrupts_at-interrupts.result.now) ≡ interrupts_at app s.elapsed =
-          take_all _ _ (rw length-map c.loop-interrupt-test.false) ∙ c.interrupts_at-interrupts.ensures ∙ ap (interrupts_at app) (c.age.ensures.age ∙ h.stands.rest.clock.age) in
+          take_all _ _ (rw length-map c.loop-interrupt-test.false) ∙ c.interrupts_at-interrupts.ensures ∙ ap (interrupts_at app) (c.elapsed.ensures.elapsed ∙ h.stands.rest.clock.age) in
           subst P all (so.does.at s h);
-      few = let a = so.does.few in let l = c.loop-interrupt.auto.interrupt-index-end in let few = c.well_formed-2.ensures.few_at_once c.age.result in omega (arith, many);
+      few = let a = so.does.few in let l = c.loop-interrupt.auto.interrupt-index-end in let few = c.well_formed-2.ensures.few_at_once c.elapsed.result in omega (arith, many);
       before = so.does.before;
     }

@@ -2,6 +2,7 @@ use Rattle.std.proofs.Common.{◌∙◌, [], arith}
 use Rattle.model.specs.Handlers.{tick_interrupt}
 use Rattle.kernel.proofs.Acting.{agrees_after}
 use Rattle.kernel.proofs.Handling.{room_after}
+use Rattle.kernel.proofs.Switches.{unheld_by, sliced_free}
 use Rattle.kernel.proofs.kernel.Kernel.tick_interrupt.Goals as goal
 
 pub interrupt-requires-clause-agrees : goal.interrupt-requires-clause-agrees
@@ -16,7 +17,10 @@ slice-requires-clause-free g c = c.interrupt.ensures.leaves.depth ∙ c.incremen
 pub returns : goal.returns
 unfolding tick_interrupt
 returns g c = record {
-  at = λ s h. c.slice.ensures.at _ (c.interrupt.ensures.does.at _ (c.increment_tick.ensures.does _ s h));
+  at = λ s h.
+      let told = c.interrupt.ensures.does.at _ (c.increment_tick.ensures.does _ s h) in
+      let free = unheld_by c.interrupt.new.self.sched _ told.stands.sched (c.interrupt.ensures.leaves.depth ∙ c.increment_tick.ensures.leaves.depth ∙ c.requires.can.depth) in
+      sliced_free c.slice.new.self _ _ free (c.slice.ensures.at _ told);
   few = let a = c.interrupt.ensures.does.few in let b = c.slice.ensures.few in omega arith;
   before = c.slice.ensures.before ∙ c.interrupt.ensures.does.before;
 }

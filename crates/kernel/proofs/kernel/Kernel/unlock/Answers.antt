@@ -6,7 +6,8 @@ use Rattle.clock.specs.StandsFor as clock
 use Rattle.objects.specs.WaitersStand.{opened}
 use Rattle.kernel.specs.StandsFor.{At}
 use Rattle.kernel.proofs.Waits.{gone_on}
-use Rattle.kernel.proofs.Unlocking.{are_to_wake, receivers_within, senders_within, front_wakes, none_by, sched_opened, clock_opened, unlocked_at, still_unlocked, current-unlock, in_turn, still_within}
+use Rattle.kernel.proofs.Unlocking.{are_to_wake, receivers_within, senders_within, front_wakes, none_by, sched_opened, clock_opened, unlocked_at, still_unlocked, current-unlock, in_turn}
+use Rattle.kernel.proofs.Waking.{still_there}
 use Rattle.kernel.proofs.kernel.Kernel.unlock.Goals.{in-Some, in_default}
 use Rattle.kernel.proofs.kernel.Kernel.unlock.Goals as goal
 
@@ -37,9 +38,9 @@ returns c = λ log s h.
           let xs_in = receivers_within k s h.stands a.0 xs ys a.2 in
           let ys_in = senders_within k s h.stands a.0 xs ys a.2 in
           let on = w.wake_all.ensures.ready (opened s) (sched_opened k log s h) (rw w.as_slice.ensures.value xs_in) in
-          let on_both = w.wake_all-in-Some.ensures.ready _ on (rw w.as_slice-in-Some.ensures.value (still_within (opened s) w.as_slice.result.now ys ys_in)) in
+          let on_both = w.wake_all-in-Some.ensures.ready _ on (rw w.as_slice-in-Some.ensures.value (still_there (opened s) w.as_slice.result.now ys ys_in)) in
           let awake = w.wake_all.ensures.woken (opened s) (clock_opened k log s h) (rw w.as_slice.ensures.value xs_in) in
-          let awake_both = w.wake_all-in-Some.ensures.woken _ awake (rw w.as_slice-in-Some.ensures.value (still_within (opened s) w.as_slice.result.now ys ys_in)) in
+          let awake_both = w.wake_all-in-Some.ensures.woken _ awake (rw w.as_slice-in-Some.ensures.value (still_there (opened s) w.as_slice.result.now ys ys_in)) in
           rw w.self-is (unlocked_at k log s h (xs ++ ys) w.wake_all-in-Some.new.sched w.wake_all-in-Some.new.clock c.unlock.new.self
           (w.in-Some.ensures.woken s h.stands.rest.queues)
           (in_turn (sched.StandsFor w.wake_all-in-Some.new.sched) (opened s) xs ys (rw (w.as_slice.ensures.value, w.as_slice-in-Some.ensures.value) at on_both))

@@ -1,9 +1,8 @@
-use Rattle.std.proofs.Common.{◌≡◌, ◌∙◌}
+use Rattle.std.proofs.Common.{◌≡◌, sym, ◌∙◌}
 use Rattle.model.specs.Order.{tasks_of}
 use Rattle.model.specs.Time.{due}
-use Rattle.model.proofs.Chosen.{due_within}
 use Rattle.clock.specs.StandsFor.{at_next_tick}
-use Rattle.kernel.proofs.Waking.{to_wake, sched-ticked, queues-ticked, woken}
+use Rattle.kernel.proofs.Waking.{to_wake, due_there, sched-ticked, queues-ticked, groups-ticked, unsuspended_by, woken}
 use Rattle.kernel.proofs.kernel.Kernel.wake_due.Goals as goal
 
 pub make_all_ready-requires-clause-free : goal.make_all_ready-requires-clause-free
@@ -12,6 +11,8 @@ make_all_ready-requires-clause-free c = rw c.as_slice.ensures.value (to_wake c.a
 pub returns-clause-does : goal.returns-clause-does
 returns-clause-does c = λ log s h.
     let is : c.as_slice.result.now ≡ tasks_of (due (at_next_tick s)) = c.as_slice.ensures.value ∙ c.advance_into.ensures.due s h.stands.rest.clock in
-    let ready = c.make_all_ready.ensures.ready (at_next_tick s) (sched-ticked c.args.self.now log s h) (rw is (due_within (at_next_tick s))) in
-    let left = c.make_all_ready.ensures.left (at_next_tick s) (queues-ticked c.args.self.now log s h) (rw is (due_within (at_next_tick s))) in
-    woken c.args.self.now log s h c.as_slice.result.now c.make_all_ready.new.sched c.make_all_ready.new.queues c.advance_into.new.self is ready left (c.advance_into.ensures.woken s h.stands.rest.clock)
+    let ready = c.make_all_ready.ensures.ready (at_next_tick s) (sched-ticked c.args.self.now log s h) (rw is (due_there (at_next_tick s))) in
+    let left = c.make_all_ready.ensures.left (at_next_tick s) (queues-ticked c.args.self.now log s h) (rw is (due_there (at_next_tick s))) in
+    let gone = c.make_all_ready.ensures.gone (at_next_tick s) (groups-ticked c.args.self.now log s h) (rw is (due_there (at_next_tick s))) in
+    let none = sym h.stands.rest.suspensions ∙ c.requires.awake in
+    woken c.args.self.now log s h c.as_slice.result.now c.make_all_ready.new.sched c.make_all_ready.new.queues c.advance_into.new.self c.make_all_ready.new.groups is ready left gone (c.advance_into.ensures.woken s h.stands.rest.clock (unsuspended_by s none)) none

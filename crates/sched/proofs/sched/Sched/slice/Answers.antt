@@ -27,8 +27,8 @@ returns-in-Some-rotate-clause-ended c =
     let home = c.list_of-list.ensures.list ∙ ap (λ (s : Schedule). priority_in s.priorities task) (sym c.self.view_is) in
     let highest = c.is_highest.ensures.highest.0 c.if-is_highest.true in
     let is = first_by c.first_in.result c.first_in.ensures.first c.if-eq.ensures home c.list_of-list.ensures.known in
-    sym (ended_if c.self.invariant.lists_are task p is q.pending q.base_priorities q.depth highest ∙ ap is_some (sym c.in-Some-rotate.ensures.second))
-    ∙ ap (λ (o : Option ℕ). let s = schedule_of q.ready q.pending o q.priorities q.base_priorities q.depth in is_outranked s || is_sharing s) (sym c.in-Some.is)
+    sym (ended_if c.self.invariant.lists_are task p is q.pending q.base_priorities q.depth q.suspended highest ∙ ap is_some (sym c.in-Some-rotate.ensures.second))
+    ∙ ap (λ (o : Option ℕ). let s = schedule_of q.ready q.pending o q.priorities q.base_priorities q.depth q.suspended in is_outranked s || is_sharing s) (sym c.in-Some.is)
     ∙ ap (λ (s : Schedule). is_outranked s || is_sharing s) c.self.view_is
 
 pub returns-in-Some-rotate-clause-schedule : goal.returns-in-Some-rotate-clause-schedule
@@ -39,9 +39,9 @@ returns-in-Some-rotate-clause-schedule c =
     let home = c.list_of-list.ensures.list ∙ ap (λ (s : Schedule). priority_in s.priorities task) (sym c.self.view_is) in
     let highest = c.is_highest.ensures.highest.0 c.if-is_highest.true in
     let is = first_by c.first_in.result c.first_in.ensures.first c.if-eq.ensures home c.list_of-list.ensures.known in
-    ap (λ (ls : List (List (ℕ × ℕ))). schedule_of ls q.pending (Some c.in-Some-rotate.next) q.priorities q.base_priorities q.depth) c.rotate.ensures.rotated
-    ∙ schedule_sliced c.self.invariant.lists_are task p is q.pending q.base_priorities q.depth highest c.in-Some-rotate.next c.in-Some-rotate.ensures.second
-    ∙ ap (λ (o : Option ℕ). slice (schedule_of q.ready q.pending o q.priorities q.base_priorities q.depth)) (sym c.in-Some.is)
+    ap (λ (ls : List (List (ℕ × ℕ))). schedule_of ls q.pending (Some c.in-Some-rotate.next) q.priorities q.base_priorities q.depth q.suspended) c.rotate.ensures.rotated
+    ∙ schedule_sliced c.self.invariant.lists_are task p is q.pending q.base_priorities q.depth q.suspended highest c.in-Some-rotate.next c.in-Some-rotate.ensures.second
+    ∙ ap (λ (o : Option ℕ). slice (schedule_of q.ready q.pending o q.priorities q.base_priorities q.depth q.suspended)) (sym c.in-Some.is)
     ∙ ap slice c.self.view_is
 
 pub returns-in-Some-rotate-clause-stands : goal.returns-in-Some-rotate-clause-stands
@@ -55,8 +55,8 @@ returns-then-eq-clause-ended c =
     let home = c.list_of-list.ensures.list ∙ ap (λ (s : Schedule). priority_in s.priorities task) (sym c.self.view_is) in
     let highest = c.is_highest.ensures.highest.0 c.if-is_highest.true in
     let is = first_by c.first_in.result c.first_in.ensures.first c.if-eq.ensures home c.list_of-list.ensures.known in
-    sym (ended_if c.self.invariant.lists_are task p is q.pending q.base_priorities q.depth highest ∙ ap is_some (sym c.in_default-rotate.ensures.second))
-    ∙ ap (λ (o : Option ℕ). let s = schedule_of q.ready q.pending o q.priorities q.base_priorities q.depth in is_outranked s || is_sharing s) (sym c.in-Some.is)
+    sym (ended_if c.self.invariant.lists_are task p is q.pending q.base_priorities q.depth q.suspended highest ∙ ap is_some (sym c.in_default-rotate.ensures.second))
+    ∙ ap (λ (o : Option ℕ). let s = schedule_of q.ready q.pending o q.priorities q.base_priorities q.depth q.suspended in is_outranked s || is_sharing s) (sym c.in-Some.is)
     ∙ ap (λ (s : Schedule). is_outranked s || is_sharing s) c.self.view_is
 
 pub returns-then-eq-clause-schedule : goal.returns-then-eq-clause-schedule
@@ -67,10 +67,10 @@ returns-then-eq-clause-schedule c =
     let home = c.list_of-list.ensures.list ∙ ap (λ (s : Schedule). priority_in s.priorities task) (sym c.self.view_is) in
     let highest = c.is_highest.ensures.highest.0 c.if-is_highest.true in
     let is = first_by c.first_in.result c.first_in.ensures.first c.if-eq.ensures home c.list_of-list.ensures.known in
-    ap (λ (ls : List (List (ℕ × ℕ))). schedule_of ls q.pending q.current q.priorities q.base_priorities q.depth) c.rotate.ensures.rotated
-    ∙ ap (λ (o : Option ℕ). schedule_of (turn p q.ready) q.pending o q.priorities q.base_priorities q.depth) c.in-Some.is
-    ∙ schedule_kept c.self.invariant.lists_are task p is q.pending q.base_priorities q.depth highest c.in_default-rotate.ensures.second
-    ∙ ap (λ (o : Option ℕ). slice (schedule_of q.ready q.pending o q.priorities q.base_priorities q.depth)) (sym c.in-Some.is)
+    ap (λ (ls : List (List (ℕ × ℕ))). schedule_of ls q.pending q.current q.priorities q.base_priorities q.depth q.suspended) c.rotate.ensures.rotated
+    ∙ ap (λ (o : Option ℕ). schedule_of (turn p q.ready) q.pending o q.priorities q.base_priorities q.depth q.suspended) c.in-Some.is
+    ∙ schedule_kept c.self.invariant.lists_are task p is q.pending q.base_priorities q.depth q.suspended highest c.in_default-rotate.ensures.second
+    ∙ ap (λ (o : Option ℕ). slice (schedule_of q.ready q.pending o q.priorities q.base_priorities q.depth q.suspended)) (sym c.in-Some.is)
     ∙ ap slice c.self.view_is
 
 pub returns-then-eq-clause-stands : goal.returns-then-eq-clause-stands

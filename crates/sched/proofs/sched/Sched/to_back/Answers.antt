@@ -23,8 +23,8 @@ returns-then-eq c =
     let is = first_by c.first_in.result c.first_in.ensures.first c.if-eq.ensures home c.list_of-list.ensures.known in
     record {
       schedule =
-          ap (λ (ls : List (List (ℕ × ℕ))). schedule_of ls q.pending q.current q.priorities q.base_priorities q.depth) c.rotate.ensures.rotated
-          ∙ schedule_turned c.self.invariant.lists_are c.args.task c.list_of-list.result.number is q.pending q.current q.base_priorities q.depth
+          ap (λ (ls : List (List (ℕ × ℕ))). schedule_of ls q.pending q.current q.priorities q.base_priorities q.depth q.suspended) c.rotate.ensures.rotated
+          ∙ schedule_turned c.self.invariant.lists_are c.args.task c.list_of-list.result.number is q.pending q.current q.base_priorities q.depth q.suspended
           ∙ ap (to_back c.args.task) c.self.view_is;
     }
 
@@ -58,8 +58,8 @@ returns-then-contains c =
     let put : c.push_back.new.self ≡ push task p (map (without task) q.ready) = c.push_back.ensures.put ∙ ap (push task p) removed in
     record {
       schedule =
-          ap (λ (ls : List (List (ℕ × ℕ))). schedule_of ls q.pending q.current q.priorities q.base_priorities q.depth) put
-          ∙ schedule_moved c.self.invariant.lists_are task p home c.list_of-list.ensures.known listed (subst (IsSound 32 32) removed c.remove.ensures.sound) q.pending q.current q.base_priorities q.depth
+          ap (λ (ls : List (List (ℕ × ℕ))). schedule_of ls q.pending q.current q.priorities q.base_priorities q.depth q.suspended) put
+          ∙ schedule_moved c.self.invariant.lists_are task p home c.list_of-list.ensures.known listed (subst (IsSound 32 32) removed c.remove.ensures.sound) q.pending q.current q.base_priorities q.depth q.suspended
           ∙ ap (to_back task) c.self.view_is;
     }
 

@@ -1,0 +1,115 @@
+-- What a change of a state is to the groups that stand for it.
+use Rattle.std.proofs.Common.{◌≡◌, ℕ, ◌<◌, inl, inr, true, false, Option, Some, None, List, [], ◌∷◌, set, length, map, refl, ap, sym, ◌∙◌, subst, get_or}
+use Rattle.std.specs.List.{AllByRecursion}
+use Rattle.std.specs.Option.{is_some}
+use Rattle.std.proofs.lemmas.Bool.{cases_eq}
+use Rattle.std.proofs.lemmas.List.{get_or-set_other}
+use Rattle.model.specs.State.{State, Task, Ready, Suspended, no_task, status_at, task_at, with_status}
+use Rattle.model.specs.Order.{Entry, tasks_of}
+use Rattle.model.specs.Switching.{make_ready}
+use Rattle.model.specs.Invariant.{IsTable}
+use Rattle.model.proofs.Lists.{HasKey, list-gone, list_has}
+use Rattle.model.proofs.Members.{has_task, has_task-key, has_task-none}
+use Rattle.model.proofs.Sorting.{by_test}
+use Rattle.model.proofs.Tables.{table-make_ready, table-set}
+use Rattle.lists.specs.Lists.{IsSound, entries_of, has_node, place_of, without}
+use Rattle.lists.proofs.Entries.{apart_from_test, has_node-without_it, has_node-without_other}
+use Rattle.lists.proofs.Laws.{entries_of-without, place_of-None}
+use Rattle.groups.specs.EventGroups.{EventGroups, tasks_in, waiting_in}
+use Rattle.groups.specs.StandsFor.{SameBitWaits, StandsFor, bits_wait}
+use Rattle.model.specs.Groups.{waiters_for_bits, bits_key}
+use Rattle.groups.proofs.Keys.{key_none, key_same, waits_at}
+use Rattle.groups.proofs.Waiters.{InList, among, but, has_node-among, has_task-among, in_list, list_alike, tasks_in-without, tasks_of-other}
+
+-- ---- who is in a list
+
+module _ (v : EventGroups) (s : State) (h : StandsFor v s) where
+  pub listed : (i group : ℕ) → has_node i (waiting_in v group) ≡ has_task i (waiters_for_bits s group)
+  listed i group = has_node-among i (waiting_in v group) ∙ ap (among i) (h.tasks group) ∙ sym (has_task-among i (waiters_for_bits s group))
+
+  -- who is in a list is in the table, and has a key
+  pub waiter : (i group : ℕ) → has_node i (waiting_in v group) ≡ true → InList (bits_key group) s.tasks i
+  waiter i group has = in_list (bits_key group) s.tasks i (sym (listed i group) ∙ has)
+
+  -- who doesn't wait for bits is in none
+  pub absent : (i group : ℕ) → bits_wait (status_at s i) ≡ None → has_node i (waiting_in v group) ≡ false
+  absent i group none = listed i group ∙ has_task-none (bits_key group) i s.tasks (key_none group (task_at s i) none)
+
+  pub free : (i : ℕ) → bits_wait (status_at s i) ≡ None → place_of v.waiting i ≡ None
+  free i none = place_of-None i v.waiting (λ l below. apart_from_test i (entries_of v.waiting l) (absent i l none))
+
+  -- and who does is in one
+  pub waiting_is : (i : ℕ) → IsSound 16 32 v.waiting → is_some (place_of v.waiting i) ≡ is_some (bits_wait (status_at s i))
+  waiting_is i sound = by_test (is_some (bits_wait (status_at s i)))
+      (λ some.
+      let w = waits_at (status_at s i) some in
+      let has : has_node i (waiting_in v w.group) ≡ true = listed i w.group ∙ has_task-key (bits_key w.group) refl i w.key s.tasks w.is in
+      ap is_some (sound.one_place i w.group has) ∙ sym some)
+      (λ t.
+      let none : bits_wait (status_at s i) ≡ None = none_if (bits_wait (status_at s i)) t in
+      ap is_some (free i none) ∙ sym t) where
+        none_if : {A : Type 0} (o : Option A) → is_some o ≡ false → o ≡ None
+        none_if None e = refl
+        none_if (Some x) e = absurd cc
+
+  -- who is in no list doesn't wait for bits
+  pub free_waits : (i : ℕ) → IsSound 16 32 v.waiting → place_of v.waiting i ≡ None → bits_wait (status_at s i) ≡ None
+  free_waits i sound free = none_of (bits_wait (status_at s i)) (sym (waiting_is i sound) ∙ ap is_some free) where
+    none_of : {A : Type 0} (o : Option A) → is_some o ≡ false → o ≡ None
+    none_of None e = refl
+    none_of (Some x) e = absurd cc
+
+-- ---- changes that the groups don't see
+
+-- who is in a list waits for bits
+waits_for_bits : (v : EventGroups) (s : State) (h : StandsFor v s) (i group : ℕ) → has_node i (waiting_in v group) ≡ true → is_some (bits_wait (status_at s i)) ≡ true
+waits_for_bits v s h i group has = by_wait (bits_wait (status_at s i)) refl where
+  by_wait : (o : Option _) → bits_wait (status_at s i) ≡ o → is_some o ≡ true
+  by_wait None none = absurd (let away = absent v s h i group none in cc (has, away))
+  by_wait (Some w) is = refl
+
+pub stands_same : (v : EventGroups) (s t : State) → StandsFor v s → SameBitWaits s t → IsTable t → StandsFor v t
+stands_same v s t h same table = record {
+  bits = h.bits ∙ sym same.bits;
+  tasks = λ group. h.tasks group ∙ ap tasks_of (list_alike (bits_key group) refl s.tasks t.tasks (λ i. sym (key_same group (task_at t i) (task_at s i) (same.waits i))));
+  conditions = λ group i has. same.wants i (waits_for_bits v s h i group has) ∙ h.conditions group i has;
+  table = table;
+}
+
+-- ---- a task leaves its list
+
+pub stands_left : (v : EventGroups) (s t : State) (i : ℕ) (u : Task) → StandsFor v s → i < length s.tasks → t.tasks ≡ set s.tasks i u → t.group_bits ≡ s.group_bits → bits_wait u.status ≡ None → IsTable t
+    → StandsFor (record v { waiting = map (without i) v.waiting }) t
+stands_left v s t i u h l is bits none table = record {
+  bits = h.bits ∙ sym bits;
+  tasks = λ group.
+      ap tasks_in (entries_of-without i group v.waiting)
+      ∙ tasks_in-without i (waiting_in v group)
+      ∙ ap (but i) (h.tasks group)
+      ∙ sym (tasks_of-other i (waiters_for_bits s group))
+      ∙ ap tasks_of (sym (list-gone (bits_key group) i u s.tasks l (key_none group u none)))
+      ∙ ap (λ (ts : List Task). tasks_of (waiters_for_bits (record s { tasks = ts }) group)) (sym is);
+  conditions = λ group j has.
+      let left : has_node j (without i (waiting_in v group)) ≡ true = ap (has_node j) (sym (entries_of-without i group v.waiting)) ∙ has in
+      elim (cases_eq j i) [
+        | inl same ↦ absurd (let gone : has_node j (without i (waiting_in v group)) ≡ false = subst (λ (k : ℕ). has_node k (without i (waiting_in v group)) ≡ false) (sym same) (has_node-without_it i (waiting_in v group)) in cc (left, gone))
+        | inr other ↦
+            ap (λ (ts : List Task). (get_or ts j no_task).progress.call.wants) is
+            ∙ ap (λ (w : Task). w.progress.call.wants) (get_or-set_other s.tasks i j u no_task other)
+            ∙ h.conditions group j (sym (has_node-without_other i j (waiting_in v group) other) ∙ left)
+      ];
+  table = table;
+}
+
+pub stands_readied : (v : EventGroups) (s : State) (i : ℕ) → StandsFor v s → i < length s.tasks → StandsFor (record v { waiting = map (without i) v.waiting }) (make_ready i s)
+stands_readied v s i h l = stands_left v s (make_ready i s) i (record (task_at s i) { status = Ready s.next_ticket }) h l refl refl refl (table-make_ready s i h.table)
+
+pub stands_suspended : (v : EventGroups) (s : State) (i : ℕ) → StandsFor v s → i < length s.tasks → StandsFor (record v { waiting = map (without i) v.waiting }) (with_status i Suspended s)
+stands_suspended v s i h l = let u : Task = record (task_at s i) { status = Suspended } in stands_left v s (with_status i Suspended s) i u h l refl refl refl (table-set s i u h.table tt)
+
+-- where nobody waits for bits, nobody is in a list
+pub nobody_listed : (s : State) → ((task : ℕ) → bits_wait (status_at s task) ≡ None) → (group : ℕ) → tasks_of (waiters_for_bits s group) ≡ []
+nobody_listed s none group = nobody (waiters_for_bits s group) (list_has (bits_key group) s.tasks) where
+  nobody : (es : List Entry) → AllByRecursion (HasKey (bits_key group) s.tasks) es → tasks_of es ≡ []
+  nobody [] h = refl
+  nobody (e ∷ es) h = absurd (let k = h.0.key in let n = key_none group (task_at s e.task) (none e.task) in cc)

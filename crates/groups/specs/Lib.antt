@@ -1,0 +1,2 @@
+pub mod EventGroups
+pub mod StandsFor

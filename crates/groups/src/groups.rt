@@ -1,0 +1,213 @@
+//! The event groups, and who waits for bits of them.
+ghost use Rattle.std.specs.Prelude.{bit_or, ◌≡◌, ◌<◌, ◌++◌, ◌∷◌, ℕ, List, [], None, Some, Option, length, map, replicate, slice_set, if◌then◌else◌, IsTrue};
+ghost use Rattle.std.specs.List.{list_any};
+ghost use Rattle.std.specs.Option.{is_some};
+ghost use Rattle.lists.specs.Lists.{place_of, without};
+ghost use Rattle.model.specs.State.{State, Suspended, Task, bits_at, status_at, with_bits, with_status};
+ghost use Rattle.model.specs.Switching.{make_ready};
+ghost use Rattle.model.specs.Invariant.{IsTable};
+ghost use Rattle.model.specs.Groups as definitions;
+ghost use Rattle.groups.specs.EventGroups.{bits_in, after_set, left_by, met_of, waiting_in};
+ghost use Rattle.groups.specs.StandsFor.{StandsFor, bits_wait};
+
+use crate::bits::{bits_left, is_met, without};
+use crate::met::{Met, take_met};
+use lists::ListId;
+use model::{Condition, GroupId, TaskId};
+use std::marker::Model;
+use task_lists::TaskLists;
+
+/// What is kept of a task that has not waited for bits yet.
+const NO_CONDITION: Condition = Condition {
+    mask: 0,
+    all: false,
+    clear: false,
+};
+
+/// 16 event groups, each of 24 bits, and the tasks that wait for bits of them: each task at one group at most. A mask is 0 to
+/// 16,777,215; its bits above, which FreeRTOS refuses, are treated as the others (profile).
+///
+/// A group is FreeRTOS's `EventGroup_t`, whose `xTasksWaitingForBits` has the tasks in the order in which they began to
+/// wait too, whatever their priorities. That the groups stand in one table is profile.
+#[derive(Drop)]
+pub struct Groups {
+    bits: [u32; 16],
+    lists: TaskLists<16>,
+    wants: [Condition; 32],
+}
+
+// Clauses see the bits of each group, who waits at it, and for which bits.
+impl Model for Groups {
+    ghost use Rattle.groups.specs.EventGroups.{EventGroups, AreGroups};
+
+    ghost Value = { EventGroups };
+
+    ghost view = { λ g. record { bits = g.bits; waiting = g.lists; wants = g.wants } };
+
+    ghost invariant = { λ g. AreGroups (record { bits = g.bits; waiting = g.lists; wants = g.wants }) };
+}
+
+/// The list of those who wait for bits of a group.
+fn list_id(group: GroupId) -> ListId
+    ensures number { result.number ≡ group }
+    ensures known { result.number < 16 }
+{
+    ListId {
+        number: group.number as u16,
+    }
+}
+
+impl Groups {
+    /// No bit is set, and nobody waits.
+    pub fn new() -> Self
+        ensures clear { result.bits ≡ replicate 16 0 }
+        ensures nobody { result.waiting ≡ replicate 16 [] }
+        ensures stands { (s : State) → IsTable s → s.group_bits ≡ replicate 16 0
+            → ((task : ℕ) → bits_wait (status_at s task) ≡ None) → StandsFor result s }
+    {
+        Groups {
+            bits: [0; 16],
+            lists: TaskLists::new(),
+            wants: [NO_CONDITION; 32],
+        }
+    }
+
+    /// The bits of a group (`xEventGroupGetBits`).
+    pub fn bits(&self, group: GroupId) -> u32
+        ensures bits { result ≡ bits_in self.now group }
+        ensures stands { (s : State) → StandsFor self.now s → result ≡ bits_at s group }
+    {
+        self.bits[group.number as usize]
+    }
+
+    /// Whether the bits of a group meet a condition.
+    pub fn check(&self, group: GroupId, condition: &Condition) -> bool
+        ensures met { result ≡ definitions.is_met (bits_in self.now group) condition.now }
+        ensures stands { (s : State) → StandsFor self.now s
+            → result ≡ definitions.is_met (bits_at s group) condition.now }
+    {
+        is_met(self.bits(group), condition)
+    }
+
+    /// Clears the mask's bits of a group, and answers the bits before (`xEventGroupClearBits`).
+    pub fn clear(&mut self, group: GroupId, mask: u32) -> u32
+        ensures before { result ≡ bits_in self.old group }
+        ensures cleared { self.new ≡ record self.old {
+          bits = slice_set self.old.bits group (definitions.without (bits_in self.old group) mask);
+        } }
+        ensures answer { (s : State) → StandsFor self.old s → result ≡ bits_at s group }
+        ensures stands { (s : State) → StandsFor self.old s → StandsFor self.new
+            (with_bits group (definitions.without (bits_at s group) mask) s) }
+    {
+        let bits = self.bits(group);
+        self.bits[group.number as usize] = without(bits, mask);
+        bits
+    }
+
+    /// Answers the bits of a group, as a wait that is over does. Where they meet its condition, and that asks to clear
+    /// them, they are cleared (`xEventGroupWaitBits`).
+    pub fn final_bits(&mut self, group: GroupId, condition: &Condition) -> u32
+        ensures before { result ≡ bits_in self.old group }
+        ensures cleared { self.new
+            ≡ (if definitions.is_met (bits_in self.old group) condition.now
+            then record self.old {
+              bits = slice_set self.old.bits group
+                  (definitions.bits_left (bits_in self.old group) condition.now);
+            }
+            else self.old) }
+        ensures answer { (s : State) → StandsFor self.old s → result ≡ bits_at s group }
+        ensures stands { (s : State) → StandsFor self.old s → StandsFor self.new
+            (if definitions.is_met (bits_at s group) condition.now
+            then with_bits group (definitions.bits_left (bits_at s group) condition.now) s
+            else s) }
+    {
+        let bits = self.bits(group);
+        if is_met(bits, condition) {
+            self.bits[group.number as usize] = bits_left(bits, condition);
+        }
+        bits
+    }
+
+    /// Whether a task waits for bits of a group.
+    pub fn is_waiting(&self, task: TaskId) -> bool
+        ensures waiting { result ≡ is_some (place_of self.now.waiting task) }
+        ensures stands { (s : State) → StandsFor self.now s
+            → result ≡ is_some (bits_wait (status_at s task)) }
+    {
+        self.lists.contains(task)
+    }
+
+    /// Whether any task waits for bits of a group.
+    pub fn has_waiter(&self) -> bool
+        ensures stands { (s : State) → StandsFor self.now s
+            → result ≡ list_any (λ (t : Task). is_some (bits_wait t.status)) s.tasks }
+    {
+        for number in 0..32 {
+            if self.is_waiting(TaskId { number }) {
+                return true;
+            }
+        }
+        false
+    }
+
+    /// Puts a task that waits at no group (`is_waiting` tells) behind all who wait for bits of this one, until its
+    /// condition is met (`vTaskPlaceOnUnorderedEventList`).
+    pub fn place(&mut self, task: TaskId, group: GroupId, condition: Condition)
+        requires free { place_of self.old.waiting task ≡ None }
+        ensures put { self.new ≡ record self.old {
+          waiting = slice_set self.old.waiting group (waiting_in self.old group ++ (task, 0) ∷ []);
+          wants = slice_set self.old.wants task condition;
+        } }
+        // In the definitions it begins to wait for these bits,
+        ensures stands { (s : State) → StandsFor self.old s → task < length s.tasks
+            → StandsFor self.new
+            (definitions.wait_for_bits task group (definitions.want task condition s)) }
+        // so that its call comes to its next phase.
+        ensures begins { (s : State) (ticks : Option ℕ) → StandsFor self.old s
+            → task < length s.tasks
+            → StandsFor self.new (definitions.begin_bits_wait task group condition ticks s) }
+    {
+        self.wants[task.number as usize] = condition;
+        self.lists.push_back(list_id(group), task, 0);
+    }
+
+    /// Sets the mask's bits of a group (`xEventGroupSetBits`). The tasks that the bits then meet wait no more; once all
+    /// are tested, the bits that these asked to clear are cleared.
+    pub fn set(&mut self, group: GroupId, mask: u32) -> Met
+        ensures set { self.new ≡ after_set group mask self.old }
+        ensures bits { result.bits ≡ bit_or (bits_in self.old group) mask }
+        ensures tasks { result.tasks.items
+            ≡ met_of self.old.wants result.bits (waiting_in self.old group) }
+        ensures left { result.left ≡ left_by self.old.wants result.bits result.tasks.items }
+        // In the definitions these are met, by these bits, and this is left.
+        ensures met { (s : State) → StandsFor self.old s
+            → result.tasks.items ≡ definitions.met_by group (definitions.bits_set group mask s) s }
+        ensures with_bits { (s : State) → StandsFor self.old s
+            → result.bits ≡ definitions.bits_set group mask s }
+        ensures after { (s : State) → StandsFor self.old s
+            → result.left ≡ definitions.bits_after_set group mask s }
+        ensures stands { (s : State) → StandsFor self.old s
+            → StandsFor self.new (definitions.set group mask s) }
+        ensures kept { (s : State) → StandsFor self.old s
+            → result.left ≡ bits_at (definitions.set group mask s) group }
+    {
+        let bits = self.bits(group) | mask;
+        let met = take_met(&mut self.lists, list_id(group), &self.wants, bits);
+        self.bits[group.number as usize] = met.left;
+        met
+    }
+
+    /// Takes a task out of the list of those who wait for bits, if it is in one: it has timed out, or is suspended.
+    pub fn drop_waiter(&mut self, task: TaskId)
+        ensures gone { self.new ≡ record self.old { waiting = map (without task) self.old.waiting } }
+        ensures unmoved { place_of self.old.waiting task ≡ None → self.new ≡ self.old }
+        // In the definitions it becomes Ready,
+        ensures readied { (s : State) → StandsFor self.old s → task < length s.tasks
+            → StandsFor self.new (make_ready task s) }
+        // or is Suspended.
+        ensures suspended { (s : State) → StandsFor self.old s → task < length s.tasks
+            → StandsFor self.new (with_status task Suspended s) }
+    {
+        self.lists.remove(task);
+    }
+}

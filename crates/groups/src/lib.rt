@@ -1,0 +1,11 @@
+//! The event groups: bits that tasks set, clear and wait for.
+#![tactic(auto)]
+
+mod bits;
+mod groups;
+mod met;
+#[cfg(test)]
+mod tests;
+
+pub use groups::Groups;
+pub use met::Met;

@@ -1,0 +1,60 @@
+//! The tasks that a group's bits meet.
+ghost use Rattle.std.specs.Prelude.{◌≡◌, ◌<◌, length, slice_set};
+ghost use Rattle.lists.specs.Lists.{entries_of, IsSound};
+ghost use Rattle.model.specs.State.{State, for_each};
+ghost use Rattle.model.specs.Groups.{wake_with_bits};
+ghost use Rattle.groups.specs.EventGroups.{EventGroups, left_by, met_of, unmet_of};
+ghost use Rattle.groups.specs.StandsFor.{StandsFor};
+
+use crate::bits::{bits_left, is_met};
+use arrayvec::ArrayVec;
+use lists::ListId;
+use model::{Condition, TaskId};
+use task_lists::TaskLists;
+
+/// The tasks that bits have met, and what they leave of these.
+#[derive(Drop)]
+pub struct Met {
+    /// The tasks, 32 at most, in the order in which they began to wait.
+    pub tasks: ArrayVec<TaskId, 32>,
+    /// The bits that met them all, with which they are woken.
+    pub bits: u32,
+    /// What is left of the bits when all of them have cleared what they asked to clear.
+    pub left: u32,
+}
+
+/// Takes the tasks out of a list that these bits meet. Each is tested against all of the bits, whatever one before it
+/// clears.
+pub(crate) fn take_met(
+    lists: &mut TaskLists<16>,
+    list: ListId,
+    wants: &[Condition; 32],
+    bits: u32,
+) -> Met
+    requires list { list.number < 16 }
+    requires sound { IsSound 16 32 lists.old }
+    ensures tasks { result.tasks.items ≡ met_of wants.now bits (entries_of lists.old list.number) }
+    ensures bits { result.bits ≡ bits }
+    ensures left { result.left ≡ left_by wants.now bits result.tasks.items }
+    ensures unmet { lists.new ≡ slice_set lists.old list.number
+        (unmet_of wants.now bits (entries_of lists.old list.number)) }
+    // In the definitions they are woken with the bits, one after another.
+    ensures woken { (v : EventGroups) (s : State) → v.waiting ≡ lists.old → StandsFor v s
+        → StandsFor (record v { waiting = lists.new })
+        (for_each (λ task. wake_with_bits task bits) result.tasks.items s) }
+    ensures sound { IsSound 16 32 lists.new }
+{
+    let mut tasks = ArrayVec::new();
+    let mut left = bits;
+    let mut at = lists.first(list);
+    while let Some(task) = at {
+        at = lists.next(task);
+        let condition = &wants[task.number as usize];
+        if is_met(bits, condition) {
+            lists.remove(task);
+            tasks.push(task);
+            left = bits_left(left, condition);
+        }
+    }
+    Met { tasks, bits, left }
+}
