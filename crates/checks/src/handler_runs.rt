@@ -1,7 +1,7 @@
 //! Files with handlers, base interrupts and injected ones, and the whole answers of their runs, which are those of an
 //! independent program.
 
-use crate::random::loaded;
+use crate::loading::loaded;
 use crate::sinks::{check_text, serve_job};
 use jobs::Job;
 use model::{App, Event, Meter, Plan, Point, What};

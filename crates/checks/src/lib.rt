@@ -1,31 +1,31 @@
-//! Tests of the crates below together: whole answers of the program, the kernel beside a slow one, streams that fail. There is
+//! Tests of the crates below together: whole answers of the program, what files are loaded as, streams that fail. There is
 //! nothing here but tests.
 #![tactic(auto)]
 
 #[cfg(test)]
 mod bytes;
 #[cfg(test)]
-mod dice;
-#[cfg(test)]
 mod fall_back_runs;
 #[cfg(test)]
-mod file;
+mod group_runs;
 #[cfg(test)]
 mod handler_runs;
+#[cfg(test)]
+mod hold_runs;
 #[cfg(test)]
 mod inheritance_runs;
 #[cfg(test)]
 mod loading;
 #[cfg(test)]
-mod mutex_runs;
+mod misuse_runs;
 #[cfg(test)]
-mod planner;
+mod mutex_runs;
 #[cfg(test)]
 mod queue_runs;
 #[cfg(test)]
-mod random;
-#[cfg(test)]
 mod refused;
+#[cfg(test)]
+mod refused_groups;
 #[cfg(test)]
 mod refused_locks;
 #[cfg(test)]
@@ -39,8 +39,10 @@ mod sinks;
 #[cfg(test)]
 mod sizes;
 #[cfg(test)]
-mod slow;
-#[cfg(test)]
 mod streams;
+#[cfg(test)]
+mod suspended_call_runs;
+#[cfg(test)]
+mod suspension_runs;
 #[cfg(test)]
 mod words;

@@ -1,7 +1,19 @@
 //! What a file is loaded as.
 
-use crate::random::loaded;
-use model::{Access, IsrOp, ObjectId, ObjectKind, Op};
+use model::{Access, App, Condition, GroupId, IsrOp, ObjectId, ObjectKind, Op, TaskId};
+use script::FromDocument;
+use std::alloc::Global;
+use std::process::Abort;
+
+/// The application that a file describes.
+pub(crate) fn loaded(rt: &impl Abort, alloc: Global, file: &str) -> App {
+    let document = toml::table_from_str(alloc, file)
+        .ok()
+        .expect(rt, "a document");
+    App::from_document(alloc, &document)
+        .ok()
+        .expect(rt, "an application")
+}
 
 const QUEUES: &str = "
 [[queue]]
@@ -97,4 +109,76 @@ fn semaphores_and_mutexes_and_the_ops_on_them_are_loaded(rt: HostRuntime) {
     let isr_ops = [IsrOp::Do(b, Access::Give), IsrOp::Do(d, Access::Give)];
     let handler = app.handlers().first().expect(&rt, "a handler");
     assert_eq!(rt; handler.ops(), isr_ops.as_slice());
+}
+
+// A word of the grammar may be a name too.
+const GROUPS_AND_SUSPENSION: &str = "
+[[task]]
+name = 'a'
+priority = 1
+script = [
+    'set g 16777215', 'clear any 0000000001', ' bits  any ', 'wait any 5 any keep forever',
+    '  wait g 16777215 all clear 4294967294', 'wait g 1 all keep 0', 'wait any 2 any clear 7',
+    'suspend all', 'resume a', 'suspend_all', ' resume_all ',
+]
+
+[[task]]
+name = 'all'
+priority = 2
+script = []
+
+[[handler]]
+name = 'h'
+ops = ['resume all', 'bits  g', ' resume  a', 'bits any']
+
+[[group]]
+name = 'g'
+
+[[group]]
+name = 'any'
+";
+
+/// For which bits a task waits.
+fn bits(mask: u32, all: bool, clear: bool) -> Condition {
+    Condition { mask, all, clear }
+}
+
+#[test]
+fn groups_and_the_ops_on_them_and_those_that_suspend_are_loaded(rt: HostRuntime) {
+    let app = loaded(&rt, rt.alloc(), GROUPS_AND_SUSPENSION);
+    let g = GroupId::new(0).expect(&rt, "a group");
+    let any = GroupId::new(1).expect(&rt, "a group");
+    let a = TaskId::new(0).expect(&rt, "a task");
+    let all = TaskId::new(1).expect(&rt, "a task");
+    assert_eq!(rt; app.group_count(), 2);
+    assert_eq!(rt; app.objects().len(), 0);
+    let ops = [
+        Op::SetBits(g, 16_777_215),
+        Op::ClearBits(any, 1),
+        Op::GetBits(any),
+        Op::WaitBits(any, bits(5, false, false), None),
+        Op::WaitBits(g, bits(16_777_215, true, true), Some(4_294_967_294)),
+        Op::WaitBits(g, bits(1, true, false), Some(0)),
+        Op::WaitBits(any, bits(2, false, true), Some(7)),
+        Op::Suspend(all),
+        Op::Resume(a),
+        Op::SuspendAll,
+        Op::ResumeAll,
+    ];
+    let task = app.tasks().first().expect(&rt, "a task");
+    assert_eq!(rt; task.ops(), ops.as_slice());
+    let isr_ops = [
+        IsrOp::Resume(all),
+        IsrOp::GetBits(g),
+        IsrOp::Resume(a),
+        IsrOp::GetBits(any),
+    ];
+    let handler = app.handlers().first().expect(&rt, "a handler");
+    assert_eq!(rt; handler.ops(), isr_ops.as_slice());
+}
+
+#[test]
+fn an_application_without_groups(rt: HostRuntime) {
+    let app = loaded(&rt, rt.alloc(), QUEUES);
+    assert_eq!(rt; app.group_count(), 0);
 }

@@ -14,7 +14,7 @@ pub(crate) struct Case {
     pub(crate) report: &'static str,
 }
 
-const CASES: [Case; 24] = [
+const CASES: [Case; 26] = [
     Case {
         name: "deadline_in_the_tick_of_a_send.toml",
         file: r#"# Two tasks that each wait three ticks for an item, and one that wakes in the third tick and sends to both.
@@ -62,6 +62,76 @@ script = ["receive to_below 3", "expect 8"]
 18 3 run below
 19 3 call below 0 receive = 8
 20 3 run -
+",
+    },
+    Case {
+        name: "event_driven_state_machine.toml",
+        file: r#"# A state machine that is driven by events, one bit of an event group for each: 1 power, 2 link, 4 data, 8 stop.
+#
+# `machine` waits for what leads on from its state, and marks the state that it comes to: 1 up, 2 busy, 0 down. `lamp`
+# shows that the machine is up, and `world` lets the events happen, a tick apart. Look at what each `set` answers, the
+# bits that it leaves:
+#
+# - tick 1, power: both tasks wait for all of 1 and 2, so nobody is woken, and the bit stays: `set = 1`;
+# - tick 2, link: now both are met. Each asked to clear the bits, and yet both are answered 3, since all are tested
+#   against one value, and the bits are cleared after that: `set = 0`;
+# - tick 3, data: the machine, up, waits for any of 4 and 8. The answer of its wait, 4, tells which of them came;
+# - tick 4, stop: the machine is busy and waits for no bit, so this one stays: `set = 8`. When the machine asks at tick 5,
+#   its wait is met at once, in one step, and the event isn't lost.
+[[group]]
+name = "events"
+
+[[task]]
+name = "machine"
+priority = 3
+script = [
+    "wait events 3 all clear forever", "mark 1",
+    "wait events 12 any clear forever", "expect 4", "mark 2", "delay 2",
+    "wait events 12 any clear forever", "expect 8", "mark 0",
+]
+
+[[task]]
+name = "lamp"
+priority = 2
+script = ["wait events 3 all clear forever", "mark 1"]
+
+[[task]]
+name = "world"
+priority = 1
+script = [
+    "work 1", "set events 1",
+    "work 1", "set events 2",
+    "work 1", "set events 4",
+    "work 1", "set events 8",
+    "work 1", "bits events",
+]
+"#,
+        status: 0,
+        report: r"base: pass in 31 steps, 5 ticks
+1 0 run lamp
+3 0 run world
+6 1 call world 1 set = 1
+9 2 call world 3 set = 0
+9 2 run machine
+10 2 call machine 0 wait = 3
+11 2 mark machine 1
+13 2 run lamp
+14 2 call lamp 0 wait = 3
+15 2 mark lamp 1
+15 2 run world
+18 3 call world 5 set = 0
+18 3 run machine
+19 3 call machine 2 wait = 4
+21 3 mark machine 2
+22 3 call machine 5 delay = 0
+22 3 run world
+25 4 call world 7 set = 8
+26 5 run machine
+27 5 call machine 6 wait = 8
+29 5 mark machine 0
+29 5 run world
+30 5 call world 9 bits = 0
+30 5 run -
 ",
     },
     Case {
@@ -129,6 +199,68 @@ script = ["lock guard 0", "work 6", "unlock guard", "mark 1"]
 29 8 run holder
 30 8 mark holder 1
 30 8 run -
+",
+    },
+    Case {
+        name: "interrupt_while_the_scheduler_is_held.toml",
+        file: r#"# A task that holds the scheduler for three ticks, an interrupt in the second of them, which wakes a task of higher
+# priority, and a sleeper of that priority too, whose sleep is over in the first.
+#
+# Look at the second number of each line, the tick. While the `suspend_all` of `low` is in force ticks are held: the time
+# stays, and after three ticks of work `time` answers 0. The interrupt comes in the second of them all the same, `isr h`,
+# and `high` is Ready from then on; but nothing switches. It runs in the step of `resume_all`, once the held ticks are
+# applied: that line has tick 3.
+#
+# Then look at which of the two runs first, since they are of one priority. `sleeper` was to wake at tick 1, before the
+# interrupt of tick 2. But it wakes only as the held ticks are applied, so it is behind `high`, which was woken meanwhile.
+#
+# `interrupt_while_the_scheduler_is_held.rows` has the run with one interrupt more. Before step 6 nothing is held yet, and
+# `run high` stands in the same step. Before step 7, the first in the hold, `high` becomes Ready and doesn't run; so the
+# base interrupt finds that the semaphore was given and not taken, `give = 0`. Before step 11, the last in the hold, it is
+# the other way round. Before step 12 the hold is over, and `high` runs already.
+[[binary]]
+name = "s"
+
+[[handler]]
+name = "h"
+ops = ["give s"]
+
+[[interrupt]]
+tick = 2
+handler = "h"
+
+[[task]]
+name = "sleeper"
+priority = 2
+script = ["delay 1", "mark 1"]
+
+[[task]]
+name = "high"
+priority = 2
+script = ["take s forever", "mark 2"]
+
+[[task]]
+name = "low"
+priority = 1
+script = ["suspend_all", "work 3", "time", "resume_all", "mark 3"]
+"#,
+        status: 0,
+        report: r"base: pass in 16 steps, 3 ticks
+0 0 call sleeper 0 delay = 0
+0 0 run high
+5 0 run low
+6 0 call low 0 suspend_all = 0
+8 0 isr h 0 give = 1
+10 0 call low 2 time = 0
+11 3 call low 3 resume_all = 0
+11 3 run high
+12 3 call high 0 take = 1
+13 3 mark high 2
+13 3 run sleeper
+14 3 mark sleeper 1
+14 3 run low
+15 3 mark low 3
+15 3 run -
 ",
     },
     Case {

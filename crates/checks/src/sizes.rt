@@ -129,6 +129,24 @@ fn no_33rd_object(rt: HostRuntime) -> Result<(), AllocError> {
     Ok(())
 }
 
+// They are not counted among the objects.
+#[test]
+fn at_most_16_groups(rt: HostRuntime) -> Result<(), AllocError> {
+    let alloc = rt.alloc();
+    let mut file = objects(alloc, [8, 8, 8, 8])?;
+    push_objects(&mut file, alloc, "group", "", 16)?;
+    let answer = serve(alloc, file.as_bytes(), 100);
+    let report = "base: pass in 0 steps, 0 ticks\n";
+    check_text(&rt, alloc, "16 groups", answer.written.bytes(), report);
+    let mut file = objects(alloc, [0, 0, 0, 0])?;
+    push_objects(&mut file, alloc, "group", "", 17)?;
+    let answer = serve(alloc, file.as_bytes(), 100);
+    let line = "rtosim: 9 TooMany: group\n";
+    check_text(&rt, alloc, "17 groups", answer.told.bytes(), line);
+    assert_eq!(rt; answer.status, 3);
+    Ok(())
+}
+
 /// The report of a loop of 1,000 turns with two marks each.
 fn report_of_two_thousand_marks(alloc: Global) -> Result<String, AllocError> {
     let mut report = String::from_str(alloc, "base: pass in 3001 steps, 0 ticks\n")?;

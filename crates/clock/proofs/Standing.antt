@@ -10,7 +10,7 @@ use Rattle.std.proofs.lemmas.List.Elements.{filter-append}
 use Rattle.model.specs.State.{State, Status, Task, Ready, Awake, Waiting, Asleep, WaitingForBits, Suspended, Ended, for_each, no_task, status_at, task_at, progress_at, call_at, with_call, take_ticket, ticket_if_ready, ticket_of, wake_time_of, with_status}
 use Rattle.model.specs.Order.{Entry, Key, entry, key, list_by, put, tasks_of}
 use Rattle.model.specs.Switching.{is_ready, is_scheduler_suspended, make_ready}
-use Rattle.model.specs.Time.{advance, apply_one, delayed_key, due, increment_tick, sleep, wake_due}
+use Rattle.model.specs.Time.{advance, delayed_key, due, increment_tick, sleep, wake_due}
 use Rattle.model.specs.Invariant.{HasTicketBelow, AllTicketsBelow, IsTable}
 use Rattle.model.proofs.Sorting.{IsAfterEntry, by_test, put_last}
 use Rattle.model.proofs.Lists.{HasKey, eqb-refl, filter-without, list-entered, list-gone, list-kept, list_below, list_has, list_without, other}
@@ -24,7 +24,7 @@ use Rattle.model.proofs.Tables.{below_delayed, table-make_ready, table-set, tabl
 use Rattle.lists.specs.Lists.{Each, EachOnce, IsSorted, has_node, insert_sorted, without}
 use Rattle.lists.proofs.Entries.{EachOnce-insert_sorted, EachOnce-without, IsSorted-insert_sorted, IsSorted-without, Each-imp, apart_from_test, has_node-other, has_node-same, has_node-without_other, has_or_not, insert_sorted-after, insert_sorted-before, without-apart, without-same}
 use Rattle.clock.specs.Timeline.{Advances, Timeline, all_until, is_asleep}
-use Rattle.clock.specs.StandsFor.{StandsFor, StandsBefore, at_held_tick, at_next_tick, at_time, tasks_at, with_deadline}
+use Rattle.clock.specs.StandsFor.{StandsFor, StandsBefore, before_held, at_next_tick, at_time, tasks_at, with_deadline}
 
 -- the tasks that sleep until a time
 
@@ -312,28 +312,20 @@ all_woken (d ∷ ds) t rest s h is =
     let next : StandsFor (record t { delayed_list = later }) (make_ready d s) = subst (λ (es : List (ℕ × ℕ)). StandsFor (record t { delayed_list = es }) (make_ready d s)) left one in
     all_woken ds (record t { delayed_list = later }) rest (make_ready d s) next refl
 
--- a tick that comes is applied, or one that was held: the state, before anyone wakes
-abbrev ticked : State → ℕ → ℕ → State
-ticked s elapsed held_ticks = record s { time = s.time + 1; elapsed = elapsed; held_ticks = held_ticks }
-
--- the clock before it, where so many ticks are held
-abbrev pub holding : Timeline → ℕ → Timeline
-holding t held = record t { held = held }
-
 -- the sleepers when a tick has passed, before anyone wakes
-stands_next : (old new : Timeline) (s : State) (ds : List ℕ) (before elapsed held : ℕ) → Advances old new ds → StandsFor (holding old before) s → old.age + 1 + old.held ≡ elapsed → old.held ≡ held → StandsFor (record new { delayed_list = old.delayed_list }) (ticked s elapsed held)
-stands_next old new s ds before elapsed held a h age held_is = record {
+stands_next : (old new : Timeline) (s : State) (ds : List ℕ) → Advances old new ds → StandsFor old s → StandsFor (record new { delayed_list = old.delayed_list }) (at_next_tick s)
+stands_next old new s ds a h = record {
   now = a.now ∙ ap (λ (n : ℕ). n + 1) h.now;
-  age = ap₂ (λ (m n : ℕ). m + n) a.age a.held ∙ age;
-  held = a.held ∙ held_is;
+  age = let e = h.age in ap₂ (λ (m n : ℕ). m + n) a.age a.held ∙ omega (arith, e);
+  held = a.held ∙ h.held;
   sorted = h.sorted;
   once = h.once;
   delayed = h.delayed;
   table = record { tickets = h.table.tickets; few = h.table.few; current = h.table.current; holders = h.table.holders };
 }
 
-due_ticked : (old new : Timeline) (s : State) (ds : List ℕ) (before : ℕ) → Advances old new ds → StandsFor (holding old before) s → ds ≡ due_in s.tasks (s.time + 1)
-due_ticked old new s ds before a h =
+pub due_next : (old new : Timeline) (s : State) (ds : List ℕ) → Advances old new ds → StandsFor old s → ds ≡ tasks_of (due (at_next_tick s))
+due_next old new s ds a h =
     let time : new.now ≡ s.time + 1 = a.now ∙ ap (λ (n : ℕ). n + 1) h.now in
     sym (append-nil ds)
     ∙ ap₂ (λ (xs ys : List ℕ). xs ++ ys) (sym (tasks_at-all_until new.now ds)) (sym (tasks_at-later new.now new.delayed_list a.later))
@@ -342,32 +334,16 @@ due_ticked old new s ds before a h =
     ∙ h.delayed new.now
     ∙ ap (λ (m : ℕ). due_in s.tasks m) time
 
-stands_ticked : (old new : Timeline) (s : State) (ds : List ℕ) (before elapsed held : ℕ) → Advances old new ds → StandsFor (holding old before) s → old.age + 1 + old.held ≡ elapsed → old.held ≡ held → StandsFor new (wake_due (ticked s elapsed held))
-unfolding wake_due
-stands_ticked old new s ds before elapsed held a h age held_is =
-    let woken = all_woken ds (record new { delayed_list = old.delayed_list }) new.delayed_list (ticked s elapsed held) (stands_next old new s ds before elapsed held a h age held_is) a.delayed in
-    subst (λ (es : List ℕ). StandsFor new (for_each make_ready es (ticked s elapsed held))) (due_ticked old new s ds before a h) woken
-
 -- a tick comes and isn't held
-pub due_next : (old new : Timeline) (s : State) (ds : List ℕ) → Advances old new ds → StandsFor old s → ds ≡ tasks_of (due (at_next_tick s))
-due_next old new s ds a h = due_ticked old new s ds old.held a h
-
 pub stands_advanced : (old new : Timeline) (s : State) (ds : List ℕ) → Advances old new ds → StandsFor old s → is_scheduler_suspended s ≡ false → StandsFor new (increment_tick s)
-unfolding increment_tick advance
+unfolding increment_tick advance wake_due
 stands_advanced old new s ds a h free =
-    let age = h.age in
-    rw free (stands_ticked old new s ds old.held (s.elapsed + 1) s.held_ticks a h (omega (arith, age)) h.held)
+    let woken = all_woken ds (record new { delayed_list = old.delayed_list }) new.delayed_list (at_next_tick s) (stands_next old new s ds a h) a.delayed in
+    rw free (subst (λ (es : List ℕ). StandsFor new (for_each make_ready es (at_next_tick s))) (due_next old new s ds a h) woken)
 
--- a tick that has been released is applied
-pub due_held : (old new : Timeline) (s : State) (ds : List ℕ) → Advances old new ds → StandsFor (holding old (old.held + 1)) s → ds ≡ tasks_of (due (at_held_tick s))
-due_held old new s ds a h = due_ticked old new s ds (old.held + 1) a h
-
-pub stands_applied : (old new : Timeline) (s : State) (ds : List ℕ) → Advances old new ds → StandsFor (holding old (old.held + 1)) s → StandsFor new (apply_one s)
-unfolding apply_one advance
-stands_applied old new s ds a h =
-    let age = h.age in
-    let held = h.held in
-    stands_ticked old new s ds (old.held + 1) s.elapsed (s.held_ticks - 1) a h (omega (arith, age)) (omega (arith, held))
+-- the clock, where so many ticks are held
+abbrev pub holding : Timeline → ℕ → Timeline
+holding t held = record t { held = held }
 
 -- a tick comes and is held
 pub stands_held : (t : Timeline) (s : State) → StandsFor t s → is_scheduler_suspended s ≡ true → StandsFor (holding t (t.held + 1)) (increment_tick s)
@@ -383,6 +359,18 @@ stands_held t s h on =
       delayed = h.delayed;
       table = record { tickets = h.table.tickets; few = h.table.few; current = h.table.current; holders = h.table.holders };
     })
+
+-- or it hasn't come yet
+pub stands_released : (t : Timeline) (s : State) → StandsFor t s → 0 < t.held → StandsFor (holding t (t.held - 1)) (before_held s)
+stands_released t s h some = record {
+  now = h.now;
+  age = let e = h.age in omega arith;
+  held = let e = h.held in omega arith;
+  sorted = h.sorted;
+  once = h.once;
+  delayed = h.delayed;
+  table = record { tickets = h.table.tickets; few = h.table.few; current = h.table.current; holders = h.table.holders };
+}
 
 -- who is due is asleep before the tick, and comes once
 

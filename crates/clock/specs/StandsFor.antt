@@ -20,9 +20,9 @@ at_time s time = record s { time = time }
 abbrev pub at_next_tick : State → State
 at_next_tick s = record s { time = s.time + 1; elapsed = s.elapsed + 1 }
 
--- the state when a held tick is applied, before anyone wakes
-abbrev pub at_held_tick : State → State
-at_held_tick s = record s { time = s.time + 1; held_ticks = s.held_ticks - 1 }
+-- the state before the last of the held ticks came
+abbrev pub before_held : State → State
+before_held s = record s { elapsed = s.elapsed - 1; held_ticks = s.held_ticks - 1 }
 
 -- Who sleeps until some time are those that are due when it comes, in the order in which they began.
 pub record StandsFor (t : Timeline) (s : State) : Type 0 where

@@ -7,7 +7,7 @@ ghost use Rattle.model.specs.Switching as switching;
 ghost use Rattle.model.specs.Switching.{is_scheduler_suspended};
 ghost use Rattle.model.specs.Time as time;
 ghost use Rattle.clock.specs.Timeline.{is_asleep, Advances};
-ghost use Rattle.clock.specs.StandsFor.{StandsFor, StandsBefore, at_held_tick, at_next_tick};
+ghost use Rattle.clock.specs.StandsFor.{StandsFor, StandsBefore, before_held, at_next_tick};
 
 use crate::due::{Due, first_due, take_due};
 use lists::ListId;
@@ -106,13 +106,13 @@ impl Clock {
         self.held += 1;
     }
 
-    /// Releases one of the held ticks, of which there is one: `advance` is to apply it (`xTaskResumeAll`).
+    /// Gives back one of the held ticks, of which there is one, as if it hadn't come: `advance` then applies it
+    /// (`xTaskResumeAll`).
     pub fn release(&mut self)
         requires { 0 < self.old.held }
         ensures released { self.new ≡ record self.old { held = self.old.held - 1 } }
-        // As `advance` then asks of a clock.
-        ensures stands { (s : State) → StandsFor self.old s
-            → StandsFor (record self.new { held = self.new.held + 1 }) s }
+        // In the definitions the last of them hasn't come.
+        ensures stands { (s : State) → StandsFor self.old s → StandsFor self.new (before_held s) }
     {
         self.held -= 1;
     }
@@ -218,12 +218,6 @@ impl Clock {
         // Once they are Ready too, the tick has come, where no `suspend_all` is in force.
         ensures woken { (s : State) → StandsFor self.old s → is_scheduler_suspended s ≡ false
             → StandsFor self.new (time.increment_tick s) }
-        // For a clock that has just released a tick, they are those whom the definitions have due with it,
-        ensures due_held { (s : State) → StandsFor (record self.old { held = self.old.held + 1 }) s
-            → result.items ≡ tasks_of (time.due (at_held_tick s)) }
-        // and then the held tick is applied.
-        ensures applied { (s : State) → StandsFor (record self.old { held = self.old.held + 1 }) s
-            → StandsFor self.new (time.apply_one s) }
     {
         let mut due = Due::new();
         self.advance_into(&mut due);
@@ -238,10 +232,6 @@ impl Clock {
             → due.new.items ≡ tasks_of (time.due (at_next_tick s)) }
         ensures woken { (s : State) → StandsFor self.old s → is_scheduler_suspended s ≡ false
             → StandsFor self.new (time.increment_tick s) }
-        ensures due_held { (s : State) → StandsFor (record self.old { held = self.old.held + 1 }) s
-            → due.new.items ≡ tasks_of (time.due (at_held_tick s)) }
-        ensures applied { (s : State) → StandsFor (record self.old { held = self.old.held + 1 }) s
-            → StandsFor self.new (time.apply_one s) }
     {
         due.clear();
         self.age += 1;
@@ -268,11 +258,6 @@ impl Clock {
             → [] ≡ tasks_of (time.due (at_next_tick s)) }
         ensures woken { (s : State) → result ≡ true → StandsFor self.old s → is_scheduler_suspended s ≡ false
             → StandsFor self.new (time.increment_tick s) }
-        // Nor with a tick that has just been released, and then it is applied.
-        ensures due_held { (s : State) → result ≡ true → StandsFor (record self.old { held = self.old.held + 1 }) s
-            → [] ≡ tasks_of (time.due (at_held_tick s)) }
-        ensures applied { (s : State) → result ≡ true → StandsFor (record self.old { held = self.old.held + 1 }) s
-            → StandsFor self.new (time.apply_one s) }
     {
         if self.tick == u32::MAX {
             if first_due(&self.lists, self.overflow, 0).is_some() {

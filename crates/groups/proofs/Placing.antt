@@ -8,7 +8,7 @@ use Rattle.std.proofs.Math.ListN.{length-set}
 use Rattle.model.specs.declared.call.Condition.{Condition}
 use Rattle.model.specs.declared.call.CallProgress.{CallProgress}
 use Rattle.model.specs.declared.call.Phase.TheVariants.{Leave}
-use Rattle.model.specs.State.{State, Status, Waiting, WaitingForBits, Task, no_task, status_at, task_at, call_at, progress_at, take_ticket, with_call}
+use Rattle.model.specs.State.{State, Status, WaitingForBits, Task, no_task, status_at, task_at, call_at, progress_at, take_ticket, with_call}
 use Rattle.model.specs.Order.{entry, put, key, tasks_of}
 use Rattle.model.specs.Waiting.{set_deadline}
 use Rattle.model.specs.Groups.{waiters_for_bits, begin_bits_wait, wait_for_bits, want}

@@ -85,7 +85,7 @@ one_list a b k m Suspended e f = absurd (cc)
 one_list a b k m Ended e f = absurd (cc)
 
 module _ (task : ℕ) (list : WaitList) (k : Kernel) (s : State) (b : StandsBefore task list k s) where
-  stands_there : (m : Key) × (option_and_then (wait_key list) (wait_of (status_at s task)) ≡ Some m)
+  pub stands_there : (m : Key) × (option_and_then (wait_key list) (wait_of (status_at s task)) ≡ Some m)
   stands_there =
       let own : same_list list list ≡ true = same_list-refl list in
       let joined : insert_by_priority (task, (task_at s task).priority) (waiting_in k.queues.waiting list) ≡ with_priorities (standing s list) = rw own at (b.queues.waiters.lists list) in

@@ -37,7 +37,6 @@ use Rattle.kernel.proofs.Parts.{clock-same, ready_alike}
 use Rattle.sched.proofs.LinedUp.{ready_made}
 use Rattle.kernel.proofs.Waking.{progress-all_ready, still_awake}
 use Rattle.model.specs.Suspension.{can_resume}
-use Rattle.groups.specs.StandsFor as groups
 use Rattle.groups.specs.StandsFor.{bits_wait, SameBitWaits}
 use Rattle.groups.proofs.Standing as on_groups
 use Rattle.groups.proofs.Kept as bits_kept

@@ -1,7 +1,8 @@
 -- A kernel whose run goes on keeps within the numbers of the code.
-use Rattle.std.proofs.Common.{◌≡◌, ◌≢◌, ◌<◌, ◌≤◌, ◌+◌, ℕ, Bool, true, false, cond, leb, List, length, Option, Some, None, refl, ap, sym, subst, ◌∙◌, arith}
+use Rattle.std.proofs.Common.{◌≡◌, ◌≢◌, ◌<◌, ◌≤◌, ◌+◌, ◌||◌, inl, inr, ltb-false, ℕ, zero, suc, Bool, true, false, cond, leb, List, length, Option, Some, None, refl, ap, sym, subst, ◌∙◌, arith}
 use Rattle.std.specs.Prelude.{if◌then◌else◌}
-use Rattle.std.proofs.lemmas.Bool.{ltb-true}
+use Rattle.std.proofs.lemmas.Bool.{ltb-true, lt-ltb}
+use Rattle.model.specs.Switching.{is_ready, is_held, is_scheduler_suspended}
 use Rattle.std.proofs.lemmas.Bool.Decides.{nat_tests}
 use Rattle.std.proofs.lemmas.Option.{same_Some, slice_get_within}
 use Rattle.std.specs.Option.{IfSome}
@@ -10,28 +11,30 @@ use Rattle.model.specs.declared.call.Phase.{Phase}
 use Rattle.model.specs.declared.call.Phase.TheVariants.{Start, Try, Decide, Place, Unlock, Leave, Final}
 use Rattle.model.specs.declared.event.End.{End}
 use Rattle.model.specs.declared.event.End.TheVariants as ending
+use Rattle.model.specs.declared.call.Condition.{Condition}
 use Rattle.model.specs.declared.op.Access.{Access}
+use Rattle.model.specs.declared.plan.Point.{Point}
 use Rattle.model.specs.declared.op.Op.{Op}
-use Rattle.model.specs.declared.op.Op.TheVariants.{Work, Delay, DelayUntil, Yield, Time, Mark, Expect, Repeat, End as EndLoop, Await, Do, GiveMutex, MessagesWaiting, SpacesAvailable}
+use Rattle.model.specs.declared.op.Op.TheVariants.{Work, Delay, DelayUntil, Yield, Time, Mark, Expect, Repeat, End as EndLoop, Await, Do, GiveMutex, MessagesWaiting, SpacesAvailable, SetBits, ClearBits, GetBits, WaitBits, Suspend, Resume, SuspendAll, ResumeAll}
 use Rattle.model.specs.Application.{Application, Limits, script_of, op_at}
-use Rattle.model.specs.Scripts.{may_stand, fits_object, is_wait, knows, IsWellFormed}
+use Rattle.model.specs.Scripts.{may_stand, fits_object, is_in_range, is_wait, knows, IsWellFormed}
 use Rattle.model.specs.State.{State, Progress, Wait, wait_of, task_at, progress_at, call_at, status_at}
 use Rattle.model.specs.Run.{end_of, or_else, are_all_ended, is_stuck, state_after}
-use Rattle.model.specs.Invariant.{IsState, IsUsedBy, IsRunning, IsPlacing, IsWaitOf, RunsIn, awaited, IsPhaseOf, Suspension, hold_of, holds}
+use Rattle.model.specs.Invariant.{IsState, IsUsedBy, IsRunning, IsPlacing, IsWaitOf, RunsIn, InOne, ToSetBits, course, IsPhaseOf, hold_of, holds, Suspension}
 use Rattle.model.proofs.InScripts.{script_formed, stands_at, known_at, range_at}
 use Rattle.model.proofs.Sound.{ready_reckoned}
-use Rattle.model.proofs.Frames.{keeps-before_step}
-use Rattle.model.proofs.Reached.{reached_after, reached_before_step, start_only}
-use Rattle.model.specs.Step.{before_step}
+use Rattle.model.proofs.Frames.{keeps-all_ready, keeps-before_step}
+use Rattle.model.proofs.Reached.{reached_after, reached_before_step, start_only, suspensions_after}
+use Rattle.model.specs.Step.{before_step, nobody_ready, ready_at_reset, reset, step, with_ops}
 use Rattle.sched.proofs.Standing as on_sched
 use Rattle.objects.specs.declared.lock.Lock.{Lock}
 use Rattle.objects.specs.Queues.{locked_by}
-use Rattle.model.proofs.Handled.{and_left}
+use Rattle.model.proofs.Handled.{and_left, and_right}
 use Rattle.objects.proofs.Sizes.{has_room}
 use Rattle.kernel.specs.declared.kernel.Kernel.{Kernel}
 use Rattle.kernel.specs.StandsFor.{StandsFor, StandsBefore, Stands, decider, progress_in}
 use Rattle.kernel.specs.StandsFor.Stands.{Placed, Placing}
-use Rattle.kernel.specs.Can.{Runs, HasLoopRoom, HasRoom, HasObject, HasObjects, CanTick, Can, IsAhead, IsInCall, CanTry, IsShort, CanPlace, CanGoOn, CanOp, CanAct, CanStep, StandsForSome}
+use Rattle.kernel.specs.Can.{Runs, HasLoopRoom, HasRoom, HasObject, HasObjects, Agrees, CanTick, Can, IsAhead, IsInCall, CanTry, IsShort, CanDecide, CanPlace, CanLeave, CanGoOn, CanSetBits, CanWaitBits, CanOp, CanHold, CanAct, CanStep, StandsForSome}
 use Rattle.kernel.proofs.Either.{elapsed_is, now_is, current_is, progress_is, suspensions_are}
 
 leb-less : (a b : ℕ) → leb a b ≡ false → b < a
@@ -43,6 +46,14 @@ unended None true t p k h = absurd (cc)
 unended None false true p k h = absurd (cc)
 unended None false false true k h = absurd (cc)
 unended None false false false k h = (refl, refl)
+
+or_left : (a b : Bool) → (a || b) ≡ false → a ≡ false
+or_left false b e = refl
+or_left true b e = absurd (cc)
+
+or_right : (a b : Bool) → (a || b) ≡ false → b ≡ false
+or_right false b e = e
+or_right true b e = absurd (cc)
 
 pub below_limits : (app : Application) (limits : Limits) (s : State) → end_of app limits s ≡ None → (s.elapsed < limits.ticks) × (s.steps < limits.steps)
 below_limits app limits s h =
@@ -64,10 +75,18 @@ loop_room (Do o a) nesting h = tt
 loop_room (GiveMutex o) nesting h = tt
 loop_room (MessagesWaiting o) nesting h = tt
 loop_room (SpacesAvailable o) nesting h = tt
+loop_room (SetBits g m) nesting h = tt
+loop_room (ClearBits g m) nesting h = tt
+loop_room (GetBits g) nesting h = tt
+loop_room (WaitBits g c w) nesting h = tt
+loop_room (Suspend j) nesting h = tt
+loop_room (Resume j) nesting h = tt
+loop_room SuspendAll nesting h = tt
+loop_room ResumeAll nesting h = tt
 
--- an op that doesn't wait
+-- an op of one phase
 abbrev IsBrief : Op → Type 0
-IsBrief op = awaited (Some op) ≡ None
+IsBrief op = course (Some op) ≡ InOne
 
 known_object : (app : Application) (op : Op) → IsBrief op → knows app op ≡ true → (k : Kernel) → HasObjects app k → HasObject k op
 known_object app (Work n) brief t k room = tt
@@ -84,6 +103,14 @@ known_object app (Do o a) brief t k room = room o a (and_left (fits_object app o
 known_object app (GiveMutex o) brief t k room = tt
 known_object app (MessagesWaiting o) brief t k room = tt
 known_object app (SpacesAvailable o) brief t k room = tt
+known_object app (SetBits g m) brief t k room = absurd (cc)
+known_object app (ClearBits g m) brief t k room = tt
+known_object app (GetBits g) brief t k room = tt
+known_object app (WaitBits g c w) brief t k room = absurd (cc)
+known_object app (Suspend j) brief t k room = tt
+known_object app (Resume j) brief t k room = tt
+known_object app SuspendAll brief t k room = tt
+known_object app ResumeAll brief t k room = tt
 
 short : (ticks : Option ℕ) → is_wait ticks ≡ true → IsShort ticks
 short None t = tt
@@ -97,6 +124,10 @@ none_held : (n : ℕ) (b : Bool) (depth : ℕ) → depth ≡ n + (if b then 1 el
 none_held n true depth e z t = absurd (cc)
 none_held n false depth e z t = omega (arith, e, z)
 
+unheld : (n : ℕ) (b : Bool) → b ≡ false → n + (if b then 1 else 0) ≡ n
+unheld n true t = absurd (cc)
+unheld n false t = omega arith
+
 once_held : (n : ℕ) (b : Bool) (depth : ℕ) → depth ≡ n + (if b then 1 else 0) → n ≡ 0 → b ≡ true → depth ≡ 1
 once_held n true depth e z t = omega (arith, e, z)
 once_held n false depth e z t = absurd (cc)
@@ -104,7 +135,7 @@ once_held n false depth e z t = absurd (cc)
 -- the kernel stands for a state of a run, early enough
 module _ (app : Application) (formed : IsWellFormed app) (k : Kernel) (state : State) (reached : IsState app state) (stands : Stands k state) (early : state.elapsed < 1000000) where
   time_low : k.clock.now < 4294967296 + 1000000
-  time_low = let e = now_is k state stands in let l = early in let m = reached.sound.time in let n = formed.start in omega arith
+  time_low = let e = now_is k state stands in let l = early in let m = reached.sound.time.1 in let n = formed.start in omega arith
 
   pub rooms : HasObjects app k
   rooms object access fit = by_stands stands where
@@ -112,13 +143,13 @@ module _ (app : Application) (formed : IsWellFormed app) (k : Kernel) (state : S
     by_stands (Placed h) = has_room app (hold_of state) k.queues None state object access reached.sound h.rest.queues fit
     by_stands (Placing task list b) = has_room app (hold_of state) k.queues (Some (decider task list state)) state object access reached.sound b.queues fit
 
-  calm : state.suspensions ≡ 0
-  calm = ap (λ (x : Suspension). x.suspensions) reached.unsuspended
+  depth_in : k.sched.depth ≡ state.suspensions + (if state.call_hold then 1 else 0)
+  depth_in = by_stands stands where
+    by_stands : Stands k state → k.sched.depth ≡ state.suspensions + (if state.call_hold then 1 else 0)
+    by_stands (Placed h) = h.sched.depth
+    by_stands (Placing task list b) = b.sched.depth
 
-  awake : k.suspensions ≡ 0
-  awake = suspensions_are k state stands ∙ calm
-
-  -- nobody holds the scheduler
+  -- no call holds the scheduler
   module _ (free : state.call_hold ≡ false) where
     placed : StandsFor k state
     placed = by_stands stands where
@@ -129,14 +160,19 @@ module _ (app : Application) (formed : IsWellFormed app) (k : Kernel) (state : S
     no_lock : k.queues.lock ≡ None
     no_lock = unlocked k.queues.lock state.locked placed.rest.queues.locked (reached.locked free)
 
-    not_held : k.sched.depth ≡ 0
-    not_held = none_held state.suspensions state.call_hold k.sched.depth placed.sched.depth calm free
+  -- no `suspend_all` is in force
+  module _ (awake : k.suspensions ≡ 0) where
+    calm : state.suspensions ≡ 0
+    calm = sym (suspensions_are k state stands) ∙ awake
 
-    can_tick : CanTick app k
-    can_tick = record { advance = record { agrees = (state, placed); free = no_lock; age = let l = early in let f = elapsed_is k state stands in omega arith; awake = awake }; depth = not_held; objects = rooms }
+    not_held : state.call_hold ≡ false → k.sched.depth ≡ 0
+    not_held free = none_held state.suspensions state.call_hold k.sched.depth depth_in calm free
 
-  idle_free : k.sched.current ≡ None → state.call_hold ≡ false
-  idle_free idle = subst (RunsIn state) (sym (current_is k state stands) ∙ idle) reached.runs
+    held_once : state.call_hold ≡ true → k.sched.depth ≡ 1
+    held_once held = once_held state.suspensions state.call_hold k.sched.depth depth_in calm held
+
+    can_tick : state.call_hold ≡ false → CanTick app k
+    can_tick free = record { advance = record { agrees = (state, placed free); free = no_lock free; age = let l = early in let f = elapsed_is k state stands in omega arith; awake = awake }; depth = not_held free; objects = rooms }
 
   module _ (task : TaskId) (runs : k.sched.current ≡ Some task) where
     same : progress_in k.progress task ≡ progress_at state task
@@ -145,12 +181,31 @@ module _ (app : Application) (formed : IsWellFormed app) (k : Kernel) (state : S
     on : state.current ≡ Some task
     on = sym (current_is k state stands) ∙ runs
 
-    running : IsRunning state task
-    running = subst (RunsIn state) on reached.runs
+    running : IsRunning app state task
+    running = subst (RunsIn app state) on reached.runs
+
+    free_in : (phase : Phase) → (call_at state task).phase ≡ phase → holds phase ≡ false → state.call_hold ≡ false
+    free_in phase e off = sym running.holding ∙ ap holds e ∙ off
+
+    held_in : (phase : Phase) → (call_at state task).phase ≡ phase → holds phase ≡ true → state.call_hold ≡ true
+    held_in phase e t = sym running.holding ∙ ap holds e ∙ t
+
+    -- where every task is placed
+    in_call : (phase : Phase) → (call_at state task).phase ≡ phase → phase ≢ Place → IsInCall k task
+    in_call phase e off = by_stands stands where
+      by_stands : Stands k state → IsInCall k task
+      by_stands (Placed h) = record { current = runs; agrees = (state, h) }
+      by_stands (Placing other list b) =
+          let one : other ≡ task = same_Some other task (sym b.current ∙ on) in
+          let there : (call_at state task).phase ≡ Place = subst (λ (i : ℕ). (call_at state i).phase ≡ Place) one b.phase in
+          absurd (off (sym e ∙ there))
 
     module _ (op : Op) (is : op_at app task (progress_in k.progress task).op_index ≡ Some op) where
       at_op : op_at app task (progress_at state task).op_index ≡ Some op
       at_op = let P : Progress → Type 0 = λ p. op_at app task p.op_index ≡ Some op in subst P same is
+
+      ready_here : state.call_hold ≡ false → is_ready state task ≡ true
+      ready_here free = elim (running.ready free) [ inl r ↦ r | inr x ↦ let f : None ≡ Some op = sym x.1 ∙ at_op in absurd (cc) ]
 
       known : knows app op ≡ true
       known = known_at app formed task (progress_at state task).op_index op at_op
@@ -172,21 +227,33 @@ module _ (app : Application) (formed : IsWellFormed app) (k : Kernel) (state : S
           let H : Progress → Type 0 = λ p. HasLoopRoom op (length p.loops) in
           subst H (sym same) (loop_room op (length (progress_at state task).loops) may)
 
-      -- the running task is Ready where nobody holds the scheduler
-      module _ (free : state.call_hold ≡ false) where
-        runs_on : Runs k task
-        runs_on = record { current = runs; ready = on_sched.ready_same k.sched state task (placed free).sched ∙ running.ready free; op_index = low }
+      -- in this phase the op may be
+      fits_phase : (phase : Phase) → (call_at state task).phase ≡ phase → IsPhaseOf (hold_of state) (course (Some op)) phase
+      fits_phase phase e =
+          let P : Option Op → Type 0 = λ o. IsPhaseOf (hold_of state) (course o) (call_at state task).phase in
+          subst (IsPhaseOf (hold_of state) (course (Some op))) e (subst P at_op (reached.sound.calls task).phase)
 
+      in_range : is_in_range op ≡ true
+      in_range = range_at (progress_at state task).op_index (script_of app task) op (script_formed app formed task).ranges at_op
+
+      -- where no call holds the scheduler the running task is Ready, and in a set of bits too
+      runs_ready : StandsFor k state → is_ready state task ≡ true → Runs k task
+      runs_ready h ready = record { current = runs; ready = on_sched.ready_same k.sched state task h.sched ∙ ready; op_index = low }
+
+      runs_on : state.call_hold ≡ false → Runs k task
+      runs_on free = runs_ready (placed free) (ready_here free)
+
+      module _ (free : state.call_hold ≡ false) where
         previous : (progress_in k.progress task).previous_wake ≤ k.clock.now
         previous =
-            let lower = ready_reckoned state.time (progress_at state task).previous_wake (status_at state task) (reached.sound.progress task).reckoned (running.ready free) in
+            let lower = ready_reckoned state.time (progress_at state task).previous_wake (status_at state task) (reached.sound.progress task).reckoned (ready_here free) in
             let H : Progress → Type 0 = λ p. p.previous_wake ≤ k.clock.now in
             subst H (sym same) (rw (now_is k state stands) lower)
 
-        can : IsBrief op → Can app k task op
-        can brief = record {
-          runs = runs_on;
-          tick = can_tick free;
+        can : k.suspensions ≡ 0 → IsBrief op → Can app k task op
+        can awake brief = record {
+          runs = runs_on free;
+          tick = can_tick awake free;
           used = used;
           nesting = nesting;
           object = known_object app op brief known k rooms;
@@ -194,22 +261,22 @@ module _ (app : Application) (formed : IsWellFormed app) (k : Kernel) (state : S
           time = let l = time_low in omega arith;
         }
 
-      brief_can : IsBrief op → Can app k task op
-      brief_can brief = can (start_only app formed state task reached on op brief at_op) brief
+        can_decide : k.suspensions ≡ 0 → CanDecide k task
+        can_decide awake = record { runs = runs_on free; agrees = (state, placed free); free = no_lock free; depth = not_held awake free }
+
+      brief_can : k.suspensions ≡ 0 → IsBrief op → Can app k task op
+      brief_can awake brief = can (start_only app formed state task reached on op brief at_op) awake brief
+
+      can_leave : k.suspensions ≡ 0 → (call_at state task).phase ≡ Leave → CanLeave k task
+      can_leave awake e = record { call = in_call Leave e (λ q. absurd (cc)); held = held_once awake (held_in Leave e refl); awake = awake }
 
     -- a call that waits
-    module _ (object : ℕ) (access : Access) (ticks : Option ℕ) (is : op_at app task (progress_in k.progress task).op_index ≡ Some (Await object access ticks)) where
-      free_in : (phase : Phase) → (call_at state task).phase ≡ phase → holds phase ≡ false → state.call_hold ≡ false
-      free_in phase e off = sym running.holding ∙ ap holds e ∙ off
-
-      held_in : (phase : Phase) → (call_at state task).phase ≡ phase → holds phase ≡ true → state.call_hold ≡ true
-      held_in phase e t = sym running.holding ∙ ap holds e ∙ t
-
+    module _ (object : ℕ) (access : Access) (ticks : Option ℕ) (is : op_at app task (progress_in k.progress task).op_index ≡ Some (Await object access ticks)) (awake : k.suspensions ≡ 0) where
       fit : fits_object app object access ≡ true
       fit = and_left (fits_object app object access) _ (known (Await object access ticks) is)
 
       can_try : state.call_hold ≡ false → CanTry k task object access
-      can_try free = record { runs = runs_on (Await object access ticks) is free; agrees = (state, placed free); free = no_lock free; depth = not_held free; room = rooms object access fit }
+      can_try free = record { runs = runs_on (Await object access ticks) is free; agrees = (state, placed free); free = no_lock free; depth = not_held awake free; room = rooms object access fit }
 
       in_state : (wait : Option Wait) (deadline : Option ℕ) → IfSome wait (λ w. IsWaitOf (op_at app task (progress_at state task).op_index) deadline w) → IsPlacing state.time (task_at state task) wait → IfSome deadline (λ d. d < state.time + 4294967296) → IsAhead state.time deadline
       in_state None deadline w p near = absurd p
@@ -237,56 +304,111 @@ module _ (app : Application) (formed : IsWellFormed app) (k : Kernel) (state : S
               deadline = deadline_near e;
             }
 
-      -- where it is to be unlocked or left, every task is placed
-      in_call : (phase : Phase) → (call_at state task).phase ≡ phase → phase ≢ Place → IsInCall k task
-      in_call phase e off = by_stands stands where
-        by_stands : Stands k state → IsInCall k task
-        by_stands (Placed h) = record { current = runs; agrees = (state, h) }
-        by_stands (Placing other list b) =
-            let one : other ≡ task = same_Some other task (sym b.current ∙ on) in
-            let there : (call_at state task).phase ≡ Place = subst (λ (i : ℕ). (call_at state i).phase ≡ Place) one b.phase in
-            absurd (off (sym e ∙ there))
-
-      depth_in : IsInCall k task → state.call_hold ≡ true → k.sched.depth ≡ 1
-      depth_in _ held = by_stands stands where
-        by_stands : Stands k state → k.sched.depth ≡ 1
-        by_stands (Placed h) = once_held state.suspensions state.call_hold k.sched.depth h.sched.depth calm held
-        by_stands (Placing other list b) = once_held state.suspensions state.call_hold k.sched.depth b.sched.depth calm held
-
       goes_on : (phase : Phase) → (call_at state task).phase ≡ phase → CanGoOn k task object access ticks phase
-      goes_on Start e = (can_try (free_in Start e refl), short ticks (range_at (progress_at state task).op_index (script_of app task) (Await object access ticks) (script_formed app formed task).ranges (at_op (Await object access ticks) is)), let l = time_low in omega arith)
+      goes_on Start e = (can_try (free_in Start e refl), short ticks (in_range (Await object access ticks) is), let l = time_low in omega arith)
       goes_on Try e = can_try (free_in Try e refl)
-      goes_on Decide e =
-          let free = free_in Decide e refl in
-          record { runs = runs_on (Await object access ticks) is free; agrees = (state, placed free); free = no_lock free; depth = not_held free }
+      goes_on Decide e = can_decide (Await object access ticks) is (free_in Decide e refl) awake
       goes_on Place e = before e
       goes_on Unlock e = in_call Unlock e (λ q. absurd (cc))
-      goes_on Leave e =
-          let there = in_call Leave e (λ q. absurd (cc)) in
-          record { call = there; held = depth_in there (held_in Leave e refl); awake = awake }
-      goes_on Final e =
-          let P : Option Op → Type 0 = λ op. IsPhaseOf (hold_of state) (awaited op) (call_at state task).phase in
-          let there : IsPhaseOf (hold_of state) (Some object) (call_at state task).phase = subst P (at_op (Await object access ticks) is) (reached.sound.calls task).phase in
-          absurd (subst (IsPhaseOf (hold_of state) (Some object)) e there)
+      goes_on Leave e = can_leave (Await object access ticks) is awake e
+      goes_on Final e = absurd (fits_phase (Await object access ticks) is Final e)
 
-    can_op : (op : Op) → op_at app task (progress_in k.progress task).op_index ≡ Some op → CanOp app k task op
-    can_op (Work n) is = brief_can (Work n) is refl
-    can_op (Delay n) is = brief_can (Delay n) is refl
-    can_op (DelayUntil n) is = brief_can (DelayUntil n) is refl
-    can_op Yield is = brief_can Yield is refl
-    can_op Time is = brief_can Time is refl
-    can_op (Mark n) is = brief_can (Mark n) is refl
-    can_op (Expect a) is = brief_can (Expect a) is refl
-    can_op (Repeat n) is = brief_can (Repeat n) is refl
-    can_op EndLoop is = brief_can EndLoop is refl
-    can_op (Await o a w) is = subst (λ (p : Progress). CanGoOn k task o a w p.call.phase) (sym same) (goes_on o a w is (call_at state task).phase refl)
-    can_op (Do o a) is = brief_can (Do o a) is refl
-    can_op (GiveMutex o) is = brief_can (GiveMutex o) is refl
-    can_op (MessagesWaiting o) is = brief_can (MessagesWaiting o) is refl
-    can_op (SpacesAvailable o) is = brief_can (SpacesAvailable o) is refl
+    -- a set of bits
+    sets : (group mask : ℕ) → op_at app task (progress_in k.progress task).op_index ≡ Some (SetBits group mask) → k.suspensions ≡ 0 → (phase : Phase) → (call_at state task).phase ≡ phase → CanSetBits k task phase
+    sets group mask is awake Start e = can_decide (SetBits group mask) is (free_in Start e refl) awake
+    sets group mask is awake Leave e =
+        let can = can_leave (SetBits group mask) is awake e in
+        let way : course (op_at app task (progress_at state task).op_index) ≡ ToSetBits = ap course (at_op (SetBits group mask) is) in
+        (runs_placed can.call.agrees (running.setting (held_in Leave e refl) way), can) where
+          runs_placed : Agrees k → is_ready state task ≡ true → Runs k task
+          runs_placed a ready = by_stands stands where
+            by_stands : Stands k state → Runs k task
+            by_stands (Placed h) = runs_ready (SetBits group mask) is h ready
+            by_stands (Placing other list b) = absurd (a.1.rest.placed other (ap (λ (p : Progress). p.call.phase) (b.progress other) ∙ b.phase))
+    sets group mask is awake Try e = absurd (fits_phase (SetBits group mask) is Try e)
+    sets group mask is awake Decide e = absurd (fits_phase (SetBits group mask) is Decide e)
+    sets group mask is awake Place e = absurd (fits_phase (SetBits group mask) is Place e)
+    sets group mask is awake Unlock e = absurd (fits_phase (SetBits group mask) is Unlock e)
+    sets group mask is awake Final e = absurd (fits_phase (SetBits group mask) is Final e)
 
-  pub can_act : CanAct app k
-  can_act = record { tick = λ idle. can_tick (idle_free idle); op = λ task op runs is. can_op task runs op is }
+    -- a wait for bits
+    waits : (group : ℕ) (condition : Condition) (ticks : Option ℕ) → op_at app task (progress_in k.progress task).op_index ≡ Some (WaitBits group condition ticks) → k.suspensions ≡ 0 → (phase : Phase) → (call_at state task).phase ≡ phase → CanWaitBits k task ticks phase
+    waits group c ticks is awake Start e = (can_decide (WaitBits group c ticks) is (free_in Start e refl) awake, short ticks (and_right _ (is_wait ticks) (in_range (WaitBits group c ticks) is)), let l = time_low in omega arith)
+    waits group c ticks is awake Leave e = can_leave (WaitBits group c ticks) is awake e
+    waits group c ticks is awake Final e = can_decide (WaitBits group c ticks) is (free_in Final e refl) awake
+    waits group c ticks is awake Try e = absurd (fits_phase (WaitBits group c ticks) is Try e)
+    waits group c ticks is awake Decide e = absurd (fits_phase (WaitBits group c ticks) is Decide e)
+    waits group c ticks is awake Place e = absurd (fits_phase (WaitBits group c ticks) is Place e)
+    waits group c ticks is awake Unlock e = absurd (fits_phase (WaitBits group c ticks) is Unlock e)
+
+    can_op : k.suspensions ≡ 0 → (op : Op) → op_at app task (progress_in k.progress task).op_index ≡ Some op → CanOp app k task op
+    can_op awake (Work n) is = brief_can (Work n) is awake refl
+    can_op awake (Delay n) is = brief_can (Delay n) is awake refl
+    can_op awake (DelayUntil n) is = brief_can (DelayUntil n) is awake refl
+    can_op awake Yield is = brief_can Yield is awake refl
+    can_op awake Time is = brief_can Time is awake refl
+    can_op awake (Mark n) is = brief_can (Mark n) is awake refl
+    can_op awake (Expect a) is = brief_can (Expect a) is awake refl
+    can_op awake (Repeat n) is = brief_can (Repeat n) is awake refl
+    can_op awake EndLoop is = brief_can EndLoop is awake refl
+    can_op awake (Await o a w) is = subst (λ (p : Progress). CanGoOn k task o a w p.call.phase) (sym same) (goes_on o a w is awake (call_at state task).phase refl)
+    can_op awake (Do o a) is = brief_can (Do o a) is awake refl
+    can_op awake (GiveMutex o) is = brief_can (GiveMutex o) is awake refl
+    can_op awake (MessagesWaiting o) is = brief_can (MessagesWaiting o) is awake refl
+    can_op awake (SpacesAvailable o) is = brief_can (SpacesAvailable o) is awake refl
+    can_op awake (SetBits g m) is = subst (λ (p : Progress). CanSetBits k task p.call.phase) (sym same) (sets g m is awake (call_at state task).phase refl)
+    can_op awake (ClearBits g m) is = brief_can (ClearBits g m) is awake refl
+    can_op awake (GetBits g) is = brief_can (GetBits g) is awake refl
+    can_op awake (WaitBits g c w) is = subst (λ (p : Progress). CanWaitBits k task w p.call.phase) (sym same) (waits g c w is awake (call_at state task).phase refl)
+    can_op awake (Suspend j) is = brief_can (Suspend j) is awake refl
+    can_op awake (Resume j) is = brief_can (Resume j) is awake refl
+    can_op awake SuspendAll is = brief_can SuspendAll is awake refl
+    can_op awake ResumeAll is = brief_can ResumeAll is awake refl
+
+    -- a `suspend_all` is in force
+    can_hold : 0 < k.suspensions → state.suspensions < 1000000 → (op : Op) → op_at app task (progress_in k.progress task).op_index ≡ Some op → CanHold app k task op
+    can_hold some few op is =
+        let free : state.call_hold ≡ false = reached.apart (lt-ltb 0 state.suspensions (rw (sym (suspensions_are k state stands)) some)) in
+        let h = placed free in
+        let elapsed = elapsed_is k state stands in
+        record {
+          runs = runs_on op is free;
+          agrees = (state, h);
+          free = no_lock free;
+          age = let l = early in omega arith;
+          held = let l = early in omega arith;
+          suspensions = let e = suspensions_are k state stands in let l = few in omega arith;
+          depth = depth_in ∙ unheld state.suspensions state.call_hold free ∙ sym (suspensions_are k state stands);
+          objects = rooms;
+          used = used op is;
+          nesting = nesting op is;
+        }
+
+  -- where idle runs, nothing is held
+  idle_held : k.sched.current ≡ None → is_held state ≡ false
+  idle_held idle = subst (RunsIn app state) (sym (current_is k state stands) ∙ idle) reached.runs
+
+  idle_free : k.sched.current ≡ None → state.call_hold ≡ false
+  idle_free idle = or_left state.call_hold (is_scheduler_suspended state) (idle_held idle)
+
+  idle_awake : k.sched.current ≡ None → k.suspensions ≡ 0
+  idle_awake idle =
+      let most = ltb-false 0 state.suspensions (or_right state.call_hold (is_scheduler_suspended state) (idle_held idle)) in
+      suspensions_are k state stands ∙ (let none : state.suspensions ≡ 0 = omega arith in none)
+
+  pub can_act : state.suspensions < 1000000 → CanAct app k
+  can_act few = record { tick = λ idle. can_tick (idle_awake idle) (idle_free idle); op = λ task op runs is. ((λ awake. can_op task runs awake op is), (λ some. can_hold task runs some few op is)) }
+
+-- ---- how many steps are done
+
+pub steps-reset : (app : Application) → (reset app).steps ≡ 0
+unfolding reset ready_at_reset nobody_ready
+steps-reset app = (keeps-all_ready (with_ops 0 app.tasks) (nobody_ready app)).steps
+
+steps_after : (app : Application) (plan : List Point) (n : ℕ) → (state_after app plan n).steps ≡ n
+unfolding step
+steps_after app plan zero = steps-reset app
+steps_after app plan (suc n) = let e = steps_after app plan n in omega arith
 
 -- ---- before a step, and after the handlers that come before it
 
@@ -310,4 +432,5 @@ module _ (app : Application) (formed : IsWellFormed app) (k : Kernel) (c : CanSt
   can_act_after handlers new h =
       let age : (before_step app handlers now).elapsed ≡ now.elapsed = (keeps-before_step app handlers now).elapsed in
       let low : (before_step app handlers now).elapsed < 1000000 = (let l = early_now in omega arith) in
-      can_act app formed new (before_step app handlers now) (reached_before_step app formed handlers now reached_now) h low
+      let few : (before_step app handlers now).suspensions < 1000000 = (let e = ap (λ (x : Suspension). x.suspensions) (keeps-before_step app handlers now).suspension in let n = suspensions_after app formed c.plan c.steps in let m = steps_after app c.plan c.steps in let l = (below_limits app c.limits now c.goes_on).1 in let o = c.step_limit in omega arith) in
+      can_act app formed new (before_step app handlers now) (reached_before_step app formed handlers now reached_now) h low few

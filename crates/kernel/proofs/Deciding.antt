@@ -4,7 +4,8 @@ use Rattle.std.specs.Prelude.{if◌then◌else◌}
 use Rattle.std.specs.Option.{IfSome, is_some}
 use Rattle.std.proofs.Math.ListN.{length-set}
 use Rattle.model.specs.declared.call.CallProgress.{CallProgress}
-use Rattle.model.specs.declared.call.Phase.TheVariants.{Place, Try, Unlock}
+use Rattle.model.specs.declared.call.Phase.{Phase}
+use Rattle.model.specs.declared.call.Phase.TheVariants.{Place, Unlock}
 use Rattle.model.specs.declared.call.WaitList.{WaitList}
 use Rattle.model.specs.declared.op.Access.{Access}
 use Rattle.model.specs.declared.event.Event.{Event}
@@ -44,7 +45,7 @@ use Rattle.kernel.proofs.Parts.{clock-same, progress-set, same_parts, same_alike
 use Rattle.kernel.proofs.Acting.{within}
 use Rattle.kernel.proofs.Waits.{recalled}
 
-not_held : (n : ℕ) (b : Bool) (depth : ℕ) → depth ≡ n + (if b then 1 else 0) → depth ≡ 0 → b ≡ false
+pub not_held : (n : ℕ) (b : Bool) (depth : ℕ) → depth ≡ n + (if b then 1 else 0) → depth ≡ 0 → b ≡ false
 not_held n true depth e z = absurd (omega (arith, e, z))
 not_held n false depth e z = refl
 
@@ -360,11 +361,11 @@ module _ (k : Kernel) (log : List Event) (s : State) (i : ℕ) (list : WaitList)
         kept_table : IsTable (with_task i (record (task_at s i) { progress = p }) s)
         kept_table = table-set s i (record (task_at s i) { progress = p }) on.table (ticket_at s.next_ticket i s.tasks on.table.tickets)
 
--- ---- the hold ends
+-- ---- a hold begins, or ends
 
-unheld_at : (k : Kernel) (log : List Event) (s : State) → At k log s → (v : Schedule) → sched.StandsFor v (record s { call_hold = false }) → At (record k { sched = v }) log (record s { call_hold = false })
-unheld_at k log s h v on =
-    let new : State = record s { call_hold = false } in
+pub hold_at : (b : Bool) (k : Kernel) (log : List Event) (s : State) → At k log s → (v : Schedule) → sched.StandsFor v (record s { call_hold = b }) → At (record k { sched = v }) log (record s { call_hold = b })
+hold_at b k log s h v on =
+    let new : State = record s { call_hold = b } in
     let same : SameWaits s new = same_parts s new refl refl refl in
     record {
       stands = record {
@@ -385,16 +386,16 @@ unheld_at k log s h v on =
       log = h.log;
     }
 
--- The task's call has let go of the scheduler, and will try again.
+-- The task's call has let go of the scheduler, and goes on with this phase.
 module _ (k new : Kernel) (log : List Event) (s : State) (h : At k log s) (i : ℕ) (c : CanLeave k i) (w : Schedule) (unhold : s.call_hold ≡ true → sched.StandsFor w (record s { call_hold = false })) (runs : w.current ≡ k.sched.current)
-    (v : Progress) (view : v ≡ progress_in k.progress i) (is : new ≡ with_progress i (record (progress_in k.progress i) { call = record v.call { phase = Try; list = None } }) (record k { sched = w })) where
+    (v : Progress) (view : v ≡ progress_in k.progress i) (phase : Phase) (off : phase ≢ Place) (is : new ≡ with_progress i (record (progress_in k.progress i) { call = record v.call { phase = phase; list = None } }) (record k { sched = w })) where
   same : v ≡ progress_at s i
   same = view ∙ h.stands.rest.progress i
 
-  pub freed : At new log (end_hold i Try s)
-  freed = recalled (record k { sched = w }) new log (record s { call_hold = false }) (unheld_at k log s h w (unhold (is_held s.suspensions s.call_hold k.sched.depth h.stands.sched.depth (sym h.stands.rest.suspensions ∙ c.awake) c.held))) i
+  pub freed : At new log (end_hold i phase s)
+  freed = recalled (record k { sched = w }) new log (record s { call_hold = false }) (hold_at false k log s h w (unhold (is_held s.suspensions s.call_hold k.sched.depth h.stands.sched.depth (sym h.stands.rest.suspensions ∙ c.awake) c.held))) i
       (runs ∙ c.call.current)
-      (record v.call { phase = Try; list = None }) (record (call_at s i) { phase = Try; list = None }) is (ap (λ (p : Progress). record p.call { phase = Try; list = None }) same) (λ e. absurd (cc)) (λ _. refl)
+      (record v.call { phase = phase; list = None }) (record (call_at s i) { phase = phase; list = None }) is (ap (λ (p : Progress). record p.call { phase = phase; list = None }) same) off (λ _. refl)
 
   pub waited : is_some (call_at s i).list ≡ is_some v.call.list
   waited = ap (λ (p : Progress). is_some p.call.list) (sym same)

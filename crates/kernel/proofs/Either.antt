@@ -1,13 +1,14 @@
 -- What holds of a kernel whether or not a task is still to be placed.
-use Rattle.std.proofs.Common.{◌+◌, ◌≡◌, ◌∙◌, ◌≤◌, ℕ, List, Option, refl, ap, sym, subst, arith}
+use Rattle.std.proofs.Common.{◌+◌, ◌≡◌, ◌≢◌, ◌∙◌, ◌≤◌, ℕ, List, Option, None, refl, ap, sym, subst, arith}
 use Rattle.model.specs.declared.call.Phase.{Phase}
 use Rattle.model.specs.declared.call.WaitList.{WaitList}
 use Rattle.model.specs.declared.op.Access.{Access}
 use Rattle.model.specs.declared.op.Op.{Op}
-use Rattle.model.specs.declared.op.Op.TheVariants.{Await}
+use Rattle.model.specs.declared.op.Op.TheVariants.{Await, SuspendAll}
 use Rattle.model.specs.Application.{Application}
 use Rattle.model.specs.Calls.{await}
-use Rattle.model.specs.Step.{act}
+use Rattle.model.specs.Step.{act, act_unless, own_misuse, misuse}
+use Rattle.model.proofs.Passing.{acts_calm}
 use Rattle.model.specs.declared.event.Event.{Event}
 use Rattle.model.specs.State.{State, Progress, progress_at, call_at}
 use Rattle.kernel.specs.declared.kernel.Kernel.{Kernel}
@@ -77,6 +78,15 @@ moves_any count old new log deed a d = record {
   at = λ s h. any new log.told (deed s) (d log.told s (all_placed old a log.told s h));
   few = omega arith;
   before = refl;
+}
+
+-- Where no `suspend_all` is in force, an op that is no misuse does what it does.
+pub freely : (app : Application) (old new : Kernel) (old_log new_log : Logged) (task : ℕ) (op : Op) → old.suspensions ≡ 0 → ((s : State) → own_misuse s task op ≡ None) → op ≢ SuspendAll
+    → DoesAny 65 old old_log new new_log (act app task op) → DoesAny 65 old old_log new new_log (λ s. act_unless app task (misuse s task op) op s)
+freely app old new old_log new_log task op none fine ne d = record {
+  at = λ s h. subst (AtAny new new_log.told) (sym (acts_calm app task op s (sym (suspensions_are old s h.stands) ∙ none) (fine s) ne)) (d.at s h);
+  few = d.few;
+  before = d.before;
 }
 
 -- What an op that doesn't wait does

@@ -16,8 +16,8 @@ use Rattle.model.specs.declared.call.WaitList.{WaitList}
 use Rattle.model.specs.Waiting.{same_list, wait_key}
 use Rattle.model.specs.Time.{delayed_key}
 use Rattle.model.specs.Handlers.{inject}
-use Rattle.model.specs.Step.{act_current, before_step, step}
-use Rattle.model.specs.Run.{is_ended, are_all_ended, is_interrupt_to_come, is_stuck, end_of}
+use Rattle.model.specs.Step.{is_ended, act_current, before_step, step}
+use Rattle.model.specs.Run.{are_all_ended, is_interrupt_to_come, is_stuck, end_of}
 use Rattle.model.specs.Invariant.{IsTable}
 use Rattle.model.proofs.Sorting.{length-in_order, by_test}
 use Rattle.model.proofs.Lists.{eqb-apart, eqb-refl, HasKey, list_has}
@@ -34,7 +34,6 @@ use Rattle.objects.proofs.Keys.{same_list-refl}
 use Rattle.groups.specs.StandsFor.{bits_wait}
 use Rattle.kernel.specs.Blocked.{is_blocked}
 use Rattle.model.specs.Suspension.{can_resume}
-use Rattle.groups.specs.StandsFor as groups
 use Rattle.groups.proofs.Standing as on_groups
 use Rattle.groups.proofs.Kept as bits_kept
 use Rattle.kernel.specs.declared.kernel.Kernel.{Kernel}
@@ -42,7 +41,6 @@ use Rattle.kernel.specs.StandsFor.{StandsFor, StandsBefore, Stands, AtAny, DoesA
 use Rattle.kernel.specs.Logged.{Logged}
 use Rattle.kernel.specs.Can.{StandsForSome}
 use Rattle.kernel.specs.StandsFor.Stands.{Placed, Placing}
-use Rattle.objects.specs.Queues as queues
 use Rattle.objects.specs.Queues.{SameWaits}
 use Rattle.objects.proofs.Kept.{stands_same}
 use Rattle.objects.proofs.Awake.{at_locked_same}

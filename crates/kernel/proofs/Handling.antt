@@ -5,7 +5,7 @@ use Rattle.std.proofs.lemmas.List.{length-take-le, take_more}
 use Rattle.model.specs.declared.event.What.{What}
 use Rattle.model.specs.declared.event.What.TheVariants.{IsrMark}
 use Rattle.model.specs.declared.op.IsrOp.{IsrOp}
-use Rattle.model.specs.declared.op.IsrOp.TheVariants.{Do, Mark}
+use Rattle.model.specs.declared.op.IsrOp.TheVariants.{Do, Resume, GetBits, Mark}
 use Rattle.model.specs.declared.op.Access.{Access}
 use Rattle.std.specs.Prelude.{option_map, slice_get, unwrap_or}
 use Rattle.model.specs.Application.{Application, Handler, ops_of}
@@ -46,6 +46,8 @@ op_fits app formed k handler i op room l e = by_op op (at (ops_of app handler) i
 
   by_op : (x : IsrOp) → knows_isr app x ≡ true → HasIsrObject k x
   by_op (Do o a) known = room o a (and_left (fits_object app o a) _ known)
+  by_op (Resume i) known = tt
+  by_op (GetBits g) known = tt
   by_op (Mark n) known = tt
 
 -- and there are few

@@ -12,7 +12,10 @@ pub mod Waits
 pub mod Ranking
 pub mod Deciding
 pub mod Unlocking
+pub mod EventBits
 pub mod Before
 pub mod Calling
 pub mod Handling
 pub mod Planned
+pub mod Suspending
+pub mod Held

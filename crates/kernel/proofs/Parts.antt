@@ -1,5 +1,5 @@
 -- What the parts of the kernel make of the states that it stands for.
-use Rattle.std.proofs.Common.{◌≡◌, ◌≢◌, ◌<◌, ℕ, zero, suc, true, false, eqb, List, [], ◌∷◌, ◌++◌, length, get_or, set, Option, Some, None, refl, ap, sym, subst, ◌∙◌, arith, get_or-set_same, get_or-set_other}
+use Rattle.std.proofs.Common.{◌≡◌, ◌≢◌, ◌<◌, ℕ, zero, suc, Bool, true, false, eqb, List, [], ◌∷◌, ◌++◌, length, get_or, set, Option, Some, None, refl, ap, sym, subst, ◌∙◌, arith, get_or-set_same, get_or-set_other}
 use Rattle.std.specs.List.{filter}
 use Rattle.std.specs.Option.{option_eq, is_some}
 use Rattle.std.proofs.Math.ListN.{length-set}
@@ -141,13 +141,17 @@ rest_same k s new h tasks time ticks steps stopped shared locked table =
       placed = h.placed;
     }
 
--- a Ready task is a task
-pub ready_within : (s : State) (i : ℕ) → is_ready s i ≡ true → i < length s.tasks
-ready_within s i t = by_index s.tasks i t where
-  by_index : (ts : List Task) (i : ℕ) → is_some (ticket_if_ready (get_or ts i no_task).status) ≡ true → i < length ts
+-- who has such a status is a task, if a task that isn't there hasn't
+pub there_if : (p : Status → Bool) → p Ended ≡ false → (s : State) (i : ℕ) → p (status_at s i) ≡ true → i < length s.tasks
+there_if p none s i t = by_index s.tasks i t where
+  by_index : (ts : List Task) (i : ℕ) → p (get_or ts i no_task).status ≡ true → i < length ts
   by_index [] i t = absurd (cc)
   by_index (u ∷ us) zero t = omega arith
   by_index (u ∷ us) (suc i) t = let l = by_index us i t in omega arith
+
+-- a Ready task is a task
+pub ready_within : (s : State) (i : ℕ) → is_ready s i ≡ true → i < length s.tasks
+ready_within s i t = there_if (λ u. is_some (ticket_if_ready u)) refl s i t
 
 -- a Ready task waits for no bits
 pub not_for_bits : {X : Type 0} (s : State) (i : ℕ) → is_ready s i ≡ true → is_some (bits_wait (status_at s i)) ≡ true → X

@@ -9,16 +9,16 @@ use Rattle.model.specs.declared.op.Op.{Op}
 use Rattle.model.specs.Application.{Application, Limits, AreLimits, op_at}
 use Rattle.model.specs.Scripts.{IsWellFormed}
 use Rattle.model.specs.State.{State, Progress, progress_at}
-use Rattle.model.specs.Step.{act_unless, misuse, act_if, act_current, step, reset, ready_at_reset, nobody_ready, with_ops}
+use Rattle.model.specs.Step.{act_unless, misuse, act_if, act_current, step, reset}
 use Rattle.model.specs.declared.plan.Point.{Point}
 use Rattle.model.specs.Run.{Run, IsRun, end_of, injected, state_after, events_after}
-use Rattle.model.proofs.Frames.{elapsed-reset, elapsed-step, keeps-all_ready}
+use Rattle.model.proofs.Passing.{elapsed-reset, elapsed-step}
 use Rattle.kernel.specs.declared.kernel.Kernel.{Kernel}
 use Rattle.kernel.specs.Logged.{Logged, all_of}
 use Rattle.kernel.specs.StandsFor.{Stands, AtAny, DoesAny, progress_in}
 use Rattle.kernel.specs.Can.{CanStep, IsUnderWay}
 use Rattle.kernel.proofs.Either.{steps_are, elapsed_is, current_is, progress_is}
-use Rattle.kernel.proofs.Bounds.{below_limits}
+use Rattle.kernel.proofs.Bounds.{below_limits, steps-reset}
 
 leb-le : (a b : ℕ) → leb a b ≡ true → a ≤ b
 leb-le a b e = grind (arith, nat_tests)
@@ -57,10 +57,6 @@ told_after log before told e f = rw (e, f) refl
 -- ---- from step to step
 
 -- the kernel at reset
-steps-reset : (app : Application) → (reset app).steps ≡ 0
-unfolding reset ready_at_reset nobody_ready
-steps-reset app = (keeps-all_ready (with_ops 0 app.tasks) (nobody_ready app)).steps
-
 pub steps_begin : (app : Application) (k : Kernel) → Stands k (reset app) → k.steps ≡ 0
 steps_begin app k h = steps_are k (reset app) h ∙ steps-reset app
 

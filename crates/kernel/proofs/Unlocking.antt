@@ -27,7 +27,6 @@ use Rattle.objects.proofs.Unlocking.{each_append}
 use Rattle.objects.proofs.Counting.{Distinct, distinct_from}
 use Rattle.groups.specs.StandsFor.{SameBitWaits}
 use Rattle.groups.proofs.Standing as on_groups
-use Rattle.groups.proofs.Kept as bits_kept
 use Rattle.groups.proofs.Elsewhere as bits_elsewhere
 use Rattle.kernel.specs.declared.kernel.Kernel.{Kernel}
 use Rattle.kernel.specs.StandsFor.{StandsFor, At}

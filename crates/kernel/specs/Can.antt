@@ -5,7 +5,7 @@ use Rattle.model.specs.declared.op.Access.{Access}
 use Rattle.model.specs.declared.op.IsrOp.{IsrOp}
 use Rattle.model.specs.declared.op.IsrOp.TheVariants as isr
 use Rattle.model.specs.declared.op.Op.{Op}
-use Rattle.model.specs.declared.op.Op.TheVariants.{Repeat, Await, Do}
+use Rattle.model.specs.declared.op.Op.TheVariants.{Repeat, Await, Do, SetBits, WaitBits}
 use Rattle.model.specs.declared.call.Phase.{Phase}
 use Rattle.model.specs.declared.call.Phase.TheVariants.{Start, Try, Decide, Place, Unlock, Leave, Final}
 use Rattle.model.specs.declared.call.WaitList.{WaitList}
@@ -58,7 +58,7 @@ HasObject k _ = Unit {0}
 -- the same of an op of a handler
 abbrev pub HasIsrObject : Kernel → IsrOp → Type 0
 HasIsrObject k (isr.Do object access) = HasRoom k object access
-HasIsrObject k (isr.Mark n) = Unit {0}
+HasIsrObject k _ = Unit {0}
 
 -- Each object on which the application may make a call has such room.
 abbrev pub HasObjects : Application → Kernel → Type 0
@@ -69,6 +69,13 @@ pub record CanAdvance (k : Kernel) : Type 0 where
   pub agrees : Agrees k
   pub free : k.queues.lock ≡ None
   pub age : k.clock.age < 2 ^ 62
+  pub awake : k.suspensions ≡ 0
+
+-- The held ticks can be applied.
+pub record CanApply (k : Kernel) : Type 0 where
+  pub agrees : Agrees k
+  pub free : k.queues.lock ≡ None
+  pub age : k.clock.age + k.clock.held < 2 ^ 62
   pub awake : k.suspensions ≡ 0
 
 -- A tick interrupt can come.
@@ -140,15 +147,42 @@ CanGoOn k task object access ticks Unlock = IsInCall k task
 CanGoOn k task object access ticks Leave = CanLeave k task
 CanGoOn k task object access ticks Final = CanLeave k task
 
+-- What a set of bits can do next in this phase.
+abbrev pub CanSetBits : Kernel → ℕ → Phase → Type 0
+CanSetBits k task Start = CanDecide k task
+CanSetBits k task _ = Runs k task × CanLeave k task
+
+-- What a wait for bits can do next in this phase.
+abbrev pub CanWaitBits : Kernel → ℕ → Option ℕ → Phase → Type 0
+CanWaitBits k task ticks Start = CanDecide k task × IsShort ticks × (k.clock.now + 2 ^ 32 < 2 ^ 63)
+CanWaitBits k task ticks Leave = CanLeave k task
+CanWaitBits k task ticks _ = CanDecide k task
+
 -- The running task can do what its op is to do next.
 abbrev pub CanOp : Application → Kernel → ℕ → Op → Type 0
 CanOp app k task (Await object access ticks) = CanGoOn k task object access ticks (progress_in k.progress task).call.phase
+CanOp app k task (SetBits group mask) = CanSetBits k task (progress_in k.progress task).call.phase
+CanOp app k task (WaitBits group condition ticks) = CanWaitBits k task ticks (progress_in k.progress task).call.phase
 CanOp app k task op = Can app k task op
+
+-- While a `suspend_all` is in force, and no call holds the scheduler: the task runs and can do this op, and one more of both
+-- `suspend_all` and held ticks can be counted.
+pub record CanHold (app : Application) (k : Kernel) (task : ℕ) (op : Op) : Type 0 where
+  pub runs : Runs k task
+  pub agrees : Agrees k
+  pub free : k.queues.lock ≡ None
+  pub age : k.clock.age + k.clock.held < 2 ^ 62
+  pub held : k.clock.held < 4294967295
+  pub suspensions : k.suspensions < 4294967295
+  pub depth : k.sched.depth ≡ k.suspensions
+  pub objects : HasObjects app k
+  pub used : IsUsedBy (progress_in k.progress task).used (Some op)
+  pub nesting : HasLoopRoom op (length (progress_in k.progress task).loops)
 
 -- The running task can do its op, and idle can let a tick pass.
 pub record CanAct (app : Application) (k : Kernel) : Type 0 where
   pub tick : k.sched.current ≡ None → CanTick app k
-  pub op : (task : TaskId) (op : Op) → k.sched.current ≡ Some task → op_at app task (progress_in k.progress task).op_index ≡ Some op → CanOp app k task op
+  pub op : (task : TaskId) (op : Op) → k.sched.current ≡ Some task → op_at app task (progress_in k.progress task).op_index ≡ Some op → (k.suspensions ≡ 0 → CanOp app k task op) × (0 < k.suspensions → CanHold app k task op)
 
 -- The kernel stands for the state of a run after some steps, and the run goes on under some limits.
 pub record CanStep (app : Application) (k : Kernel) : Type 0 where

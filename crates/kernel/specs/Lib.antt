@@ -4,3 +4,4 @@ pub mod StandsFor
 pub mod Blocked
 pub mod Can
 pub mod Boot
+pub mod Keeping

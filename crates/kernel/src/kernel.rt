@@ -7,6 +7,7 @@ ghost use Rattle.clock.specs.StandsFor.{StandsFor as ClockStandsFor, StandsBefor
 ghost use Rattle.objects.specs.Queues.{StandsFor as QueuesStandFor};
 ghost use Rattle.groups.specs.StandsFor.{StandsFor as GroupsStandFor};
 ghost use Rattle.model.specs.Switching.{write};
+ghost use Rattle.model.specs.Suspension.{phase_resumed, resumed};
 ghost use Rattle.kernel.specs.Loops.{after_turn, next_turn};
 ghost use Rattle.kernel.specs.StandsFor.{StandsFor, StandsBefore, Does, DoesAny, decider, progress_in, with_progress};
 
@@ -14,7 +15,7 @@ use crate::log::Log;
 use crate::progress::Progress;
 use clock::Clock;
 use groups::Groups;
-use model::{CallProgress, End, Event, Loop, Phase, TaskId, WaitList, What};
+use model::{CallProgress, Condition, End, Event, Loop, Phase, TaskId, WaitList, What};
 use objects::Queues;
 use sched::Sched;
 
@@ -30,6 +31,16 @@ pub struct Kernel {
     pub(crate) suspensions: u32,
     pub(crate) steps: u32,
     pub(crate) stopped: Option<End>,
+}
+
+/// The phase in which a resumed task's call goes on: one that was to decide tries again.
+fn phase_resumed(phase: Phase) -> Phase
+    ensures { result ≡ phase_resumed phase }
+{
+    match phase {
+        Phase::Decide => Phase::Try,
+        phase => phase,
+    }
 }
 
 impl Kernel {
@@ -136,6 +147,24 @@ impl Kernel {
         progress.call.deadline = deadline;
     }
 
+    /// These bits are kept as the answer of a task's call.
+    pub(crate) fn keep_answer(&mut self, task: TaskId, bits: u32)
+        ensures { let p = progress_in self.old.progress task in
+            self.new ≡ with_progress task (record p { call = record p.call { kept = Some bits } }) self.old }
+    {
+        let progress = &mut self.progress[task.number as usize];
+        progress.call.kept = Some(bits);
+    }
+
+    /// A task's call waits for such bits.
+    pub(crate) fn want(&mut self, task: TaskId, condition: Condition)
+        ensures { let p = progress_in self.old.progress task in
+            self.new ≡ with_progress task (record p { call = record p.call { wants = Some condition } }) self.old }
+    {
+        let progress = &mut self.progress[task.number as usize];
+        progress.call.wants = Some(condition);
+    }
+
     /// Whether the wait that a task begins has inherited.
     pub(crate) fn set_inherited(&mut self, task: TaskId, inherited: bool)
         ensures { let p = progress_in self.old.progress task in
@@ -168,6 +197,15 @@ impl Kernel {
     {
         let progress = &mut self.progress[task.number as usize];
         progress.previous_wake = time;
+    }
+
+    /// A task is resumed at this time: it counts from then at the latest, and a call that was to decide tries again.
+    pub(crate) fn set_resumed(&mut self, task: TaskId, now: u64)
+        ensures { self.new ≡ with_progress task (resumed now (progress_in self.old.progress task)) self.old }
+    {
+        let progress = &mut self.progress[task.number as usize];
+        progress.previous_wake = progress.previous_wake.min(now);
+        progress.call.phase = phase_resumed(progress.call.phase);
     }
 
     /// One more loop of a task is open, the innermost.

@@ -2,21 +2,23 @@
 //!
 //! Each function asks that the running task can do the op (`Can`), and that the log has room for the events that it tells
 //! at most; it does the deed of the definitions.
-ghost use Rattle.std.specs.Prelude.{◌≡◌, ◌≤◌, ◌+◌, Some};
+ghost use Rattle.std.specs.Prelude.{◌≡◌, ◌<◌, ◌≤◌, ◌+◌, Some};
 ghost use Rattle.model.specs.State.{progress_at};
-ghost use Rattle.model.specs.Ops.{go_to, complete, called, answer};
+ghost use Rattle.model.specs.Ops.{go_to, complete, called, answer, one_if};
 ghost use Rattle.model.specs.Step.{act_unless, misuse};
 ghost use Rattle.kernel.specs.StandsFor.{Does, DoesAny, Moves};
 ghost use Rattle.kernel.specs.Can.{Runs, CanOp};
 
 use crate::kernel::Kernel;
 use crate::log::Log;
-use model::{App, Op, TaskId, What};
+use model::{App, Misuse, Op, TaskId, What};
 
 mod calls;
+mod event_groups;
 mod mutexes;
 mod queues;
 mod script;
+mod suspension;
 mod time;
 
 // What a complete call tells.
@@ -27,6 +29,13 @@ fn called(task: TaskId, op_index: u16, given: Option<u32>) -> What
         Some(answer) => What::Call(task, op_index, answer),
         None => What::CallNone(task, op_index),
     }
+}
+
+/// What a call answers that did something, or did nothing.
+pub(crate) fn one_if(did: bool) -> u32
+    ensures { Some result ≡ one_if did }
+{
+    u32::from(did)
 }
 
 impl Kernel {
@@ -91,10 +100,12 @@ impl Kernel {
         self.answer_given(app, task, Some(number), log);
     }
 
-    /// What the running task's op does; a misuse ends the run, and does nothing else.
+    /// What the running task's op does, where no `suspend_all` is in force; a misuse ends the run, and does nothing else.
+    #[inline(always)]
     pub(crate) fn act<L: Log>(&mut self, app: &App, task: TaskId, op: Op, log: &mut L)
         requires room { 65 ≤ (L.logged log.old).room }
         requires can { CanOp app.now self.old task op }
+        requires awake { self.old.suspensions ≡ 0 }
         ensures { DoesAny 65 self.old (L.logged log.old) self.new (L.logged log.new)
             (λ s. act_unless app.now task (misuse s task op) op s) }
     {
@@ -115,6 +126,16 @@ impl Kernel {
             Op::GiveMutex(object) => self.give_mutex(app, task, object, log),
             Op::MessagesWaiting(object) => self.messages_waiting(app, task, object, log),
             Op::SpacesAvailable(object) => self.spaces_available(app, task, object, log),
+            Op::SetBits(group, mask) => self.set_bits(app, task, group, mask, log),
+            Op::ClearBits(group, mask) => self.clear_bits(app, task, group, mask, log),
+            Op::GetBits(group) => self.get_bits(app, task, group, log),
+            Op::WaitBits(group, condition, ticks) => {
+                self.wait_bits(app, task, group, condition, ticks, log)
+            }
+            Op::Suspend(other) => self.call_suspend(app, task, other, log),
+            Op::Resume(other) => self.call_resume(app, task, other, log),
+            Op::SuspendAll => self.call_suspend_all(app, task, log),
+            Op::ResumeAll => self.misuse(task, Misuse::NotSuspended),
         }
     }
 }

@@ -36,6 +36,10 @@ impl Kernel {
             self.tick_interrupt(app, log);
             return;
         };
+        if self.suspensions > 0 {
+            self.act_while_suspended(app, task, log);
+            return;
+        }
         let op_index = self.progress(task).op_index;
         if let Some(op) = app.op(task, op_index) {
             self.act(app, task, op, log);

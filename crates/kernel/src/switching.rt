@@ -156,7 +156,7 @@ impl Kernel {
     /// A tick of the clock: who is due becomes Ready, in the order in which they began to sleep.
     // The step stands twice in the program, so the compiler doesn't inline this by itself.
     #[inline(always)]
-    fn increment_tick(&mut self)
+    pub(crate) fn increment_tick(&mut self)
         requires { CanAdvance self.old }
         ensures does { Moves self.old self.new increment_tick }
         ensures leaves { Leaves self.old self.new }

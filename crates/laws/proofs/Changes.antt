@@ -1,11 +1,13 @@
 -- What every deed keeps of who sleeps and who has which ticket, and so every step.
-use Rattle.std.proofs.Common.{◌≡◌, ◌≢◌, ◌<◌, ◌≤◌, ◌+◌, ◌||◌, ℕ, zero, suc, true, false, eqb, leb, ltb, leb-false, inl, inr, ◌⊎◌, List, [], ◌∷◌, map, get_or, set, Option, Some, None, refl, ap, ap₂, sym, subst, ◌∙◌, arith}
+use Rattle.std.proofs.Common.{get_or-set_same, ◌-◌, ◌&&◌, length, ltb-false, ◌≡◌, ◌≢◌, ◌<◌, ◌≤◌, ◌+◌, ◌||◌, ℕ, zero, suc, true, false, eqb, leb, ltb, leb-false, inl, inr, ◌⊎◌, List, [], ◌∷◌, map, get_or, set, Option, Some, None, refl, ap, ap₂, sym, subst, ◌∙◌, arith}
 use Rattle.std.specs.List.{AllByRecursion, filter}
 use Rattle.std.specs.Prelude.{Bool, ◌++◌, if◌then◌else◌}
 use Rattle.std.specs.Option.{IfSome, option_eq, option_map, unwrap_or, is_some}
 use Rattle.std.proofs.lemmas.Bool.{ltb-true}
+use Rattle.std.proofs.lemmas.List.{get_or_past}
+use Rattle.std.proofs.Math.ListN.{length-set}
 use Rattle.model.specs.declared.op.Op.{Op}
-use Rattle.model.specs.declared.op.Op.TheVariants.{Work, Delay, DelayUntil, Yield, Time, Mark, Expect, Repeat, End, Await, Do, GiveMutex, MessagesWaiting, SpacesAvailable}
+use Rattle.model.specs.declared.op.Op.TheVariants.{Work, Delay, DelayUntil, Yield, Time, Mark, Expect, Repeat, End, Await, Do, GiveMutex, MessagesWaiting, SpacesAvailable, SetBits, ClearBits, GetBits, WaitBits, Suspend, Resume, SuspendAll, ResumeAll}
 use Rattle.model.specs.declared.op.Access.{Access}
 use Rattle.model.specs.declared.call.CallProgress.{CallProgress}
 use Rattle.model.specs.declared.call.Phase.{Phase}
@@ -17,20 +19,23 @@ use Rattle.model.specs.declared.event.What.TheVariants as what
 use Rattle.model.specs.declared.event.Misuse.{Misuse}
 use Rattle.model.specs.declared.loops.Loop.{Loop}
 use Rattle.model.specs.Application.{Application, Definition, op_at, op_count, ops_of, interrupts_at}
-use Rattle.model.specs.State.{State, Task, Progress, Status, Ready, Awake, Waiting, Asleep, WaitingForBits, Suspended, Ended, ticket_of, wake_time_of, no_call, task_at, progress_at, status_at, call_at, object_at, with_task, with_call, with_object, take_ticket, for_one, for_each, no_task, printed}
+use Rattle.model.specs.State.{State, Task, Progress, Status, Ready, Awake, Waiting, Asleep, WaitingForBits, Suspended, Ended, ticket_of, wake_time_of, no_call, task_at, progress_at, status_at, call_at, object_at, bits_at, with_task, with_call, with_object, with_bits, take_ticket, for_one, for_each, no_task, printed}
 use Rattle.model.specs.Order.{Entry, Key, key, entry, keyed, tasks_of, task_of, first}
 use Rattle.model.specs.Switching.{make_ready, to_back, dispatch, choose, choice, is_same, is_ready, yield_now, is_outranked, is_sharing, preempt, slice, settle, is_off, unless_held, write, is_held, is_scheduler_suspended}
 use Rattle.model.specs.Waiting.{waiters, awakened, awake_status, is_locked, wake_one, wake_best, wait_in, set_deadline, is_expired, end_hold, unlock_object, unlock}
 use Rattle.model.specs.Objects.{possible, answer_to, object_after, list_woken, list_for, fulfil, attempt}
 use Rattle.model.specs.Mutexes.{set_priority, mutexes_held, lend, inherit_from, inherit, fall_back, after_timeout, disinherit, give_mutex}
 use Rattle.model.specs.Calls.{try, lock, decide, leave_call, await, do_now}
-use Rattle.model.specs.Time.{delayed_key, delayed_list, is_due, due, wake_due, advance, increment_tick, sleep, set_previous_wake}
+use Rattle.model.specs.Time.{delayed_key, delayed_list, is_due, due, wake_due, advance, increment_tick, apply_one, apply_held, sleep, set_previous_wake}
 use Rattle.model.specs.declared.plan.Point.{Point}
 use Rattle.model.specs.declared.op.IsrOp.{IsrOp}
 use Rattle.model.specs.declared.op.IsrOp.TheVariants as isr_op
 use Rattle.model.specs.Handlers.{isr_told, isr, isr_each, handle, inject, interrupt, tick_interrupt}
-use Rattle.model.specs.Ops.{go_to, called, answer, use_up, delay, delay_until, expect, open_loop, turn, close_turn}
-use Rattle.model.specs.Step.{act, misuse, act_unless, act_if, act_current, before_step, step, nobody_ready, ready_at_reset, reset, task_at_reset, with_ops}
+use Rattle.model.specs.Ops.{one_if, go_to, called, answer, use_up, delay, delay_until, expect, open_loop, turn, close_turn}
+use Rattle.model.specs.declared.call.Condition.{Condition}
+use Rattle.model.specs.Groups.{is_met, met_by, keep_answer, want, wake_with_bits, bits_set, bits_after_set, set as set_in_group, begin_set, set_bits, clear, answer_bits, wait_for_bits, begin_bits_wait, check, final_bits, wait_bits}
+use Rattle.model.specs.Suspension.{can_suspend, can_resume, suspend, resumed, resume, call_suspend, call_resume, suspend_all, resume_scheduler, resume_all}
+use Rattle.model.specs.Step.{is_ended, judge, act, misuse, act_unless, act_if, act_current, before_step, step, nobody_ready, ready_at_reset, reset, task_at_reset, with_ops}
 use Rattle.model.specs.Run.{injected, state_after}
 use Rattle.model.proofs.Sorting.{by_test}
 use Rattle.model.proofs.Lists.{eqb-refl, eqb-same}
@@ -41,9 +46,9 @@ use Rattle.laws.proofs.Choice.{at_index, All-from_in_order}
 
 -- ---- what every step keeps, if four kinds of change keep it
 
--- a task whose status has this ticket, and wakes by itself then, or it is Ended
+-- a task whose status has this ticket, and wakes by itself then, or it has none, and doesn't
 abbrev pub Stays : Status → Status → Type 0
-Stays old new = ((ticket_of new ≡ ticket_of old) × (wake_time_of new ≡ wake_time_of old)) ⊎ (new ≡ Ended)
+Stays old new = ((ticket_of new ≡ ticket_of old) × (wake_time_of new ≡ wake_time_of old)) ⊎ ((ticket_of new ≡ None) × (wake_time_of new ≡ None))
 
 same_awake : (u : Status) → (ticket_of (awake_status u) ≡ ticket_of u) × (wake_time_of (awake_status u) ≡ wake_time_of u)
 same_awake (Ready n) = (refl, refl)
@@ -68,10 +73,35 @@ or_false_right : (a b : Bool) → (a || b) ≡ false → b ≡ false
 or_false_right false b t = t
 or_false_right true b t = absurd (cc)
 
+-- a wait for some ticks ends later
+ticks_later : (ticks : Option ℕ) (now : ℕ) → option_eq eqb ticks (Some 0) ≡ false → IfSome (option_map (λ n. now + n) ticks) (λ w. now < w)
+ticks_later None now t = tt
+ticks_later (Some zero) now t = absurd (cc)
+ticks_later (Some (suc n)) now t = omega arith
+
+-- so does one that begins for bits
+begun_later : (i : ℕ) (c : Condition) (ticks : Option ℕ) (s : State) → option_eq eqb ticks (Some 0) ≡ false → IfSome (call_at (want i c (set_deadline i ticks s)) i).deadline (λ w. s.time < w)
+unfolding set_deadline
+begun_later i c ticks s some =
+    let t1 : Task = record (task_at s i) { progress = record (progress_at s i) { call = record (call_at s i) { deadline = option_map (λ n. s.time + n) ticks } } } in
+    let s1 : State = with_task i t1 s in
+    let t2 : Task = record (task_at s1 i) { progress = record (progress_at s1 i) { call = record (call_at s1 i) { wants = Some c } } } in
+    let D : Task → Type 0 = λ t. IfSome t.progress.call.deadline (λ w. s.time < w) in
+    by_test (ltb i (length s.tasks))
+    (λ l.
+    let within = ltb-true i (length s.tasks) l in
+    let at1 : get_or (set s.tasks i t1) i no_task ≡ t1 = get_or-set_same s.tasks i t1 no_task within in
+    let at2 : get_or (set (set s.tasks i t1) i t2) i no_task ≡ t2 = get_or-set_same (set s.tasks i t1) i t2 no_task (rw length-set within) in
+    subst D (sym at2) (subst D (sym at1) (ticks_later ticks s.time some)))
+    (λ l.
+    let past = ltb-false i (length s.tasks) l in
+    let none : get_or (set (set s.tasks i t1) i t2) i no_task ≡ no_task = get_or_past (set (set s.tasks i t1) i t2) i no_task (rw (length-set, length-set) past) in
+    subst D (sym none) tt)
+
 module _ (P : State → Type 0)
     -- neither the clock's count of ticks, nor who runs, nor the steps and events matter
     (framed : (s t : State) → t.tasks ≡ s.tasks → t.next_ticket ≡ s.next_ticket → t.time ≡ s.time → P s → P t)
-    -- a task goes on, or is Ended; its base priority stays
+    -- a task goes on, or is Suspended or Ended; its base priority stays
     (moved : (s : State) (i : ℕ) (t : Task) → Stays (status_at s i) t.status → t.base_priority ≡ (task_at s i).base_priority → P s → P (with_task i t s))
     -- a task takes a ticket, and wakes by itself later, if it does
     (taken : (s : State) (i : ℕ) (status : ℕ → Status) → ticket_of (status s.next_ticket) ≡ Some s.next_ticket → IfSome (wake_time_of (status s.next_ticket)) (λ w. s.time < w) → P s → P (take_ticket i status s))
@@ -107,7 +137,7 @@ module _ (P : State → Type 0)
   kept-go_to : (app : Application) (i op_index : ℕ) (p : Progress) (s : State) → P s → P (go_to app i op_index p s)
   unfolding go_to
   kept-go_to app i op_index p s h = by_test (eqb op_index (op_count app i))
-      (λ t. rw t (moved s i (record (task_at s i) { progress = record p { op_index = op_index; used = 0; call = no_call }; status = Ended }) (inr refl) refl h))
+      (λ t. rw t (moved s i (record (task_at s i) { progress = record p { op_index = op_index; used = 0; call = no_call }; status = Ended }) (inr (refl, refl)) refl h))
       (λ t. rw t (moved s i (record (task_at s i) { progress = record p { op_index = op_index; used = 0; call = no_call } }) (inl (refl, refl)) refl h))
 
   kept-answer : (app : Application) (i : ℕ) (a : Option ℕ) (s : State) → P s → P (answer app i a s)
@@ -299,6 +329,89 @@ module _ (P : State → Type 0)
   unfolding do_now
   kept-do_now app i o a s h = kept-preempt _ (kept-answer app i (answer_to s o a) _ (kept-attempt (Some i) o a s h))
 
+  -- ---- tasks suspended and resumed
+
+  kept-suspend : (i : ℕ) (s : State) → P s → P (suspend i s)
+  unfolding suspend
+  kept-suspend i s h = by_test (can_suspend (status_at s i))
+      (λ t. rw t (moved s i (record (task_at s i) { status = Suspended }) (inr (refl, refl)) refl h))
+      (λ t. rw t h)
+
+  kept-resume : (i : ℕ) (s : State) → P s → P (resume i s)
+  unfolding resume
+  kept-resume i s h = by_test (can_resume (status_at s i))
+      (λ t. rw t (made_ready _ i (moved s i (record (task_at s i) { progress = resumed s.time (progress_at s i) }) (inl (refl, refl)) refl h)))
+      (λ t. rw t h)
+
+  kept-replied : (app : Application) (i : ℕ) (a : Option ℕ) (s : State) → P s → P (preempt (answer app i a s))
+  kept-replied app i a s h = kept-preempt (answer app i a s) (kept-answer app i a s h)
+
+  -- ---- event groups
+
+  kept-with_bits : (group bits : ℕ) (s : State) → P s → P (with_bits group bits s)
+  kept-with_bits group bits s h = framed s (with_bits group bits s) refl refl refl h
+
+  kept-all_with_bits : (bits : ℕ) (is : List ℕ) (s : State) → P s → P (for_each (λ i. wake_with_bits i bits) is s)
+  kept-all_with_bits bits [] s h = h
+  kept-all_with_bits bits (i ∷ is) s h = kept-all_with_bits bits is (wake_with_bits i bits s) (made_ready (keep_answer i bits s) i (kept-with_call i _ s h))
+
+  kept-set : (group mask : ℕ) (s : State) → P s → P (set_in_group group mask s)
+  unfolding set_in_group
+  kept-set group mask s h = kept-with_bits group (bits_after_set group mask s) _ (kept-all_with_bits (bits_set group mask s) (met_by group (bits_set group mask s) s) s h)
+
+  kept-begin_set : (i group mask : ℕ) (s : State) → P s → P (begin_set i group mask s)
+  unfolding begin_set
+  kept-begin_set i group mask s h =
+      let t : State = record s { call_hold = true } in
+      kept-with_call i _ _ (kept-with_call i _ _ (kept-set group mask t (framed s t refl refl refl h)))
+
+  kept-end_hold : (i : ℕ) (phase : Phase) (s : State) → P s → P (end_hold i phase s)
+  kept-end_hold i phase s h = let t : State = record s { call_hold = false } in kept-with_call i _ t (framed s t refl refl refl h)
+
+  kept-end_set : (app : Application) (i : ℕ) (s : State) → P s → P (preempt (answer app i (call_at s i).kept (end_hold i Start s)))
+  kept-end_set app i s h = kept-replied app i (call_at s i).kept (end_hold i Start s) (kept-end_hold i Start s h)
+
+  kept-set_bits : (app : Application) (i group mask : ℕ) (phase : Phase) (s : State) → P s → P (set_bits app i group mask phase s)
+  kept-set_bits app i group mask Start s h = kept-begin_set i group mask s h
+  kept-set_bits app i group mask Try s h = kept-end_set app i s h
+  kept-set_bits app i group mask Decide s h = kept-end_set app i s h
+  kept-set_bits app i group mask Place s h = kept-end_set app i s h
+  kept-set_bits app i group mask Unlock s h = kept-end_set app i s h
+  kept-set_bits app i group mask Leave s h = kept-end_set app i s h
+  kept-set_bits app i group mask Final s h = kept-end_set app i s h
+
+  kept-answer_bits : (app : Application) (i group : ℕ) (c : Condition) (s : State) → P s → P (answer_bits app i group c s)
+  unfolding answer_bits
+  kept-answer_bits app i group c s h = by_test (is_met (bits_at s group) c)
+      (λ t. rw t (kept-answer app i (Some (bits_at s group)) _ (kept-with_bits group _ s h)))
+      (λ t. rw t (kept-answer app i (Some (bits_at s group)) s h))
+
+  kept-begin_bits_wait : (i group : ℕ) (c : Condition) (ticks : Option ℕ) (s : State) → option_eq eqb ticks (Some 0) ≡ false → P s → P (begin_bits_wait i group c ticks s)
+  unfolding begin_bits_wait wait_for_bits set_deadline
+  kept-begin_bits_wait i group c ticks s some h =
+      let t : State = record s { call_hold = true } in
+      let u : State = want i c (set_deadline i ticks t) in
+      kept-with_call i _ _ (taken u i (λ ticket. WaitingForBits group ticket (call_at u i).deadline) refl (begun_later i c ticks t some) (kept-with_call i _ _ (kept-set_deadline i ticks t (framed s t refl refl refl h))))
+
+  kept-check : (app : Application) (i group : ℕ) (c : Condition) (ticks : Option ℕ) (s : State) → P s → P (check app i group c ticks s)
+  unfolding check
+  kept-check app i group c ticks s h = by_test (is_met (bits_at s group) c || option_eq eqb ticks (Some 0))
+      (λ t. rw t (kept-answer_bits app i group c s h))
+      (λ t. rw t (kept-begin_bits_wait i group c ticks s (or_false_right (is_met (bits_at s group) c) (option_eq eqb ticks (Some 0)) t) h))
+
+  kept-final_bits : (app : Application) (i group : ℕ) (c : Condition) (kept : Option ℕ) (s : State) → P s → P (final_bits app i group c kept s)
+  kept-final_bits app i group c None s h = kept-answer_bits app i group c s h
+  kept-final_bits app i group c (Some bits) s h = kept-answer app i (Some bits) s h
+
+  kept-wait_bits : (app : Application) (i group : ℕ) (c : Condition) (ticks : Option ℕ) (phase : Phase) (s : State) → P s → P (wait_bits app i group c ticks phase s)
+  kept-wait_bits app i group c ticks Start s h = kept-check app i group c ticks s h
+  kept-wait_bits app i group c ticks Leave s h = kept-choose (end_hold i Final s) (kept-end_hold i Final s h)
+  kept-wait_bits app i group c ticks Try s h = kept-final_bits app i group c (call_at s i).kept s h
+  kept-wait_bits app i group c ticks Decide s h = kept-final_bits app i group c (call_at s i).kept s h
+  kept-wait_bits app i group c ticks Place s h = kept-final_bits app i group c (call_at s i).kept s h
+  kept-wait_bits app i group c ticks Unlock s h = kept-final_bits app i group c (call_at s i).kept s h
+  kept-wait_bits app i group c ticks Final s h = kept-final_bits app i group c (call_at s i).kept s h
+
   -- ---- handlers
 
   kept-write : (w : What) (s : State) → P s → P (write w s)
@@ -306,6 +419,8 @@ module _ (P : State → Type 0)
 
   kept-isr : (handler op_index : ℕ) (op : IsrOp) (s : State) → P s → P (isr handler op_index op s)
   kept-isr handler op_index (isr_op.Do o a) s h = kept-write (isr_told handler op_index (answer_to s o a)) (attempt None o a s) (kept-attempt None o a s h)
+  kept-isr handler op_index (isr_op.Resume i) s h = kept-write (isr_told handler op_index (one_if (can_resume (status_at s i)))) (resume i s) (kept-resume i s h)
+  kept-isr handler op_index (isr_op.GetBits group) s h = kept-write (isr_told handler op_index (Some (bits_at s group))) s h
   kept-isr handler op_index (isr_op.Mark n) s h = kept-write (what.IsrMark handler n) s h
 
   kept-isr_each : (handler op_index : ℕ) (ops : List IsrOp) (s : State) → P s → P (isr_each handler op_index ops s)
@@ -347,10 +462,34 @@ module _ (P : State → Type 0)
       let come : State = increment_tick s in
       kept-unless_held slice kept-slice _ (kept-each (handle app) (kept-handle app) (interrupts_at app come.elapsed) come (kept-increment s h))
 
+  -- ---- the scheduler suspended and resumed
+
+  kept-applied : (n : ℕ) (s : State) → P s → P (apply_held n s)
+  unfolding apply_one advance
+  kept-applied zero s h = h
+  kept-applied (suc n) s h =
+      let t : State = record s { held_ticks = s.held_ticks - 1 } in
+      kept-applied n (apply_one s) (passed t (framed s t refl refl refl h))
+
+  kept-resume_scheduler : (s : State) → P s → P (resume_scheduler s)
+  unfolding resume_scheduler
+  kept-resume_scheduler s h =
+      let t : State = record s { suspensions = s.suspensions - 1 } in
+      let less : P t = framed s t refl refl refl h in
+      by_test (eqb s.suspensions 1)
+      (λ q. rw q (kept-applied s.held_ticks t less))
+      (λ q. rw q less)
+
+  kept-judge : (i op_index : ℕ) (s : State) → P s → P (judge i op_index s)
+  unfolding judge
+  kept-judge i op_index s h = by_test (is_scheduler_suspended s && is_ended (status_at s i))
+      (λ t. rw t (framed s _ refl refl refl h))
+      (λ t. rw t h)
+
   -- ---- a step, and a run
 
   kept-act : (app : Application) (i : ℕ) (op : Op) (s : State) → P s → P (act app i op s)
-  unfolding open_loop close_turn
+  unfolding open_loop close_turn clear call_suspend call_resume suspend_all resume_all
   kept-act app i (Work n) s h = kept-tick app (use_up app i n s) (kept-use_up app i n s h)
   kept-act app i (Delay n) s h = kept-delay app i n s h
   kept-act app i (DelayUntil n) s h = kept-delay_until app i ((progress_at s i).previous_wake + n) s h
@@ -367,9 +506,17 @@ module _ (P : State → Type 0)
   kept-act app i (GiveMutex o) s h = kept-give_mutex app i o s h
   kept-act app i (MessagesWaiting o) s h = kept-answer app i _ s h
   kept-act app i (SpacesAvailable o) s h = kept-answer app i _ s h
+  kept-act app i (SetBits g m) s h = kept-set_bits app i g m (call_at s i).phase s h
+  kept-act app i (ClearBits g m) s h = kept-answer app i _ _ (kept-with_bits g _ s h)
+  kept-act app i (GetBits g) s h = kept-answer app i _ s h
+  kept-act app i (WaitBits g c ticks) s h = kept-wait_bits app i g c ticks (call_at s i).phase s h
+  kept-act app i (Suspend j) s h = kept-replied app i _ (suspend j s) (kept-suspend j s h)
+  kept-act app i (Resume j) s h = kept-replied app i _ (resume j s) (kept-resume j s h)
+  kept-act app i SuspendAll s h = let t : State = record s { suspensions = s.suspensions + 1 } in kept-answer app i (Some 0) t (framed s t refl refl refl h)
+  kept-act app i ResumeAll s h = kept-unless_held preempt kept-preempt _ (kept-answer app i (Some 0) (resume_scheduler s) (kept-resume_scheduler s h))
 
   kept-act_unless : (app : Application) (i : ℕ) (kind : Option Misuse) (op : Op) (s : State) → P s → P (act_unless app i kind op s)
-  kept-act_unless app i None op s h = kept-act app i op s h
+  kept-act_unless app i None op s h = kept-judge i (progress_at s i).op_index (act app i op s) (kept-act app i op s h)
   kept-act_unless app i (Some kind) op s h = framed s (act_unless app i (Some kind) op s) refl refl refl h
 
   kept-act_if : (app : Application) (i : ℕ) (o : Option Op) (s : State) → P s → P (act_if app i o s)
@@ -434,7 +581,7 @@ later-set s i t now l h j = elim (one_task s.tasks i t j) [
 later-moved : (s : State) (i : ℕ) (t : Task) → Stays (status_at s i) t.status → t.base_priority ≡ (task_at s i).base_priority → WakeLater s → WakeLater (with_task i t s)
 later-moved s i t u base h =
     let W : Option ℕ → Type 0 = λ o. IfSome o (λ w. s.time < w) in
-    later-set s i t s.time (elim u [ inl e ↦ subst W (sym e.1) (h i) | inr e ↦ subst (Later s.time) (sym e) tt ]) h
+    later-set s i t s.time (elim u [ inl e ↦ subst W (sym e.1) (h i) | inr e ↦ subst W (sym e.1) tt ]) h
 
 later-taken : (s : State) (i : ℕ) (status : ℕ → Status) → ticket_of (status s.next_ticket) ≡ Some s.next_ticket → IfSome (wake_time_of (status s.next_ticket)) (λ w. s.time < w) → WakeLater s → WakeLater (take_ticket i status s)
 later-taken s i status is l h = later-set s i (record (task_at s i) { status = status s.next_ticket }) s.time l h
@@ -598,10 +745,10 @@ unfolding new_at
 apart-moved s i t u base h =
     let B : Option ℕ → Type 0 = λ o. IfSome o (λ ticket. ticket < s.next_ticket) in
     record {
-      below = below-set s i t h s.next_ticket (elim u [ inl e ↦ subst B (sym e.0) (h.below i) | inr e ↦ subst (Below s.next_ticket) (sym e) tt ]) h.below;
+      below = below-set s i t h s.next_ticket (elim u [ inl e ↦ subst B (sym e.0) (h.below i) | inr e ↦ subst B (sym e.0) tt ]) h.below;
       apart = apart-set s i t h (λ ticket a. elim u [
         | inl e ↦ inl (sym e.0 ∙ a)
-        | inr e ↦ (let none : None ≡ Some ticket = ap ticket_of (sym e) ∙ a in absurd (cc))
+        | inr e ↦ (let none : None ≡ Some ticket = sym e.0 ∙ a in absurd (cc))
       ]);
     }
 

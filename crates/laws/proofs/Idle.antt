@@ -1,17 +1,18 @@
 -- Idle runs only where no task is Ready, and after a tick nobody outranks the running task.
-use Rattle.std.proofs.Common.{◌≡◌, ◌≤◌, ◌||◌, ◌+◌, ℕ, zero, suc, Bool, true, false, eqb, leb, ltb, List, [], ◌∷◌, Option, Some, None, refl, ap, sym, subst, ◌∙◌, arith}
+use Rattle.std.proofs.Common.{◌≡◌, ◌≤◌, ◌||◌, ◌&&◌, ◌+◌, ℕ, zero, suc, Bool, true, false, eqb, leb, ltb, List, [], ◌∷◌, Option, Some, None, refl, sym, subst, ◌∙◌, arith}
 use Rattle.std.specs.List.{AllByRecursion, list_any}
 use Rattle.std.specs.Option.{option_eq, is_some}
 use Rattle.std.proofs.lemmas.Bool.{le-ltb}
 use Rattle.model.specs.declared.op.Op.{Op}
-use Rattle.model.specs.declared.op.Op.TheVariants.{Work, Delay, DelayUntil, Yield, Time, Mark, Expect, Repeat, End, Await, Do, GiveMutex, MessagesWaiting, SpacesAvailable}
+use Rattle.model.specs.declared.op.Op.TheVariants.{Work, Delay, DelayUntil, Yield, Time, Mark, Expect, Repeat, End, Await, Do, GiveMutex, MessagesWaiting, SpacesAvailable, SetBits, ClearBits, GetBits, WaitBits, Suspend, Resume, SuspendAll, ResumeAll}
 use Rattle.model.specs.declared.op.Access.{Access}
+use Rattle.model.specs.declared.call.Condition.{Condition}
 use Rattle.model.specs.declared.call.Phase.{Phase}
 use Rattle.model.specs.declared.call.Phase.TheVariants.{Start, Try, Decide, Place, Unlock, Leave, Final}
 use Rattle.model.specs.declared.event.Misuse.{Misuse}
 use Rattle.model.specs.declared.loops.Loop.{Loop}
 use Rattle.model.specs.Application.{Application, interrupts_at, op_at}
-use Rattle.model.specs.State.{State, Progress, task_at, progress_at, call_at, go_on, for_each, for_one}
+use Rattle.model.specs.State.{State, Progress, status_at, task_at, progress_at, call_at, bits_at, go_on, for_each, for_one}
 use Rattle.model.specs.Order.{Entry, first, task_of, tasks_of}
 use Rattle.model.specs.Switching.{to_back, dispatch, choose, choice, is_same, is_ready, ready_list, ready_key, yield_now, is_above, is_outranked, is_sharing, preempt, slice, settle, is_off, is_held, is_scheduler_suspended}
 use Rattle.model.specs.Waiting.{wait_in, set_deadline, is_expired, end_hold, unlock_object, unlock}
@@ -22,18 +23,22 @@ use Rattle.model.specs.declared.plan.Point.{Point}
 use Rattle.model.specs.Handlers.{handle, interrupt, tick_interrupt}
 use Rattle.model.specs.Time.{advance, due, increment_tick, sleep, set_previous_wake, wake_due}
 use Rattle.model.specs.Ops.{go_to, answer, use_up, delay, delay_until, expect, open_loop, turn, close_turn}
-use Rattle.model.specs.Step.{act, misuse, act_unless, act_if, act_current, before_step, step, ready_at_reset, reset}
+use Rattle.model.specs.Groups.{is_met, begin_set, set_bits, clear, answer_bits, wait_for_bits, begin_bits_wait, check, final_bits, wait_bits}
+use Rattle.model.specs.Suspension.{call_suspend, call_resume, suspend_all, resume_scheduler, resume_all}
+use Rattle.model.specs.Step.{is_ended, judge, act, misuse, act_unless, act_if, act_current, before_step, step, ready_at_reset, reset}
 use Rattle.model.specs.Run.{injected, state_after}
 use Rattle.model.proofs.Sorting.{by_test, Falls, Falls-in_order, IsAfter}
 use Rattle.model.proofs.Lists.{HasKey, list_has}
-use Rattle.model.proofs.Settled.{same_eq, when_held, when_free, held_by_none}
-use Rattle.model.proofs.Frames.{held-told}
+use Rattle.model.proofs.Settled.{same_eq, when_held, when_free}
+use Rattle.model.proofs.Passing.{held-told}
+use Rattle.model.proofs.Bits.{stays-set}
 use Rattle.model.proofs.Handled.{spares-handle}
 use Rattle.model.proofs.Reached.{reached_after, reached_before_step}
-use Rattle.model.specs.Invariant.{IsState, RunsIn, Suspension}
+use Rattle.model.specs.Invariant.{IsState, RunsIn}
 use Rattle.model.specs.Scripts.{IsWellFormed}
 use Rattle.model.proofs.Inheriting.{reranks-after_timeout, reranks-inherit}
 use Rattle.model.proofs.Unlocking.{opened_by, current-all_ready}
+use Rattle.model.proofs.Going.{current-resumed}
 use Rattle.model.specs.Order.{keyed}
 use Rattle.laws.specs.Choice.{IsChoice}
 use Rattle.laws.proofs.Choice.{choice_is, key_is, none_ready}
@@ -187,8 +192,61 @@ idle-give_mutex : (app : Application) (i o : ℕ) (s : State) → IdleAlone (giv
 unfolding give_mutex
 idle-give_mutex app i o s = idle-preempt _
 
+-- ---- event groups
+
+idle-set_bits : (app : Application) (i g m : ℕ) (phase : Phase) (s : State) → s.current ≡ Some i → IdleAlone (set_bits app i g m phase s)
+unfolding begin_set
+idle-set_bits app i g m Start s r = still_runs i s (begin_set i g m s) r (stays-set g m (record s { call_hold = true })).current
+idle-set_bits app i g m Try s r = idle-preempt _
+idle-set_bits app i g m Decide s r = idle-preempt _
+idle-set_bits app i g m Place s r = idle-preempt _
+idle-set_bits app i g m Unlock s r = idle-preempt _
+idle-set_bits app i g m Leave s r = idle-preempt _
+idle-set_bits app i g m Final s r = idle-preempt _
+
+current-answer_bits : (app : Application) (i g : ℕ) (c : Condition) (s : State) → (answer_bits app i g c s).current ≡ s.current
+unfolding answer_bits answer go_to
+current-answer_bits app i g c s = by_test (is_met (bits_at s g) c) (λ t. rw t refl) (λ t. rw t refl)
+
+current-check : (app : Application) (i g : ℕ) (c : Condition) (ticks : Option ℕ) (s : State) → (check app i g c ticks s).current ≡ s.current
+unfolding check begin_bits_wait wait_for_bits set_deadline
+current-check app i g c ticks s = by_test (is_met (bits_at s g) c || option_eq eqb ticks (Some 0))
+    (λ t. rw t (current-answer_bits app i g c s))
+    (λ t. rw t refl)
+
+current-final_bits : (app : Application) (i g : ℕ) (c : Condition) (kept : Option ℕ) (s : State) → (final_bits app i g c kept s).current ≡ s.current
+unfolding answer go_to
+current-final_bits app i g c None s = current-answer_bits app i g c s
+current-final_bits app i g c (Some bits) s = refl
+
+idle-final : (app : Application) (i g : ℕ) (c : Condition) (s : State) → s.current ≡ Some i → IdleAlone (final_bits app i g c (call_at s i).kept s)
+idle-final app i g c s r = still_runs i s (final_bits app i g c (call_at s i).kept s) r (current-final_bits app i g c (call_at s i).kept s)
+
+idle-wait_bits : (app : Application) (i g : ℕ) (c : Condition) (ticks : Option ℕ) (phase : Phase) (s : State) → s.current ≡ Some i → IdleAlone (wait_bits app i g c ticks phase s)
+idle-wait_bits app i g c ticks Start s r = still_runs i s (check app i g c ticks s) r (current-check app i g c ticks s)
+idle-wait_bits app i g c ticks Leave s r = idle-choose (end_hold i Final s)
+idle-wait_bits app i g c ticks Try s r = idle-final app i g c s r
+idle-wait_bits app i g c ticks Decide s r = idle-final app i g c s r
+idle-wait_bits app i g c ticks Place s r = idle-final app i g c s r
+idle-wait_bits app i g c ticks Unlock s r = idle-final app i g c s r
+idle-wait_bits app i g c ticks Final s r = idle-final app i g c s r
+
+-- ---- the scheduler resumed
+
+idle-resume_all : (app : Application) (i : ℕ) (s : State) → s.current ≡ Some i → IdleAlone (resume_all app i s)
+unfolding resume_all answer go_to
+idle-resume_all app i s r =
+    let t : State = answer app i (Some 0) (resume_scheduler s) in
+    by_test (is_held t)
+    (λ q. subst IdleAlone (sym (when_held preempt t q)) (still_runs i s t r (current-resumed s)))
+    (λ q. subst IdleAlone (sym (when_free preempt t q)) (idle-preempt t))
+
+idle-judge : (i op_index : ℕ) (s : State) → IdleAlone s → IdleAlone (judge i op_index s)
+unfolding judge
+idle-judge i op_index s h = by_test (is_scheduler_suspended s && is_ended (status_at s i)) (λ t. rw t h) (λ t. rw t h)
+
 idle-act : (app : Application) (i : ℕ) (op : Op) (s : State) → s.current ≡ Some i → IdleAlone (act app i op s)
-unfolding answer go_to open_loop close_turn
+unfolding answer go_to open_loop close_turn clear call_suspend call_resume suspend_all
 idle-act app i (Work n) s r = idle-work app i (use_up app i n s) (current-use_up app i n s ∙ r)
 idle-act app i (Delay n) s r = idle-delay app i n s r
 idle-act app i (DelayUntil n) s r = still_runs i s (delay_until app i ((progress_at s i).previous_wake + n) s) r (current-delay_until app i ((progress_at s i).previous_wake + n) s)
@@ -203,9 +261,17 @@ idle-act app i (Do o a) s r = idle-do_now app i o a s
 idle-act app i (GiveMutex o) s r = idle-give_mutex app i o s
 idle-act app i (MessagesWaiting o) s r = still_runs i s (act app i (MessagesWaiting o) s) r refl
 idle-act app i (SpacesAvailable o) s r = still_runs i s (act app i (SpacesAvailable o) s) r refl
+idle-act app i (SetBits g m) s r = idle-set_bits app i g m (call_at s i).phase s r
+idle-act app i (ClearBits g m) s r = still_runs i s (act app i (ClearBits g m) s) r refl
+idle-act app i (GetBits g) s r = still_runs i s (act app i (GetBits g) s) r refl
+idle-act app i (WaitBits g c ticks) s r = idle-wait_bits app i g c ticks (call_at s i).phase s r
+idle-act app i (Suspend j) s r = idle-preempt _
+idle-act app i (Resume j) s r = idle-preempt _
+idle-act app i SuspendAll s r = still_runs i s (act app i SuspendAll s) r refl
+idle-act app i ResumeAll s r = idle-resume_all app i s r
 
 idle-act_unless : (app : Application) (i : ℕ) (kind : Option Misuse) (op : Op) (s : State) → s.current ≡ Some i → IdleAlone (act_unless app i kind op s)
-idle-act_unless app i None op s r = idle-act app i op s r
+idle-act_unless app i None op s r = idle-judge i (progress_at s i).op_index (act app i op s) (idle-act app i op s r)
 idle-act_unless app i (Some kind) op s r = still_runs i s (act_unless app i (Some kind) op s) r refl
 
 idle-act_if : (app : Application) (i : ℕ) (o : Option Op) (s : State) → s.current ≡ Some i → IdleAlone (act_if app i o s)
@@ -217,7 +283,7 @@ idle-act_current app None s e free = idle-tick app s (free refl)
 idle-act_current app (Some i) s e free = idle-act_if app i (op_at app i (progress_at s i).op_index) s e
 
 idle_free : (app : Application) (s : State) → IsState app s → s.current ≡ None → is_held s ≡ false
-idle_free app s h e = held_by_none s (subst (RunsIn s) e h.runs) (ap (λ (x : Suspension). x.suspensions) h.unsuspended)
+idle_free app s h e = subst (RunsIn app s) e h.runs
 
 idle-step : (app : Application) → IsWellFormed app → (handlers : List ℕ) (s : State) → IsState app s → IdleAlone (step app handlers s)
 unfolding step

@@ -27,6 +27,7 @@ with_handler objects ops tasks = record {
   start = 0;
   limits = wide;
   objects = objects;
+  group_count = 0;
   handlers = record { name = codes "h"; ops = ops } ∷ [];
   interrupts = [];
   tasks = tasks;

@@ -24,7 +24,8 @@ use Rattle.model.specs.Waiting.{same_list, wait_key, waiters, awake_status, awak
 use Rattle.model.specs.Objects.{allows, object_after, list_woken, list_for, possible, answer_to, fulfil, attempt}
 use Rattle.model.specs.Calls.{do_now}
 use Rattle.model.specs.Ops.{answer}
-use Rattle.model.specs.Invariant.{HasTicketBelow, IsReckoned, Hold, awaited, IsPhaseOf, list_of_op, IsWaitOf, IsCall, IsObject, IsSound, holds}
+use Rattle.model.specs.Suspension.{phase_resumed}
+use Rattle.model.specs.Invariant.{HasTicketBelow, IsReckoned, Hold, Course, InOne, OnObject, ForBits, ToSetBits, course, IsPhaseOf, list_of_op, IsWaitOf, IsCall, IsObject, IsSound, holds}
 use Rattle.model.proofs.Sorting.{by_test}
 use Rattle.model.proofs.Lists.{HasKey, eqb-same, list_has}
 use Rattle.model.proofs.Tables.{ticket_at, table-set}
@@ -218,7 +219,7 @@ near_now (Some n) now t = let l = ltb-true n 4294967295 t in omega arith
 
 module _ (app : Application) (formed : IsWellFormed app) (hold : Hold) where
   -- a call goes on with another phase
-  pub went_on : (s : State) (i : ℕ) (phase : Phase) → IsSound app hold s → IsPhaseOf hold (awaited (op_at app i (progress_at s i).op_index)) phase → IsSound app hold (go_on i phase s)
+  pub went_on : (s : State) (i : ℕ) (phase : Phase) → IsSound app hold s → IsPhaseOf hold (course (op_at app i (progress_at s i).op_index)) phase → IsSound app hold (go_on i phase s)
   went_on s i phase h p =
       let a = h.progress i in
       let c = h.calls i in
@@ -282,41 +283,112 @@ dated_at s i ticks l =
 -- ---- another hold
 
 -- a phase that doesn't hold the scheduler fits every hold
-phase_apart : (old new : Hold) (object : Option ℕ) (phase : Phase) → holds phase ≡ false → IsPhaseOf old object phase → IsPhaseOf new object phase
-phase_apart old new object Start t p = tt
-phase_apart old new None Try t p = p
-phase_apart old new None Decide t p = p
-phase_apart old new None Place t p = p
-phase_apart old new None Unlock t p = p
-phase_apart old new None Leave t p = p
-phase_apart old new None Final t p = p
-phase_apart old new (Some o) Try t p = tt
-phase_apart old new (Some o) Decide t p = tt
-phase_apart old new (Some o) Place t p = absurd (cc)
-phase_apart old new (Some o) Unlock t p = absurd (cc)
-phase_apart old new (Some o) Leave t p = absurd (cc)
-phase_apart old new (Some o) Final t p = p
+phase_apart : (old new : Hold) (way : Course) (phase : Phase) → holds phase ≡ false → IsPhaseOf old way phase → IsPhaseOf new way phase
+phase_apart old new InOne Start t p = tt
+phase_apart old new InOne Try t p = absurd p
+phase_apart old new InOne Decide t p = absurd p
+phase_apart old new InOne Place t p = absurd p
+phase_apart old new InOne Unlock t p = absurd p
+phase_apart old new InOne Leave t p = absurd p
+phase_apart old new InOne Final t p = absurd p
+phase_apart old new (OnObject o) Start t p = tt
+phase_apart old new (OnObject o) Try t p = tt
+phase_apart old new (OnObject o) Decide t p = tt
+phase_apart old new (OnObject o) Place t p = absurd (cc)
+phase_apart old new (OnObject o) Unlock t p = absurd (cc)
+phase_apart old new (OnObject o) Leave t p = absurd (cc)
+phase_apart old new (OnObject o) Final t p = absurd p
+phase_apart old new ForBits Start t p = tt
+phase_apart old new ForBits Try t p = absurd p
+phase_apart old new ForBits Decide t p = absurd p
+phase_apart old new ForBits Place t p = absurd p
+phase_apart old new ForBits Unlock t p = absurd p
+phase_apart old new ForBits Leave t p = absurd (cc)
+phase_apart old new ForBits Final t p = tt
+phase_apart old new ToSetBits Start t p = tt
+phase_apart old new ToSetBits Try t p = absurd p
+phase_apart old new ToSetBits Decide t p = absurd p
+phase_apart old new ToSetBits Place t p = absurd p
+phase_apart old new ToSetBits Unlock t p = absurd p
+phase_apart old new ToSetBits Leave t p = absurd (cc)
+phase_apart old new ToSetBits Final t p = absurd p
 
 -- where nothing is held, no phase holds
-pub phase_free : (hold : Hold) (object : Option ℕ) (phase : Phase) → hold.held ≡ false → IsPhaseOf hold object phase → holds phase ≡ false
-phase_free hold object Start t p = refl
-phase_free hold None Try t p = absurd p
-phase_free hold None Decide t p = absurd p
-phase_free hold None Place t p = absurd p
-phase_free hold None Unlock t p = absurd p
-phase_free hold None Leave t p = absurd p
-phase_free hold None Final t p = absurd p
-phase_free hold (Some o) Try t p = refl
-phase_free hold (Some o) Decide t p = refl
-phase_free hold (Some o) Place t p = let held = p.0 in absurd (cc)
-phase_free hold (Some o) Unlock t p = let held = p.0 in absurd (cc)
-phase_free hold (Some o) Leave t p = let held = p.0 in absurd (cc)
-phase_free hold (Some o) Final t p = absurd p
+pub phase_free : (hold : Hold) (way : Course) (phase : Phase) → hold.held ≡ false → IsPhaseOf hold way phase → holds phase ≡ false
+phase_free hold InOne Start t p = refl
+phase_free hold InOne Try t p = absurd p
+phase_free hold InOne Decide t p = absurd p
+phase_free hold InOne Place t p = absurd p
+phase_free hold InOne Unlock t p = absurd p
+phase_free hold InOne Leave t p = absurd p
+phase_free hold InOne Final t p = absurd p
+phase_free hold (OnObject o) Start t p = refl
+phase_free hold (OnObject o) Try t p = refl
+phase_free hold (OnObject o) Decide t p = refl
+phase_free hold (OnObject o) Place t p = let held = p.0 in absurd (cc)
+phase_free hold (OnObject o) Unlock t p = let held = p.0 in absurd (cc)
+phase_free hold (OnObject o) Leave t p = let held = p.0 in absurd (cc)
+phase_free hold (OnObject o) Final t p = absurd p
+phase_free hold ForBits Start t p = refl
+phase_free hold ForBits Try t p = absurd p
+phase_free hold ForBits Decide t p = absurd p
+phase_free hold ForBits Place t p = absurd p
+phase_free hold ForBits Unlock t p = absurd p
+phase_free hold ForBits Leave t p = let held = p.0 in absurd (cc)
+phase_free hold ForBits Final t p = refl
+phase_free hold ToSetBits Start t p = refl
+phase_free hold ToSetBits Try t p = absurd p
+phase_free hold ToSetBits Decide t p = absurd p
+phase_free hold ToSetBits Place t p = absurd p
+phase_free hold ToSetBits Unlock t p = absurd p
+phase_free hold ToSetBits Leave t p = let held = p.0 in absurd (cc)
+phase_free hold ToSetBits Final t p = absurd p
+
+-- a task that is resumed is in a phase of its op still
+pub phase_again : (hold : Hold) (way : Course) (phase : Phase) → IsPhaseOf hold way phase → IsPhaseOf hold way (phase_resumed phase)
+phase_again hold InOne Start p = tt
+phase_again hold InOne Try p = absurd p
+phase_again hold InOne Decide p = absurd p
+phase_again hold InOne Place p = absurd p
+phase_again hold InOne Unlock p = absurd p
+phase_again hold InOne Leave p = absurd p
+phase_again hold InOne Final p = absurd p
+phase_again hold (OnObject o) Start p = tt
+phase_again hold (OnObject o) Try p = tt
+phase_again hold (OnObject o) Decide p = tt
+phase_again hold (OnObject o) Place p = p
+phase_again hold (OnObject o) Unlock p = p
+phase_again hold (OnObject o) Leave p = p
+phase_again hold (OnObject o) Final p = absurd p
+phase_again hold ForBits Start p = tt
+phase_again hold ForBits Try p = absurd p
+phase_again hold ForBits Decide p = absurd p
+phase_again hold ForBits Place p = absurd p
+phase_again hold ForBits Unlock p = absurd p
+phase_again hold ForBits Leave p = p
+phase_again hold ForBits Final p = tt
+phase_again hold ToSetBits Start p = tt
+phase_again hold ToSetBits Try p = absurd p
+phase_again hold ToSetBits Decide p = absurd p
+phase_again hold ToSetBits Place p = absurd p
+phase_again hold ToSetBits Unlock p = absurd p
+phase_again hold ToSetBits Leave p = p
+phase_again hold ToSetBits Final p = absurd p
+
+-- an op of one phase is in its first
+pub course_of_one : (hold : Hold) (phase : Phase) → IsPhaseOf hold InOne phase → phase ≡ Start
+course_of_one hold Start p = refl
+course_of_one hold Try p = absurd p
+course_of_one hold Decide p = absurd p
+course_of_one hold Place p = absurd p
+course_of_one hold Unlock p = absurd p
+course_of_one hold Leave p = absurd p
+course_of_one hold Final p = absurd p
 
 pub call_apart : (old new : Hold) (now : ℕ) (op : Option Op) (t : Task) → holds t.progress.call.phase ≡ false → wait_if_awake t.status ≡ None → IsCall old now op t → IsCall new now op t
 call_apart old new now op t free asleep c =
     let A : Option Wait → Type 0 = λ o. IfSome o (λ w. is_locked new.locked w.list ≡ true) in
-    record { phase = phase_apart old new (awaited op) t.progress.call.phase free c.phase; wait = c.wait; awake = subst A (sym asleep) tt; near = c.near }
+    record { phase = phase_apart old new (course op) t.progress.call.phase free c.phase; wait = c.wait; awake = subst A (sym asleep) tt; near = c.near }
 
 -- where nothing is locked nobody is Awake
 unlocked_none : (list : WaitList) → is_locked None list ≡ true → ⊥

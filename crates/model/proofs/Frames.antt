@@ -1,35 +1,33 @@
 -- What a deed leaves as it was, as one record for each deed: a field more of the state is a field more here.
-use Rattle.std.proofs.Common.{ap₂, Bool, ap, max, ◌≡◌, ◌≤◌, ◌+◌, ◌-◌, ◌||◌, ℕ, eqb, leb, ltb, List, [], ◌∷◌, ◌++◌, Option, Some, None, refl, sym, subst, ◌∙◌, arith, length}
-use Rattle.std.specs.Prelude.{if◌then◌else◌}
-use Rattle.std.specs.Option.{option_eq, option_map, is_some}
+use Rattle.std.proofs.Common.{max, ◌≡◌, ◌+◌, ◌-◌, ◌||◌, ℕ, eqb, leb, ltb, List, [], ◌∷◌, Option, Some, None, refl, sym, subst, ◌∙◌, length}
+use Rattle.std.specs.Option.{option_map}
 use Rattle.std.proofs.Math.ListN.{length-set}
-use Rattle.model.specs.declared.op.Op.{Op}
-use Rattle.model.specs.declared.op.Op.TheVariants.{Work, Delay, DelayUntil, Yield, Time, Mark, Expect, Repeat, End, Await, Do, GiveMutex, MessagesWaiting, SpacesAvailable}
 use Rattle.model.specs.declared.op.Access.{Access}
 use Rattle.model.specs.declared.call.CallProgress.{CallProgress}
-use Rattle.model.specs.declared.call.Phase.{Phase}
-use Rattle.model.specs.declared.call.Phase.TheVariants.{Start, Try, Decide, Place, Unlock, Leave, Final}
+use Rattle.model.specs.declared.call.Phase.TheVariants.{Decide}
 use Rattle.model.specs.declared.call.WaitList.{WaitList}
-use Rattle.model.specs.declared.call.WaitList.TheVariants.{ToReceive, ToSend}
+use Rattle.model.specs.declared.call.WaitList.TheVariants.{ToReceive}
 use Rattle.model.specs.declared.loops.Loop.{Loop}
 use Rattle.model.specs.declared.event.What.{What}
-use Rattle.model.specs.declared.event.Misuse.{Misuse}
 use Rattle.model.specs.declared.event.What.TheVariants as what
 use Rattle.model.specs.declared.op.IsrOp.{IsrOp}
 use Rattle.model.specs.declared.op.IsrOp.TheVariants as isr_op
-use Rattle.model.specs.Application.{Application, op_at, op_count, ops_of, interrupts_at}
-use Rattle.model.specs.State.{State, Task, Object, Progress, Status, Ready, Asleep, task_at, status_at, progress_at, call_at, object_at, with_task, with_call, with_object, take_ticket, for_one, for_each, printed}
+use Rattle.model.specs.Application.{Application, op_count, ops_of, interrupts_at}
+use Rattle.model.specs.State.{State, Task, Object, Progress, Status, Ready, Asleep, Suspended, task_at, status_at, progress_at, call_at, object_at, with_task, with_progress, with_call, with_object, bits_at, with_bits, take_ticket, for_one, for_each}
 use Rattle.model.specs.Order.{tasks_of, task_of, first}
-use Rattle.model.specs.Switching.{make_ready, to_back, dispatch, choose, choice, is_same, is_ready, yield_now, is_outranked, is_sharing, preempt, slice, settle, is_scheduler_suspended, is_held, unless_held, is_off, write}
-use Rattle.model.specs.Time.{wake_due, due, advance, increment_tick, sleep, set_previous_wake}
-use Rattle.model.specs.Waiting.{waiters, awakened, awake_status, is_locked, wake_one, wake_best, wait_in, set_deadline, is_expired, end_hold, unlock_object, unlock}
+use Rattle.model.specs.Switching.{make_ready, to_back, dispatch, choose, choice, is_same, is_ready, yield_now, is_outranked, is_sharing, preempt, slice, settle, is_held, unless_held, is_off, write}
+use Rattle.model.specs.Time.{wake_due, due, sleep, set_previous_wake}
+use Rattle.model.specs.Waiting.{waiters, awake_status, is_locked, wake_one, wake_best, set_deadline, is_expired}
 use Rattle.model.specs.Objects.{possible, answer_to, object_after, list_woken, fulfil, attempt}
-use Rattle.model.specs.Calls.{try, decide, leave_call, await, do_now}
-use Rattle.model.specs.Ops.{go_to, moved_to, complete, called, answer, use_up, delay, delay_until, expect, open_loop, turn, close_turn}
+use Rattle.model.specs.Calls.{try, do_now}
+use Rattle.model.specs.Ops.{one_if, go_to, moved_to, called, answer, use_up, delay, delay_until, open_loop, turn, close_turn}
+use Rattle.model.specs.declared.call.Condition.{Condition}
+use Rattle.model.specs.Groups.{is_met, without, bits_left, keep_answer, met_by, wake_with_bits, bits_set, bits_after_set, set, clear, answer_bits}
+use Rattle.model.specs.Suspension.{can_suspend, can_resume, suspend, resumed, resume, call_suspend, call_resume}
 use Rattle.model.specs.Mutexes.{set_priority, mutexes_held, lend, inherits, inherit_from, inherit, best_priority, fall_back, after_timeout, disinherit, give_mutex}
-use Rattle.model.specs.Invariant.{Hold, hold_of, awaited, Suspension, suspension_of}
-use Rattle.model.specs.Handlers.{isr_told, isr, isr_each, handle, inject, interrupt, tick_interrupt}
-use Rattle.model.specs.Step.{act, act_unless, misuse, act_if, act_current, before_step, step, reset, nobody_ready, ready_at_reset, with_ops}
+use Rattle.model.specs.Invariant.{hold_of, suspension_of}
+use Rattle.model.specs.Handlers.{isr_told, isr, isr_each, handle, inject, interrupt}
+use Rattle.model.specs.Step.{before_step}
 use Rattle.model.proofs.Sorting.{by_test}
 use Rattle.model.proofs.Settled.{when_held, when_free}
 
@@ -91,6 +89,11 @@ pub keeps-unless_held : (deed : State → State) (s : State) → ((t : State) �
 keeps-unless_held deed s k = by_test (is_held s)
     (λ t. subst (Keeps s) (sym (when_held deed s t)) (keeps s))
     (λ t. subst (Keeps s) (sym (when_free deed s t)) (k s))
+
+-- for each of these, one after another
+keeps-each : {A : Type 0} (deed : A → State → State) (k : (a : A) (s : State) → Keeps s (deed a s)) (ones : List A) (s : State) → Keeps s (for_each deed ones s)
+keeps-each deed k [] s = keeps s
+keeps-each deed k (a ∷ ones) s = keeps_both s (deed a s) (for_each deed ones (deed a s)) (k a s) (keeps-each deed k ones (deed a s))
 
 pub keeps-all_ready : (is : List ℕ) (s : State) → Keeps s (for_each make_ready is s)
 keeps-all_ready [] s = keeps s
@@ -271,6 +274,67 @@ keeps-do_now app i o a s =
     let u : State = answer app i (answer_to s o a) t in
     keeps_both s t (preempt u) (keeps-attempt (Some i) o a s) (keeps_both t u (preempt u) (keeps-answer app i (answer_to s o a) t) (keeps-preempt u))
 
+-- ---- event groups, and tasks suspended and resumed
+
+pub keeps-with_bits : (group bits : ℕ) (s : State) → Keeps s (with_bits group bits s)
+keeps-with_bits group bits s = record { time = refl; elapsed = refl; steps = refl; stopped = refl; tasks = refl; hold = refl; suspension = refl }
+
+keeps-wake_with_bits : (bits i : ℕ) (s : State) → Keeps s (wake_with_bits i bits s)
+keeps-wake_with_bits bits i s =
+    let t : State = keep_answer i bits s in
+    keeps_both s t (make_ready i t) (keeps-with_call i (record (call_at s i) { kept = Some bits }) s) (keeps-take_ticket i Ready t)
+
+pub keeps-all_with_bits : (bits : ℕ) (is : List ℕ) (s : State) → Keeps s (for_each (λ i. wake_with_bits i bits) is s)
+keeps-all_with_bits bits is s = keeps-each (λ i. wake_with_bits i bits) (keeps-wake_with_bits bits) is s
+
+pub keeps-set : (group mask : ℕ) (s : State) → Keeps s (set group mask s)
+unfolding set
+keeps-set group mask s =
+    let bits : ℕ = bits_set group mask s in
+    let t : State = for_each (λ i. wake_with_bits i bits) (met_by group bits s) s in
+    keeps_both s t (with_bits group (bits_after_set group mask s) t) (keeps-all_with_bits bits (met_by group bits s) s) (keeps-with_bits group (bits_after_set group mask s) t)
+
+pub keeps-clear : (app : Application) (i group mask : ℕ) (s : State) → Keeps s (clear app i group mask s)
+unfolding clear
+keeps-clear app i group mask s =
+    let t : State = with_bits group (without (bits_at s group) mask) s in
+    keeps_both s t (answer app i (Some (bits_at s group)) t) (keeps-with_bits group (without (bits_at s group) mask) s) (keeps-answer app i (Some (bits_at s group)) t)
+
+pub keeps-answer_bits : (app : Application) (i group : ℕ) (c : Condition) (s : State) → Keeps s (answer_bits app i group c s)
+unfolding answer_bits
+keeps-answer_bits app i group c s =
+    let bits : ℕ = bits_at s group in
+    let t : State = with_bits group (bits_left bits c) s in
+    by_test (is_met bits c)
+    (λ q. rw q (keeps_both s t (answer app i (Some bits) t) (keeps-with_bits group (bits_left bits c) s) (keeps-answer app i (Some bits) t)))
+    (λ q. rw q (keeps-answer app i (Some bits) s))
+
+pub keeps-suspend : (i : ℕ) (s : State) → Keeps s (suspend i s)
+unfolding suspend
+keeps-suspend i s = by_test (can_suspend (status_at s i))
+    (λ t. rw t (keeps-with_task i (record (task_at s i) { status = Suspended }) s))
+    (λ t. rw t (keeps s))
+
+pub keeps-resume : (i : ℕ) (s : State) → Keeps s (resume i s)
+unfolding resume
+keeps-resume i s =
+    let p : Progress = resumed s.time (progress_at s i) in
+    let t : State = with_progress i p s in
+    by_test (can_resume (status_at s i))
+    (λ q. rw q (keeps_both s t (make_ready i t) (keeps-with_task i (record (task_at s i) { progress = p }) s) (keeps-take_ticket i Ready t)))
+    (λ q. rw q (keeps s))
+
+keeps-replied : (app : Application) (i : ℕ) (a : Option ℕ) (s t : State) → Keeps s t → Keeps s (preempt (answer app i a t))
+keeps-replied app i a s t k = let u : State = answer app i a t in keeps_both s t (preempt u) k (keeps_both t u (preempt u) (keeps-answer app i a t) (keeps-preempt u))
+
+pub keeps-call_suspend : (app : Application) (i other : ℕ) (s : State) → Keeps s (call_suspend app i other s)
+unfolding call_suspend
+keeps-call_suspend app i other s = keeps-replied app i (one_if (can_suspend (status_at s other))) s (suspend other s) (keeps-suspend other s)
+
+pub keeps-call_resume : (app : Application) (i other : ℕ) (s : State) → Keeps s (call_resume app i other s)
+unfolding call_resume
+keeps-call_resume app i other s = keeps-replied app i (one_if (can_resume (status_at s other))) s (resume other s) (keeps-resume other s)
+
 -- ---- handlers
 
 pub keeps-write : (w : What) (s : State) → Keeps s (write w s)
@@ -281,6 +345,11 @@ keeps-isr handler op_index (isr_op.Do o a) s =
     let t : State = attempt None o a s in
     let w : What = isr_told handler op_index (answer_to s o a) in
     keeps_both s t (write w t) (keeps-attempt None o a s) (keeps-write w t)
+keeps-isr handler op_index (isr_op.Resume task) s =
+    let t : State = resume task s in
+    let w : What = isr_told handler op_index (one_if (can_resume (status_at s task))) in
+    keeps_both s t (write w t) (keeps-resume task s) (keeps-write w t)
+keeps-isr handler op_index (isr_op.GetBits group) s = keeps-write (isr_told handler op_index (Some (bits_at s group))) s
 keeps-isr handler op_index (isr_op.Mark n) s = keeps-write (what.IsrMark handler n) s
 
 keeps-isr_each : (handler op_index : ℕ) (ops : List IsrOp) (s : State) → Keeps s (isr_each handler op_index ops s)
@@ -292,10 +361,6 @@ keeps-isr_each handler op_index (op ∷ ops) s =
 pub keeps-handle : (app : Application) (handler : ℕ) (s : State) → Keeps s (handle app handler s)
 unfolding handle
 keeps-handle app handler s = keeps-isr_each handler 0 (ops_of app handler) s
-
-keeps-each : {A : Type 0} (deed : A → State → State) (k : (a : A) (s : State) → Keeps s (deed a s)) (ones : List A) (s : State) → Keeps s (for_each deed ones s)
-keeps-each deed k [] s = keeps s
-keeps-each deed k (a ∷ ones) s = keeps_both s (deed a s) (for_each deed ones (deed a s)) (k a s) (keeps-each deed k ones (deed a s))
 
 pub keeps-inject : (app : Application) (handler : ℕ) (s : State) → Keeps s (inject app handler s)
 unfolding inject
@@ -313,220 +378,3 @@ unfolding before_step
 keeps-before_step app handlers s =
     let k : Keeps (record s { log = [] }) (for_each (inject app) handlers (record s { log = [] })) = keeps-each (inject app) (keeps-inject app) handlers (record s { log = [] }) in
     record { time = k.time; elapsed = k.elapsed; steps = k.steps; stopped = k.stopped; tasks = k.tasks; hold = k.hold; suspension = k.suspension }
-
-elapsed-unlock : (s : State) → (unlock s).elapsed ≡ s.elapsed
-unfolding unlock
-elapsed-unlock s = by_locked s.locked where
-  by_locked : (o : Option ℕ) → (for_one unlock_object o s).elapsed ≡ s.elapsed
-  by_locked None = refl
-  by_locked (Some o) = (keeps-all_ready (tasks_of (awakened s (ToReceive o)) ++ tasks_of (awakened s (ToSend o))) (record s { locked = None })).elapsed
-
-elapsed-decide : (i o : ℕ) (a : Access) (s : State) → (decide i o a s).elapsed ≡ s.elapsed
-unfolding decide wait_in
-elapsed-decide i o a s = by_test (possible s o a || is_expired s i) (λ t. rw t refl) (λ t. rw t (keeps-inherit i o s).elapsed)
-
-elapsed-leave_call : (i : ℕ) (s : State) → (leave_call i s).elapsed ≡ s.elapsed
-unfolding leave_call
-elapsed-leave_call i s =
-    let free : State = end_hold i Try s in
-    by_test (is_some (call_at s i).list)
-    (λ t. rw t (keeps-choose free).elapsed)
-    (λ t. rw t (keeps-preempt free).elapsed)
-
-elapsed-await : (app : Application) (i o : ℕ) (a : Access) (ticks : Option ℕ) (phase : Phase) (s : State) → (await app i o a ticks phase s).elapsed ≡ s.elapsed
-elapsed-await app i o a ticks Start s = (keeps-try app i o a (set_deadline i ticks s)).elapsed ∙ (keeps-set_deadline i ticks s).elapsed
-elapsed-await app i o a ticks Try s = (keeps-try app i o a s).elapsed
-elapsed-await app i o a ticks Decide s = elapsed-decide i o a s
-elapsed-await app i o a ticks Place s = refl
-elapsed-await app i o a ticks Unlock s = elapsed-unlock s
-elapsed-await app i o a ticks Leave s = elapsed-leave_call i s
-elapsed-await app i o a ticks Final s = elapsed-leave_call i s
-
-suspension-unlock : (s : State) → suspension_of (unlock s) ≡ suspension_of s
-unfolding unlock
-suspension-unlock s = by_locked s.locked where
-  by_locked : (o : Option ℕ) → suspension_of (for_one unlock_object o s) ≡ suspension_of s
-  by_locked None = refl
-  by_locked (Some o) = (keeps-all_ready (tasks_of (awakened s (ToReceive o)) ++ tasks_of (awakened s (ToSend o))) (record s { locked = None })).suspension
-
-suspension-decide : (i o : ℕ) (a : Access) (s : State) → suspension_of (decide i o a s) ≡ suspension_of s
-unfolding decide wait_in
-suspension-decide i o a s = by_test (possible s o a || is_expired s i) (λ t. rw t refl) (λ t. rw t (keeps-inherit i o s).suspension)
-
-pub suspension-leave_call : (i : ℕ) (s : State) → suspension_of (leave_call i s) ≡ suspension_of s
-unfolding leave_call
-suspension-leave_call i s =
-    let free : State = end_hold i Try s in
-    by_test (is_some (call_at s i).list)
-    (λ t. rw t (keeps-choose free).suspension)
-    (λ t. rw t (keeps-preempt free).suspension)
-
-suspension-await : (app : Application) (i o : ℕ) (a : Access) (ticks : Option ℕ) (phase : Phase) (s : State) → suspension_of (await app i o a ticks phase s) ≡ suspension_of s
-suspension-await app i o a ticks Start s = (keeps-try app i o a (set_deadline i ticks s)).suspension ∙ (keeps-set_deadline i ticks s).suspension
-suspension-await app i o a ticks Try s = (keeps-try app i o a s).suspension
-suspension-await app i o a ticks Decide s = suspension-decide i o a s
-suspension-await app i o a ticks Place s = refl
-suspension-await app i o a ticks Unlock s = suspension-unlock s
-suspension-await app i o a ticks Leave s = suspension-leave_call i s
-suspension-await app i o a ticks Final s = suspension-leave_call i s
-
--- ---- the tick: it alone lets time pass
-
--- a tick that has come, and has not been acted upon
-abbrev pub tick_come : State → State
-tick_come s =
-    if is_scheduler_suspended s
-    then record s { elapsed = s.elapsed + 1; held_ticks = s.held_ticks + 1 }
-    else record s { time = s.time + 1; elapsed = s.elapsed + 1 }
-
-keeps-increment : (s : State) → Keeps (tick_come s) (increment_tick s)
-unfolding increment_tick advance
-keeps-increment s = by_test (is_scheduler_suspended s)
-    (λ t. rw t (keeps (record s { elapsed = s.elapsed + 1; held_ticks = s.held_ticks + 1 })))
-    (λ t. rw t (keeps-wake_due (record s { time = s.time + 1; elapsed = s.elapsed + 1 })))
-
-pub hold-increment : (s : State) → hold_of (increment_tick s) ≡ hold_of s
-hold-increment s = (keeps-increment s).hold ∙ by_test (is_scheduler_suspended s) (λ t. rw t refl) (λ t. rw t refl)
-
--- from when it has come on, no more time passes
-keeps-tick : (app : Application) (s : State) → Keeps (tick_come s) (tick_interrupt app s)
-unfolding tick_interrupt
-keeps-tick app s =
-    let come : State = increment_tick s in
-    let told : State = interrupt app come in
-    keeps_both (tick_come s) come (unless_held slice told) (keeps-increment s)
-    (keeps_both come told (unless_held slice told) (keeps-interrupt app come) (keeps-unless_held slice told keeps-slice))
-
--- a tick and its base interrupts hold nothing, and let go of nothing
-pub held-told : (app : Application) (s : State) → is_held (interrupt app (increment_tick s)) ≡ is_held s
-held-told app s =
-    let come : State = increment_tick s in
-    let told : State = interrupt app come in
-    let k : Keeps (tick_come s) told = keeps_both (tick_come s) come told (keeps-increment s) (keeps-interrupt app come) in
-    let hold : told.call_hold ≡ s.call_hold = ap (λ (x : Hold). x.held) k.hold ∙ by_test (is_scheduler_suspended s) (λ t. rw t refl) (λ t. rw t refl) in
-    let count : told.suspensions ≡ s.suspensions = ap (λ (x : Suspension). x.suspensions) k.suspension ∙ by_test (is_scheduler_suspended s) (λ t. rw t refl) (λ t. rw t refl) in
-    ap₂ (λ (b : Bool) (n : ℕ). b || ltb 0 n) hold count
-
-pub elapsed-tick : (app : Application) (s : State) → (tick_interrupt app s).elapsed ≡ s.elapsed + 1
-elapsed-tick app s = (keeps-tick app s).elapsed ∙ by_test (is_scheduler_suspended s) (λ t. rw t refl) (λ t. rw t refl)
-
-pub hold-tick : (app : Application) (s : State) → hold_of (tick_interrupt app s) ≡ hold_of s
-hold-tick app s = (keeps-tick app s).hold ∙ by_test (is_scheduler_suspended s) (λ t. rw t refl) (λ t. rw t refl)
-
-pub suspension-tick : (app : Application) (s : State) → s.suspensions ≡ 0 → suspension_of (tick_interrupt app s) ≡ suspension_of s
-suspension-tick app s none = (keeps-tick app s).suspension ∙ rw none refl
-
-hold-expect : (app : Application) (i : ℕ) (a : Option ℕ) (s : State) → hold_of (expect app i a s) ≡ hold_of s
-unfolding expect
-hold-expect app i a s = by_test (option_eq eqb (progress_at s i).answer a)
-    (λ t. rw t (keeps-go_to app i ((progress_at s i).op_index + 1) (progress_at s i) s).hold)
-    (λ t. rw t refl)
-
--- an op that doesn't wait
-pub hold-act : (app : Application) (i : ℕ) (op : Op) (s : State) → awaited (Some op) ≡ None → hold_of (act app i op s) ≡ hold_of s
-hold-act app i (Work n) s w = hold-tick app (use_up app i n s) ∙ (keeps-use_up app i n s).hold
-hold-act app i (Delay n) s w = (keeps-delay app i n s).hold
-hold-act app i (DelayUntil n) s w = (keeps-delay_until app i ((progress_at s i).previous_wake + n) s).hold
-hold-act app i Yield s w = let t : State = answer app i (Some 0) s in (keeps-yield_now t).hold ∙ (keeps-answer app i (Some 0) s).hold
-hold-act app i Time s w = (keeps-answer app i (Some (printed s.time)) s).hold
-hold-act app i (Mark n) s w = (keeps-go_to app i ((progress_at s i).op_index + 1) (progress_at s i) (write (what.Mark i n) s)).hold
-hold-act app i (Expect a) s w = hold-expect app i a s
-hold-act app i (Repeat n) s w = (keeps-open_loop app i n s).hold
-hold-act app i End s w = (keeps-close_turn app i s).hold
-hold-act app i (Await o a ticks) s w = absurd (cc)
-hold-act app i (Do o a) s w = (keeps-do_now app i o a s).hold
-hold-act app i (GiveMutex o) s w = (keeps-give_mutex app i o s).hold
-hold-act app i (MessagesWaiting o) s w = (keeps-answer app i (Some (length (object_at s o).items)) s).hold
-hold-act app i (SpacesAvailable o) s w = (keeps-answer app i (Some ((object_at s o).size - length (object_at s o).items)) s).hold
-
-elapsed-expect : (app : Application) (i : ℕ) (a : Option ℕ) (s : State) → (expect app i a s).elapsed ≡ s.elapsed
-unfolding expect
-elapsed-expect app i a s = by_test (option_eq eqb (progress_at s i).answer a)
-    (λ t. rw t (keeps-go_to app i ((progress_at s i).op_index + 1) (progress_at s i) s).elapsed)
-    (λ t. rw t refl)
-
-elapsed-act : (app : Application) (i : ℕ) (op : Op) (s : State) → (act app i op s).elapsed ≤ s.elapsed + 1
-elapsed-act app i (Work n) s = let e = elapsed-tick app (use_up app i n s) in let f = (keeps-use_up app i n s).elapsed in omega arith
-elapsed-act app i (Delay n) s = let e = (keeps-delay app i n s).elapsed in omega arith
-elapsed-act app i (DelayUntil n) s = let e = (keeps-delay_until app i ((progress_at s i).previous_wake + n) s).elapsed in omega arith
-elapsed-act app i Yield s =
-    let t : State = answer app i (Some 0) s in
-    let e = (keeps-yield_now t).elapsed in let f = (keeps-answer app i (Some 0) s).elapsed in omega arith
-elapsed-act app i Time s = let e = (keeps-answer app i (Some (printed s.time)) s).elapsed in omega arith
-elapsed-act app i (Mark n) s =
-    let e : (complete app i (progress_at s i) (write (what.Mark i n) s)).elapsed ≡ s.elapsed = (keeps-go_to app i ((progress_at s i).op_index + 1) (progress_at s i) (write (what.Mark i n) s)).elapsed in
-    omega arith
-elapsed-act app i (Expect a) s = let e = elapsed-expect app i a s in omega arith
-elapsed-act app i (Repeat n) s = let e = (keeps-open_loop app i n s).elapsed in omega arith
-elapsed-act app i End s = let e = (keeps-close_turn app i s).elapsed in omega arith
-elapsed-act app i (Await o a ticks) s = let e = elapsed-await app i o a ticks (call_at s i).phase s in omega arith
-elapsed-act app i (Do o a) s = let e = (keeps-do_now app i o a s).elapsed in omega arith
-elapsed-act app i (GiveMutex o) s = let e = (keeps-give_mutex app i o s).elapsed in omega arith
-elapsed-act app i (MessagesWaiting o) s = let e = (keeps-answer app i (Some (length (object_at s o).items)) s).elapsed in omega arith
-elapsed-act app i (SpacesAvailable o) s = let e = (keeps-answer app i (Some ((object_at s o).size - length (object_at s o).items)) s).elapsed in omega arith
-
-elapsed-act_unless : (app : Application) (i : ℕ) (kind : Option Misuse) (op : Op) (s : State) → (act_unless app i kind op s).elapsed ≤ s.elapsed + 1
-elapsed-act_unless app i None op s = elapsed-act app i op s
-elapsed-act_unless app i (Some kind) op s = omega arith
-
-elapsed-act_if : (app : Application) (i : ℕ) (o : Option Op) (s : State) → (act_if app i o s).elapsed ≤ s.elapsed + 1
-elapsed-act_if app i None s = omega arith
-elapsed-act_if app i (Some op) s = elapsed-act_unless app i (misuse s i op) op s
-
-elapsed-act_current : (app : Application) (r : Option ℕ) (s : State) → (act_current app r s).elapsed ≤ s.elapsed + 1
-elapsed-act_current app None s = let e = elapsed-tick app s in omega arith
-elapsed-act_current app (Some i) s = elapsed-act_if app i (op_at app i (progress_at s i).op_index) s
-
-suspension-expect : (app : Application) (i : ℕ) (a : Option ℕ) (s : State) → suspension_of (expect app i a s) ≡ suspension_of s
-unfolding expect
-suspension-expect app i a s = by_test (option_eq eqb (progress_at s i).answer a)
-    (λ t. rw t (keeps-go_to app i ((progress_at s i).op_index + 1) (progress_at s i) s).suspension)
-    (λ t. rw t refl)
-
--- No op is a `suspend_all`.
-pub suspension-act : (app : Application) (i : ℕ) (op : Op) (s : State) → s.suspensions ≡ 0 → suspension_of (act app i op s) ≡ suspension_of s
-suspension-act app i (Work n) s none = let k = (keeps-use_up app i n s).suspension in suspension-tick app (use_up app i n s) (ap (λ (x : Suspension). x.suspensions) k ∙ none) ∙ k
-suspension-act app i (Delay n) s none = (keeps-delay app i n s).suspension
-suspension-act app i (DelayUntil n) s none = (keeps-delay_until app i ((progress_at s i).previous_wake + n) s).suspension
-suspension-act app i Yield s none = let t : State = answer app i (Some 0) s in (keeps-yield_now t).suspension ∙ (keeps-answer app i (Some 0) s).suspension
-suspension-act app i Time s none = (keeps-answer app i (Some (printed s.time)) s).suspension
-suspension-act app i (Mark n) s none = (keeps-go_to app i ((progress_at s i).op_index + 1) (progress_at s i) (write (what.Mark i n) s)).suspension
-suspension-act app i (Expect a) s none = suspension-expect app i a s
-suspension-act app i (Repeat n) s none = (keeps-open_loop app i n s).suspension
-suspension-act app i End s none = (keeps-close_turn app i s).suspension
-suspension-act app i (Await o a ticks) s none = suspension-await app i o a ticks (call_at s i).phase s
-suspension-act app i (Do o a) s none = (keeps-do_now app i o a s).suspension
-suspension-act app i (GiveMutex o) s none = (keeps-give_mutex app i o s).suspension
-suspension-act app i (MessagesWaiting o) s none = (keeps-answer app i (Some (length (object_at s o).items)) s).suspension
-suspension-act app i (SpacesAvailable o) s none = (keeps-answer app i (Some ((object_at s o).size - length (object_at s o).items)) s).suspension
-
-suspension-act_unless : (app : Application) (i : ℕ) (kind : Option Misuse) (op : Op) (s : State) → s.suspensions ≡ 0 → suspension_of (act_unless app i kind op s) ≡ suspension_of s
-suspension-act_unless app i None op s none = suspension-act app i op s none
-suspension-act_unless app i (Some kind) op s none = refl
-
-suspension-act_if : (app : Application) (i : ℕ) (o : Option Op) (s : State) → s.suspensions ≡ 0 → suspension_of (act_if app i o s) ≡ suspension_of s
-suspension-act_if app i None s none = refl
-suspension-act_if app i (Some op) s none = suspension-act_unless app i (misuse s i op) op s none
-
-suspension-act_current : (app : Application) (r : Option ℕ) (s : State) → s.suspensions ≡ 0 → suspension_of (act_current app r s) ≡ suspension_of s
-suspension-act_current app None s none = suspension-tick app s none
-suspension-act_current app (Some i) s none = suspension-act_if app i (op_at app i (progress_at s i).op_index) s none
-
--- ---- a step, and reset
-
-pub elapsed-step : (app : Application) (handlers : List ℕ) (s : State) → (step app handlers s).elapsed ≤ s.elapsed + 1
-unfolding step
-elapsed-step app handlers s =
-    let begun : State = before_step app handlers s in
-    let b : begun.elapsed ≡ s.elapsed = (keeps-before_step app handlers s).elapsed in
-    let e : (unless_held settle (act_current app begun.current begun)).elapsed ≡ (act_current app begun.current begun).elapsed = (keeps-unless_held settle (act_current app begun.current begun) keeps-settle).elapsed in
-    let le : (act_current app begun.current begun).elapsed ≤ begun.elapsed + 1 = elapsed-act_current app begun.current begun in
-    omega arith
-
-elapsed-nobody : (app : Application) → (nobody_ready app).elapsed ≡ 0
-unfolding nobody_ready
-elapsed-nobody app = refl
-
-pub elapsed-reset : (app : Application) → (reset app).elapsed ≡ 0
-unfolding reset ready_at_reset
-elapsed-reset app = (keeps-all_ready (with_ops 0 app.tasks) (nobody_ready app)).elapsed ∙ elapsed-nobody app

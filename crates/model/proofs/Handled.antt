@@ -1,32 +1,37 @@
 -- What a handler keeps of a state, and what it spares.
-use Rattle.std.proofs.Common.{◌≡◌, ◌<◌, ◌+◌, ◌&&◌, ℕ, Bool, true, false, get_or, set, List, [], ◌∷◌, Option, Some, None, refl, ap, sym, subst, ◌∙◌}
+use Rattle.std.proofs.Common.{◌≡◌, ◌<◌, ◌+◌, ◌&&◌, ◌||◌, ℕ, Bool, true, false, ltb, ap₂, inl, inr, get_or, set, List, [], ◌∷◌, Option, Some, None, refl, ap, sym, subst, ◌∙◌}
 use Rattle.std.specs.List.{AllByRecursion}
 use Rattle.std.specs.Option.{IfSome, is_some}
 use Rattle.model.specs.declared.op.Op.{Op}
-use Rattle.model.specs.declared.op.Op.TheVariants.{Work, Delay, DelayUntil, Yield, Time, Mark, Expect, Repeat, End, Await, Do, GiveMutex, MessagesWaiting, SpacesAvailable}
+use Rattle.model.specs.declared.op.Op.TheVariants.{Work, Delay, DelayUntil, Yield, Time, Mark, Expect, Repeat, End, Await, Do, GiveMutex, MessagesWaiting, SpacesAvailable, SetBits, ClearBits, GetBits, WaitBits, Suspend, Resume, SuspendAll, ResumeAll}
 use Rattle.model.specs.declared.op.IsrOp.{IsrOp}
 use Rattle.model.specs.declared.op.IsrOp.TheVariants as isr_op
 use Rattle.model.specs.declared.op.Access.{Access}
 use Rattle.model.specs.declared.op.Access.TheVariants.{Send, SendFront, Overwrite, Receive, Peek, Take, Give, Lock}
-use Rattle.model.specs.declared.call.Phase.TheVariants.{Place}
+use Rattle.model.specs.declared.call.Phase.{Phase}
+use Rattle.model.specs.declared.call.Phase.TheVariants.{Start, Try, Decide, Place, Unlock, Leave, Final}
 use Rattle.model.specs.declared.call.WaitList.{WaitList}
 use Rattle.model.specs.declared.event.What.{What}
 use Rattle.model.specs.declared.event.What.TheVariants as what
 use Rattle.model.specs.Application.{Application, op_at, ops_of, interrupts_at}
 use Rattle.model.specs.Scripts.{IsWellFormed, fits_object, knows_isr}
-use Rattle.model.specs.State.{State, Task, Progress, Object, Status, Wait, Ready, Awake, Waiting, Asleep, WaitingForBits, Suspended, Ended, ticket_if_ready, wait_of, task_at, status_at, progress_at, call_at, object_at, with_object, for_one, for_each, no_task}
+use Rattle.model.specs.State.{State, Task, Progress, Object, Status, Wait, Ready, Awake, Waiting, Asleep, WaitingForBits, Suspended, Ended, ticket_if_ready, wait_of, task_at, status_at, progress_at, call_at, object_at, bits_at, with_object, with_progress, for_one, for_each, no_task}
 use Rattle.model.specs.Order.{Entry, first, task_of}
-use Rattle.model.specs.Switching.{is_ready, is_scheduler_suspended, is_held, slice, write}
+use Rattle.model.specs.Ops.{one_if}
+use Rattle.model.specs.Suspension.{can_resume, phase_resumed, resumed, resume}
+use Rattle.model.specs.Switching.{make_ready, is_ready, is_scheduler_suspended, is_held, slice, write}
 use Rattle.model.specs.Waiting.{waiters, awake_status, is_locked, wake_one, wake_best}
 use Rattle.model.specs.Time.{advance, increment_tick}
 use Rattle.model.specs.Objects.{possible, answer_to, object_after, list_woken, list_for, fulfil, attempt}
 use Rattle.model.specs.Handlers.{isr_told, isr, isr_each, handle, interrupt, tick_interrupt}
-use Rattle.model.specs.Invariant.{Hold, hold_of, awaited, list_of_op, IsPhaseOf, IsWaitOf, IsSound, holds, IsPlacing, RunsIn, IsState}
+use Rattle.model.specs.Invariant.{Hold, hold_of, course, list_of_op, IsPhaseOf, IsWaitOf, IsSound, Suspension, holds, IsPlacing, IsStranded, RunsIn, IsState}
 use Rattle.model.proofs.Sorting.{by_test}
 use Rattle.model.proofs.Lists.{HasKey, eqb-refl, list_has}
 use Rattle.model.proofs.Settled.{when_held, when_free}
 use Rattle.model.proofs.InScripts.{isr_known}
-use Rattle.model.proofs.Frames.{Keeps, keeps, keeps_both, keeps-wake_one, keeps-isr, keeps-handle, hold-increment, keeps-write}
+use Rattle.model.proofs.Frames.{Keeps, keeps, keeps_both, keeps-with_task, keeps-take_ticket, keeps-with_object, keeps-wake_one, keeps-isr, keeps-handle, keeps-write}
+use Rattle.model.proofs.Passing.{hold-increment}
+use Rattle.model.proofs.Suspending.{suspended_free, each_resumed, resumed_task}
 use Rattle.model.proofs.Sound.{each-set, logged, sliced, woken, later, held_up}
 use Rattle.model.proofs.Called.{WaitsIn, waits_in, waits_key, same_list_eq, attempted, spared_one}
 
@@ -34,11 +39,17 @@ pub and_left : (a b : Bool) → (a && b) ≡ true → a ≡ true
 and_left true b t = refl
 and_left false b t = absurd (cc)
 
+pub and_right : (a b : Bool) → (a && b) ≡ true → b ≡ true
+and_right true b t = t
+and_right false b t = absurd (cc)
+
 -- ---- what is kept, while this is held and locked
 
 module _ (app : Application) (formed : IsWellFormed app) (hold : Hold) where
   isr_done : (s : State) (handler op_index : ℕ) (op : IsrOp) → knows_isr app op ≡ true → IsSound app hold s → s.locked ≡ hold.locked → IsSound app hold (isr handler op_index op s)
   isr_done s handler op_index (isr_op.Do o a) known h same = let t : State = attempt None o a s in logged app formed hold t _ t.steps t.stopped (attempted app formed hold s None o a h same (and_left (fits_object app o a) _ known) tt)
+  isr_done s handler op_index (isr_op.Resume task) known h same = let t : State = resume task s in logged app formed hold t _ t.steps t.stopped (resumed_task app formed hold s task h)
+  isr_done s handler op_index (isr_op.GetBits group) known h same = logged app formed hold s _ s.steps s.stopped h
   isr_done s handler op_index (isr_op.Mark n) known h same = logged app formed hold s _ s.steps s.stopped h
 
   each_done : (ops : List IsrOp) (s : State) (handler op_index : ℕ) → AllByRecursion (λ (op : IsrOp). knows_isr app op ≡ true) ops → IsSound app hold s → s.locked ≡ hold.locked → IsSound app hold (isr_each handler op_index ops s)
@@ -79,30 +90,55 @@ module _ (app : Application) (formed : IsWellFormed app) (hold : Hold) where
 
 -- ---- what is spared
 
--- The same task runs. Each task is where it was in its script, one who was Ready is so still, and one who waited for the
--- locked object has the same wait, though it may be Awake by now.
+-- The same task runs. Each task is at its op, and where it was in it, but for one that is resumed; one who was Ready is so
+-- still, and one who waited for the locked object has the same wait, though it may be Awake by now.
 pub record Spares (old new : State) : Type 0 where
   pub kept : Keeps old new
   pub current : new.current ≡ old.current
-  pub at : (i : ℕ) → task_at new i ≡ record (task_at old i) { status = status_at new i }
+  pub op_index : (i : ℕ) → (progress_at new i).op_index ≡ (progress_at old i).op_index
+  pub holding : (i : ℕ) → holds (call_at new i).phase ≡ holds (call_at old i).phase
+  pub place : (i : ℕ) → (call_at new i).phase ≡ Place → (call_at old i).phase ≡ Place
+  pub unsuspended : (i : ℕ) → can_resume (status_at old i) ≡ false → can_resume (status_at new i) ≡ false
+  pub at : (i : ℕ) → can_resume (status_at old i) ≡ false → task_at new i ≡ record (task_at old i) { status = status_at new i }
   pub ready : (i : ℕ) → is_ready old i ≡ true → task_at new i ≡ task_at old i
   pub waits : (i : ℕ) (w : Wait) → wait_of (status_at old i) ≡ Some w → is_locked old.locked w.list ≡ true → wait_of (status_at new i) ≡ Some w
 
 pub spares : (s : State) → Spares s s
-spares s = record { kept = keeps s; current = refl; at = λ i. refl; ready = λ i r. refl; waits = λ i w e l. e }
+spares s = record { kept = keeps s; current = refl; op_index = λ i. refl; holding = λ i. refl; place = λ i e. e; unsuspended = λ i e. e; at = λ i e. refl; ready = λ i r. refl; waits = λ i w e l. e }
 
 pub spares_both : (a b c : State) → Spares a b → Spares b c → Spares a c
 spares_both a b c h k = record {
   kept = keeps_both a b c h.kept k.kept;
   current = k.current ∙ h.current;
-  at = λ i. k.at i ∙ ap (λ (t : Task). record t { status = status_at c i }) (h.at i);
+  op_index = λ i. k.op_index i ∙ h.op_index i;
+  holding = λ i. k.holding i ∙ h.holding i;
+  place = λ i e. h.place i (k.place i e);
+  unsuspended = λ i e. k.unsuspended i (h.unsuspended i e);
+  at = λ i e. k.at i (h.unsuspended i e) ∙ ap (λ (t : Task). record t { status = status_at c i }) (h.at i e);
   ready = λ i r. k.ready i (subst (λ (t : Task). is_some (ticket_if_ready t.status) ≡ true) (sym (h.ready i r)) r) ∙ h.ready i r;
   waits = λ i w e l. k.waits i w (h.waits i w e l) (subst (λ (o : Option ℕ). is_locked o w.list ≡ true) (sym (ap (λ (x : Hold). x.locked) h.kept.hold)) l);
 }
 
+-- where each task is where it was in its script
+pub spared_by : (old new : State) → Keeps old new → new.current ≡ old.current → ((i : ℕ) → task_at new i ≡ record (task_at old i) { status = status_at new i }) → ((i : ℕ) → can_resume (status_at old i) ≡ false → can_resume (status_at new i) ≡ false)
+    → ((i : ℕ) → is_ready old i ≡ true → task_at new i ≡ task_at old i) → ((i : ℕ) (w : Wait) → wait_of (status_at old i) ≡ Some w → is_locked old.locked w.list ≡ true → wait_of (status_at new i) ≡ Some w) → Spares old new
+spared_by old new kept current at unsuspended ready waits =
+    let call : (i : ℕ) → progress_at new i ≡ progress_at old i = λ i. ap (λ (t : Task). t.progress) (at i) in
+    record {
+      kept = kept;
+      current = current;
+      op_index = λ i. ap (λ (p : Progress). p.op_index) (call i);
+      holding = λ i. ap (λ (p : Progress). holds p.call.phase) (call i);
+      place = λ i e. ap (λ (p : Progress). p.call.phase) (sym (call i)) ∙ e;
+      unsuspended = unsuspended;
+      at = λ i _. at i;
+      ready = ready;
+      waits = waits;
+    }
+
 -- an event more
 spares-write : (w : What) (s : State) → Spares s (write w s)
-spares-write w s = record { kept = keeps-write w s; current = refl; at = λ i. refl; ready = λ i r. refl; waits = λ i v e l. e }
+spares-write w s = spared_by s (write w s) (keeps-write w s) refl (λ i. refl) (λ i e. e) (λ i r. refl) (λ i v e l. e)
 
 -- ---- a wake spares
 
@@ -138,16 +174,31 @@ one_waits s j list i w in_list e l =
     let locked : is_locked s.locked list ≡ true = subst (λ x. is_locked s.locked x ≡ true) there l in
     absurd (cc)) others i refl))
 
+awake_unsuspended : (u : Status) → can_resume u ≡ false → can_resume (awake_status u) ≡ false
+awake_unsuspended (Ready n) e = refl
+awake_unsuspended (Awake w) e = refl
+awake_unsuspended (Waiting w) e = refl
+awake_unsuspended (Asleep v n) e = refl
+awake_unsuspended (WaitingForBits g m d) e = refl
+awake_unsuspended Suspended e = absurd (cc)
+awake_unsuspended Ended e = refl
+
+-- a status that nobody who is Suspended has spares who isn't
+unsuspended_but : (s : State) (j : ℕ) (u : Status) → can_resume u ≡ false → (i : ℕ) → can_resume (status_at s i) ≡ false → can_resume (get_or (set s.tasks j (record (task_at s j) { status = u })) i no_task).status ≡ false
+unsuspended_but s j u e = each-set no_task (λ i t. can_resume (status_at s i) ≡ false → can_resume t.status ≡ false) s.tasks j (record (task_at s j) { status = u }) (λ _. e) (λ i f. f)
+
 spares-wake_one : (s : State) (j : ℕ) (list : WaitList) → WaitsIn list (status_at s j) → Spares s (wake_one j list s)
-spares-wake_one s j list in_list = record {
-  kept = keeps-wake_one j list s;
-  current = by_test (is_locked s.locked list) (λ t. rw t refl) (λ t. rw t refl);
-  at = λ i. by_test (is_locked s.locked list)
-      (λ t. rw t (at_status s j (awake_status (status_at s j)) i))
-      (λ t. rw t (at_status s j (Ready s.next_ticket) i));
-  ready = λ i r. spared_one s i j list r in_list;
-  waits = λ i w. one_waits s j list i w in_list;
-}
+spares-wake_one s j list in_list = spared_by s (wake_one j list s)
+    (keeps-wake_one j list s)
+    (by_test (is_locked s.locked list) (λ t. rw t refl) (λ t. rw t refl))
+    (λ i. by_test (is_locked s.locked list)
+    (λ t. rw t (at_status s j (awake_status (status_at s j)) i))
+    (λ t. rw t (at_status s j (Ready s.next_ticket) i)))
+    (λ i e. by_test (is_locked s.locked list)
+    (λ t. rw t (unsuspended_but s j (awake_status (status_at s j)) (ap (λ u. can_resume (awake_status u)) in_list.is) i e))
+    (λ t. rw t (unsuspended_but s j (Ready s.next_ticket) refl i e)))
+    (λ i r. spared_one s i j list r in_list)
+    (λ i w. one_waits s j list i w in_list)
 
 first_spares : (s : State) (list : WaitList) (es : List Entry) → AllByRecursion (HasKey (waits_key list) s.tasks) es → Spares s (for_one (λ j. wake_one j list) (task_of (first es)) s)
 unfolding waits_key
@@ -163,7 +214,7 @@ spares-for None s = spares s
 spares-for (Some list) s = spares-wake_best list s
 
 spares-object : (o : ℕ) (x : Object) (s : State) → Spares s (with_object o x s)
-spares-object o x s = record { kept = record { time = refl; elapsed = refl; steps = refl; stopped = refl; tasks = refl; hold = refl; suspension = refl }; current = refl; at = λ i. refl; ready = λ i r. refl; waits = λ i w e l. e }
+spares-object o x s = spared_by s (with_object o x s) (keeps-with_object o x s) refl (λ i. refl) (λ i e. e) (λ i r. refl) (λ i w e l. e)
 
 spares-attempt : (caller : Option ℕ) (o : ℕ) (a : Access) (s : State) → Spares s (attempt caller o a s)
 unfolding attempt fulfil
@@ -173,11 +224,68 @@ spares-attempt caller o a s =
     (λ p. rw p (spares_both s t (for_one wake_best (list_woken caller o a) t) (spares-object o (object_after caller a (object_at s o)) s) (spares-for (list_woken caller o a) t)))
     (λ p. rw p (spares s))
 
+-- ---- a resume spares who isn't Suspended
+
+pub place_resumed : (phase : Phase) → phase_resumed phase ≡ Place → phase ≡ Place
+place_resumed Start e = absurd (cc)
+place_resumed Try e = absurd (cc)
+place_resumed Decide e = absurd (cc)
+place_resumed Place e = refl
+place_resumed Unlock e = absurd (cc)
+place_resumed Leave e = absurd (cc)
+place_resumed Final e = absurd (cc)
+
+pub holds_resumed : (phase : Phase) → holds (phase_resumed phase) ≡ holds phase
+holds_resumed Start = refl
+holds_resumed Try = refl
+holds_resumed Decide = refl
+holds_resumed Place = refl
+holds_resumed Unlock = refl
+holds_resumed Leave = refl
+holds_resumed Final = refl
+
+ready_unsuspended : (u : Status) → is_some (ticket_if_ready u) ≡ true → can_resume u ≡ false
+ready_unsuspended (Ready n) t = refl
+ready_unsuspended (Awake w) t = absurd (cc)
+ready_unsuspended (Waiting w) t = absurd (cc)
+ready_unsuspended (Asleep v n) t = absurd (cc)
+ready_unsuspended (WaitingForBits g m d) t = absurd (cc)
+ready_unsuspended Suspended t = absurd (cc)
+ready_unsuspended Ended t = absurd (cc)
+
+spares-resumed : (s : State) (j : ℕ) → can_resume (status_at s j) ≡ true → Spares s (make_ready j (with_progress j (resumed s.time (progress_at s j)) s))
+spares-resumed s j suspended =
+    let p : Progress = resumed s.time (progress_at s j) in
+    let t : State = with_progress j p s in
+    let each = each_resumed s j suspended in
+    record {
+      kept = keeps_both s t (make_ready j t) (keeps-with_task j (record (task_at s j) { progress = p }) s) (keeps-take_ticket j Ready t);
+      current = refl;
+      op_index = each (λ i u. u.progress.op_index ≡ (progress_at s i).op_index) refl (λ i. refl);
+      holding = each (λ i u. holds u.progress.call.phase ≡ holds (call_at s i).phase) (holds_resumed (call_at s j).phase) (λ i. refl);
+      place = each (λ i u. u.progress.call.phase ≡ Place → (call_at s i).phase ≡ Place) (place_resumed (call_at s j).phase) (λ i e. e);
+      unsuspended = each (λ i u. can_resume (status_at s i) ≡ false → can_resume u.status ≡ false) (λ e. refl) (λ i e. e);
+      at = each (λ i u. can_resume (status_at s i) ≡ false → u ≡ record (task_at s i) { status = u.status }) (λ e. absurd (cc)) (λ i e. refl);
+      ready = each (λ i u. is_ready s i ≡ true → u ≡ task_at s i) (λ r. let f = ready_unsuspended (status_at s j) r in absurd (cc)) (λ i r. refl);
+      waits = each (λ i u. (w : Wait) → wait_of (status_at s i) ≡ Some w → is_locked s.locked w.list ≡ true → wait_of u.status ≡ Some w) (λ w e l. let f = suspended_free (status_at s j) suspended in absurd (cc)) (λ i w e l. e);
+    }
+
+pub spares-resume : (j : ℕ) (s : State) → Spares s (resume j s)
+unfolding resume
+spares-resume j s = by_test (can_resume (status_at s j))
+    (λ t. rw t (spares-resumed s j t))
+    (λ t. rw t (spares s))
+
 spares-isr : (handler op_index : ℕ) (op : IsrOp) (s : State) → Spares s (isr handler op_index op s)
 spares-isr handler op_index (isr_op.Do o a) s =
     let t : State = attempt None o a s in
     let w : What = isr_told handler op_index (answer_to s o a) in
     spares_both s t (write w t) (spares-attempt None o a s) (spares-write w t)
+spares-isr handler op_index (isr_op.Resume j) s =
+    let t : State = resume j s in
+    let w : What = isr_told handler op_index (one_if (can_resume (status_at s j))) in
+    spares_both s t (write w t) (spares-resume j s) (spares-write w t)
+spares-isr handler op_index (isr_op.GetBits group) s = spares-write (isr_told handler op_index (Some (bits_at s group))) s
 spares-isr handler op_index (isr_op.Mark n) s = spares-write (what.IsrMark handler n) s
 
 spares-isr_each : (handler op_index : ℕ) (ops : List IsrOp) (s : State) → Spares s (isr_each handler op_index ops s)
@@ -203,8 +311,12 @@ is_locked-own o Give = eqb-refl o
 is_locked-own o Lock = eqb-refl o
 
 -- who is to be placed waits for the locked object
-place_locked : (hold : Hold) (op : Option Op) (list : WaitList) → IsPhaseOf hold (awaited op) Place → list_of_op op ≡ Some list → is_locked hold.locked list ≡ true
+place_locked : (hold : Hold) (op : Option Op) (list : WaitList) → IsPhaseOf hold (course op) Place → list_of_op op ≡ Some list → is_locked hold.locked list ≡ true
 place_locked hold None list p e = absurd p
+place_locked hold (Some (Await o a ticks)) list p e =
+    let same : list_for o a ≡ list = cc in
+    let P : Option ℕ → WaitList → Type 0 = λ l x. is_locked l x ≡ true in
+    subst (P hold.locked) same (subst (λ l. P l (list_for o a)) (sym p.1) (is_locked-own o a))
 place_locked hold (Some (Work n)) list p e = absurd p
 place_locked hold (Some (Delay n)) list p e = absurd p
 place_locked hold (Some (DelayUntil n)) list p e = absurd p
@@ -214,29 +326,39 @@ place_locked hold (Some (Mark n)) list p e = absurd p
 place_locked hold (Some (Expect a)) list p e = absurd p
 place_locked hold (Some (Repeat n)) list p e = absurd p
 place_locked hold (Some End) list p e = absurd p
-place_locked hold (Some (Await o a ticks)) list p e =
-    let same : list_for o a ≡ list = cc in
-    let P : Option ℕ → WaitList → Type 0 = λ l x. is_locked l x ≡ true in
-    subst (P hold.locked) same (subst (λ l. P l (list_for o a)) (sym p.1) (is_locked-own o a))
 place_locked hold (Some (Do o a)) list p e = absurd p
 place_locked hold (Some (GiveMutex o)) list p e = absurd p
 place_locked hold (Some (MessagesWaiting o)) list p e = absurd p
 place_locked hold (Some (SpacesAvailable o)) list p e = absurd p
+place_locked hold (Some (SetBits g m)) list p e = absurd p
+place_locked hold (Some (ClearBits g m)) list p e = absurd p
+place_locked hold (Some (GetBits g)) list p e = absurd p
+place_locked hold (Some (WaitBits g c ticks)) list p e = absurd p
+place_locked hold (Some (Suspend j)) list p e = absurd p
+place_locked hold (Some (Resume j)) list p e = absurd p
+place_locked hold (Some SuspendAll) list p e = absurd p
+place_locked hold (Some ResumeAll) list p e = absurd p
 
 module _ (app : Application) (formed : IsWellFormed app) (s t : State) (h : IsState app s) (sound : IsSound app (hold_of s) t) (sp : Spares s t) where
-  same_progress : (i : ℕ) → progress_at t i ≡ progress_at s i
-  same_progress i = ap (λ (u : Task). u.progress) (sp.at i)
-
-  same_phase : (i : ℕ) → (call_at t i).phase ≡ (call_at s i).phase
-  same_phase i = ap (λ (p : Progress). p.call.phase) (same_progress i)
-
   same_held : t.call_hold ≡ s.call_hold
   same_held = ap (λ (x : Hold). x.held) sp.kept.hold
 
+  same_suspended : is_scheduler_suspended t ≡ is_scheduler_suspended s
+  same_suspended = ap (λ (x : Suspension). ltb 0 x.suspensions) sp.kept.suspension
+
+  waiting_unsuspended : (u : Status) (w : Wait) → wait_of u ≡ Some w → can_resume u ≡ false
+  waiting_unsuspended (Ready n) w e = refl
+  waiting_unsuspended (Awake v) w e = refl
+  waiting_unsuspended (Waiting v) w e = refl
+  waiting_unsuspended (Asleep v n) w e = refl
+  waiting_unsuspended (WaitingForBits g m d) w e = refl
+  waiting_unsuspended Suspended w e = absurd (cc)
+  waiting_unsuspended Ended w e = refl
+
   placing_still : (i : ℕ) → (call_at s i).phase ≡ Place → IsPlacing s.time (task_at s i) (wait_of (status_at s i)) → IsPlacing t.time (task_at t i) (wait_of (status_at t i))
   placing_still i is placing = by_wait (wait_of (status_at s i)) refl placing where
-    phase : IsPhaseOf (hold_of s) (awaited (op_at app i (progress_at s i).op_index)) Place
-    phase = subst (IsPhaseOf (hold_of s) (awaited (op_at app i (progress_at s i).op_index))) is (h.sound.calls i).phase
+    phase : IsPhaseOf (hold_of s) (course (op_at app i (progress_at s i).op_index)) Place
+    phase = subst (IsPhaseOf (hold_of s) (course (op_at app i (progress_at s i).op_index))) is (h.sound.calls i).phase
 
     by_wait : (o : Option Wait) → wait_of (status_at s i) ≡ o → IsPlacing s.time (task_at s i) o → IsPlacing t.time (task_at t i) (wait_of (status_at t i))
     by_wait None e p = absurd p
@@ -245,26 +367,35 @@ module _ (app : Application) (formed : IsWellFormed app) (s t : State) (h : IsSt
         let of_op : IsWaitOf (op_at app i (progress_at s i).op_index) (call_at s i).deadline w = subst W e (h.sound.calls i).wait in
         let locked : is_locked s.locked w.list ≡ true = place_locked (hold_of s) (op_at app i (progress_at s i).op_index) w.list phase of_op.list in
         let L : Task → Type 0 = λ u. (u.progress.call.list ≡ Some w.list) × (w.priority ≡ u.priority) in
-        let there : L (task_at t i) = subst L (sym (sp.at i)) (p.0, p.1) in
+        let there : L (task_at t i) = subst L (sym (sp.at i (waiting_unsuspended (status_at s i) w e))) (p.0, p.1) in
         let D : ℕ → Type 0 = λ now. IfSome w.deadline (λ deadline. now < deadline) in
         let later : D t.time = subst D (sym sp.kept.time) p.2 in
         subst (IsPlacing t.time (task_at t i)) (sym (sp.waits i w e locked)) (there.0, there.1, later)
 
-  runs_still : (r : Option ℕ) → RunsIn s r → RunsIn t r
-  runs_still None r = same_held ∙ r
+  -- who ran on its last op runs on
+  stranded_still : (i : ℕ) → IsStranded app s i → IsStranded app t i
+  stranded_still i x = (same_suspended ∙ x.0, ap (op_at app i) (sp.op_index i) ∙ x.1)
+
+  ready_still : (i : ℕ) → is_ready s i ≡ true → is_ready t i ≡ true
+  ready_still i was = subst (λ (u : Task). is_some (ticket_if_ready u.status) ≡ true) (sym (sp.ready i was)) was
+
+  runs_still : (r : Option ℕ) → RunsIn app s r → RunsIn app t r
+  runs_still None r = ap₂ (λ (a b : Bool). a || b) same_held same_suspended ∙ r
   runs_still (Some i) r = record {
-    holding = ap holds (same_phase i) ∙ r.holding ∙ sym same_held;
-    ready = λ none. let was : is_ready s i ≡ true = r.ready (sym same_held ∙ none) in subst (λ (u : Task). is_some (ticket_if_ready u.status) ≡ true) (sym (sp.ready i was)) was;
-    placing = λ is. let was : (call_at s i).phase ≡ Place = sym (same_phase i) ∙ is in placing_still i was (r.placing was);
+    holding = sp.holding i ∙ r.holding ∙ sym same_held;
+    ready = λ none. elim (r.ready (sym same_held ∙ none)) [ inl was ↦ inl (ready_still i was) | inr x ↦ inr (stranded_still i x) ];
+    setting = λ held way. ready_still i (r.setting (sym same_held ∙ held) (sym (ap (λ n. course (op_at app i n)) (sp.op_index i)) ∙ way));
+    placing = λ is. let was : (call_at s i).phase ≡ Place = sp.place i is in placing_still i was (r.placing was);
   }
 
   pub state_still : IsState app t
   state_still = record {
     sound = subst (λ x. IsSound app x t) (sym sp.kept.hold) sound;
-    runs = subst (RunsIn t) (sym sp.current) (runs_still s.current h.runs);
-    alone = λ i on. sp.current ∙ h.alone i (ap holds (sym (same_phase i)) ∙ on);
+    runs = subst (RunsIn app t) (sym sp.current) (runs_still s.current h.runs);
+    alone = λ i on. sp.current ∙ h.alone i (sym (sp.holding i) ∙ on);
     locked = λ none. ap (λ (x : Hold). x.locked) sp.kept.hold ∙ h.locked (sym same_held ∙ none);
-    unsuspended = sp.kept.suspension ∙ h.unsuspended;
+    apart = λ on. same_held ∙ h.apart (sym same_suspended ∙ on);
+    held = λ off. ap (λ (x : Suspension). x.held_ticks) sp.kept.suspension ∙ h.held (sym same_suspended ∙ off);
   }
 
 -- a handler that comes between two steps

@@ -3,7 +3,7 @@ use Rattle.std.proofs.Common.{◌≡◌, ◌+◌, ℕ, zero, suc, true, List, []
 use Rattle.std.specs.List.{AllByRecursion, slice_get}
 use Rattle.std.specs.Option.{option_map, unwrap_or}
 use Rattle.model.specs.declared.op.Op.{Op}
-use Rattle.model.specs.declared.op.Op.TheVariants.{Work, Delay, DelayUntil, Yield, Time, Mark, Expect, Repeat, End, Await, Do, GiveMutex, MessagesWaiting, SpacesAvailable}
+use Rattle.model.specs.declared.op.Op.TheVariants.{Work, Delay, DelayUntil, Yield, Time, Mark, Expect, Repeat, End, Await, Do, GiveMutex, MessagesWaiting, SpacesAvailable, SetBits, ClearBits, GetBits, WaitBits, Suspend, Resume, SuspendAll, ResumeAll}
 use Rattle.model.specs.declared.op.IsrOp.{IsrOp}
 use Rattle.model.specs.Application.{Application, Handler, Definition, script_of, op_at, ops_of}
 use Rattle.model.specs.Scripts.{InRange, may_stand, nesting_past, Nests, IsScript, IsDefinition, IsHandler, IsWellFormed, knows, KnowsAll, knows_isr}
@@ -51,6 +51,14 @@ used_none zero ((Do o a) ∷ ops) h = tt
 used_none zero ((GiveMutex o) ∷ ops) h = tt
 used_none zero ((MessagesWaiting o) ∷ ops) h = tt
 used_none zero ((SpacesAvailable o) ∷ ops) h = tt
+used_none zero ((SetBits g m) ∷ ops) h = tt
+used_none zero ((ClearBits g m) ∷ ops) h = tt
+used_none zero ((GetBits g) ∷ ops) h = tt
+used_none zero ((WaitBits g c w) ∷ ops) h = tt
+used_none zero ((Suspend j) ∷ ops) h = tt
+used_none zero ((Resume j) ∷ ops) h = tt
+used_none zero (SuspendAll ∷ ops) h = tt
+used_none zero (ResumeAll ∷ ops) h = tt
 used_none (suc p) (o ∷ ops) h = used_none p ops h.1
 
 -- its numbers are in their ranges

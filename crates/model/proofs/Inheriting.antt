@@ -1,6 +1,5 @@
 -- What each change of a priority keeps.
 use Rattle.std.proofs.Common.{max, ◌≡◌, ◌<◌, ◌≤◌, ℕ, eqb, ltb, List, [], ◌∷◌, length, Option, Some, None, refl, sym, subst, ◌∙◌, arith}
-use Rattle.std.specs.Prelude.{Bool}
 use Rattle.std.specs.List.{AllByRecursion}
 use Rattle.std.specs.Option.{IfSome, is_some, option_and_then, option_map, unwrap_or}
 use Rattle.std.proofs.Math.ListN.{length-set}

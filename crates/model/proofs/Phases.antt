@@ -1,5 +1,5 @@
 -- What each phase of a call that waits makes of a state.
-use Rattle.std.proofs.Common.{◌≡◌, ◌≢◌, ◌<◌, ◌||◌, ℕ, true, false, leb, length, Option, Some, None, refl, ap, sym, subst, ◌∙◌, get_or-set_same, get_or-set_other}
+use Rattle.std.proofs.Common.{ap₂, ◌≡◌, ◌≢◌, ◌<◌, ◌||◌, ℕ, true, false, leb, ltb-false, arith, length, Option, Some, None, refl, ap, sym, subst, ◌∙◌, get_or-set_same, get_or-set_other}
 use Rattle.std.specs.Prelude.{Bool}
 use Rattle.std.specs.Option.{IfSome, option_map, is_some, unwrap_or}
 use Rattle.std.proofs.Math.ListN.{length-set}
@@ -11,13 +11,13 @@ use Rattle.model.specs.declared.call.Phase.{Phase}
 use Rattle.model.specs.declared.call.Phase.TheVariants.{Try, Place, Unlock, Leave}
 use Rattle.model.specs.Application.{Application, op_at}
 use Rattle.model.specs.Scripts.{IsWellFormed}
-use Rattle.model.specs.State.{State, Task, Progress, Wait, Waiting, wait_if_awake, wait_of, task_at, status_at, progress_at, call_at, with_task, go_on, for_each, for_one, no_task}
-use Rattle.model.specs.Switching.{is_ready, make_ready}
+use Rattle.model.specs.State.{State, Task, Progress, Wait, Waiting, ticket_if_ready, wait_if_awake, wait_of, task_at, status_at, progress_at, call_at, with_task, go_on, for_each, for_one, no_task}
+use Rattle.model.specs.Switching.{is_ready, make_ready, is_scheduler_suspended}
 use Rattle.model.specs.Waiting.{is_locked, wait_in, is_expired, end_hold, unlock_object, unlock}
 use Rattle.model.specs.Objects.{list_for, possible}
 use Rattle.model.specs.Calls.{lock, decide, leave_call}
 use Rattle.model.specs.Mutexes.{inherit}
-use Rattle.model.specs.Invariant.{Hold, hold_of, awaited, IsPhaseOf, IsSound, holds, IsPlacing, IsRunning, RunsIn, suspension_of, unsuspended, IsState}
+use Rattle.model.specs.Invariant.{Hold, hold_of, Course, OnObject, ToSetBits, course, IsPhaseOf, IsSound, holds, IsPlacing, IsRunning, RunsIn, Suspension, suspension_of, IsState}
 use Rattle.model.proofs.Sorting.{by_test}
 use Rattle.model.proofs.Tables.{ticket_at}
 use Rattle.model.proofs.Sound.{each-set_but, framed, all_made_ready, chosen, preempted}
@@ -32,38 +32,61 @@ use Rattle.model.proofs.Called.{went_on, began, phase_free, call_apart, none_awa
 abbrev pub free : Hold
 free = record { held = false; locked = None }
 
+-- no `suspend_all` is in force, and no tick is held
+abbrev pub unsuspended : Suspension
+unsuspended = record { suspensions = 0; held_ticks = 0 }
+
+pub suspended_not : (s : State) → suspension_of s ≡ unsuspended → is_scheduler_suspended s ≡ false
+suspended_not s calm = let none : s.suspensions ≡ 0 = ap (λ (x : Suspension). x.suspensions) calm in rw none refl
+
+pub calm_where : (s : State) → is_scheduler_suspended s ≡ false → s.held_ticks ≡ 0 → suspension_of s ≡ unsuspended
+calm_where s not_so none =
+    let most = ltb-false 0 s.suspensions not_so in
+    let zero_ : s.suspensions ≡ 0 = omega arith in
+    ap₂ (λ (a b : ℕ). record { suspensions = a; held_ticks = b }) zero_ none
+
+-- while a call holds the scheduler
+pub calm_held : (app : Application) (s : State) → IsState app s → s.call_hold ≡ true → suspension_of s ≡ unsuspended
+calm_held app s h held =
+    let not_so : is_scheduler_suspended s ≡ false = by_test (is_scheduler_suspended s) (λ t. let f = h.apart t in absurd (cc)) (λ t. t) in
+    calm_where s not_so (h.held not_so)
+
 module _ (app : Application) (formed : IsWellFormed app) where
   -- the running task goes on in a phase that holds the scheduler
-  in_hold : (s : State) (i : ℕ) (t : Task) → IsSound app (hold_of s) (with_task i t s) → s.current ≡ Some i → i < length s.tasks → s.call_hold ≡ true
+  pub in_hold : (s : State) (i : ℕ) (t : Task) → IsSound app (hold_of s) (with_task i t s) → s.current ≡ Some i → i < length s.tasks → s.call_hold ≡ true
       → holds t.progress.call.phase ≡ true → (t.progress.call.phase ≡ Place → IsPlacing s.time t (wait_of t.status))
+      → (course (op_at app i t.progress.op_index) ≡ ToSetBits → is_some (ticket_if_ready t.status) ≡ true)
       → ((j : ℕ) → j ≢ i → holds (call_at s j).phase ≡ false) → suspension_of s ≡ unsuspended → IsState app (with_task i t s)
-  in_hold s i t h runs l held phase placing others calm =
+  in_hold s i t h runs l held phase placing setting others calm =
       let at : task_at (with_task i t s) i ≡ t = get_or-set_same s.tasks i t no_task l in
       let H : Task → Type 0 = λ u. holds u.progress.call.phase ≡ s.call_hold in
       let Q : Task → Type 0 = λ u. u.progress.call.phase ≡ Place → IsPlacing s.time u (wait_of u.status) in
+      let T : Task → Type 0 = λ u. course (op_at app i u.progress.op_index) ≡ ToSetBits → is_some (ticket_if_ready u.status) ≡ true in
       let P : ℕ → Task → Type 0 = λ j u. holds u.progress.call.phase ≡ true → s.current ≡ Some j in
       record {
         sound = h;
-        runs = subst (RunsIn (with_task i t s)) (sym runs) (record {
+        runs = subst (RunsIn app (with_task i t s)) (sym runs) (record {
           holding = subst H (sym at) (phase ∙ sym held);
           ready = λ none. absurd (cc);
+          setting = λ _. subst T (sym at) setting;
           placing = subst Q (sym at) placing;
         });
         alone = each-set_but no_task P s.tasks i t l (λ _. runs) (λ j ne on. let off = others j ne in absurd (cc));
         locked = λ none. absurd (cc);
-        unsuspended = calm;
+        apart = λ t. let f : is_scheduler_suspended s ≡ false = suspended_not s calm in absurd (cc);
+        held = λ _. ap (λ (x : Suspension). x.held_ticks) calm;
       }
 
   -- ---- Decide
 
-  others_free : (s : State) → IsSound app (hold_of s) s → s.call_hold ≡ false → (j : ℕ) → holds (call_at s j).phase ≡ false
+  pub others_free : (s : State) → IsSound app (hold_of s) s → s.call_hold ≡ false → (j : ℕ) → holds (call_at s j).phase ≡ false
   others_free s h none j = phase_free (hold_of s) _ (call_at s j).phase none (h.calls j).phase
 
   none_woken : (s : State) → IsSound app (hold_of s) s → s.locked ≡ None → (j : ℕ) → wait_if_awake (status_at s j) ≡ None
   none_woken s h none j = none_awake s.locked (wait_if_awake (status_at s j)) none (h.calls j).awake
 
   -- whatever is held from now on, it is as it was of all tasks
-  held_by_all : (s : State) (new : Hold) → IsSound app (hold_of s) s → s.call_hold ≡ false → s.locked ≡ None → IsSound app new s
+  pub held_by_all : (s : State) (new : Hold) → IsSound app (hold_of s) s → s.call_hold ≡ false → s.locked ≡ None → IsSound app new s
   held_by_all s new h none unlocked =
       reheld app formed (hold_of s) new s h (λ j. call_apart (hold_of s) new s.time _ (task_at s j) (others_free s h none j) (none_woken s h unlocked j) (h.calls j))
 
@@ -76,8 +99,8 @@ module _ (app : Application) (formed : IsWellFormed app) where
     locking : Hold
     locking = record { held = true; locked = Some o }
 
-    phase_there : (phase : Phase) → IsPhaseOf locking (Some o) phase → IsPhaseOf locking (awaited (op_at app i (progress_at s i).op_index)) phase
-    phase_there phase p = let P : Option Op → Type 0 = λ op. IsPhaseOf locking (awaited op) phase in subst P (sym is) p
+    phase_there : (phase : Phase) → IsPhaseOf locking (OnObject o) phase → IsPhaseOf locking (course (op_at app i (progress_at s i).op_index)) phase
+    phase_there phase p = let P : Option Op → Type 0 = λ op. IsPhaseOf locking (course op) phase in subst P (sym is) p
 
     decided_not : IsState app (lock i o Unlock s)
     unfolding locking
@@ -85,7 +108,7 @@ module _ (app : Application) (formed : IsWellFormed app) where
         let t : State = record s { call_hold = true; locked = Some o } in
         let h1 : IsSound app locking t = framed app formed locking s s.log s.steps s.stopped (Some o) true (held_by_all s locking h none unlocked) in
         in_hold t i (record (task_at s i) { progress = record (progress_at s i) { call = record (call_at s i) { phase = Unlock } } })
-        (went_on app formed locking t i Unlock h1 (phase_there Unlock (refl, refl))) runs l refl refl (λ e. absurd (cc)) (λ j ne. others_free s h none j) calm
+        (went_on app formed locking t i Unlock h1 (phase_there Unlock (refl, refl))) runs l refl refl (λ e. absurd (cc)) (λ e. let f : OnObject o ≡ ToSetBits = ap course (sym is) ∙ e in absurd (cc)) (λ j ne. others_free s h none j) calm
 
     -- what the task is when it has begun to wait
     waiting_task : Task
@@ -126,7 +149,7 @@ module _ (app : Application) (formed : IsWellFormed app) where
         let b : State = wait_in i (list_for o a) s in
         let t : State = record b { call_hold = true; locked = Some o } in
         let h1 : IsSound app locking t = framed app formed locking b b.log b.steps b.stopped (Some o) true (began app formed locking s i o a ticks (held_by_all s locking h none unlocked) l r is) in
-        let O : Task → Type 0 = λ (u : Task). IsPhaseOf locking (awaited (op_at app i u.progress.op_index)) Place in
+        let O : Task → Type 0 = λ (u : Task). IsPhaseOf locking (course (op_at app i u.progress.op_index)) Place in
         let F : ℕ → Task → Type 0 = λ now u. IsPlacing now (record u { progress = record u.progress { call = record u.progress.call { phase = Place } } }) (wait_of u.status) in
         let later : IfSome (call_at s i).deadline (λ d. s.time < d) = still_to_come (call_at s i).deadline s.time to_come in
         let placing : F s.time waiting_task = (refl, refl, later) in
@@ -134,6 +157,7 @@ module _ (app : Application) (formed : IsWellFormed app) where
         (went_on app formed locking t i Place h1 (subst O (sym begun_at) (phase_there Place (refl, refl))))
         (begun_kept.1 ∙ runs) (rw begun_length l) refl refl
         (λ _. subst (λ now. F now (task_at b i)) (sym begun_kept.0) (subst (F s.time) (sym begun_at) placing))
+        (λ e. let f : OnObject o ≡ ToSetBits = ap course (sym is) ∙ sym (ap (λ (u : Task). course (op_at app i u.progress.op_index)) begun_at) ∙ e in absurd (cc))
         (λ j ne. subst (λ (u : Task). holds u.progress.call.phase ≡ false) (sym (begun_others j ne)) (others_free s h none j)) (begun_calm ∙ calm)
 
   module _ (s : State) (i o : ℕ) (a : Access) (ticks : Option ℕ) (h : IsSound app (hold_of s) s) (none : s.call_hold ≡ false) (unlocked : s.locked ≡ None) (calm : suspension_of s ≡ unsuspended)
@@ -167,33 +191,53 @@ module _ (app : Application) (formed : IsWellFormed app) where
     unfolding decide
     decided_held = by_test (possible s o a || is_expired s i) (λ t. rw t refl) (λ t. rw t refl)
 
-  -- ---- Place
+  -- ---- the hold ends
 
-  module _ (s : State) (i o : ℕ) (h : IsState app s) (runs : s.current ≡ Some i) (l : i < length s.tasks) (on : awaited (op_at app i (progress_at s i).op_index) ≡ Some o) where
-    running : IsRunning s i
-    running = subst (RunsIn s) runs h.runs
-
+  module _ (s : State) (i : ℕ) (h : IsState app s) (runs : s.current ≡ Some i) (l : i < length s.tasks) where
     -- nobody else is in a phase that holds the scheduler
-    only : (j : ℕ) → j ≢ i → holds (call_at s j).phase ≡ false
+    pub only : (j : ℕ) → j ≢ i → holds (call_at s j).phase ≡ false
     only j ne = by_test (holds (call_at s j).phase)
         (λ t. let same : Some i ≡ Some j = sym runs ∙ h.alone j t in let e : i ≡ j = cc in absurd (ne (sym e)))
         (λ t. t)
 
+    -- where nothing is locked any more
+    pub hold_ended : s.locked ≡ None → (phase : Phase) → IsPhaseOf free (course (op_at app i (progress_at s i).op_index)) phase → IsSound app free (end_hold i phase s)
+    hold_ended leaves phase fits =
+        let s1 : State = record s { call_hold = false } in
+        let t : Task = record (task_at s i) { progress = record (progress_at s i) { call = record (call_at s i) { phase = phase; list = None } } } in
+        let h1 : IsSound app (hold_of s) s1 = framed app formed (hold_of s) s s.log s.steps s.stopped s.locked false h.sound in
+        let a = h.sound.progress i in
+        let c = h.sound.calls i in
+        let A : Option Wait → Type 0 = λ w. IfSome w (λ x. is_locked None x.list ≡ true) in
+        let none : (j : ℕ) → wait_if_awake (status_at s j) ≡ None = λ j. none_awake s.locked (wait_if_awake (status_at s j)) leaves (h.sound.calls j).awake in
+        rehung app formed (hold_of s) free s1 i t h1 l (ticket_at s.next_ticket i s.tasks h.sound.table.tickets) (
+          record { nests = a.nests; loops = a.loops; used = a.used; reckoned = a.reckoned },
+          record { phase = fits; wait = c.wait; awake = subst A (sym (none i)) tt; near = c.near },
+          h.sound.priorities i,
+        )
+        (λ j ne. call_apart (hold_of s) free s.time _ (task_at s j) (only j ne) (none j) (h.sound.calls j))
+
+  -- ---- Place
+
+  module _ (s : State) (i o : ℕ) (h : IsState app s) (runs : s.current ≡ Some i) (l : i < length s.tasks) (on : course (op_at app i (progress_at s i).op_index) ≡ OnObject o) where
+    running : IsRunning app s i
+    running = subst (RunsIn app s) runs h.runs
+
     module _ (held : s.call_hold ≡ true) where
       pub placed : (call_at s i).phase ≡ Place → IsState app (go_on i Unlock s)
       placed is =
-          let P : Option ℕ → Phase → Type 0 = λ object phase. IsPhaseOf (hold_of s) object phase in
-          let p : IsPhaseOf (hold_of s) (Some o) Place = subst (P (Some o)) is (subst (λ object. P object (call_at s i).phase) on (h.sound.calls i).phase) in
+          let P : Course → Phase → Type 0 = λ way phase. IsPhaseOf (hold_of s) way phase in
+          let p : IsPhaseOf (hold_of s) (OnObject o) Place = subst (P (OnObject o)) is (subst (λ way. P way (call_at s i).phase) on (h.sound.calls i).phase) in
           in_hold s i (record (task_at s i) { progress = record (progress_at s i) { call = record (call_at s i) { phase = Unlock } } })
-          (went_on app formed (hold_of s) s i Unlock h.sound (subst (λ object. P object Unlock) (sym on) p)) runs l held refl (λ e. absurd (cc)) only h.unsuspended
+          (went_on app formed (hold_of s) s i Unlock h.sound (subst (λ way. P way Unlock) (sym on) p)) runs l held refl (λ e. absurd (cc)) (λ e. let f : OnObject o ≡ ToSetBits = sym on ∙ e in absurd (cc)) (only s i h runs l) (calm_held app s h held)
 
       -- ---- Unlock
 
       module _ (is : (call_at s i).phase ≡ Unlock) where
         unlocks : s.locked ≡ Some o
         unlocks =
-            let P : Option ℕ → Phase → Type 0 = λ object phase. IsPhaseOf (hold_of s) object phase in
-            let p : IsPhaseOf (hold_of s) (Some o) Unlock = subst (P (Some o)) is (subst (λ object. P object (call_at s i).phase) on (h.sound.calls i).phase) in
+            let P : Course → Phase → Type 0 = λ way phase. IsPhaseOf (hold_of s) way phase in
+            let p : IsPhaseOf (hold_of s) (OnObject o) Unlock = subst (P (OnObject o)) is (subst (λ way. P way (call_at s i).phase) on (h.sound.calls i).phase) in
             p.1
 
         opened : State
@@ -227,7 +271,7 @@ module _ (app : Application) (formed : IsWellFormed app) where
         runs_opened = current-all_ready (record s { locked = None }) (opened_by s o) ∙ runs
 
         off_opened : (j : ℕ) → j ≢ i → holds (call_at opened j).phase ≡ false
-        off_opened j ne = subst (λ (p : Progress). holds p.call.phase ≡ false) (sym (at_opened j)) (only j ne)
+        off_opened j ne = subst (λ (p : Progress). holds p.call.phase ≡ false) (sym (at_opened j)) (only s i h runs l j ne)
 
         left_task : Task
         left_task = record (task_at opened i) { progress = record (progress_at opened i) { call = record (call_at opened i) { phase = Leave } } }
@@ -237,12 +281,12 @@ module _ (app : Application) (formed : IsWellFormed app) where
         sound_left =
             let a = opened_sound.progress i in
             let c = opened_sound.calls i in
-            let O : Progress → Type 0 = λ p. IsPhaseOf still (awaited (op_at app i p.op_index)) Leave in
+            let O : Progress → Type 0 = λ p. IsPhaseOf still (course (op_at app i p.op_index)) Leave in
             let A : Option Wait → Type 0 = λ w. IfSome w (λ x. is_locked None x.list ≡ true) in
             let l1 : i < length opened.tasks = rw kept_opened.tasks l in
             rehung app formed (hold_of s) still opened i left_task opened_sound l1 (ticket_at opened.next_ticket i opened.tasks opened_sound.table.tickets) (
               record { nests = a.nests; loops = a.loops; used = a.used; reckoned = a.reckoned },
-              record { phase = subst O (sym (at_opened i)) (subst (λ object. IsPhaseOf still object Leave) (sym on) (held, refl)); wait = c.wait; awake = subst A (sym (none_opened i)) tt; near = c.near },
+              record { phase = subst O (sym (at_opened i)) (subst (λ way. IsPhaseOf still way Leave) (sym on) (held, refl)); wait = c.wait; awake = subst A (sym (none_opened i)) tt; near = c.near },
               opened_sound.priorities i,
             )
             (λ j ne. call_apart (hold_of s) still opened.time _ (task_at opened j) (off_opened j ne) (none_opened j) (opened_sound.calls j))
@@ -253,8 +297,9 @@ module _ (app : Application) (formed : IsWellFormed app) where
             let kept : hold_of opened ≡ still = kept_opened.hold in
             let hold : opened.call_hold ≡ true = ap (λ (x : Hold). x.held) kept ∙ held in
             let l1 : i < length opened.tasks = rw kept_opened.tasks l in
+            let set_not : course (op_at app i (progress_at opened i).op_index) ≡ ToSetBits → is_ready opened i ≡ true = λ e. let f : OnObject o ≡ ToSetBits = sym on ∙ sym (ap (λ (p : Progress). course (op_at app i p.op_index)) (at_opened i)) ∙ e in absurd (cc) in
             subst (λ u. IsState app (go_on i Leave u)) (sym opened_is)
-            (in_hold opened i left_task (subst (λ x. IsSound app x (with_task i left_task opened)) (sym kept) sound_left) runs_opened l1 hold refl (λ e. absurd (cc)) off_opened (kept_opened.suspension ∙ h.unsuspended))
+            (in_hold opened i left_task (subst (λ x. IsSound app x (with_task i left_task opened)) (sym kept) sound_left) runs_opened l1 hold refl (λ e. absurd (cc)) set_not off_opened (kept_opened.suspension ∙ calm_held app s h held))
 
         pub unlocked_held : (go_on i Leave (unlock s)).call_hold ≡ true
         unlocked_held =
@@ -266,8 +311,8 @@ module _ (app : Application) (formed : IsWellFormed app) where
       module _ (is : (call_at s i).phase ≡ Leave) where
         leaves : s.locked ≡ None
         leaves =
-            let P : Option ℕ → Phase → Type 0 = λ object phase. IsPhaseOf (hold_of s) object phase in
-            let p : IsPhaseOf (hold_of s) (Some o) Leave = subst (P (Some o)) is (subst (λ object. P object (call_at s i).phase) on (h.sound.calls i).phase) in
+            let P : Course → Phase → Type 0 = λ way phase. IsPhaseOf (hold_of s) way phase in
+            let p : IsPhaseOf (hold_of s) (OnObject o) Leave = subst (P (OnObject o)) is (subst (λ way. P way (call_at s i).phase) on (h.sound.calls i).phase) in
             p.1
 
         ended : State
@@ -275,20 +320,7 @@ module _ (app : Application) (formed : IsWellFormed app) where
 
         ended_sound : IsSound app free ended
         unfolding ended
-        ended_sound =
-            let s1 : State = record s { call_hold = false } in
-            let t : Task = record (task_at s i) { progress = record (progress_at s i) { call = record (call_at s i) { phase = Try; list = None } } } in
-            let h1 : IsSound app (hold_of s) s1 = framed app formed (hold_of s) s s.log s.steps s.stopped s.locked false h.sound in
-            let a = h.sound.progress i in
-            let c = h.sound.calls i in
-            let A : Option Wait → Type 0 = λ w. IfSome w (λ x. is_locked None x.list ≡ true) in
-            let none : (j : ℕ) → wait_if_awake (status_at s j) ≡ None = λ j. none_awake s.locked (wait_if_awake (status_at s j)) leaves (h.sound.calls j).awake in
-            rehung app formed (hold_of s) free s1 i t h1 l (ticket_at s.next_ticket i s.tasks h.sound.table.tickets) (
-              record { nests = a.nests; loops = a.loops; used = a.used; reckoned = a.reckoned },
-              record { phase = subst (λ object. IsPhaseOf free object Try) (sym on) tt; wait = c.wait; awake = subst A (sym (none i)) tt; near = c.near },
-              h.sound.priorities i,
-            )
-            (λ j ne. call_apart (hold_of s) free s.time _ (task_at s j) (only j ne) (none j) (h.sound.calls j))
+        ended_sound = hold_ended s i h runs l leaves Try (subst (λ way. IsPhaseOf free way Try) (sym on) tt)
 
         pub left : IsSound app free (leave_call i s)
         unfolding leave_call ended

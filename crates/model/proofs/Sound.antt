@@ -18,7 +18,7 @@ use Rattle.model.specs.Switching.{make_ready, to_back, dispatch, choose, choice,
 use Rattle.model.specs.Waiting.{is_locked}
 use Rattle.model.specs.Time.{wake_due, due, is_due, delayed_list, delayed_key, sleep, set_previous_wake}
 use Rattle.model.specs.Ops.{go_to, moved_to, complete, called, answer, use_up, delay, delay_until, expect, open_loop, turn, close_turn}
-use Rattle.model.specs.Invariant.{HasTicketBelow, IsUsedBy, LoopsNest, IsReckoned, HasPriority, IsAt, Hold, awaited, IsPhaseOf, IsWaitOf, IsCall, IsSound}
+use Rattle.model.specs.Invariant.{HasTicketBelow, IsUsedBy, LoopsNest, IsReckoned, HasPriority, IsAt, Hold, course, IsPhaseOf, IsWaitOf, IsCall, IsSound}
 use Rattle.model.proofs.Sorting.{by_test}
 use Rattle.model.proofs.Lists.{eqb-refl, eqb-same}
 use Rattle.model.proofs.Tables.{ticket_at, table-set, table-taken}
@@ -114,7 +114,7 @@ due_reckoned now p Ended h t = absurd (cc)
 abbrev pub CanBeReady : State → ℕ → Type 0
 CanBeReady s i = (i < length s.tasks) × ((progress_at s i).previous_wake ≤ s.time)
 
-can_still : (s : State) (i j : ℕ) → CanBeReady s i → CanBeReady s j → CanBeReady (make_ready i s) j
+pub can_still : (s : State) (i j : ℕ) → CanBeReady s i → CanBeReady s j → CanBeReady (make_ready i s) j
 can_still s i j c d = (
   rw length-set d.0,
   by_test (eqb j i)
@@ -163,7 +163,7 @@ call_free hold now op t status free c =
 -- a call that hasn't begun
 pub call_none : (hold : Hold) (now : ℕ) (op : Option Op) (t : Task) → t.progress.call ≡ no_call → wait_of t.status ≡ None → IsCall hold now op t
 call_none hold now op t none free =
-    let P : CallProgress → Type 0 = λ call. IsPhaseOf hold (awaited op) call.phase in
+    let P : CallProgress → Type 0 = λ call. IsPhaseOf hold (course op) call.phase in
     let W : Option Wait → Type 0 = λ o. IfSome o (λ w. IsWaitOf op t.progress.call.deadline w) in
     let A : Option Wait → Type 0 = λ o. IfSome o (λ w. is_locked hold.locked w.list ≡ true) in
     let N : CallProgress → Type 0 = λ call. IfSome call.deadline (λ deadline. deadline < now + 4294967296) in
@@ -290,7 +290,7 @@ module _ (app : Application) (formed : IsWellFormed app) (hold : Hold) where
   woken s h = all_made_ready s (tasks_of (due s)) h (due_can s (λ i. (h.progress i).reckoned) (delayed_list s) (list_within delayed_key s.tasks))
 
   pub later : (s : State) → IsSound app hold s → IsSound app hold (record s { time = s.time + 1; elapsed = s.elapsed + 1 })
-  later s h = let e = h.time in record {
+  later s h = let b = h.time.0 in let e = h.time.1 in record {
     table = record { tickets = h.table.tickets; few = h.table.few; current = h.table.current; holders = h.table.holders };
     tasks = h.tasks;
     objects = h.objects;
@@ -298,12 +298,12 @@ module _ (app : Application) (formed : IsWellFormed app) (hold : Hold) where
     calls = λ i. call_later hold s.time (op_at app i (progress_at s i).op_index) (task_at s i) (h.calls i);
     contents = h.contents;
     priorities = h.priorities;
-    time = omega arith;
+    time = (omega arith, omega arith);
   }
 
   -- a tick that is held
   pub held_up : (s : State) → IsSound app hold s → IsSound app hold (record s { elapsed = s.elapsed + 1; held_ticks = s.held_ticks + 1 })
-  held_up s h = let e = h.time in record {
+  held_up s h = let b = h.time.0 in let e = h.time.1 in record {
     table = record { tickets = h.table.tickets; few = h.table.few; current = h.table.current; holders = h.table.holders };
     tasks = h.tasks;
     objects = h.objects;
@@ -311,7 +311,33 @@ module _ (app : Application) (formed : IsWellFormed app) (hold : Hold) where
     calls = h.calls;
     contents = h.contents;
     priorities = h.priorities;
-    time = omega arith;
+    time = (b, omega arith);
+  }
+
+  -- a tick that was held comes now
+  pub held_no_more : (s : State) → IsSound app hold s → 0 < s.held_ticks → IsSound app hold (record s { time = s.time + 1; held_ticks = s.held_ticks - 1 })
+  held_no_more s h some = let b = h.time.0 in let e = h.time.1 in record {
+    table = record { tickets = h.table.tickets; few = h.table.few; current = h.table.current; holders = h.table.holders };
+    tasks = h.tasks;
+    objects = h.objects;
+    progress = λ i. let a = h.progress i in record { nests = a.nests; loops = a.loops; used = a.used; reckoned = later_reckoned s.time (progress_at s i).previous_wake (status_at s i) a.reckoned };
+    calls = λ i. call_later hold s.time (op_at app i (progress_at s i).op_index) (task_at s i) (h.calls i);
+    contents = h.contents;
+    priorities = h.priorities;
+    time = (omega arith, omega arith);
+  }
+
+  -- the event groups, and how many `suspend_all` are in force
+  pub otherwise : (s : State) (bits : List ℕ) (suspensions : ℕ) → IsSound app hold s → IsSound app hold (record s { group_bits = bits; suspensions = suspensions })
+  otherwise s bits suspensions h = record {
+    table = record { tickets = h.table.tickets; few = h.table.few; current = h.table.current; holders = h.table.holders };
+    tasks = h.tasks;
+    objects = h.objects;
+    progress = h.progress;
+    calls = h.calls;
+    contents = h.contents;
+    priorities = h.priorities;
+    time = h.time;
   }
 
   -- The task of the state, which doesn't wait, is at an op, which does something and goes on.

@@ -1,7 +1,6 @@
 -- What a try of a call keeps, and what giving a mutex back keeps.
 use Rattle.std.proofs.Common.{◌≡◌, ◌<◌, ℕ, true, length, Option, Some, None, refl, ap, sym, subst, ◌∙◌}
 use Rattle.std.specs.List.{slice_get}
-use Rattle.std.specs.Option.{is_some}
 use Rattle.model.specs.declared.object.ObjectKind.{ObjectKind}
 use Rattle.model.specs.declared.object.ObjectKind.TheVariants.{Queue, Semaphore, Mutex}
 use Rattle.model.specs.declared.op.Op.{Op}
@@ -17,7 +16,7 @@ use Rattle.model.specs.Waiting.{wake_best, is_expired}
 use Rattle.model.specs.Objects.{possible, answer_to, fulfil}
 use Rattle.model.specs.Mutexes.{after_timeout, disinherit, give_mutex}
 use Rattle.model.specs.Calls.{try}
-use Rattle.model.specs.Invariant.{Hold, awaited, IsPhaseOf, IsObject, IsSound}
+use Rattle.model.specs.Invariant.{Hold, course, IsPhaseOf, IsObject, IsSound}
 use Rattle.model.proofs.Sorting.{by_test}
 use Rattle.model.proofs.Sound.{preempted}
 use Rattle.model.proofs.Frames.{keeps-disinherit}
@@ -35,7 +34,7 @@ module _ (app : Application) (formed : IsWellFormed app) (hold : Hold) where
   pub tried : (s : State) (i o : ℕ) (a : Access) (ticks : Option ℕ) → IsSound app hold s → s.locked ≡ hold.locked → i < length s.tasks → is_ready s i ≡ true → op_at app i (progress_at s i).op_index ≡ Some (Await o a ticks) → fits_object app o a ≡ true → IsSound app hold (try app i o a s)
   unfolding try
   tried s i o a ticks h same l r is fit =
-      let P : Option Op → Type 0 = λ op. IsPhaseOf hold (awaited op) Decide in
+      let P : Option Op → Type 0 = λ op. IsPhaseOf hold (course op) Decide in
       let late : State = after_timeout i o s in
       let at = (reranks-after_timeout s i o).at i in
       by_test (possible s o a)

@@ -5,7 +5,7 @@ use Rattle.model.specs.declared.object.ObjectKind.{ObjectKind}
 use Rattle.model.specs.declared.op.Access.{Access}
 use Rattle.model.specs.declared.op.Access.TheVariants.{Send, SendFront, Overwrite, Receive, Peek, Take, Give, Lock}
 use Rattle.model.specs.declared.op.Op.{Op}
-use Rattle.model.specs.declared.op.Op.TheVariants.{Work, Delay, DelayUntil, Yield, Time, Mark, Expect, Repeat, End, Await, Do, GiveMutex, MessagesWaiting, SpacesAvailable}
+use Rattle.model.specs.declared.op.Op.TheVariants.{Work, Delay, DelayUntil, Yield, Time, Mark, Expect, Repeat, End, Await, Do, GiveMutex, MessagesWaiting, SpacesAvailable, SetBits, ClearBits, GetBits, WaitBits, Suspend, Resume, SuspendAll, ResumeAll}
 use Rattle.model.specs.declared.op.IsrOp.{IsrOp}
 use Rattle.model.specs.declared.op.IsrOp.TheVariants as isr
 
@@ -40,6 +40,8 @@ pub record Application : Type 0 where
   pub start : ℕ
   pub limits : Limits
   pub objects : List ObjectKind
+  -- how many event groups there are
+  pub group_count : ℕ
   pub handlers : List Handler
   -- in the order in which they come: that of their ticks, at one tick that of the file
   pub interrupts : List Interrupt
@@ -121,8 +123,18 @@ word_of (Do object access) = word_of_access access
 word_of (GiveMutex object) = codes "unlock"
 word_of (MessagesWaiting object) = codes "waiting"
 word_of (SpacesAvailable object) = codes "spaces"
+word_of (SetBits group mask) = codes "set"
+word_of (ClearBits group mask) = codes "clear"
+word_of (GetBits group) = codes "bits"
+word_of (WaitBits group condition ticks) = codes "wait"
+word_of (Suspend other) = codes "suspend"
+word_of (Resume other) = codes "resume"
+word_of SuspendAll = codes "suspend_all"
+word_of ResumeAll = codes "resume_all"
 
 -- the first word of the text of a handler's op
 abbrev pub word_of_isr : IsrOp → List ℕ
 word_of_isr (isr.Do object access) = word_of_access access
+word_of_isr (isr.Resume task) = codes "resume"
+word_of_isr (isr.GetBits group) = codes "bits"
 word_of_isr (isr.Mark n) = codes "mark"

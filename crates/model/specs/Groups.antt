@@ -79,7 +79,7 @@ begin_set task group mask s =
 -- The phases of a set: Start, and Leave (`xTaskResumeAll`).
 abbrev pub set_bits : Application → ℕ → ℕ → ℕ → Phase → State → State
 set_bits app task group mask Start s = begin_set task group mask s
-set_bits app task group mask _ s = preempt (answer app task (call_at s task).kept (end_hold task Leave s))
+set_bits app task group mask _ s = preempt (answer app task (call_at s task).kept (end_hold task Start s))
 
 -- The mask's bits are cleared; the answer is the bits before (`xEventGroupClearBits`).
 unfoldable pub clear : Application → ℕ → ℕ → ℕ → State → State

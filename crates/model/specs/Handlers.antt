@@ -1,25 +1,30 @@
 -- Interrupt handlers: they do their ops without waiting, before a step or at a tick.
 use Rattle.std.specs.Prelude.{ℕ, ◌+◌, List, [], ◌∷◌, Option, Some, None}
 use Rattle.model.specs.declared.op.IsrOp.{IsrOp}
-use Rattle.model.specs.declared.op.IsrOp.TheVariants.{Do, Mark}
+use Rattle.model.specs.declared.op.IsrOp.TheVariants.{Do, Resume, GetBits, Mark}
 use Rattle.model.specs.declared.event.What.{What}
 use Rattle.model.specs.declared.event.What.TheVariants.{Isr, IsrNone, IsrMark}
 use Rattle.model.specs.Application.{Application, ops_of, interrupts_at}
-use Rattle.model.specs.State.{State, for_each}
+use Rattle.model.specs.State.{State, status_at, bits_at, for_each}
 use Rattle.model.specs.Switching.{write, preempt, slice, unless_held}
 use Rattle.model.specs.Time.{increment_tick}
+use Rattle.model.specs.Ops.{one_if}
 use Rattle.model.specs.Objects.{answer_to, attempt}
+use Rattle.model.specs.Suspension.{can_resume, resume}
 
 -- what an op of a handler tells: its answer, or that this is `none`
 abbrev pub isr_told : ℕ → ℕ → Option ℕ → What
 isr_told handler op_index (Some n) = Isr handler op_index n
 isr_told handler op_index None = IsrNone handler op_index
 
--- what each op of a handler does, and its event: a call is done if it is possible (`xQueueSendFromISR` and the like); a
--- mark is profile
+-- what each op of a handler does, and its event: a call is done if it is possible (`xQueueSendFromISR` and the like); the
+-- answer of resume, and mark, are profile
 abbrev pub isr : ℕ → ℕ → IsrOp → State → State
 isr handler op_index (Do object access) s =
     write (isr_told handler op_index (answer_to s object access)) (attempt None object access s)
+isr handler op_index (Resume task) s =
+    write (isr_told handler op_index (one_if (can_resume (status_at s task)))) (resume task s)
+isr handler op_index (GetBits group) s = write (isr_told handler op_index (Some (bits_at s group))) s
 isr handler op_index (Mark n) s = write (IsrMark handler n) s
 
 -- ops of a handler, one after another; the first is the one of this index

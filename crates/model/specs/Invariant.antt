@@ -1,10 +1,10 @@
 -- What is true of every state that a run comes to, by the definitions alone.
-use Rattle.std.specs.Prelude.{◌≡◌, ◌<◌, ◌≤◌, ℕ, ◌+◌, Bool, true, false, List, [], ◌∷◌, Option, Some, None, length, drop, slice_get, IfSome}
+use Rattle.std.specs.Prelude.{◌≡◌, ◌<◌, ◌≤◌, ℕ, ◌+◌, Bool, true, false, List, [], ◌∷◌, Option, Some, None, ◌⊎◌, length, drop, slice_get, IfSome}
 use Rattle.std.specs.List.{AllByRecursion}
 use Rattle.model.specs.declared.object.ObjectKind.{ObjectKind}
 use Rattle.model.specs.declared.object.ObjectKind.TheVariants.{Queue, Semaphore, Mutex}
 use Rattle.model.specs.declared.op.Op.{Op}
-use Rattle.model.specs.declared.op.Op.TheVariants.{Work, Await}
+use Rattle.model.specs.declared.op.Op.TheVariants.{Work, Await, SetBits, WaitBits}
 use Rattle.model.specs.declared.call.Phase.{Phase}
 use Rattle.model.specs.declared.call.Phase.TheVariants.{Start, Try, Decide, Place, Unlock, Leave, Final}
 use Rattle.model.specs.declared.call.WaitList.{WaitList}
@@ -12,7 +12,7 @@ use Rattle.model.specs.declared.loops.Loop.{Loop}
 use Rattle.model.specs.Application.{Application, script_of, op_at}
 use Rattle.model.specs.Scripts.{Nests, priorities}
 use Rattle.model.specs.State.{State, Task, Progress, Object, Status, Wait, Asleep, Suspended, Ended, wait_of, wait_if_awake, ticket_of, task_at, status_at, progress_at, call_at, object_at}
-use Rattle.model.specs.Switching.{is_ready}
+use Rattle.model.specs.Switching.{is_ready, is_held, is_scheduler_suspended}
 use Rattle.model.specs.Waiting.{is_locked}
 use Rattle.model.specs.Objects.{list_for}
 
@@ -68,22 +68,32 @@ pub record Hold : Type 0 where
 abbrev pub hold_of : State → Hold
 hold_of s = record { held = s.call_hold; locked = s.locked }
 
--- the object on which an op makes a call that may wait
-abbrev pub awaited : Option Op → Option ℕ
-awaited (Some (Await object access ticks)) = Some object
-awaited _ = None
+-- how an op goes: in one phase, or in those of a call that may wait on an object, or for bits, or in those of a set of bits
+pub data Course : Type 0 where
+  InOne : Course
+  OnObject : (object : ℕ) → Course
+  ForBits : Course
+  ToSetBits : Course
 
--- A task whose op waits for this object, or for none, may be in this phase: in Place and Unlock the object is locked, and
--- in Leave none is.
-abbrev pub IsPhaseOf : Hold → Option ℕ → Phase → Type 0
-IsPhaseOf hold object Start = Unit {0}
-IsPhaseOf hold None phase = ⊥
-IsPhaseOf hold (Some object) Try = Unit {0}
-IsPhaseOf hold (Some object) Decide = Unit {0}
-IsPhaseOf hold (Some object) Place = (hold.held ≡ true) × (hold.locked ≡ Some object)
-IsPhaseOf hold (Some object) Unlock = (hold.held ≡ true) × (hold.locked ≡ Some object)
-IsPhaseOf hold (Some object) Leave = (hold.held ≡ true) × (hold.locked ≡ None)
-IsPhaseOf hold (Some object) Final = ⊥
+-- that of an op, where there is one
+abbrev pub course : Option Op → Course
+course (Some (Await object access ticks)) = OnObject object
+course (Some (WaitBits group condition ticks)) = ForBits
+course (Some (SetBits group mask)) = ToSetBits
+course _ = InOne
+
+-- A task whose op goes so may be in this phase: in Place and Unlock the object is locked, and in Leave none is.
+abbrev pub IsPhaseOf : Hold → Course → Phase → Type 0
+IsPhaseOf hold way Start = Unit {0}
+IsPhaseOf hold (OnObject object) Try = Unit {0}
+IsPhaseOf hold (OnObject object) Decide = Unit {0}
+IsPhaseOf hold (OnObject object) Place = (hold.held ≡ true) × (hold.locked ≡ Some object)
+IsPhaseOf hold (OnObject object) Unlock = (hold.held ≡ true) × (hold.locked ≡ Some object)
+IsPhaseOf hold (OnObject object) Leave = (hold.held ≡ true) × (hold.locked ≡ None)
+IsPhaseOf hold ForBits Leave = (hold.held ≡ true) × (hold.locked ≡ None)
+IsPhaseOf hold ForBits Final = Unit {0}
+IsPhaseOf hold ToSetBits Leave = (hold.held ≡ true) × (hold.locked ≡ None)
+IsPhaseOf hold _ _ = ⊥
 
 -- the list in which a task waits in this op
 abbrev pub list_of_op : Option Op → Option WaitList
@@ -97,7 +107,7 @@ pub record IsWaitOf (op : Option Op) (until : Option ℕ) (wait : Wait) : Type 0
 
 -- A task's status, its call and its op fit, at a time.
 pub record IsCall (hold : Hold) (now : ℕ) (op : Option Op) (t : Task) : Type 0 where
-  pub phase : IsPhaseOf hold (awaited op) t.progress.call.phase
+  pub phase : IsPhaseOf hold (course op) t.progress.call.phase
   pub wait : IfSome (wait_of t.status) (λ w. IsWaitOf op t.progress.call.deadline w)
   -- it was woken through the locked object
   pub awake : IfSome (wait_if_awake t.status) (λ w. is_locked hold.locked w.list ≡ true)
@@ -126,8 +136,8 @@ pub record IsSound (app : Application) (hold : Hold) (s : State) : Type 0 where
   pub calls : (task : ℕ) → IsCall hold s.time (op_at app task (progress_at s task).op_index) (task_at s task)
   pub contents : (object : ℕ) → IsObject (slice_get app.objects object) (object_at s object)
   pub priorities : (task : ℕ) → HasPriority (task_at s task)
-  -- the time and the held ticks are the start and the elapsed ticks
-  pub time : s.time + s.held_ticks ≡ app.start + s.elapsed
+  -- the time is none before the start; with the held ticks it is the start and the elapsed ticks
+  pub time : (app.start ≤ s.time) × (s.time + s.held_ticks ≡ app.start + s.elapsed)
 
 -- how many `suspend_all` are in force, and how many ticks are held
 pub record Suspension : Type 0 where
@@ -137,10 +147,6 @@ pub record Suspension : Type 0 where
 -- those of a state
 abbrev pub suspension_of : State → Suspension
 suspension_of s = record { suspensions = s.suspensions; held_ticks = s.held_ticks }
-
--- no `suspend_all` is in force
-abbrev pub unsuspended : Suspension
-unsuspended = record { suspensions = 0; held_ticks = 0 }
 
 -- In these phases a call holds the scheduler.
 abbrev pub holds : Phase → Bool
@@ -155,24 +161,31 @@ abbrev pub IsPlacing : ℕ → Task → Option Wait → Type 0
 IsPlacing now t None = ⊥
 IsPlacing now t (Some w) = (t.progress.call.list ≡ Some w.list) × (w.priority ≡ t.priority) × IfSome w.deadline (λ deadline. now < deadline)
 
--- A task runs: it holds the scheduler where a call does, and else it is Ready.
-pub record IsRunning (s : State) (task : ℕ) : Type 0 where
+-- The task has come to the end of its script while a `suspend_all` is in force, and so it runs on.
+abbrev pub IsStranded : Application → State → ℕ → Type 0
+IsStranded app s task = (is_scheduler_suspended s ≡ true) × (op_at app task (progress_at s task).op_index ≡ None)
+
+-- A task runs: it holds the scheduler where a call does, and else it is Ready, or stranded. In a set of bits it stays Ready.
+pub record IsRunning (app : Application) (s : State) (task : ℕ) : Type 0 where
   pub holding : holds (call_at s task).phase ≡ s.call_hold
-  pub ready : s.call_hold ≡ false → is_ready s task ≡ true
+  pub ready : s.call_hold ≡ false → (is_ready s task ≡ true) ⊎ IsStranded app s task
+  pub setting : s.call_hold ≡ true → course (op_at app task (progress_at s task).op_index) ≡ ToSetBits → is_ready s task ≡ true
   pub placing : (call_at s task).phase ≡ Place → IsPlacing s.time (task_at s task) (wait_of (status_at s task))
 
 -- Who runs, and what is held, fit: idle holds nothing.
-abbrev pub RunsIn : State → Option ℕ → Type 0
-RunsIn s None = s.call_hold ≡ false
-RunsIn s (Some task) = IsRunning s task
+abbrev pub RunsIn : Application → State → Option ℕ → Type 0
+RunsIn app s None = is_held s ≡ false
+RunsIn app s (Some task) = IsRunning app s task
 
 -- what every state of a run is
 pub record IsState (app : Application) (s : State) : Type 0 where
   pub sound : IsSound app (hold_of s) s
-  pub runs : RunsIn s s.current
+  pub runs : RunsIn app s s.current
   -- nobody else is in a phase that holds the scheduler
   pub alone : (task : ℕ) → holds (call_at s task).phase ≡ true → s.current ≡ Some task
   -- what is locked is locked by a call that holds the scheduler
   pub locked : s.call_hold ≡ false → s.locked ≡ None
-  -- no `suspend_all` is in force, and no tick is held
-  pub unsuspended : suspension_of s ≡ unsuspended
+  -- while a `suspend_all` is in force no call holds the scheduler
+  pub apart : is_scheduler_suspended s ≡ true → s.call_hold ≡ false
+  -- ticks are held only then
+  pub held : is_scheduler_suspended s ≡ false → s.held_ticks ≡ 0

@@ -1,18 +1,13 @@
 -- A run of the kernel, from reset to its end, with handlers injected by a plan.
-use Rattle.std.specs.Prelude.{◌≡◌, ℕ, zero, suc, ◌<◌, ◌==◌, ◌&&◌, Bool, true, false, not, List, [], ◌∷◌, ◌++◌, map, filter, Option, Some, None, is_some, is_none, nat_lt, nat_le, if◌then◌else◌}
+use Rattle.std.specs.Prelude.{◌≡◌, ℕ, zero, suc, ◌<◌, ◌==◌, ◌&&◌, Bool, not, List, [], ◌∷◌, ◌++◌, map, filter, Option, Some, None, is_some, is_none, nat_lt, nat_le, if◌then◌else◌}
 use Rattle.std.specs.List.{list_any, list_all}
 use Rattle.model.specs.declared.event.Event.{Event}
 use Rattle.model.specs.declared.event.End.{End}
 use Rattle.model.specs.declared.event.End.TheVariants.{Pass, Ticks, Steps, Stuck}
 use Rattle.model.specs.declared.plan.Point.{Point}
 use Rattle.model.specs.Application.{Application, Interrupt, Limits}
-use Rattle.model.specs.State.{State, Task, Status, Ended, wake_time_of}
-use Rattle.model.specs.Step.{step, reset}
-
--- The status is that of a task whose script is done.
-abbrev pub is_ended : Status → Bool
-is_ended Ended = true
-is_ended _ = false
+use Rattle.model.specs.State.{State, Task, wake_time_of}
+use Rattle.model.specs.Step.{is_ended, step, reset}
 
 -- Every task has come to the end of its script.
 abbrev pub are_all_ended : State → Bool

@@ -6,7 +6,7 @@ use Rattle.model.specs.declared.object.ObjectKind.TheVariants.{Queue, Semaphore,
 use Rattle.model.specs.declared.op.Access.{Access}
 use Rattle.model.specs.declared.op.Access.TheVariants.{Send, SendFront, Overwrite, Receive, Peek, Take, Give, Lock}
 use Rattle.model.specs.declared.op.Op.{Op}
-use Rattle.model.specs.declared.op.Op.TheVariants.{Work, DelayUntil, Repeat, End, Await, Do, GiveMutex, MessagesWaiting, SpacesAvailable}
+use Rattle.model.specs.declared.op.Op.TheVariants.{Work, DelayUntil, Repeat, End, Await, Do, GiveMutex, MessagesWaiting, SpacesAvailable, SetBits, ClearBits, GetBits, WaitBits, Suspend, Resume}
 use Rattle.model.specs.declared.op.IsrOp.{IsrOp}
 use Rattle.model.specs.declared.op.IsrOp.TheVariants as isr
 use Rattle.model.specs.Application.{Application, Handler, Interrupt, Definition, interrupts_at}
@@ -80,6 +80,10 @@ abbrev pub is_wait : Option ℕ → Bool
 is_wait None = true
 is_wait (Some ticks) = nat_lt ticks 4294967295
 
+-- Some of the 24 bits of an event group.
+abbrev pub is_mask : ℕ → Bool
+is_mask mask = is_within 1 16777215 mask
+
 -- The numbers of an op are in their ranges (profile; of `delay_until` it is that of `xTaskDelayUntil`). A number that is
 -- not named here is any of 32 bits.
 abbrev pub is_in_range : Op → Bool
@@ -87,6 +91,9 @@ is_in_range (Work n) = is_within 1 1000000 n
 is_in_range (DelayUntil n) = is_within 1 4294967295 n
 is_in_range (Repeat n) = is_within 1 1000 n
 is_in_range (Await object access ticks) = is_wait ticks
+is_in_range (SetBits group mask) = is_mask mask
+is_in_range (ClearBits group mask) = is_mask mask
+is_in_range (WaitBits group condition ticks) = is_mask condition.mask && is_wait ticks
 is_in_range _ = true
 
 -- the same as a fact
@@ -179,6 +186,14 @@ may_interrupt Take = false
 may_interrupt Lock = false
 may_interrupt _ = true
 
+-- The application has the event group.
+abbrev pub has_group : Application → ℕ → Bool
+has_group app group = nat_lt group app.group_count
+
+-- The application has the task.
+abbrev pub has_task : Application → ℕ → Bool
+has_task app task = nat_lt task (length app.tasks)
+
 -- The application has what the op speaks of.
 abbrev pub knows : Application → Op → Bool
 knows app (Await object access ticks) = fits_object app object access && may_wait access
@@ -186,6 +201,12 @@ knows app (Do object access) = fits_object app object access && not (may_wait ac
 knows app (GiveMutex object) = fits_object app object Lock
 knows app (MessagesWaiting object) = fits_object app object Receive
 knows app (SpacesAvailable object) = fits_object app object Receive
+knows app (SetBits group mask) = has_group app group
+knows app (ClearBits group mask) = has_group app group
+knows app (GetBits group) = has_group app group
+knows app (WaitBits group condition ticks) = has_group app group
+knows app (Suspend other) = has_task app other
+knows app (Resume other) = has_task app other
 knows app _ = true
 
 -- the same as a fact, of all ops of a task
@@ -195,6 +216,8 @@ KnowsAll app task = AllByRecursion (λ op. knows app op ≡ true) task.script
 -- the same of an op of a handler, where no call waits
 abbrev pub knows_isr : Application → IsrOp → Bool
 knows_isr app (isr.Do object access) = fits_object app object access && may_interrupt access
+knows_isr app (isr.Resume task) = has_task app task
+knows_isr app (isr.GetBits group) = has_group app group
 knows_isr app (isr.Mark n) = true
 
 -- ---- order
@@ -242,6 +265,7 @@ pub record IsWellFormed (app : Application) : Type 0 where
   pub tasks : AllByRecursion IsDefinition app.tasks
   pub objects : AllByRecursion IsObjectKind app.objects
   pub few_objects : length app.objects ≤ most_objects
+  pub few_groups : app.group_count ≤ most_groups
   pub handlers : AllByRecursion (IsHandler app) app.handlers
   pub few_handlers : length app.handlers ≤ most_handlers
   pub interrupts : AllByRecursion (IsInterrupt app) app.interrupts

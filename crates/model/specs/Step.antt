@@ -1,20 +1,22 @@
 -- One step of the kernel: what the running task's op does, or idle, after the handlers that are injected.
-use Rattle.std.specs.Prelude.{ℕ, ◌+◌, ◌-◌, Bool, true, false, List, [], ◌∷◌, Option, Some, None, if◌then◌else◌, map, length, replicate}
+use Rattle.std.specs.Prelude.{ℕ, ◌+◌, ◌-◌, ◌&&◌, Bool, true, false, List, [], ◌∷◌, Option, Some, None, if◌then◌else◌, map, length, replicate}
 use Rattle.model.specs.declared.object.ObjectKind.{ObjectKind}
 use Rattle.model.specs.declared.object.ObjectKind.TheVariants.{Queue, Semaphore, Mutex}
 use Rattle.model.specs.declared.op.Op.{Op}
-use Rattle.model.specs.declared.op.Op.TheVariants.{Work, Delay, DelayUntil, Yield, Time, Mark, Expect, Repeat, End, Await, Do, GiveMutex, MessagesWaiting, SpacesAvailable}
+use Rattle.model.specs.declared.op.Op.TheVariants.{Work, Delay, DelayUntil, Yield, Time, Mark, Expect, Repeat, End, Await, Do, GiveMutex, MessagesWaiting, SpacesAvailable, SetBits, ClearBits, GetBits, WaitBits, Suspend, Resume, SuspendAll, ResumeAll}
 use Rattle.model.specs.declared.event.What.TheVariants as what
 use Rattle.model.specs.declared.event.End.TheVariants as end
 use Rattle.model.specs.declared.event.Misuse.{Misuse}
-use Rattle.model.specs.declared.event.Misuse.TheVariants.{NotHolder}
+use Rattle.model.specs.declared.event.Misuse.TheVariants.{WhileSuspended, NotSuspended, NotHolder, EndedSuspended}
 use Rattle.model.specs.Application.{Application, Definition, op_at}
 use Rattle.model.specs.Scripts.{most_groups}
-use Rattle.model.specs.State.{State, Task, Object, Ended, no_progress, no_object, progress_at, call_at, object_at, for_each, printed}
-use Rattle.model.specs.Switching.{write, is_same, make_ready, choice, yield_now, settle, unless_held}
+use Rattle.model.specs.State.{State, Task, Object, Status, Ended, no_progress, no_object, status_at, progress_at, call_at, object_at, bits_at, for_each, printed}
+use Rattle.model.specs.Switching.{write, is_same, make_ready, choice, yield_now, settle, is_scheduler_suspended, unless_held}
 use Rattle.model.specs.Ops.{complete, answer, use_up, delay, delay_until, expect, open_loop, close_turn}
 use Rattle.model.specs.Calls.{await, do_now}
 use Rattle.model.specs.Mutexes.{give_mutex}
+use Rattle.model.specs.Groups.{set_bits, clear, wait_bits}
+use Rattle.model.specs.Suspension.{call_suspend, call_resume, suspend_all, resume_all}
 use Rattle.model.specs.Handlers.{inject, tick_interrupt}
 
 -- what each op does; that yield answers 0, and all of mark, is profile
@@ -34,22 +36,60 @@ act app task (GiveMutex object) s = give_mutex app task object s
 act app task (MessagesWaiting object) s = answer app task (Some (length (object_at s object).items)) s
 act app task (SpacesAvailable object) s =
     let queue = object_at s object in answer app task (Some (queue.size - length queue.items)) s
+act app task (SetBits group mask) s = set_bits app task group mask (call_at s task).phase s
+act app task (ClearBits group mask) s = clear app task group mask s
+act app task (GetBits group) s = answer app task (Some (bits_at s group)) s
+act app task (WaitBits group condition ticks) s = wait_bits app task group condition ticks (call_at s task).phase s
+act app task (Suspend other) s = call_suspend app task other s
+act app task (Resume other) s = call_resume app task other s
+act app task SuspendAll s = suspend_all app task s
+act app task ResumeAll s = resume_all app task s
 
 -- ---- misuse (profile)
 
--- which misuse the task's op is, if it is one: `unlock` wants the holder (profile: FreeRTOS asserts it)
-abbrev pub misuse : State → ℕ → Op → Option Misuse
-misuse s task (GiveMutex object) = if is_same (object_at s object).holder (Some task) then None else Some NotHolder
-misuse s task op = None
+-- The op may switch, or wait: not to be called while a `suspend_all` is in force.
+abbrev pub may_switch : Op → Bool
+may_switch (Delay n) = true
+may_switch (DelayUntil n) = true
+may_switch Yield = true
+may_switch (Await object access ticks) = true
+may_switch (Do object access) = true
+may_switch (GiveMutex object) = true
+may_switch (SetBits group mask) = true
+may_switch (WaitBits group condition ticks) = true
+may_switch (Suspend other) = true
+may_switch (Resume other) = true
+may_switch _ = false
 
--- The task's op is such a misuse, which ends the run.
-abbrev pub misused : ℕ → Misuse → State → State
-misused task kind s = record s { stopped = Some (end.Misuse task (progress_at s task).op_index kind) }
+-- what the op asks of the state by itself: `resume_all` that a `suspend_all` is in force, `unlock` that the task is the holder
+-- (profile: FreeRTOS asserts both)
+abbrev pub own_misuse : State → ℕ → Op → Option Misuse
+own_misuse s task ResumeAll = if is_scheduler_suspended s then None else Some NotSuspended
+own_misuse s task (GiveMutex object) = if is_same (object_at s object).holder (Some task) then None else Some NotHolder
+own_misuse s task op = None
+
+-- which misuse the task's op is, if it is one; the first that fits
+abbrev pub misuse : State → ℕ → Op → Option Misuse
+misuse s task op = if is_scheduler_suspended s && may_switch op then Some WhileSuspended else own_misuse s task op
+
+-- The task's op of this index is such a misuse, which ends the run.
+abbrev pub misused : ℕ → ℕ → Misuse → State → State
+misused task op_index kind s = record s { stopped = Some (end.Misuse task op_index kind) }
+
+-- The status is that of a task whose script is done.
+abbrev pub is_ended : Status → Bool
+is_ended Ended = true
+is_ended _ = false
+
+-- A task that came to the end of its script with this op, while a `suspend_all` is in force, has misused the scheduler.
+unfoldable pub judge : ℕ → ℕ → State → State
+judge task op_index s =
+    if is_scheduler_suspended s && is_ended (status_at s task) then misused task op_index EndedSuspended s else s
 
 -- The task does this op; but a misuse ends the run, and changes nothing else (profile).
 abbrev pub act_unless : Application → ℕ → Option Misuse → Op → State → State
-act_unless app task None op s = act app task op s
-act_unless app task (Some kind) op s = misused task kind s
+act_unless app task None op s = judge task (progress_at s task).op_index (act app task op s)
+act_unless app task (Some kind) op s = misused task (progress_at s task).op_index kind s
 
 -- ---- a step
 

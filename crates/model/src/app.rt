@@ -1,4 +1,4 @@
-//! An application: its objects, its handlers and base interrupts, its tasks, its limits, the time at reset.
+//! An application: its objects, its event groups, its handlers and base interrupts, its tasks, its limits, the time at reset.
 ghost use Rattle.std.specs.Prelude.{◌≡◌, ◌<◌, ◌≤◌, ◌==◌, filter, length, map, nat_lt, string_bytes};
 ghost use Rattle.std.specs.List.{list_any};
 ghost use Rattle.model.specs.Application as application;
@@ -155,13 +155,14 @@ fn at_tick(interrupts: &[Interrupt], tick: u64) -> &[Interrupt]
     those
 }
 
-/// An application: what a run starts from. That it has 1 to 32 tasks, at most 32 objects, 16 handlers and 1,024 base
-/// interrupts, 4 of them at one tick, is profile.
+/// An application: what a run starts from. That it has 1 to 32 tasks, at most 32 objects, 16 event groups, 16 handlers and
+/// 1,024 base interrupts, 4 of them at one tick, is profile.
 #[derive(Drop)]
 pub struct App {
     start: u32,
     limits: Limits,
     objects: Vec<ObjectKind>,
+    group_count: u8,
     handlers: Vec<HandlerDefinition>,
     interrupts: Vec<Interrupt>,
     tasks: Vec<TaskDefinition>,
@@ -177,6 +178,7 @@ impl Model for App {
       start = a.start;
       limits = a.limits;
       objects = a.objects.items;
+      group_count = a.group_count;
       handlers = a.handlers.items;
       interrupts = a.interrupts.items;
       tasks = a.tasks.items;
@@ -186,6 +188,7 @@ impl Model for App {
       start = a.start;
       limits = a.limits;
       objects = a.objects.items;
+      group_count = a.group_count;
       handlers = a.handlers.items;
       interrupts = a.interrupts.items;
       tasks = a.tasks.items;
@@ -196,6 +199,9 @@ impl App {
     /// The most objects, of all kinds together (profile).
     pub const MOST_OBJECTS: usize = 32;
 
+    /// The most event groups (profile).
+    pub const MOST_GROUPS: usize = 16;
+
     /// The most handlers (profile).
     pub const MOST_HANDLERS: usize = 16;
 
@@ -205,13 +211,14 @@ impl App {
     /// The most base interrupts at one elapsed tick (profile).
     pub const MOST_AT_ONCE: usize = 4;
 
-    /// An application of these objects, handlers, base interrupts and tasks, whose time at reset is `start`. They are well
-    /// formed together: each is within the limits, each op speaks of objects that are there and allow it, and the
-    /// interrupts are in the order of their ticks.
+    /// An application of these objects, so many event groups, these handlers, base interrupts and tasks, whose time at reset
+    /// is `start`. They are well formed together: each is within the limits, each op speaks of what is there and allows it,
+    /// and the interrupts are in the order of their ticks.
     pub fn new(
         start: u32,
         limits: Limits,
         objects: Vec<ObjectKind>,
+        group_count: u8,
         handlers: Vec<HandlerDefinition>,
         interrupts: Vec<Interrupt>,
         tasks: Vec<TaskDefinition>,
@@ -220,6 +227,7 @@ impl App {
           start = start;
           limits = limits;
           objects = objects.items;
+          group_count = group_count;
           handlers = handlers.items;
           interrupts = interrupts.items;
           tasks = tasks.items;
@@ -228,6 +236,7 @@ impl App {
           start = start;
           limits = limits;
           objects = objects.items;
+          group_count = group_count;
           handlers = handlers.items;
           interrupts = interrupts.items;
           tasks = tasks.items;
@@ -237,6 +246,7 @@ impl App {
             start,
             limits,
             objects,
+            group_count,
             handlers,
             interrupts,
             tasks,
@@ -269,6 +279,13 @@ impl App {
         ensures { result.now ≡ self.now.objects }
     {
         self.objects.as_slice()
+    }
+
+    /// How many event groups there are, 0 to 16.
+    pub fn group_count(&self) -> u8
+        ensures { result ≡ self.now.group_count }
+    {
+        self.group_count
     }
 
     /// The handlers, in the order of the file.

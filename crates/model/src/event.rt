@@ -43,8 +43,14 @@ const _: () = prove!(size_of::<Event>() == 16);
 /// What a task must not do (profile). FreeRTOS asserts it, and what comes of it is not told.
 #[derive(Clone, Copy, Debug, PartialEq, Eq)]
 pub enum Misuse {
+    /// While a `suspend_all` is in force it does an op that may switch, or wait.
+    WhileSuspended,
+    /// It takes a `suspend_all` back, and none is in force.
+    NotSuspended,
     /// It gives a mutex back that it doesn't hold.
     NotHolder,
+    /// It comes to the end of its script while a `suspend_all` is in force.
+    EndedSuspended,
 }
 
 /// How a run ends (profile).

@@ -1,5 +1,6 @@
 //! The ops of a task's script, and those of a handler.
-use crate::ids::ObjectId;
+use crate::call::Condition;
+use crate::ids::{GroupId, ObjectId, TaskId};
 
 /// What a call asks of an object.
 #[derive(Clone, Copy, Debug, PartialEq, Eq)]
@@ -105,6 +106,23 @@ pub enum Op {
     MessagesWaiting(ObjectId),
     /// Answers for how many more items a queue has room (`uxQueueSpacesAvailable`).
     SpacesAvailable(ObjectId),
+    /// Sets these bits of an event group, 1 to 16,777,215; answers those that are set after it (`xEventGroupSetBits`).
+    SetBits(GroupId, u32),
+    /// Clears these bits of an event group, 1 to 16,777,215; answers those that were set before it (`xEventGroupClearBits`).
+    ClearBits(GroupId, u32),
+    /// Answers which bits of an event group are set (`xEventGroupGetBits`).
+    GetBits(GroupId),
+    /// Waits until bits of an event group are set, at most for so many ticks, 0 to 4,294,967,294; `None` is for ever
+    /// (`xEventGroupWaitBits`).
+    WaitBits(GroupId, Condition, Option<u32>),
+    /// Suspends a task, perhaps itself (`vTaskSuspend`).
+    Suspend(TaskId),
+    /// Resumes a suspended task (`vTaskResume`).
+    Resume(TaskId),
+    /// Suspends the scheduler, once more (`vTaskSuspendAll`).
+    SuspendAll,
+    /// Takes one `suspend_all` back (`xTaskResumeAll`).
+    ResumeAll,
 }
 
 impl Op {
@@ -129,6 +147,14 @@ impl Op {
             Op::GiveMutex(_) => "unlock",
             Op::MessagesWaiting(_) => "waiting",
             Op::SpacesAvailable(_) => "spaces",
+            Op::SetBits(_, _) => "set",
+            Op::ClearBits(_, _) => "clear",
+            Op::GetBits(_) => "bits",
+            Op::WaitBits(_, _, _) => "wait",
+            Op::Suspend(_) => "suspend",
+            Op::Resume(_) => "resume",
+            Op::SuspendAll => "suspend_all",
+            Op::ResumeAll => "resume_all",
         }
     }
 }
@@ -139,6 +165,10 @@ pub enum IsrOp {
     /// A call on an object, done if it is possible: send, send_front, overwrite, receive, peek or give (`xQueueSendFromISR`,
     /// `xSemaphoreGiveFromISR` and the like).
     Do(ObjectId, Access),
+    /// Resumes a suspended task (`xTaskResumeFromISR`).
+    Resume(TaskId),
+    /// Answers which bits of an event group are set (`xEventGroupGetBitsFromISR`).
+    GetBits(GroupId),
     /// Writes a mark line with this number, 0 to 4,294,967,295 (profile).
     Mark(u32),
 }
@@ -153,6 +183,8 @@ impl IsrOp {
     {
         match *self {
             IsrOp::Do(_, access) => access.word(),
+            IsrOp::Resume(_) => "resume",
+            IsrOp::GetBits(_) => "bits",
             IsrOp::Mark(_) => "mark",
         }
     }

@@ -1,6 +1,6 @@
 //! Scripts whose loops are well nested, built op by op.
 ghost use Rattle.std.specs.Prelude.{◌≡◌, true, false, ◌<◌, ◌↔◌, ◌++◌, ◌∷◌, [], length, OnOk, OnErr, IsSome, IfSome};
-ghost use Rattle.model.specs.Scripts.{IsScript, InRange, may_stand, nesting_after};
+ghost use Rattle.model.specs.Scripts.{IsScript, InRange, is_mask, is_wait, may_stand, nesting_after};
 
 use crate::op::Op;
 use std::alloc::Global;
@@ -36,6 +36,23 @@ impl Script {
     }
 }
 
+/// Whether a call may wait for so many ticks, or for ever.
+fn is_wait(ticks: Option<u32>) -> bool
+    ensures { result ≡ is_wait ticks }
+{
+    match ticks {
+        None => true,
+        Some(ticks) => ticks <= Op::MOST_WAIT,
+    }
+}
+
+/// Whether these are some bits of an event group.
+fn is_mask(mask: u32) -> bool
+    ensures { result ≡ is_mask mask }
+{
+    1 <= mask && mask <= Op::MOST_BITS
+}
+
 impl Op {
     ghost use Rattle.std.specs.Prelude.{◌≡◌, ◌↔◌, true, false, IsSome, IsNone, IfSome};
     ghost use Rattle.model.specs.Scripts.{is_in_range, may_stand, nesting_past};
@@ -49,6 +66,9 @@ impl Op {
     /// The most ticks of a wait that isn't for ever: one less than `portMAX_DELAY`.
     pub const MOST_WAIT: u32 = u32::MAX - 1;
 
+    /// The greatest set of bits: an event group has 24 (as with ticks of 32 bits in FreeRTOS).
+    pub const MOST_BITS: u32 = 16_777_215;
+
     /// Whether its numbers are in their ranges.
     pub fn is_in_range(&self) -> bool
         ensures { result ≡ is_in_range self.now }
@@ -57,7 +77,9 @@ impl Op {
             Op::Work(ticks) => 1 <= *ticks && *ticks <= Self::MOST_WORK,
             Op::DelayUntil(ticks) => 1 <= *ticks,
             Op::Repeat(turns) => 1 <= *turns && *turns <= Self::MOST_TURNS,
-            Op::Await(_, _, Some(ticks)) => *ticks <= Self::MOST_WAIT,
+            Op::Await(_, _, ticks) => is_wait(*ticks),
+            Op::SetBits(_, mask) | Op::ClearBits(_, mask) => is_mask(*mask),
+            Op::WaitBits(_, condition, ticks) => is_mask(condition.mask) && is_wait(*ticks),
             _ => true,
         }
     }

@@ -9,13 +9,15 @@ use Rattle.model.specs.declared.op.IsrOp.{IsrOp}
 use Rattle.model.specs.declared.op.IsrOp.TheVariants as isr_op
 use Rattle.model.specs.declared.event.What.TheVariants as what
 use Rattle.model.specs.Application.{Application, interrupts_at, ops_of}
-use Rattle.model.specs.State.{State, Object, Status, Task, Wait, Ready, Awake, Waiting, Asleep, WaitingForBits, Suspended, Ended, no_task, wait_if_awake, wait_if_waiting, status_at, task_at, object_at, with_object, go_on, for_one, for_each}
+use Rattle.model.specs.State.{State, Object, Status, Task, Wait, Ready, Awake, Waiting, Asleep, WaitingForBits, Suspended, Ended, no_task, wait_if_awake, wait_if_waiting, status_at, task_at, progress_at, object_at, bits_at, with_object, with_task, go_on, for_one, for_each}
 use Rattle.model.specs.Order.{Entry, Key, first, task_of, tasks_of}
 use Rattle.model.specs.Switching.{make_ready, slice, write, is_scheduler_suspended, unless_held}
 use Rattle.model.specs.Time.{advance, due, increment_tick, wake_due}
 use Rattle.model.specs.Handlers.{handle, interrupt, isr, isr_each, isr_told, tick_interrupt}
 use Rattle.model.specs.Objects.{answer_to, attempt, fulfil, list_for, list_woken, object_after, possible}
 use Rattle.model.specs.Calls.{lock}
+use Rattle.model.specs.Ops.{one_if}
+use Rattle.model.specs.Suspension.{can_resume, resumed, resume}
 use Rattle.model.specs.Waiting.{awaken, awake_status, is_locked, same_list, unlock, unlock_object, wait_in, wait_key, waiters, wake_best, wake_one}
 use Rattle.model.specs.Invariant.{IsSound, hold_of}
 use Rattle.model.proofs.Sorting.{by_test}
@@ -113,6 +115,15 @@ pub at_locked-attempt : (d : Option Decider) (caller : Option ℕ) (o : ℕ) (a 
 unfolding attempt
 at_locked-attempt d caller o a s h = by_test (possible s o a) (λ t. rw t (at_locked-fulfil d caller o a s h)) (λ t. rw t h)
 
+-- a task that is resumed
+pub at_locked-resume : (d : Option Decider) (i : ℕ) (s : State) → AtLocked d s → AtLocked d (resume i s)
+unfolding resume
+at_locked-resume d i s h =
+    let t : Task = record (task_at s i) { progress = resumed s.time (progress_at s i) } in
+    by_test (can_resume (status_at s i))
+    (λ q. rw q (at_locked-ready d i (with_task i t s) (at_locked-set d s (with_task i t s) i t refl refl (h.awake i) h)))
+    (λ q. rw q h)
+
 -- ---- a handler, and a tick
 
 pub at_locked-isr : (d : Option Decider) (handler op_index : ℕ) (op : IsrOp) (s : State) → AtLocked d s → AtLocked d (isr handler op_index op s)
@@ -120,6 +131,11 @@ at_locked-isr d handler op_index (isr_op.Do o a) s h =
     let t : State = attempt None o a s in
     let w = isr_told handler op_index (answer_to s o a) in
     at_locked_same d t (write w t) (same_write w t) (at_locked-attempt d None o a s h)
+at_locked-isr d handler op_index (isr_op.Resume i) s h =
+    let t : State = resume i s in
+    let w = isr_told handler op_index (one_if (can_resume (status_at s i))) in
+    at_locked_same d t (write w t) (same_write w t) (at_locked-resume d i s h)
+at_locked-isr d handler op_index (isr_op.GetBits group) s h = let w = isr_told handler op_index (Some (bits_at s group)) in at_locked_same d s (write w s) (same_write w s) h
 at_locked-isr d handler op_index (isr_op.Mark n) s h = let w = what.IsrMark handler n in at_locked_same d s (write w s) (same_write w s) h
 
 at_locked-isr_each : (d : Option Decider) (handler op_index : ℕ) (ops : List IsrOp) (s : State) → AtLocked d s → AtLocked d (isr_each handler op_index ops s)

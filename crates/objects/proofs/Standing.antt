@@ -8,7 +8,7 @@ use Rattle.lists.specs.Lists.{first_of, without}
 use Rattle.lists.proofs.Entries.{none-some}
 use Rattle.lists.proofs.Laws.{entries_of-without}
 use Rattle.model.specs.declared.call.WaitList.{WaitList}
-use Rattle.model.specs.State.{State, no_task, Status, Task, Ready, task_at, status_at, take_ticket, for_each}
+use Rattle.model.specs.State.{State, no_task, Status, Task, Ready, Suspended, task_at, status_at, take_ticket, with_status, for_each}
 use Rattle.model.specs.Order.{Key, Entry, entry, first, key, put, task_of}
 use Rattle.model.specs.Switching.{make_ready}
 use Rattle.model.specs.Waiting.{awaken, awake_status, wait_key, is_locked, waiters}
@@ -84,6 +84,15 @@ stands_readied v s i h l = record {
   lists = λ list. entries_of-without i (number_of list) v ∙ ap (without i) (h.lists list) ∙ sym (standing-left s i Ready h.table l list refl);
   table = table-taken s i Ready h.table (omega arith);
 }
+
+-- So is who is suspended.
+pub stands_suspended : (v : List (List (ℕ × ℕ))) (s : State) (i : ℕ) → WaitersStand v None s → i < length s.tasks → WaitersStand (map (without i) v) None (with_status i Suspended s)
+stands_suspended v s i h l =
+    let t : Task = record (task_at s i) { status = Suspended } in
+    record {
+      lists = λ list. entries_of-without i (number_of list) v ∙ ap (without i) (h.lists list) ∙ sym (ap with_priorities (list-gone (standing_key list) i t s.tasks l refl) ∙ with_priorities-filter i (standing s list));
+      table = table-set s i t h.table tt;
+    }
 
 -- the best waiter
 

@@ -4,7 +4,7 @@ ghost use Rattle.std.specs.List.{AllByRecursion, list_any};
 ghost use Rattle.std.specs.Option.{is_some};
 ghost use Rattle.lists.specs.Lists.{place_of, without};
 ghost use Rattle.model.specs.Application.{Application};
-ghost use Rattle.model.specs.State.{State, Task, no_object, object_at, with_object, status_at, wait_of, wait_if_awake, for_each};
+ghost use Rattle.model.specs.State.{State, Suspended, Task, no_object, object_at, with_object, status_at, with_status, wait_of, wait_if_awake, for_each};
 ghost use Rattle.model.specs.Order.{first, task_of};
 ghost use Rattle.model.specs.Switching.{make_ready};
 ghost use Rattle.model.specs.Waiting as waiting;
@@ -12,7 +12,7 @@ ghost use Rattle.model.specs.Waiting.{is_locked};
 ghost use Rattle.model.specs.declared.event.Misuse.TheVariants as misuses;
 ghost use Rattle.model.specs.declared.op.Op.TheVariants as op;
 ghost use Rattle.model.specs.Scripts.{IsObjectKind};
-ghost use Rattle.model.specs.Step.{misuse, object_at_reset, reset};
+ghost use Rattle.model.specs.Step.{own_misuse, object_at_reset, reset};
 ghost use Rattle.model.specs.Objects as definitions;
 ghost use Rattle.model.specs.Objects.{allows, object_after, reply};
 ghost use Rattle.model.specs.Mutexes as mutexes;
@@ -199,16 +199,16 @@ impl Queues {
               (record (object_in self.old.objects object) { holder = None });
         }) }
         ensures refused { OnErr result (self.new ≡ self.old) }
-        // In the definitions too; and there it is no misuse,
+        // In the definitions too; and by itself it is no misuse,
         ensures stands { OnOk result ((s : State) (decider : Option Decider)
             → StandsFor self.old decider s → StandsFor self.new decider
             (with_object object (record (object_at s object) { holder = None }) s)) }
         ensures allowed { OnOk result ((s : State) (decider : Option Decider)
-            → StandsFor self.old decider s → misuse s task (op.GiveMutex object) ≡ None) }
+            → StandsFor self.old decider s → own_misuse s task (op.GiveMutex object) ≡ None) }
         // or it is one.
         ensures misuse { OnErr result ((s : State) (decider : Option Decider)
             → StandsFor self.old decider s
-            → misuse s task (op.GiveMutex object) ≡ Some misuses.NotHolder) }
+            → own_misuse s task (op.GiveMutex object) ≡ Some misuses.NotHolder) }
     {
         if self.holder(object) != Some(task) {
             return Err(NotHolder);
@@ -357,12 +357,15 @@ impl Queues {
         self.waiting.wait(list, task, priority);
     }
 
-    /// Takes a task out of the list that it is in, as its deadline has come. One that is in none stays so.
+    /// Takes a task out of the list that it is in, as its deadline has come or it is suspended. One that is in none stays so.
     pub fn drop_waiter(&mut self, task: TaskId)
         ensures gone { self.new ≡ record self.old { waiting = map (without task) self.old.waiting } }
         // In the definitions nothing is locked then, and it becomes Ready.
         ensures stands { (s : State) → StandsFor self.old None s → self.old.lock ≡ None
             → task < length s.tasks → StandsFor self.new None (make_ready task s) }
+        // Or it is Suspended.
+        ensures suspended { (s : State) → StandsFor self.old None s → self.old.lock ≡ None
+            → task < length s.tasks → StandsFor self.new None (with_status task Suspended s) }
     {
         self.waiting.drop_waiter(task);
     }

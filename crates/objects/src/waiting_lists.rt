@@ -4,7 +4,7 @@ ghost use Rattle.std.specs.Option.{is_some};
 ghost use Rattle.lists.specs.Lists.{first_of, has_node, place_of, without, IsSound};
 ghost use Rattle.model.specs.declared.call.WaitList as definitions;
 ghost use Rattle.model.specs.declared.call.WaitList.TheVariants.{ToReceive, ToSend};
-ghost use Rattle.model.specs.State.{State, task_at, for_one, for_each};
+ghost use Rattle.model.specs.State.{State, Suspended, task_at, with_status, for_one, for_each};
 ghost use Rattle.model.specs.Order as order;
 ghost use Rattle.model.specs.Switching.{make_ready};
 ghost use Rattle.model.specs.Waiting as waiting;
@@ -162,7 +162,10 @@ impl WaitingLists {
         // In the definitions it becomes Ready,
         ensures readied { (s : State) → WaitersStand self.old None s → task < length s.tasks
             → WaitersStand self.new None (make_ready task s) }
-        // also while another is to be placed, in whose list it isn't.
+        // or Suspended,
+        ensures suspended { (s : State) → WaitersStand self.old None s → task < length s.tasks
+            → WaitersStand self.new None (with_status task Suspended s) }
+        // Ready also while another is to be placed, in whose list it isn't.
         ensures readied_but { (s : State) (decider : Decider) → WaitersStand self.old (Some decider) s
             → task < length s.tasks → task ≢ decider.task
             → has_node task (waiting_in self.old decider.list) ≡ false

@@ -1,7 +1,7 @@
 -- How long the words of a line are at most.
 use Rattle.std.proofs.Common.{◌≤◌, length, lit≤}
 use Rattle.model.specs.declared.op.Op.{Op}
-use Rattle.model.specs.declared.op.Op.TheVariants.{Work, Delay, DelayUntil, Yield, Time, Mark, Expect, Repeat, End, Await, Do, GiveMutex, MessagesWaiting, SpacesAvailable}
+use Rattle.model.specs.declared.op.Op.TheVariants.{Work, Delay, DelayUntil, Yield, Time, Mark, Expect, Repeat, End, Await, Do, GiveMutex, MessagesWaiting, SpacesAvailable, SetBits, ClearBits, GetBits, WaitBits, Suspend, Resume, SuspendAll, ResumeAll}
 use Rattle.model.specs.declared.op.Access.{Access}
 use Rattle.model.specs.declared.op.Access.TheVariants.{Send, SendFront, Overwrite, Receive, Peek, Take, Give, Lock}
 use Rattle.model.specs.declared.op.IsrOp.{IsrOp}
@@ -34,8 +34,18 @@ word_short (Do o a) = access_short a
 word_short (GiveMutex o) = lit≤ tt
 word_short (MessagesWaiting o) = lit≤ tt
 word_short (SpacesAvailable o) = lit≤ tt
+word_short (SetBits g mask) = lit≤ tt
+word_short (ClearBits g mask) = lit≤ tt
+word_short (GetBits g) = lit≤ tt
+word_short (WaitBits g condition ticks) = lit≤ tt
+word_short (Suspend t) = lit≤ tt
+word_short (Resume t) = lit≤ tt
+word_short SuspendAll = lit≤ tt
+word_short ResumeAll = lit≤ tt
 
 -- So has that of an op of a handler.
 pub isr_word_short : (op : IsrOp) → length (word_of_isr op) ≤ 11
 isr_word_short (isr_op.Do o a) = access_short a
+isr_word_short (isr_op.Resume t) = lit≤ tt
+isr_word_short (isr_op.GetBits g) = lit≤ tt
 isr_word_short (isr_op.Mark n) = lit≤ tt

@@ -1,23 +1,23 @@
 -- Runs whose texts are compared letter by letter.
-use Rattle.std.specs.Prelude.{ℕ, Bool, true, List, [], ◌∷◌, Some, None, codes}
+use Rattle.std.specs.Prelude.{ℕ, Bool, true, false, List, [], ◌∷◌, Some, None, codes}
 use Rattle.model.specs.Application.{Application, Definition, Handler}
 use Rattle.model.specs.Run.{Run}
 use Rattle.model.specs.declared.op.Op.{Op}
-use Rattle.model.specs.declared.op.Op.TheVariants.{Delay, DelayUntil, Mark, Await, Do, GiveMutex}
+use Rattle.model.specs.declared.op.Op.TheVariants.{Delay, DelayUntil, Mark, Await, Do, GiveMutex, SetBits, ClearBits, GetBits, WaitBits, Suspend, Resume, SuspendAll, ResumeAll}
 use Rattle.model.specs.declared.op.Access.TheVariants.{SendFront, Take, Give, Lock}
 use Rattle.model.specs.declared.op.IsrOp.TheVariants as isr_op
 use Rattle.model.specs.declared.event.Event.{Event}
 use Rattle.model.specs.declared.event.What.{What}
 use Rattle.model.specs.declared.event.What.TheVariants as what
 use Rattle.model.specs.declared.event.End.TheVariants.{Pass, Check, Misuse}
-use Rattle.model.specs.declared.event.Misuse.TheVariants.{NotHolder}
+use Rattle.model.specs.declared.event.Misuse.TheVariants.{WhileSuspended, NotHolder}
 use Rattle.model.specs.declared.object.ObjectKind.TheVariants as kind
 use Rattle.report.specs.declared.title.Title.{Title}
 use Rattle.report.specs.declared.title.Title.TheVariants.{Row}
 
 -- an application of these tasks, from tick 0 and under no limits but the most
 abbrev pub app_of : List Definition → Application
-app_of tasks = record { start = 0; limits = record { ticks = 1000000; steps = 1000000 }; objects = []; handlers = []; interrupts = []; tasks = tasks }
+app_of tasks = record { start = 0; limits = record { ticks = 1000000; steps = 1000000 }; objects = []; group_count = 0; handlers = []; interrupts = []; tasks = tasks }
 
 -- a task of priority 1
 abbrev pub a_task : List ℕ → List Op → Definition
@@ -68,6 +68,28 @@ two_unlocks_run = record {
   steps = 5;
   ticks = 0;
   end = Misuse a 4 NotHolder;
+}
+
+-- a task that has to do with an event group, with itself and with the scheduler, and a handler that does too
+abbrev pub each_hold : Application
+each_hold = record (app_of (a_task (codes "a") (
+    SetBits 0 5 ∷ WaitBits 0 (record { mask = 4; all = false; clear = true }) None ∷ ClearBits 0 1 ∷ GetBits 0
+    ∷ Resume 0 ∷ Suspend 0 ∷ SuspendAll ∷ ResumeAll ∷ []) ∷ [])) {
+      group_count = 1;
+      handlers = record { name = codes "h"; ops = isr_op.GetBits 0 ∷ isr_op.Resume 0 ∷ [] } ∷ [];
+    }
+
+-- one event of each of their ops; no run tells these events
+abbrev pub each_hold_run : Run
+each_hold_run = record {
+  events =
+      event_at 1 0 (what.Call a 0 5) ∷ event_at 2 0 (what.Call a 1 5) ∷ event_at 3 0 (what.Call a 2 1)
+      ∷ event_at 4 0 (what.Call a 3 0) ∷ event_at 5 0 (what.Call a 4 0) ∷ event_at 6 0 (what.Call a 5 1)
+      ∷ event_at 7 0 (what.Isr 0 0 0) ∷ event_at 7 0 (what.Isr 0 1 1) ∷ event_at 8 0 (what.Call a 6 0)
+      ∷ event_at 9 0 (what.Call a 7 0) ∷ [];
+  steps = 10;
+  ticks = 0;
+  end = Misuse a 7 WhileSuspended;
 }
 
 -- a handler that sends an item to the front of a queue

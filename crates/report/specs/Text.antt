@@ -9,7 +9,7 @@ use Rattle.model.specs.declared.event.What.TheVariants as what
 use Rattle.model.specs.declared.event.End.{End}
 use Rattle.model.specs.declared.event.End.TheVariants as ending
 use Rattle.model.specs.declared.event.Misuse.{Misuse}
-use Rattle.model.specs.declared.event.Misuse.TheVariants.{NotHolder}
+use Rattle.model.specs.declared.event.Misuse.TheVariants.{WhileSuspended, NotSuspended, NotHolder, EndedSuspended}
 use Rattle.model.specs.declared.plan.Point.{Point}
 use Rattle.report.specs.declared.title.Title.{Title}
 use Rattle.report.specs.declared.title.Title.TheVariants.{Base, Row}
@@ -53,9 +53,12 @@ abbrev pub event_text : Application → Event → List ℕ
 event_text app event =
     decimal event.step ++ codes " " ++ decimal event.tick ++ codes " " ++ what_text app event.what ++ codes "\n"
 
--- the number of a misuse
+-- the number of a misuse (profile)
 abbrev pub code_of : Misuse → ℕ
+code_of WhileSuspended = 1
+code_of NotSuspended = 2
 code_of NotHolder = 3
+code_of EndedSuspended = 4
 
 -- the task and the index of the op that brought an end about
 abbrev pub op_text : Application → (task op_index : ℕ) → List ℕ

@@ -1,9 +1,10 @@
 //! Laws of the definitions: each is the contract of a function that does nothing.
 ghost use Rattle.std.specs.Prelude.{◌≡◌, ◌++◌, codes, true, false};
-ghost use Rattle.report.specs.Examples.{delay_one, delay_one_run, two_unlocks, two_unlocks_row, two_unlocks_run, each_form, each_form_run, last_row};
-ghost use Rattle.report.specs.Text.{head_text, run_text};
+ghost use Rattle.report.specs.Examples.{delay_one, delay_one_run, two_unlocks, two_unlocks_row, two_unlocks_run, each_hold, each_hold_run, each_form, each_form_run, last_row};
+ghost use Rattle.report.specs.Text.{head_text, run_text, verdict_text};
 ghost use Rattle.report.specs.declared.title.Title.TheVariants.{Base};
-ghost use Rattle.model.specs.declared.event.End.TheVariants.{Pass, Check};
+ghost use Rattle.model.specs.declared.event.End.TheVariants.{Pass, Check, Misuse};
+ghost use Rattle.model.specs.declared.event.Misuse.TheVariants.{WhileSuspended, NotSuspended, NotHolder, EndedSuspended};
 
 /// The report of a `delay 1` beside a task that only marks, letter by letter.
 pub fn report_of_delay_one()
@@ -27,6 +28,34 @@ pub fn report_of_two_unlocks()
         ++ codes "1 0 call a 1 take = 1\n"
         ++ codes "2 0 call a 2 lock = 1\n"
         ++ codes "3 0 call a 3 unlock = 1\n" }
+{}
+
+/// The words of ops on an event group, and of those that suspend and resume, letter by letter.
+pub fn report_of_each_hold()
+    ensures { run_text each_hold Base each_hold_run ≡
+        codes "base: misuse a 7 1 in 10 steps, 0 ticks\n"
+        ++ codes "1 0 call a 0 set = 5\n"
+        ++ codes "2 0 call a 1 wait = 5\n"
+        ++ codes "3 0 call a 2 clear = 1\n"
+        ++ codes "4 0 call a 3 bits = 0\n"
+        ++ codes "5 0 call a 4 resume = 0\n"
+        ++ codes "6 0 call a 5 suspend = 1\n"
+        ++ codes "7 0 isr h 0 bits = 0\n"
+        ++ codes "7 0 isr h 1 resume = 1\n"
+        ++ codes "8 0 call a 6 suspend_all = 0\n"
+        ++ codes "9 0 call a 7 resume_all = 0\n" }
+{}
+
+/// How each misuse is told, letter by letter.
+pub fn verdicts_of_misuses()
+    ensures while_suspended { verdict_text each_form (Misuse 0 65535 WhileSuspended) ≡
+        codes "misuse abcdefghijklmnop 65535 1" }
+    ensures not_suspended { verdict_text each_form (Misuse 0 0 NotSuspended) ≡
+        codes "misuse abcdefghijklmnop 0 2" }
+    ensures not_holder { verdict_text each_form (Misuse 0 0 NotHolder) ≡
+        codes "misuse abcdefghijklmnop 0 3" }
+    ensures ended_suspended { verdict_text each_form (Misuse 0 0 EndedSuspended) ≡
+        codes "misuse abcdefghijklmnop 0 4" }
 {}
 
 /// An event of each form, with the largest numbers, letter by letter.

@@ -10,6 +10,9 @@ mod tens;
 mod text;
 mod title;
 
-pub use laws::{heads_of_rows, report_of_delay_one, report_of_each_form, report_of_two_unlocks};
+pub use laws::{
+    heads_of_rows, report_of_delay_one, report_of_each_form, report_of_each_hold,
+    report_of_two_unlocks, verdicts_of_misuses,
+};
 pub use run::write_run;
 pub use title::Title;

@@ -126,7 +126,10 @@ fn code_of(misuse: Misuse) -> u32
     ensures { result ≡ code_of misuse }
 {
     match misuse {
+        Misuse::WhileSuspended => 1,
+        Misuse::NotSuspended => 2,
         Misuse::NotHolder => 3,
+        Misuse::EndedSuspended => 4,
     }
 }
 

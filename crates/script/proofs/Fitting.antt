@@ -1,30 +1,38 @@
--- An object that a name finds is what the op asks for.
-use Rattle.std.proofs.Common.{◌≡◌, ◌+◌, ℕ, zero, suc, Bool, true, false, List, [], ◌∷◌, Some, refl, sym, subst, inl, inr, arith, ◌∙◌}
+-- An entry that a name finds is what the op asks for.
+use Rattle.std.proofs.Common.{◌≡◌, ◌+◌, ◌<◌, ℕ, zero, suc, Bool, true, false, List, [], ◌∷◌, length, Some, refl, sym, subst, inl, inr, arith, ◌∙◌}
+use Rattle.std.specs.Prelude.{nat_lt}
 use Rattle.std.specs.List.{slice_get}
 use Rattle.std.specs.Option.{option_map, unwrap_or}
 use Rattle.std.specs.Str.{bytes_eq}
-use Rattle.std.proofs.lemmas.Bool.{and_parts}
+use Rattle.std.proofs.lemmas.Bool.{and_parts, lt-ltb}
 use Rattle.model.specs.declared.object.ObjectKind.{ObjectKind}
 use Rattle.model.specs.declared.object.ObjectKind.TheVariants as kind
 use Rattle.model.specs.declared.op.Access.{Access}
 use Rattle.model.specs.Application.{Application}
-use Rattle.model.specs.Scripts.{fits, fits_object, is_of_semaphore, is_of_mutex}
+use Rattle.model.specs.Scripts.{fits, fits_object, is_of_semaphore, is_of_mutex, has_group, has_task}
 use Rattle.script.specs.declared.object_sort.ObjectSort.{ObjectSort}
 use Rattle.script.specs.declared.object_sort.ObjectSort.TheVariants.{Queue, Semaphore, Mutex}
-use Rattle.script.specs.Grammar.{Word}
+use Rattle.script.specs.Grammar.{Word, NameSort, OfObject, OfGroup, OfTask}
 use Rattle.script.specs.Objects.{Named, kinds_of}
-use Rattle.script.specs.Finding.{is_of_sort, is_called, object_from, object_among}
+use Rattle.script.specs.Entries.{Entries, HasEntries}
+use Rattle.script.specs.Finding.{index_from, is_of_sort, is_called, object_from, among}
 use Rattle.script.proofs.Reading.{chosen}
 
 -- These objects have one of this index and this sort.
 abbrev is_at : List Named → ObjectSort → ℕ → Bool
 is_at objects sort n = unwrap_or (option_map (λ (o : Named). is_of_sort sort o.kind) (slice_get objects n)) false
 
-abbrev pub IsAt : List Named → ObjectSort → ℕ → Type 0
-IsAt objects sort n = is_at objects sort n ≡ true
+abbrev IsObject : List Named → ObjectSort → ℕ → Type 0
+IsObject objects sort n = is_at objects sort n ≡ true
+
+-- These entries have one of this index and this sort.
+abbrev pub IsAt : Entries → NameSort → ℕ → Type 0
+IsAt entries (OfObject sort) n = IsObject entries.objects sort n
+IsAt entries OfGroup n = nat_lt n (length entries.groups) ≡ true
+IsAt entries OfTask n = nat_lt n (length entries.tasks) ≡ true
 
 found_from : (i : ℕ) (sort : ObjectSort) (w : Word) (objects : List Named) (n : ℕ) → object_from i sort w objects ≡ Some n
-    → (k : ℕ) × (i + k ≡ n) × IsAt objects sort k
+    → (k : ℕ) × (i + k ≡ n) × IsObject objects sort k
 found_from i sort w [] n e = cc
 found_from i sort w (o ∷ os) n e = elim (chosen (is_called sort w o) _ _ _ e) [
   | inl here ↦
@@ -36,13 +44,25 @@ found_from i sort w (o ∷ os) n e = elim (chosen (is_called sort w o) _ _ _ e) 
       (suc found.0, omega arith, found.2)
 ]
 
-pub found_at : (objects : List Named) (sort : ObjectSort) (w : Word) (n : ℕ) → object_among objects sort w ≡ Some n
-    → IsAt objects sort n
-found_at objects sort w n e =
-    let found = found_from 0 sort w objects n e in
+below_from : (i : ℕ) (w : Word) (names : List Word) (n : ℕ) → index_from i w names ≡ Some n → n < i + length names
+below_from i w [] n e = cc
+below_from i w (name ∷ names) n e = elim (chosen (bytes_eq name w) _ _ _ e) [
+  | inl here ↦ let same : i ≡ n = cc in omega arith
+  | inr later ↦ let below = below_from (i + 1) w names n later.1 in omega arith
+]
+
+pub found_at : (entries : Entries) (sort : NameSort) (w : Word) (n : ℕ) → among entries sort w ≡ Some n → IsAt entries sort n
+found_at entries (OfObject sort) w n e =
+    let found = found_from 0 sort w entries.objects n e in
     let place = found.1 in
     let same : found.0 ≡ n = omega arith in
-    subst (IsAt objects sort) same found.2
+    subst (IsObject entries.objects sort) same found.2
+found_at entries OfGroup w n e =
+    let below = below_from 0 w entries.groups n e in
+    lt-ltb n (length entries.groups) (omega arith)
+found_at entries OfTask w n e =
+    let below = below_from 0 w entries.tasks n e in
+    lt-ltb n (length entries.tasks) (omega arith)
 
 -- ---- which calls it allows
 
@@ -67,7 +87,7 @@ kind_fits Mutex access fit kind.Mutex is = fit
 abbrev fits_at : List ObjectKind → ℕ → Access → Bool
 fits_at kinds n access = unwrap_or (option_map (λ k. fits k access) (slice_get kinds n)) false
 
-sort_fits : (sort : ObjectSort) (access : Access) → Fit sort access → (objects : List Named) (n : ℕ) → IsAt objects sort n
+sort_fits : (sort : ObjectSort) (access : Access) → Fit sort access → (objects : List Named) (n : ℕ) → IsObject objects sort n
     → fits_at (kinds_of objects) n access ≡ true
 sort_fits sort access fit [] n at = cc
 sort_fits sort access fit (o ∷ os) zero at = kind_fits sort access fit o.kind at
@@ -79,12 +99,18 @@ same_fit access [] n = refl
 same_fit access (o ∷ os) zero = refl
 same_fit access (o ∷ os) (suc n) = same_fit access os n
 
-module _ (app : Application) (objects : List Named) (same : app.objects ≡ kinds_of objects) where
-  pub at_fits : (sort : ObjectSort) (access : Access) → Fit sort access → (n : ℕ) → IsAt objects sort n
+module _ (app : Application) (entries : Entries) (has : HasEntries app entries) where
+  pub at_fits : (sort : ObjectSort) (access : Access) → Fit sort access → (n : ℕ) → IsAt entries (OfObject sort) n
       → fits_object app n access ≡ true
-  at_fits sort access fit n at = rw same (sort_fits sort access fit objects n at)
+  at_fits sort access fit n at = rw has.objects (sort_fits sort access fit entries.objects n at)
 
   pub allowed_fits : (access : Access) (n : ℕ)
-      → unwrap_or (option_map (λ (o : Named). fits o.kind access) (slice_get objects n)) false ≡ true
+      → unwrap_or (option_map (λ (o : Named). fits o.kind access) (slice_get entries.objects n)) false ≡ true
       → fits_object app n access ≡ true
-  allowed_fits access n allowed = rw same (sym (same_fit access objects n) ∙ allowed)
+  allowed_fits access n allowed = rw has.objects (sym (same_fit access entries.objects n) ∙ allowed)
+
+  pub at_group : (n : ℕ) → IsAt entries OfGroup n → has_group app n ≡ true
+  at_group n at = rw has.groups at
+
+  pub at_task : (n : ℕ) → IsAt entries OfTask n → has_task app n ≡ true
+  at_task n at = rw has.tasks at

@@ -1,23 +1,23 @@
 -- What is read by forms, where each of them makes only ops of which something holds.
-use Rattle.std.proofs.Common.{◌≡◌, ℕ, List, [], ◌∷◌, Option, Some, None, refl}
+use Rattle.std.proofs.Common.{◌≡◌, ℕ, Bool, List, [], ◌∷◌, Option, Some, None, refl}
 use Rattle.std.specs.List.{AllByRecursion}
 use Rattle.std.specs.Option.{option_map, option_and_then, IfSome}
 use Rattle.std.specs.Str.{bytes_eq}
 use Rattle.model.proofs.Sorting.{by_test}
-use Rattle.script.specs.declared.object_sort.ObjectSort.{ObjectSort}
-use Rattle.script.specs.Grammar.{Word, Naming, Form, Done, Number, Answer, Wait, Object, form_word, number_of, answer_of, wait_of, read, read_by}
+use Rattle.script.specs.Grammar.{Word, Naming, NameSort, Form, Done, Number, Answer, Wait, Choice, Name, form_word, number_of, answer_of, wait_of, choice_of, read, read_by}
 
-module _ {O : Type 0} (Holds : O → Type 0) (At : ObjectSort → ℕ → Type 0) where
-  -- It makes only such ops, of objects that are there.
+module _ {O : Type 0} (Holds : O → Type 0) (At : NameSort → ℕ → Type 0) where
+  -- It makes only such ops, of entries that are there.
   abbrev pub Makes : Form O → Type 0
   Makes (Done op) = Holds op
   Makes (Number next) = (n : ℕ) → Makes (next n)
   Makes (Answer next) = (a : Option ℕ) → Makes (next a)
   Makes (Wait next) = (ticks : Option ℕ) → Makes (next ticks)
-  Makes (Object sort next) = (n : ℕ) → At sort n → Makes (next n)
+  Makes (Choice first second next) = (b : Bool) → Makes (next b)
+  Makes (Name sort next) = (n : ℕ) → At sort n → Makes (next n)
 
-module _ {O : Type 0} (word : O → Word) (named : Naming) (Holds : O → Type 0) (At : ObjectSort → ℕ → Type 0)
-    (found : (sort : ObjectSort) (w : Word) (n : ℕ) → named sort w ≡ Some n → At sort n) where
+module _ {O : Type 0} (word : O → Word) (named : Naming) (Holds : O → Type 0) (At : NameSort → ℕ → Type 0)
+    (found : (sort : NameSort) (w : Word) (n : ℕ) → named sort w ≡ Some n → At sort n) where
   abbrev Held : Option O → Type 0
   Held o = IfSome o Holds
 
@@ -38,8 +38,11 @@ module _ {O : Type 0} (word : O → Word) (named : Naming) (Holds : O → Type 0
   read_holds (Wait next) [] makes = tt
   read_holds (Wait next) (w ∷ ws) makes =
       taken_holds (wait_of w) ws (λ r. read named (next r.0) r.1) (λ ticks e. read_holds (next ticks) ws (makes ticks))
-  read_holds (Object sort next) [] makes = tt
-  read_holds (Object sort next) (w ∷ ws) makes =
+  read_holds (Choice first second next) [] makes = tt
+  read_holds (Choice first second next) (w ∷ ws) makes =
+      taken_holds (choice_of first second w) ws (λ r. read named (next r.0) r.1) (λ b e. read_holds (next b) ws (makes b))
+  read_holds (Name sort next) [] makes = tt
+  read_holds (Name sort next) (w ∷ ws) makes =
       taken_holds (named sort w) ws (λ r. read named (next r.0) r.1) (λ n e. read_holds (next n) ws (makes n (found sort w n e)))
 
   pub read_by_holds : (fs : List (Form O)) (w : Word) (ws : List Word) → AllByRecursion (Makes Holds At) fs

@@ -1,4 +1,4 @@
--- The objects and tasks of a document that is taken have names of their own.
+-- The objects, event groups, handlers and tasks of a document that is taken have names of their own.
 use Rattle.std.proofs.Common.{◌≡◌, ◌≢◌, ℕ, ◌<◌, ◌+◌, false, List, [], ◌∷◌, ◌++◌, length, map, get_or, Option, Some, None, refl, sym, ap, subst, ◌∙◌, append_assoc, append-nil, arith}
 use Rattle.std.specs.Prelude.{◌==◌, nat_lt, not, unwrap_or, codes}
 use Rattle.std.specs.List.{list_any}
@@ -10,7 +10,7 @@ use Rattle.std.proofs.lemmas.List.Folds.{list_any_at}
 use Rattle.std.proofs.lemmas.List.Quantifiers.{all_pairs_push}
 use Rattle.toml.specs.Data.{Data, Items, no_items, item, Members, as_str, as_table, as_array, get_member}
 use Rattle.model.specs.Application.{Handler, Definition}
-use Rattle.model.specs.Scripts.{most_tasks, most_objects, most_handlers}
+use Rattle.model.specs.Scripts.{most_tasks, most_objects, most_groups, most_handlers}
 use Rattle.script.specs.declared.fault.LoadFault.TheVariants.{Missing, OutOfRange, DoubleName, TooMany}
 use Rattle.script.specs.declared.place.Place.{Place}
 use Rattle.script.specs.declared.place.Section.TheVariants as section
@@ -20,11 +20,13 @@ use Rattle.script.specs.Values.{items_len, optional_fault, text_fault, name_faul
 use Rattle.script.specs.Names.{is_name, task_names, AreDistinct}
 use Rattle.script.specs.declared.object_section.ObjectSection.{ObjectSection}
 use Rattle.script.specs.Objects.{Named, names_of, section_of, section_data, object_table_fault, object_named, object_entry_fault, object_entries_fault, object_entries_named, object_array_fault, object_section_fault, object_section_named, object_sections, with_section, objects_fault, objects_named}
-use Rattle.script.specs.Tasks.{Raw, task_table_fault, task_fault, task_named, tasks_fault, tasks_named, entries_fault, section_array_fault, section_fault, section_named}
+use Rattle.script.specs.Groups.{group_table_fault, group_fault, group_named, groups_fault, groups_named, group_array_fault, group_section_fault, group_section_named}
+use Rattle.script.specs.Entries.{Entries}
+use Rattle.script.specs.Tasks.{Raw, raw_names, task_table_fault, task_fault, task_named, tasks_fault, tasks_named, entries_fault, section_array_fault, section_fault, section_named}
 use Rattle.script.specs.Handlers.{RawIsr, isr_names, handler_table_fault, handler_fault, handler_named, handlers_fault, handlers_named, handler_array_fault, handler_section_fault, handler_section_named}
 use Rattle.script.specs.Ops.{with_ops}
 use Rattle.script.specs.IsrOps.{with_isr_ops}
-use Rattle.script.specs.Load.{limits_fault, objects_of, handlers_of, tasks_of, load_fault, app_named, document_names}
+use Rattle.script.specs.Load.{limits_fault, objects_of, handlers_of, tasks_of, entries_of, names_before_handlers, names_before_tasks, load_fault, app_named, document_names}
 use Rattle.script.proofs.Checks.{none_fails, passes}
 
 -- ---- a name that is taken is none of those before it
@@ -103,6 +105,35 @@ sections_differ (s ∷ ss) objects document none distinct =
     let both = map-append (λ (o : Named). o.name) objects (object_section_named s value) in
     sections_differ ss (with_section objects s document) document (none_fails _ [] here.1).0 (subst AreDistinct (sym both) more)
 
+-- ---- the event groups, one after another
+
+group_is_new : (names : List (List ℕ)) (i : ℕ) (d : Data) (table : Option Members)
+    → as_table d ≡ table → group_table_fault names i table ≡ None → IsNew names (group_named d)
+group_is_new names i d None is none = cc
+group_is_new names i d (Some ms) is none = rw is (name_is_new (at_field section.Group i key.Name) names (get_member (codes "name") ms) none)
+
+groups_differ : (names : List (List ℕ)) (i : ℕ) (ds : Items)
+    → groups_fault names i ds ≡ None → AreDistinct names → AreDistinct (names ++ groups_named ds)
+groups_differ names i no_items none distinct = rw (append-nil names) distinct
+groups_differ names i (item d ds) none distinct =
+    let name = group_named d in
+    let here = none_fails (group_fault names i d) (groups_fault (names ++ name ∷ []) (i + 1) ds ∷ []) none in
+    let new = group_is_new names i d (as_table d) refl here.0 in
+    subst AreDistinct (append_assoc names (name ∷ []) (groups_named ds))
+    (groups_differ (names ++ name ∷ []) (i + 1) ds (none_fails _ [] here.1).0 (longer names name distinct new))
+
+group_array_differs : (names : List (List ℕ)) (array : Option Items) → group_array_fault names array ≡ None
+    → AreDistinct names → AreDistinct (names ++ groups_named (unwrap_or array no_items))
+group_array_differs names None none distinct = cc
+group_array_differs names (Some ds) none distinct =
+    let few = (none_fails (fails_if (nat_lt most_groups (items_len ds)) (TooMany (at_section section.Group))) _ none).1 in
+    groups_differ names 0 ds (none_fails _ [] few).0 distinct
+
+group_section_differs : (names : List (List ℕ)) (value : Option Data) → group_section_fault names value ≡ None
+    → AreDistinct names → AreDistinct (names ++ group_section_named value)
+group_section_differs names None none distinct = rw (append-nil names) distinct
+group_section_differs names (Some d) none distinct = group_array_differs names (as_array d) none distinct
+
 -- ---- the handlers, one after another
 
 handler_is_new : (names : List (List ℕ)) (i : ℕ) (d : Data) (table : Option Members)
@@ -145,9 +176,6 @@ task_is_new names i d (Some ms) is none =
     let name = get_member (codes "name") ms in
     rw is (name_is_new p names name (none_fails (name_fault p names name) _ none).0)
 
-abbrev raw_names : List Raw → List (List ℕ)
-raw_names tasks = map (λ (t : Raw). t.name) tasks
-
 tasks_differ : (names : List (List ℕ)) (i : ℕ) (ds : Items)
     → tasks_fault names i ds ≡ None → AreDistinct names → AreDistinct (names ++ raw_names (tasks_named ds))
 tasks_differ names i no_items none distinct = rw (append-nil names) distinct
@@ -177,30 +205,34 @@ section_differs names (Some d) none distinct = array_differs names (as_array d) 
 
 -- ---- the document
 
-with_ops_names : (objects : List Named) (tasks : List Raw)
-    → map (λ (d : Definition). d.name) (map (with_ops objects) tasks) ≡ raw_names tasks
-with_ops_names objects [] = refl
-with_ops_names objects (t ∷ ts) = ap (λ names. t.name ∷ names) (with_ops_names objects ts)
+with_ops_names : (entries : Entries) (tasks : List Raw)
+    → map (λ (d : Definition). d.name) (map (with_ops entries) tasks) ≡ raw_names tasks
+with_ops_names entries [] = refl
+with_ops_names entries (t ∷ ts) = ap (λ names. t.name ∷ names) (with_ops_names entries ts)
 
-with_isr_ops_names : (objects : List Named) (handlers : List RawIsr)
-    → map (λ (h : Handler). h.name) (map (with_isr_ops objects) handlers) ≡ isr_names handlers
-with_isr_ops_names objects [] = refl
-with_isr_ops_names objects (h ∷ hs) = ap (λ names. h.name ∷ names) (with_isr_ops_names objects hs)
+with_isr_ops_names : (entries : Entries) (handlers : List RawIsr)
+    → map (λ (h : Handler). h.name) (map (with_isr_ops entries) handlers) ≡ isr_names handlers
+with_isr_ops_names entries [] = refl
+with_isr_ops_names entries (h ∷ hs) = ap (λ names. h.name ∷ names) (with_isr_ops_names entries hs)
 
 pub names_differ : (document : Members) → load_fault document ≡ None → AreDistinct (document_names document)
 names_differ document none =
     let start = optional_fault (at_section section.Start) 0 4294967295 (get_member (codes "start") document) in
     let limits = limits_fault (get_member (codes "limits") document) in
+    let groups = get_member (codes "group") document in
     let isrs = get_member (codes "handler") document in
     let tasks = get_member (codes "task") document in
-    let objects = objects_of document in
-    let raws = handlers_of document in
-    let names = names_of objects in
+    let names = names_of (objects_of document) in
+    let grouped_names = names_before_handlers document in
     let limited = (none_fails limits _ (none_fails start _ none).1).1 in
     let named = none_fails (objects_fault object_sections [] document) _ limited in
-    let handled = none_fails (handler_section_fault names isrs) _ named.1 in
-    let tasked = none_fails (section_fault (names ++ isr_names raws) tasks) _ handled.1 in
-    let before = handler_section_differs names isrs handled.0 (sections_differ object_sections [] document named.0 none_distinct) in
-    let distinct = section_differs (names ++ isr_names raws) tasks tasked.0 before in
-    subst (λ isr_names. AreDistinct ((names ++ isr_names) ++ task_names (app_named document))) (sym (with_isr_ops_names objects raws))
-    (subst (λ others. AreDistinct ((names ++ isr_names raws) ++ others)) (sym (with_ops_names objects (tasks_of document))) distinct)
+    let grouped = none_fails (group_section_fault names groups) _ named.1 in
+    let handled = none_fails (handler_section_fault grouped_names isrs) _ grouped.1 in
+    let tasked = none_fails (section_fault (names_before_tasks document) tasks) _ handled.1 in
+    let objects_distinct = sections_differ object_sections [] document named.0 none_distinct in
+    let groups_distinct = group_section_differs names groups grouped.0 objects_distinct in
+    let handlers_distinct = handler_section_differs grouped_names isrs handled.0 groups_distinct in
+    let distinct = section_differs (names_before_tasks document) tasks tasked.0 handlers_distinct in
+    subst (λ isr_names. AreDistinct ((grouped_names ++ isr_names) ++ task_names (app_named document)))
+    (sym (with_isr_ops_names (entries_of document) (handlers_of document)))
+    (subst (λ others. AreDistinct (names_before_tasks document ++ others)) (sym (with_ops_names (entries_of document) (tasks_of document))) distinct)

@@ -9,7 +9,7 @@ use Rattle.model.specs.declared.op.Op.{Op}
 use Rattle.model.specs.declared.op.IsrOp.{IsrOp}
 use Rattle.model.specs.Application.{word_of, word_of_isr}
 use Rattle.model.specs.Scripts.{is_in_range, InRange}
-use Rattle.script.specs.Grammar.{Word, Naming, Form, Done, Number, Answer, Wait, Object, forms, isr_forms, number_of, answer_of, wait_of, Writes, WritesBy, Spells, SpellsIsr, read, form_word, read_by, if_in_range, op_of, isr_op_of}
+use Rattle.script.specs.Grammar.{Word, Naming, Form, Done, Number, Answer, Wait, Choice, Name, forms, isr_forms, number_of, answer_of, wait_of, choice_of, Writes, WritesBy, Spells, SpellsIsr, read, form_word, read_by, if_in_range, op_of, isr_op_of}
 
 -- which branch of a test it was
 pub chosen : {X : Type 0} (b : Bool) (x y z : X) → cond b x y ≡ z
@@ -43,8 +43,12 @@ module _ {O : Type 0} (word : O → Word) where
   read_sound named (Wait next) (w ∷ ws) op e =
       let t = taken (wait_of w) ws (λ r. read named (next r.0) r.1) op e in
       (t.0, t.1, read_sound named (next t.0) ws op t.2)
-  read_sound named (Object sort next) [] op e = cc
-  read_sound named (Object sort next) (w ∷ ws) op e =
+  read_sound named (Choice first second next) [] op e = cc
+  read_sound named (Choice first second next) (w ∷ ws) op e =
+      let t = taken (choice_of first second w) ws (λ r. read named (next r.0) r.1) op e in
+      (t.0, t.1, read_sound named (next t.0) ws op t.2)
+  read_sound named (Name sort next) [] op e = cc
+  read_sound named (Name sort next) (w ∷ ws) op e =
       let t = taken (named sort w) ws (λ r. read named (next r.0) r.1) op e in
       (t.0, t.1, read_sound named (next t.0) ws op t.2)
 
@@ -57,8 +61,10 @@ module _ {O : Type 0} (word : O → Word) where
   read_complete named (Answer next) (w ∷ ws) op h = rw h.1 (read_complete named (next h.0) ws op h.2)
   read_complete named (Wait next) [] op h = absurd h
   read_complete named (Wait next) (w ∷ ws) op h = rw h.1 (read_complete named (next h.0) ws op h.2)
-  read_complete named (Object sort next) [] op h = absurd h
-  read_complete named (Object sort next) (w ∷ ws) op h = rw h.1 (read_complete named (next h.0) ws op h.2)
+  read_complete named (Choice first second next) [] op h = absurd h
+  read_complete named (Choice first second next) (w ∷ ws) op h = rw h.1 (read_complete named (next h.0) ws op h.2)
+  read_complete named (Name sort next) [] op h = absurd h
+  read_complete named (Name sort next) (w ∷ ws) op h = rw h.1 (read_complete named (next h.0) ws op h.2)
 
   -- ---- each form comes to ops of its own word alone
 
@@ -67,7 +73,8 @@ module _ {O : Type 0} (word : O → Word) where
   HasWord w (Number next) = (n : ℕ) → HasWord w (next n)
   HasWord w (Answer next) = (a : Option ℕ) → HasWord w (next a)
   HasWord w (Wait next) = (ticks : Option ℕ) → HasWord w (next ticks)
-  HasWord w (Object sort next) = (object : ℕ) → HasWord w (next object)
+  HasWord w (Choice first second next) = (b : Bool) → HasWord w (next b)
+  HasWord w (Name sort next) = (entry : ℕ) → HasWord w (next entry)
 
   -- where it makes an op, this is of its word
   word_written : (named : Naming) (w : Word) (form : Form O) (ws : List Word) (op : O)
@@ -80,8 +87,10 @@ module _ {O : Type 0} (word : O → Word) where
   word_written named w (Answer next) (v ∷ ws) op has h = word_written named w (next h.0) ws op (has h.0) h.2
   word_written named w (Wait next) [] op has h = absurd h
   word_written named w (Wait next) (v ∷ ws) op has h = word_written named w (next h.0) ws op (has h.0) h.2
-  word_written named w (Object sort next) [] op has h = absurd h
-  word_written named w (Object sort next) (v ∷ ws) op has h = word_written named w (next h.0) ws op (has h.0) h.2
+  word_written named w (Choice first second next) [] op has h = absurd h
+  word_written named w (Choice first second next) (v ∷ ws) op has h = word_written named w (next h.0) ws op (has h.0) h.2
+  word_written named w (Name sort next) [] op has h = absurd h
+  word_written named w (Name sort next) (v ∷ ws) op has h = word_written named w (next h.0) ws op (has h.0) h.2
 
   abbrev HasOwnWord : Form O → Type 0
   HasOwnWord form = HasWord (form_word word form) form

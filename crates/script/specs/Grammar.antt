@@ -5,8 +5,9 @@ use Rattle.std.specs.List.{list_all, slice_split}
 use Rattle.std.specs.Str.{bytes_eq}
 use Rattle.std.specs.Str.Parse.{digits_value}
 use Rattle.model.specs.declared.op.Access.TheVariants.{Send, SendFront, Overwrite, Receive, Peek, Take, Give, Lock}
+use Rattle.model.specs.declared.call.Condition.{Condition}
 use Rattle.model.specs.declared.op.Op.{Op}
-use Rattle.model.specs.declared.op.Op.TheVariants.{Work, Delay, DelayUntil, Yield, Time, Mark, Expect, Repeat, End, Await, Do, GiveMutex, MessagesWaiting, SpacesAvailable}
+use Rattle.model.specs.declared.op.Op.TheVariants.{Work, Delay, DelayUntil, Yield, Time, Mark, Expect, Repeat, End, Await, Do, GiveMutex, MessagesWaiting, SpacesAvailable, SetBits, ClearBits, GetBits, WaitBits, Suspend, Resume, SuspendAll, ResumeAll}
 use Rattle.model.specs.declared.op.IsrOp.{IsrOp}
 use Rattle.model.specs.declared.op.IsrOp.TheVariants as isr
 use Rattle.model.specs.Application.{word_of, word_of_isr}
@@ -48,20 +49,68 @@ answer_of w = if bytes_eq w (codes "none") then Some None else option_map Some (
 abbrev pub wait_of : Word → Option (Option ℕ)
 wait_of w = if bytes_eq w (codes "forever") then Some None else option_map Some (number_of w)
 
--- which object of a sort a word names, where it names one
+-- which of two words it is: whether it is the second
+abbrev pub choice_of : (first second : Word) → Word → Option Bool
+choice_of first second w = if bytes_eq w first then Some false else if bytes_eq w second then Some true else None
+
+-- What a name in an op's text has to be that of: an object of a sort, an event group, or a task.
+pub data NameSort : Type 0 where
+  OfObject : (sort : ObjectSort) → NameSort
+  OfGroup : NameSort
+  OfTask : NameSort
+
+-- which entry of a sort a word names, where it names one
 abbrev pub Naming : Type 0
-Naming = ObjectSort → Word → Option ℕ
+Naming = NameSort → Word → Option ℕ
 
 -- ---- the grammar
 
--- How an op's text goes on after its own word (profile): it is over, or a word writes a number, an answer or a wait, or
--- names an object of a sort, and with this it goes on. The op is a task's, or a handler's.
+-- How an op's text goes on after its own word (profile): it is over, or a word writes a number, an answer or a wait, is one
+-- of two, or names an entry of a sort, and with this it goes on. The op is a task's, or a handler's.
 pub data Form (O : Type 0) : Type 0 where
   Done : (op : O) → Form O
   Number : (next : ℕ → Form O) → Form O
   Answer : (next : Option ℕ → Form O) → Form O
   Wait : (next : Option ℕ → Form O) → Form O
-  Object : (sort : ObjectSort) → (next : ℕ → Form O) → Form O
+  Choice : (first second : Word) → (next : Bool → Form O) → Form O
+  Name : (sort : NameSort) → (next : ℕ → Form O) → Form O
+
+-- the name of an object of a sort
+abbrev pub Object : {O : Type 0} → ObjectSort → (ℕ → Form O) → Form O
+Object sort next = Name (OfObject sort) next
+
+-- the name of an event group
+abbrev pub Group : {O : Type 0} → (ℕ → Form O) → Form O
+Group next = Name OfGroup next
+
+-- the name of a task
+abbrev pub Task : {O : Type 0} → (ℕ → Form O) → Form O
+Task next = Name OfTask next
+
+-- the arguments of each op that suspends or resumes
+abbrev pub suspension_forms : List (Form Op)
+suspension_forms =
+    Task (λ task. Done (Suspend task))
+    ∷ Task (λ task. Done (Resume task))
+    ∷ Done SuspendAll
+    ∷ Done ResumeAll
+    ∷ []
+
+-- the arguments of a condition: its bits, whether any of them or all, and whether they are kept or cleared
+abbrev pub Bits : {O : Type 0} → (Condition → Form O) → Form O
+Bits next =
+    Number (λ mask.
+    Choice (codes "any") (codes "all") (λ all.
+    Choice (codes "keep") (codes "clear") (λ clear. next (record { mask = mask; all = all; clear = clear }))))
+
+-- the arguments of each op on an event group
+abbrev pub group_forms : List (Form Op)
+group_forms =
+    Group (λ group. Number (λ mask. Done (SetBits group mask)))
+    ∷ Group (λ group. Number (λ mask. Done (ClearBits group mask)))
+    ∷ Group (λ group. Done (GetBits group))
+    ∷ Group (λ group. Bits (λ condition. Wait (λ ticks. Done (WaitBits group condition ticks))))
+    ∷ suspension_forms
 
 -- the arguments of each op on a semaphore or a mutex
 abbrev pub semaphore_forms : List (Form Op)
@@ -70,7 +119,7 @@ semaphore_forms =
     ∷ Object Semaphore (λ semaphore. Done (Do semaphore Give))
     ∷ Object Mutex (λ mutex. Wait (λ ticks. Done (Await mutex Lock ticks)))
     ∷ Object Mutex (λ mutex. Done (GiveMutex mutex))
-    ∷ []
+    ∷ group_forms
 
 -- the arguments of each op on an object
 abbrev pub object_forms : List (Form Op)
@@ -107,6 +156,8 @@ isr_forms =
     ∷ Object Queue (λ queue. Done (isr.Do queue Receive))
     ∷ Object Queue (λ queue. Done (isr.Do queue Peek))
     ∷ Object Semaphore (λ semaphore. Done (isr.Do semaphore Give))
+    ∷ Task (λ task. Done (isr.Resume task))
+    ∷ Group (λ group. Done (isr.GetBits group))
     ∷ Number (λ n. Done (isr.Mark n))
     ∷ []
 
@@ -116,7 +167,8 @@ Writes named (Done made) [] op = made ≡ op
 Writes named (Number next) (w ∷ ws) op = (n : ℕ) × (number_of w ≡ Some n) × Writes named (next n) ws op
 Writes named (Answer next) (w ∷ ws) op = (a : Option ℕ) × (answer_of w ≡ Some a) × Writes named (next a) ws op
 Writes named (Wait next) (w ∷ ws) op = (ticks : Option ℕ) × (wait_of w ≡ Some ticks) × Writes named (next ticks) ws op
-Writes named (Object sort next) (w ∷ ws) op = (object : ℕ) × (named sort w ≡ Some object) × Writes named (next object) ws op
+Writes named (Choice first second next) (w ∷ ws) op = (b : Bool) × (choice_of first second w ≡ Some b) × Writes named (next b) ws op
+Writes named (Name sort next) (w ∷ ws) op = (entry : ℕ) × (named sort w ≡ Some entry) × Writes named (next entry) ws op
 Writes named _ _ op = ⊥
 
 -- the same, by one of these forms
@@ -148,7 +200,8 @@ read named (Done op) (w ∷ ws) = None
 read named (Number next) ws = option_and_then (λ r. read named (next r.0) r.1) (take_by number_of ws)
 read named (Answer next) ws = option_and_then (λ r. read named (next r.0) r.1) (take_by answer_of ws)
 read named (Wait next) ws = option_and_then (λ r. read named (next r.0) r.1) (take_by wait_of ws)
-read named (Object sort next) ws = option_and_then (λ r. read named (next r.0) r.1) (take_by (named sort) ws)
+read named (Choice first second next) ws = option_and_then (λ r. read named (next r.0) r.1) (take_by (choice_of first second) ws)
+read named (Name sort next) ws = option_and_then (λ r. read named (next r.0) r.1) (take_by (named sort) ws)
 
 -- the word of the op, whatever its arguments, where ops have these words
 abbrev pub form_word : {O : Type 0} → (O → Word) → Form O → Word
@@ -156,7 +209,8 @@ form_word word (Done op) = word op
 form_word word (Number next) = form_word word (next 0)
 form_word word (Answer next) = form_word word (next None)
 form_word word (Wait next) = form_word word (next None)
-form_word word (Object sort next) = form_word word (next 0)
+form_word word (Choice first second next) = form_word word (next false)
+form_word word (Name sort next) = form_word word (next 0)
 
 -- the same by the first of these forms whose word it is
 abbrev pub read_by : {O : Type 0} → (O → Word) → Naming → List (Form O) → Word → List Word → Option O

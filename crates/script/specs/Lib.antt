@@ -4,6 +4,8 @@ pub mod Names
 pub mod Values
 pub mod Kinds
 pub mod Objects
+pub mod Groups
+pub mod Entries
 pub mod Finding
 pub mod Tasks
 pub mod Handlers

@@ -1,5 +1,5 @@
 -- All checks of a document in their order, and the application that it names.
-use Rattle.std.specs.Prelude.{ℕ, List, [], ◌∷◌, ◌++◌, codes, map, Option, Some, None, option_and_then}
+use Rattle.std.specs.Prelude.{ℕ, List, [], ◌∷◌, ◌++◌, length, codes, map, Option, Some, None, option_and_then}
 use Rattle.toml.specs.Data.{Data, Members, as_table, get_member}
 use Rattle.model.specs.Application.{Application, Limits}
 use Rattle.script.specs.declared.fault.LoadFault.{LoadFault}
@@ -10,7 +10,9 @@ use Rattle.script.specs.Faults.{first_fault, at_section, at_key}
 use Rattle.script.specs.Values.{member_of, optional_fault, optional_named}
 use Rattle.script.specs.Names.{handler_names, task_names}
 use Rattle.script.specs.Objects.{Named, names_of, kinds_of, object_sections, objects_fault, objects_named}
-use Rattle.script.specs.Tasks.{Raw, section_fault, section_named}
+use Rattle.script.specs.Groups.{group_section_fault, group_section_named}
+use Rattle.script.specs.Entries.{Entries}
+use Rattle.script.specs.Tasks.{Raw, raw_names, section_fault, section_named}
 use Rattle.script.specs.Handlers.{RawIsr, isr_names, handler_section_fault, handler_section_named}
 use Rattle.script.specs.Ops.{scripts_fault, with_ops}
 use Rattle.script.specs.IsrOps.{handler_ops_fault, with_isr_ops}
@@ -44,6 +46,10 @@ limits_named d = record {
 abbrev pub objects_of : Members → List Named
 objects_of document = objects_named object_sections [] document
 
+-- the names of its event groups
+abbrev pub groups_of : Members → List (List ℕ)
+groups_of document = group_section_named (get_member (codes "group") document)
+
 -- its handlers
 abbrev pub handlers_of : Members → List RawIsr
 handlers_of document = handler_section_named (get_member (codes "handler") document)
@@ -52,6 +58,22 @@ handlers_of document = handler_section_named (get_member (codes "handler") docum
 abbrev pub tasks_of : Members → List Raw
 tasks_of document = section_named (get_member (codes "task") document)
 
+-- what its ops may name
+abbrev pub entries_of : Members → Entries
+entries_of document = record {
+  objects = objects_of document;
+  groups = groups_of document;
+  tasks = raw_names (tasks_of document);
+}
+
+-- the names of the entries before its handlers
+abbrev pub names_before_handlers : Members → List (List ℕ)
+names_before_handlers document = names_of (objects_of document) ++ groups_of document
+
+-- the names of the entries before its tasks
+abbrev pub names_before_tasks : Members → List (List ℕ)
+names_before_tasks document = names_before_handlers document ++ isr_names (handlers_of document)
+
 -- the fault of the first check that fails: pass one, then the ops of the handlers and the scripts of the tasks that it
 -- names, and the base interrupts (profile)
 abbrev pub load_fault : Members → Option LoadFault
@@ -59,10 +81,11 @@ load_fault document = first_fault (
     optional_fault (at_section section.Start) 0 4294967295 (get_member (codes "start") document)
     ∷ limits_fault (get_member (codes "limits") document)
     ∷ objects_fault object_sections [] document
-    ∷ handler_section_fault (names_of (objects_of document)) (get_member (codes "handler") document)
-    ∷ section_fault (names_of (objects_of document) ++ isr_names (handlers_of document)) (get_member (codes "task") document)
-    ∷ handler_ops_fault (objects_of document) 0 (handlers_of document)
-    ∷ scripts_fault (objects_of document) 0 (tasks_of document)
+    ∷ group_section_fault (names_of (objects_of document)) (get_member (codes "group") document)
+    ∷ handler_section_fault (names_before_handlers document) (get_member (codes "handler") document)
+    ∷ section_fault (names_before_tasks document) (get_member (codes "task") document)
+    ∷ handler_ops_fault (entries_of document) 0 (handlers_of document)
+    ∷ scripts_fault (entries_of document) 0 (tasks_of document)
     ∷ interrupt_section_fault (isr_names (handlers_of document)) (get_member (codes "interrupt") document)
     ∷ [])
 
@@ -72,12 +95,13 @@ app_named document = record {
   start = optional_named 0 (get_member (codes "start") document);
   limits = limits_named (get_member (codes "limits") document);
   objects = kinds_of (objects_of document);
-  handlers = map (with_isr_ops (objects_of document)) (handlers_of document);
+  group_count = length (groups_of document);
+  handlers = map (with_isr_ops (entries_of document)) (handlers_of document);
   interrupts = interrupt_section_named (isr_names (handlers_of document)) (get_member (codes "interrupt") document);
-  tasks = map (with_ops (objects_of document)) (tasks_of document);
+  tasks = map (with_ops (entries_of document)) (tasks_of document);
 }
 
--- the names of a document: those of its objects, and of the handlers and tasks of its application
+-- the names of a document: those of its objects and event groups, and of the handlers and tasks of its application
 abbrev pub document_names : Members → List (List ℕ)
 document_names document =
-    (names_of (objects_of document) ++ handler_names (app_named document)) ++ task_names (app_named document)
+    (names_before_handlers document ++ handler_names (app_named document)) ++ task_names (app_named document)

@@ -13,7 +13,8 @@ use Rattle.script.specs.declared.place.Key.TheVariants as key
 use Rattle.script.specs.Faults.{first_fault, fails_if, at_field, at_element}
 use Rattle.script.specs.Grammar.{Naming, words_of, op_of}
 use Rattle.script.specs.Objects.{Named}
-use Rattle.script.specs.Finding.{any_object, object_among}
+use Rattle.script.specs.Entries.{Entries}
+use Rattle.script.specs.Finding.{any_name, among}
 use Rattle.script.specs.Tasks.{Raw}
 
 -- the op of a text, where names are read so
@@ -32,16 +33,16 @@ is_allowed objects (Do object access) =
     unwrap_or (option_map (λ (o : Named). fits o.kind access) (slice_get objects object)) false
 is_allowed objects _ = true
 
--- The names of an op are those of objects, and allow it.
-abbrev pub object_fault : List Named → Place → Option Op → Option LoadFault
-object_fault objects p None = Some (UnknownName p)
-object_fault objects p (Some op) = fails_if (not (is_allowed objects op)) (OverwriteLength p)
+-- The names of an op are those of entries, and its object allows it.
+abbrev pub entry_fault : List Named → Place → Option Op → Option LoadFault
+entry_fault objects p None = Some (UnknownName p)
+entry_fault objects p (Some op) = fails_if (not (is_allowed objects op)) (OverwriteLength p)
 
--- It is an op, whatever its names are, and they are those of objects that allow it.
-abbrev pub spelling_fault : List Named → Place → Data → Option LoadFault
-spelling_fault objects p d = first_fault (
-    fails_if (is_none (op_named any_object d)) (BadOp p)
-    ∷ object_fault objects p (op_named (object_among objects) d)
+-- It is an op, whatever its names are, and they are those of entries, which allow it.
+abbrev pub spelling_fault : Entries → Place → Data → Option LoadFault
+spelling_fault entries p d = first_fault (
+    fails_if (is_none (op_named any_name d)) (BadOp p)
+    ∷ entry_fault entries.objects p (op_named (among entries) d)
     ∷ [])
 
 -- It may stand where so many loops are open.
@@ -50,10 +51,10 @@ nesting_fault p nesting None = None
 nesting_fault p nesting (Some op) = fails_if (not (may_stand nesting op)) (BadNesting p)
 
 -- all checks of an op
-abbrev pub op_fault : List Named → Place → ℕ → Data → Option LoadFault
-op_fault objects p nesting d = first_fault (
-    spelling_fault objects p d
-    ∷ nesting_fault p nesting (op_named (object_among objects) d)
+abbrev pub op_fault : Entries → Place → ℕ → Data → Option LoadFault
+op_fault entries p nesting d = first_fault (
+    spelling_fault entries p d
+    ∷ nesting_fault p nesting (op_named (among entries) d)
     ∷ [])
 
 -- how many loops are open after it
@@ -64,26 +65,26 @@ nesting_with nesting (Some op) = nesting_past nesting op
 -- ---- scripts
 
 -- Each op from this index on, where so many loops are open; at the end none is.
-abbrev pub ops_fault : List Named → Place → ℕ → ℕ → Items → Option LoadFault
-ops_fault objects p n nesting no_items = fails_if (nat_lt 0 nesting) (BadNesting (at_element p n))
-ops_fault objects p n nesting (item d ds) = first_fault (
-    op_fault objects (at_element p n) nesting d
-    ∷ ops_fault objects p (n + 1) (nesting_with nesting (op_named (object_among objects) d)) ds
+abbrev pub ops_fault : Entries → Place → ℕ → ℕ → Items → Option LoadFault
+ops_fault entries p n nesting no_items = fails_if (nat_lt 0 nesting) (BadNesting (at_element p n))
+ops_fault entries p n nesting (item d ds) = first_fault (
+    op_fault entries (at_element p n) nesting d
+    ∷ ops_fault entries p (n + 1) (nesting_with nesting (op_named (among entries) d)) ds
     ∷ [])
 
 -- the ops that they name
-abbrev pub ops_named : List Named → Items → List Op
-ops_named objects no_items = []
-ops_named objects (item d ds) = option_to_list (op_named (object_among objects) d) ++ ops_named objects ds
+abbrev pub ops_named : Entries → Items → List Op
+ops_named entries no_items = []
+ops_named entries (item d ds) = option_to_list (op_named (among entries) d) ++ ops_named entries ds
 
 -- the scripts of the tasks from this index on
-abbrev pub scripts_fault : List Named → ℕ → List Raw → Option LoadFault
-scripts_fault objects i [] = None
-scripts_fault objects i (t ∷ ts) = first_fault (
-    ops_fault objects (at_field section.Task i key.Script) 0 0 t.script
-    ∷ scripts_fault objects (i + 1) ts
+abbrev pub scripts_fault : Entries → ℕ → List Raw → Option LoadFault
+scripts_fault entries i [] = None
+scripts_fault entries i (t ∷ ts) = first_fault (
+    ops_fault entries (at_field section.Task i key.Script) 0 0 t.script
+    ∷ scripts_fault entries (i + 1) ts
     ∷ [])
 
 -- a task with its ops
-abbrev pub with_ops : List Named → Raw → Definition
-with_ops objects t = record { name = t.name; priority = t.priority; script = ops_named objects t.script }
+abbrev pub with_ops : Entries → Raw → Definition
+with_ops entries t = record { name = t.name; priority = t.priority; script = ops_named entries t.script }

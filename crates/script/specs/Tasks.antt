@@ -1,5 +1,5 @@
 -- The tasks of a document in pass one, which leaves the ops of their scripts as they stand.
-use Rattle.std.specs.Prelude.{ℕ, not, ◌==◌, nat_lt, ◌+◌, ◌-◌, List, [], ◌∷◌, ◌++◌, codes, Option, Some, None, is_some}
+use Rattle.std.specs.Prelude.{ℕ, not, ◌==◌, nat_lt, ◌+◌, ◌-◌, List, [], ◌∷◌, ◌++◌, codes, map, Option, Some, None, is_some}
 use Rattle.toml.specs.Data.{Data, Items, no_items, item, Members, as_str, as_table, as_array, get_member}
 use Rattle.toml.specs.View.{items_view}
 use Rattle.model.specs.Scripts.{most_tasks, priorities, most_ops}
@@ -50,6 +50,10 @@ pub record Raw : Type 0 where
 -- what the code keeps of it
 abbrev pub raw_view : RawTask → Raw
 raw_view t = record { name = t.name.now; priority = t.priority; script = items_view t.script.now }
+
+-- the names of tasks, in their order
+abbrev pub raw_names : List Raw → List (List ℕ)
+raw_names tasks = map (λ (t : Raw). t.name) tasks
 
 -- It is a table, the task of this index, after these names: its keys in their order.
 abbrev pub task_table_fault : List (List ℕ) → ℕ → Option Members → Option LoadFault

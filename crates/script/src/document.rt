@@ -1,5 +1,5 @@
 //! An application from a document.
-ghost use Rattle.std.specs.Prelude.{◌≡◌, ◌≤◌, map, length, None, Option};
+ghost use Rattle.std.specs.Prelude.{◌≡◌, ◌≤◌, length, None, Option};
 ghost use Rattle.std.specs.List.{AllByRecursion};
 ghost use Rattle.toml.specs.Data.{Members};
 ghost use Rattle.toml.specs.View.{table_view};
@@ -8,16 +8,18 @@ ghost use Rattle.model.specs.Scripts.{IsDefinition, IsHandler, KnowsAll, most_ha
 ghost use Rattle.script.specs.declared.fault.LoadFault.{LoadFault};
 ghost use Rattle.script.specs.Faults.{Judges, Loads};
 ghost use Rattle.script.specs.Values.{data_of};
-ghost use Rattle.script.specs.Objects.{named_view, kinds_of};
+ghost use Rattle.script.specs.Objects.{kinds_of};
+ghost use Rattle.script.specs.Entries.{HasEntries};
 ghost use Rattle.script.specs.Interrupts.{AreInterrupts};
 ghost use Rattle.script.specs.Load.{limits_fault, limits_named, load_fault, app_named};
 
+use crate::entries::NamedEntries;
 use crate::fault::LoadFault;
+use crate::groups::groups;
 use crate::handlers::raw_handlers;
 use crate::interrupts::{Interrupts, all_of, interrupts};
 use crate::isr_ops::{check_handlers, with_isr_ops};
-use crate::named_object::Objects;
-use crate::names_so_far::names_with;
+use crate::names_so_far::{names_of, names_with_groups, names_with_handlers};
 use crate::objects::{kinds_of, objects};
 use crate::ops::{check_scripts, with_scripts};
 use crate::place::{Key, Place, Section};
@@ -47,12 +49,12 @@ fn limits(value: Option<&Value>) -> Result<Limits, LoadFault>
     Ok(Limits { ticks, steps })
 }
 
-// The application of these parts.
+// The application of these parts, whose ops name these entries.
 fn app_of(
     alloc: Global,
     start: u32,
     limits: Limits,
-    objects: &Objects<'_>,
+    entries: &NamedEntries<'_>,
     handlers: Vec<HandlerDefinition>,
     interrupts: &Interrupts,
     tasks: Vec<TaskDefinition>,
@@ -60,24 +62,32 @@ fn app_of(
     requires some { 1 ≤ length tasks.items }
     requires few { length tasks.items ≤ 32 }
     requires formed { AllByRecursion IsDefinition tasks.items }
-    requires known { (app : Application)
-        → app.objects ≡ kinds_of (map named_view objects.now.items) → AllByRecursion (KnowsAll app) tasks.items }
+    requires named { length tasks.items ≡ length entries.now.tasks }
+    requires known { (app : Application) → HasEntries app entries.now → AllByRecursion (KnowsAll app) tasks.items }
     requires few_handlers { length handlers.items ≤ most_handlers }
-    requires handlers { (app : Application)
-        → app.objects ≡ kinds_of (map named_view objects.now.items) → AllByRecursion (IsHandler app) handlers.items }
+    requires handlers { (app : Application) → HasEntries app entries.now → AllByRecursion (IsHandler app) handlers.items }
     requires interrupts { AreInterrupts (length handlers.items) interrupts.now.items }
     ensures { Loads result None (record {
       start = start;
       limits = limits;
-      objects = kinds_of (map named_view objects.now.items);
+      objects = kinds_of entries.now.objects;
+      group_count = length entries.now.groups;
       handlers = handlers.items;
       interrupts = interrupts.now.items;
       tasks = tasks.items;
     }) }
 {
-    let kinds = kinds_of(alloc, objects.as_slice())?;
+    let kinds = kinds_of(alloc, entries.objects.as_slice())?;
     let interrupts = all_of(alloc, interrupts)?;
-    Ok(App::new(start, limits, kinds, handlers, interrupts, tasks))
+    Ok(App::new(
+        start,
+        limits,
+        kinds,
+        entries.group_count(),
+        handlers,
+        interrupts,
+        tasks,
+    ))
 }
 
 /// What a document describes.
@@ -105,14 +115,22 @@ impl FromDocument for App {
         let start = optional_number(member(document, "start"), place, 0, u32::MAX, 0)?;
         let limits = limits(member(document, "limits"))?;
         let objects = objects(document)?;
-        let handlers = raw_handlers(member(document, "handler"), objects.as_slice())?;
-        let names = names_with(objects.as_slice(), handlers.as_slice());
+        let names = names_of(objects.as_slice());
+        let groups = groups(member(document, "group"), names)?;
+        let names = names_with_groups(objects.as_slice(), groups.as_slice());
+        let handlers = raw_handlers(member(document, "handler"), names)?;
+        let names = names_with_handlers(objects.as_slice(), groups.as_slice(), handlers.as_slice());
         let tasks = raw_tasks(member(document, "task"), names)?;
-        check_handlers(&objects, handlers.as_slice())?;
-        check_scripts(&objects, tasks.as_slice())?;
+        let entries = NamedEntries {
+            objects: &objects,
+            groups: &groups,
+            tasks: &tasks,
+        };
+        check_handlers(&entries, handlers.as_slice())?;
+        check_scripts(&entries, tasks.as_slice())?;
         let interrupts = interrupts(member(document, "interrupt"), handlers.as_slice())?;
-        let handlers = with_isr_ops(alloc, &objects, handlers.as_slice())?;
-        let tasks = with_scripts(alloc, &objects, tasks.as_slice())?;
-        app_of(alloc, start, limits, &objects, handlers, &interrupts, tasks)
+        let handlers = with_isr_ops(alloc, &entries, handlers.as_slice())?;
+        let tasks = with_scripts(alloc, &entries, tasks.as_slice())?;
+        app_of(alloc, start, limits, &entries, handlers, &interrupts, tasks)
     }
 }

@@ -1,15 +1,13 @@
 //! The handlers of a document in pass one, which leaves their ops as they stand.
-ghost use Rattle.std.specs.Prelude.{◌≤◌, map, length};
+ghost use Rattle.std.specs.Prelude.{◌≤◌, ◌+◌, map, length};
 ghost use Rattle.toml.specs.View.{view, items_view};
-ghost use Rattle.model.specs.Scripts.{most_objects, most_handlers};
+ghost use Rattle.model.specs.Scripts.{most_objects, most_groups, most_handlers};
 ghost use Rattle.script.specs.Faults.{JudgesBy};
 ghost use Rattle.script.specs.Values.{data_of};
-ghost use Rattle.script.specs.Objects.{named_view, names_of};
 ghost use Rattle.script.specs.Handlers.{isr_view, handler_fault, handler_named, handlers_fault, handlers_named, few_handlers_fault, handler_section_fault, handler_section_named};
 
 use crate::fault::LoadFault;
-use crate::named_object::NamedObject;
-use crate::names_so_far::names_of;
+use crate::names_so_far::Names;
 use crate::place::{Key, Place, Section};
 use crate::raw_handler::{RawHandler, RawHandlers};
 use crate::texts::texts;
@@ -34,18 +32,14 @@ fn handler<'a>(value: &'a Value, entry: usize, names: &[&str]) -> Result<RawHand
     Ok(RawHandler { name, ops })
 }
 
-// Each of these handlers in order, after these objects.
-fn handlers_of<'a>(
-    values: &'a [Value],
-    objects: &[NamedObject<'a>],
-) -> Result<RawHandlers<'a>, LoadFault>
+// Each of these handlers in order, after these names.
+fn handlers_of<'a>(values: &'a [Value], mut names: Names<'a>) -> Result<RawHandlers<'a>, LoadFault>
     requires handlers { length values.now ≤ most_handlers }
-    requires objects { length objects.now ≤ most_objects }
+    requires names { length names.items ≤ most_objects + most_groups }
     ensures { JudgesBy (λ v. map isr_view v.items) result
-        (handlers_fault (names_of (map named_view objects.now)) 0 (items_view values.now))
+        (handlers_fault (map (λ n. n.now) names.entry.items) 0 (items_view values.now))
         (handlers_named (items_view values.now)) }
 {
-    let mut names = names_of(objects);
     let mut handlers = ArrayVec::new();
     for (entry, value) in values.iter().enumerate() {
         let handler = handler(value, entry, names.as_slice())?;
@@ -55,31 +49,28 @@ fn handlers_of<'a>(
     Ok(handlers)
 }
 
-// No more handlers than there may be, after these objects.
+// No more handlers than there may be, after these names.
 #[tactic(auto, using(crate::proofs::Views::items_len_view))]
-fn few_handlers<'a>(
-    values: &'a [Value],
-    objects: &[NamedObject<'a>],
-) -> Result<RawHandlers<'a>, LoadFault>
-    requires { length objects.now ≤ most_objects }
+fn few_handlers<'a>(values: &'a [Value], names: Names<'a>) -> Result<RawHandlers<'a>, LoadFault>
+    requires { length names.items ≤ most_objects + most_groups }
     ensures { JudgesBy (λ v. map isr_view v.items) result
-        (few_handlers_fault (names_of (map named_view objects.now)) (items_view values.now))
+        (few_handlers_fault (map (λ n. n.now) names.entry.items) (items_view values.now))
         (handlers_named (items_view values.now)) }
 {
     if values.len() > App::MOST_HANDLERS {
         return Err(LoadFault::TooMany(Place::section(Section::Handler)));
     }
-    handlers_of(values, objects)
+    handlers_of(values, names)
 }
 
-/// The handlers of the section, 16 at most, whose ops are still texts, after these objects. It takes no memory.
+/// The handlers of the section, 16 at most, whose ops are still texts, after these names. It takes no memory.
 pub(crate) fn raw_handlers<'a>(
     value: Option<&'a Value>,
-    objects: &[NamedObject<'a>],
+    names: Names<'a>,
 ) -> Result<RawHandlers<'a>, LoadFault>
-    requires { length objects.now ≤ most_objects }
+    requires { length names.items ≤ most_objects + most_groups }
     ensures { JudgesBy (λ v. map isr_view v.items) result
-        (handler_section_fault (names_of (map named_view objects.now)) (data_of value.entry))
+        (handler_section_fault (map (λ n. n.now) names.entry.items) (data_of value.entry))
         (handler_section_named (data_of value.entry)) }
 {
     let Some(value) = value else {
@@ -88,5 +79,5 @@ pub(crate) fn raw_handlers<'a>(
     let Some(values) = value.as_array() else {
         return Err(LoadFault::WrongKind(Place::section(Section::Handler)));
     };
-    few_handlers(values.as_slice(), objects)
+    few_handlers(values.as_slice(), names)
 }

@@ -7,11 +7,13 @@ ghost use Rattle.model.specs.Scripts.{IsHandler, most_handler_ops};
 ghost use Rattle.script.specs.Faults.{Judges, JudgesBy, LoadsBy, at_field};
 ghost use Rattle.script.specs.declared.place.Section.TheVariants as section;
 ghost use Rattle.script.specs.declared.place.Key.TheVariants as key;
-ghost use Rattle.script.specs.Finding.{found_by, object_among};
-ghost use Rattle.script.specs.Objects.{named_view, kinds_of};
+ghost use Rattle.script.specs.Finding.{found_by, among};
+ghost use Rattle.script.specs.Objects.{named_view};
+ghost use Rattle.script.specs.Entries.{HasEntries};
 ghost use Rattle.script.specs.Handlers.{isr_view};
 ghost use Rattle.script.specs.IsrOps.{isr_op_named, is_isr_allowed, isr_op_fault, isr_ops_fault, isr_ops_named, handler_ops_fault, with_isr_ops};
 
+use crate::entries::NamedEntries;
 use crate::fault::LoadFault;
 use crate::finding::Finding;
 use crate::named_object::Objects;
@@ -40,35 +42,40 @@ fn is_isr_allowed(objects: &Objects<'_>, op: &IsrOp) -> bool
             Some(named) => named.kind.fits(access),
             None => false,
         },
-        IsrOp::Mark(_) => true,
+        _ => true,
     }
 }
 
-// The op of a handler that a value spells, whose names are those of objects that allow it.
-fn checked_isr_op(objects: &Objects<'_>, value: &Value, place: Place) -> Result<IsrOp, LoadFault>
+// The op of a handler that a value spells, whose names are those of entries that allow it.
+#[tactic(auto, unfolding(crate::specs::IsrOps::isr_op_fault))]
+fn checked_isr_op(
+    entries: &NamedEntries<'_>,
+    value: &Value,
+    place: Place,
+) -> Result<IsrOp, LoadFault>
     ensures { JudgesBy Some result
-        (isr_op_fault (map named_view objects.now.items) place (view value.now))
-        (isr_op_named (object_among (map named_view objects.now.items)) (view value.now)) }
+        (isr_op_fault entries.now place (view value.now))
+        (isr_op_named (among entries.now) (view value.now)) }
 {
     if isr_op_in(value, Finding::Any).is_none() {
         return Err(LoadFault::BadOp(place));
     }
-    let Some(op) = isr_op_in(value, Finding::Among(objects)) else {
+    let Some(op) = isr_op_in(value, Finding::Among(entries)) else {
         return Err(LoadFault::UnknownName(place));
     };
-    if !is_isr_allowed(objects, &op) {
+    if !is_isr_allowed(entries.objects, &op) {
         return Err(LoadFault::OverwriteLength(place));
     }
     Ok(op)
 }
 
 // Checks the ops that these texts spell.
-fn check_ops(objects: &Objects<'_>, texts: &[Value], place: Place) -> Result<(), LoadFault>
+fn check_ops(entries: &NamedEntries<'_>, texts: &[Value], place: Place) -> Result<(), LoadFault>
     ensures { Judges result
-        (isr_ops_fault (map named_view objects.now.items) place 0 (items_view texts.now)) tt }
+        (isr_ops_fault entries.now place 0 (items_view texts.now)) tt }
 {
     for (index, text) in texts.iter().enumerate() {
-        let _ = checked_isr_op(objects, text, place.element(index))?;
+        let _ = checked_isr_op(entries, text, place.element(index))?;
     }
     Ok(())
 }
@@ -82,14 +89,14 @@ fn ops_place(entry: usize) -> Place
 
 /// Checks the ops of the handlers.
 pub(crate) fn check_handlers(
-    objects: &Objects<'_>,
+    entries: &NamedEntries<'_>,
     handlers: &[RawHandler<'_>],
 ) -> Result<(), LoadFault>
     ensures { Judges result
-        (handler_ops_fault (map named_view objects.now.items) 0 (map isr_view handlers.now)) tt }
+        (handler_ops_fault entries.now 0 (map isr_view handlers.now)) tt }
 {
     for (entry, handler) in handlers.iter().enumerate() {
-        check_ops(objects, handler.ops, ops_place(entry))?;
+        check_ops(entries, handler.ops, ops_place(entry))?;
     }
     Ok(())
 }
@@ -99,19 +106,19 @@ pub(crate) fn check_handlers(
 // The ops that these texts spell.
 fn ops_of(
     alloc: Global,
-    objects: &Objects<'_>,
+    entries: &NamedEntries<'_>,
     texts: &[Value],
     place: Place,
 ) -> Result<Vec<IsrOp>, LoadFault>
     requires few { length texts.now ≤ most_handler_ops }
-    requires checked { isr_ops_fault (map named_view objects.now.items) place 0 (items_view texts.now) ≡ None }
+    requires checked { isr_ops_fault entries.now place 0 (items_view texts.now) ≡ None }
     ensures checks { LoadsBy (λ v. v.items) result None
-        (isr_ops_named (map named_view objects.now.items) (items_view texts.now)) }
+        (isr_ops_named entries.now (items_view texts.now)) }
     ensures count { IfOk result (λ v. length v.items ≤ most_handler_ops) }
 {
     let mut ops = Vec::new(alloc);
     for (index, text) in texts.iter().enumerate() {
-        ops.push(checked_isr_op(objects, text, place.element(index))?)?;
+        ops.push(checked_isr_op(entries, text, place.element(index))?)?;
     }
     Ok(ops)
 }
@@ -119,19 +126,19 @@ fn ops_of(
 /// The handlers with their ops, which have been checked, so that only memory may be wanting.
 pub(crate) fn with_isr_ops(
     alloc: Global,
-    objects: &Objects<'_>,
+    entries: &NamedEntries<'_>,
     handlers: &[RawHandler<'_>],
 ) -> Result<Vec<HandlerDefinition>, LoadFault>
-    requires { handler_ops_fault (map named_view objects.now.items) 0 (map isr_view handlers.now) ≡ None }
+    requires { handler_ops_fault entries.now 0 (map isr_view handlers.now) ≡ None }
     ensures checks { LoadsBy (λ v. v.items) result None
-        (map (with_isr_ops (map named_view objects.now.items)) (map isr_view handlers.now)) }
+        (map (with_isr_ops entries.now) (map isr_view handlers.now)) }
     ensures formed { IfOk result (λ v. (app : Application)
-        → app.objects ≡ kinds_of (map named_view objects.now.items) → AllByRecursion (IsHandler app) v.items) }
+        → HasEntries app entries.now → AllByRecursion (IsHandler app) v.items) }
     ensures count { IfOk result (λ v. length v.items ≡ length handlers.now) }
 {
     let mut definitions = Vec::new(alloc);
     for (entry, handler) in handlers.iter().enumerate() {
-        let ops = ops_of(alloc, objects, handler.ops, ops_place(entry))?;
+        let ops = ops_of(alloc, entries, handler.ops, ops_place(entry))?;
         let name = String::from_str(alloc, handler.name)?;
         definitions.push(HandlerDefinition::new(name, ops))?;
     }

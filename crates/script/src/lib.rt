@@ -2,8 +2,10 @@
 #![tactic(auto)]
 
 mod document;
+mod entries;
 mod fault;
 mod finding;
+mod groups;
 mod handlers;
 mod interrupts;
 mod isr_ops;

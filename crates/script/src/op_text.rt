@@ -6,17 +6,66 @@ ghost use Rattle.model.specs.declared.op.IsrOp.{IsrOp};
 ghost use Rattle.model.specs.Application.{word_of, word_of_isr};
 ghost use Rattle.model.specs.Scripts.{InRange};
 ghost use Rattle.script.specs.Finding.{found_by};
-ghost use Rattle.script.specs.Grammar.{Naming, words_of, Done, forms, object_forms, semaphore_forms, isr_forms, read, read_by, if_in_range, op_of, isr_op_of, Spells, SpellsIsr};
+ghost use Rattle.script.specs.Grammar.{Naming, words_of, Done, forms, object_forms, semaphore_forms, group_forms, suspension_forms, isr_forms, read, read_by, if_in_range, op_of, isr_op_of, Spells, SpellsIsr};
 
 use crate::finding::Finding;
 use crate::object_sort::ObjectSort;
 use crate::words::Words;
-use model::{Access, IsrOp, Op};
+use model::{Access, Condition, IsrOp, Op};
 
 fn is(word: &[u8], name: &str) -> bool
     ensures { result ≡ bytes_eq word.now name.now }
 {
     word == name.as_bytes()
+}
+
+// The op of this word that suspends or resumes, whose arguments are the next words.
+fn suspension_op_after(word: &[u8], words: &mut Words<'_>, finding: Finding<'_>) -> Option<Op>
+    // What is still to be read is whether the text ends here.
+    ensures { MatchOption result
+        (read_by word_of (found_by finding.entry) suspension_forms word.now words.old ≡ None)
+        (λ op. read_by word_of (found_by finding.entry) suspension_forms word.now words.old
+        ≡ read (found_by finding.entry) (Done op) words.new) }
+{
+    if is(word, "suspend") {
+        Some(Op::Suspend(words.task(finding)?))
+    } else if is(word, "resume") {
+        Some(Op::Resume(words.task(finding)?))
+    } else if is(word, "suspend_all") {
+        Some(Op::SuspendAll)
+    } else if is(word, "resume_all") {
+        Some(Op::ResumeAll)
+    } else {
+        None
+    }
+}
+
+// The op of this word on an event group, whose arguments are the next words.
+fn group_op_after(word: &[u8], words: &mut Words<'_>, finding: Finding<'_>) -> Option<Op>
+    // What is still to be read is whether the text ends here.
+    ensures { MatchOption result
+        (read_by word_of (found_by finding.entry) group_forms word.now words.old ≡ None)
+        (λ op. read_by word_of (found_by finding.entry) group_forms word.now words.old
+        ≡ read (found_by finding.entry) (Done op) words.new) }
+{
+    if is(word, "set") {
+        let group = words.group(finding)?;
+        Some(Op::SetBits(group, words.number()?))
+    } else if is(word, "clear") {
+        let group = words.group(finding)?;
+        Some(Op::ClearBits(group, words.number()?))
+    } else if is(word, "bits") {
+        Some(Op::GetBits(words.group(finding)?))
+    } else if is(word, "wait") {
+        let group = words.group(finding)?;
+        let mask = words.number()?;
+        let all = words.choice("any", "all")?;
+        let clear = words.choice("keep", "clear")?;
+        let condition = Condition { mask, all, clear };
+        Some(Op::WaitBits(group, condition, words.wait()?))
+    } else {
+        suspension_op_after(word, words, finding)
+    }
 }
 
 // The op of this word on a semaphore or a mutex, whose arguments are the next words.
@@ -40,7 +89,7 @@ fn semaphore_op_after(word: &[u8], words: &mut Words<'_>, finding: Finding<'_>) 
         let mutex = words.object(ObjectSort::Mutex, finding)?;
         Some(Op::GiveMutex(mutex))
     } else {
-        None
+        group_op_after(word, words, finding)
     }
 }
 
@@ -148,6 +197,10 @@ fn isr_op_after(word: &[u8], words: &mut Words<'_>, finding: Finding<'_>) -> Opt
     } else if is(word, "give") {
         let semaphore = words.object(ObjectSort::Semaphore, finding)?;
         Some(IsrOp::Do(semaphore, Access::Give))
+    } else if is(word, "resume") {
+        Some(IsrOp::Resume(words.task(finding)?))
+    } else if is(word, "bits") {
+        Some(IsrOp::GetBits(words.group(finding)?))
     } else if is(word, "mark") {
         Some(IsrOp::Mark(words.number()?))
     } else {

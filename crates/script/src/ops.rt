@@ -7,11 +7,13 @@ ghost use Rattle.model.specs.Scripts.{InRange, IsScript, IsDefinition, KnowsAll,
 ghost use Rattle.script.specs.Faults.{Judges, JudgesBy, Loads, LoadsBy, at_field};
 ghost use Rattle.script.specs.declared.place.Section.TheVariants as section;
 ghost use Rattle.script.specs.declared.place.Key.TheVariants as key;
-ghost use Rattle.script.specs.Finding.{found_by, object_among};
-ghost use Rattle.script.specs.Objects.{named_view, kinds_of};
+ghost use Rattle.script.specs.Finding.{found_by, among};
+ghost use Rattle.script.specs.Objects.{named_view};
+ghost use Rattle.script.specs.Entries.{HasEntries};
 ghost use Rattle.script.specs.Tasks.{raw_view};
 ghost use Rattle.script.specs.Ops.{op_named, is_allowed, spelling_fault, op_fault, ops_fault, ops_named, scripts_fault, with_ops, nesting_with};
 
+use crate::entries::NamedEntries;
 use crate::fault::LoadFault;
 use crate::finding::Finding;
 use crate::named_object::Objects;
@@ -45,20 +47,20 @@ fn is_allowed(objects: &Objects<'_>, op: &Op) -> bool
     }
 }
 
-// The op that a value spells, whose names are those of objects that allow it.
-fn checked_op(objects: &Objects<'_>, value: &Value, place: Place) -> Result<Op, LoadFault>
+// The op that a value spells, whose names are those of entries that allow it.
+fn checked_op(entries: &NamedEntries<'_>, value: &Value, place: Place) -> Result<Op, LoadFault>
     ensures checks { JudgesBy Some result
-        (spelling_fault (map named_view objects.now.items) place (view value.now))
-        (op_named (object_among (map named_view objects.now.items)) (view value.now)) }
+        (spelling_fault entries.now place (view value.now))
+        (op_named (among entries.now) (view value.now)) }
     ensures range { IfOk result InRange }
 {
     if op_in(value, Finding::Any).is_none() {
         return Err(LoadFault::BadOp(place));
     }
-    let Some(op) = op_in(value, Finding::Among(objects)) else {
+    let Some(op) = op_in(value, Finding::Among(entries)) else {
         return Err(LoadFault::UnknownName(place));
     };
-    if !is_allowed(objects, &op) {
+    if !is_allowed(entries.objects, &op) {
         return Err(LoadFault::OverwriteLength(place));
     }
     Ok(op)
@@ -66,28 +68,28 @@ fn checked_op(objects: &Objects<'_>, value: &Value, place: Place) -> Result<Op, 
 
 // How many loops are open after the op that a value spells, where so many are open before it.
 fn nesting_with(
-    objects: &Objects<'_>,
+    entries: &NamedEntries<'_>,
     nesting: u8,
     value: &Value,
     place: Place,
 ) -> Result<u8, LoadFault>
     ensures { Judges result
-        (op_fault (map named_view objects.now.items) place nesting (view value.now))
+        (op_fault entries.now place nesting (view value.now))
         (nesting_with nesting
-        (op_named (object_among (map named_view objects.now.items)) (view value.now))) }
+        (op_named (among entries.now) (view value.now))) }
 {
-    let op = checked_op(objects, value, place)?;
+    let op = checked_op(entries, value, place)?;
     op.nesting_past(nesting).ok_or(LoadFault::BadNesting(place))
 }
 
 // Checks the ops that these texts spell.
-fn check_script(objects: &Objects<'_>, texts: &[Value], place: Place) -> Result<(), LoadFault>
+fn check_script(entries: &NamedEntries<'_>, texts: &[Value], place: Place) -> Result<(), LoadFault>
     ensures { Judges result
-        (ops_fault (map named_view objects.now.items) place 0 0 (items_view texts.now)) tt }
+        (ops_fault entries.now place 0 0 (items_view texts.now)) tt }
 {
     let mut nesting = 0;
     for (index, text) in texts.iter().enumerate() {
-        nesting = nesting_with(objects, nesting, text, place.element(index))?;
+        nesting = nesting_with(entries, nesting, text, place.element(index))?;
     }
     if nesting > 0 {
         return Err(LoadFault::BadNesting(place.element(texts.len())));
@@ -103,12 +105,15 @@ fn script_place(entry: usize) -> Place
 }
 
 /// Checks the scripts of the tasks.
-pub(crate) fn check_scripts(objects: &Objects<'_>, tasks: &[RawTask<'_>]) -> Result<(), LoadFault>
+pub(crate) fn check_scripts(
+    entries: &NamedEntries<'_>,
+    tasks: &[RawTask<'_>],
+) -> Result<(), LoadFault>
     ensures { Judges result
-        (scripts_fault (map named_view objects.now.items) 0 (map raw_view tasks.now)) tt }
+        (scripts_fault entries.now 0 (map raw_view tasks.now)) tt }
 {
     for (entry, task) in tasks.iter().enumerate() {
-        check_script(objects, task.script, script_place(entry))?;
+        check_script(entries, task.script, script_place(entry))?;
     }
     Ok(())
 }
@@ -117,21 +122,21 @@ pub(crate) fn check_scripts(objects: &Objects<'_>, tasks: &[RawTask<'_>]) -> Res
 
 // Appends the op that a value spells.
 fn push_op(
-    objects: &Objects<'_>,
+    entries: &NamedEntries<'_>,
     builder: &mut ScriptBuilder,
     value: &Value,
     place: Place,
 ) -> Result<(), LoadFault>
     requires { length builder.old < most_ops }
     ensures checks { Loads result
-        (op_fault (map named_view objects.now.items) place (nesting_after 0 builder.old) (view value.now)) tt }
+        (op_fault entries.now place (nesting_after 0 builder.old) (view value.now)) tt }
     ensures pushed { OnOk result (builder.new ≡ builder.old
-        ++ option_to_list (op_named (object_among (map named_view objects.now.items)) (view value.now))) }
+        ++ option_to_list (op_named (among entries.now) (view value.now))) }
     ensures nesting { OnOk result (nesting_after 0 builder.new ≡ nesting_with (nesting_after 0 builder.old)
-        (op_named (object_among (map named_view objects.now.items)) (view value.now))) }
+        (op_named (among entries.now) (view value.now))) }
     ensures count { OnOk result (length builder.new ≡ length builder.old + 1) }
 {
-    let op = checked_op(objects, value, place)?;
+    let op = checked_op(entries, value, place)?;
     match builder.push(op) {
         Ok(()) => Ok(()),
         Err(NestingFault::BadNesting) => Err(LoadFault::BadNesting(place)),
@@ -142,20 +147,20 @@ fn push_op(
 // The script of the ops that these texts spell.
 fn script_of(
     alloc: Global,
-    objects: &Objects<'_>,
+    entries: &NamedEntries<'_>,
     texts: &[Value],
     place: Place,
 ) -> Result<Script, LoadFault>
     requires few { length texts.now ≤ most_ops }
-    requires checked { ops_fault (map named_view objects.now.items) place 0 0 (items_view texts.now) ≡ None }
+    requires checked { ops_fault entries.now place 0 0 (items_view texts.now) ≡ None }
     ensures checks { Loads result
-        (ops_fault (map named_view objects.now.items) place 0 0 (items_view texts.now))
-        (ops_named (map named_view objects.now.items) (items_view texts.now)) }
+        (ops_fault entries.now place 0 0 (items_view texts.now))
+        (ops_named entries.now (items_view texts.now)) }
     ensures script { IfOk result IsScript }
 {
     let mut builder = ScriptBuilder::new(alloc);
     for (index, text) in texts.iter().enumerate() {
-        push_op(objects, &mut builder, text, place.element(index))?;
+        push_op(entries, &mut builder, text, place.element(index))?;
     }
     match builder.finish() {
         Some(script) => Ok(script),
@@ -166,21 +171,21 @@ fn script_of(
 /// The tasks with their scripts, which have been checked, so that only memory may be wanting.
 pub(crate) fn with_scripts(
     alloc: Global,
-    objects: &Objects<'_>,
+    entries: &NamedEntries<'_>,
     tasks: &[RawTask<'_>],
 ) -> Result<Vec<TaskDefinition>, LoadFault>
-    requires { scripts_fault (map named_view objects.now.items) 0 (map raw_view tasks.now) ≡ None }
+    requires { scripts_fault entries.now 0 (map raw_view tasks.now) ≡ None }
     ensures checks { LoadsBy (λ v. v.items) result
-        (scripts_fault (map named_view objects.now.items) 0 (map raw_view tasks.now))
-        (map (with_ops (map named_view objects.now.items)) (map raw_view tasks.now)) }
+        (scripts_fault entries.now 0 (map raw_view tasks.now))
+        (map (with_ops entries.now) (map raw_view tasks.now)) }
     ensures formed { IfOk result (λ v. AllByRecursion IsDefinition v.items) }
     ensures known { IfOk result (λ v. (app : Application)
-        → app.objects ≡ kinds_of (map named_view objects.now.items) → AllByRecursion (KnowsAll app) v.items) }
+        → HasEntries app entries.now → AllByRecursion (KnowsAll app) v.items) }
     ensures count { IfOk result (λ v. length v.items ≡ length tasks.now) }
 {
     let mut definitions = Vec::new(alloc);
     for (entry, task) in tasks.iter().enumerate() {
-        let script = script_of(alloc, objects, task.script, script_place(entry))?;
+        let script = script_of(alloc, entries, task.script, script_place(entry))?;
         let name = String::from_str(alloc, task.name)?;
         definitions.push(TaskDefinition::new(name, task.priority, script))?;
     }

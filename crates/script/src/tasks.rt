@@ -1,7 +1,7 @@
 //! The tasks of a document in pass one, which leaves the ops of their scripts as they stand.
 ghost use Rattle.std.specs.Prelude.{◌≡◌, ◌≤◌, ◌+◌, map, length, IfOk};
 ghost use Rattle.toml.specs.View.{view, items_view};
-ghost use Rattle.model.specs.Scripts.{most_tasks, most_objects, most_handlers};
+ghost use Rattle.model.specs.Scripts.{most_tasks, most_objects, most_groups, most_handlers};
 ghost use Rattle.script.specs.Faults.{JudgesBy};
 ghost use Rattle.script.specs.Values.{data_of};
 ghost use Rattle.script.specs.Tasks.{task_fault, task_named, raw_view, tasks_fault, tasks_named, entries_fault, section_fault, section_named};
@@ -50,7 +50,7 @@ fn task<'a>(value: &'a Value, entry: usize, names: &[&str]) -> Result<RawTask<'a
 // Each of these tasks in order, after these names.
 fn tasks_of<'a>(values: &'a [Value], mut names: Names<'a>) -> Result<RawTasks<'a>, LoadFault>
     requires tasks { length values.now ≤ most_tasks }
-    requires names { length names.items ≤ most_objects + most_handlers }
+    requires names { length names.items ≤ most_objects + most_groups + most_handlers }
     ensures checks { JudgesBy (λ v. map raw_view v.items) result
         (tasks_fault (map (λ n. n.now) names.entry.items) 0 (items_view values.now))
         (tasks_named (items_view values.now)) }
@@ -68,7 +68,7 @@ fn tasks_of<'a>(values: &'a [Value], mut names: Names<'a>) -> Result<RawTasks<'a
 // One task to the most that there may be, after these names.
 #[tactic(auto, using(crate::proofs::Views::items_len_view))]
 fn some_tasks<'a>(values: &'a [Value], names: Names<'a>) -> Result<RawTasks<'a>, LoadFault>
-    requires { length names.items ≤ most_objects + most_handlers }
+    requires { length names.items ≤ most_objects + most_groups + most_handlers }
     ensures checks { JudgesBy (λ v. map raw_view v.items) result
         (entries_fault (map (λ n. n.now) names.entry.items) (items_view values.now))
         (tasks_named (items_view values.now)) }
@@ -89,7 +89,7 @@ pub(crate) fn raw_tasks<'a>(
     value: Option<&'a Value>,
     names: Names<'a>,
 ) -> Result<RawTasks<'a>, LoadFault>
-    requires { length names.items ≤ most_objects + most_handlers }
+    requires { length names.items ≤ most_objects + most_groups + most_handlers }
     ensures checks { JudgesBy (λ v. map raw_view v.items) result
         (section_fault (map (λ n. n.now) names.entry.items) (data_of value.entry))
         (section_named (data_of value.entry)) }

@@ -4,11 +4,11 @@ ghost use Rattle.std.specs.Char.{is_ascii_digit};
 ghost use Rattle.std.specs.List.{list_all, position_or_len};
 ghost use Rattle.std.specs.Str.Parse.{digits_value};
 ghost use Rattle.script.specs.Finding.{found_by};
-ghost use Rattle.script.specs.Grammar.{words_of, is_number, number_of, answer_of, wait_of, take_by};
+ghost use Rattle.script.specs.Grammar.{words_of, is_number, number_of, answer_of, wait_of, choice_of, OfObject, OfGroup, OfTask, take_by};
 
 use crate::finding::Finding;
 use crate::object_sort::ObjectSort;
-use model::ObjectId;
+use model::{GroupId, ObjectId, TaskId};
 use std::marker::Model;
 
 // The text from its first word on.
@@ -95,6 +95,19 @@ fn wait_of(word: &[u8]) -> Option<Option<u32>>
     }
 }
 
+// Which of two words it is: whether it is the second.
+fn choice_of(word: &[u8], first: &str, second: &str) -> Option<bool>
+    ensures { result ≡ choice_of first.now second.now word.now }
+{
+    if word == first.as_bytes() {
+        Some(false)
+    } else if word == second.as_bytes() {
+        Some(true)
+    } else {
+        None
+    }
+}
+
 /// The words of a text that are still to be read.
 #[derive(Drop)]
 pub(crate) struct Words<'a> {
@@ -158,10 +171,34 @@ impl<'a> Words<'a> {
 
     /// The object of this sort that the next word names.
     pub(crate) fn object(&mut self, sort: ObjectSort, finding: Finding<'_>) -> Option<ObjectId>
-        ensures { MatchOption result (take_by (found_by finding.entry sort) self.old ≡ None)
-            (λ object. take_by (found_by finding.entry sort) self.old ≡ Some (object, self.new)) }
+        ensures { MatchOption result (take_by (found_by finding.entry (OfObject sort)) self.old ≡ None)
+            (λ object. take_by (found_by finding.entry (OfObject sort)) self.old ≡ Some (object, self.new)) }
     {
         finding.object(sort, self.next()?)
+    }
+
+    /// The event group that the next word names.
+    pub(crate) fn group(&mut self, finding: Finding<'_>) -> Option<GroupId>
+        ensures { MatchOption result (take_by (found_by finding.entry OfGroup) self.old ≡ None)
+            (λ group. take_by (found_by finding.entry OfGroup) self.old ≡ Some (group, self.new)) }
+    {
+        finding.group(self.next()?)
+    }
+
+    /// The task that the next word names.
+    pub(crate) fn task(&mut self, finding: Finding<'_>) -> Option<TaskId>
+        ensures { MatchOption result (take_by (found_by finding.entry OfTask) self.old ≡ None)
+            (λ task. take_by (found_by finding.entry OfTask) self.old ≡ Some (task, self.new)) }
+    {
+        finding.task(self.next()?)
+    }
+
+    /// Which of two words the next word is: whether it is the second.
+    pub(crate) fn choice(&mut self, first: &str, second: &str) -> Option<bool>
+        ensures { MatchOption result (take_by (choice_of first.now second.now) self.old ≡ None)
+            (λ b. take_by (choice_of first.now second.now) self.old ≡ Some (b, self.new)) }
+    {
+        choice_of(self.next()?, first, second)
     }
 
     /// Whether no word is left.

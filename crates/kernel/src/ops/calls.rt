@@ -58,7 +58,7 @@ fn place_waiter(queues: &mut Queues, list: Option<WaitList>, task: TaskId, prior
 }
 
 /// A task that has begun to wait until a deadline, if there is one, is put among those who wake by themselves.
-fn place_sleeper(clock: &mut Clock, deadline: Option<u64>, task: TaskId)
+pub(super) fn place_sleeper(clock: &mut Clock, deadline: Option<u64>, task: TaskId)
     requires awake { is_asleep clock.old task ≡ false }
     requires ahead { IsAhead clock.old.now deadline }
     ensures { (s : State) → ClockStandsBefore task deadline clock.old s → ClockStandsFor clock.new s }
@@ -71,12 +71,15 @@ fn place_sleeper(clock: &mut Clock, deadline: Option<u64>, task: TaskId)
 
 impl Kernel {
     /// The call of the running task, which begins, may wait for so many ticks from now, or for ever.
-    fn set_deadline(&mut self, task: TaskId, ticks: Option<u32>)
+    pub(super) fn set_deadline(&mut self, task: TaskId, ticks: Option<u32>)
         requires can { IsInCall self.old task }
         requires time { self.old.clock.now + 2 ^ 32 < 2 ^ 63 }
         ensures does { Moves self.old self.new (set_deadline task ticks) }
         ensures parts { (self.new.sched ≡ self.old.sched) × (self.new.queues ≡ self.old.queues) }
         ensures op_index { (progress_in self.new.progress task).op_index ≡ (progress_in self.old.progress task).op_index }
+        ensures clock { self.new.clock ≡ self.old.clock }
+        ensures deadline { (progress_in self.new.progress task).call.deadline
+            ≡ option_map (λ n. self.old.clock.now + n) ticks }
     {
         let deadline = deadline_after(self.clock.mark().moment, ticks);
         self.set_call_deadline(task, deadline);

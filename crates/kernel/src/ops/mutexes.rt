@@ -2,7 +2,7 @@
 ghost use Rattle.std.specs.Prelude.{◌≡◌, ◌<◌, ◌≤◌, List, Some, None, length};
 ghost use Rattle.model.specs.declared.event.Event.{Event};
 ghost use Rattle.model.specs.declared.op.Op.TheVariants as op;
-ghost use Rattle.model.specs.State.{State};
+ghost use Rattle.model.specs.State.{State, progress_at};
 ghost use Rattle.model.specs.declared.call.WaitList.TheVariants.{ToReceive};
 ghost use Rattle.model.specs.Mutexes as definitions;
 ghost use Rattle.model.specs.Ops.{answer};
@@ -118,8 +118,8 @@ impl Kernel {
     }
 
     /// The op of a task is a misuse, which ends the run.
-    fn misuse(&mut self, task: TaskId, misuse: Misuse)
-        ensures { Moves self.old self.new (misused task misuse) }
+    pub(crate) fn misuse(&mut self, task: TaskId, misuse: Misuse)
+        ensures { Moves self.old self.new (λ s. misused task (progress_at s task).op_index misuse s) }
     {
         let op_index = self.progress(task).op_index;
         self.stopped = Some(End::Misuse(task, op_index, misuse));

@@ -137,7 +137,7 @@ impl Kernel {
         log: &mut L,
     )
         requires room { 1 ≤ (L.logged log.old).room }
-        requires can { Can app.now self.old task (op.MessagesWaiting queue) }
+        requires runs { Runs self.old task }
         ensures { Does 1 self.old (L.logged log.old) self.new (L.logged log.new)
             (act app.now task (op.MessagesWaiting queue)) }
     {
@@ -154,7 +154,7 @@ impl Kernel {
         log: &mut L,
     )
         requires room { 1 ≤ (L.logged log.old).room }
-        requires can { Can app.now self.old task (op.SpacesAvailable queue) }
+        requires runs { Runs self.old task }
         ensures { Does 1 self.old (L.logged log.old) self.new (L.logged log.new)
             (act app.now task (op.SpacesAvailable queue)) }
     {

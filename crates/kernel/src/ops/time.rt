@@ -1,12 +1,13 @@
 //! Ops that let time pass, give the processor away, or ask the time.
-ghost use Rattle.std.specs.Prelude.{◌≡◌, ◌<◌, ◌≤◌, ◌+◌, List, length};
+ghost use Rattle.std.specs.Prelude.{◌≡◌, ◌<◌, ◌≤◌, ◌+◌, List, length, Some};
 ghost use Rattle.model.specs.declared.event.Event.{Event};
 ghost use Rattle.model.specs.declared.op.Op.TheVariants as op;
 ghost use Rattle.model.specs.State.{State};
 ghost use Rattle.model.specs.Time.{sleep, set_previous_wake};
 ghost use Rattle.model.specs.Ops.{use_up};
 ghost use Rattle.model.specs.Step.{act};
-ghost use Rattle.kernel.specs.StandsFor.{At, Does, Moves};
+ghost use Rattle.model.specs.Invariant.{IsUsedBy};
+ghost use Rattle.kernel.specs.StandsFor.{At, Does, Moves, progress_in};
 ghost use Rattle.kernel.specs.Can.{Agrees, Runs, Can};
 
 use crate::kernel::Kernel;
@@ -15,8 +16,9 @@ use model::{App, TaskId};
 
 impl Kernel {
     /// One more of a `work` is used up.
-    fn use_up(&mut self, app: &App, task: TaskId, ticks: u32)
-        requires { Can app.now self.old task (op.Work ticks) }
+    pub(super) fn use_up(&mut self, app: &App, task: TaskId, ticks: u32)
+        requires runs { Runs self.old task }
+        requires used { IsUsedBy (progress_in self.old.progress task).used (Some (op.Work ticks)) }
         ensures does { Moves self.old self.new (use_up app.now task ticks) }
         ensures depth { self.new.sched.depth ≡ self.old.sched.depth }
         ensures clock { self.new.clock ≡ self.old.clock }
@@ -103,7 +105,7 @@ impl Kernel {
     /// `time`: the printed tick is the answer.
     pub(crate) fn time<L: Log>(&mut self, app: &App, task: TaskId, log: &mut L)
         requires room { 1 ≤ (L.logged log.old).room }
-        requires can { Can app.now self.old task op.Time }
+        requires runs { Runs self.old task }
         ensures { Does 1 self.old (L.logged log.old) self.new (L.logged log.new)
             (act app.now task op.Time) }
     {

@@ -7,13 +7,13 @@ use Rattle.model.specs.Ops.{go_to, answer, use_up, delay, delay_until, expect, o
 use Rattle.model.specs.Objects.{fulfil, attempt}
 use Rattle.model.specs.Mutexes.{inherit, after_timeout}
 use Rattle.model.specs.Calls.{try, decide, leave_call}
-use Rattle.model.specs.Step.{before_step, step, nobody_ready, ready_at_reset, reset}
+use Rattle.model.specs.Step.{judge, before_step, step, nobody_ready, ready_at_reset, reset}
 use Rattle.laws.specs.HandlerExamples.{two_queues, fewer_items, more_items, room_taken, finds_nothing, still_to_come, answers}
 use Rattle.laws.proofs.ExampleRuns.{is_run}
 use Rattle.laws.proofs.examples.examples_with_handlers_run.Goals as goal
 
 pub returns : goal.returns
-unfolding to_back dispatch choose yield_now preempt slice settle wait_in set_deadline wake_best unlock wake_due advance increment_tick handle inject interrupt tick_interrupt sleep set_previous_wake go_to answer use_up delay delay_until expect open_loop close_turn fulfil attempt inherit after_timeout try decide leave_call before_step step nobody_ready ready_at_reset reset
+unfolding to_back dispatch choose yield_now preempt slice settle wait_in set_deadline wake_best unlock wake_due advance increment_tick handle inject interrupt tick_interrupt sleep set_previous_wake go_to answer use_up delay delay_until expect open_loop close_turn fulfil attempt inherit after_timeout try decide leave_call judge before_step step nobody_ready ready_at_reset reset
 returns c = (
   is_run two_queues.app two_queues.plan two_queues.app.limits two_queues.run refl refl refl refl,
   (

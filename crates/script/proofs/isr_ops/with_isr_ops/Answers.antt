@@ -2,7 +2,6 @@ use Rattle.std.proofs.Common.{◌≡◌, ◌≤◌, sym, subst, map, length, ari
 use Rattle.std.specs.List.{AllByRecursion}
 use Rattle.model.specs.Application.{Handler}
 use Rattle.model.specs.Scripts.{IsHandler, most_name_bytes, most_handler_ops}
-use Rattle.script.specs.Objects.{named_view}
 use Rattle.std.proofs.lemmas.Grind.{common_steps}
 use Rattle.script.specs.Handlers.{isr_view}
 use Rattle.script.specs.IsrOps.{with_isr_ops}
@@ -10,10 +9,10 @@ use Rattle.script.proofs.KnownIsr.{taken_handlers}
 use Rattle.script.proofs.isr_ops.with_isr_ops.Goals as goal
 
 pub returns-clause-formed : goal.returns-clause-formed
-returns-clause-formed c app same =
-    let objects = map named_view c.args.objects.now.items in
+returns-clause-formed c app has =
+    let entries = c.args.entries.now in
     let raws = map isr_view c.args.handlers.now in
-    let built : c.loop-entry.definitions.items ≡ map (with_isr_ops objects) raws = grind (arith, common_steps) in
+    let built : c.loop-entry.definitions.items ≡ map (with_isr_ops entries) raws = grind (arith, common_steps) in
     let short = subst (AllByRecursion (λ (h : Handler). length h.name ≤ most_name_bytes)) built c.loop-entry.invariant.short in
     let few = subst (AllByRecursion (λ (h : Handler). length h.ops ≤ most_handler_ops)) built c.loop-entry.invariant.few in
-    subst (AllByRecursion (IsHandler app)) (sym built) (taken_handlers app objects same raws c.requires short few)
+    subst (AllByRecursion (IsHandler app)) (sym built) (taken_handlers app entries has raws c.requires short few)

@@ -1,7 +1,7 @@
 use Rattle.std.proofs.Common.{◌+◌, ◌*◌, ◌^◌, sym, ◌∙◌, ap, arith, refl}
 use Rattle.clock.specs.Timeline.{Timeline}
 use Rattle.clock.proofs.Advancing.{advances_if_none, clock_if_none, none_now, some_now, ticked, turned_over}
-use Rattle.clock.proofs.Standing.{due_held, due_next, stands_advanced, stands_applied}
+use Rattle.clock.proofs.Standing.{due_next, stands_advanced}
 use Rattle.clock.proofs.clock.Clock.advance_if_none_due.Goals as goal
 
 -- somebody is due
@@ -35,12 +35,6 @@ returns-else-is_some-clause-due c = λ s t h. due_next c.args.self.now _ s _ (re
 pub returns-else-is_some-clause-woken : goal.returns-else-is_some-clause-woken
 returns-else-is_some-clause-woken c = λ s t h free. stands_advanced c.args.self.now _ s _ (returns-else-is_some-clause-advances c t) h free
 
-pub returns-else-is_some-clause-due_held : goal.returns-else-is_some-clause-due_held
-returns-else-is_some-clause-due_held c = λ s t h. due_held c.args.self.now _ s _ (returns-else-is_some-clause-advances c t) h
-
-pub returns-else-is_some-clause-applied : goal.returns-else-is_some-clause-applied
-returns-else-is_some-clause-applied c = λ s t h. stands_applied c.args.self.now _ s _ (returns-else-is_some-clause-advances c t) h
-
 -- nobody is, and the tick goes on
 
 pub invariant_of-self-else-self : goal.invariant_of-self-else-self
@@ -57,9 +51,3 @@ returns-else-is_some-2-clause-due c = λ s t h. due_next c.args.self.now _ s _ (
 
 pub returns-else-is_some-2-clause-woken : goal.returns-else-is_some-2-clause-woken
 returns-else-is_some-2-clause-woken c = λ s t h free. stands_advanced c.args.self.now _ s _ (returns-else-is_some-2-clause-advances c t) h free
-
-pub returns-else-is_some-2-clause-due_held : goal.returns-else-is_some-2-clause-due_held
-returns-else-is_some-2-clause-due_held c = λ s t h. due_held c.args.self.now _ s _ (returns-else-is_some-2-clause-advances c t) h
-
-pub returns-else-is_some-2-clause-applied : goal.returns-else-is_some-2-clause-applied
-returns-else-is_some-2-clause-applied c = λ s t h. stands_applied c.args.self.now _ s _ (returns-else-is_some-2-clause-advances c t) h

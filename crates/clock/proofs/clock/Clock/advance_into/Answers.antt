@@ -2,7 +2,7 @@ use Rattle.std.proofs.Common.{◌≡◌, ◌+◌, ◌*◌, ◌^◌, sym, ap, sub
 use Rattle.clock.specs.Timeline.{Timeline}
 use Rattle.clock.specs.declared.clock.Clock.TheInside.{Inside}
 use Rattle.clock.proofs.Advancing.{Turned, turned_over, ticked, clock_after, advances}
-use Rattle.clock.proofs.Standing.{due_held, due_next, stands_advanced, stands_applied}
+use Rattle.clock.proofs.Standing.{due_next, stands_advanced}
 use Rattle.clock.proofs.clock.Clock.advance_into.Goals.{then-self, else-self}
 use Rattle.clock.proofs.clock.Clock.advance_into.Goals as goal
 
@@ -38,9 +38,3 @@ returns-clause-due c = λ s h. due_next c.args.self.now _ s _ (returns-clause-ad
 
 pub returns-clause-woken : goal.returns-clause-woken
 returns-clause-woken c = λ s h free. stands_advanced c.args.self.now _ s _ (returns-clause-advances c) h free
-
-pub returns-clause-due_held : goal.returns-clause-due_held
-returns-clause-due_held c = λ s h. due_held c.args.self.now _ s _ (returns-clause-advances c) h
-
-pub returns-clause-applied : goal.returns-clause-applied
-returns-clause-applied c = λ s h. stands_applied c.args.self.now _ s _ (returns-clause-advances c) h

@@ -1,4 +1,4 @@
-use Rattle.std.proofs.Common.{arith, None, refl, subst, sym}
+use Rattle.std.proofs.Common.{arith, None, refl, subst, sym, ◌∙◌}
 use Rattle.model.specs.declared.event.Misuse.TheVariants.{NotHolder}
 use Rattle.model.specs.State.{State, object_at, with_object}
 use Rattle.objects.specs.Queues.{Exchange}
@@ -15,7 +15,7 @@ let_go-requires-clause-agrees g c =
 
 pub returns-in-Ok : goal.returns-in-Ok
 returns-in-Ok g c = record {
-  at = λ s h. gave c.args.app.now c.let_go.new.self _ s c.args.task c.args.object (c.in-Ok.ensures.allowed s None h.stands.rest.queues)
+  at = λ s h. gave c.args.app.now c.let_go.new.self _ s c.args.task c.args.object (sym h.stands.rest.suspensions ∙ c.requires.can.tick.advance.awake) (c.in-Ok.ensures.allowed s None h.stands.rest.queues)
       (c.let_go.ensures.at _ (stored_at c.args.self.now _ s h c.args.object _ c.give_mutex.new.self (c.in-Ok.ensures.stands s None h.stands.rest.queues)));
   few = c.let_go.ensures.few;
   before = c.let_go.ensures.before;
@@ -23,7 +23,7 @@ returns-in-Ok g c = record {
 
 pub returns-in-Err : goal.returns-in-Err
 returns-in-Err g c = record {
-  at = λ s h. gave_nothing c.args.app.now c.misuse.new.self _ s c.args.task c.args.object NotHolder (c.in-Err.ensures.misuse s None h.stands.rest.queues)
+  at = λ s h. gave_nothing c.args.app.now c.misuse.new.self _ s c.args.task c.args.object NotHolder (sym h.stands.rest.suspensions ∙ c.requires.can.tick.advance.awake) (c.in-Err.ensures.misuse s None h.stands.rest.queues)
       (c.misuse.ensures _ s (subst (λ (q : Exchange). At (record c.args.self.now { queues = q }) (g.L.Log.logged c.args.log.now).told s) (sym c.in-Err.ensures.refused) h));
   few = omega arith;
   before = refl;

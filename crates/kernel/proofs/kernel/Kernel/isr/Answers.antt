@@ -1,6 +1,10 @@
+use Rattle.std.proofs.Common.{ap, ◌∙◌}
+use Rattle.model.specs.Ops.{one_if}
 use Rattle.kernel.specs.StandsFor.{At, AtAny}
 use Rattle.kernel.specs.StandsFor.Stands.{Placed}
 use Rattle.kernel.proofs.Handling.{did_op, did_mark}
+use Rattle.kernel.proofs.EventBits.{groups_stand, told_bits}
+use Rattle.kernel.proofs.Suspending.{told_resume}
 use Rattle.kernel.proofs.kernel.Kernel.isr.Goals as goal
 
 pub returns-in-Do-clause-does : goal.returns-in-Do-clause-does
@@ -31,4 +35,36 @@ returns-in-Mark-clause-any g c = record {
   at = λ s h. did_mark (AtAny c.args.self.now (g.L.Log.logged c.write-in-Mark.new.log).told) s c.args.handler c.args.op_index c.args.op.now c.in-Mark.number c.in-Mark.is (c.write-in-Mark.ensures.any.at s h);
   few = c.write-in-Mark.ensures.any.few;
   before = c.write-in-Mark.ensures.any.before;
+}
+
+pub returns-in-GetBits-clause-does : goal.returns-in-GetBits-clause-does
+returns-in-GetBits-clause-does g c = record {
+  at = λ s h. told_bits (At c.args.self.now (g.L.Log.logged c.write-in-GetBits.new.log).told) s c.args.handler c.args.op_index c.args.op.now c.in-GetBits.group c.bits-bits.result c.isr_told-in-GetBits.result c.in-GetBits.is c.isr_told-in-GetBits.ensures (c.bits-bits.ensures.stands s h.stands.rest.groups)
+      (c.write-in-GetBits.ensures.does.at s h);
+  few = c.write-in-GetBits.ensures.does.few;
+  before = c.write-in-GetBits.ensures.does.before;
+}
+
+pub returns-in-GetBits-clause-any : goal.returns-in-GetBits-clause-any
+returns-in-GetBits-clause-any g c = record {
+  at = λ s h. told_bits (AtAny c.args.self.now (g.L.Log.logged c.write-in-GetBits.new.log).told) s c.args.handler c.args.op_index c.args.op.now c.in-GetBits.group c.bits-bits.result c.isr_told-in-GetBits.result c.in-GetBits.is c.isr_told-in-GetBits.ensures (c.bits-bits.ensures.stands s (groups_stand c.args.self.now s h.stands))
+      (c.write-in-GetBits.ensures.any.at s h);
+  few = c.write-in-GetBits.ensures.any.few;
+  before = c.write-in-GetBits.ensures.any.before;
+}
+
+pub returns-in-Resume-clause-does : goal.returns-in-Resume-clause-does
+returns-in-Resume-clause-does g c = record {
+  at = λ s h. told_resume (At c.resume-did.new.self (g.L.Log.logged c.write-in-Resume.new.log).told) s c.args.handler c.args.op_index c.args.op.now c.in-Resume.task c.one_if.result c.isr_told-in-Resume.result c.in-Resume.is c.isr_told-in-Resume.ensures (c.one_if.ensures ∙ ap one_if (c.resume-did.ensures.answer s (Placed h.stands)))
+      (c.write-in-Resume.ensures.does.at _ (c.resume-did.ensures.does _ s h));
+  few = c.write-in-Resume.ensures.does.few;
+  before = c.write-in-Resume.ensures.does.before;
+}
+
+pub returns-in-Resume-clause-any : goal.returns-in-Resume-clause-any
+returns-in-Resume-clause-any g c = record {
+  at = λ s h. told_resume (AtAny c.resume-did.new.self (g.L.Log.logged c.write-in-Resume.new.log).told) s c.args.handler c.args.op_index c.args.op.now c.in-Resume.task c.one_if.result c.isr_told-in-Resume.result c.in-Resume.is c.isr_told-in-Resume.ensures (c.one_if.ensures ∙ ap one_if (c.resume-did.ensures.answer s h.stands))
+      (c.write-in-Resume.ensures.any.at _ (c.resume-did.ensures.any _ s h));
+  few = c.write-in-Resume.ensures.any.few;
+  before = c.write-in-Resume.ensures.any.before;
 }

@@ -1,10 +1,11 @@
 use Rattle.std.proofs.Common.{ℕ, List, Some, None, map, sym, ◌∙◌, ap, subst}
 use Rattle.lists.specs.Lists.{IsSound, without}
+use Rattle.model.specs.State.{Suspended, with_status}
 use Rattle.model.specs.Switching.{make_ready}
 use Rattle.objects.specs.WaitingLists.{AreWaitingLists, mirrored}
 use Rattle.objects.specs.WaitersStand.{WaitersStand}
 use Rattle.objects.proofs.Mirror.{are_waiting_without, mirrored-without, sound-mirrored}
-use Rattle.objects.proofs.Standing.{stands_readied}
+use Rattle.objects.proofs.Standing.{stands_readied, stands_suspended}
 use Rattle.objects.proofs.Placing.{stands_readied_but}
 use Rattle.objects.proofs.waiting_lists.WaitingLists.drop_waiter.Goals as goal
 
@@ -25,6 +26,11 @@ pub returns-clause-readied : goal.returns-clause-readied
 returns-clause-readied c = λ s h l.
     subst (λ (v : List (List (ℕ × ℕ))). WaitersStand v None (make_ready c.args.task s)) (sym (returns-clause-gone c))
     (stands_readied c.args.self.now s c.args.task h l)
+
+pub returns-clause-suspended : goal.returns-clause-suspended
+returns-clause-suspended c = λ s h l.
+    subst (λ (v : List (List (ℕ × ℕ))). WaitersStand v None (with_status c.args.task Suspended s)) (sym (returns-clause-gone c))
+    (stands_suspended c.args.self.now s c.args.task h l)
 
 pub returns-clause-readied_but : goal.returns-clause-readied_but
 returns-clause-readied_but c = λ s d h l other away.

@@ -1,0 +1,14 @@
+//! The kernel beside a slow one, which is the definitions read aloud, on many random applications. There is nothing here but
+//! tests.
+#![tactic(auto)]
+
+#[cfg(test)]
+mod dice;
+#[cfg(test)]
+mod file;
+#[cfg(test)]
+mod planner;
+#[cfg(test)]
+mod random;
+#[cfg(test)]
+mod slow;

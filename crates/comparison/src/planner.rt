@@ -1,0 +1,143 @@
+//! Plans that are made while the slow program runs, so that many of their points lie inside calls.
+
+use crate::dice::Dice;
+use crate::slow::SlowKernel;
+use model::{App, End, HandlerId, Limits, Point};
+use std::alloc::Global;
+
+/// How many points were made.
+#[derive(Clone, Copy, Debug, Default)]
+pub(crate) struct Points {
+    pub(crate) all: usize,
+    /// Those before a step of a call in Decide, Place, Unlock or Leave.
+    pub(crate) inside_calls: usize,
+    /// Those of them while an object is locked.
+    pub(crate) locked: usize,
+    /// Those while the scheduler is suspended.
+    pub(crate) suspended: usize,
+    /// Those past the end of the run.
+    pub(crate) late: usize,
+}
+
+/// Makes a plan.
+#[derive(Drop)]
+pub(crate) struct Planner {
+    dice: Dice,
+    /// Before how many steps handlers may still come.
+    left: u32,
+    /// Handlers come before one of so many steps inside calls and while the scheduler is suspended, and before one of three
+    /// times as many others.
+    rarity: u32,
+    pub(crate) points: Vec<Point>,
+    pub(crate) made: Points,
+}
+
+impl Planner {
+    /// A planner that makes no points.
+    pub(crate) fn idle(alloc: Global) -> Self {
+        Planner {
+            dice: Dice::new(0),
+            left: 0,
+            rarity: 1,
+            points: Vec::new(alloc),
+            made: Points::default(),
+        }
+    }
+
+    /// A planner that makes one point or a few, or many.
+    pub(crate) fn new(alloc: Global, seed: u32) -> Self {
+        let mut dice = Dice::new(seed);
+        let left = match dice.roll(4) {
+            0 => 1,
+            1 => 2 + dice.roll(3),
+            _ => 1000,
+        };
+        let rarity = 1 << dice.roll(6);
+        Planner {
+            dice,
+            left,
+            rarity,
+            points: Vec::new(alloc),
+            made: Points::default(),
+        }
+    }
+
+    /// How many handlers come before the next step. Where tasks wait at both sides of the locked object, some come always, and
+    /// where a task of higher priority is suspended and the running one is about to decide whether it waits.
+    fn roll_count(&mut self, slow: &SlowKernel) -> u32 {
+        let sides = if slow.has_both_at_lock() || slow.has_suspended_above_decision() {
+            1
+        } else if slow.is_inside_call() || slow.is_scheduler_suspended() {
+            self.rarity
+        } else {
+            self.rarity.saturating_mul(3)
+        };
+        let sides = 1.max(sides);
+        if self.left == 0 || self.dice.roll(sides) > 0 {
+            return 0;
+        }
+        self.left -= 1;
+        1 + self.dice.roll(3)
+    }
+
+    /// Counts a point before the next step of the slow program.
+    fn count(&mut self, slow: &SlowKernel) {
+        let is_inside_call = slow.is_inside_call();
+        let is_locked = slow.is_locked();
+        let is_suspended = slow.is_scheduler_suspended();
+        self.made.all = self.made.all.saturating_add(1);
+        let inside = &mut self.made.inside_calls;
+        *inside = inside.saturating_add(is_inside_call as usize);
+        let locked = &mut self.made.locked;
+        *locked = locked.saturating_add(is_locked as usize);
+        let suspended = &mut self.made.suspended;
+        *suspended = suspended.saturating_add(is_suspended as usize);
+    }
+
+    fn push(&mut self, step: u32) -> Option<()> {
+        let number = self.dice.roll(3) as u8;
+        let handler = HandlerId { number };
+        self.points.push(Point { step, handler }).ok()
+    }
+
+    /// Makes the points before the next step.
+    fn plan_step(&mut self, slow: &SlowKernel) -> Option<&[Point]> {
+        let old = self.points.len();
+        for _ in 0..self.roll_count(slow) {
+            self.push(slow.steps)?;
+            self.count(slow);
+        }
+        self.points.as_slice().get(old..)
+    }
+
+    /// Makes up to two points past the end of the run, where more may come.
+    fn plan_late(&mut self, steps: u32) -> Option<()> {
+        let mut step = steps;
+        if self.left == 0 {
+            return Some(());
+        }
+        for _ in 0..self.dice.roll(3) {
+            step = step.saturating_add(self.dice.roll(3));
+            self.push(step)?;
+            self.made.all = self.made.all.saturating_add(1);
+            self.made.late = self.made.late.saturating_add(1);
+        }
+        Some(())
+    }
+
+    /// Runs the slow program to its end, and plans along its way; `None` where no memory is left.
+    pub(crate) fn run(&mut self, slow: &mut SlowKernel, app: &App, limits: &Limits) -> Option<End> {
+        for _ in 0..limits.steps {
+            if slow.end(app, limits).is_some() {
+                break;
+            }
+            let points = self.plan_step(slow)?;
+            slow.step(app, points);
+        }
+        self.plan_late(slow.steps)?;
+        if slow.is_out_of_memory {
+            return None;
+        }
+        slow.end(app, limits)
+    }
+}

@@ -1,0 +1,311 @@
+//! Runs of the kernel beside runs of the slow program, on many small applications.
+
+use crate::dice::Dice;
+use crate::file::{file_of, points_text};
+use crate::planner::{Planner, Points};
+use crate::slow::SlowKernel;
+use model::{App, Meter, Plan};
+use script::FromDocument;
+use std::alloc::Global;
+use std::process::Abort;
+
+/// Fails the test, and shows the application as a file.
+fn fail(rt: &impl Abort, alloc: Global, seed: u32, app: &App, plan: &Plan, what: &str) {
+    let file = file_of(alloc, app).expect(rt, "memory");
+    let points = points_text(alloc, app, plan.points()).expect(rt, "memory");
+    panic!(rt;
+        "seed {seed}: other {what} than the slow program, with points{points} on this file\n{file}"
+    );
+}
+
+/// How many of the runs have what they are for.
+#[derive(Debug, Default, Drop)]
+struct Seen {
+    /// The tick wrapped.
+    wraps: usize,
+    /// A call or a handler woke one who waited.
+    wakes: usize,
+    /// A wait ended at its deadline.
+    timeouts: usize,
+    /// A task whose call had locked the queue was Awake.
+    own_awakenings: usize,
+    /// Another was.
+    other_awakenings: usize,
+    /// Tasks of both waiting lists were Awake when their queue was unlocked.
+    mixed_unlocks: usize,
+    /// A handler gave a semaphore that was locked.
+    locked_gives: usize,
+    /// The holder of a mutex was raised by one who waits.
+    raises: usize,
+    /// A raised holder gave one of several mutexes back.
+    kept_raises: usize,
+    /// A holder fell when a wait was in vain.
+    falls: usize,
+    /// It did, and kept the priority of another who waits.
+    partial_falls: usize,
+    /// A set met two who waited, or more.
+    crowded_sets: usize,
+    /// It met one or more who asked to clear.
+    clearing_sets: usize,
+    /// A wait for bits ended at its deadline.
+    bit_timeouts: usize,
+    /// A task was suspended that waited.
+    suspended_waits: usize,
+    /// One was whose call was to decide next.
+    suspended_decisions: usize,
+    /// One was for which bits were kept.
+    suspended_answers: usize,
+    /// A task was resumed in the middle of a call.
+    resumed_calls: usize,
+    /// One was while an object was locked.
+    locked_resumes: usize,
+    /// One was before the end of a sleep by `delay_until`.
+    cut_off_sleeps: usize,
+    /// A tick came while the scheduler was suspended.
+    held_ticks: usize,
+    /// A base interrupt came at such a tick.
+    held_interrupts: usize,
+    /// A task became Ready while the scheduler was suspended.
+    held_wakes: usize,
+    /// The run ended with a misuse, of each kind.
+    while_suspended: usize,
+    not_suspended: usize,
+    not_holder: usize,
+    ended_suspended: usize,
+    points: Points,
+}
+
+impl Seen {
+    fn count(&mut self, slow: &SlowKernel, has_wrapped: bool, points: &Points) {
+        let tally = slow.tally;
+        add(&mut self.wraps, has_wrapped as usize);
+        see(&mut self.wakes, tally.wakes);
+        see(&mut self.timeouts, tally.timeouts);
+        see(&mut self.own_awakenings, tally.own_awakenings);
+        see(&mut self.other_awakenings, tally.other_awakenings);
+        see(&mut self.mixed_unlocks, tally.mixed_unlocks);
+        see(&mut self.locked_gives, tally.locked_gives);
+        see(&mut self.raises, tally.raises);
+        see(&mut self.kept_raises, tally.kept_raises);
+        see(&mut self.falls, tally.falls);
+        see(&mut self.partial_falls, tally.partial_falls);
+        self.count_groups(slow);
+        self.count_suspensions(slow);
+        self.count_misuses(slow);
+        self.count_points(points);
+    }
+
+    fn count_groups(&mut self, slow: &SlowKernel) {
+        let tally = slow.tally;
+        see(&mut self.crowded_sets, tally.crowded_sets);
+        see(&mut self.clearing_sets, tally.clearing_sets);
+        see(&mut self.bit_timeouts, tally.bit_timeouts);
+        see(&mut self.suspended_answers, tally.suspended_answers);
+    }
+
+    fn count_suspensions(&mut self, slow: &SlowKernel) {
+        let tally = slow.tally;
+        see(&mut self.suspended_waits, tally.suspended_waits);
+        see(&mut self.suspended_decisions, tally.suspended_decisions);
+        see(&mut self.resumed_calls, tally.resumed_calls);
+        see(&mut self.locked_resumes, tally.locked_resumes);
+        see(&mut self.cut_off_sleeps, tally.cut_off_sleeps);
+        see(&mut self.held_ticks, tally.held_ticks);
+        see(&mut self.held_interrupts, tally.held_interrupts);
+        see(&mut self.held_wakes, tally.held_wakes);
+    }
+
+    fn count_misuses(&mut self, slow: &SlowKernel) {
+        let tally = slow.tally;
+        see(&mut self.while_suspended, tally.while_suspended);
+        see(&mut self.not_suspended, tally.not_suspended);
+        see(&mut self.not_holder, tally.not_holder);
+        see(&mut self.ended_suspended, tally.ended_suspended);
+    }
+
+    fn count_points(&mut self, points: &Points) {
+        add(&mut self.points.all, points.all);
+        add(&mut self.points.inside_calls, points.inside_calls);
+        add(&mut self.points.locked, points.locked);
+        add(&mut self.points.suspended, points.suspended);
+        add(&mut self.points.late, points.late);
+    }
+}
+
+/// Counts a run in which something happened so many times.
+fn see(count: &mut usize, times: u32) {
+    add(count, (times > 0) as usize);
+}
+
+fn add(count: &mut usize, more: usize) {
+    *count = count.saturating_add(more);
+}
+
+/// Runs both, the slow program first, with the plan that is made meanwhile, and compares what they tell.
+fn compare(
+    rt: &impl Abort,
+    alloc: Global,
+    seed: u32,
+    app: &App,
+    mut planner: Planner,
+    seen: &mut Seen,
+) {
+    let limits = app.limits();
+    let mut slow = SlowKernel::boot(alloc, app);
+    let end = planner.run(&mut slow, app, &limits).expect(rt, "memory");
+    let made = planner.made;
+    let plan = Plan::new(planner.points).ok().expect(rt, "a plan");
+    let mut meter = Meter::new();
+    let run = kernel::run(alloc, app, &plan, limits, &mut meter).expect(rt, "memory");
+    if run.events.as_slice() != slow.events.as_slice() {
+        fail(rt, alloc, seed, app, &plan, "events");
+    }
+    if (run.end, run.steps, run.ticks) != (end, slow.steps, slow.elapsed) {
+        fail(rt, alloc, seed, app, &plan, "end, steps or ticks");
+    }
+    if meter.steps() != run.steps as u64 {
+        fail(rt, alloc, seed, app, &plan, "metered steps");
+    }
+    let has_wrapped = run.ticks > u32::MAX - app.start();
+    seen.count(&slow, has_wrapped, &made);
+}
+
+#[test]
+fn the_slow_program_agrees(rt: HostRuntime) {
+    let mut seen = Seen::default();
+    for seed in 0..20_000 {
+        let mut dice = Dice::new(seed);
+        let app = dice.app(rt.alloc()).expect(&rt, "memory");
+        let planner = Planner::idle(rt.alloc());
+        compare(&rt, rt.alloc(), seed, &app, planner, &mut seen);
+    }
+    let has_all = seen.wraps > 9_500 && seen.wakes > 2_750 && seen.timeouts > 3_000;
+    assert!(rt; has_all && seen.bit_timeouts > 2_300, "{seen:?}");
+    assert!(rt;
+        seen.suspended_waits > 800 && seen.held_ticks > 2_700,
+        "{seen:?}"
+    );
+}
+
+#[test]
+fn the_slow_program_agrees_where_handlers_are_injected(rt: HostRuntime) {
+    let mut seen = Seen::default();
+    for seed in 0..20_000 {
+        let mut dice = if seed % 3 == 0 {
+            Dice::new(seed)
+        } else {
+            Dice::crowding(seed)
+        };
+        let app = dice.app(rt.alloc()).expect(&rt, "memory");
+        let planner = Planner::new(rt.alloc(), u32::MAX - seed);
+        compare(&rt, rt.alloc(), seed, &app, planner, &mut seen);
+    }
+    let points = seen.points;
+    let has_points = points.all > 47_500 && points.late > 4_750;
+    let has_inside = points.inside_calls > points.all / 3 && points.locked > points.all / 6;
+    assert!(rt; has_points && has_inside, "{seen:?}");
+    let has_awakenings = seen.own_awakenings > 2_400 && seen.other_awakenings > 475;
+    assert!(rt; has_awakenings && seen.mixed_unlocks > 45, "{seen:?}");
+    assert!(rt; seen.locked_gives > 1_150, "{seen:?}");
+}
+
+#[test]
+fn the_slow_program_agrees_where_tasks_contend_for_mutexes(rt: HostRuntime) {
+    let mut seen = Seen::default();
+    for seed in 0..20_000 {
+        let mut dice = Dice::contending(seed);
+        let app = dice.app(rt.alloc()).expect(&rt, "memory");
+        let planner = if seed % 2 == 0 {
+            Planner::idle(rt.alloc())
+        } else {
+            Planner::new(rt.alloc(), u32::MAX - seed)
+        };
+        compare(&rt, rt.alloc(), seed, &app, planner, &mut seen);
+    }
+    let has_raises = seen.raises > 4_750 && seen.kept_raises > 475;
+    let has_falls = seen.falls > 1_150 && seen.partial_falls > 180;
+    assert!(rt;
+        has_raises && has_falls && seen.not_holder > 2_375,
+        "{seen:?}"
+    );
+}
+
+#[test]
+fn the_slow_program_agrees_where_tasks_wait_for_bits(rt: HostRuntime) {
+    let mut seen = Seen::default();
+    for seed in 0..20_000 {
+        let mut dice = Dice::gathering(seed);
+        let app = dice.app(rt.alloc()).expect(&rt, "memory");
+        let planner = if seed % 2 == 0 {
+            Planner::idle(rt.alloc())
+        } else {
+            Planner::new(rt.alloc(), u32::MAX - seed)
+        };
+        compare(&rt, rt.alloc(), seed, &app, planner, &mut seen);
+    }
+    let has_sets = seen.crowded_sets > 900 && seen.clearing_sets > 3_000;
+    let has_ends = seen.bit_timeouts > 8_500 && seen.suspended_answers > 200;
+    assert!(rt; has_sets && has_ends, "{seen:?}");
+}
+
+#[test]
+fn the_slow_program_agrees_where_tasks_are_suspended(rt: HostRuntime) {
+    let mut seen = Seen::default();
+    for seed in 0..20_000 {
+        let mut dice = Dice::suspending(seed);
+        let app = dice.app(rt.alloc()).expect(&rt, "memory");
+        let planner = if seed % 4 == 0 {
+            Planner::idle(rt.alloc())
+        } else {
+            Planner::new(rt.alloc(), u32::MAX - seed)
+        };
+        compare(&rt, rt.alloc(), seed, &app, planner, &mut seen);
+    }
+    let has_tasks = seen.suspended_waits > 700 && seen.suspended_decisions > 120;
+    let has_resumes = seen.resumed_calls > 600 && seen.locked_resumes > 70;
+    assert!(rt;
+        has_tasks && has_resumes && seen.cut_off_sleeps > 550,
+        "{seen:?}"
+    );
+    let has_ticks = seen.held_ticks > 7_000 && seen.held_interrupts > 3_800;
+    let has_wakes = seen.held_wakes > 1_100 && seen.points.suspended > 20_000;
+    assert!(rt; has_ticks && has_wakes, "{seen:?}");
+    let has_early_misuses = seen.while_suspended > 600 && seen.not_suspended > 600;
+    assert!(rt; has_early_misuses && seen.ended_suspended > 900, "{seen:?}");
+}
+
+/// The application that a file describes.
+fn loaded(rt: &impl Abort, alloc: Global, file: &str) -> App {
+    let document = toml::table_from_str(alloc, file)
+        .ok()
+        .expect(rt, "a document");
+    App::from_document(alloc, &document)
+        .ok()
+        .expect(rt, "an application")
+}
+
+#[test]
+fn an_application_that_is_shown_as_a_file_is_loaded_as_it_was(rt: HostRuntime) {
+    for seed in 0..200 {
+        let mut dice = Dice::new(seed);
+        let app = dice.app(rt.alloc()).expect(&rt, "memory");
+        let file = file_of(rt.alloc(), &app).expect(&rt, "memory");
+        let back = loaded(&rt, rt.alloc(), file.as_str());
+        assert_eq!(rt; back.start(), app.start(), "{file}");
+        assert_eq!(rt; back.limits(), app.limits(), "{file}");
+        assert_eq!(rt; back.objects(), app.objects(), "{file}");
+        assert_eq!(rt; back.group_count(), app.group_count(), "{file}");
+        assert_eq!(rt; back.interrupts(), app.interrupts(), "{file}");
+        assert_eq!(rt; back.handlers().len(), app.handlers().len(), "{file}");
+        for (one, other) in back.handlers().iter().zip(app.handlers()) {
+            assert_eq!(rt; one.name(), other.name(), "{file}");
+            assert_eq!(rt; one.ops(), other.ops(), "{file}");
+        }
+        assert_eq!(rt; back.tasks().len(), app.tasks().len(), "{file}");
+        for (one, other) in back.tasks().iter().zip(app.tasks()) {
+            assert_eq!(rt; one.name(), other.name(), "{file}");
+            assert_eq!(rt; one.priority(), other.priority(), "{file}");
+            assert_eq!(rt; one.ops(), other.ops(), "{file}");
+        }
+    }
+}

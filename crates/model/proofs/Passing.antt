@@ -1,0 +1,444 @@
+-- What each op makes of the ticks and of the suspension of the scheduler: most leave both as they were.
+use Rattle.std.proofs.Common.{ap₂, Bool, ap, ◌≡◌, ◌≢◌, ◌≤◌, ◌+◌, ◌-◌, ◌||◌, ◌&&◌, ℕ, zero, suc, true, false, eqb, ltb, List, ◌++◌, Option, Some, None, refl, ◌∙◌, arith, length}
+use Rattle.std.specs.Prelude.{if◌then◌else◌}
+use Rattle.std.specs.Option.{option_eq, is_some}
+use Rattle.model.specs.declared.op.Op.{Op}
+use Rattle.model.specs.declared.op.Op.TheVariants.{Work, Delay, DelayUntil, Yield, Time, Mark, Expect, Repeat, End, Await, Do, GiveMutex, MessagesWaiting, SpacesAvailable, SetBits, ClearBits, GetBits, WaitBits, Suspend, Resume, SuspendAll, ResumeAll}
+use Rattle.model.specs.declared.op.Access.{Access}
+use Rattle.model.specs.declared.call.Condition.{Condition}
+use Rattle.model.specs.declared.call.Phase.{Phase}
+use Rattle.model.specs.declared.call.Phase.TheVariants.{Start, Try, Decide, Place, Unlock, Leave, Final}
+use Rattle.model.specs.declared.call.WaitList.TheVariants.{ToReceive, ToSend}
+use Rattle.model.specs.declared.event.Misuse.{Misuse}
+use Rattle.model.specs.declared.event.Misuse.TheVariants.{NotSuspended}
+use Rattle.model.specs.declared.event.What.TheVariants as what
+use Rattle.model.specs.Application.{Application, op_at}
+use Rattle.model.specs.State.{State, status_at, progress_at, call_at, object_at, bits_at, for_one, printed}
+use Rattle.model.specs.Order.{tasks_of}
+use Rattle.model.specs.Switching.{choose, preempt, slice, settle, is_scheduler_suspended, is_held, unless_held, write}
+use Rattle.model.specs.Waiting.{awakened, wait_in, set_deadline, is_expired, end_hold, unlock_object, unlock}
+use Rattle.model.specs.Time.{advance, increment_tick, apply_one, apply_held}
+use Rattle.model.specs.Ops.{answer, use_up, expect}
+use Rattle.model.specs.Objects.{possible}
+use Rattle.model.specs.Calls.{decide, leave_call, await}
+use Rattle.model.specs.Groups.{is_met, begin_set, set_bits, wait_for_bits, begin_bits_wait, check, final_bits, wait_bits}
+use Rattle.model.specs.Suspension.{suspend_all, resume_scheduler, resume_all}
+use Rattle.model.specs.Handlers.{interrupt, tick_interrupt}
+use Rattle.model.specs.Step.{is_ended, judge, act, act_unless, own_misuse, misuse, act_if, act_current, before_step, step, reset, nobody_ready, ready_at_reset, with_ops}
+use Rattle.model.specs.Invariant.{Hold, hold_of, InOne, course, Suspension, suspension_of}
+use Rattle.model.proofs.Sorting.{by_test}
+use Rattle.model.proofs.Frames.{Keeps, keeps, keeps_both, keeps-choose, keeps-yield_now, keeps-preempt, keeps-slice, keeps-settle, keeps-unless_held, keeps-all_ready, keeps-wake_due, keeps-go_to, keeps-answer, keeps-use_up, keeps-delay, keeps-delay_until, keeps-open_loop, keeps-close_turn, keeps-set_deadline, keeps-inherit, keeps-give_mutex, keeps-try, keeps-do_now, keeps-set, keeps-clear, keeps-answer_bits, keeps-call_suspend, keeps-call_resume, keeps-interrupt, keeps-before_step}
+
+-- ---- a call in its phases lets no time pass
+
+-- No tick comes, and as many `suspend_all` are in force, and as many ticks held.
+pub record Lasts (old new : State) : Type 0 where
+  pub elapsed : new.elapsed ≡ old.elapsed
+  pub suspension : suspension_of new ≡ suspension_of old
+
+pub lasts : (s t : State) → Keeps s t → Lasts s t
+lasts s t k = record { elapsed = k.elapsed; suspension = k.suspension }
+
+lasts_both : (a b c : State) → Lasts a b → Keeps b c → Lasts a c
+lasts_both a b c h k = record { elapsed = k.elapsed ∙ h.elapsed; suspension = k.suspension ∙ h.suspension }
+
+pub lasts-unlock : (s : State) → Lasts s (unlock s)
+unfolding unlock
+lasts-unlock s = by_locked s.locked where
+  by_locked : (o : Option ℕ) → Lasts s (for_one unlock_object o s)
+  by_locked None = lasts s s (keeps s)
+  by_locked (Some o) =
+      let k = keeps-all_ready (tasks_of (awakened s (ToReceive o)) ++ tasks_of (awakened s (ToSend o))) (record s { locked = None }) in
+      record { elapsed = k.elapsed; suspension = k.suspension }
+
+pub lasts-decide : (i o : ℕ) (a : Access) (s : State) → Lasts s (decide i o a s)
+unfolding decide wait_in
+lasts-decide i o a s = by_test (possible s o a || is_expired s i)
+    (λ t. rw t (record { elapsed = refl; suspension = refl }))
+    (λ t. rw t (let k = keeps-inherit i o s in record { elapsed = k.elapsed; suspension = k.suspension }))
+
+pub lasts-leave_call : (i : ℕ) (s : State) → Lasts s (leave_call i s)
+unfolding leave_call
+lasts-leave_call i s =
+    let free : State = end_hold i Try s in
+    let ended : Lasts s free = record { elapsed = refl; suspension = refl } in
+    by_test (is_some (call_at s i).list)
+    (λ t. rw t (lasts_both s free (choose free) ended (keeps-choose free)))
+    (λ t. rw t (lasts_both s free (preempt free) ended (keeps-preempt free)))
+
+lasts-await : (app : Application) (i o : ℕ) (a : Access) (ticks : Option ℕ) (phase : Phase) (s : State) → Lasts s (await app i o a ticks phase s)
+lasts-await app i o a ticks Start s = let t : State = set_deadline i ticks s in lasts s _ (keeps_both s t _ (keeps-set_deadline i ticks s) (keeps-try app i o a t))
+lasts-await app i o a ticks Try s = lasts s _ (keeps-try app i o a s)
+lasts-await app i o a ticks Decide s = lasts-decide i o a s
+lasts-await app i o a ticks Place s = record { elapsed = refl; suspension = refl }
+lasts-await app i o a ticks Unlock s = let k = lasts-unlock s in record { elapsed = k.elapsed; suspension = k.suspension }
+lasts-await app i o a ticks Leave s = lasts-leave_call i s
+lasts-await app i o a ticks Final s = lasts-leave_call i s
+
+pub lasts-begin_set : (i group mask : ℕ) (s : State) → Lasts s (begin_set i group mask s)
+unfolding begin_set
+lasts-begin_set i group mask s = let k = keeps-set group mask (record s { call_hold = true }) in record { elapsed = k.elapsed; suspension = k.suspension }
+
+pub lasts-end_set : (app : Application) (i : ℕ) (s : State) → Lasts s (preempt (answer app i (call_at s i).kept (end_hold i Start s)))
+lasts-end_set app i s =
+    let free : State = end_hold i Start s in
+    let told : State = answer app i (call_at s i).kept free in
+    lasts_both s free (preempt told) (record { elapsed = refl; suspension = refl }) (keeps_both free told (preempt told) (keeps-answer app i (call_at s i).kept free) (keeps-preempt told))
+
+lasts-set_bits : (app : Application) (i group mask : ℕ) (phase : Phase) (s : State) → Lasts s (set_bits app i group mask phase s)
+lasts-set_bits app i group mask Start s = lasts-begin_set i group mask s
+lasts-set_bits app i group mask Try s = lasts-end_set app i s
+lasts-set_bits app i group mask Decide s = lasts-end_set app i s
+lasts-set_bits app i group mask Place s = lasts-end_set app i s
+lasts-set_bits app i group mask Unlock s = lasts-end_set app i s
+lasts-set_bits app i group mask Leave s = lasts-end_set app i s
+lasts-set_bits app i group mask Final s = lasts-end_set app i s
+
+pub lasts-check : (app : Application) (i group : ℕ) (c : Condition) (ticks : Option ℕ) (s : State) → Lasts s (check app i group c ticks s)
+unfolding check begin_bits_wait wait_for_bits set_deadline
+lasts-check app i group c ticks s = by_test (is_met (bits_at s group) c || option_eq eqb ticks (Some 0))
+    (λ t. rw t (lasts s _ (keeps-answer_bits app i group c s)))
+    (λ t. rw t (record { elapsed = refl; suspension = refl }))
+
+pub lasts-final_bits : (app : Application) (i group : ℕ) (c : Condition) (kept : Option ℕ) (s : State) → Keeps s (final_bits app i group c kept s)
+lasts-final_bits app i group c None s = keeps-answer_bits app i group c s
+lasts-final_bits app i group c (Some bits) s = keeps-answer app i (Some bits) s
+
+lasts-wait_bits : (app : Application) (i group : ℕ) (c : Condition) (ticks : Option ℕ) (phase : Phase) (s : State) → Lasts s (wait_bits app i group c ticks phase s)
+lasts-wait_bits app i group c ticks Start s = lasts-check app i group c ticks s
+lasts-wait_bits app i group c ticks Leave s = let k = keeps-choose (end_hold i Final s) in record { elapsed = k.elapsed; suspension = k.suspension }
+lasts-wait_bits app i group c ticks Try s = lasts s _ (lasts-final_bits app i group c (call_at s i).kept s)
+lasts-wait_bits app i group c ticks Decide s = lasts s _ (lasts-final_bits app i group c (call_at s i).kept s)
+lasts-wait_bits app i group c ticks Place s = lasts s _ (lasts-final_bits app i group c (call_at s i).kept s)
+lasts-wait_bits app i group c ticks Unlock s = lasts s _ (lasts-final_bits app i group c (call_at s i).kept s)
+lasts-wait_bits app i group c ticks Final s = lasts s _ (lasts-final_bits app i group c (call_at s i).kept s)
+
+-- the other op that may change nothing of a task, and yet does something
+pub record Ends (old new : State) : Type 0 where
+  pub lasts : Lasts old new
+  pub hold : hold_of new ≡ hold_of old
+
+ends : (s t : State) → Keeps s t → Ends s t
+ends s t k = record { lasts = lasts s t k; hold = k.hold }
+
+ends-expect : (app : Application) (i : ℕ) (a : Option ℕ) (s : State) → Ends s (expect app i a s)
+unfolding expect
+ends-expect app i a s = by_test (option_eq eqb (progress_at s i).answer a)
+    (λ t. rw t (ends s _ (keeps-go_to app i ((progress_at s i).op_index + 1) (progress_at s i) s)))
+    (λ t. rw t (record { lasts = record { elapsed = refl; suspension = refl }; hold = refl }))
+
+-- ---- the tick: it alone lets time pass
+
+-- a tick that has come, and has not been acted upon
+abbrev pub tick_come : State → State
+tick_come s =
+    if is_scheduler_suspended s
+    then record s { elapsed = s.elapsed + 1; held_ticks = s.held_ticks + 1 }
+    else record s { time = s.time + 1; elapsed = s.elapsed + 1 }
+
+keeps-increment : (s : State) → Keeps (tick_come s) (increment_tick s)
+unfolding increment_tick advance
+keeps-increment s = by_test (is_scheduler_suspended s)
+    (λ t. rw t (keeps (record s { elapsed = s.elapsed + 1; held_ticks = s.held_ticks + 1 })))
+    (λ t. rw t (keeps-wake_due (record s { time = s.time + 1; elapsed = s.elapsed + 1 })))
+
+pub hold-increment : (s : State) → hold_of (increment_tick s) ≡ hold_of s
+hold-increment s = (keeps-increment s).hold ∙ by_test (is_scheduler_suspended s) (λ t. rw t refl) (λ t. rw t refl)
+
+-- from when it has come on, no more time passes
+keeps-tick : (app : Application) (s : State) → Keeps (tick_come s) (tick_interrupt app s)
+unfolding tick_interrupt
+keeps-tick app s =
+    let come : State = increment_tick s in
+    let told : State = interrupt app come in
+    keeps_both (tick_come s) come (unless_held slice told) (keeps-increment s)
+    (keeps_both come told (unless_held slice told) (keeps-interrupt app come) (keeps-unless_held slice told keeps-slice))
+
+-- a tick and its base interrupts hold nothing, and let go of nothing
+pub held-told : (app : Application) (s : State) → is_held (interrupt app (increment_tick s)) ≡ is_held s
+held-told app s =
+    let come : State = increment_tick s in
+    let told : State = interrupt app come in
+    let k : Keeps (tick_come s) told = keeps_both (tick_come s) come told (keeps-increment s) (keeps-interrupt app come) in
+    let hold : told.call_hold ≡ s.call_hold = ap (λ (x : Hold). x.held) k.hold ∙ by_test (is_scheduler_suspended s) (λ t. rw t refl) (λ t. rw t refl) in
+    let count : told.suspensions ≡ s.suspensions = ap (λ (x : Suspension). x.suspensions) k.suspension ∙ by_test (is_scheduler_suspended s) (λ t. rw t refl) (λ t. rw t refl) in
+    ap₂ (λ (b : Bool) (n : ℕ). b || ltb 0 n) hold count
+
+pub elapsed-tick : (app : Application) (s : State) → (tick_interrupt app s).elapsed ≡ s.elapsed + 1
+elapsed-tick app s = (keeps-tick app s).elapsed ∙ by_test (is_scheduler_suspended s) (λ t. rw t refl) (λ t. rw t refl)
+
+pub hold-tick : (app : Application) (s : State) → hold_of (tick_interrupt app s) ≡ hold_of s
+hold-tick app s = (keeps-tick app s).hold ∙ by_test (is_scheduler_suspended s) (λ t. rw t refl) (λ t. rw t refl)
+
+pub suspension-tick : (app : Application) (s : State) → s.suspensions ≡ 0 → suspension_of (tick_interrupt app s) ≡ suspension_of s
+suspension-tick app s none = (keeps-tick app s).suspension ∙ rw none refl
+
+pub suspensions-tick : (app : Application) (s : State) → (tick_interrupt app s).suspensions ≡ s.suspensions
+suspensions-tick app s = ap (λ (x : Suspension). x.suspensions) (keeps-tick app s).suspension ∙ by_test (is_scheduler_suspended s) (λ t. rw t refl) (λ t. rw t refl)
+
+-- ---- the scheduler suspended and resumed
+
+-- a held tick more is applied
+applied : (s : State) → Keeps (record s { time = s.time + 1; held_ticks = s.held_ticks - 1 }) (apply_one s)
+unfolding apply_one advance
+applied s = keeps-wake_due (record s { time = s.time + 1; held_ticks = s.held_ticks - 1 })
+
+-- when so many have been applied
+pub record Applies (n : ℕ) (old new : State) : Type 0 where
+  pub elapsed : new.elapsed ≡ old.elapsed
+  pub hold : hold_of new ≡ hold_of old
+  pub suspensions : new.suspensions ≡ old.suspensions
+  pub held : new.held_ticks ≡ old.held_ticks - n
+  pub tasks : length new.tasks ≡ length old.tasks
+
+pub applies : (n : ℕ) (s : State) → Applies n s (apply_held n s)
+applies zero s = record { elapsed = refl; hold = refl; suspensions = refl; held = omega arith; tasks = refl }
+applies (suc n) s =
+    let k = applied s in
+    let h = applies n (apply_one s) in
+    let one : (apply_one s).held_ticks ≡ s.held_ticks - 1 = ap (λ (x : Suspension). x.held_ticks) k.suspension in
+    record {
+      elapsed = h.elapsed ∙ k.elapsed;
+      hold = h.hold ∙ k.hold;
+      suspensions = h.suspensions ∙ ap (λ (x : Suspension). x.suspensions) k.suspension;
+      held = let e = h.held in omega arith;
+      tasks = h.tasks ∙ k.tasks;
+    }
+
+-- one `suspend_all` less, and after the last no tick is held
+pub record Resumes (old new : State) : Type 0 where
+  pub elapsed : new.elapsed ≡ old.elapsed
+  pub hold : hold_of new ≡ hold_of old
+  pub suspensions : new.suspensions ≡ old.suspensions - 1
+  pub held : old.suspensions ≡ 1 → new.held_ticks ≡ 0
+
+pub resumes : (s : State) → Resumes s (resume_scheduler s)
+unfolding resume_scheduler
+resumes s = by_test (eqb s.suspensions 1)
+    (λ t. rw t (let k = applies s.held_ticks (record s { suspensions = s.suspensions - 1 }) in
+    record { elapsed = k.elapsed; hold = k.hold; suspensions = k.suspensions; held = λ _. let e = k.held in omega arith }))
+    (λ t. rw t (record { elapsed = refl; hold = refl; suspensions = refl; held = λ e. let u : eqb s.suspensions 1 ≡ true = rw e refl in absurd (cc) }))
+
+pub resumes-all : (app : Application) (i : ℕ) (s : State) → Resumes s (resume_all app i s)
+unfolding resume_all
+resumes-all app i s =
+    let t : State = resume_scheduler s in
+    let r = resumes s in
+    let u : State = answer app i (Some 0) t in
+    let k : Keeps t (unless_held preempt u) = keeps_both t u (unless_held preempt u) (keeps-answer app i (Some 0) t) (keeps-unless_held preempt u keeps-preempt) in
+    record {
+      elapsed = k.elapsed ∙ r.elapsed;
+      hold = k.hold ∙ r.hold;
+      suspensions = ap (λ (x : Suspension). x.suspensions) k.suspension ∙ r.suspensions;
+      held = λ e. ap (λ (x : Suspension). x.held_ticks) k.suspension ∙ r.held e;
+    }
+
+pub record Suspends (old new : State) : Type 0 where
+  pub elapsed : new.elapsed ≡ old.elapsed
+  pub hold : hold_of new ≡ hold_of old
+  pub suspensions : new.suspensions ≡ old.suspensions + 1
+
+pub suspends-all : (app : Application) (i : ℕ) (s : State) → Suspends s (suspend_all app i s)
+unfolding suspend_all
+suspends-all app i s =
+    let k = keeps-answer app i (Some 0) (record s { suspensions = s.suspensions + 1 }) in
+    record { elapsed = k.elapsed; hold = k.hold; suspensions = ap (λ (x : Suspension). x.suspensions) k.suspension }
+
+-- ---- the ops
+
+-- The op lets no tick pass, and doesn't suspend or resume the scheduler.
+abbrev pub is_instant : Op → Bool
+is_instant (Work n) = false
+is_instant SuspendAll = false
+is_instant ResumeAll = false
+is_instant _ = true
+
+-- what is true of those three, and of all others, is true of every op
+pub by_op : (P : Op → Type 0) → ((n : ℕ) → P (Work n)) → P SuspendAll → P ResumeAll → ((op : Op) → is_instant op ≡ true → P op) → (op : Op) → P op
+by_op P w s r f (Work n) = w n
+by_op P w s r f (Delay n) = f (Delay n) refl
+by_op P w s r f (DelayUntil n) = f (DelayUntil n) refl
+by_op P w s r f Yield = f Yield refl
+by_op P w s r f Time = f Time refl
+by_op P w s r f (Mark n) = f (Mark n) refl
+by_op P w s r f (Expect a) = f (Expect a) refl
+by_op P w s r f (Repeat n) = f (Repeat n) refl
+by_op P w s r f End = f End refl
+by_op P w s r f (Await o a ticks) = f (Await o a ticks) refl
+by_op P w s r f (Do o a) = f (Do o a) refl
+by_op P w s r f (GiveMutex o) = f (GiveMutex o) refl
+by_op P w s r f (MessagesWaiting o) = f (MessagesWaiting o) refl
+by_op P w s r f (SpacesAvailable o) = f (SpacesAvailable o) refl
+by_op P w s r f (SetBits g m) = f (SetBits g m) refl
+by_op P w s r f (ClearBits g m) = f (ClearBits g m) refl
+by_op P w s r f (GetBits g) = f (GetBits g) refl
+by_op P w s r f (WaitBits g c ticks) = f (WaitBits g c ticks) refl
+by_op P w s r f (Suspend j) = f (Suspend j) refl
+by_op P w s r f (Resume j) = f (Resume j) refl
+by_op P w s r f SuspendAll = s
+by_op P w s r f ResumeAll = r
+
+-- an instant op in one phase
+ends-act : (app : Application) (i : ℕ) (op : Op) (s : State) → is_instant op ≡ true → course (Some op) ≡ InOne → Ends s (act app i op s)
+ends-act app i (Work n) s t w = absurd (cc)
+ends-act app i (Delay n) s t w = ends s _ (keeps-delay app i n s)
+ends-act app i (DelayUntil n) s t w = ends s _ (keeps-delay_until app i ((progress_at s i).previous_wake + n) s)
+ends-act app i Yield s t w = ends s _ (keeps_both s _ _ (keeps-answer app i (Some 0) s) (keeps-yield_now (answer app i (Some 0) s)))
+ends-act app i Time s t w = ends s _ (keeps-answer app i (Some (printed s.time)) s)
+ends-act app i (Mark n) s t w = let k = keeps-go_to app i ((progress_at s i).op_index + 1) (progress_at s i) (write (what.Mark i n) s) in record { lasts = record { elapsed = k.elapsed; suspension = k.suspension }; hold = k.hold }
+ends-act app i (Expect a) s t w = ends-expect app i a s
+ends-act app i (Repeat n) s t w = ends s _ (keeps-open_loop app i n s)
+ends-act app i End s t w = ends s _ (keeps-close_turn app i s)
+ends-act app i (Await o a ticks) s t w = absurd (cc)
+ends-act app i (Do o a) s t w = ends s _ (keeps-do_now app i o a s)
+ends-act app i (GiveMutex o) s t w = ends s _ (keeps-give_mutex app i o s)
+ends-act app i (MessagesWaiting o) s t w = ends s _ (keeps-answer app i (Some (length (object_at s o).items)) s)
+ends-act app i (SpacesAvailable o) s t w = ends s _ (keeps-answer app i (Some ((object_at s o).size - length (object_at s o).items)) s)
+ends-act app i (SetBits g m) s t w = absurd (cc)
+ends-act app i (ClearBits g m) s t w = ends s _ (keeps-clear app i g m s)
+ends-act app i (GetBits g) s t w = ends s _ (keeps-answer app i (Some (bits_at s g)) s)
+ends-act app i (WaitBits g c ticks) s t w = absurd (cc)
+ends-act app i (Suspend j) s t w = ends s _ (keeps-call_suspend app i j s)
+ends-act app i (Resume j) s t w = ends s _ (keeps-call_resume app i j s)
+ends-act app i SuspendAll s t w = absurd (cc)
+ends-act app i ResumeAll s t w = absurd (cc)
+
+pub lasts-act : (app : Application) (i : ℕ) (op : Op) (s : State) → is_instant op ≡ true → Lasts s (act app i op s)
+lasts-act app i (Work n) s t = absurd (cc)
+lasts-act app i (Delay n) s t = (ends-act app i (Delay n) s refl refl).lasts
+lasts-act app i (DelayUntil n) s t = (ends-act app i (DelayUntil n) s refl refl).lasts
+lasts-act app i Yield s t = (ends-act app i Yield s refl refl).lasts
+lasts-act app i Time s t = (ends-act app i Time s refl refl).lasts
+lasts-act app i (Mark n) s t = (ends-act app i (Mark n) s refl refl).lasts
+lasts-act app i (Expect a) s t = (ends-act app i (Expect a) s refl refl).lasts
+lasts-act app i (Repeat n) s t = (ends-act app i (Repeat n) s refl refl).lasts
+lasts-act app i End s t = (ends-act app i End s refl refl).lasts
+lasts-act app i (Await o a ticks) s t = lasts-await app i o a ticks (call_at s i).phase s
+lasts-act app i (Do o a) s t = (ends-act app i (Do o a) s refl refl).lasts
+lasts-act app i (GiveMutex o) s t = (ends-act app i (GiveMutex o) s refl refl).lasts
+lasts-act app i (MessagesWaiting o) s t = (ends-act app i (MessagesWaiting o) s refl refl).lasts
+lasts-act app i (SpacesAvailable o) s t = (ends-act app i (SpacesAvailable o) s refl refl).lasts
+lasts-act app i (SetBits g m) s t = lasts-set_bits app i g m (call_at s i).phase s
+lasts-act app i (ClearBits g m) s t = (ends-act app i (ClearBits g m) s refl refl).lasts
+lasts-act app i (GetBits g) s t = (ends-act app i (GetBits g) s refl refl).lasts
+lasts-act app i (WaitBits g c ticks) s t = lasts-wait_bits app i g c ticks (call_at s i).phase s
+lasts-act app i (Suspend j) s t = (ends-act app i (Suspend j) s refl refl).lasts
+lasts-act app i (Resume j) s t = (ends-act app i (Resume j) s refl refl).lasts
+lasts-act app i SuspendAll s t = absurd (cc)
+lasts-act app i ResumeAll s t = absurd (cc)
+
+-- an op in one phase holds nothing, and lets go of nothing
+pub hold-act : (app : Application) (i : ℕ) (op : Op) (s : State) → course (Some op) ≡ InOne → hold_of (act app i op s) ≡ hold_of s
+hold-act app i op s = by_op (λ op. course (Some op) ≡ InOne → hold_of (act app i op s) ≡ hold_of s)
+    (λ n w. hold-tick app (use_up app i n s) ∙ (keeps-use_up app i n s).hold)
+    (λ w. (suspends-all app i s).hold)
+    (λ w. (resumes-all app i s).hold)
+    (λ op t w. (ends-act app i op s t w).hold) op
+
+elapsed-act : (app : Application) (i : ℕ) (op : Op) (s : State) → (act app i op s).elapsed ≤ s.elapsed + 1
+elapsed-act app i op s = by_op (λ op. (act app i op s).elapsed ≤ s.elapsed + 1)
+    (λ n. let e = elapsed-tick app (use_up app i n s) in let f = (keeps-use_up app i n s).elapsed in omega arith)
+    (let e = (suspends-all app i s).elapsed in omega arith)
+    (let e = (resumes-all app i s).elapsed in omega arith)
+    (λ op t. let e = (lasts-act app i op s t).elapsed in omega arith) op
+
+-- how many `suspend_all` are in force after it
+pub suspensions-act : (app : Application) (i : ℕ) (op : Op) (s : State) → (act app i op s).suspensions ≤ s.suspensions + 1
+suspensions-act app i op s = by_op (λ op. (act app i op s).suspensions ≤ s.suspensions + 1)
+    (λ n. let e = suspensions-tick app (use_up app i n s) in let f : (use_up app i n s).suspensions ≡ s.suspensions = ap (λ (x : Suspension). x.suspensions) (keeps-use_up app i n s).suspension in omega arith)
+    (let e = (suspends-all app i s).suspensions in omega arith)
+    (let e = (resumes-all app i s).suspensions in omega arith)
+    (λ op t. let e : (act app i op s).suspensions ≡ s.suspensions = ap (λ (x : Suspension). x.suspensions) (lasts-act app i op s t).suspension in omega arith) op
+
+-- a judgement
+pub judged : (i op_index : ℕ) (s : State) → Lasts s (judge i op_index s)
+unfolding judge
+judged i op_index s = by_test (is_scheduler_suspended s && is_ended (status_at s i))
+    (λ t. rw t (record { elapsed = refl; suspension = refl }))
+    (λ t. rw t (record { elapsed = refl; suspension = refl }))
+
+-- ---- where no `suspend_all` is in force
+
+judged_calm : (i op_index : ℕ) (s : State) → s.suspensions ≡ 0 → judge i op_index s ≡ s
+unfolding judge
+judged_calm i op_index s none = rw none refl
+
+calm_still : (app : Application) (i : ℕ) (op : Op) (s : State) → s.suspensions ≡ 0 → own_misuse s i op ≡ None → op ≢ SuspendAll → (act app i op s).suspensions ≡ 0
+calm_still app i op s none = by_op (λ op. own_misuse s i op ≡ None → op ≢ SuspendAll → (act app i op s).suspensions ≡ 0)
+    (λ n m ne. suspensions-tick app (use_up app i n s) ∙ ap (λ (x : Suspension). x.suspensions) (keeps-use_up app i n s).suspension ∙ none)
+    (λ m ne. absurd (ne refl))
+    (λ m ne. let f : Some NotSuspended ≡ None = rw none at m in absurd (cc))
+    (λ op t m ne. ap (λ (x : Suspension). x.suspensions) (lasts-act app i op s t).suspension ∙ none) op
+
+-- Then an op does what it does, and is no misuse but by itself.
+pub misuse_calm : (s : State) (i : ℕ) (op : Op) → s.suspensions ≡ 0 → misuse s i op ≡ own_misuse s i op
+misuse_calm s i op none = rw none refl
+
+pub acts_calm : (app : Application) (i : ℕ) (op : Op) (s : State) → s.suspensions ≡ 0 → own_misuse s i op ≡ None → op ≢ SuspendAll → act_unless app i (misuse s i op) op s ≡ act app i op s
+acts_calm app i op s none fine ne =
+    ap (λ (kind : Option Misuse). act_unless app i kind op s) (misuse_calm s i op none ∙ fine)
+    ∙ judged_calm i (progress_at s i).op_index (act app i op s) (calm_still app i op s none fine ne)
+
+-- no more than one tick passes, and no more than one `suspend_all` comes into force
+pub record Moves (old new : State) : Type 0 where
+  pub elapsed : new.elapsed ≤ old.elapsed + 1
+  pub suspensions : new.suspensions ≤ old.suspensions + 1
+
+moves-act_unless : (app : Application) (i : ℕ) (kind : Option Misuse) (op : Op) (s : State) → Moves s (act_unless app i kind op s)
+moves-act_unless app i None op s =
+    let t : State = act app i op s in
+    let j = judged i (progress_at s i).op_index t in
+    let e = j.elapsed in
+    let f : (judge i (progress_at s i).op_index t).suspensions ≡ t.suspensions = ap (λ (x : Suspension). x.suspensions) j.suspension in
+    let a = elapsed-act app i op s in
+    let b = suspensions-act app i op s in
+    record { elapsed = omega arith; suspensions = omega arith }
+moves-act_unless app i (Some kind) op s = record { elapsed = omega arith; suspensions = omega arith }
+
+moves-act_if : (app : Application) (i : ℕ) (o : Option Op) (s : State) → Moves s (act_if app i o s)
+moves-act_if app i None s = record { elapsed = omega arith; suspensions = omega arith }
+moves-act_if app i (Some op) s = moves-act_unless app i (misuse s i op) op s
+
+moves-act_current : (app : Application) (r : Option ℕ) (s : State) → Moves s (act_current app r s)
+moves-act_current app None s = let e = elapsed-tick app s in let f = suspensions-tick app s in record { elapsed = omega arith; suspensions = omega arith }
+moves-act_current app (Some i) s = moves-act_if app i (op_at app i (progress_at s i).op_index) s
+
+-- ---- a step, and reset
+
+moves-step : (app : Application) (handlers : List ℕ) (s : State) → Moves s (step app handlers s)
+unfolding step
+moves-step app handlers s =
+    let begun : State = before_step app handlers s in
+    let acted : State = act_current app begun.current begun in
+    let b = keeps-before_step app handlers s in
+    let k = keeps-unless_held settle acted keeps-settle in
+    let m = moves-act_current app begun.current begun in
+    let b1 : begun.elapsed ≡ s.elapsed = b.elapsed in
+    let b2 : begun.suspensions ≡ s.suspensions = ap (λ (x : Suspension). x.suspensions) b.suspension in
+    let k1 : (unless_held settle acted).elapsed ≡ acted.elapsed = k.elapsed in
+    let k2 : (unless_held settle acted).suspensions ≡ acted.suspensions = ap (λ (x : Suspension). x.suspensions) k.suspension in
+    let m1 : acted.elapsed ≤ begun.elapsed + 1 = m.elapsed in
+    let m2 : acted.suspensions ≤ begun.suspensions + 1 = m.suspensions in
+    record { elapsed = omega arith; suspensions = omega arith }
+
+pub elapsed-step : (app : Application) (handlers : List ℕ) (s : State) → (step app handlers s).elapsed ≤ s.elapsed + 1
+elapsed-step app handlers s = (moves-step app handlers s).elapsed
+
+pub suspensions-step : (app : Application) (handlers : List ℕ) (s : State) → (step app handlers s).suspensions ≤ s.suspensions + 1
+suspensions-step app handlers s = (moves-step app handlers s).suspensions
+
+elapsed-nobody : (app : Application) → (nobody_ready app).elapsed ≡ 0
+unfolding nobody_ready
+elapsed-nobody app = refl
+
+pub elapsed-reset : (app : Application) → (reset app).elapsed ≡ 0
+unfolding reset ready_at_reset
+elapsed-reset app = (keeps-all_ready (with_ops 0 app.tasks) (nobody_ready app)).elapsed ∙ elapsed-nobody app
+
+suspension-nobody : (app : Application) → suspension_of (nobody_ready app) ≡ record { suspensions = 0; held_ticks = 0 }
+unfolding nobody_ready
+suspension-nobody app = refl
+
+pub suspension-reset : (app : Application) → suspension_of (reset app) ≡ record { suspensions = 0; held_ticks = 0 }
+unfolding reset ready_at_reset
+suspension-reset app = (keeps-all_ready (with_ops 0 app.tasks) (nobody_ready app)).suspension ∙ suspension-nobody app
