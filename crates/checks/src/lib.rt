@@ -5,6 +5,8 @@
 #[cfg(test)]
 mod bytes;
 #[cfg(test)]
+mod campaigns;
+#[cfg(test)]
 mod fall_back_runs;
 #[cfg(test)]
 mod group_runs;
@@ -28,6 +30,8 @@ mod refused;
 mod refused_groups;
 #[cfg(test)]
 mod refused_locks;
+#[cfg(test)]
+mod refused_points;
 #[cfg(test)]
 mod rows;
 #[cfg(test)]

@@ -1,6 +1,10 @@
 //! What a file is loaded as.
 
-use model::{Access, App, Condition, GroupId, IsrOp, ObjectId, ObjectKind, Op, TaskId};
+use crate::sinks::{check_text, serve};
+use model::{
+    Access, App, Condition, GroupId, HandlerId, IsrOp, ObjectId, ObjectKind, Op, Point, PointEntry,
+    TaskId,
+};
 use script::FromDocument;
 use std::alloc::Global;
 use std::process::Abort;
@@ -181,4 +185,60 @@ fn groups_and_the_ops_on_them_and_those_that_suspend_are_loaded(rt: HostRuntime)
 fn an_application_without_groups(rt: HostRuntime) {
     let app = loaded(&rt, rt.alloc(), QUEUES);
     assert_eq!(rt; app.group_count(), 0);
+}
+
+// The first word of a point decides: a handler `all` is one like any other.
+const POINTS: &str = "
+[campaign]
+points = [
+    '0 h', '  00  h ', 'all h', '1000000 all', '0001000000 h', '0 all', 'all all', ' all   h', '5 h', '0 h',
+]
+
+[[handler]]
+name = 'h'
+ops = []
+
+[[handler]]
+name = 'all'
+ops = []
+
+[[task]]
+name = 'a'
+priority = 1
+script = ['work 2', 'mark 7']
+";
+
+#[test]
+fn points_are_loaded(rt: HostRuntime) {
+    let app = loaded(&rt, rt.alloc(), POINTS);
+    let h = HandlerId::new(0).expect(&rt, "a handler");
+    let all = HandlerId::new(1).expect(&rt, "a handler");
+    let at = |step: u32, handler: HandlerId| PointEntry::One(Point { step, handler });
+    let points = [
+        at(0, h),
+        at(0, h),
+        PointEntry::Every(h),
+        at(1_000_000, all),
+        at(1_000_000, h),
+        at(0, all),
+        PointEntry::Every(all),
+        PointEntry::Every(h),
+        at(5, h),
+        at(0, h),
+    ];
+    assert_eq!(rt; app.points(), points.as_slice());
+}
+
+#[test]
+fn an_application_without_points(rt: HostRuntime) {
+    let app = loaded(&rt, rt.alloc(), QUEUES);
+    assert_eq!(rt; app.points().len(), 0);
+}
+
+#[test]
+fn the_run_of_a_file_with_points_is_the_same(rt: HostRuntime) {
+    let report = "base: pass in 3 steps, 2 ticks\n2 2 mark a 7\n2 2 run -\n";
+    let answer = serve(rt.alloc(), POINTS.as_bytes(), 100);
+    assert_eq!(rt; answer.status, 0);
+    check_text(&rt, rt.alloc(), "points", answer.written.bytes(), report);
 }

@@ -1,6 +1,7 @@
 //! Jobs with a step or a handler: which points are reached, one without the other, and a handler that is unknown.
 
 use crate::sinks::{Breaking, Holder, check_text, serve_job};
+use campaign::Unseen;
 use jobs::{Job, act, obey};
 use std::alloc::{AllocError, Global};
 use std::process::Abort;
@@ -219,7 +220,14 @@ fn check_unpaired(rt: &impl Abort, alloc: Global, at: Option<u32>, handler: Opti
     let mut reader = Breaking::new(b"", 0);
     let mut written = Holder::wide(alloc, 4096);
     let mut told = Holder::wide(alloc, 4096);
-    let status = act(alloc, &job, &mut reader, &mut written, &mut told);
+    let status = act(
+        alloc,
+        &job,
+        &mut reader,
+        &mut written,
+        &mut told,
+        &mut Unseen,
+    );
     assert_eq!(rt; status, 2);
     check_text(rt, alloc, "unpaired", written.bytes(), "");
     check_text(rt, alloc, "unpaired", told.bytes(), UNPAIRED);
@@ -243,7 +251,7 @@ fn a_step_without_a_handler_and_the_reverse(rt: HostRuntime) {
 fn check_words<R: Abort + Files>(rt: &R, alloc: Global, words: &[&str], status: u8, line: &str) {
     let mut written = Holder::wide(alloc, 4096);
     let mut told = Holder::wide(alloc, 4096);
-    let ended = obey(alloc, rt, words, &mut written, &mut told);
+    let ended = obey(alloc, rt, words, &mut written, &mut told, &mut Unseen);
     assert_eq!(rt; ended, status, "{line}");
     check_text(rt, alloc, line, written.bytes(), "");
     check_text(rt, alloc, line, told.bytes(), line);

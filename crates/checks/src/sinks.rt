@@ -2,6 +2,7 @@
 ghost use Rattle.std.specs.Prelude.{◌≡◌, false};
 
 use byte_io::{Failed, FromReader, Sink, Source};
+use campaign::Unseen;
 use jobs::{Job, act};
 use std::alloc::Global;
 use std::process::Abort;
@@ -124,7 +125,14 @@ pub(crate) fn serve_job(alloc: Global, job: &Job<'_>, file: &[u8], at_once: usiz
     let mut written = Holder::wide(alloc, at_once);
     let mut told = Holder::wide(alloc, at_once);
     let mut reader = FromReader::new(file);
-    let status = act(alloc, job, &mut reader, &mut written, &mut told);
+    let status = act(
+        alloc,
+        job,
+        &mut reader,
+        &mut written,
+        &mut told,
+        &mut Unseen,
+    );
     Answer {
         status,
         written,

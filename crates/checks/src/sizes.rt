@@ -3,7 +3,8 @@ ghost use Rattle.std.specs.Prelude.{◌<◌};
 
 use crate::sinks::{base_run_of, check_text, serve};
 use byte_io::{Failed, FromReader, Sink, ToWriter};
-use jobs::{act, serve_run};
+use campaign::{Unseen, serve_run};
+use jobs::act;
 use model::End;
 use std::alloc::{AllocError, Global};
 use std::process::Abort;
@@ -147,6 +148,38 @@ fn at_most_16_groups(rt: HostRuntime) -> Result<(), AllocError> {
     Ok(())
 }
 
+/// A file of a handler, a task without ops, and so many entries of points, each of them this.
+fn points(alloc: Global, count: u32, entry: &str) -> Result<String, AllocError> {
+    let head = "handler = [{ name = 'h', ops = [] }]\ncampaign = { points = [";
+    let mut file = String::from_str(alloc, head)?;
+    for _ in 0..count {
+        file.push_str(entry)?;
+        file.push_str(",")?;
+    }
+    file.push_str("] }\n")?;
+    let task = one_task(alloc, "")?;
+    file.push_str(task.as_str())?;
+    Ok(file)
+}
+
+// They are counted before the first of them is looked at.
+#[test]
+fn at_most_1000000_points(rt: HostRuntime) -> Result<(), AllocError> {
+    let alloc = rt.alloc();
+    let file = points(alloc, 1_000_000, "'0 h'")?;
+    let answer = serve(alloc, file.as_bytes(), usize::MAX);
+    let report = "base: pass in 0 steps, 0 ticks\n";
+    let name = "1,000,000 points";
+    check_text(&rt, alloc, name, answer.written.bytes(), report);
+    let file = points(alloc, 1_000_001, "0")?;
+    let answer = serve(alloc, file.as_bytes(), usize::MAX);
+    let line = "rtosim: 9 TooMany: campaign points\n";
+    let name = "1,000,001 points";
+    check_text(&rt, alloc, name, answer.told.bytes(), line);
+    assert_eq!(rt; answer.status, 3);
+    Ok(())
+}
+
 /// The report of a loop of 1,000 turns with two marks each.
 fn report_of_two_thousand_marks(alloc: Global) -> Result<String, AllocError> {
     let mut report = String::from_str(alloc, "base: pass in 3001 steps, 0 ticks\n")?;
@@ -175,6 +208,7 @@ fn a_report_of_several_pages(rt: HostRuntime) -> Result<(), AllocError> {
         &mut FromReader::new(TWO_THOUSAND_MARKS.as_bytes()),
         &mut ToWriter::new(&mut written),
         &mut ToWriter::new(&mut told),
+        &mut Unseen,
     );
     assert_eq!(rt; status, 0);
     assert!(rt; told.is_empty());

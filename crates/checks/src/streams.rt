@@ -2,6 +2,7 @@
 
 use crate::sinks::{Breaking, Holder, base_run_of, check_text};
 use byte_io::FromReader;
+use campaign::Unseen;
 use jobs::act;
 use std::alloc::Global;
 use std::process::Abort;
@@ -29,7 +30,14 @@ fn check_full_writer(
     let mut reader = FromReader::new(file.as_bytes());
     let mut written = Holder::new(alloc, 4096, room, is_polite);
     let mut told = Holder::wide(alloc, 4096);
-    let status = act(alloc, &job, &mut reader, &mut written, &mut told);
+    let status = act(
+        alloc,
+        &job,
+        &mut reader,
+        &mut written,
+        &mut told,
+        &mut Unseen,
+    );
     assert_eq!(rt; status, 5, "with room for {room}");
     let line = "rtosim: cannot write\n";
     check_text(rt, alloc, "a full writer", told.bytes(), line);
@@ -61,7 +69,14 @@ fn check_broken_reader(rt: &impl Abort, alloc: Global, calls: u32, room: usize) 
     let mut reader = Breaking::new(ONE_MARK.as_bytes(), calls);
     let mut written = Holder::wide(alloc, 4096);
     let mut told = Holder::new(alloc, 4096, room, false);
-    let status = act(alloc, &job, &mut reader, &mut written, &mut told);
+    let status = act(
+        alloc,
+        &job,
+        &mut reader,
+        &mut written,
+        &mut told,
+        &mut Unseen,
+    );
     let line = b"rtosim: cannot read a folder\n".as_slice();
     assert_eq!(rt; status, 3);
     assert_eq!(rt; written.bytes(), b"".as_slice());

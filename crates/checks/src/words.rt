@@ -1,6 +1,7 @@
 //! The words of the command line, and what the program does for them.
 
 use crate::sinks::{Holder, base_run_of, check_text};
+use campaign::Unseen;
 use clap::error::ErrorKind;
 use jobs::{Job, job_named, obey, open_and_act};
 use std::alloc::Global;
@@ -20,7 +21,7 @@ fn a_file_that_cannot_be_read(rt: HostRuntime) {
         let mut written = Holder::wide(rt.alloc(), 4096);
         let mut told = Holder::wide(rt.alloc(), 4096);
         let job = base_run_of(file);
-        let status = open_and_act(rt.alloc(), &rt, &job, &mut written, &mut told);
+        let status = open_and_act(rt.alloc(), &rt, &job, &mut written, &mut told, &mut Unseen);
         assert_eq!(rt; status, 3, "{file}");
         check_text(&rt, rt.alloc(), file, written.bytes(), "");
         check_text(&rt, rt.alloc(), file, told.bytes(), line);
@@ -113,25 +114,45 @@ fn words_that_name_a_job(rt: HostRuntime) {
     }
 }
 
+/// The words of `campaign` that name a job, and whether it is quiet.
+const CAMPAIGNS: [(&[&str], bool); 3] = [
+    (&["rtosim", "campaign", "app.toml"], false),
+    (&["rtosim", "campaign", "app.toml", "--quiet"], true),
+    (&["rtosim", "campaign", "--quiet", "app.toml"], true),
+];
+
+#[test]
+fn words_that_name_a_campaign(rt: HostRuntime) {
+    for (words, quiet) in CAMPAIGNS {
+        let job = Job::Campaign {
+            file: "app.toml",
+            quiet,
+        };
+        assert_eq!(rt; answer(rt.alloc(), words), Ok(job));
+    }
+}
+
 const HELP: &str = r"Simulates the scheduling of a FreeRTOS-style kernel, step by step
 
 Usage: rtosim <COMMAND>
 
 Commands:
-  run   Runs an application from reset to its end, and writes the trace
-  help  Print this message or the help of the given subcommand(s)
+  run       Runs an application from reset to its end, and writes the trace
+  campaign  Runs an application once for each of its points, and writes the report
+  help      Print this message or the help of the given subcommand(s)
 
 Options:
   -h, --help     Print help
   -V, --version  Print version
 
 Exit status:
-  0  the run passes, or help or the version was asked for
-  1  the run ends in another way: its head line says how
+  0  the run or every row passes, or help or the version was asked for
+  1  the run or some row ends in another way: its head line says how
   2  the words of the command line are refused, or no handler has the name
-  3  the file can't be read, is not TOML, or describes no application
+  3  the file can't be read, is not TOML, describes no application, or has
+     more than 1000000 points
   4  no memory is left
-  5  the trace can't be written
+  5  the report can't be written
 ";
 
 const HELP_OF_RUN: &str = r"Runs an application from reset to its end, and writes the trace
@@ -147,12 +168,35 @@ Options:
   -h, --help               Print help
 
 Exit status:
-  0  the run passes, or help or the version was asked for
-  1  the run ends in another way: its head line says how
+  0  the run or every row passes, or help or the version was asked for
+  1  the run or some row ends in another way: its head line says how
   2  the words of the command line are refused, or no handler has the name
-  3  the file can't be read, is not TOML, or describes no application
+  3  the file can't be read, is not TOML, describes no application, or has
+     more than 1000000 points
   4  no memory is left
-  5  the trace can't be written
+  5  the report can't be written
+";
+
+const HELP_OF_CAMPAIGN: &str =
+    r"Runs an application once for each of its points, and writes the report
+
+Usage: rtosim campaign [OPTIONS] <FILE>
+
+Arguments:
+  <FILE>  The application, a TOML file
+
+Options:
+      --quiet  Tells nobody how far the campaign has come
+  -h, --help   Print help
+
+Exit status:
+  0  the run or every row passes, or help or the version was asked for
+  1  the run or some row ends in another way: its head line says how
+  2  the words of the command line are refused, or no handler has the name
+  3  the file can't be read, is not TOML, describes no application, or has
+     more than 1000000 points
+  4  no memory is left
+  5  the report can't be written
 ";
 
 /// Words that ask for a text, or are refused: the kind, the status, what is written, and what is told.
@@ -165,7 +209,7 @@ struct Case {
     told: &'static str,
 }
 
-const CASES: [Case; 15] = [
+const CASES: [Case; 17] = [
     Case {
         words: &["rtosim", "--help"],
         kind: ErrorKind::DisplayHelp,
@@ -181,6 +225,26 @@ const CASES: [Case; 15] = [
         told: "",
     },
     Case {
+        words: &["rtosim", "campaign", "--help"],
+        kind: ErrorKind::DisplayHelp,
+        status: 0,
+        written: HELP_OF_CAMPAIGN,
+        told: "",
+    },
+    Case {
+        words: &["rtosim", "campaign", "--quiet"],
+        kind: ErrorKind::MissingRequiredArgument,
+        status: 2,
+        written: "",
+        told: r"error: the following required arguments were not provided:
+  <FILE>
+
+Usage: rtosim campaign --quiet <FILE>
+
+For more information, try '--help'.
+",
+    },
+    Case {
         words: &["rtosim", "--version"],
         kind: ErrorKind::DisplayVersion,
         status: 0,
@@ -193,7 +257,7 @@ const CASES: [Case; 15] = [
         status: 2,
         written: "",
         told: r"error: 'rtosim' requires a subcommand but one was not provided
-  [subcommands: run, help]
+  [subcommands: run, campaign, help]
 
 Usage: rtosim <COMMAND>
 
@@ -335,7 +399,14 @@ fn words_that_name_no_job(rt: HostRuntime) {
         let mut written = Holder::wide(rt.alloc(), 4096);
         let mut told = Holder::wide(rt.alloc(), 4096);
         assert!(rt; answer(rt.alloc(), case.words) == Err(case.kind));
-        let status = obey(rt.alloc(), &rt, case.words, &mut written, &mut told);
+        let status = obey(
+            rt.alloc(),
+            &rt,
+            case.words,
+            &mut written,
+            &mut told,
+            &mut Unseen,
+        );
         assert_eq!(rt; status, case.status, "{}", case.told);
         check_text(&rt, rt.alloc(), "written", written.bytes(), case.written);
         check_text(&rt, rt.alloc(), "told", told.bytes(), case.told);
@@ -348,7 +419,14 @@ fn help_that_cannot_be_written(rt: HostRuntime) {
         let mut written = Holder::new(rt.alloc(), 4096, 5, false);
         let mut told = Holder::wide(rt.alloc(), 4096);
         let words = ["rtosim", word];
-        let status = obey(rt.alloc(), &rt, &words, &mut written, &mut told);
+        let status = obey(
+            rt.alloc(),
+            &rt,
+            &words,
+            &mut written,
+            &mut told,
+            &mut Unseen,
+        );
         assert_eq!(rt; status, 5, "{word}");
         check_text(
             &rt,
@@ -366,7 +444,17 @@ fn a_refusal_that_cannot_be_told(rt: HostRuntime) {
     let mut written = Holder::wide(rt.alloc(), 4096);
     let mut told = Holder::new(rt.alloc(), 4096, 5, false);
     let words = ["rtosim", "fly"];
-    assert_eq!(rt; obey(rt.alloc(), &rt, &words, &mut written, &mut told), 2);
+    assert_eq!(rt;
+        obey(
+            rt.alloc(),
+            &rt,
+            &words,
+            &mut written,
+            &mut told,
+            &mut Unseen
+        ),
+        2
+    );
     check_text(&rt, rt.alloc(), "fly", written.bytes(), "");
 }
 
@@ -375,7 +463,17 @@ fn a_job_is_done_over_the_sinks(rt: HostRuntime) {
     let mut written = Holder::wide(rt.alloc(), 4096);
     let mut told = Holder::wide(rt.alloc(), 4096);
     let words = ["rtosim", "run", "/nonexistent/app.toml"];
-    assert_eq!(rt; obey(rt.alloc(), &rt, &words, &mut written, &mut told), 3);
+    assert_eq!(rt;
+        obey(
+            rt.alloc(),
+            &rt,
+            &words,
+            &mut written,
+            &mut told,
+            &mut Unseen
+        ),
+        3
+    );
     let line = "rtosim: cannot read /nonexistent/app.toml\n";
     check_text(
         &rt,

@@ -72,6 +72,19 @@ impl Clock {
         }
     }
 
+    /// Becomes a copy of the other, in place. It takes no memory.
+    pub fn set_from(&mut self, other: &Self)
+        ensures { self.new ≡ other.now }
+    {
+        self.lists.set_from(&other.lists);
+        self.age = other.age;
+        self.held = other.held;
+        self.overflows = other.overflows;
+        self.tick = other.tick;
+        self.current = other.current;
+        self.overflow = other.overflow;
+    }
+
     /// The tick that is shown, 0 to 4294967295: the time modulo 2^32, as FreeRTOS's
     /// `xTaskGetTickCount` answers it.
     pub fn tick(&self) -> u32

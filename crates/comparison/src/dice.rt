@@ -314,7 +314,7 @@ impl Dice {
     }
 
     /// Four tasks, three handlers, two event groups and up to four objects and four base interrupts, shortly before the tick
-    /// wraps.
+    /// wraps. It has no points, which no run depends on.
     pub(crate) fn app(&mut self, alloc: Global) -> Option<App> {
         let objects = self.objects(alloc)?;
         let tasks = self.tasks(alloc, objects.as_slice())?;
@@ -322,7 +322,10 @@ impl Dice {
         let limits = Limits::new(10 + self.roll(50), 20 + self.roll(300))?;
         let handlers = self.handlers(alloc, objects.as_slice())?;
         let interrupts = self.interrupts(alloc)?;
-        Some(App::new(start, limits, objects, 2, handlers, interrupts, tasks))
+        let points = Vec::new(alloc);
+        Some(App::new(
+            start, limits, objects, 2, handlers, interrupts, tasks, points,
+        ))
     }
 }
 

@@ -3,6 +3,8 @@
 #![tactic(auto)]
 
 #[cfg(test)]
+mod campaigns;
+#[cfg(test)]
 mod dice;
 #[cfg(test)]
 mod file;

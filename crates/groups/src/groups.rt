@@ -72,6 +72,15 @@ impl Groups {
         }
     }
 
+    /// Becomes a copy of the other, in place. It takes no memory.
+    pub fn set_from(&mut self, other: &Self)
+        ensures { self.new ≡ other.now }
+    {
+        self.bits = other.bits;
+        self.lists.set_from(&other.lists);
+        self.wants = other.wants;
+    }
+
     /// The bits of a group (`xEventGroupGetBits`).
     pub fn bits(&self, group: GroupId) -> u32
         ensures bits { result ≡ bits_in self.now group }

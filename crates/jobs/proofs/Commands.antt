@@ -4,10 +4,14 @@ use Rattle.clap.specs.Words.{App, AddsSubcommand, with_subcommand}
 use Rattle.clap.specs.declared.builder.command.Command.{Command}
 use Rattle.jobs.specs.Words.{IsCommandOf}
 
-pub with_command : {E : Type 0} (r : Result Command E) (app below : App) (old sub : Command) → IsCommandOf app old → IsCommandOf below sub
-    → IfOk r (λ new. AddsSubcommand old sub new) → IfOk r (λ new. IsCommandOf (with_subcommand app below.top) new)
-with_command (Ok new) app below old sub was is adds = record {
+pub with_one : (app below : App) (old sub new : Command) → IsCommandOf app old → IsCommandOf below sub → AddsSubcommand old sub new
+    → IsCommandOf (with_subcommand app below.top) new
+with_one app below old sub new was is adds = record {
   reads = adds.shape is.is_local ∙ ap₂ with_subcommand was.reads (ap (λ (x : App). x.top) is.reads);
   is_local = adds.globals ∙ rw (was.is_local, is.is_local) refl;
 }
+
+pub with_command : {E : Type 0} (r : Result Command E) (app below : App) (old sub : Command) → IsCommandOf app old → IsCommandOf below sub
+    → IfOk r (λ new. AddsSubcommand old sub new) → IfOk r (λ new. IsCommandOf (with_subcommand app below.top) new)
+with_command (Ok new) app below old sub was is adds = with_one app below old sub new was is adds
 with_command (Err e) app below old sub was is adds = tt

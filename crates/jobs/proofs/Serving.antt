@@ -1,135 +1,16 @@
--- Faults of an input, as far as it is known.
-use Rattle.std.proofs.Common.{◌≡◌, ◌≢◌, ℕ, Bool, true, false, List, [], ◌∷◌, ◌⊎◌, inl, inr, Option, Some, None, refl, ap, sym, subst, ◌∙◌}
+-- What a job comes to where nothing is known of its file's bytes.
+use Rattle.std.proofs.Common.{◌≡◌, ℕ, Bool, false, List, ◌⊎◌, inl, inr, Option, None, refl}
 use Rattle.std.specs.Prelude.{Ok, Err, Result}
 use Rattle.std.proofs.KnownBytes.{Keeps-refl}
-use Rattle.toml.specs.Data.{Members, no_members}
-use Rattle.toml.specs.Errors.{IsBlank}
-use Rattle.toml.specs.Parse.{parse_document}
-use Rattle.toml.proofs.OnLiterals.{toml_on_literals}
-use Rattle.model.specs.Application.{Application}
-use Rattle.model.specs.declared.event.End.{End}
-use Rattle.script.specs.Load.{load_fault}
-use Rattle.byte_io.specs.Bytes.{SentFront}
-use Rattle.byte_io.specs.declared.read.ReadFault.{ReadFault}
-use Rattle.byte_io.specs.declared.read.ReadFault.TheVariants as read
+use Rattle.campaign.specs.declared.at.At.{At}
+use Rattle.campaign.specs.declared.file.ServeFault.{ServeFault}
+use Rattle.campaign.specs.declared.file.ServeFault.TheVariants.{Read, Memory}
+use Rattle.campaign.proofs.Faulty.{serves_unknown}
 use Rattle.jobs.specs.declared.acting.Job.{Job}
+use Rattle.jobs.specs.declared.acting.Job.TheVariants.{Run, Campaign}
 use Rattle.jobs.specs.declared.acting.JobFault.{JobFault}
 use Rattle.jobs.specs.declared.acting.JobFault.TheVariants.{Serve, Unpaired}
-use Rattle.jobs.specs.declared.serve.ServeFault.{ServeFault}
-use Rattle.jobs.specs.declared.serve.ServeFault.TheVariants.{Read, NotToml, Load, UnknownHandler, Memory, Write}
-use Rattle.jobs.specs.declared.at.At.{At}
-use Rattle.jobs.specs.Acting.{Does, LacksFile, OpensAndDoes, injection_of}
-use Rattle.jobs.specs.Serving.{Answers, Serves, Known, IsFileOf, IsReportOf, IsRunFault, HasFault, of_reading, is_read_fault, is_write_fault}
-
--- there are bytes, the known ones where they are known
-pub some_text : (input : Option (List ℕ)) → (bytes : List ℕ) × Known input bytes
-some_text None = ([], tt)
-some_text (Some bytes) = (bytes, refl)
-
-not_nothing : (byte : ℕ) (bytes : List ℕ) → byte ∷ bytes ≢ []
-not_nothing byte bytes e = cc e
-
--- and more than none, where they are not known to be none
-pub some_bytes : (input : Option (List ℕ)) → input ≢ Some [] → (bytes : List ℕ) × Known input bytes × bytes ≢ []
-some_bytes None some = (0 ∷ [], tt, not_nothing 0 [])
-some_bytes (Some bytes) some = (bytes, refl, λ e. some (ap Some e))
-
--- An empty file is blank, and names no task.
-
-nothing_is_blank : IsBlank []
-unfolding toml_on_literals
-nothing_is_blank = refl
-
-pub blank_or_some : (bytes : List ℕ) → (IsBlank bytes → ⊥) → bytes ≢ []
-blank_or_some [] blank e = blank nothing_is_blank
-blank_or_some (byte ∷ bytes) blank e = not_nothing byte bytes e
-
-nothing_parsed : parse_document [] ≡ Some no_members
-unfolding toml_on_literals
-nothing_parsed = refl
-
-nothing_names_no_task : load_fault no_members ≡ None → ⊥
-nothing_names_no_task sound = cc sound
-
-no_fault_in_nothing : (document : Members) → parse_document [] ≡ Some document → load_fault document ≡ None → ⊥
-no_fault_in_nothing document parsed sound =
-    let same : Some no_members ≡ Some document = sym nothing_parsed ∙ parsed in
-    let is : document ≡ no_members = cc same in
-    nothing_names_no_task (subst (λ (d : Members). load_fault d ≡ None) is sound)
-
-pub document_has_bytes : (bytes : List ℕ) (document : Members) → parse_document bytes ≡ Some document → load_fault document ≡ None → bytes ≢ []
-document_has_bytes [] document parsed sound e = no_fault_in_nothing document parsed sound
-document_has_bytes (byte ∷ bytes) document parsed sound e = not_nothing byte bytes e
-
-pub file_has_bytes : (bytes : List ℕ) (app : Application) → IsFileOf bytes app → bytes ≢ []
-file_has_bytes bytes app file = document_has_bytes bytes file.0 file.1.parsed file.2
-
--- the fault of a reader, or of the memory for its bytes
-pub reading_failed : (input : Option (List ℕ)) (e : ReadFault) → (e ≡ read.Memory → input ≢ Some [])
-    → (bytes : List ℕ) × Known input bytes × HasFault None bytes (of_reading e)
-reading_failed input read.Failed some = let k = some_text input in (k.0, k.1, tt)
-reading_failed input read.Memory some = some_bytes input (some refl)
-
--- A fault of a file is one whatever is asked for.
-file_fault : (at : Option At) (bytes : List ℕ) (f : ServeFault) → HasFault None bytes f → HasFault at bytes f
-file_fault at bytes Read h = h
-file_fault at bytes NotToml h = h
-file_fault at bytes (Load fault) h = h
-file_fault at bytes UnknownHandler h = absurd h.2
-file_fault at bytes Memory h = h
-file_fault at bytes Write h = h
-
--- So is why its application was not run.
-pub run_fault : (at : Option At) (bytes : List ℕ) (app : Application) (f : ServeFault) → IsFileOf bytes app → IsRunFault at app f → HasFault at bytes f
-run_fault at bytes app Read file h = absurd h
-run_fault at bytes app NotToml file h = absurd h
-run_fault at bytes app (Load fault) file h = absurd h
-run_fault at bytes app UnknownHandler file h = (app, file, h)
-run_fault at bytes app Memory file h = file_has_bytes bytes app file
-run_fault at bytes app Write file h = absurd h
-
-pub serves_fault : (at : Option At) (input : Option (List ℕ)) (rf wf : Bool) (old : Option (List ℕ)) (f : ServeFault) → ((bytes : List ℕ) × Known input bytes × HasFault at bytes f)
-    → rf ≡ is_read_fault {T = End} (Err f) → is_write_fault {T = End} (Err f) ≡ false → wf ≡ false → Serves at input rf old old wf (Err f)
-serves_fault at input rf wf old Read h r w e = record { answers = (h, Keeps-refl old); read = r; write = e }
-serves_fault at input rf wf old NotToml h r w e = record { answers = (h, Keeps-refl old); read = r; write = e }
-serves_fault at input rf wf old (Load fault) h r w e = record { answers = (h, Keeps-refl old); read = r; write = e }
-serves_fault at input rf wf old UnknownHandler h r w e = record { answers = (h, Keeps-refl old); read = r; write = e }
-serves_fault at input rf wf old Memory h r w e = record { answers = (h, Keeps-refl old); read = r; write = e }
-serves_fault at input rf wf old Write h r w e = absurd (cc)
-
--- a fault of the file itself
-pub serves_file_fault : (at : Option At) (input : Option (List ℕ)) (rf wf : Bool) (old : Option (List ℕ)) (f : ServeFault) → ((bytes : List ℕ) × Known input bytes × HasFault None bytes f)
-    → rf ≡ is_read_fault {T = End} (Err f) → is_write_fault {T = End} (Err f) ≡ false → wf ≡ false → Serves at input rf old old wf (Err f)
-serves_file_fault at input rf wf old f h r w e = serves_fault at input rf wf old f (h.0, h.1, file_fault at h.0 f h.2) r w e
-
-run_reads : (at : Option At) (app : Application) (f : ServeFault) → IsRunFault at app f → is_read_fault {T = End} (Err f) ≡ false
-run_reads at app Read h = absurd h
-run_reads at app NotToml h = refl
-run_reads at app (Load fault) h = refl
-run_reads at app UnknownHandler h = refl
-run_reads at app Memory h = refl
-run_reads at app Write h = refl
-
-run_writes : (at : Option At) (app : Application) (f : ServeFault) → IsRunFault at app f → is_write_fault {T = End} (Err f) ≡ false
-run_writes at app Read h = refl
-run_writes at app NotToml h = refl
-run_writes at app (Load fault) h = refl
-run_writes at app UnknownHandler h = refl
-run_writes at app Memory h = refl
-run_writes at app Write h = absurd h
-
--- an application that was not run
-pub serves_run_fault : (at : Option At) (input : Option (List ℕ)) (rf wf : Bool) (old : Option (List ℕ)) (f : ServeFault) (app : Application)
-    → ((bytes : List ℕ) × Known input bytes × IsFileOf bytes app) → IsRunFault at app f → rf ≡ false → wf ≡ false → Serves at input rf old old wf (Err f)
-serves_run_fault at input rf wf old f app file h r e =
-    serves_fault at input rf wf old f (file.0, file.1, run_fault at file.0 app f file.2 h) (r ∙ sym (run_reads at app f h)) (run_writes at app f h) e
-
--- a beginning of a report
-pub serves_front : (at : Option At) (input : Option (List ℕ)) (rf wf : Bool) (old new : Option (List ℕ)) (bytes report : List ℕ) (end : End)
-    → Known input bytes → IsReportOf at bytes report end → SentFront old new report → rf ≡ false → wf ≡ true
-    → Serves at input rf old new wf (Err Write)
-serves_front at input rf wf old new bytes report end known is sent r w =
-    record { answers = (bytes, known, report, end, is, sent); read = r; write = w }
+use Rattle.jobs.specs.Acting.{RunServed, CampaignServed, Served, Does, LacksFile, OpensAndDoes, injection_of}
 
 -- A file that could not be opened.
 pub lacks_file : (old : Option (List ℕ)) (wf : Bool) (f : ServeFault) → (f ≡ Memory) ⊎ (f ≡ Read) → wf ≡ false → LacksFile old old wf (Err (Serve f))
@@ -137,26 +18,28 @@ lacks_file old wf f due e = (elim due [ inl h ↦ inr (rw h refl) | inr h ↦ in
 
 -- What is said of the known bytes of an input holds of some bytes.
 
-answers_unknown : (at : Option At) (input old new : Option (List ℕ)) (outcome : Result End ServeFault) → Answers at input old new outcome → Answers at None old new outcome
-answers_unknown at input old new (Ok end) h = (h.0, tt, h.2, h.3, h.4)
-answers_unknown at input old new (Err Write) h = (h.0, tt, h.2, h.3, h.4, h.5)
-answers_unknown at input old new (Err Read) h = ((h.0.0, tt, h.0.2), h.1)
-answers_unknown at input old new (Err NotToml) h = ((h.0.0, tt, h.0.2), h.1)
-answers_unknown at input old new (Err (Load fault)) h = ((h.0.0, tt, h.0.2), h.1)
-answers_unknown at input old new (Err UnknownHandler) h = ((h.0.0, tt, h.0.2), h.1)
-answers_unknown at input old new (Err Memory) h = ((h.0.0, tt, h.0.2), h.1)
+run_unknown : (at : Option At) (input : Option (List ℕ)) (rf : Bool) (old new : Option (List ℕ)) (wf : Bool) (outcome : Result Bool ServeFault)
+    → RunServed at input rf old new wf outcome → RunServed at None rf old new wf outcome
+run_unknown at input rf old new wf (Ok passes) h = (h.0, h.1, serves_unknown _ _ input rf old new wf (Ok h.0) h.2)
+run_unknown at input rf old new wf (Err fault) h = serves_unknown _ _ input rf old new wf (Err fault) h
 
-serves_unknown : (at : Option At) (input : Option (List ℕ)) (rf : Bool) (old new : Option (List ℕ)) (wf : Bool) (outcome : Result End ServeFault)
-    → Serves at input rf old new wf outcome → Serves at None rf old new wf outcome
-serves_unknown at input rf old new wf outcome h = record { answers = answers_unknown at input old new outcome h.answers; read = h.read; write = h.write }
+campaign_unknown : (input : Option (List ℕ)) (rf : Bool) (old new : Option (List ℕ)) (wf : Bool) (outcome : Result Bool ServeFault)
+    → CampaignServed input rf old new wf outcome → CampaignServed None rf old new wf outcome
+campaign_unknown input rf old new wf (Ok passes) h = (h.0, h.1, serves_unknown _ _ input rf old new wf (Ok h.0) h.2)
+campaign_unknown input rf old new wf (Err fault) h = serves_unknown _ _ input rf old new wf (Err fault) h
 
-does_unknown : (job : Job) (input : Option (List ℕ)) (rf : Bool) (old new : Option (List ℕ)) (wf : Bool) (outcome : Result End JobFault)
+served_unknown : (job : Job) (input : Option (List ℕ)) (rf : Bool) (old new : Option (List ℕ)) (wf : Bool) (outcome : Result Bool ServeFault)
+    → Served job input rf old new wf outcome → Served job None rf old new wf outcome
+served_unknown (Run file at handler) input rf old new wf outcome h = run_unknown (injection_of (Run file at handler)) input rf old new wf outcome h
+served_unknown (Campaign file quiet) input rf old new wf outcome h = campaign_unknown input rf old new wf outcome h
+
+does_unknown : (job : Job) (input : Option (List ℕ)) (rf : Bool) (old new : Option (List ℕ)) (wf : Bool) (outcome : Result Bool JobFault)
     → Does job input rf old new wf outcome → Does job None rf old new wf outcome
-does_unknown job input rf old new wf (Ok end) h = (h.0, serves_unknown (injection_of job) input rf old new wf (Ok end) h.1)
-does_unknown job input rf old new wf (Err (Serve fault)) h = (h.0, serves_unknown (injection_of job) input rf old new wf (Err fault) h.1)
+does_unknown job input rf old new wf (Ok passes) h = (h.0, served_unknown job input rf old new wf (Ok passes) h.1)
+does_unknown job input rf old new wf (Err (Serve fault)) h = (h.0, served_unknown job input rf old new wf (Err fault) h.1)
 does_unknown job input rf old new wf (Err Unpaired) h = h
 
 -- A file that was opened.
-pub opens : (job : Job) (input : Option (List ℕ)) (rf : Bool) (old new : Option (List ℕ)) (wf : Bool) (outcome : Result End JobFault)
+pub opens : (job : Job) (input : Option (List ℕ)) (rf : Bool) (old new : Option (List ℕ)) (wf : Bool) (outcome : Result Bool JobFault)
     → Does job input rf old new wf outcome → OpensAndDoes job old new wf outcome
 opens job input rf old new wf outcome done = inr (rf, does_unknown job input rf old new wf outcome done)

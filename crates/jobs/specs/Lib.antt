@@ -1,4 +1,3 @@
 pub mod Acting
 pub mod Obeying
-pub mod Serving
 pub mod Words

@@ -4,11 +4,10 @@ use Rattle.std.specs.Io.KnownBytes.{Keeps}
 use Rattle.clap.specs.Words.{IsAmong, fault_of, subcommand_of}
 use Rattle.clap.specs.declared.error.kind.ErrorKind.{ErrorKind}
 use Rattle.clap.specs.declared.error.kind.ErrorKind.TheVariants.{DisplayHelp, DisplayVersion, OutOfMemory}
-use Rattle.model.specs.declared.event.End.{End}
 use Rattle.jobs.specs.declared.acting.Job.{Job}
 use Rattle.jobs.specs.declared.acting.JobFault.{JobFault}
 use Rattle.jobs.specs.declared.acting.JobFault.TheVariants.{Serve}
-use Rattle.jobs.specs.declared.serve.ServeFault.TheVariants.{Memory, Write}
+use Rattle.campaign.specs.declared.file.ServeFault.TheVariants.{Memory, Write}
 use Rattle.jobs.specs.Acting.{OpensAndDoes, Tells, fault_line, status_of, told}
 use Rattle.jobs.specs.Words.{IsJobOf, rtosim_app}
 
@@ -71,7 +70,7 @@ pub record DoesJob (words : List (List ℕ)) (old new : Option (List ℕ)) (writ
   pub job : Job
   pub named : IsJobOf (subcommand_of rtosim_app words) job
   pub taken : fault_of rtosim_app words ≡ []
-  pub outcome : Result End JobFault
+  pub outcome : Result Bool JobFault
   pub does : OpensAndDoes job old new write_failed outcome
   pub tells : Tells faults_old faults_new tell_failed (told job outcome)
   pub ends : status ≡ status_of outcome

@@ -1,16 +1,17 @@
 -- The words that the program takes.
-use Rattle.std.specs.Prelude.{◌≡◌, ◌<◌, ◌^◌, ◌⊎◌, true, false, ℕ, List, map, codes, pos, Option, Some, None, option_map}
+use Rattle.std.specs.Prelude.{◌≡◌, ◌<◌, ◌^◌, ◌⊎◌, Bool, true, false, ℕ, List, map, codes, pos, Option, Some, None, option_map}
 use Rattle.std.specs.Borrow.{Bor}
+use Rattle.std.specs.Str.{bytes_eq}
 use Rattle.std.specs.Str.Parse.{IsNumeral, digits_value, without_leading_plus}
 use Rattle.clap.specs.Words.{App, Row, Rule, Text, new_app, new_rule, with_rule, with_subcommand, first_of, one_of, app_of, rule_of}
 use Rattle.clap.specs.Simple.{on_top}
-use Rattle.clap.specs.declared.builder.ArgAction.TheVariants.{Set}
+use Rattle.clap.specs.declared.builder.ArgAction.TheVariants.{Set, SetTrue}
 use Rattle.clap.specs.declared.builder.value_parser.ValueParser.TheVariants.{Signed}
 use Rattle.clap.specs.declared.builder.arg.Arg.{Arg}
 use Rattle.clap.specs.declared.builder.command.Command.{Command}
 use Rattle.clap.specs.declared.builder.command.Command.TheViews.{out-Command as fields_of}
 use Rattle.jobs.specs.declared.acting.Job.{Job}
-use Rattle.jobs.specs.declared.acting.Job.TheVariants.{Run}
+use Rattle.jobs.specs.declared.acting.Job.TheVariants.{Run, Campaign}
 
 -- ---- the command
 
@@ -33,12 +34,19 @@ handler_rule = record (new_rule (codes "handler")) { long = Some (codes "handler
 abbrev pub run_app : App
 run_app = with_rule (with_rule (with_rule (new_app (codes "run")) file_rule) at_rule) handler_rule
 
+-- given or not
+abbrev pub quiet_rule : Rule
+quiet_rule = record (new_rule (codes "quiet")) { long = Some (codes "quiet"); action = Some SetTrue }
+
+abbrev pub campaign_app : App
+campaign_app = with_rule (with_rule (new_app (codes "campaign")) file_rule) quiet_rule
+
 -- the program without its commands: one of them has to be named
 abbrev pub rtosim_top : App
 rtosim_top = on_top (λ s. record s { has_version = true; subcommand_required = true }) (new_app (codes "rtosim"))
 
 unfoldable pub rtosim_app : App
-rtosim_app = with_subcommand rtosim_top run_app.top
+rtosim_app = with_subcommand (with_subcommand rtosim_top run_app.top) campaign_app.top
 
 -- The command is read as this one, and has no argument that its own commands have too.
 pub record IsCommandOf (app : App) (command : Command) : Type 0 where
@@ -69,11 +77,24 @@ IsRunOf rows (Run file at handler) =
     (first_of (codes "FILE") rows ≡ Some file.now)
     × (option_map number_of (one_of (codes "at") rows) ≡ at)
     × (first_of (codes "handler") rows ≡ option_map (λ name. name.now) handler)
+IsRunOf rows (Campaign file quiet) = ⊥
+
+-- A flag that is given has the value `true`, one that is not given `false`.
+abbrev pub is_given : Option Text → Bool
+is_given None = false
+is_given (Some text) = bytes_eq text (codes "true")
+
+-- The job is the campaign of the file that the words of `campaign` name, quiet or not.
+abbrev pub IsCampaignOf : List Row → Job → Type 0
+IsCampaignOf rows (Run file at handler) = ⊥
+IsCampaignOf rows (Campaign file quiet) =
+    (first_of (codes "FILE") rows ≡ Some file.now) × (is_given (first_of (codes "quiet") rows) ≡ quiet)
 
 -- The job is what the words name, by the command and its own words.
 abbrev pub IsJobOf : Option (Text × List Row) → Job → Type 0
 IsJobOf None job = ⊥
-IsJobOf (Some named) job = (named.0 ≡ codes "run") × IsRunOf named.1 job
+IsJobOf (Some named) job =
+    ((named.0 ≡ codes "run") × IsRunOf named.1 job) ⊎ ((named.0 ≡ codes "campaign") × IsCampaignOf named.1 job)
 
 -- There is a text, and it is no number.
 abbrev pub IsNoNumber : Option Text → Type 0
@@ -84,7 +105,12 @@ IsNoNumber (Some text) = IsNumber text → ⊥
 abbrev pub NamesNoRun : List Row → Type 0
 NamesNoRun rows = (first_of (codes "FILE") rows ≡ None) ⊎ IsNoNumber (one_of (codes "at") rows)
 
+-- The words of `campaign` name no file.
+abbrev pub NamesNoCampaign : List Row → Type 0
+NamesNoCampaign rows = first_of (codes "FILE") rows ≡ None
+
 -- The words name no job.
 abbrev pub NamesNoJob : Option (Text × List Row) → Type 0
 NamesNoJob None = Unit {0}
-NamesNoJob (Some named) = named.0 ≡ codes "run" → NamesNoRun named.1
+NamesNoJob (Some named) =
+    (named.0 ≡ codes "run" → NamesNoRun named.1) × (named.0 ≡ codes "campaign" → NamesNoCampaign named.1)

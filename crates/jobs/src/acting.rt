@@ -1,16 +1,14 @@
 //! A job of the program, over a source and two sinks.
-ghost use Rattle.std.specs.Prelude.{◌≡◌, ◌≢◌, ◌⊎◌, true, false, [], Result, Err, MatchResult};
+ghost use Rattle.std.specs.Prelude.{◌≡◌, ◌≢◌, ◌⊎◌, Bool, true, false, [], Result, Err, MatchResult};
 ghost use Rattle.std.specs.IoError.{error_kind};
-ghost use Rattle.model.specs.declared.event.End.{End};
-ghost use Rattle.jobs.specs.declared.serve.ServeFault.{ServeFault};
+ghost use Rattle.campaign.specs.declared.file.ServeFault.{ServeFault};
 ghost use Rattle.jobs.specs.declared.acting.JobFault.{JobFault};
 ghost use Rattle.jobs.specs.declared.acting.JobFault.TheVariants as job_fault;
-ghost use Rattle.jobs.specs.Acting.{Does, OpensAndDoes, Tells, fault_line, is_unpaired, told, status_of};
+ghost use Rattle.jobs.specs.Acting.{RunServed, CampaignServed, Does, OpensAndDoes, Tells, fault_line, is_unpaired, told, status_of};
 
-use crate::at::At;
 use crate::fault_line::tell;
-use crate::serve::{ServeFault, serve_run};
 use byte_io::{FromReader, Sink, Source};
+use campaign::{At, Options, Progress, ServeFault, Unseen, serve_run, serve_watched};
 use model::End;
 use std::alloc::Global;
 use std::fs::File;
@@ -26,6 +24,11 @@ pub enum Job<'a> {
         file: &'a str,
         at: Option<u32>,
         handler: Option<&'a str>,
+    },
+    /// Write the report of the campaign of this file. Where it is quiet, nobody is told how far it has come.
+    Campaign {
+        file: &'a str,
+        quiet: bool,
     },
 }
 
@@ -53,16 +56,19 @@ impl<'a> Job<'a> {
     pub fn file(self) -> &'a str
         ensures { result.now ≡ file_of self.entry }
     {
-        let Job::Run { file, .. } = self;
-        file
+        match self {
+            Job::Run { file, .. } | Job::Campaign { file, .. } => file,
+        }
     }
 
     // The name of the handler that it injects; empty where it has none.
     fn handler(self) -> &'a str
         ensures { result.now ≡ handler_of self.entry }
     {
-        let Job::Run { handler, .. } = self;
-        handler.unwrap_or("")
+        match self {
+            Job::Run { handler, .. } => handler.unwrap_or(""),
+            Job::Campaign { .. } => "",
+        }
     }
 
     // The name that the line of this fault tells.
@@ -81,7 +87,9 @@ impl<'a> Job<'a> {
             (λ at. (is_unpaired self.entry ≡ false) × (at ≡ injection_of self.entry))
             (λ fault. (is_unpaired self.entry ≡ true) × (fault ≡ job_fault.Unpaired)) }
     {
-        let Job::Run { at, handler, .. } = self;
+        let Job::Run { at, handler, .. } = self else {
+            return Ok(None);
+        };
         match (at, handler) {
             (None, None) => Ok(None),
             (Some(step), Some(handler)) => Ok(Some(At { step, handler })),
@@ -90,17 +98,24 @@ impl<'a> Job<'a> {
     }
 }
 
-/// The status of a job: 0 where the run that it wrote passes, 1 where it does not, 2 where a step and a handler don't go
-/// together or the handler is unknown, 3 where the file has a fault or can't be read, 4 for want of memory, 5 where the report
-/// can't be written.
-pub fn status_of(outcome: Result<End, JobFault>) -> u8
+/// The status of a job: 0 where the run that it wrote passes, or all rows do, 1 where it or some of them don't, 2 where a step
+/// and a handler don't go together or the handler is unknown, 3 where the file has a fault, too many points, or can't be read, 4
+/// for want of memory, 5 where the report can't be written.
+pub fn status_of(outcome: Result<bool, JobFault>) -> u8
     ensures { result ≡ status_of outcome }
 {
     match outcome {
-        Ok(End::Pass) => 0,
-        Ok(_) => 1,
+        Ok(true) => 0,
+        Ok(false) => 1,
         Err(JobFault::Unpaired | JobFault::Serve(ServeFault::UnknownHandler)) => 2,
-        Err(JobFault::Serve(ServeFault::Read | ServeFault::NotToml | ServeFault::Load(_))) => 3,
+        Err(
+            JobFault::Serve(
+                ServeFault::Read
+                | ServeFault::NotToml
+                | ServeFault::Load(_)
+                | ServeFault::TooManyPoints,
+            ),
+        ) => 3,
         Err(JobFault::Serve(ServeFault::Memory)) => 4,
         Err(JobFault::Serve(ServeFault::Write)) => 5,
     }
@@ -119,7 +134,7 @@ pub fn refuse<F: Sink>(faults: &mut F, fault: ServeFault) -> u8
 
 /// Ends a job of this outcome: tells its fault, if it has one, and answers its status. That the line can't be put
 /// changes nothing of the status.
-pub fn conclude<F: Sink>(job: &Job<'_>, faults: &mut F, outcome: Result<End, JobFault>) -> u8
+pub fn conclude<F: Sink>(job: &Job<'_>, faults: &mut F, outcome: Result<bool, JobFault>) -> u8
     requires { F.has_failed faults.old ≡ false }
     ensures told { Tells (F.held faults.old) (F.held faults.new) (F.has_failed faults.new)
         (told job.now outcome) }
@@ -131,14 +146,53 @@ pub fn conclude<F: Sink>(job: &Job<'_>, faults: &mut F, outcome: Result<End, Job
     status_of(outcome)
 }
 
+// Serves a run. Answers whether it passes.
+fn serve_run_of<R: Source, W: Sink>(
+    alloc: Global,
+    at: Option<At<'_>>,
+    reader: &mut R,
+    writer: &mut W,
+) -> Result<bool, ServeFault>
+    requires reads { R.has_failed reader.old ≡ false }
+    requires writes { W.has_failed writer.old ≡ false }
+    ensures { RunServed at.entry (R.left reader.old) (R.has_failed reader.new)
+        (W.held writer.old) (W.held writer.new) (W.has_failed writer.new) result }
+{
+    let end = serve_run(alloc, reader, writer, at)?;
+    Ok(matches!(end, End::Pass))
+}
+
+// Serves a campaign. Answers whether all its rows pass.
+fn serve_campaign<R: Source, W: Sink, P: Progress>(
+    alloc: Global,
+    quiet: bool,
+    reader: &mut R,
+    writer: &mut W,
+    progress: &mut P,
+) -> Result<bool, ServeFault>
+    requires reads { R.has_failed reader.old ≡ false }
+    requires writes { W.has_failed writer.old ≡ false }
+    ensures { CampaignServed (R.left reader.old) (R.has_failed reader.new)
+        (W.held writer.old) (W.held writer.new) (W.has_failed writer.new) result }
+{
+    let options = Options::default();
+    let totals = if quiet {
+        serve_watched(alloc, reader, writer, options, &mut Unseen)?
+    } else {
+        serve_watched(alloc, reader, writer, options, progress)?
+    };
+    Ok(totals.pass == totals.rows)
+}
+
 // Reads the file of the job from `reader`, and writes to `writer` what the job asks for. Nothing is read where its step and its
 // handler don't go together.
-fn serve_job<R: Source, W: Sink>(
+fn serve_job<R: Source, W: Sink, P: Progress>(
     alloc: Global,
     job: &Job<'_>,
     reader: &mut R,
     writer: &mut W,
-) -> Result<End, JobFault>
+    progress: &mut P,
+) -> Result<bool, JobFault>
     requires reads { R.has_failed reader.old ≡ false }
     requires writes { W.has_failed writer.old ≡ false }
     ensures does { Does job.now (R.left reader.old) (R.has_failed reader.new)
@@ -146,8 +200,12 @@ fn serve_job<R: Source, W: Sink>(
     ensures unread { is_unpaired job.now ≡ true → R.left reader.new ≡ R.left reader.old }
 {
     let at = job.injection()?;
-    match serve_run(alloc, reader, writer, at) {
-        Ok(end) => Ok(end),
+    let served = match *job {
+        Job::Run { .. } => serve_run_of(alloc, at, reader, writer),
+        Job::Campaign { quiet, .. } => serve_campaign(alloc, quiet, reader, writer, progress),
+    };
+    match served {
+        Ok(passes) => Ok(passes),
         Err(fault) => Err(JobFault::Serve(fault)),
     }
 }
@@ -155,25 +213,27 @@ fn serve_job<R: Source, W: Sink>(
 /// Does the job: reads its file from `reader`, and writes to `writer` what the job asks for. Answers the status that the
 /// program ends with, and puts the line of a fault, if any, to `faults`; that this fails changes nothing.
 ///
-/// Where the job's step and its handler don't go together, nothing is read.
-pub fn act<R: Source, W: Sink, F: Sink>(
+/// Where the job's step and its handler don't go together, nothing is read. `progress` is told how far a campaign has come,
+/// unless it is quiet; no clause speaks of that.
+pub fn act<R: Source, W: Sink, F: Sink, P: Progress>(
     alloc: Global,
     job: &Job<'_>,
     reader: &mut R,
     writer: &mut W,
     faults: &mut F,
+    progress: &mut P,
 ) -> u8
     requires reads { R.has_failed reader.old ≡ false }
     requires writes { W.has_failed writer.old ≡ false }
     requires tells { F.has_failed faults.old ≡ false }
-    ensures does { (outcome : Result End JobFault)
+    ensures does { (outcome : Result Bool JobFault)
         × Does job.now (R.left reader.old) (R.has_failed reader.new)
         (W.held writer.old) (W.held writer.new) (W.has_failed writer.new) outcome
         × Tells (F.held faults.old) (F.held faults.new) (F.has_failed faults.new) (told job.now outcome)
         × (result ≡ status_of outcome) }
     ensures unread { is_unpaired job.now ≡ true → R.left reader.new ≡ R.left reader.old }
 {
-    let outcome = serve_job(alloc, job, reader, writer);
+    let outcome = serve_job(alloc, job, reader, writer, progress);
     conclude(job, faults, outcome)
 }
 
@@ -193,22 +253,26 @@ fn fault_of(error: &io::Error) -> ServeFault
 /// Opens the file of the job, and does the job over it and the two sinks. A file that can't be opened is one that can't be
 /// read, also where the job's step and handler don't go together. The contract says of the file's bytes that there are such;
 /// that they are those of the file, the tests show.
-pub fn open_and_act<S: Files, W: Sink, F: Sink>(
+pub fn open_and_act<S: Files, W: Sink, F: Sink, P: Progress>(
     alloc: Global,
     files: &S,
     job: &Job<'_>,
     writer: &mut W,
     faults: &mut F,
+    progress: &mut P,
 ) -> u8
     requires writes { W.has_failed writer.old ≡ false }
     requires tells { F.has_failed faults.old ≡ false }
-    ensures { (outcome : Result End JobFault)
+    ensures { (outcome : Result Bool JobFault)
         × OpensAndDoes job.now (W.held writer.old) (W.held writer.new) (W.has_failed writer.new) outcome
         × Tells (F.held faults.old) (F.held faults.new) (F.has_failed faults.new) (told job.now outcome)
         × (result ≡ status_of outcome) }
 {
     match File::open(files, job.file()) {
-        Ok(file) => act(alloc, job, &mut FromReader::new(file), writer, faults),
+        Ok(file) => {
+            let mut reader = FromReader::new(file);
+            act(alloc, job, &mut reader, writer, faults, progress)
+        }
         Err(error) => conclude(job, faults, Err(JobFault::Serve(fault_of(&error)))),
     }
 }

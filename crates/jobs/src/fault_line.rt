@@ -8,9 +8,9 @@ ghost use Rattle.jobs.specs.Acting.{fault_pieces, load_pieces, Tells, fault_line
 ghost use Rattle.jobs.specs.declared.acting.JobFault.TheVariants as job_fault;
 
 use crate::acting::JobFault;
-use crate::serve::ServeFault;
 use arrayvec::ArrayVec;
 use byte_io::{Piece, Sink, write_line};
+use campaign::ServeFault;
 use script::{LoadFault, Place, PlaceWord};
 
 // The pieces of a line, of which a fault has seven at most: three of a load fault itself, and four of its place.
@@ -97,6 +97,7 @@ fn serve_pieces<'a>(name: &'a str, fault: ServeFault) -> Pieces<'a>
             pieces.push(Piece::Text("rtosim: unknown handler"));
             pieces.push(Piece::Text(name));
         }
+        ServeFault::TooManyPoints => pieces.push(Piece::Text("rtosim: too many points")),
         ServeFault::Memory => pieces.push(Piece::Text("rtosim: out of memory")),
         ServeFault::Write => pieces.push(Piece::Text("rtosim: cannot write")),
     }

@@ -6,9 +6,9 @@ ghost use Rattle.jobs.specs.Obeying.{Concludes, Obeys, ShownTells, shown_status}
 ghost use Rattle.jobs.specs.Words.{texts_of};
 
 use crate::acting::{open_and_act, refuse};
-use crate::serve::ServeFault;
 use crate::words::job_named;
 use byte_io::{Sink, WriteFault, put_all};
+use campaign::{Progress, ServeFault};
 use clap::Error;
 use clap::error::ErrorKind;
 use std::alloc::Global;
@@ -68,12 +68,14 @@ pub fn conclude_error<W: Sink, F: Sink>(
 }
 
 /// Does what the words ask for: a job over the two sinks, or to show help or the version, or to say why they are refused.
-pub fn obey<S: Files, W: Sink, F: Sink>(
+/// `progress` is told how far a campaign has come, unless the words ask for quiet.
+pub fn obey<S: Files, W: Sink, F: Sink, P: Progress>(
     alloc: Global,
     files: &S,
     words: &[&str],
     writer: &mut W,
     faults: &mut F,
+    progress: &mut P,
 ) -> u8
     requires writes { W.has_failed writer.old ≡ false }
     requires tells { F.has_failed faults.old ≡ false }
@@ -82,7 +84,7 @@ pub fn obey<S: Files, W: Sink, F: Sink>(
         (F.held faults.old) (F.held faults.new) (F.has_failed faults.new) result }
 {
     match job_named(alloc, words) {
-        Ok(job) => open_and_act(alloc, files, &job, writer, faults),
+        Ok(job) => open_and_act(alloc, files, &job, writer, faults, progress),
         Err(error) => conclude_error(alloc, &error, writer, faults),
     }
 }

@@ -2,7 +2,7 @@
 ghost use Rattle.std.specs.Prelude.{◌≡◌, IfOk, IfErr, IfSome, IsNone, MatchResult, true, map, option_map};
 ghost use Rattle.clap.specs.Words.{takes, kind_of, subcommand_of, first_of, one_of, found_of, rows_of, subcommand_rows_of, fault_of, FailsBy};
 ghost use Rattle.clap.specs.declared.error.kind.ErrorKind.TheVariants.{OutOfMemory};
-ghost use Rattle.jobs.specs.Words.{file_rule, at_rule, handler_rule, run_app, rtosim_top, rtosim_app, texts_of, number_of, IsCommandOf, IsArgOf, IsRunOf, IsJobOf, IsNoNumber, NamesNoRun, NamesNoJob};
+ghost use Rattle.jobs.specs.Words.{file_rule, at_rule, handler_rule, quiet_rule, run_app, campaign_app, rtosim_top, rtosim_app, texts_of, number_of, is_given, IsCommandOf, IsArgOf, IsRunOf, IsCampaignOf, IsJobOf, IsNoNumber, NamesNoRun, NamesNoCampaign, NamesNoJob};
 
 use crate::acting::Job;
 use clap::{Arg, ArgAction, ArgMatches, Command, Error, value_parser};
@@ -10,12 +10,13 @@ use std::alloc::{AllocError, Global};
 use std::num::ParseIntError;
 
 const STATUSES: &str = "Exit status:
-  0  the run passes, or help or the version was asked for
-  1  the run ends in another way: its head line says how
+  0  the run or every row passes, or help or the version was asked for
+  1  the run or some row ends in another way: its head line says how
   2  the words of the command line are refused, or no handler has the name
-  3  the file can't be read, is not TOML, or describes no application
+  3  the file can't be read, is not TOML, describes no application, or has
+     more than 1000000 points
   4  no memory is left
-  5  the trace can't be written";
+  5  the report can't be written";
 
 fn file_argument<'a>(alloc: Global) -> Arg<'a>
     ensures { IsArgOf file_rule result }
@@ -47,6 +48,15 @@ fn handler_argument<'a>(alloc: Global) -> Arg<'a>
         .help("The handler that is injected, by its name in the file")
 }
 
+fn quiet_argument<'a>(alloc: Global) -> Arg<'a>
+    ensures { IsArgOf quiet_rule result }
+{
+    Arg::new(alloc, "quiet")
+        .long("quiet")
+        .action(ArgAction::SetTrue)
+        .help("Tells nobody how far the campaign has come")
+}
+
 fn run_command<'a>(alloc: Global) -> Result<Command<'a>, AllocError>
     ensures { IfOk result (λ command. IsCommandOf run_app command) }
 {
@@ -56,6 +66,16 @@ fn run_command<'a>(alloc: Global) -> Result<Command<'a>, AllocError>
         .arg(file_argument(alloc))?
         .arg(at_argument(alloc))?
         .arg(handler_argument(alloc))
+}
+
+fn campaign_command<'a>(alloc: Global) -> Result<Command<'a>, AllocError>
+    ensures { IfOk result (λ command. IsCommandOf campaign_app command) }
+{
+    Command::new(alloc, "campaign")
+        .about("Runs an application once for each of its points, and writes the report")
+        .after_help(STATUSES)
+        .arg(file_argument(alloc))?
+        .arg(quiet_argument(alloc))
 }
 
 // The program without its commands.
@@ -72,7 +92,9 @@ fn program<'a>(alloc: Global) -> Command<'a>
 fn command<'a>(alloc: Global) -> Result<Command<'a>, AllocError>
     ensures { IfOk result (λ command. IsCommandOf rtosim_app command) }
 {
-    program(alloc).subcommand(run_command(alloc)?)
+    program(alloc)
+        .subcommand(run_command(alloc)?)?
+        .subcommand(campaign_command(alloc)?)
 }
 
 fn text<'a>(matches: &ArgMatches<'a>, id: &str) -> Option<&'a str>
@@ -103,12 +125,36 @@ fn run_job<'a>(matches: &ArgMatches<'a>) -> Option<Job<'a>>
     Some(Job::Run { file, at, handler })
 }
 
+// Whether a flag is given.
+fn is_given(matches: &ArgMatches<'_>, id: &str) -> bool
+    ensures { result ≡ is_given (first_of id.now (rows_of (found_of matches.now))) }
+{
+    match text(matches, id) {
+        None => false,
+        Some(value) => value == "true",
+    }
+}
+
+// The job of the command `campaign`.
+fn campaign_job<'a>(matches: &ArgMatches<'a>) -> Option<Job<'a>>
+    ensures job { IfSome result (IsCampaignOf (rows_of (found_of matches.now))) }
+    ensures none { IsNone result → NamesNoCampaign (rows_of (found_of matches.now)) }
+{
+    let file = text(matches, "FILE")?;
+    let quiet = is_given(matches, "quiet");
+    Some(Job::Campaign { file, quiet })
+}
+
 fn job_of<'a>(matches: &ArgMatches<'a>) -> Option<Job<'a>>
     ensures job { IfSome result (IsJobOf (subcommand_rows_of matches.now)) }
     ensures none { IsNone result → NamesNoJob (subcommand_rows_of matches.now) }
 {
     let (name, inner) = matches.subcommand()?;
-    if name == "run" { run_job(inner) } else { None }
+    match name {
+        "run" => run_job(inner),
+        "campaign" => campaign_job(inner),
+        _ => None,
+    }
 }
 
 /// The job that the words name; the first of them is the name of the program. At `Err` help or the version was asked

@@ -7,6 +7,7 @@ pub mod Acting
 pub mod Bounds
 pub mod Ending
 pub mod Running
+pub mod Injecting
 pub mod Booting
 pub mod Waits
 pub mod Ranking

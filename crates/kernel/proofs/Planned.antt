@@ -55,11 +55,14 @@ left_next plan points n h = go points h.order h.ahead (λ m l. h.same m (omega a
       let all = later n q qs order ahead.0 ne in
       rw (none_at n (q ∷ qs) all) (record { same = same; order = order; ahead = all }))
 
-pub left_first : (plan : List Point) → IsPlan plan → IsLeft plan plan 0
-left_first plan is = record { same = λ m l. refl; order = is.in_order; ahead = all plan } where
-  all : (ps : List Point) → AllByRecursion (λ (p : Point). 0 ≤ p.step) ps
-  all [] = tt
-  all (p ∷ ps) = (omega arith, all ps)
+-- of a plan all of whose points are still to come
+pub left_first : (plan : List Point) (n : ℕ) → IsPlan plan → AllByRecursion (λ (p : Point). n ≤ p.step) plan → IsLeft plan plan n
+left_first plan n is ahead = record { same = λ m l. refl; order = is.in_order; ahead = ahead }
+
+-- at reset they all are
+pub all_ahead : (n : ℕ) → n ≡ 0 → (ps : List Point) → AllByRecursion (λ (p : Point). n ≤ p.step) ps
+all_ahead n e [] = tt
+all_ahead n e (p ∷ ps) = (omega arith, all_ahead n e ps)
 
 -- ---- those of one step, one after another
 

@@ -12,11 +12,13 @@ use Rattle.model.specs.State.{State, Progress, progress_at}
 use Rattle.model.specs.Step.{act_unless, misuse, act_if, act_current, step, reset}
 use Rattle.model.specs.declared.plan.Point.{Point}
 use Rattle.model.specs.Run.{Run, IsRun, end_of, injected, state_after, events_after}
+use Rattle.model.proofs.Injected.{from_one_more}
 use Rattle.model.proofs.Passing.{elapsed-reset, elapsed-step}
 use Rattle.kernel.specs.declared.kernel.Kernel.{Kernel}
 use Rattle.kernel.specs.Logged.{Logged, all_of}
 use Rattle.kernel.specs.StandsFor.{Stands, AtAny, DoesAny, progress_in}
 use Rattle.kernel.specs.Can.{CanStep, IsUnderWay}
+use Rattle.kernel.specs.Rows.{events_from}
 use Rattle.kernel.proofs.Either.{steps_are, elapsed_is, current_is, progress_is}
 use Rattle.kernel.proofs.Bounds.{below_limits, steps-reset}
 
@@ -66,8 +68,9 @@ begins app plan limits k h = record {
   goes_on = λ n l. let e = steps_begin app k h in absurd (omega arith);
 }
 
-pub no_events : (app : Application) (plan : List Point) (k : Kernel) → Stands k (reset app) → events_after app plan k.steps ≡ []
-no_events app plan k h = rw (steps_begin app k h) refl
+-- the events from reset on, in a trail that had none
+pub events_from_reset : (app : Application) (plan : List Point) (first next : ℕ) → first ≡ 0 → (log : Logged) → log.before ≡ [] → log.told ≡ [] → all_of log ++ events_from app plan first next ≡ events_after app plan next
+events_from_reset app plan first next z log before told = rw (before, told, z) refl
 
 module _ (app : Application) (formed : IsWellFormed app) (plan : List Point) (limits : Limits) (are : AreLimits limits.ticks limits.steps) (k : Kernel) (h : IsUnderWay app plan limits k) (on : end_of app limits (state_after app plan k.steps) ≡ None) where
   pub can_step : CanStep app k
@@ -93,9 +96,19 @@ module _ (app : Application) (formed : IsWellFormed app) (plan : List Point) (li
       goes_on = λ n l. let m : n < suc k.steps = rw steps_more at l in by_last n m;
     }
 
-    -- and its events
-    pub more_events : (first events all : List Event) → events ≡ first ++ events_after app plan k.steps → all ≡ events ++ (step app (injected plan k.steps) (state_after app plan k.steps)).log → all ≡ first ++ events_after app plan next.steps
-    more_events first events all e g = rw (g, steps_more, e) (append_assoc first (events_after app plan k.steps) (step app (injected plan k.steps) (state_after app plan k.steps)).log)
+    -- and its events, from any step before
+    pub more_events : (from : ℕ) → from ≤ k.steps → (first events all : List Event) → events ≡ first ++ events_from app plan from k.steps → all ≡ events ++ (step app (injected plan k.steps) (state_after app plan k.steps)).log → all ≡ first ++ events_from app plan from next.steps
+    more_events from l first events all e g =
+        let log : List Event = (state_after app plan (suc k.steps)).log in
+        g
+        ∙ ap (λ (es : List Event). es ++ log) e
+        ∙ append_assoc first (events_from app plan from k.steps) log
+        ∙ ap (λ (es : List Event). first ++ es) (sym (from_one_more app plan from k.steps l))
+        ∙ ap (λ (n : ℕ). first ++ events_from app plan from n) (sym steps_more)
+
+    -- and how many they are
+    pub more_counted : (told : List Event) → told ≡ (step app (injected plan k.steps) (state_after app plan k.steps)).log → length (events_after app plan next.steps) ≡ length (events_after app plan k.steps) + length told
+    more_counted told e = rw (steps_more, e) (length-append (events_after app plan k.steps) (step app (injected plan k.steps) (state_after app plan k.steps)).log)
 
     -- where the step tells something, so has the run
     pub told_more : 0 < length (step app (injected plan k.steps) (state_after app plan k.steps)).log → 0 < length (events_after app plan next.steps)

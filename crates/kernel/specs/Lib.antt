@@ -5,3 +5,4 @@ pub mod Blocked
 pub mod Can
 pub mod Boot
 pub mod Keeping
+pub mod Rows

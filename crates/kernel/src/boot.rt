@@ -1,6 +1,8 @@
 //! The kernel at reset.
-ghost use Rattle.std.specs.Prelude.{◌≡◌, ◌<◌, ◌≤◌, if◌then◌else◌, ℕ, length, map, false, slice_index_or};
+ghost use Rattle.std.specs.Prelude.{◌≡◌, ◌<◌, ◌≤◌, if◌then◌else◌, ℕ, List, length, map, false, slice_index_or};
 ghost use Rattle.std.specs.List.{AllByRecursion};
+ghost use Rattle.model.specs.declared.plan.Point.{Point};
+ghost use Rattle.model.specs.Application.{Limits};
 ghost use Rattle.model.specs.State.{State, no_task, no_progress, status_at, for_each};
 ghost use Rattle.model.specs.Switching.{make_ready};
 ghost use Rattle.model.specs.Suspension.{can_resume};
@@ -9,6 +11,7 @@ ghost use Rattle.model.specs.Scripts.{IsDefinition};
 ghost use Rattle.sched.specs.Schedule.{priority_in, is_ready};
 ghost use Rattle.sched.specs.StandsFor.{StandsFor as ScheduleStandsFor};
 ghost use Rattle.kernel.specs.StandsFor.{StandsFor, progress_in};
+ghost use Rattle.kernel.specs.Can.{IsUnderWay};
 ghost use Rattle.kernel.specs.Boot.{priorities_in, HasNoneFrom};
 
 use crate::kernel::Kernel;
@@ -78,7 +81,10 @@ impl Kernel {
     /// The kernel at reset: the tasks are Ready in the order of the file, and the choice runs (profile: FreeRTOS runs the
     /// task of highest priority that was created last). A task with an empty script is Ended.
     pub fn boot(app: &App) -> Self
-        ensures { StandsFor result (reset app.now) }
+        ensures stands { StandsFor result (reset app.now) }
+        ensures steps { result.steps ≡ 0 }
+        // Its run is under way, whatever handlers are to come, and whatever limits it has.
+        ensures way { (plan : List Point) (limits : Limits) → IsUnderWay app.now plan limits result }
     {
         app.well_formed();
         let mut kernel = Kernel::nobody_ready(app);

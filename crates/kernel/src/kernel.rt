@@ -33,6 +33,16 @@ pub struct Kernel {
     pub(crate) stopped: Option<End>,
 }
 
+/// Each progress becomes a copy of the other at its place, in place.
+fn copy_progress(progress: &mut [Progress; 32], other: &[Progress; 32])
+    ensures { progress.new ≡ other.now }
+{
+    for task in 0..32 {
+        let one = &mut progress[task];
+        one.set_from(&other[task]);
+    }
+}
+
 /// The phase in which a resumed task's call goes on: one that was to decide tries again.
 fn phase_resumed(phase: Phase) -> Phase
     ensures { result ≡ phase_resumed phase }
@@ -44,6 +54,20 @@ fn phase_resumed(phase: Phase) -> Phase
 }
 
 impl Kernel {
+    /// Becomes a copy of the other, in place. It takes no memory.
+    pub fn set_from(&mut self, other: &Self)
+        ensures { self.new ≡ other.now }
+    {
+        copy_progress(&mut self.progress, &other.progress);
+        self.sched.set_from(&other.sched);
+        self.clock.set_from(&other.clock);
+        self.queues.set_from(&other.queues);
+        self.groups.set_from(&other.groups);
+        self.suspensions = other.suspensions;
+        self.steps = other.steps;
+        self.stopped = other.stopped;
+    }
+
     /// The scheduler, as it stands for each state that the kernel stands for. A task that is still to be placed is among
     /// its Ready tasks.
     pub fn sched(&self) -> &Sched

@@ -8,10 +8,13 @@ mod log;
 mod loops;
 mod ops;
 mod progress;
+mod rows;
 mod steps;
 mod switching;
 mod trail;
 
 pub use kernel::Kernel;
 pub use log::StepLog;
+pub use rows::{RowEnding, run_row};
 pub use steps::run;
+pub use trail::Trail;

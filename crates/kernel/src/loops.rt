@@ -36,6 +36,14 @@ impl Loops {
         }
     }
 
+    /// Becomes a copy of the other, in place.
+    pub(crate) fn set_from(&mut self, other: &Self)
+        ensures { self.new ≡ other.now }
+    {
+        self.cells = other.cells;
+        self.nesting = other.nesting;
+    }
+
     /// Opens one more, the innermost.
     pub(crate) fn open(&mut self, innermost: Loop)
         requires { length self.old < 4 }

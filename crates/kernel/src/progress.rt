@@ -45,4 +45,16 @@ impl Progress {
             call: CallProgress::default(),
         }
     }
+
+    /// Becomes a copy of the other, in place.
+    pub(crate) fn set_from(&mut self, other: &Self)
+        ensures { self.new ≡ other.now }
+    {
+        self.op_index = other.op_index;
+        self.used = other.used;
+        self.loops.set_from(&other.loops);
+        self.answer = other.answer;
+        self.previous_wake = other.previous_wake;
+        self.call = other.call;
+    }
 }

@@ -3,16 +3,17 @@ ghost use Rattle.std.specs.Prelude.{◌≡◌, ◌<◌, ◌≤◌, ◌+◌, ◌^
 ghost use Rattle.std.specs.List.{AllByRecursion};
 ghost use Rattle.std.specs.List.{list_any};
 ghost use Rattle.model.specs.State.{State};
-ghost use Rattle.model.specs.Step.{act_current, step, reset};
+ghost use Rattle.model.specs.Step.{act_current, step};
 ghost use Rattle.model.specs.Run as definition;
 ghost use Rattle.model.specs.declared.plan.Point as definitions;
-ghost use Rattle.model.specs.Plans.{is_at};
+ghost use Rattle.model.specs.Plans.{IsPlan, is_at};
 ghost use Rattle.model.specs.Scripts.{Rises};
 ghost use Rattle.model.specs.Run.{end_of, injected, IsRun, state_after, events_after, are_all_ended, is_stuck};
 ghost use Rattle.kernel.specs.Logged.{all_of};
 ghost use Rattle.kernel.specs.StandsFor.{Stands, StandsFor, DoesAny};
 ghost use Rattle.kernel.specs.Blocked.{is_blocked};
 ghost use Rattle.kernel.specs.Can.{CanAct, CanStep, IsUnderWay};
+ghost use Rattle.kernel.specs.Rows.{events_from};
 
 use crate::kernel::Kernel;
 use crate::log::{Log, StepLog};
@@ -143,9 +144,9 @@ impl Kernel {
     }
 }
 
-/// One step of the run, whose events go to a log of their own first: memory is taken only for those that it tells. So it is done
-/// where the trail has less room than a step may need, and where handlers come before it, as they do before few. At
-/// `Err(Memory)`, answered only where that growth was refused, it is done all the same.
+/// One step of the run, whose events go to this log first, in place of what it has: memory is taken only for those that the step
+/// tells. So it is done where the trail has less room than a step may need, and where handlers come before it, as they do
+/// before few. At `Err(Memory)`, answered only where that growth was refused, it is done all the same.
 #[cold]
 #[inline(never)]
 fn step_apart(
@@ -153,6 +154,7 @@ fn step_apart(
     app: &App,
     handlers: &[HandlerId],
     meter: &mut Meter,
+    log: &mut StepLog,
     trail: &mut Trail,
 ) -> Result<(), Memory>
     requires few { length handlers.now ≤ 3 }
@@ -167,8 +169,8 @@ fn step_apart(
     ensures memory { OnErr result ((s : State) → Stands kernel.old s
         → 0 < length (step app.now handlers.now s).log) }
 {
-    let mut log = StepLog::new();
-    kernel.step_onto(app, handlers, meter, &mut log);
+    log.clear();
+    kernel.step_onto(app, handlers, meter, log);
     trail.append(log.as_slice())
 }
 
@@ -178,6 +180,7 @@ fn step_along(
     kernel: &mut Kernel,
     app: &App,
     meter: &mut Meter,
+    log: &mut StepLog,
     trail: &mut Trail,
 ) -> Result<(), Memory>
     requires going { CanStep app.now kernel.old }
@@ -190,7 +193,7 @@ fn step_along(
         → 0 < length (step app.now [] s).log) }
 {
     if trail.begin().is_err() {
-        return step_apart(kernel, app, &[], meter, trail);
+        return step_apart(kernel, app, &[], meter, log, trail);
     }
     kernel.step_onto(app, &[], meter, trail);
     Ok(())
@@ -229,6 +232,7 @@ fn step_after(
     app: &App,
     handlers: &[HandlerId],
     meter: &mut Meter,
+    log: &mut StepLog,
     trail: &mut Trail,
 ) -> Result<(), Memory>
     requires few { length handlers.now ≤ 3 }
@@ -243,7 +247,7 @@ fn step_after(
 {
     // Room for what the step tells is asked for once it is known.
     let _ = trail.begin();
-    step_apart(kernel, app, handlers, meter, trail)
+    step_apart(kernel, app, handlers, meter, log, trail)
 }
 
 /// One step of the run, after the handlers of those points that are at it: these points are those from this step on. It
@@ -255,6 +259,7 @@ fn step_after_points<'a>(
     app: &App,
     points: &'a [Point],
     meter: &mut Meter,
+    log: &mut StepLog,
     trail: &mut Trail,
 ) -> Result<&'a [Point], Memory>
     requires order { Rises (λ (p : definitions.Point). p.step) points.now }
@@ -274,7 +279,7 @@ fn step_after_points<'a>(
 {
     let handlers = handlers_at(points, kernel.steps);
     let (_, later) = points.split_at(handlers.len());
-    step_after(kernel, app, handlers.as_slice(), meter, trail)?;
+    step_after(kernel, app, handlers.as_slice(), meter, log, trail)?;
     Ok(later)
 }
 
@@ -284,6 +289,7 @@ fn step_by_plan<'a>(
     app: &App,
     points: &'a [Point],
     meter: &mut Meter,
+    log: &mut StepLog,
     trail: &mut Trail,
 ) -> Result<&'a [Point], Memory>
     requires order { Rises (λ (p : definitions.Point). p.step) points.now }
@@ -302,41 +308,45 @@ fn step_by_plan<'a>(
         → 0 < length (step app.now (injected points.now kernel.old.steps) s).log) }
 {
     if is_due(points, kernel.steps) {
-        return step_after_points(kernel, app, points, meter, trail);
+        return step_after_points(kernel, app, points, meter, log, trail);
     }
-    step_along(kernel, app, meter, trail)?;
+    step_along(kernel, app, meter, log, trail)?;
     Ok(points)
 }
 
-/// Goes on to the end of the run, and keeps the events.
-fn finish(
+/// Goes on to the end of a run that is under way, and keeps the events from there on. These points are its plan, all of
+/// them still to come.
+pub(crate) fn finish(
     kernel: &mut Kernel,
     app: &App,
-    plan: &Plan,
+    points: &[Point],
     limits: &Limits,
     meter: &mut Meter,
+    log: &mut StepLog,
     trail: &mut Trail,
 ) -> Result<End, Memory>
-    requires stands { Stands kernel.old (reset app.now) }
-    requires meter { meter.old < 2 ^ 62 }
-    ensures way { IsUnderWay app.now plan.now limits.now kernel.new }
+    requires plan { IsPlan points.now }
+    requires ahead { AllByRecursion (λ (p : definitions.Point). kernel.old.steps ≤ p.step) points.now }
+    requires way { IsUnderWay app.now points.now limits.now kernel.old }
+    requires meter { meter.old < 2 ^ 62 + kernel.old.steps }
+    ensures way { IsUnderWay app.now points.now limits.now kernel.new }
+    ensures on { kernel.old.steps ≤ kernel.new.steps }
     ensures events { OnOk result
-        (all_of trail.new ≡ all_of trail.old ++ events_after app.now plan.now kernel.new.steps) }
+        (all_of trail.new ≡ all_of trail.old ++ events_from app.now points.now kernel.old.steps kernel.new.steps) }
     ensures ended { IfOk result
-        (λ end. end_of app.now limits.now (state_after app.now plan.now kernel.new.steps) ≡ Some end) }
-    ensures meter { meter.new ≡ meter.old + kernel.new.steps }
+        (λ end. end_of app.now limits.now (state_after app.now points.now kernel.new.steps) ≡ Some end) }
+    ensures meter { meter.new + kernel.old.steps ≡ meter.old + kernel.new.steps }
     // memory is asked for events alone
-    ensures memory { OnErr result (0 < length (events_after app.now plan.now kernel.new.steps)) }
+    ensures memory { OnErr result (0 < length (events_after app.now points.now kernel.new.steps)) }
 {
     app.well_formed();
     limits.well_formed();
-    plan.well_formed();
-    let mut points = plan.points();
+    let mut left = points;
     'steps: loop {
         if let Some(end) = kernel.ended(app, limits) {
             return Ok(end);
         }
-        points = step_by_plan(kernel, app, points, meter, trail)?;
+        left = step_by_plan(kernel, app, left, meter, log, trail)?;
     }
 }
 
@@ -360,9 +370,12 @@ pub fn run(
         → (meter.new ≤ meter.old + run.steps) × (0 < length run.events)) }
 {
     limits.well_formed();
+    plan.well_formed();
     let mut trail = Trail::new(alloc);
     let mut kernel = Kernel::boot(app);
-    let end = finish(&mut kernel, app, plan, &limits, meter, &mut trail)?;
+    let points = plan.points();
+    let mut log = StepLog::new();
+    let end = finish(&mut kernel, app, points, &limits, meter, &mut log, &mut trail)?;
     Ok(Run {
         events: trail.into_events(),
         steps: kernel.steps,

@@ -10,7 +10,7 @@ use std::marker::Model;
 /// Events in the order in which they were told, of which the last are those of the present step. Before each step `begin`
 /// makes room for its events, so that telling one takes no memory and doesn't fail.
 #[derive(Drop)]
-pub(crate) struct Trail {
+pub struct Trail {
     events: Vec<Event>,
     /// How many events stand before this step.
     start: usize,
@@ -31,7 +31,7 @@ impl Model for Trail {
 
 impl Trail {
     /// No events. It takes no memory.
-    pub(crate) fn new(alloc: Global) -> Trail
+    pub fn new(alloc: Global) -> Trail
         ensures before { result.before ≡ [] }
         ensures told { result.told ≡ [] }
     {
@@ -39,6 +39,20 @@ impl Trail {
             events: Vec::new(alloc),
             start: 0,
         }
+    }
+
+    /// How many events it has.
+    pub fn len(&self) -> usize
+        ensures { result ≡ length (all_of self.now) }
+    {
+        self.events.len()
+    }
+
+    /// The events, in order.
+    pub fn events(&self) -> &[Event]
+        ensures { result.now ≡ all_of self.now }
+    {
+        self.events.as_slice()
     }
 
     /// The next step begins, of which nothing is told yet, and there is room for 128 events of it. At `Err(Memory)`, where
@@ -72,7 +86,7 @@ impl Trail {
     }
 
     /// All its events.
-    pub(crate) fn into_events(self) -> Vec<Event>
+    pub fn into_events(self) -> Vec<Event>
         ensures { result.items ≡ all_of self }
     {
         self.events

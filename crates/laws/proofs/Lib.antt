@@ -5,3 +5,4 @@ pub mod Idle
 pub mod Changes
 pub mod Held
 pub mod Priorities
+pub mod Ends

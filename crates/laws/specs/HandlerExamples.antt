@@ -31,6 +31,7 @@ with_handler objects ops tasks = record {
   handlers = record { name = codes "h"; ops = ops } ∷ [];
   interrupts = [];
   tasks = tasks;
+  points = [];
 }
 
 -- the same, where the handler comes at this elapsed tick too

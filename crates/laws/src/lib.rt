@@ -2,10 +2,12 @@
 //! that does nothing, so that it is proved.
 #![tactic(auto)]
 
+mod campaigns;
 mod examples;
 mod runs;
 mod states;
 
+pub use campaigns::{ends_add_up, unreached_row_is_the_base_run};
 pub use examples::{
     examples_run, examples_with_handlers_run, examples_with_mutexes_run, rows_of_one_receive,
 };

@@ -107,6 +107,18 @@ impl<const L: usize, const N: usize> Table<L, N> {
         }
     }
 
+    /// Becomes a copy of the other, in place. It takes no memory.
+    pub fn set_from(&mut self, other: &Self)
+        ensures { self.new ≡ other.now }
+    {
+        self.next = other.next;
+        self.prev = other.prev;
+        self.place = other.place;
+        self.values = other.values;
+        self.firsts = other.firsts;
+        self.lasts = other.lasts;
+    }
+
     /// The first node of a list below `L`; `None` where the list is empty.
     pub fn first(&self, list: ListId) -> Option<NodeId>
         requires { list.number < L }

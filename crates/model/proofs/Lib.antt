@@ -22,3 +22,5 @@ pub mod Obeyed
 pub mod Reached
 pub mod Plans
 pub mod Ticks
+pub mod Counting
+pub mod Injected

@@ -8,6 +8,7 @@ use Rattle.model.specs.declared.op.Op.{Op}
 use Rattle.model.specs.declared.op.Op.TheVariants.{Work, Delay, DelayUntil, Yield, Time, Mark, Expect, Repeat, End, Await, Do, GiveMutex, MessagesWaiting, SpacesAvailable, SetBits, ClearBits, GetBits, WaitBits, Suspend, Resume, SuspendAll, ResumeAll}
 use Rattle.model.specs.declared.op.IsrOp.{IsrOp}
 use Rattle.model.specs.declared.op.IsrOp.TheVariants as isr
+use Rattle.model.specs.declared.plan.PointEntry.{PointEntry}
 
 -- a task of the file
 pub record Definition : Type 0 where
@@ -34,7 +35,7 @@ pub record Limits : Type 0 where
 abbrev pub AreLimits : ℕ → ℕ → Type 0
 AreLimits ticks steps = (1 ≤ ticks) × (ticks ≤ 1000000) × (1 ≤ steps) × (steps ≤ 1000000)
 
--- what a run starts from
+-- what a run starts from, and the points of a campaign
 pub record Application : Type 0 where
   -- the time at reset
   pub start : ℕ
@@ -46,6 +47,8 @@ pub record Application : Type 0 where
   -- in the order in which they come: that of their ticks, at one tick that of the file
   pub interrupts : List Interrupt
   pub tasks : List Definition
+  -- of the campaign, which no run depends on
+  pub points : List PointEntry
 
 -- the task of this number, as the file has it
 abbrev pub definition_of : Application → ℕ → Option Definition

@@ -14,5 +14,6 @@ pub mod Suspension
 pub mod Handlers
 pub mod Step
 pub mod Run
+pub mod Campaign
 pub mod Plans
 pub mod Invariant

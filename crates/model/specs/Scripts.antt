@@ -9,6 +9,8 @@ use Rattle.model.specs.declared.op.Op.{Op}
 use Rattle.model.specs.declared.op.Op.TheVariants.{Work, DelayUntil, Repeat, End, Await, Do, GiveMutex, MessagesWaiting, SpacesAvailable, SetBits, ClearBits, GetBits, WaitBits, Suspend, Resume}
 use Rattle.model.specs.declared.op.IsrOp.{IsrOp}
 use Rattle.model.specs.declared.op.IsrOp.TheVariants as isr
+use Rattle.model.specs.declared.plan.PointEntry.{PointEntry}
+use Rattle.model.specs.declared.plan.PointEntry.TheVariants.{One, Every}
 use Rattle.model.specs.Application.{Application, Handler, Interrupt, Definition, interrupts_at}
 
 -- ---- how many there may be (profile)
@@ -65,9 +67,17 @@ most_interrupts = 1024
 abbrev pub most_at_once : ℕ
 most_at_once = 4
 
+-- the last step before which a point of a file may be
+abbrev pub last_point : ℕ
+last_point = 1000000
+
 -- the last elapsed tick at which a base interrupt may come
 abbrev pub last_interrupt : ℕ
 last_interrupt = 1000000
+
+-- of entries of points of an application, and of the points that they stand for
+abbrev pub most_points : ℕ
+most_points = 1000000
 
 -- ---- numbers
 
@@ -252,6 +262,11 @@ pub record IsInterrupt (app : Application) (interrupt : Interrupt) : Type 0 wher
   pub last : interrupt.tick ≤ last_interrupt
   pub handler : interrupt.handler < length app.handlers
 
+-- an entry of points that an application may have (profile: its limits)
+abbrev pub IsPointEntry : Application → PointEntry → Type 0
+IsPointEntry app (One point) = (point.step ≤ last_point) × (point.handler < length app.handlers)
+IsPointEntry app (Every handler) = handler < length app.handlers
+
 -- a task that an application may have (profile: its limits)
 pub record IsDefinition (task : Definition) : Type 0 where
   pub name : length task.name ≤ most_name_bytes
@@ -274,4 +289,6 @@ pub record IsWellFormed (app : Application) : Type 0 where
   pub in_order : InOrder app.interrupts
   -- each op speaks of what there is
   pub known : AllByRecursion (KnowsAll app) app.tasks
+  pub points : AllByRecursion (IsPointEntry app) app.points
+  pub few_points : length app.points ≤ most_points
   pub start : app.start < 4294967296

@@ -1,4 +1,5 @@
-//! An application: its objects, its event groups, its handlers and base interrupts, its tasks, its limits, the time at reset.
+//! An application: its objects, its event groups, its handlers and base interrupts, its tasks, its limits, the time at reset,
+//! and the points of its campaign.
 ghost use Rattle.std.specs.Prelude.{◌≡◌, ◌<◌, ◌≤◌, ◌==◌, filter, length, map, nat_lt, string_bytes};
 ghost use Rattle.std.specs.List.{list_any};
 ghost use Rattle.model.specs.Application as application;
@@ -9,6 +10,7 @@ use crate::ids::{HandlerId, TaskId};
 use crate::limits::Limits;
 use crate::object::ObjectKind;
 use crate::op::{IsrOp, Op};
+use crate::plan::PointEntry;
 use crate::script::Script;
 use std::marker::Model;
 
@@ -155,8 +157,9 @@ fn at_tick(interrupts: &[Interrupt], tick: u64) -> &[Interrupt]
     those
 }
 
-/// An application: what a run starts from. That it has 1 to 32 tasks, at most 32 objects, 16 event groups, 16 handlers and
-/// 1,024 base interrupts, 4 of them at one tick, is profile.
+/// An application: what a run starts from, and the points of its campaign, which no run depends on. That it has 1 to 32
+/// tasks, at most 32 objects, 16 event groups, 16 handlers, 1,024 base interrupts, 4 of them at one tick, and 1,000,000
+/// entries of points, is profile.
 #[derive(Drop)]
 pub struct App {
     start: u32,
@@ -166,6 +169,7 @@ pub struct App {
     handlers: Vec<HandlerDefinition>,
     interrupts: Vec<Interrupt>,
     tasks: Vec<TaskDefinition>,
+    points: Vec<PointEntry>,
 }
 
 impl Model for App {
@@ -182,6 +186,7 @@ impl Model for App {
       handlers = a.handlers.items;
       interrupts = a.interrupts.items;
       tasks = a.tasks.items;
+      points = a.points.items;
     } };
 
     ghost invariant = { λ a. IsWellFormed (record {
@@ -192,6 +197,7 @@ impl Model for App {
       handlers = a.handlers.items;
       interrupts = a.interrupts.items;
       tasks = a.tasks.items;
+      points = a.points.items;
     }) };
 }
 
@@ -211,8 +217,11 @@ impl App {
     /// The most base interrupts at one elapsed tick (profile).
     pub const MOST_AT_ONCE: usize = 4;
 
+    /// The most entries of points, and the most points that they stand for (profile).
+    pub const MOST_POINTS: usize = 1_000_000;
+
     /// An application of these objects, so many event groups, these handlers, base interrupts and tasks, whose time at reset
-    /// is `start`. They are well formed together: each is within the limits, each op speaks of what is there and allows it,
+    /// is `start`, and whose campaign has these points. They are well formed together: each is within the limits, each op speaks of what is there and allows it,
     /// and the interrupts are in the order of their ticks.
     pub fn new(
         start: u32,
@@ -222,6 +231,7 @@ impl App {
         handlers: Vec<HandlerDefinition>,
         interrupts: Vec<Interrupt>,
         tasks: Vec<TaskDefinition>,
+        points: Vec<PointEntry>,
     ) -> Self
         requires { IsWellFormed (record {
           start = start;
@@ -231,6 +241,7 @@ impl App {
           handlers = handlers.items;
           interrupts = interrupts.items;
           tasks = tasks.items;
+          points = points.items;
         }) }
         ensures { result ≡ record {
           start = start;
@@ -240,6 +251,7 @@ impl App {
           handlers = handlers.items;
           interrupts = interrupts.items;
           tasks = tasks.items;
+          points = points.items;
         } }
     {
         App {
@@ -250,6 +262,7 @@ impl App {
             handlers,
             interrupts,
             tasks,
+            points,
         }
     }
 
@@ -324,6 +337,13 @@ impl App {
         ensures { result.now ≡ self.now.tasks }
     {
         self.tasks.as_slice()
+    }
+
+    /// The points of its campaign, in the order of the file.
+    pub fn points(&self) -> &[PointEntry]
+        ensures { result.now ≡ self.now.points }
+    {
+        self.points.as_slice()
     }
 
     /// The op of this index in a task's script; `None` past its end, or where there is no such task.

@@ -13,6 +13,7 @@ mod op;
 mod plan;
 mod run;
 mod script;
+mod totals;
 
 pub use app::{App, HandlerDefinition, Interrupt, TaskDefinition};
 pub use call::{CallProgress, Condition, Phase, WaitList};
@@ -22,6 +23,7 @@ pub use limits::{Limits, Meter};
 pub use loops::Loop;
 pub use object::ObjectKind;
 pub use op::{Access, IsrOp, Op};
-pub use plan::{BadPlan, Plan, Point};
-pub use run::{Memory, Run};
+pub use plan::{BadPlan, Plan, Point, PointEntry};
+pub use run::{Ending, Memory, Run};
 pub use script::{NestingFault, Script, ScriptBuilder};
+pub use totals::Totals;

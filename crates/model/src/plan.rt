@@ -12,6 +12,15 @@ pub struct Point {
     pub handler: HandlerId,
 }
 
+/// An entry of the list of points that a file has for its campaign.
+#[derive(Clone, Copy, Debug, PartialEq, Eq)]
+pub enum PointEntry {
+    /// This point.
+    One(Point),
+    /// The points of this handler before every step of the base run, in order.
+    Every(HandlerId),
+}
+
 /// Why some points are no plan.
 #[derive(Clone, Copy, Debug, PartialEq, Eq)]
 pub enum BadPlan {

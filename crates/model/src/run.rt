@@ -6,6 +6,17 @@ use std::marker::Model;
 #[derive(Clone, Copy, Debug, PartialEq, Eq)]
 pub struct Memory;
 
+/// How a run ended, and when.
+#[derive(Clone, Copy, Debug, PartialEq, Eq)]
+pub struct Ending {
+    /// The steps done, at most 1,000,000.
+    pub steps: u32,
+    /// The ticks since reset, at most 1,000,000.
+    pub ticks: u32,
+    /// Why it ended.
+    pub end: End,
+}
+
 /// A run from reset to its end.
 #[derive(Drop)]
 pub struct Run {

@@ -36,6 +36,14 @@ impl Mutexes {
         }
     }
 
+    /// Becomes a copy of the other, in place.
+    pub(crate) fn set_from(&mut self, other: &Self)
+        ensures { self.new ≡ other.now }
+    {
+        self.holders.copy_from_slice(&other.holders);
+        self.held = other.held;
+    }
+
     /// The holder of an object; `None` where it has none.
     pub(crate) fn holder(&self, object: usize) -> Option<TaskId>
         requires { object < 32 }

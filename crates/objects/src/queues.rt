@@ -77,6 +77,17 @@ impl Queues {
         }
     }
 
+    /// Becomes a copy of the other, in place. It takes no memory. Of the pool only the regions of the queues are copied.
+    pub fn set_from(&mut self, other: &Self)
+        ensures { self.new ≡ other.now }
+    {
+        self.items.set_from(&other.items);
+        self.semaphores.set_from(&other.semaphores);
+        self.mutexes.set_from(&other.mutexes);
+        self.waiting.set_from(&other.waiting);
+        self.lock = other.lock;
+    }
+
     /// The number of items in a queue (`uxQueueMessagesWaiting`).
     pub fn waiting(&self, queue: ObjectId) -> usize
         ensures waiting { result ≡ length (object_in self.now.objects queue).items }

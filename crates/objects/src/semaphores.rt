@@ -59,6 +59,14 @@ impl Semaphores {
         Semaphores { max_counts, counts }
     }
 
+    /// Becomes a copy of the other, in place.
+    pub(crate) fn set_from(&mut self, other: &Self)
+        ensures { self.new ≡ other.now }
+    {
+        self.max_counts = other.max_counts;
+        self.counts = other.counts;
+    }
+
     /// Whether an object has a count: it is a semaphore or a mutex.
     pub(crate) fn is_counted(&self, object: usize) -> bool
         requires { object < 32 }

@@ -78,6 +78,13 @@ impl WaitingLists {
         }
     }
 
+    /// Becomes a copy of the other, in place.
+    pub(crate) fn set_from(&mut self, other: &Self)
+        ensures { self.new ≡ other.now }
+    {
+        self.lists.set_from(&other.lists);
+    }
+
     /// Whether a task is in a list.
     pub(crate) fn is_waiting(&self, task: TaskId) -> bool
         ensures waiting { result ≡ is_some (place_of self.now task) }

@@ -2,4 +2,5 @@ pub mod Adding
 pub mod Fronts
 pub mod Lanes
 pub mod Numbers
+pub mod Rows
 pub mod Short

@@ -2,6 +2,7 @@
 use Rattle.std.specs.Prelude.{ℕ, Bool, true, false, List, [], ◌∷◌, Some, None, codes}
 use Rattle.model.specs.Application.{Application, Definition, Handler}
 use Rattle.model.specs.Run.{Run}
+use Rattle.model.specs.Campaign as campaign
 use Rattle.model.specs.declared.op.Op.{Op}
 use Rattle.model.specs.declared.op.Op.TheVariants.{Delay, DelayUntil, Mark, Await, Do, GiveMutex, SetBits, ClearBits, GetBits, WaitBits, Suspend, Resume, SuspendAll, ResumeAll}
 use Rattle.model.specs.declared.op.Access.TheVariants.{SendFront, Take, Give, Lock}
@@ -12,12 +13,13 @@ use Rattle.model.specs.declared.event.What.TheVariants as what
 use Rattle.model.specs.declared.event.End.TheVariants.{Pass, Check, Misuse}
 use Rattle.model.specs.declared.event.Misuse.TheVariants.{WhileSuspended, NotHolder}
 use Rattle.model.specs.declared.object.ObjectKind.TheVariants as kind
+use Rattle.model.specs.declared.totals.Totals.{Totals}
 use Rattle.report.specs.declared.title.Title.{Title}
 use Rattle.report.specs.declared.title.Title.TheVariants.{Row}
 
 -- an application of these tasks, from tick 0 and under no limits but the most
 abbrev pub app_of : List Definition → Application
-app_of tasks = record { start = 0; limits = record { ticks = 1000000; steps = 1000000 }; objects = []; group_count = 0; handlers = []; interrupts = []; tasks = tasks }
+app_of tasks = record { start = 0; limits = record { ticks = 1000000; steps = 1000000 }; objects = []; group_count = 0; handlers = []; interrupts = []; tasks = tasks; points = [] }
 
 -- a task of priority 1
 abbrev pub a_task : List ℕ → List Op → Definition
@@ -116,3 +118,31 @@ each_form_run = record {
 -- a row of the greatest number and step, whose handler's name is of the greatest length
 abbrev pub last_row : (reached : Bool) → Title
 last_row reached = Row 1000000 (record { step = 1000000; handler = 0 }) reached
+
+-- a task and a handler that mark
+abbrev pub two_marks : Application
+two_marks = record (app_of (a_task (codes "a") (Mark 1 ∷ []) ∷ [])) { handlers = record { name = codes "h"; ops = isr_op.Mark 2 ∷ [] } ∷ [] }
+
+-- the events of the task's step
+abbrev pub one_mark : List Event
+one_mark = event_at 0 0 (what.Mark a 1) ∷ event_at 0 0 (what.Run None) ∷ []
+
+-- a row of the handler, whose run has these events
+abbrev pub marked_row : (step : ℕ) → (reached : Bool) → List Event → campaign.Row
+marked_row step reached events = record {
+  point = record { step = step; handler = 0 };
+  reached = reached;
+  run = record { events = events; steps = 1; ticks = 0; end = Pass };
+}
+
+-- a campaign of two rows: the handler runs before step 0; step 1 isn't reached
+abbrev pub two_rows : List campaign.Row
+two_rows = marked_row 0 true (event_at 0 0 (what.IsrMark 0 2) ∷ one_mark) ∷ marked_row 1 false one_mark ∷ []
+
+-- seven rows that pass, of which one is not reached
+abbrev pub all_pass : Totals
+all_pass = record { rows = 7; pass = 7; check = 0; misuse = 0; ticks = 0; steps = 0; stuck = 0; not_reached = 1 }
+
+-- rows that end in each way, each way another number of times
+abbrev pub each_end : Totals
+each_end = record { rows = 4294967295; pass = 1; check = 20; misuse = 3; ticks = 40; steps = 5; stuck = 60; not_reached = 7 }

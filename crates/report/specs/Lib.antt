@@ -2,3 +2,4 @@ pub mod Examples
 pub mod Fronts
 pub mod Tens
 pub mod Text
+pub mod Writing

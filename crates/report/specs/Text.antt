@@ -1,8 +1,10 @@
 -- The text of a run.
-use Rattle.std.specs.Prelude.{ℕ, Bool, true, false, List, [], ◌++◌, codes, decimal, Option, Some, None, option_map, unwrap_or}
+use Rattle.std.specs.Prelude.{ℕ, ◌+◌, Bool, true, false, List, [], ◌∷◌, ◌++◌, codes, decimal, Option, Some, None, option_map, unwrap_or}
 use Rattle.std.specs.List.{flat_map}
 use Rattle.model.specs.Application.{Application, op_at, word_of, name_of, isr_op_at, word_of_isr, handler_name_of}
 use Rattle.model.specs.Run.{Run}
+use Rattle.model.specs.Campaign.{totals_of}
+use Rattle.model.specs.Campaign as campaign
 use Rattle.model.specs.declared.event.Event.{Event}
 use Rattle.model.specs.declared.event.What.{What}
 use Rattle.model.specs.declared.event.What.TheVariants as what
@@ -11,6 +13,7 @@ use Rattle.model.specs.declared.event.End.TheVariants as ending
 use Rattle.model.specs.declared.event.Misuse.{Misuse}
 use Rattle.model.specs.declared.event.Misuse.TheVariants.{WhileSuspended, NotSuspended, NotHolder, EndedSuspended}
 use Rattle.model.specs.declared.plan.Point.{Point}
+use Rattle.model.specs.declared.totals.Totals.{Totals}
 use Rattle.report.specs.declared.title.Title.{Title}
 use Rattle.report.specs.declared.title.Title.TheVariants.{Base, Row}
 
@@ -98,3 +101,25 @@ head_text app title steps ticks end =
 -- a run: its head line, and the lines of its events
 abbrev pub run_text : Application → Title → Run → List ℕ
 run_text app title run = head_text app title run.steps run.ticks run.end ++ flat_map (event_text app) run.events
+
+-- ---- a campaign
+
+-- a row of a campaign, which is the one of this number
+abbrev pub row_text : Application → (number : ℕ) → campaign.Row → List ℕ
+row_text app number row = run_text app (Row number row.point row.reached) row.run
+
+-- the rows, of which the first is the one of this number
+abbrev pub rows_text : Application → (number : ℕ) → List campaign.Row → List ℕ
+rows_text app number [] = []
+rows_text app number (row ∷ rows) = row_text app number row ++ rows_text app (number + 1) rows
+
+-- the line that ends the report of a campaign
+abbrev pub total_text : Totals → List ℕ
+total_text t =
+    codes "total " ++ decimal t.rows ++ codes ": pass " ++ decimal t.pass ++ codes ", check " ++ decimal t.check
+    ++ codes ", misuse " ++ decimal t.misuse ++ codes ", ticks " ++ decimal t.ticks ++ codes ", steps " ++ decimal t.steps
+    ++ codes ", stuck " ++ decimal t.stuck ++ codes ", not reached " ++ decimal t.not_reached ++ codes "\n"
+
+-- the report of a campaign: its rows, and how many of them end in which way
+abbrev pub campaign_text : Application → List campaign.Row → List ℕ
+campaign_text app rows = rows_text app 0 rows ++ total_text (totals_of rows)

@@ -60,6 +60,13 @@ impl<'a> Labels<'a> {
         }
     }
 
+    /// The application.
+    pub(crate) fn app(&self) -> &'a App
+        ensures { result.now ≡ self.now }
+    {
+        self.app
+    }
+
     /// Adds the whole of what the line of a task that runs says, with its end.
     #[inline]
     pub(crate) fn push_run(&mut self, page: &mut Page, task: TaskId)

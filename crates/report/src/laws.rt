@@ -1,8 +1,9 @@
 //! Laws of the definitions: each is the contract of a function that does nothing.
-ghost use Rattle.std.specs.Prelude.{◌≡◌, ◌++◌, codes, true, false};
-ghost use Rattle.report.specs.Examples.{delay_one, delay_one_run, two_unlocks, two_unlocks_row, two_unlocks_run, each_hold, each_hold_run, each_form, each_form_run, last_row};
-ghost use Rattle.report.specs.Text.{head_text, run_text, verdict_text};
+ghost use Rattle.std.specs.Prelude.{◌≡◌, ◌++◌, codes, true, false, []};
+ghost use Rattle.report.specs.Examples.{delay_one, delay_one_run, two_unlocks, two_unlocks_row, two_unlocks_run, each_hold, each_hold_run, each_form, each_form_run, last_row, two_marks, two_rows, all_pass, each_end};
+ghost use Rattle.report.specs.Text.{head_text, run_text, verdict_text, total_text, campaign_text};
 ghost use Rattle.report.specs.declared.title.Title.TheVariants.{Base};
+ghost use Rattle.model.specs.Application.{Application};
 ghost use Rattle.model.specs.declared.event.End.TheVariants.{Pass, Check, Misuse};
 ghost use Rattle.model.specs.declared.event.Misuse.TheVariants.{WhileSuspended, NotSuspended, NotHolder, EndedSuspended};
 
@@ -80,4 +81,27 @@ pub fn heads_of_rows()
         codes "row 1000000 at 1000000 ABCDEFGHIJKLMNOP: check abcdefghijklmnop 65535 in 1000000 steps, 7 ticks\n" }
     ensures not_reached { head_text each_form (last_row false) 12 0 Pass ≡
         codes "row 1000000 at 1000000 ABCDEFGHIJKLMNOP: not reached, pass in 12 steps, 0 ticks\n" }
+{}
+
+/// The line that ends the report of a campaign, letter by letter.
+pub fn lines_of_totals()
+    ensures all_pass { total_text all_pass ≡
+        codes "total 7: pass 7, check 0, misuse 0, ticks 0, steps 0, stuck 0, not reached 1\n" }
+    ensures each_end { total_text each_end ≡
+        codes "total 4294967295: pass 1, check 20, misuse 3, ticks 40, steps 5, stuck 60, not reached 7\n" }
+{}
+
+/// The report of a campaign without points, and that of one with two, of which the second is not reached, letter by letter.
+pub fn reports_of_campaigns()
+    ensures no_rows { (app : Application) → campaign_text app [] ≡
+        codes "total 0: pass 0, check 0, misuse 0, ticks 0, steps 0, stuck 0, not reached 0\n" }
+    ensures two_rows { campaign_text two_marks two_rows ≡
+        codes "row 0 at 0 h: pass in 1 steps, 0 ticks\n"
+        ++ codes "0 0 mark h 2\n"
+        ++ codes "0 0 mark a 1\n"
+        ++ codes "0 0 run -\n"
+        ++ codes "row 1 at 1 h: not reached, pass in 1 steps, 0 ticks\n"
+        ++ codes "0 0 mark a 1\n"
+        ++ codes "0 0 run -\n"
+        ++ codes "total 2: pass 2, check 0, misuse 0, ticks 0, steps 0, stuck 0, not reached 1\n" }
 {}

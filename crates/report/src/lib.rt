@@ -1,4 +1,4 @@
-//! The text of a run.
+//! The text of a run, and of a campaign.
 #![tactic(auto)]
 
 mod label;
@@ -9,10 +9,12 @@ mod run;
 mod tens;
 mod text;
 mod title;
+mod writer;
 
 pub use laws::{
-    heads_of_rows, report_of_delay_one, report_of_each_form, report_of_each_hold,
-    report_of_two_unlocks, verdicts_of_misuses,
+    heads_of_rows, lines_of_totals, report_of_delay_one, report_of_each_form, report_of_each_hold,
+    report_of_two_unlocks, reports_of_campaigns, verdicts_of_misuses,
 };
 pub use run::write_run;
 pub use title::Title;
+pub use writer::ReportWriter;

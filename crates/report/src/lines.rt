@@ -68,6 +68,13 @@ impl<'a> Lines<'a> {
         }
     }
 
+    /// The application.
+    pub(crate) fn app(&self) -> &'a App
+        ensures { result.now ≡ self.now }
+    {
+        self.labels.app()
+    }
+
     // Adds what an event tells, and the line's end.
     #[inline]
     fn push_what(&mut self, page: &mut Page, what: &What)

@@ -1,12 +1,12 @@
 //! The head line of a run, and the fronts of other lines, into a page that has room for them.
-ghost use Rattle.std.specs.Prelude.{◌≡◌, ◌≤◌, ◌+◌, ◌++◌, length};
+ghost use Rattle.std.specs.Prelude.{◌≡◌, ◌≤◌, ◌+◌, ◌++◌, length, decimal};
 ghost use Rattle.model.specs.Application.{name_of, handler_name_of};
-ghost use Rattle.report.specs.Text.{word_at, call_front, isr_word_at, isr_front, code_of, op_text, verdict_text, point_text, reached_text, title_text, head_text};
+ghost use Rattle.report.specs.Text.{word_at, call_front, isr_word_at, isr_front, code_of, op_text, verdict_text, point_text, reached_text, title_text, head_text, total_text};
 ghost use Rattle.report.specs.Fronts.{mark_front, isr_mark_front, run_front};
 
 use crate::title::Title;
 use byte_io::Page;
-use model::{App, End, HandlerId, Misuse, Point, Run, TaskId};
+use model::{App, End, Ending, HandlerId, Misuse, Point, TaskId, Totals};
 
 // The room that the line of an event needs at most. The longest is that of a call: two numbers of 10 digits, two spaces, at most
 // 64 bytes of what happened, and a line feed. Texts that are copied whole end at most 88 bytes after the line's beginning.
@@ -15,6 +15,9 @@ pub(crate) const MAX_LINE: usize = 128;
 // The room that a head line needs at most: its title and its verdict of at most 64 bytes each, two numbers of 10 digits, and 19
 // bytes of words.
 pub(crate) const MAX_HEAD: usize = 192;
+
+// The room that the line of totals needs at most: eight numbers of 10 digits, and 69 bytes of words.
+pub(crate) const MAX_TOTALS: usize = 149;
 
 // The name of a task.
 fn name(app: &App, task: TaskId) -> &[u8]
@@ -140,7 +143,7 @@ fn push_op(page: &mut Page, app: &App, task: TaskId, op_index: u16)
     ensures size { length page.new ≤ length page.old + 27 }
 {
     page.push_text(name(app, task));
-    page.push_text(b" ");
+    page.push_array(b" ");
     page.push_number(op_index as u32);
 }
 
@@ -150,20 +153,20 @@ fn push_verdict(page: &mut Page, app: &App, end: End)
     ensures size { length page.new ≤ length page.old + 64 }
 {
     match end {
-        End::Pass => page.push_text(b"pass"),
+        End::Pass => page.push_array(b"pass"),
         End::Check(task, op_index) => {
-            page.push_text(b"check ");
+            page.push_array(b"check ");
             push_op(page, app, task, op_index);
         }
         End::Misuse(task, op_index, misuse) => {
-            page.push_text(b"misuse ");
+            page.push_array(b"misuse ");
             push_op(page, app, task, op_index);
-            page.push_text(b" ");
+            page.push_array(b" ");
             page.push_number(code_of(misuse));
         }
-        End::Ticks => page.push_text(b"ticks"),
-        End::Steps => page.push_text(b"steps"),
-        End::Stuck => page.push_text(b"stuck"),
+        End::Ticks => page.push_array(b"ticks"),
+        End::Steps => page.push_array(b"steps"),
+        End::Stuck => page.push_array(b"stuck"),
     }
 }
 
@@ -174,7 +177,7 @@ fn push_point(page: &mut Page, app: &App, point: Point)
     ensures size { length page.new ≤ length page.old + 27 }
 {
     page.push_number(point.step);
-    page.push_text(b" ");
+    page.push_array(b" ");
     page.push_text(handler_name(app, point.handler));
 }
 
@@ -185,7 +188,7 @@ fn push_reached(page: &mut Page, reached: bool)
     ensures size { length page.new ≤ length page.old + 13 }
 {
     if !reached {
-        page.push_text(b"not reached, ");
+        page.push_array(b"not reached, ");
     }
 }
 
@@ -195,32 +198,58 @@ fn push_title(page: &mut Page, app: &App, title: Title)
     ensures size { length page.new ≤ length page.old + 64 }
 {
     match title {
-        Title::Base => page.push_text(b"base: "),
+        Title::Base => page.push_array(b"base: "),
         Title::Row {
             number,
             point,
             reached,
         } => {
-            page.push_text(b"row ");
+            page.push_array(b"row ");
             page.push_number(number);
-            page.push_text(b" at ");
+            page.push_array(b" at ");
             push_point(page, app, point);
-            page.push_text(b": ");
+            page.push_array(b": ");
             push_reached(page, reached);
         }
     }
 }
 
 // Adds the head line of a run.
-pub(crate) fn push_head(page: &mut Page, app: &App, title: Title, run: &Run)
+pub(crate) fn push_head(page: &mut Page, app: &App, title: Title, ending: Ending)
     requires { length page.old + MAX_HEAD ≤ Page.SIZE }
-    ensures { page.new ≡ page.old ++ head_text app.now title run.now.steps run.now.ticks run.now.end }
+    ensures { page.new ≡ page.old ++ head_text app.now title ending.steps ending.ticks ending.end }
 {
     push_title(page, app, title);
-    push_verdict(page, app, run.end);
-    page.push_text(b" in ");
-    page.push_number(run.steps);
-    page.push_text(b" steps, ");
-    page.push_number(run.ticks);
-    page.push_text(b" ticks\n");
+    push_verdict(page, app, ending.end);
+    page.push_array(b" in ");
+    page.push_number(ending.steps);
+    page.push_array(b" steps, ");
+    page.push_number(ending.ticks);
+    page.push_array(b" ticks\n");
+}
+
+// Adds words, and then a number of at most 10 digits.
+fn push_count(page: &mut Page, words: &[u8], count: u32)
+    requires { length page.old + length words.now + 10 ≤ Page.SIZE }
+    ensures text { page.new ≡ page.old ++ words.now ++ decimal count }
+    ensures size { length page.new ≤ length page.old + length words.now + 10 }
+{
+    page.push_text(words);
+    page.push_number(count);
+}
+
+/// Adds the line of totals.
+pub(crate) fn push_totals(page: &mut Page, totals: &Totals)
+    requires { length page.old + MAX_TOTALS ≤ Page.SIZE }
+    ensures { page.new ≡ page.old ++ total_text totals.now }
+{
+    push_count(page, b"total ", totals.rows);
+    push_count(page, b": pass ", totals.pass);
+    push_count(page, b", check ", totals.check);
+    push_count(page, b", misuse ", totals.misuse);
+    push_count(page, b", ticks ", totals.ticks);
+    push_count(page, b", steps ", totals.steps);
+    push_count(page, b", stuck ", totals.stuck);
+    push_count(page, b", not reached ", totals.not_reached);
+    page.push_text(b"\n");
 }

@@ -1,8 +1,12 @@
-//! The program `rtosim`: runs an application file, and writes the trace of its run.
+//! The program `rtosim`: runs an application file, and writes the trace of its run, or the report of its campaign.
 #![tactic(auto)]
 
+mod counter;
+
+use crate::counter::Counter;
 use byte_io::ToWriter;
-use jobs::{ServeFault, obey, refuse};
+use campaign::ServeFault;
+use jobs::{obey, refuse};
 use std::io;
 use std::process::ExitCode;
 
@@ -23,6 +27,7 @@ fn status(rt: &HostRuntime) -> io::Result<u8> {
         words.as_slice(),
         &mut ToWriter::new(rt.stdout()),
         &mut ToWriter::new(rt.stderr()),
+        &mut Counter::new(rt),
     ))
 }
 

@@ -35,6 +35,13 @@ impl PendingReadyList {
         }
     }
 
+    /// Becomes a copy of the other, in place.
+    pub(crate) fn set_from(&mut self, other: &Self)
+        ensures { self.new ≡ other.now }
+    {
+        self.lists.set_from(&other.lists);
+    }
+
     /// Whether nobody is pending.
     pub(crate) fn is_empty(&self) -> bool
         ensures empty { IsTrue result ↔ (self.now ≡ []) }

@@ -41,6 +41,14 @@ impl ReadyLists {
         }
     }
 
+    /// Becomes a copy of the other, in place.
+    pub(crate) fn set_from(&mut self, other: &Self)
+        ensures { self.new ≡ other.now }
+    {
+        self.lists.set_from(&other.lists);
+        self.occupied = other.occupied;
+    }
+
     /// The highest list that is not empty.
     pub(crate) fn highest(&self) -> Option<ListId>
         ensures highest { IsHighest self.now (option_map (λ list. list.number) result) }

@@ -74,6 +74,19 @@ impl Sched {
         }
     }
 
+    /// Becomes a copy of the other, in place. It takes no memory.
+    pub fn set_from(&mut self, other: &Self)
+        ensures { self.new ≡ other.now }
+    {
+        self.ready.set_from(&other.ready);
+        self.pending.set_from(&other.pending);
+        self.current = other.current;
+        self.priorities = other.priorities;
+        self.base_priorities = other.base_priorities;
+        self.depth = other.depth;
+        self.suspended = other.suspended;
+    }
+
     /// The running task; `None` where idle runs.
     pub fn current(&self) -> Option<TaskId>
         ensures current { result ≡ self.now.current }

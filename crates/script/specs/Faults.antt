@@ -47,6 +47,7 @@ section_word section.Group = codes "group"
 section_word section.Handler = codes "handler"
 section_word section.Task = codes "task"
 section_word section.Interrupt = codes "interrupt"
+section_word section.Campaign = codes "campaign"
 
 -- the name of a key in the file
 abbrev pub key_word : Key → List ℕ
@@ -61,6 +62,7 @@ key_word key.Priority = codes "priority"
 key_word key.Script = codes "script"
 key_word key.Tick = codes "tick"
 key_word key.Handler = codes "handler"
+key_word key.Points = codes "points"
 
 -- the word of an index that applies
 abbrev pub index_words : Option ℕ → List (List ℕ)

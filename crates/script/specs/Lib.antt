@@ -12,4 +12,5 @@ pub mod Handlers
 pub mod Ops
 pub mod IsrOps
 pub mod Interrupts
+pub mod Points
 pub mod Load

@@ -17,6 +17,7 @@ use Rattle.script.specs.Handlers.{RawIsr, isr_names, handler_section_fault, hand
 use Rattle.script.specs.Ops.{scripts_fault, with_ops}
 use Rattle.script.specs.IsrOps.{handler_ops_fault, with_isr_ops}
 use Rattle.script.specs.Interrupts.{interrupt_section_fault, interrupt_section_named}
+use Rattle.script.specs.Points.{campaign_section_fault, campaign_section_named}
 
 -- the most ticks and steps that a file may ask for, and where it says nothing (profile)
 abbrev pub most_limit : ℕ
@@ -75,7 +76,7 @@ abbrev pub names_before_tasks : Members → List (List ℕ)
 names_before_tasks document = names_before_handlers document ++ isr_names (handlers_of document)
 
 -- the fault of the first check that fails: pass one, then the ops of the handlers and the scripts of the tasks that it
--- names, and the base interrupts (profile)
+-- names, the base interrupts and the points of the campaign (profile)
 abbrev pub load_fault : Members → Option LoadFault
 load_fault document = first_fault (
     optional_fault (at_section section.Start) 0 4294967295 (get_member (codes "start") document)
@@ -87,6 +88,7 @@ load_fault document = first_fault (
     ∷ handler_ops_fault (entries_of document) 0 (handlers_of document)
     ∷ scripts_fault (entries_of document) 0 (tasks_of document)
     ∷ interrupt_section_fault (isr_names (handlers_of document)) (get_member (codes "interrupt") document)
+    ∷ campaign_section_fault (isr_names (handlers_of document)) (get_member (codes "campaign") document)
     ∷ [])
 
 -- the application that a document names in which no check fails
@@ -99,6 +101,7 @@ app_named document = record {
   handlers = map (with_isr_ops (entries_of document)) (handlers_of document);
   interrupts = interrupt_section_named (isr_names (handlers_of document)) (get_member (codes "interrupt") document);
   tasks = map (with_ops (entries_of document)) (tasks_of document);
+  points = campaign_section_named (isr_names (handlers_of document)) (get_member (codes "campaign") document);
 }
 
 -- the names of a document: those of its objects and event groups, and of the handlers and tasks of its application

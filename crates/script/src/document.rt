@@ -1,5 +1,5 @@
 //! An application from a document.
-ghost use Rattle.std.specs.Prelude.{◌≡◌, ◌≤◌, length, None, Option};
+ghost use Rattle.std.specs.Prelude.{◌≡◌, ◌≤◌, length, map, None, Option};
 ghost use Rattle.std.specs.List.{AllByRecursion};
 ghost use Rattle.toml.specs.Data.{Members};
 ghost use Rattle.toml.specs.View.{table_view};
@@ -10,7 +10,12 @@ ghost use Rattle.script.specs.Faults.{Judges, Loads};
 ghost use Rattle.script.specs.Values.{data_of};
 ghost use Rattle.script.specs.Objects.{kinds_of};
 ghost use Rattle.script.specs.Entries.{HasEntries};
+ghost use Rattle.script.specs.Tasks.{raw_view};
+ghost use Rattle.script.specs.Handlers.{isr_view};
+ghost use Rattle.script.specs.Ops.{scripts_fault, with_ops};
+ghost use Rattle.script.specs.IsrOps.{handler_ops_fault, with_isr_ops};
 ghost use Rattle.script.specs.Interrupts.{AreInterrupts};
+ghost use Rattle.script.specs.Points.{ArePoints};
 ghost use Rattle.script.specs.Load.{limits_fault, limits_named, load_fault, app_named};
 
 use crate::entries::NamedEntries;
@@ -23,9 +28,12 @@ use crate::names_so_far::{names_of, names_with_groups, names_with_handlers};
 use crate::objects::{kinds_of, objects};
 use crate::ops::{check_scripts, with_scripts};
 use crate::place::{Key, Place, Section};
+use crate::points::points;
+use crate::raw_handler::RawHandler;
+use crate::raw_task::RawTask;
 use crate::tasks::raw_tasks;
 use crate::values::{member, optional_number};
-use model::{App, HandlerDefinition, Limits, TaskDefinition};
+use model::{App, HandlerDefinition, Limits, PointEntry, TaskDefinition};
 use std::alloc::Global;
 use toml::{Table, Value};
 
@@ -58,6 +66,7 @@ fn app_of(
     handlers: Vec<HandlerDefinition>,
     interrupts: &Interrupts,
     tasks: Vec<TaskDefinition>,
+    points: Vec<PointEntry>,
 ) -> Result<App, LoadFault>
     requires some { 1 ≤ length tasks.items }
     requires few { length tasks.items ≤ 32 }
@@ -67,6 +76,7 @@ fn app_of(
     requires few_handlers { length handlers.items ≤ most_handlers }
     requires handlers { (app : Application) → HasEntries app entries.now → AllByRecursion (IsHandler app) handlers.items }
     requires interrupts { AreInterrupts (length handlers.items) interrupts.now.items }
+    requires points { ArePoints (length handlers.items) points.items }
     ensures { Loads result None (record {
       start = start;
       limits = limits;
@@ -75,6 +85,7 @@ fn app_of(
       handlers = handlers.items;
       interrupts = interrupts.now.items;
       tasks = tasks.items;
+      points = points.items;
     }) }
 {
     let kinds = kinds_of(alloc, entries.objects.as_slice())?;
@@ -87,7 +98,45 @@ fn app_of(
         handlers,
         interrupts,
         tasks,
+        points,
     ))
+}
+
+// The application of these parts, whose ops have been checked, so that only memory may be wanting.
+fn build(
+    alloc: Global,
+    start: u32,
+    limits: Limits,
+    entries: &NamedEntries<'_>,
+    handlers: &[RawHandler<'_>],
+    interrupts: &Interrupts,
+    tasks: &[RawTask<'_>],
+    points: Vec<PointEntry>,
+) -> Result<App, LoadFault>
+    requires some { 1 ≤ length tasks.now }
+    requires few { length tasks.now ≤ 32 }
+    requires named { length tasks.now ≡ length entries.now.tasks }
+    requires scripts { scripts_fault entries.now 0 (map raw_view tasks.now) ≡ None }
+    requires few_handlers { length handlers.now ≤ most_handlers }
+    requires ops { handler_ops_fault entries.now 0 (map isr_view handlers.now) ≡ None }
+    requires interrupts { AreInterrupts (length handlers.now) interrupts.now.items }
+    requires points { ArePoints (length handlers.now) points.items }
+    ensures { Loads result None (record {
+      start = start;
+      limits = limits;
+      objects = kinds_of entries.now.objects;
+      group_count = length entries.now.groups;
+      handlers = map (with_isr_ops entries.now) (map isr_view handlers.now);
+      interrupts = interrupts.now.items;
+      tasks = map (with_ops entries.now) (map raw_view tasks.now);
+      points = points.items;
+    }) }
+{
+    let handlers = with_isr_ops(alloc, entries, handlers)?;
+    let tasks = with_scripts(alloc, entries, tasks)?;
+    app_of(
+        alloc, start, limits, entries, handlers, interrupts, tasks, points,
+    )
 }
 
 /// What a document describes.
@@ -129,8 +178,16 @@ impl FromDocument for App {
         check_handlers(&entries, handlers.as_slice())?;
         check_scripts(&entries, tasks.as_slice())?;
         let interrupts = interrupts(member(document, "interrupt"), handlers.as_slice())?;
-        let handlers = with_isr_ops(alloc, &entries, handlers.as_slice())?;
-        let tasks = with_scripts(alloc, &entries, tasks.as_slice())?;
-        app_of(alloc, start, limits, &entries, handlers, &interrupts, tasks)
+        let points = points(alloc, member(document, "campaign"), handlers.as_slice())?;
+        build(
+            alloc,
+            start,
+            limits,
+            &entries,
+            handlers.as_slice(),
+            &interrupts,
+            tasks.as_slice(),
+            points,
+        )
     }
 }

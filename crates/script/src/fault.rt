@@ -14,9 +14,9 @@ pub enum LoadFault {
     WrongKind(Place),
     /// A number outside its range, or a text that is no name.
     OutOfRange(Place),
-    /// A text that spells no op.
+    /// A text that spells no op, or no point.
     BadOp(Place),
-    /// An op names what no entry is.
+    /// An op, a base interrupt or a point names what no entry is.
     UnknownName(Place),
     /// A name that an earlier entry has.
     DoubleName(Place),

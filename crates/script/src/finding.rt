@@ -1,17 +1,19 @@
-//! Which entry a name in an op's text is that of.
-ghost use Rattle.std.specs.Prelude.{◌≡◌, ◌≤◌, map, length};
-ghost use Rattle.model.specs.Scripts.{most_objects, most_groups, most_tasks};
+//! Which entry a name in a text is that of.
+ghost use Rattle.std.specs.Prelude.{◌≡◌, ◌<◌, ◌≤◌, map, length, IfSome};
+ghost use Rattle.model.specs.Scripts.{most_objects, most_groups, most_handlers, most_tasks};
 ghost use Rattle.script.specs.Grammar.{OfObject, OfGroup, OfTask};
 ghost use Rattle.script.specs.Objects.{named_view};
 ghost use Rattle.script.specs.Tasks.{raw_view, raw_names};
+ghost use Rattle.script.specs.Handlers.{isr_view, isr_names};
 ghost use Rattle.script.specs.Finding.{is_called, object_from, index_from, found_by};
 
 use crate::entries::NamedEntries;
 use crate::name::is_name;
 use crate::named_object::NamedObject;
 use crate::object_sort::ObjectSort;
+use crate::raw_handler::RawHandler;
 use crate::raw_task::RawTask;
-use model::{GroupId, ObjectId, TaskId};
+use model::{GroupId, HandlerId, ObjectId, TaskId};
 
 /// How names in the text of an op are read.
 #[derive(Clone, Copy)]
@@ -63,6 +65,20 @@ fn task_among(tasks: &[RawTask<'_>], word: &[u8]) -> Option<TaskId>
     for (index, task) in tasks.iter().enumerate() {
         if task.name.as_bytes() == word {
             return TaskId::new(index as u8);
+        }
+    }
+    None
+}
+
+/// The handler of this name.
+pub(crate) fn handler_among(handlers: &[RawHandler<'_>], word: &[u8]) -> Option<HandlerId>
+    requires { length handlers.now ≤ most_handlers }
+    ensures handler { result ≡ index_from 0 word.now (isr_names (map isr_view handlers.now)) }
+    ensures below { IfSome result (λ handler. handler < length handlers.now) }
+{
+    for (index, handler) in handlers.iter().enumerate() {
+        if handler.name.as_bytes() == word {
+            return HandlerId::new(index as u8);
         }
     }
     None

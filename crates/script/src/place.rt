@@ -13,6 +13,7 @@ pub enum Section {
     Handler,
     Task,
     Interrupt,
+    Campaign,
 }
 
 impl Section {
@@ -34,6 +35,7 @@ impl Section {
             Section::Handler => "handler",
             Section::Task => "task",
             Section::Interrupt => "interrupt",
+            Section::Campaign => "campaign",
         }
     }
 }
@@ -52,6 +54,7 @@ pub enum Key {
     Script,
     Tick,
     Handler,
+    Points,
 }
 
 impl Key {
@@ -74,6 +77,7 @@ impl Key {
             Key::Script => "script",
             Key::Tick => "tick",
             Key::Handler => "handler",
+            Key::Points => "points",
         }
     }
 }

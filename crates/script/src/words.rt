@@ -62,8 +62,8 @@ fn value_of(digits: &[u8]) -> u64
     value
 }
 
-// The number that a word writes.
-fn number_of(word: &[u8]) -> Option<u32>
+/// The number that a word writes.
+pub(crate) fn number_of(word: &[u8]) -> Option<u32>
     ensures { result ≡ number_of word.now }
 {
     if is_number(word) {

@@ -63,6 +63,14 @@ impl<const L: usize> TaskLists<L> {
         }
     }
 
+    /// Becomes a copy of the other, in place. It takes no memory.
+    #[inline]
+    pub fn set_from(&mut self, other: &Self)
+        ensures { self.new ≡ other.now }
+    {
+        self.table.set_from(&other.table);
+    }
+
     /// The first task of a list; `None` where the list is empty.
     #[inline]
     pub fn first(&self, list: ListId) -> Option<TaskId>

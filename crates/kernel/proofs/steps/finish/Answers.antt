@@ -2,64 +2,74 @@ use Rattle.std.proofs.Common.{◌≡◌, ◌<◌, ◌++◌, ℕ, List, None, len
 use Rattle.std.proofs.lemmas.Result.{err_from_is_err_and}
 use Rattle.model.specs.Run.{end_of, state_after}
 use Rattle.kernel.specs.Logged.{all_of}
-use Rattle.kernel.proofs.Running.{begins, no_events, steps_begin, can_step, steps_below, steps_more, goes_on, more_events, told_more}
+use Rattle.kernel.proofs.Running.{can_step, steps_below, steps_more, goes_on, more_events, told_more}
 use Rattle.model.specs.Step.{step}
+use Rattle.model.proofs.Injected.{from_here}
 use Rattle.kernel.proofs.Planned.{few_left, handlers_are, left_first, left_next, stands_as}
 use Rattle.kernel.proofs.steps.finish.Goals as goal
 
 pub steps-init : goal.steps-init
 steps-init c = record {
-  way = begins c.args.app.now c.args.plan.now c.args.limits.now c.args.kernel.now c.requires.stands;
-  events = sym (append-nil _) ∙ ap (λ l. all_of c.args.trail.now ++ l) (sym (no_events c.args.app.now c.args.plan.now c.args.kernel.now c.requires.stands));
-  left = rw (steps_begin c.args.app.now c.args.kernel.now c.requires.stands, c.points-points.ensures) (left_first c.args.plan.now c.well_formed-4.ensures);
-  meter = let e = steps_begin c.args.app.now c.args.kernel.now c.requires.stands in omega arith;
+  way = c.requires.way;
+  on = omega arith;
+  events = sym (append-nil _) ∙ ap (λ l. all_of c.args.trail.now ++ l) (sym (from_here c.args.app.now c.args.points.now c.args.kernel.now.steps));
+  left = left_first c.args.points.now c.args.kernel.now.steps c.requires.plan c.requires.ahead;
+  meter = omega arith;
 }
 
 pub step_by_plan-requires-clause-going : goal.step_by_plan-requires-clause-going
-step_by_plan-requires-clause-going c = can_step c.args.app.now c.well_formed-2.ensures c.args.plan.now c.args.limits.now c.well_formed-3.ensures c.steps.kernel c.steps.invariant.way (sym (c.in_default.ensures _ c.steps.invariant.way.stands))
+step_by_plan-requires-clause-going c = can_step c.args.app.now c.well_formed-2.ensures c.args.points.now c.args.limits.now c.well_formed-3.ensures c.steps.kernel c.steps.invariant.way (sym (c.in_default.ensures _ c.steps.invariant.way.stands))
 
 pub steps-smaller : goal.steps-smaller
 steps-smaller c =
-    let on : end_of c.args.app.now c.args.limits.now (state_after c.args.app.now c.args.plan.now c.steps.kernel.steps) ≡ None = sym (c.in_default.ensures _ c.steps.invariant.way.stands) in
-    let l = steps_below c.args.app.now c.well_formed-2.ensures c.args.plan.now c.args.limits.now c.well_formed-3.ensures c.steps.kernel c.steps.invariant.way on in
-    let m = steps_more c.args.app.now c.well_formed-2.ensures c.args.plan.now c.args.limits.now c.well_formed-3.ensures c.steps.kernel c.steps.invariant.way on c.step_by_plan.new.kernel (stands_as c.args.app.now c.steps.kernel c.step_by_plan.new.kernel _ _ (handlers_are c.args.plan.now c.steps.points.now c.steps.kernel.steps _ refl c.steps.invariant.left) c.in_ok-points.ensures.stands) in
+    let on : end_of c.args.app.now c.args.limits.now (state_after c.args.app.now c.args.points.now c.steps.kernel.steps) ≡ None = sym (c.in_default.ensures _ c.steps.invariant.way.stands) in
+    let l = steps_below c.args.app.now c.well_formed-2.ensures c.args.points.now c.args.limits.now c.well_formed-3.ensures c.steps.kernel c.steps.invariant.way on in
+    let m = steps_more c.args.app.now c.well_formed-2.ensures c.args.points.now c.args.limits.now c.well_formed-3.ensures c.steps.kernel c.steps.invariant.way on c.step_by_plan.new.kernel (stands_as c.args.app.now c.steps.kernel c.step_by_plan.new.kernel _ _ (handlers_are c.args.points.now c.steps.left.now c.steps.kernel.steps _ refl c.steps.invariant.left) c.in_ok-left.ensures.stands) in
     omega arith
 
 pub steps-preserved : goal.steps-preserved
 steps-preserved c =
-    let on : end_of c.args.app.now c.args.limits.now (state_after c.args.app.now c.args.plan.now c.steps.kernel.steps) ≡ None = sym (c.in_default.ensures _ c.steps.invariant.way.stands) in
-    let m = steps_more c.args.app.now c.well_formed-2.ensures c.args.plan.now c.args.limits.now c.well_formed-3.ensures c.steps.kernel c.steps.invariant.way on c.step_by_plan.new.kernel (stands_as c.args.app.now c.steps.kernel c.step_by_plan.new.kernel _ _ (handlers_are c.args.plan.now c.steps.points.now c.steps.kernel.steps _ refl c.steps.invariant.left) c.in_ok-points.ensures.stands) in
-    let e = c.in_ok-points.ensures.meter in
+    let on : end_of c.args.app.now c.args.limits.now (state_after c.args.app.now c.args.points.now c.steps.kernel.steps) ≡ None = sym (c.in_default.ensures _ c.steps.invariant.way.stands) in
+    let m = steps_more c.args.app.now c.well_formed-2.ensures c.args.points.now c.args.limits.now c.well_formed-3.ensures c.steps.kernel c.steps.invariant.way on c.step_by_plan.new.kernel (stands_as c.args.app.now c.steps.kernel c.step_by_plan.new.kernel _ _ (handlers_are c.args.points.now c.steps.left.now c.steps.kernel.steps _ refl c.steps.invariant.left) c.in_ok-left.ensures.stands) in
+    let e = c.in_ok-left.ensures.meter in
     let f = c.steps.invariant.meter in
+    let o = c.steps.invariant.on in
     record {
-      way = goes_on c.args.app.now c.well_formed-2.ensures c.args.plan.now c.args.limits.now c.well_formed-3.ensures c.steps.kernel c.steps.invariant.way on c.step_by_plan.new.kernel (stands_as c.args.app.now c.steps.kernel c.step_by_plan.new.kernel _ _ (handlers_are c.args.plan.now c.steps.points.now c.steps.kernel.steps _ refl c.steps.invariant.left) c.in_ok-points.ensures.stands);
-      events = more_events c.args.app.now c.well_formed-2.ensures c.args.plan.now c.args.limits.now c.well_formed-3.ensures c.steps.kernel c.steps.invariant.way on c.step_by_plan.new.kernel (stands_as c.args.app.now c.steps.kernel c.step_by_plan.new.kernel _ _ (handlers_are c.args.plan.now c.steps.points.now c.steps.kernel.steps _ refl c.steps.invariant.left) c.in_ok-points.ensures.stands) (all_of c.args.trail.now) (all_of c.steps.trail) (all_of c.step_by_plan.new.trail) c.steps.invariant.events (subst (λ (hs : List ℕ). all_of c.step_by_plan.new.trail ≡ all_of c.steps.trail ++ (step c.args.app.now hs (state_after c.args.app.now c.args.plan.now c.steps.kernel.steps)).log) (handlers_are c.args.plan.now c.steps.points.now c.steps.kernel.steps _ refl c.steps.invariant.left) (c.in_ok-points.ensures.told _ c.steps.invariant.way.stands));
-      left = rw (c.in_ok-points.ensures.later, m) (left_next c.args.plan.now c.steps.points.now c.steps.kernel.steps c.steps.invariant.left);
+      way = goes_on c.args.app.now c.well_formed-2.ensures c.args.points.now c.args.limits.now c.well_formed-3.ensures c.steps.kernel c.steps.invariant.way on c.step_by_plan.new.kernel (stands_as c.args.app.now c.steps.kernel c.step_by_plan.new.kernel _ _ (handlers_are c.args.points.now c.steps.left.now c.steps.kernel.steps _ refl c.steps.invariant.left) c.in_ok-left.ensures.stands);
+      on = omega arith;
+      events = more_events c.args.app.now c.well_formed-2.ensures c.args.points.now c.args.limits.now c.well_formed-3.ensures c.steps.kernel c.steps.invariant.way on c.step_by_plan.new.kernel (stands_as c.args.app.now c.steps.kernel c.step_by_plan.new.kernel _ _ (handlers_are c.args.points.now c.steps.left.now c.steps.kernel.steps _ refl c.steps.invariant.left) c.in_ok-left.ensures.stands) c.args.kernel.now.steps c.steps.invariant.on (all_of c.args.trail.now) (all_of c.steps.trail) (all_of c.step_by_plan.new.trail) c.steps.invariant.events (subst (λ (hs : List ℕ). all_of c.step_by_plan.new.trail ≡ all_of c.steps.trail ++ (step c.args.app.now hs (state_after c.args.app.now c.args.points.now c.steps.kernel.steps)).log) (handlers_are c.args.points.now c.steps.left.now c.steps.kernel.steps _ refl c.steps.invariant.left) (c.in_ok-left.ensures.told _ c.steps.invariant.way.stands));
+      left = rw (c.in_ok-left.ensures.later, m) (left_next c.args.points.now c.steps.left.now c.steps.kernel.steps c.steps.invariant.left);
       meter = omega arith;
     }
 
-pub returns-in_err-points-clause-way : goal.returns-in_err-points-clause-way
-returns-in_err-points-clause-way c =
-    goes_on c.args.app.now c.well_formed-2.ensures c.args.plan.now c.args.limits.now c.well_formed-3.ensures c.steps.kernel c.steps.invariant.way (sym (c.in_default.ensures _ c.steps.invariant.way.stands)) c.step_by_plan.new.kernel (stands_as c.args.app.now c.steps.kernel c.step_by_plan.new.kernel _ _ (handlers_are c.args.plan.now c.steps.points.now c.steps.kernel.steps _ refl c.steps.invariant.left) c.in_err-points.ensures.stands)
+pub returns-in_err-left-clause-way : goal.returns-in_err-left-clause-way
+returns-in_err-left-clause-way c =
+    goes_on c.args.app.now c.well_formed-2.ensures c.args.points.now c.args.limits.now c.well_formed-3.ensures c.steps.kernel c.steps.invariant.way (sym (c.in_default.ensures _ c.steps.invariant.way.stands)) c.step_by_plan.new.kernel (stands_as c.args.app.now c.steps.kernel c.step_by_plan.new.kernel _ _ (handlers_are c.args.points.now c.steps.left.now c.steps.kernel.steps _ refl c.steps.invariant.left) c.in_err-left.ensures.stands)
 
-pub returns-in_err-points-clause-meter : goal.returns-in_err-points-clause-meter
-returns-in_err-points-clause-meter c =
-    let m = steps_more c.args.app.now c.well_formed-2.ensures c.args.plan.now c.args.limits.now c.well_formed-3.ensures c.steps.kernel c.steps.invariant.way (sym (c.in_default.ensures _ c.steps.invariant.way.stands)) c.step_by_plan.new.kernel (stands_as c.args.app.now c.steps.kernel c.step_by_plan.new.kernel _ _ (handlers_are c.args.plan.now c.steps.points.now c.steps.kernel.steps _ refl c.steps.invariant.left) c.in_err-points.ensures.stands) in
-    let e = c.in_err-points.ensures.meter in
+pub returns-in_err-left-clause-on : goal.returns-in_err-left-clause-on
+returns-in_err-left-clause-on c =
+    let m = steps_more c.args.app.now c.well_formed-2.ensures c.args.points.now c.args.limits.now c.well_formed-3.ensures c.steps.kernel c.steps.invariant.way (sym (c.in_default.ensures _ c.steps.invariant.way.stands)) c.step_by_plan.new.kernel (stands_as c.args.app.now c.steps.kernel c.step_by_plan.new.kernel _ _ (handlers_are c.args.points.now c.steps.left.now c.steps.kernel.steps _ refl c.steps.invariant.left) c.in_err-left.ensures.stands) in
+    let o = c.steps.invariant.on in
+    omega arith
+
+pub returns-in_err-left-clause-meter : goal.returns-in_err-left-clause-meter
+returns-in_err-left-clause-meter c =
+    let m = steps_more c.args.app.now c.well_formed-2.ensures c.args.points.now c.args.limits.now c.well_formed-3.ensures c.steps.kernel c.steps.invariant.way (sym (c.in_default.ensures _ c.steps.invariant.way.stands)) c.step_by_plan.new.kernel (stands_as c.args.app.now c.steps.kernel c.step_by_plan.new.kernel _ _ (handlers_are c.args.points.now c.steps.left.now c.steps.kernel.steps _ refl c.steps.invariant.left) c.in_err-left.ensures.stands) in
+    let e = c.in_err-left.ensures.meter in
     let f = c.steps.invariant.meter in
     omega arith
 
-pub returns-in_err-points-clause-memory : goal.returns-in_err-points-clause-memory
-returns-in_err-points-clause-memory c =
-    let p = err_from_is_err_and c.from_residual.result c.from_residual.ensures.1 in rw p.1 (told_more c.args.app.now c.well_formed-2.ensures c.args.plan.now c.args.limits.now c.well_formed-3.ensures c.steps.kernel c.steps.invariant.way (sym (c.in_default.ensures _ c.steps.invariant.way.stands)) c.step_by_plan.new.kernel (stands_as c.args.app.now c.steps.kernel c.step_by_plan.new.kernel _ _ (handlers_are c.args.plan.now c.steps.points.now c.steps.kernel.steps _ refl c.steps.invariant.left) c.in_err-points.ensures.stands) (subst (λ (hs : List ℕ). 0 < length (step c.args.app.now hs (state_after c.args.app.now c.args.plan.now c.steps.kernel.steps)).log) (handlers_are c.args.plan.now c.steps.points.now c.steps.kernel.steps _ refl c.steps.invariant.left) (c.in_err-points.ensures.memory _ c.steps.invariant.way.stands)))
+pub returns-in_err-left-clause-memory : goal.returns-in_err-left-clause-memory
+returns-in_err-left-clause-memory c =
+    let p = err_from_is_err_and c.from_residual.result c.from_residual.ensures.1 in rw p.1 (told_more c.args.app.now c.well_formed-2.ensures c.args.points.now c.args.limits.now c.well_formed-3.ensures c.steps.kernel c.steps.invariant.way (sym (c.in_default.ensures _ c.steps.invariant.way.stands)) c.step_by_plan.new.kernel (stands_as c.args.app.now c.steps.kernel c.step_by_plan.new.kernel _ _ (handlers_are c.args.points.now c.steps.left.now c.steps.kernel.steps _ refl c.steps.invariant.left) c.in_err-left.ensures.stands) (subst (λ (hs : List ℕ). 0 < length (step c.args.app.now hs (state_after c.args.app.now c.args.points.now c.steps.kernel.steps)).log) (handlers_are c.args.points.now c.steps.left.now c.steps.kernel.steps _ refl c.steps.invariant.left) (c.in_err-left.ensures.memory _ c.steps.invariant.way.stands)))
 
 pub returns-in-Some-clause-ended : goal.returns-in-Some-clause-ended
 returns-in-Some-clause-ended c = sym (c.ended.ensures _ c.steps.invariant.way.stands) ∙ c.in-Some.is
 
 pub step_by_plan-requires-clause-meter : goal.step_by_plan-requires-clause-meter
 step_by_plan-requires-clause-meter c =
-    let on : end_of c.args.app.now c.args.limits.now (state_after c.args.app.now c.args.plan.now c.steps.kernel.steps) ≡ None = sym (c.in_default.ensures _ c.steps.invariant.way.stands) in
-    let l = steps_below c.args.app.now c.well_formed-2.ensures c.args.plan.now c.args.limits.now c.well_formed-3.ensures c.steps.kernel c.steps.invariant.way on in
+    let on : end_of c.args.app.now c.args.limits.now (state_after c.args.app.now c.args.points.now c.steps.kernel.steps) ≡ None = sym (c.in_default.ensures _ c.steps.invariant.way.stands) in
+    let l = steps_below c.args.app.now c.well_formed-2.ensures c.args.points.now c.args.limits.now c.well_formed-3.ensures c.steps.kernel c.steps.invariant.way on in
     let most = c.well_formed-3.ensures.3 in
     let low = c.requires.meter in
     let f = c.steps.invariant.meter in
@@ -72,4 +82,4 @@ pub step_by_plan-requires-clause-left : goal.step_by_plan-requires-clause-left
 step_by_plan-requires-clause-left c = c.steps.invariant.left.ahead
 
 pub step_by_plan-requires-clause-few : goal.step_by_plan-requires-clause-few
-step_by_plan-requires-clause-few c = few_left c.args.plan.now c.steps.points.now c.steps.kernel.steps c.well_formed-4.ensures c.steps.invariant.left
+step_by_plan-requires-clause-few c = few_left c.args.points.now c.steps.left.now c.steps.kernel.steps c.requires.plan c.steps.invariant.left

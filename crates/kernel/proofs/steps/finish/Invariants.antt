@@ -1,16 +1,17 @@
-use Rattle.std.proofs.Common.{◌≡◌, ◌+◌, ◌-◌, ◌++◌}
-use Rattle.model.specs.Run.{events_after}
+use Rattle.std.proofs.Common.{◌≡◌, ◌≤◌, ◌+◌, ◌-◌, ◌++◌}
 use Rattle.kernel.specs.Logged.{all_of}
 use Rattle.kernel.specs.Can.{IsUnderWay}
+use Rattle.kernel.specs.Rows.{events_from}
 use Rattle.kernel.proofs.Planned.{IsLeft}
 use Rattle.kernel.proofs.steps.finish.Given as goal
 
 abbrev pub invariant-steps : goal.invariant-steps
 invariant-steps l = record {
-  way : IsUnderWay l.app l.plan l.limits l.kernel;
-  events : all_of l.trail ≡ all_of l.fn.trail ++ events_after l.app l.plan l.kernel.steps;
-  left : IsLeft l.plan l.points l.kernel.steps;
-  meter : l.meter ≡ l.fn.meter + l.kernel.steps;
+  way : IsUnderWay l.app l.points l.limits l.kernel;
+  on : l.fn.kernel.steps ≤ l.kernel.steps;
+  events : all_of l.trail ≡ all_of l.fn.trail ++ events_from l.app l.points l.fn.kernel.steps l.kernel.steps;
+  left : IsLeft l.points l.left l.kernel.steps;
+  meter : l.meter + l.fn.kernel.steps ≡ l.fn.meter + l.kernel.steps;
 }
 
 abbrev pub decreases-steps : goal.decreases-steps

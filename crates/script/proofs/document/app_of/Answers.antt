@@ -3,7 +3,7 @@ use Rattle.std.proofs.lemmas.Grind.{common_steps}
 use Rattle.model.specs.Application.{Application}
 use Rattle.script.specs.Interrupts.{AreInterrupts}
 use Rattle.script.specs.Entries.{HasEntries}
-use Rattle.script.proofs.Formed.{are_interrupts, few_come}
+use Rattle.script.proofs.Formed.{are_interrupts, few_come, are_entries}
 use Rattle.script.proofs.document.app_of.Goals as goal
 
 pub new-requires : goal.new-requires
@@ -16,6 +16,7 @@ new-requires c =
       handlers = c.args.handlers.items;
       interrupts = c.in_ok-interrupts.interrupts.items;
       tasks = c.args.tasks.items;
+      points = c.args.points.items;
     } in
     let has : HasEntries app c.args.entries.now = record {
       objects = grind (arith, common_steps);
@@ -38,5 +39,7 @@ new-requires c =
       few_at_once = λ tick. few_come app tick (coming.few_at_once tick);
       in_order = coming.in_order;
       known = c.requires.known app has;
+      points = are_entries app app.points c.requires.points.entries;
+      few_points = c.requires.points.few;
       start = grind (arith, common_steps);
     }

@@ -1,7 +1,9 @@
-use Rattle.std.proofs.Common.{arith, ◌-◌, refl, subst, List}
+use Rattle.std.proofs.Common.{arith, ◌-◌, ◌≤◌, refl, subst, sym, length, List}
 use Rattle.std.specs.List.{AllByRecursion}
 use Rattle.model.specs.declared.object.ObjectKind.{ObjectKind}
 use Rattle.model.specs.Application.{Application, Definition, Handler}
+use Rattle.model.specs.declared.plan.PointEntry.{PointEntry}
+use Rattle.model.specs.Scripts.{IsPointEntry, most_points}
 use Rattle.comparison.specs.Known.{AreKnown, IsKnownHandler}
 use Rattle.comparison.proofs.Known.{are_handlers, are_interrupts, few_at, known_all}
 use Rattle.comparison.proofs.dice.Dice.app.Goals as goal
@@ -19,6 +21,7 @@ new-requires-2 c =
       handlers = handlers;
       interrupts = c.in_ok-interrupts.interrupts.items;
       tasks = tasks;
+      points = c.new-points.result.items;
     } in
     let four = c.in_ok-tasks.ensures.four in
     let objects_few = c.in_ok-objects.ensures.few in
@@ -39,5 +42,7 @@ new-requires-2 c =
       few_at_once = λ tick. let here = few_at app tick in omega arith;
       in_order = formed.in_order;
       known = known_all app refl four tasks (subst (λ (objects : List ObjectKind). AllByRecursion (λ (d : Definition). AreKnown objects d.script) tasks) c.as_slice.ensures.value c.in_ok-tasks.ensures.known);
+      points = subst (AllByRecursion (IsPointEntry app)) (sym c.new-points.ensures.items) tt;
+      few_points = subst (λ (points : List PointEntry). length points ≤ most_points) (sym c.new-points.ensures.items) (omega arith);
       start = omega arith;
     }

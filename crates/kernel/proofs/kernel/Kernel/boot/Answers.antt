@@ -7,7 +7,9 @@ use Rattle.model.specs.Switching.{make_ready}
 use Rattle.model.specs.Suspension.{can_resume}
 use Rattle.model.specs.Step.{nobody_ready, task_at_reset, with_ops}
 use Rattle.sched.specs.StandsFor.{StandsFor}
+use Rattle.kernel.specs.StandsFor.Stands.{Placed}
 use Rattle.kernel.proofs.Booting.{booted, ended_reset}
+use Rattle.kernel.proofs.Running.{begins, steps_begin}
 use Rattle.kernel.proofs.kernel.Kernel.boot.Goals as goal
 
 pub returns : goal.returns
@@ -17,4 +19,9 @@ returns c =
     let P : List Definition → Type 0 = λ ds. StandsFor c.make_ready_at_reset.new.sched (for_each make_ready (with_ops 0 ds) (nobody_ready app)) in
     let many : length (nobody_ready app).tasks ≡ length c.tasks.result.now = rw c.tasks.ensures (length-map app.tasks (task_at_reset app.start)) in
     let ready = subst P c.tasks.ensures (c.make_ready_at_reset.ensures (nobody_ready app) c.nobody_ready-kernel.ensures.stands.sched many (λ i. ap can_resume (ended_reset app.start i app.tasks))) in
-    booted app c.well_formed-2.ensures c.nobody_ready-kernel.result c.make_ready_at_reset.new.sched c.choose.new.self c.nobody_ready-kernel.ensures.stands ready c.choose.ensures.stands
+    let stands = booted app c.well_formed-2.ensures c.nobody_ready-kernel.result c.make_ready_at_reset.new.sched c.choose.new.self c.nobody_ready-kernel.ensures.stands ready c.choose.ensures.stands in
+    record {
+      stands = stands;
+      steps = steps_begin app _ (Placed stands);
+      way = λ plan limits. begins app plan limits _ (Placed stands);
+    }

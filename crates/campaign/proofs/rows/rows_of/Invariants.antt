@@ -1,0 +1,12 @@
+use Rattle.std.proofs.Common.{◌≡◌, length, take}
+use Rattle.model.specs.Campaign.{AreRows}
+use Rattle.campaign.specs.Report.{whole, IsSound}
+use Rattle.campaign.proofs.rows.rows_of.Given as goal
+
+abbrev pub invariant-loop-index : goal.invariant-loop-index
+invariant-loop-index g l = record {
+  base : l.rows.base ≡ l.fn.base;
+  sound : IsSound l.rows;
+  count : length l.rows.kept.items ≡ l.index;
+  rows : AreRows l.app l.limits (take l.index l.points) (whole l.rows);
+}

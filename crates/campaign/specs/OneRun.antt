@@ -1,0 +1,57 @@
+-- What one run of a file comes to: the report of the base run, or of row 0, where a handler is injected.
+use Rattle.std.specs.Prelude.{◌≡◌, ℕ, Bool, List, [], Option, Some, None, Result, option_map}
+use Rattle.model.specs.Application.{Application, handler_named}
+use Rattle.model.specs.Run.{Run, IsRun, IsRow}
+use Rattle.model.specs.declared.event.End.{End}
+use Rattle.model.specs.declared.plan.Point.{Point}
+use Rattle.report.specs.Text.{run_text}
+use Rattle.report.specs.declared.title.Title.{Title}
+use Rattle.report.specs.declared.title.Title.TheVariants.{Base, Row}
+use Rattle.campaign.specs.declared.at.At.{At}
+use Rattle.campaign.specs.declared.file.ServeFault.{ServeFault}
+use Rattle.campaign.specs.declared.file.ServeFault.TheVariants.{UnknownHandler, Memory}
+use Rattle.campaign.specs.Serving.{IsFileOf, HasFileFault, Serves}
+
+-- the point of an injection: the handler of the application that has the name
+abbrev pub point_named : Application → At → Option Point
+point_named app at = option_map (λ handler. record { step = at.step; handler = handler }) (handler_named app at.handler.now)
+
+-- The run that is asked for, under the limits of the file itself, and what its report is of: the base run, and where an
+-- injection is asked for, row 0.
+abbrev pub IsAsked : Option At → Application → Title → Run → Type 0
+IsAsked None app title run = (title ≡ Base) × IsRun app [] app.limits run
+IsAsked (Some at) app title run =
+    (point : Point) × (point_named app at ≡ Some point)
+    × (reached : Bool) × (title ≡ Row 0 point reached) × IsRow app app.limits point reached run
+
+-- An injection is asked for, and no handler of the application has the name.
+abbrev pub NamesNoHandler : Option At → Application → Type 0
+NamesNoHandler None app = ⊥
+NamesNoHandler (Some at) app = point_named app at ≡ None
+
+-- The bytes have this fault, where this run is asked for.
+abbrev pub HasFault : Option At → List ℕ → ServeFault → Type 0
+HasFault at bytes UnknownHandler = (app : Application) × IsFileOf bytes app × NamesNoHandler at app
+HasFault at bytes fault = HasFileFault bytes fault
+
+-- the bytes are a file where the run that is asked for has this report and this end
+pub record IsReportOf (at : Option At) (bytes report : List ℕ) (end : End) : Type 0 where
+  pub app : Application
+  pub file : IsFileOf bytes app
+  pub title : Title
+  pub run : Run
+  pub runs : IsAsked at app title run
+  pub ends : run.end ≡ end
+  pub text : report ≡ run_text app title run
+
+-- why an application is not run to its end: no handler has the name, or no memory is left
+abbrev pub IsRunFault : Option At → Application → ServeFault → Type 0
+IsRunFault at app UnknownHandler = NamesNoHandler at app
+IsRunFault at app Memory = Unit {0}
+IsRunFault at app fault = ⊥
+
+-- a call that serves the run that is asked for, and answers how it ends
+abbrev pub ServesRun : Option At → Option (List ℕ) → (read_failed : Bool) → (old new : Option (List ℕ)) → (write_failed : Bool)
+    → Result End ServeFault → Type 0
+ServesRun at input read_failed old new write_failed outcome =
+    Serves End (IsReportOf at) (HasFault at) input read_failed old new write_failed outcome

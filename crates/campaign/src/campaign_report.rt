@@ -1,0 +1,52 @@
+//! The report of a campaign.
+ghost use Rattle.std.specs.Prelude.{◌≡◌};
+ghost use Rattle.model.specs.Campaign.{totals_of};
+ghost use Rattle.campaign.specs.Report.{whole, IsSound};
+
+use crate::rows::Rows;
+use model::Totals;
+use std::marker::Model;
+
+/// The rows of a campaign, in the order of its points, and their totals.
+#[derive(Drop)]
+pub struct Report {
+    rows: Rows,
+}
+
+// Clauses see the rows as a whole.
+impl Model for Report {
+    ghost use Rattle.std.specs.Prelude.{List};
+    ghost use Rattle.model.specs.Campaign.{Row};
+    ghost use Rattle.campaign.specs.Report.{whole, IsSound};
+
+    ghost Value = { List Row };
+
+    ghost view = { λ r. whole r.rows };
+
+    ghost invariant = { λ r. IsSound r.rows };
+}
+
+impl Report {
+    /// The report of these rows.
+    pub(crate) fn new(rows: Rows) -> Report
+        requires { IsSound rows }
+        ensures { result ≡ whole rows }
+    {
+        Report { rows }
+    }
+
+    /// How many rows there are, and how many of them end in which way.
+    pub fn totals(&self) -> Totals
+        ensures { result ≡ totals_of self.now }
+    {
+        self.rows.totals
+    }
+
+    /// The rows, as they are kept.
+    pub(crate) fn rows(&self) -> &Rows
+        ensures whole { whole result.now ≡ self.now }
+        ensures sound { IsSound result.now }
+    {
+        &self.rows
+    }
+}

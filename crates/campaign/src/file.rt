@@ -1,0 +1,87 @@
+//! The application of a file's bytes.
+ghost use Rattle.std.specs.Prelude.{◌≡◌, ℕ, List, false, MatchResult};
+ghost use Rattle.campaign.specs.Serving.{IsFileOf, HasFileFault, Known, is_read_fault, is_write_fault};
+ghost use Rattle.campaign.specs.declared.file.ServeFault.TheVariants as fault;
+
+use byte_io::{ReadFault, Source, WriteFault, read_all};
+use model::{App, Memory};
+use script::{FromDocument, LoadFault};
+use std::alloc::Global;
+
+/// Why what is asked for of a file was not written, or not as a whole.
+#[derive(Clone, Copy, Debug, PartialEq, Eq)]
+pub enum ServeFault {
+    /// The reader failed.
+    Read,
+    /// The bytes are not UTF-8, or spell no TOML document.
+    NotToml,
+    /// The document has this fault, the first that its checks find.
+    Load(LoadFault),
+    /// An injection is asked for, and no handler of the application has the name.
+    UnknownHandler,
+    /// The points of the campaign are more than 1,000,000 (profile).
+    TooManyPoints,
+    /// No memory is left, for the bytes, the application or its runs. For no bytes none is needed.
+    Memory,
+    /// The writer failed, or took none of some bytes.
+    Write,
+}
+
+impl From<ReadFault> for ServeFault {
+    ghost use Rattle.campaign.specs.Serving.{of_reading};
+
+    ghost from_gives = { λ fault given. given ≡ of_reading fault };
+
+    fn from(fault: ReadFault) -> ServeFault {
+        match fault {
+            ReadFault::Failed => ServeFault::Read,
+            ReadFault::Memory => ServeFault::Memory,
+        }
+    }
+}
+
+impl From<Memory> for ServeFault {
+    ghost from_gives = { λ _ given. given ≡ fault.Memory };
+
+    fn from(_: Memory) -> ServeFault {
+        ServeFault::Memory
+    }
+}
+
+impl From<WriteFault> for ServeFault {
+    ghost from_gives = { λ _ given. given ≡ fault.Write };
+
+    fn from(_: WriteFault) -> ServeFault {
+        ServeFault::Write
+    }
+}
+
+// The application of a file.
+fn app_in(alloc: Global, bytes: &[u8]) -> Result<App, ServeFault>
+    ensures app { MatchResult result (IsFileOf bytes.now) (HasFileFault bytes.now) }
+    ensures read { is_read_fault result ≡ false }
+    ensures write { is_write_fault result ≡ false }
+{
+    let document = match toml::table_from_slice(alloc, bytes) {
+        Ok(document) => document,
+        Err(error) if error.is_memory() => return Err(ServeFault::Memory),
+        Err(_) => return Err(ServeFault::NotToml),
+    };
+    match App::from_document(alloc, &document) {
+        Ok(app) => Ok(app),
+        Err(LoadFault::Memory) => Err(ServeFault::Memory),
+        Err(fault) => Err(ServeFault::Load(fault)),
+    }
+}
+
+/// The application of the file that the reader gives.
+pub(crate) fn app_of<R: Source>(alloc: Global, reader: &mut R) -> Result<App, ServeFault>
+    requires { R.has_failed reader.old ≡ false }
+    ensures app { (bytes : List ℕ) × Known (R.left reader.old) bytes
+        × MatchResult result (IsFileOf bytes) (HasFileFault bytes) }
+    ensures read { R.has_failed reader.new ≡ is_read_fault result }
+    ensures write { is_write_fault result ≡ false }
+{
+    let bytes = read_all(alloc, reader)?;
+    app_in(alloc, bytes.as_slice())
+}

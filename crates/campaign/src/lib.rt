@@ -1,0 +1,26 @@
+//! Campaigns: the application of a file's bytes, a row for each of its injection points, and their report; and the report of
+//! one run.
+#![tactic(auto)]
+
+mod at;
+mod campaign_report;
+mod file;
+mod making;
+mod one_run;
+mod options;
+mod points;
+mod progress;
+mod rows;
+mod serving;
+mod writing;
+
+pub use at::At;
+pub use campaign_report::Report;
+pub use file::ServeFault;
+pub use making::campaign;
+pub use one_run::serve_run;
+pub use options::{BadOption, Options};
+pub use points::{ExpandFault, expand};
+pub use progress::{Progress, Unseen};
+pub use serving::{serve, serve_watched};
+pub use writing::write_report;

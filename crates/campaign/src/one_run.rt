@@ -1,0 +1,102 @@
+//! From the bytes of a file to the text of one run.
+ghost use Rattle.std.specs.Prelude.{◌≡◌, [], ◌∷◌, false, IfOk, MatchResult};
+ghost use Rattle.model.specs.Run.{IsRun, IsRow};
+ghost use Rattle.campaign.specs.OneRun.{IsAsked, IsRunFault, ServesRun};
+
+use crate::at::At;
+use crate::file::{ServeFault, app_of};
+use byte_io::{Sink, Source};
+use model::{App, End, Limits, Memory, Meter, Plan, Point, Run};
+use report::{Title, write_run};
+use std::alloc::Global;
+
+// The run with this plan.
+fn run_with(alloc: Global, app: &App, plan: &Plan, limits: Limits) -> Result<Run, Memory>
+    ensures { IfOk result (λ run. IsRun app.now plan.now limits run) }
+{
+    kernel::run(alloc, app, plan, limits, &mut Meter::new())
+}
+
+/// The base run: nothing is injected.
+pub(crate) fn base_run(alloc: Global, app: &App, limits: Limits) -> Result<Run, Memory>
+    ensures { IfOk result (λ run. IsRun app.now [] limits run) }
+{
+    let Ok(plan) = Plan::new(Vec::new(alloc)) else {
+        unreachable!()
+    };
+    run_with(alloc, app, &plan, limits)
+}
+
+// The plan of one point.
+fn plan_of(alloc: Global, point: Point) -> Result<Plan, Memory>
+    ensures { IfOk result (λ plan. plan ≡ point ∷ []) }
+{
+    let mut points = Vec::new(alloc);
+    if points.push(point).is_err() {
+        return Err(Memory);
+    }
+    let Ok(plan) = Plan::new(points) else {
+        unreachable!()
+    };
+    Ok(plan)
+}
+
+// Whether the point is reached, and its row. The base run comes first, and is the row where it ends before the point's step.
+fn row_of(alloc: Global, app: &App, point: Point) -> Result<(bool, Run), Memory>
+    ensures { IfOk result (λ row. IsRow app.now app.now.limits point row.0 row.1) }
+{
+    let base = base_run(alloc, app, app.limits())?;
+    if point.step >= base.steps {
+        return Ok((false, base));
+    }
+    let plan = plan_of(alloc, point)?;
+    let run = run_with(alloc, app, &plan, app.limits())?;
+    Ok((true, run))
+}
+
+// The run that is asked for, and what its report is of.
+fn asked_run(alloc: Global, app: &App, at: Option<At<'_>>) -> Result<(Title, Run), ServeFault>
+    ensures { MatchResult result (λ asked. IsAsked at.entry app.now asked.0 asked.1)
+        (IsRunFault at.entry app.now) }
+{
+    let Some(at) = at else {
+        return Ok((Title::Base, base_run(alloc, app, app.limits())?));
+    };
+    let Some(handler) = app.handler_named(at.handler) else {
+        return Err(ServeFault::UnknownHandler);
+    };
+    let point = Point {
+        step: at.step,
+        handler,
+    };
+    let (reached, run) = row_of(alloc, app, point)?;
+    let title = Title::Row {
+        number: 0,
+        point,
+        reached,
+    };
+    Ok((title, run))
+}
+
+/// Reads a file, runs the application that it names under its own limits, and writes the report of the run, as its
+/// last deed: the base run, or where an injection is asked for, row 0. Answers how the run that it wrote ends.
+///
+/// At `Write` a beginning of the report is written. At every other error nothing is. `UnknownHandler` comes after every
+/// fault of the file, and before any run.
+#[tactic(auto, using(crate::proofs::Faulty::serves_file_fault, crate::proofs::Faulty::serves_run_fault))]
+pub fn serve_run<R: Source, W: Sink>(
+    alloc: Global,
+    reader: &mut R,
+    writer: &mut W,
+    at: Option<At<'_>>,
+) -> Result<End, ServeFault>
+    requires reads { R.has_failed reader.old ≡ false }
+    requires writes { W.has_failed writer.old ≡ false }
+    ensures { ServesRun at.entry (R.left reader.old) (R.has_failed reader.new)
+        (W.held writer.old) (W.held writer.new) (W.has_failed writer.new) result }
+{
+    let app = app_of(alloc, reader)?;
+    let (title, run) = asked_run(alloc, &app, at)?;
+    write_run(writer, &app, title, &run)?;
+    Ok(run.end)
+}

@@ -1,0 +1,97 @@
+//! Rows of a campaign: runs with one point each, on a kernel that is used again.
+ghost use Rattle.std.specs.Prelude.{◌≡◌, ◌<◌, ◌≤◌, ◌+◌, ◌*◌, ◌^◌, ℕ, [], ◌∷◌, None, IfOk, OnErr, length};
+ghost use Rattle.model.specs.Run as definition;
+ghost use Rattle.model.specs.Run.{end_of, IsRun, state_after, events_after};
+ghost use Rattle.kernel.specs.Logged.{all_of};
+ghost use Rattle.kernel.specs.Can.{IsUnderWay};
+ghost use Rattle.kernel.specs.Rows.{IsRowFrom};
+
+use crate::kernel::Kernel;
+use crate::log::StepLog;
+use crate::steps::finish;
+use crate::trail::Trail;
+use model::{App, End, Limits, Memory, Meter, Point};
+
+/// What is said of a row but its events.
+#[derive(Clone, Copy, Debug, PartialEq, Eq)]
+pub struct RowEnding {
+    /// How many events of the base run come before the row's injection, counted from where the kernel had come.
+    pub before: usize,
+    /// How many steps the row has.
+    pub steps: u32,
+    /// How many ticks had passed at its end.
+    pub ticks: u32,
+    /// How it ended.
+    pub end: End,
+}
+
+/// Goes along the base run up to this step, and counts the events. It takes no memory.
+fn advance(
+    kernel: &mut Kernel,
+    app: &App,
+    step: u32,
+    limits: &Limits,
+    meter: &mut Meter,
+    log: &mut StepLog,
+) -> usize
+    requires way { IsUnderWay app.now [] limits.now kernel.old }
+    requires ahead { kernel.old.steps ≤ step }
+    requires reached { (n : ℕ) → n < step → end_of app.now limits.now (state_after app.now [] n) ≡ None }
+    requires meter { meter.old < 2 ^ 62 }
+    ensures way { IsUnderWay app.now [] limits.now kernel.new }
+    ensures there { kernel.new.steps ≡ step }
+    ensures count { length (events_after app.now [] kernel.old.steps) + result
+        ≡ length (events_after app.now [] step) }
+    ensures meter { meter.new + kernel.old.steps ≡ meter.old + step }
+{
+    app.well_formed();
+    limits.well_formed();
+    let mut count = 0;
+    'steps: while kernel.steps < step {
+        kernel.step(app, &[], meter, log);
+        count += log.len();
+    }
+    count
+}
+
+/// Runs a row to its end, on a kernel that has come along the base run: the steps before the point are the base run's, so
+/// their events are only counted; then the point's handler comes before its step, and the run goes on to its end. The trail
+/// gains the events from the injection on, behind those that it has. The log is for the events of a step; what it has doesn't
+/// matter.
+///
+/// The base run gets beyond the point's step, which the kernel hasn't passed. The meter, which is below 2^62, rises by the
+/// steps that are done here. At `Err(Memory)`, answered only where a growth was refused, so never where the row tells
+/// nothing, it has risen by no more than that; the trail then has those that it had, and some of the row's behind them.
+pub fn run_row(
+    kernel: &mut Kernel,
+    app: &App,
+    point: Point,
+    limits: &Limits,
+    meter: &mut Meter,
+    log: &mut StepLog,
+    trail: &mut Trail,
+) -> Result<RowEnding, Memory>
+    requires way { IsUnderWay app.now [] limits.now kernel.old }
+    requires ahead { kernel.old.steps ≤ point.step }
+    requires reached { (n : ℕ) → n ≤ point.step → end_of app.now limits.now (state_after app.now [] n) ≡ None }
+    requires meter { meter.old < 2 ^ 62 }
+    ensures row { IfOk result (λ row.
+        IsRowFrom app.now point limits.now (all_of trail.old) (all_of trail.new) row) }
+    ensures before { IfOk result (λ row. length (events_after app.now [] kernel.old.steps) + row.before
+        ≡ length (events_after app.now [] point.step)) }
+    ensures meter { IfOk result (λ row. meter.new + kernel.old.steps ≡ meter.old + row.steps) }
+    ensures rises { meter.old ≤ meter.new }
+    ensures refused { OnErr result ((run : definition.Run) → IsRun app.now (point ∷ []) limits.now run
+        → (meter.new + kernel.old.steps ≤ meter.old + run.steps) × (0 < length run.events)) }
+{
+    limits.well_formed();
+    let before = advance(kernel, app, point.step, limits, meter, log);
+    let points = [point];
+    let end = finish(kernel, app, &points, limits, meter, log, trail)?;
+    Ok(RowEnding {
+        before,
+        steps: kernel.steps,
+        ticks: kernel.clock.elapsed() as u32,
+        end,
+    })
+}

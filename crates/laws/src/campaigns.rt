@@ -1,0 +1,21 @@
+//! What is true of the rows of a campaign, and of their totals.
+ghost use Rattle.std.specs.Prelude.{◌≡◌, ◌≤◌, ◌+◌, [], false, List};
+ghost use Rattle.model.specs.declared.plan.Point.{Point};
+ghost use Rattle.model.specs.declared.totals.Totals.{Totals};
+ghost use Rattle.model.specs.Application.{Application, Limits};
+ghost use Rattle.model.specs.Campaign.{Row, totals_of};
+ghost use Rattle.model.specs.Run.{Run, IsRun, IsRow};
+
+/// Each row of a campaign ends in one way: the ends of its totals add up to its rows. No more points are not reached than
+/// there are rows.
+pub fn ends_add_up()
+    ensures ends { (rows : List Row) (t : Totals) → t ≡ totals_of rows
+        → t.pass + t.check + t.misuse + t.ticks + t.steps + t.stuck ≡ t.rows }
+    ensures not_reached { (rows : List Row) (t : Totals) → t ≡ totals_of rows → t.not_reached ≤ t.rows }
+{}
+
+/// The row of a point that is not reached is the base run.
+pub fn unreached_row_is_the_base_run()
+    ensures { (app : Application) (limits : Limits) (point : Point) (run : Run)
+        → IsRow app limits point false run → IsRun app [] limits run }
+{}

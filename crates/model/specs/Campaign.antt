@@ -1,0 +1,83 @@
+-- A campaign: a run for each injection point, and how many of them end in which way.
+use Rattle.std.specs.Prelude.{◌≡◌, ℕ, Bool, true, false, not, List, [], ◌∷◌, length, map, filter}
+use Rattle.std.specs.List.{AllByRecursion, flat_map, range_with_len}
+use Rattle.model.specs.declared.event.End.{End}
+use Rattle.model.specs.declared.event.End.TheVariants.{Pass, Check, Misuse, Ticks, Steps, Stuck}
+use Rattle.model.specs.declared.plan.Point.{Point}
+use Rattle.model.specs.declared.plan.PointEntry.{PointEntry}
+use Rattle.model.specs.declared.plan.PointEntry.TheVariants.{One, Every}
+use Rattle.model.specs.declared.totals.Totals.{Totals}
+use Rattle.model.specs.Application.{Application, Limits}
+use Rattle.model.specs.Run.{Run, IsRow}
+
+-- ---- the points
+
+-- the points of a handler before each of so many steps, from the first on
+abbrev pub every_step : (handler steps : ℕ) → List Point
+every_step handler steps = map (λ (step : ℕ). record { step = step; handler = handler }) (range_with_len 0 steps)
+
+-- the points that an entry of the file stands for, where the base run has so many steps
+abbrev pub points_of : (steps : ℕ) → PointEntry → List Point
+points_of steps (One point) = point ∷ []
+points_of steps (Every handler) = every_step handler steps
+
+-- the points of a file, in its order
+abbrev pub points_in : Application → (steps : ℕ) → List Point
+points_in app steps = flat_map (points_of steps) app.points
+
+-- ---- the rows
+
+-- a row: its point, whether the base run reaches it, and its run
+pub record Row : Type 0 where
+  pub point : Point
+  pub reached : Bool
+  pub run : Run
+
+-- The rows of a campaign over these points.
+pub record AreRows (app : Application) (limits : Limits) (points : List Point) (rows : List Row) : Type 0 where
+  -- one for each point, in the order of the points
+  pub one_each : map (λ (row : Row). row.point) rows ≡ points
+  pub each : AllByRecursion (λ (row : Row). IsRow app limits row.point row.reached row.run) rows
+
+-- ---- the totals
+
+abbrev pub is_pass : End → Bool
+is_pass Pass = true
+is_pass end = false
+
+abbrev pub is_check : End → Bool
+is_check (Check task op_index) = true
+is_check end = false
+
+abbrev pub is_misuse : End → Bool
+is_misuse (Misuse task op_index kind) = true
+is_misuse end = false
+
+abbrev pub is_ticks : End → Bool
+is_ticks Ticks = true
+is_ticks end = false
+
+abbrev pub is_steps : End → Bool
+is_steps Steps = true
+is_steps end = false
+
+abbrev pub is_stuck_end : End → Bool
+is_stuck_end Stuck = true
+is_stuck_end end = false
+
+-- how many rows end in such a way, reached or not
+abbrev pub ended : (End → Bool) → List Row → ℕ
+ended is rows = length (filter (λ (row : Row). is row.run.end) rows)
+
+-- how many rows there are, how many of them end in each way, and how many of their points are not reached
+abbrev pub totals_of : List Row → Totals
+totals_of rows = record {
+  rows = length rows;
+  pass = ended is_pass rows;
+  check = ended is_check rows;
+  misuse = ended is_misuse rows;
+  ticks = ended is_ticks rows;
+  steps = ended is_steps rows;
+  stuck = ended is_stuck_end rows;
+  not_reached = length (filter (λ (row : Row). not row.reached) rows);
+}

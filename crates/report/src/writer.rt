@@ -1,0 +1,162 @@
+//! The text of one run after another, to a sink.
+ghost use Rattle.std.specs.Prelude.{◌≡◌, ◌++◌, [], false, OnOk};
+ghost use Rattle.std.specs.List.{flat_map};
+ghost use Rattle.std.specs.Result.{is_err};
+ghost use Rattle.byte_io.specs.Bytes.{Writes, Adds};
+ghost use Rattle.report.specs.Text.{event_text, head_text, run_text, total_text};
+
+use crate::lines::Lines;
+use crate::text::{MAX_HEAD, MAX_LINE, MAX_TOTALS, push_head, push_totals};
+use crate::title::Title;
+use byte_io::{Page, Sink, WriteFault, flush, make_room};
+use model::{App, Ending, Event, Totals};
+use std::marker::Model;
+
+/// The report of a campaign or of one run, as it is being written: what is still to go out, and what lines have in common.
+///
+/// It takes no memory, and stands in about 25 kB: make it once for a report. Each call on a writer requires that this has not
+/// failed. At `Err` the writer failed or took none of some bytes, it has taken a beginning of what was still to go out and of
+/// what was added, and the report is of no more use.
+#[derive(Drop)]
+pub struct ReportWriter<'a> {
+    page: Page,
+    lines: Lines<'a>,
+}
+
+// Clauses see the application, and the bytes that are still to go out.
+impl<'a> Model for ReportWriter<'a> {
+    ghost use Rattle.report.specs.Writing.{Report};
+
+    ghost Value = { Report };
+
+    ghost view = { λ r. record { app = r.lines; page = r.page } };
+}
+
+fn add_head<W: Sink>(
+    writer: &mut W,
+    page: &mut Page,
+    app: &App,
+    title: Title,
+    ending: Ending,
+) -> Result<(), WriteFault>
+    requires { W.has_failed writer.old ≡ false }
+    ensures text { Adds (W.held writer.old) (W.held writer.new) page.old page.new result
+        (head_text app.now title ending.steps ending.ticks ending.end) }
+    ensures failed { W.has_failed writer.new ≡ is_err result }
+{
+    make_room(writer, page, MAX_HEAD)?;
+    push_head(page, app, title, ending);
+    Ok(())
+}
+
+// Adds the lines of the events. Room is asked for as many lines at once as surely fit.
+fn add_events<W: Sink>(
+    writer: &mut W,
+    page: &mut Page,
+    lines: &mut Lines<'_>,
+    events: &[Event],
+) -> Result<(), WriteFault>
+    requires { W.has_failed writer.old ≡ false }
+    ensures app { lines.new ≡ lines.old }
+    ensures text { Adds (W.held writer.old) (W.held writer.new) page.old page.new result
+        (flat_map (event_text lines.old) events.now) }
+    ensures failed { W.has_failed writer.new ≡ is_err result }
+{
+    let mut rest = events;
+    while !rest.is_empty() {
+        make_room(writer, page, MAX_LINE)?;
+        let count = rest.len().min(page.room() / MAX_LINE);
+        let (some, others) = rest.split_at(count);
+        lines.push_all(page, some);
+        rest = others;
+    }
+    Ok(())
+}
+
+// Adds the lines of two lists of events, one after the other.
+fn add_both<W: Sink>(
+    writer: &mut W,
+    page: &mut Page,
+    lines: &mut Lines<'_>,
+    first: &[Event],
+    events: &[Event],
+) -> Result<(), WriteFault>
+    requires { W.has_failed writer.old ≡ false }
+    ensures app { lines.new ≡ lines.old }
+    ensures text { Adds (W.held writer.old) (W.held writer.new) page.old page.new result
+        (flat_map (event_text lines.old) (first.now ++ events.now)) }
+    ensures failed { W.has_failed writer.new ≡ is_err result }
+{
+    add_events(writer, page, lines, first)?;
+    add_events(writer, page, lines, events)
+}
+
+fn add_total_line<W: Sink>(
+    writer: &mut W,
+    page: &mut Page,
+    totals: &Totals,
+) -> Result<(), WriteFault>
+    requires { W.has_failed writer.old ≡ false }
+    ensures text { Adds (W.held writer.old) (W.held writer.new) page.old page.new result (total_text totals.now) }
+    ensures failed { W.has_failed writer.new ≡ is_err result }
+{
+    make_room(writer, page, MAX_TOTALS)?;
+    push_totals(page, totals);
+    Ok(())
+}
+
+impl<'a> ReportWriter<'a> {
+    /// A report of runs of this application, of which nothing is written yet.
+    pub fn new(app: &'a App) -> ReportWriter<'a>
+        ensures app { result.app ≡ app.now }
+        ensures page { result.page ≡ [] }
+    {
+        ReportWriter {
+            page: Page::new(),
+            lines: Lines::new(app),
+        }
+    }
+
+    /// Adds the report of a run, whose events are these two lists, one after the other: its head line, which begins with the
+    /// title, and a line for each event. The run is of this application, and so is the handler of a row's point.
+    pub fn add_run<W: Sink>(
+        &mut self,
+        writer: &mut W,
+        title: Title,
+        ending: Ending,
+        first: &[Event],
+        events: &[Event],
+    ) -> Result<(), WriteFault>
+        requires { W.has_failed writer.old ≡ false }
+        ensures app { self.new.app ≡ self.old.app }
+        ensures text { Adds (W.held writer.old) (W.held writer.new) self.old.page self.new.page result
+            (run_text self.old.app title
+            (record { events = first.now ++ events.now; steps = ending.steps; ticks = ending.ticks; end = ending.end })) }
+        ensures failed { W.has_failed writer.new ≡ is_err result }
+    {
+        add_head(writer, &mut self.page, self.lines.app(), title, ending)?;
+        add_both(writer, &mut self.page, &mut self.lines, first, events)
+    }
+
+    /// Adds the line that ends the report of a campaign.
+    pub fn add_totals<W: Sink>(&mut self, writer: &mut W, totals: &Totals) -> Result<(), WriteFault>
+        requires { W.has_failed writer.old ≡ false }
+        ensures app { self.new.app ≡ self.old.app }
+        ensures text { Adds (W.held writer.old) (W.held writer.new) self.old.page self.new.page result
+            (total_text totals.now) }
+        ensures failed { W.has_failed writer.new ≡ is_err result }
+    {
+        add_total_line(writer, &mut self.page, totals)
+    }
+
+    /// Sends out what is left.
+    pub fn finish<W: Sink>(&mut self, writer: &mut W) -> Result<(), WriteFault>
+        requires { W.has_failed writer.old ≡ false }
+        ensures app { self.new.app ≡ self.old.app }
+        ensures text { Writes (W.held writer.old) (W.held writer.new) result self.old.page }
+        ensures empty { OnOk result (self.new.page ≡ []) }
+        ensures failed { W.has_failed writer.new ≡ is_err result }
+    {
+        flush(writer, &mut self.page)
+    }
+}
