@@ -4,7 +4,7 @@ ghost use Rattle.std.specs.Prelude.{◌≡◌, ◌≤◌, false};
 use crate::dice::Dice;
 use crate::file::{file_of, points_text};
 use byte_io::ToWriter;
-use campaign::{campaign, write_report};
+use campaign::{Report, campaign, write_report};
 use model::{App, HandlerId, Memory, Meter, Plan, Point, Run, Totals};
 use report::{Title, write_run};
 use std::alloc::Global;
@@ -76,6 +76,14 @@ impl Seen {
     }
 }
 
+/// The report of the campaign over these points.
+fn report_of(rt: &impl Abort, alloc: Global, app: &App, points: Vec<Point>) -> Report {
+    assert!(rt; points.len() <= 1_000_000, "few points");
+    campaign(alloc, app, points, app.limits())
+        .ok()
+        .expect(rt, "memory")
+}
+
 /// The line of totals.
 fn total_line(alloc: Global, t: Totals) -> Option<String> {
     format!(in alloc;
@@ -103,9 +111,7 @@ fn a_campaign_is_its_rows_one_by_one(rt: HostRuntime) {
                 .expect(&rt, "memory");
         }
         let told = points_text(alloc, &app, points.as_slice()).expect(&rt, "memory");
-        let report = campaign(alloc, &app, points, app.limits())
-            .ok()
-            .expect(&rt, "memory");
+        let report = report_of(&rt, alloc, &app, points);
         let line = total_line(alloc, report.totals()).expect(&rt, "memory");
         wanted
             .extend_from_slice(line.as_bytes())

@@ -375,7 +375,15 @@ pub fn run(
     let mut kernel = Kernel::boot(app);
     let points = plan.points();
     let mut log = StepLog::new();
-    let end = finish(&mut kernel, app, points, &limits, meter, &mut log, &mut trail)?;
+    let end = finish(
+        &mut kernel,
+        app,
+        points,
+        &limits,
+        meter,
+        &mut log,
+        &mut trail,
+    )?;
     Ok(Run {
         events: trail.into_events(),
         steps: kernel.steps,

@@ -1,0 +1,135 @@
+"""Edits of a crate's code, in the form that rt reads from must-fail/: a line 'file: PATH', and then pairs of lines
+'old: TEXT' and 'new: TEXT', each TEXT one line, which stands once in what the pairs before it made of that file."""
+import os
+import re
+from dataclasses import dataclass
+
+FUNCTION = re.compile(r"^( *)(?:pub(?:\([^)]*\))? )?(?:const )?(?:unsafe )?(?:extern \S+ )?fn (\w+)")
+IMPL = re.compile(r"^(?:unsafe )?impl\b(?:<(?:[^<>]|<[^<>]*>)*>)? (?:(\w+)(?:<.*?>)? for )?(?:&(?:mut )?)?(?:\w+::)*(\w+)")
+TRAIT = re.compile(r"^(?:pub(?:\([^)]*\))? )?trait (\w+)")
+CALL = re.compile(r"\b(\w+)(?:::<[^()]*>)?\(")
+
+
+class BadEdit(Exception):
+    """An edit that can't be read or applied, and why."""
+
+
+@dataclass(frozen=True)
+class Function:
+    """A function of a crate: the file that it stands in, the type or module that it belongs to, and its name."""
+
+    path: str
+    owner: str
+    name: str
+
+    def is_called(self, said):
+        """Whether this is the function that rt calls by this path."""
+        parts = said.split("::")
+        return parts[-1] == self.name and (len(parts) < 2 or parts[-2] == self.owner)
+
+    def path_for_rt(self):
+        return f"{self.owner}::{self.name}"
+
+
+@dataclass(frozen=True)
+class Edit:
+    """What an edit changes: pairs of texts, each with the file's path below the crate's folder."""
+
+    crate: str
+    name: str
+    pairs: tuple
+
+    def applied(self, texts):
+        """The texts of its files that the edit makes of those in texts, by their paths."""
+        made = {}
+        for path, old, new in self.pairs:
+            text = made.get(path, texts.get(path))
+            if text is None:
+                raise BadEdit(f"there is no file {path}")
+            if text.count(old) != 1:
+                raise BadEdit(f"an 'old:' text stands in {path} {text.count(old)} times, and not once: {old.strip()}")
+            made[path] = text.replace(old, new)
+        return made
+
+    def functions(self, texts):
+        """The functions that it changes."""
+        found, made = set(), dict(texts)
+        for path, old, new in self.pairs:
+            line = made[path][: made[path].index(old)].count("\n")
+            found |= {it for it, (first, last) in functions_in(path, made[path]).items() if first <= line <= last}
+            made[path] = made[path].replace(old, new)
+        return found
+
+
+def read_edit(crate, file):
+    """The edit of a file."""
+    path, old, pairs = "", None, []
+    with open(file, encoding="utf-8") as it:
+        lines = it.read().split("\n")
+    for line in lines:
+        if line.startswith("file: "):
+            path = line[len("file: ") :].strip()
+        elif line.startswith("old: "):
+            old = line[len("old: ") :]
+        elif line.startswith("new:"):
+            if not path.startswith("src/") or not old:
+                raise BadEdit("a 'new:' line has no 'old:' line, or no file below src/, before it")
+            pairs.append((path, old, re.sub(r"\A ", "", line[len("new:") :])))
+            old = None
+    if not pairs or old is not None:
+        raise BadEdit("it has no pair of an 'old:' and a 'new:' line, or half of one")
+    return Edit(crate, os.path.basename(file)[: -len(".edit")], tuple(pairs))
+
+
+def owner_of(line):
+    """The type, or the type and its trait as one word, whose functions stand below this line, if any do."""
+    if found := IMPL.match(line):
+        return found[2] + (found[1] or "")
+    found = TRAIT.match(line)
+    return found[1] if found else None
+
+
+def functions_in(path, text):
+    """The functions of a file, each with the numbers of its first and its last line."""
+    lines, found = text.split("\n"), {}
+    module = os.path.basename(path)[: -len(".rt")]
+    owner = module
+    for at, line in enumerate(lines):
+        owner = owner_of(line) or (module if line == "}" else owner)
+        if head := FUNCTION.match(line):
+            ends = (f"{head[1]}}}", f"{head[1]}{{}}")
+            last = next((it for it in range(at, len(lines)) if lines[it] in ends or lines[it].endswith(";")
+                         and it == at), len(lines) - 1)
+            found[Function(path, owner if head[1] else module, head[2])] = at, last
+    return found
+
+
+def sources(folder):
+    """The texts of a crate's code, by their paths below its folder."""
+    found = {}
+    for at, _, names in os.walk(f"{folder}/src"):
+        for name in sorted(names):
+            if name.endswith(".rt"):
+                with open(f"{at}/{name}", encoding="utf-8") as file:
+                    found[os.path.relpath(f"{at}/{name}", folder)] = file.read()
+    return found
+
+
+def reach(texts):
+    """For each function of a crate all that it may call, and what these may, by the names that are called."""
+    calls, named = {}, {}
+    for path, text in texts.items():
+        lines = text.split("\n")
+        for function, (first, last) in functions_in(path, text).items():
+            calls[function] = set(CALL.findall("\n".join(lines[first + 1 : last + 1])))
+            named.setdefault(function.name, []).append(function)
+    reached = {}
+    for function in calls:
+        found, left = set(), [function]
+        while left:
+            for it in (to for name in calls[left.pop()] for to in named.get(name, ())):
+                if it not in found:
+                    found.add(it)
+                    left.append(it)
+        reached[function] = found
+    return reached

@@ -1,0 +1,73 @@
+"""What the tools know of the repository's crates, and of the machine, and how they run rt."""
+import os
+import re
+import signal
+import subprocess
+import threading
+
+ROOT = os.path.dirname(os.path.dirname(os.path.realpath(__file__)))
+MEMORY_OF_A_JOB = 1_500_000_000
+
+
+def crates(root=ROOT):
+    """The crates by name, each with the names of those that it stands on, lowest first."""
+    found = {}
+    with open(f"{root}/crates.txt", encoding="utf-8") as file:
+        for line in file:
+            head, _, libraries = line.partition("#")[0].partition(":")
+            if head.strip():
+                found[head.split()[0]] = libraries.split()
+    return {name: [it for it in libraries if it in found] for name, libraries in found.items()}
+
+
+def below(name, stand_on):
+    """All crates that the crate stands on, lowest first."""
+    found = {}
+    for it in stand_on[name]:
+        found.update(dict.fromkeys([*below(it, stand_on), it]))
+    return [*found]
+
+
+def processors():
+    return len(os.sched_getaffinity(0))
+
+
+def room_for_jobs():
+    """How many jobs there are processors and memory for, one at least."""
+    with open("/proc/meminfo", encoding="ascii") as file:
+        free = 1024 * int(re.search(r"MemAvailable:\s+(\d+)", file.read())[1])
+    return max(1, min(processors(), free // MEMORY_OF_A_JOB))
+
+
+class Checks:
+    """The runs of rt that go on now, each in a session of its own, so that all can be ended."""
+
+    def __init__(self):
+        self.running, self.is_over, self.lock = set(), False, threading.Lock()
+
+    def run(self, words, folder, hear):
+        """Runs rt, calls hear with each line that it says as it comes, and returns its status."""
+        how = {"stdin": subprocess.DEVNULL, "stdout": subprocess.PIPE, "stderr": subprocess.STDOUT, "start_new_session": True}
+        with self.lock:
+            if self.is_over:
+                return 1
+            rt = subprocess.Popen(["rt", *words], cwd=folder, encoding="utf-8", errors="surrogateescape", **how)
+            self.running.add(rt)
+        for line in rt.stdout:
+            hear(line.rstrip("\n"))
+        status = rt.wait()
+        with self.lock:
+            self.running.discard(rt)
+        return status
+
+    def end(self):
+        """Ends each of them with all that it started, and lets none begin."""
+        with self.lock:
+            self.is_over = True
+            for number in (signal.SIGTERM, signal.SIGKILL):
+                for rt in self.running:
+                    try:
+                        os.killpg(rt.pid, number)
+                        rt.wait(timeout=2)
+                    except (ProcessLookupError, subprocess.TimeoutExpired):
+                        pass
