@@ -1,5 +1,5 @@
 //! From the bytes of a file to the text of one run.
-ghost use Rattle.std.specs.Prelude.{◌≡◌, [], ◌∷◌, false, IfOk, MatchResult};
+ghost use Rattle.std.specs.Prelude.{◌≡◌, [], false, IfOk, MatchResult};
 ghost use Rattle.model.specs.Run.{IsRun, IsRow};
 ghost use Rattle.campaign.specs.OneRun.{IsAsked, IsRunFault, ServesRun};
 
@@ -21,24 +21,8 @@ fn run_with(alloc: Global, app: &App, plan: &Plan, limits: Limits) -> Result<Run
 pub(crate) fn base_run(alloc: Global, app: &App, limits: Limits) -> Result<Run, Memory>
     ensures { IfOk result (λ run. IsRun app.now [] limits run) }
 {
-    let Ok(plan) = Plan::new(Vec::new(alloc)) else {
-        unreachable!()
-    };
+    let plan = Plan::none(alloc);
     run_with(alloc, app, &plan, limits)
-}
-
-// The plan of one point.
-fn plan_of(alloc: Global, point: Point) -> Result<Plan, Memory>
-    ensures { IfOk result (λ plan. plan ≡ point ∷ []) }
-{
-    let mut points = Vec::new(alloc);
-    if points.push(point).is_err() {
-        return Err(Memory);
-    }
-    let Ok(plan) = Plan::new(points) else {
-        unreachable!()
-    };
-    Ok(plan)
 }
 
 // Whether the point is reached, and its row. The base run comes first, and is the row where it ends before the point's step.
@@ -49,7 +33,7 @@ fn row_of(alloc: Global, app: &App, point: Point) -> Result<(bool, Run), Memory>
     if point.step >= base.steps {
         return Ok((false, base));
     }
-    let plan = plan_of(alloc, point)?;
+    let plan = Plan::of(alloc, point)?;
     let run = run_with(alloc, app, &plan, app.limits())?;
     Ok((true, run))
 }

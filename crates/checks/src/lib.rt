@@ -7,23 +7,11 @@ mod bytes;
 #[cfg(test)]
 mod campaigns;
 #[cfg(test)]
-mod fall_back_runs;
-#[cfg(test)]
-mod group_runs;
-#[cfg(test)]
 mod handler_runs;
-#[cfg(test)]
-mod hold_runs;
-#[cfg(test)]
-mod inheritance_runs;
 #[cfg(test)]
 mod loading;
 #[cfg(test)]
 mod misuse_runs;
-#[cfg(test)]
-mod mutex_runs;
-#[cfg(test)]
-mod queue_runs;
 #[cfg(test)]
 mod refused;
 #[cfg(test)]
@@ -37,16 +25,10 @@ mod rows;
 #[cfg(test)]
 mod runs;
 #[cfg(test)]
-mod semaphore_runs;
-#[cfg(test)]
 mod sinks;
 #[cfg(test)]
 mod sizes;
 #[cfg(test)]
 mod streams;
-#[cfg(test)]
-mod suspended_call_runs;
-#[cfg(test)]
-mod suspension_runs;
 #[cfg(test)]
 mod words;

@@ -5,8 +5,6 @@
 
 mod clock;
 mod due;
-#[cfg(test)]
-mod tests;
 
 pub use clock::{Clock, Mark};
 pub use due::Due;

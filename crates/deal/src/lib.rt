@@ -16,8 +16,6 @@ mod part;
 mod reach;
 mod shared;
 mod tally;
-#[cfg(test)]
-mod tests;
 mod words;
 
 pub use deal::{Closed, Deal};

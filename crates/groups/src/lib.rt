@@ -4,8 +4,6 @@
 mod bits;
 mod groups;
 mod met;
-#[cfg(test)]
-mod tests;
 
 pub use groups::Groups;
 pub use met::Met;

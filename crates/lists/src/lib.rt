@@ -7,8 +7,6 @@
 
 mod ids;
 mod table;
-#[cfg(test)]
-mod tests;
 
 pub use ids::{ListId, NodeId};
 pub use table::Table;

@@ -1,8 +1,10 @@
 //! Which handlers are injected before which steps.
-ghost use Rattle.std.specs.Prelude.{◌≡◌, ◌↔◌, true, false, Err, IfOk};
+ghost use Rattle.std.specs.Prelude.{◌≡◌, ◌↔◌, [], ◌∷◌, true, false, Err, IfOk};
 ghost use Rattle.model.specs.Plans.{IsPlan, falls, is_crowded};
 
 use crate::ids::HandlerId;
+use crate::run::Memory;
+use std::alloc::Global;
 use std::marker::Model;
 
 /// An injection point: the handler runs before the step of this number, from 0.
@@ -91,6 +93,26 @@ impl Plan {
         }
         if is_crowded(points.as_slice()) {
             return Err(BadPlan::Crowded);
+        }
+        Ok(Plan { points })
+    }
+
+    /// The plan that injects nothing. It takes no memory.
+    pub fn none(alloc: Global) -> Self
+        ensures { result ≡ [] }
+    {
+        Plan {
+            points: Vec::new(alloc),
+        }
+    }
+
+    /// The plan of one point. At `Err(Memory)` a growth was refused.
+    pub fn of(alloc: Global, point: Point) -> Result<Self, Memory>
+        ensures { IfOk result (λ plan. plan ≡ point ∷ []) }
+    {
+        let mut points = Vec::new(alloc);
+        if points.push(point).is_err() {
+            return Err(Memory);
         }
         Ok(Plan { points })
     }

@@ -8,8 +8,6 @@ mod lock;
 mod mutexes;
 mod queues;
 mod semaphores;
-#[cfg(test)]
-mod tests;
 mod waiting_lists;
 
 pub use lock::Lock;

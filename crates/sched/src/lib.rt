@@ -9,7 +9,5 @@
 mod pending;
 mod ready_lists;
 mod sched;
-#[cfg(test)]
-mod tests;
 
 pub use sched::Sched;

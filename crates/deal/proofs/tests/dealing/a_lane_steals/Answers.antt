@@ -1,7 +1,0 @@
-use Rattle.deal.proofs.tests.dealing.a_lane_steals.Goals as goal
-
-pub loop-number-preserved : goal.loop-number-preserved
-loop-number-preserved g c = c.turn.ensures c.in_ok-deal.deal c.loop-number.invariant
-
-pub close-closed-requires : goal.close-closed-requires
-close-closed-requires g c = c.turn-3.ensures c.in_ok-deal.deal (c.turn-2.ensures c.in_ok-deal.deal c.loop-number.invariant)

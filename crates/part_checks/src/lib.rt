@@ -1,0 +1,13 @@
+//! Tests of lists, the clock, the scheduler, the objects and the event groups, each by itself. There is nothing here but tests.
+#![tactic(auto)]
+
+#[cfg(test)]
+mod of_clock;
+#[cfg(test)]
+mod of_groups;
+#[cfg(test)]
+mod of_lists;
+#[cfg(test)]
+mod of_objects;
+#[cfg(test)]
+mod of_sched;
