@@ -15,8 +15,9 @@ use Rattle.model.proofs.Lists.{HasKey, eqb-refl, eqb-same, list_has}
 use Rattle.model.proofs.Members.{has_task}
 use Rattle.lists.specs.Lists.{has_node, without}
 use Rattle.lists.proofs.Entries.{has_node-without_other}
+use Rattle.task_lists.specs.Priorities.{with_priorities}
+use Rattle.task_lists.proofs.Priorities.{has_node-with_priorities}
 use Rattle.sched.specs.StandsFor as sched
-use Rattle.sched.specs.StandsFor.{with_priorities}
 use Rattle.sched.specs.Schedule as schedule
 use Rattle.sched.specs.Schedule.{Schedule, lined_up}
 use Rattle.sched.proofs.Standing as on_sched
@@ -90,7 +91,7 @@ module _ (task : ℕ) (list : WaitList) (k : Kernel) (s : State) (b : StandsBefo
       let own : same_list list list ≡ true = same_list-refl list in
       let joined : insert_by_priority (task, (task_at s task).priority) (waiting_in k.queues.waiting list) ≡ with_priorities (standing s list) = rw own at (b.queues.waiters.lists list) in
       let node : has_task task (standing s list) ≡ true =
-      sym (on_sched.has_node-with_priorities task (standing s list)) ∙ ap (has_node task) (sym joined) ∙ has_node-inserted task (task_at s task).priority (waiting_in k.queues.waiting list) in
+      sym (has_node-with_priorities task (standing s list)) ∙ ap (has_node task) (sym joined) ∙ has_node-inserted task (task_at s task).priority (waiting_in k.queues.waiting list) in
       keyed_at (λ (t : Task). option_and_then (wait_key list) (wait_of t.status)) s.tasks task (standing s list) (list_has (λ (t : Task). option_and_then (wait_key list) (wait_of t.status)) s.tasks) node
 
   -- Who is woken from a list that isn't locked is another.

@@ -18,8 +18,8 @@ use Rattle.model.proofs.Lists.{eqb-refl, eqb-same, eqb-apart}
 use Rattle.model.proofs.Chosen.{choice_within, each-end}
 use Rattle.model.proofs.Frames.{keeps-all_ready}
 use Rattle.model.proofs.Settled.{same_eq, held_by_none}
+use Rattle.task_lists.specs.Priorities.{with_priorities}
 use Rattle.sched.specs.StandsFor as sched
-use Rattle.sched.specs.StandsFor.{with_priorities}
 use Rattle.sched.specs.Schedule as schedule
 use Rattle.sched.specs.Schedule.{Schedule, priority_in}
 use Rattle.clock.specs.StandsFor as clock

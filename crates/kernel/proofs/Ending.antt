@@ -22,7 +22,7 @@ use Rattle.model.specs.Invariant.{IsTable}
 use Rattle.model.proofs.Sorting.{length-in_order, by_test}
 use Rattle.model.proofs.Lists.{eqb-apart, eqb-refl, HasKey, list_has}
 use Rattle.lists.specs.Lists.{first_of, has_node}
-use Rattle.sched.specs.StandsFor.{with_priorities}
+use Rattle.task_lists.specs.Priorities.{with_priorities}
 use Rattle.sched.specs.Schedule.{lined_up}
 use Rattle.sched.proofs.LinedUp.{ready_if_listed}
 use Rattle.clock.specs.StandsFor as clock

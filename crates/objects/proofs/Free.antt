@@ -14,8 +14,8 @@ use Rattle.model.specs.Waiting.{same_list, wait_key}
 use Rattle.model.proofs.Sorting.{by_test}
 use Rattle.model.proofs.Lists.{HasKey, eqb-refl, eqb-same, list_has, list_without}
 use Rattle.model.proofs.Members.{has_task-key}
-use Rattle.sched.specs.StandsFor.{with_priorities}
-use Rattle.sched.proofs.Standing.{has_node-with_priorities}
+use Rattle.task_lists.specs.Priorities.{with_priorities}
+use Rattle.task_lists.proofs.Priorities.{has_node-with_priorities}
 use Rattle.objects.specs.WaitingLists.{insert_by_priority, number_of, waiting_in}
 use Rattle.objects.specs.WaitersStand.{Decider, standing}
 use Rattle.objects.specs.Queues.{Exchange, StandsFor}

@@ -21,7 +21,7 @@ use Rattle.model.specs.Invariant.{IsTable}
 use Rattle.model.proofs.Sorting.{by_test}
 use Rattle.model.proofs.Settled.{when_held, when_free}
 use Rattle.model.proofs.Sound.{each-set, free_unwoken, ready_free}
-use Rattle.sched.specs.StandsFor.{with_priorities}
+use Rattle.task_lists.specs.Priorities.{with_priorities}
 use Rattle.objects.specs.declared.lock.Lock.{Lock}
 use Rattle.objects.specs.WaitersStand.{Decider, FirstAwake, is_awake, standing}
 use Rattle.objects.specs.Queues.{Counts, Exchange, SameWaits, StandsFor}

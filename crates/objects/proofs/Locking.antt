@@ -15,7 +15,7 @@ use Rattle.model.proofs.Sorting.{by_test}
 use Rattle.model.proofs.Lists.{eqb-same}
 use Rattle.objects.specs.declared.lock.Lock.{Lock}
 use Rattle.objects.specs.Items.{object_in}
-use Rattle.sched.specs.StandsFor.{with_priorities}
+use Rattle.task_lists.specs.Priorities.{with_priorities}
 use Rattle.objects.specs.WaitingLists.{first_priority, waiting_in}
 use Rattle.objects.specs.WaitersStand.{AtLocked, Decider, FirstAwake, StandLocked, WaitersStand, one_more, opened, standing}
 use Rattle.objects.specs.Queues.{Counts, Exchange, StandsFor, counted, counted_by, locked_by}

@@ -7,7 +7,7 @@ use Rattle.model.specs.State.{State, Status, Ready, Awake, Waiting, Asleep, Wait
 use Rattle.model.specs.Order.{Key, Entry, entry, in_order, keyed, list_by, tasks_of}
 use Rattle.model.specs.Waiting.{awakened, wait_key, waiters}
 use Rattle.model.proofs.Sorting.{Falls-in_order, by_test, filter-put}
-use Rattle.sched.specs.StandsFor.{with_priorities}
+use Rattle.task_lists.specs.Priorities.{with_priorities}
 use Rattle.objects.specs.WaitingLists.{tasks_in}
 use Rattle.objects.specs.WaitersStand.{FirstAwake, is_awake, standing}
 use Rattle.objects.proofs.Keys.{standing_key, waiting_key}

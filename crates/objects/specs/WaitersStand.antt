@@ -6,7 +6,7 @@ use Rattle.model.specs.State.{State, Task, wait_of, wait_if_awake, status_at}
 use Rattle.model.specs.Order.{Entry, list_by, tasks_of}
 use Rattle.model.specs.Waiting.{awakened, is_locked, same_list, wait_key}
 use Rattle.model.specs.Invariant.{IsTable}
-use Rattle.sched.specs.StandsFor.{with_priorities}
+use Rattle.task_lists.specs.Priorities.{with_priorities}
 use Rattle.objects.specs.WaitingLists.{insert_by_priority, waiting_in}
 
 -- those who wait in a list, or waited there until the locked object woke them

@@ -25,9 +25,11 @@ use Rattle.model.proofs.Settled.{same_eq}
 use Rattle.model.proofs.Sound.{each-set}
 use Rattle.lists.specs.Lists.{Each, first_of, has_node, without}
 use Rattle.lists.proofs.Entries.{apart_from_test, has_node-without_other, without-apart}
+use Rattle.task_lists.specs.Priorities.{with_priorities}
+use Rattle.task_lists.proofs.Priorities.{has_node-with_priorities}
 use Rattle.sched.specs.Schedule as mine
 use Rattle.sched.specs.Schedule.{IsCalm, Schedule, add_to_ready_list, is_suspended, lined_up, priority_in}
-use Rattle.sched.specs.StandsFor.{DoesFree, StandsFor, StandsBefore, depth_of, with_priorities}
+use Rattle.sched.specs.StandsFor.{DoesFree, StandsFor, StandsBefore, depth_of}
 use Rattle.sched.proofs.ReadyList.{none_of}
 use Rattle.sched.proofs.LinedUp.{IsFalling, has_node-added, line_up-append, line_up-falling, line_up-under, lined_up-block, lined_up_calm, without-added}
 
@@ -199,10 +201,6 @@ pub placing_pended : (v : Schedule) (s : State) (decider i : ℕ) → IsFalling 
 placing_pended v s decider i falling h ne l awake free = placing_added v (mine.pend_ready i v) s decider i (adds_pended v i (h.suspended i ∙ awake)) h.still falling h ne l free
 
 -- whether a task is Ready
-
-pub has_node-with_priorities : (i : ℕ) (es : List Entry) → has_node i (with_priorities es) ≡ has_task i es
-has_node-with_priorities i [] = refl
-has_node-with_priorities i (e ∷ es) = ap (λ (b : Bool). e.task == i || b) (has_node-with_priorities i es)
 
 ready_key_of : {p q : ℕ} {u w : Status} → p ≡ q → u ≡ w → option_map (key p) (ticket_if_ready u) ≡ option_map (key q) (ticket_if_ready w)
 ready_key_of ep eu = ap₂ (λ (n : ℕ) (v : Status). option_map (key n) (ticket_if_ready v)) ep eu

@@ -13,11 +13,13 @@ use Rattle.model.proofs.Lists.{eqb-same, list-gone}
 use Rattle.model.proofs.Tables.{table-set, ticket_at}
 use Rattle.lists.specs.Lists.{has_node, without}
 use Rattle.lists.proofs.Entries.{has_node-without_other}
+use Rattle.task_lists.specs.Priorities.{with_priorities}
+use Rattle.task_lists.proofs.Priorities.{has_node-with_priorities}
 use Rattle.sched.specs.Schedule as mine
 use Rattle.sched.specs.Schedule.{IsCalm, Schedule, is_suspended, lined_up, priority_in, unsuspend}
-use Rattle.sched.specs.StandsFor.{StandsFor, StandsBefore, with_priorities}
+use Rattle.sched.specs.StandsFor.{StandsFor, StandsBefore}
 use Rattle.sched.proofs.LinedUp.{IsFalling, has_node-added, lined_up-block}
-use Rattle.sched.proofs.Standing.{Adds, adds_made_ready, adds_pended, falling_ready, has_node-with_priorities, numbers_kept, placing_added, ready_in_list, ready_same, stands_added, stands_before_kept, stands_kept, suspended_changed, with_priorities-filter}
+use Rattle.sched.proofs.Standing.{Adds, adds_made_ready, adds_pended, falling_ready, numbers_kept, placing_added, ready_in_list, ready_same, stands_added, stands_before_kept, stands_kept, suspended_changed, with_priorities-filter}
 
 -- ---- suspend
 

@@ -1,16 +1,12 @@
 -- What a schedule stands for: a state of the definitions, whose tickets it does not have.
-use Rattle.std.specs.Prelude.{◌≡◌, ℕ, ◌+◌, true, false, List, map, if◌then◌else◌}
+use Rattle.std.specs.Prelude.{◌≡◌, ℕ, ◌+◌, true, false, if◌then◌else◌}
 use Rattle.model.specs.State.{State, status_at, task_at}
-use Rattle.model.specs.Order.{Entry}
 use Rattle.model.specs.Switching.{is_held, ready_list}
 use Rattle.model.specs.Suspension.{can_resume}
 use Rattle.model.specs.Invariant.{IsTable}
 use Rattle.lists.specs.Lists.{has_node, without}
+use Rattle.task_lists.specs.Priorities.{with_priorities}
 use Rattle.sched.specs.Schedule.{Schedule, is_suspended, lined_up, priority_in}
-
--- the tasks of a list with their priorities
-abbrev pub with_priorities : List Entry → List (ℕ × ℕ)
-with_priorities es = map (λ (e : Entry). (e.task, e.key.priority)) es
 
 -- how often the scheduler is held in a state: by `suspend_all`, and by a call
 abbrev pub depth_of : State → ℕ

@@ -1,6 +1,6 @@
 use Rattle.std.proofs.Common.{◌≡◌, ℕ, List, zero, suc, [], replicate, refl, sym, ◌∙◌, ap, subst}
 use Rattle.lists.specs.Lists.{IsSound, entries_of}
-use Rattle.sched.specs.StandsFor.{with_priorities}
+use Rattle.task_lists.specs.Priorities.{with_priorities}
 use Rattle.objects.specs.WaitingLists.{AreWaitingLists, mirrored, number_of, waiting_in}
 use Rattle.objects.proofs.Mirror.{are_waiting_empty, mirrored-empty, sound-mirrored}
 use Rattle.objects.proofs.waiting_lists.WaitingLists.new.Goals as goal
