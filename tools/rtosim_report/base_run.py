@@ -1,0 +1,231 @@
+"""The base run beside which rows are seen: given by its own report, told by a row that isn't reached, or presumed.
+
+A campaign's report need not tell the base run. Then each row tells it up to its step, and what the rows agree on but for
+their handlers' lines is taken for the rest. Where they agree on nothing, it is known up to the last of these steps."""
+import bisect
+import enum
+import hashlib
+from dataclasses import dataclass, field
+from typing import Dict, List, Optional, Tuple
+
+from .faults import BadReport, Fault, WordsFault
+from .grammar import EVENT_LINES
+from .reading import run_of_part
+from .report import Head, Line, own_words
+
+# So many rows are looked at to presume the base run.
+ENOUGH = 20_000
+
+
+class Origin(enum.Enum):
+    """From where the base run is known."""
+
+    GIVEN = "given"
+    TOLD = "told by the report"
+    PRESUMED = "presumed: what most rows tell but for their handlers' lines; --base or --application gives it"
+    PART = "--base or --application gives the rest"
+
+
+@dataclass
+class BaseRun:
+    """The lines of the base run, with the places of their steps. It has no head where it is known in part alone."""
+
+    head: Optional[Head]
+    lines: List[Line]
+    origin: Origin
+    known_until: int
+    text: bytes = b""
+    steps: List[int] = field(default_factory=list)
+    offsets: List[int] = field(default_factory=list)
+    places: Dict[int, Tuple[int, int]] = field(default_factory=dict)
+
+    def __post_init__(self):
+        self.steps = [int(it[0]) for it in self.lines]
+        texts = [b" ".join(it) + b"\n" for it in self.lines]
+        self.text = b"".join(texts)
+        self.offsets = [0]
+        for it in texts:
+            self.offsets.append(self.offsets[-1] + len(it))
+
+    def position(self, step):
+        """How many lines stand before this step."""
+        return bisect.bisect_left(self.steps, step)
+
+    def place(self, step):
+        """How many lines, and how many bytes, stand before this step."""
+        found = self.places.get(step)
+        if found is None:
+            position = self.position(step)
+            found = self.places[step] = position, self.offsets[position]
+        return found
+
+
+def base_of(run, origin):
+    return BaseRun(run.head, run.checked_lines(), origin, run.head.steps)
+
+
+def given_base(reader, origin=Origin.GIVEN):
+    """The base run of a report of its own."""
+    for run in reader:
+        if run.head.is_base():
+            return base_of(run, origin)
+    raise WordsFault("the report that --base names does not tell the base run")
+
+
+@dataclass
+class Scan:
+    """What a look at the heads finds: a row that is the base run, the row of the latest point, and all steps of points."""
+
+    base: bytes = b""
+    latest: bytes = b""
+    last_step: int = -1
+    seen: bytearray = field(default_factory=bytearray)
+
+    def add(self, part):
+        """Looks at the text of a row. It isn't checked here."""
+        words = part.split(b" ", 4)
+        if len(words) < 5 or not words[2].isdigit() or len(words[2]) > 7:
+            return
+        if words[4].startswith(b"not reached, "):
+            self.base = self.base or part
+            return
+        step = int(words[2])
+        if step >= self.last_step:
+            self.latest = part
+            self.seen.extend(bytes(step - self.last_step))
+            self.last_step = step
+        self.seen[step] = 1
+
+
+def find_base(source):
+    """The base run as far as the report tells it, or None of a report without rows. A report with a fault, which may be found
+    in the rows that are looked at here, is checked from its beginning, so that its first fault is told."""
+    try:
+        return seek_base(source)
+    except Fault:
+        for run in source.reader():
+            run.checked_lines()
+        raise
+
+
+def seek_base(source):
+    first = source.beginning(6)
+    if first.startswith(b"base: "):
+        return given_base(source.reader(), Origin.TOLD)
+    scan = Scan()
+    for part in source.parts():
+        scan.add(part)
+        if scan.base:
+            return base_of(checked_run(scan.base), Origin.TOLD)
+    if not scan.latest:
+        return None
+    latest = checked_run(scan.latest)
+    lines = [it for it in latest.checked_lines() if int(it[0]) < scan.last_step]
+    known = BaseRun(None, lines, Origin.PART, scan.last_step)
+    return presumed_base(source, known, all(scan.seen)) or known
+
+
+def checked_run(part):
+    run = run_of_part(part)
+    if run is None:
+        raise BadReport(0, "a row", part)
+    return run
+
+
+def own_bytes(text, point):
+    """How many bytes at the beginning are lines of a handler that comes at the point."""
+    step, own, at = str(point.step).encode(), own_words(point.handler), 0
+    while True:
+        end = text.find(b"\n", at)
+        words = text[at:end].split(b" ", 2)
+        if end < 0 or len(words) < 3 or words[0] != step or not words[2].startswith(own):
+            return at
+        at = end + 1
+
+
+@dataclass
+class Candidate:
+    """A run that some rows tell but for their handlers' lines."""
+
+    run: object
+    own_start: int
+    own_end: int
+    rows: int = 0
+
+    def lines(self):
+        text = self.run.text
+        return self.run._replace(text=text[: self.own_start] + text[self.own_end :]).lines()
+
+
+def candidate_of(run, known):
+    """Whether the row tells what is known, but for its handler's lines; and what it tells beyond that."""
+    point, text = run.head.point, run.text
+    start = known.place(point.step)[1]
+    if text[:start] != known.text[:start]:
+        return None, b""
+    end = start + own_bytes(text[start : start + 4096], point)
+    rest = len(known.text) - start
+    if text[end : end + rest] != known.text[start:]:
+        return None, b""
+    beyond = text[end + rest :]
+    if beyond and int(beyond[: beyond.find(b" ")] or b"0") < known.known_until:
+        return None, b""
+    return Candidate(run, start, end), beyond
+
+
+def presumed_base(source, known, is_covered):
+    """The run that most rows tell but for their handlers' lines, if it begins with what is known. Where there is a point for
+    each step, the base run ends after the last of them; else one row alone is not enough."""
+    last_step = known.known_until
+    length = b" in %d steps, " % (last_step + 1)
+    candidates: Dict[bytes, Candidate] = {}
+    looked_at = 0
+    for part in source.parts():
+        if is_covered and length not in part[:120]:
+            continue
+        run = run_of_part(part)
+        if run is None or run.head.steps <= last_step:
+            continue
+        looked_at += 1
+        if looked_at > ENOUGH:
+            break
+        candidate, beyond = candidate_of(run, known)
+        if candidate is not None:
+            key = hashlib.blake2b(run.head.end_text().encode() + b"\n" + beyond, digest_size=16).digest()
+            candidates.setdefault(key, candidate).rows += 1
+    best = max(candidates.values(), key=lambda it: it.rows, default=None)
+    if best is None or best.rows < 2 and not is_covered:
+        return None
+    head = best.run.head._replace(row=None, point=None, is_reached=True)
+    return BaseRun(head, best.lines(), Origin.PRESUMED, head.steps)
+
+
+def is_base_exactly(run, base):
+    """A quick look whether the row is the base run, with all numbers, but for the handler's own lines."""
+    head, text = run.head, run.text
+    more = len(text) - len(base.text)
+    if more < 0 or not head.is_reached or head[3:] != base.head[3:]:
+        return False
+    start = base.place(head.point.step)[1]
+    if text[start + more :] != base.text[start:] or text[:start] != base.text[:start]:
+        return False
+    own = text[start : start + more]
+    return own_bytes(own, head.point) == more and len(EVENT_LINES.findall(own)) == own.count(b"\n")
+
+
+def tail_of_row(run, base):
+    """The row's lines from its injection on, and how many of the base run stand before it. The lines before it are the same
+    in both, so those of a row that isn't reached are all the base run's."""
+    step = run.head.point.step if run.head.is_reached else run.head.steps
+    if base is None or step > base.known_until:
+        lines = run.checked_lines()
+        position = bisect.bisect_left([int(it[0]) for it in lines], step)
+        return lines[position:], position
+    position, size = base.place(step)
+    tail = run.lines(size) if run.text[:size] == base.text[:size] else None
+    if tail is None or tail and int(tail[0][0]) < step:
+        run.checked_lines()
+        raise BadReport(run.line_number, f"a row that begins as the base run does, up to step {step}", run.head.text().encode())
+    if tail or not position:
+        run.check_end(tail[-1] if tail else None)
+    return tail, position

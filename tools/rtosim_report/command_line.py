@@ -1,0 +1,239 @@
+"""The words of the command line, and what each command does.
+
+A command takes in its own modules when it is done, so that each of them starts soon."""
+import argparse
+import sys
+
+from .base_run import find_base, given_base, tail_of_row
+from .classes import By, Classifier
+from .escaping import plain
+from .faults import STATUS_OUTPUT, Fault, WordsFault, counted
+from .output import ReaderLeft, output_file, standard_output
+from .source import base_source, campaign_source, file_source, standard_input
+
+DESCRIPTION = "Reads a report of `rtosim run` or `rtosim campaign`: which points matter, pictures, other tools' formats."
+
+
+class Job:
+    """What was asked for, and the report that it is asked of."""
+
+    def __init__(self, words):
+        self.words = words
+        self.application = words.application
+        self.source = self.open_source()
+        self.base = None
+
+    def open_source(self):
+        if self.application is not None:
+            if self.words.about_a_run and self.words.row is None:
+                return base_source(self.application)
+            return campaign_source(self.application, self.words.workers)
+        if self.words.report in (None, "-"):
+            return standard_input(self.words.partial)
+        return file_source(self.words.report, self.words.partial)
+
+    def runs(self):
+        """The runs of the report, all of which are there when the last one was taken."""
+        reader = self.source.reader()
+        try:
+            yield from reader
+        finally:
+            reader.progress.end()
+        if reader.is_cut_off:
+            print(f"rtosim-report: the report is cut off: {counted(reader.tally.rows, 'whole row')}", file=sys.stderr)
+
+    def quiet_runs(self):
+        """The runs, before they are read for the result."""
+        reader = self.source.reader()
+        try:
+            yield from reader
+        finally:
+            reader.progress.end()
+
+    def find_base(self):
+        if self.words.base is not None:
+            self.base = given_base(file_source(self.words.base).reader())
+        elif self.application is not None:
+            self.base = given_base(base_source(self.application).reader())
+        else:
+            self.base = find_base(self.source)
+        return self.base
+
+    def classify(self, see=None):
+        """All rows in classes. Each row and its class are shown to `see`."""
+        classifier = Classifier(self.find_base(), self.words.by)
+        rows = 0
+        for run in self.runs():
+            found = classifier.add(run)
+            rows += found is not None
+            if see and found is not None:
+                see(run, found)
+        return classifier.in_order(), rows
+
+    def wanted_run(self, row):
+        """The run of this row, or the base run; and the base run beside it. The whole report is checked."""
+        base = self.find_base()
+        wanted, rows = None, 0
+        for run in self.runs():
+            if run.head.row is None:
+                run.checked_lines()
+                continue
+            rows += 1
+            tail_of_row(run, base)
+            if run.head.row == row:
+                wanted = run
+        if row is not None and wanted is None:
+            raise WordsFault(f"there is no row {row}: the report has {counted(rows, 'row')}")
+        return wanted, base
+
+    def timeline(self):
+        from . import timeline
+
+        run, base = self.wanted_run(self.words.row)
+        if run is not None:
+            return timeline.of_row(run, base)
+        if base is None or base.head is None:
+            raise WordsFault("the report does not tell the base run: --row N, --base or --application")
+        return timeline.of_base(base)
+
+
+def do_classes(job, output):
+    from .table import write_classes
+
+    classes, rows = job.classify()
+    write_classes(output, classes, job.base, rows, job.application)
+
+
+def do_show(job, output):
+    from . import show
+
+    run, base = job.wanted_run(job.words.row)
+    show.write_row(output, run, base, job.words.context, job.words.output is None and sys.stdout.isatty())
+
+
+def do_json(job, output):
+    from . import json_lines
+
+    for run in job.runs():
+        json_lines.write_run(output, run)
+
+
+def do_junit(job, output):
+    from . import junit
+
+    suite = junit.Suite(job.application or job.words.report or "standard input", job.application)
+    if job.words.rows:
+        classes, _ = job.classify()
+        junit.write_rows(output, suite, job.quiet_runs(), junit.counts_of(classes))
+    else:
+        classes, _ = job.classify()
+        junit.write_classes(output, suite, classes)
+
+
+def do_svg(job, output):
+    from . import map_picture, timeline_picture
+
+    if not job.words.campaign:
+        timeline_picture.write(output, job.timeline())
+        return
+    picture = map_picture.Map()
+    classes, rows = job.classify(picture.see)
+    picture.write(output, classes, rows, job.base)
+
+
+def do_perfetto(job, output):
+    from . import perfetto
+
+    perfetto.write(output, job.timeline())
+
+
+def do_vcd(job, output):
+    from . import value_change_dump
+
+    value_change_dump.write(output, job.timeline())
+
+
+def add_common(parser):
+    parser.add_argument("report", nargs="?", metavar="REPORT", help="a file; else standard input is read")
+    parser.add_argument("--application", metavar="FILE", help="make the report by running the program on this file")
+    parser.add_argument("--workers", type=int, metavar="N", help="of how many workers the program makes use")
+    parser.add_argument("--base", metavar="REPORT", help="the report of the base run, as `rtosim run FILE` writes it")
+    parser.add_argument("--partial", action="store_true", help="take the whole rows of a report that is cut off")
+    parser.add_argument("--output", "-o", metavar="FILE", help="write to this file, when all of it is there")
+    parser.set_defaults(by=By.OUTCOME, row=None, about_a_run=False)
+
+
+def add_classes(commands):
+    parser = commands.add_parser("classes", help="the rows grouped by outcome: which points matter")
+    add_common(parser)
+    parser.add_argument("--exact", action="store_const", const=By.EXACT, dest="by", help="ticks count too")
+    parser.add_argument("--by", type=By, choices=list(By), metavar="outcome|exact|verdict", help="what counts")
+    parser.set_defaults(do=do_classes)
+
+
+def add_show(commands):
+    parser = commands.add_parser("show", help="a row beside the base run")
+    parser.add_argument("row", type=int, metavar="N", help="the row's number")
+    add_common(parser)
+    parser.add_argument("--context", type=int, metavar="LINES", help="fold what is alike but for so many lines")
+    parser.set_defaults(do=do_show)
+
+
+def add_formats(commands):
+    parser = commands.add_parser("json", help="a JSON object a row, a line each")
+    add_common(parser)
+    parser.set_defaults(do=do_json)
+    parser = commands.add_parser("junit", help="test cases for a build server: a class each")
+    add_common(parser)
+    parser.add_argument("--rows", action="store_true", help="a test case for each row")
+    parser.set_defaults(do=do_junit)
+    parser = commands.add_parser("svg", help="a picture of a run, or of a campaign")
+    add_common(parser)
+    which = parser.add_mutually_exclusive_group()
+    which.add_argument("--row", type=int, metavar="N", help="of this row, not of the base run")
+    which.add_argument("--campaign", action="store_true", help="of all points, by class")
+    parser.set_defaults(do=do_svg, about_a_run=True)
+    for name, do, help_text in (
+        ("perfetto", do_perfetto, "a run as a Chrome trace, for ui.perfetto.dev"),
+        ("vcd", do_vcd, "a run as a value change dump, for GTKWave and PulseView"),
+    ):
+        parser = commands.add_parser(name, help=help_text)
+        add_common(parser)
+        parser.add_argument("--row", type=int, metavar="N", help="of this row, not of the base run")
+        parser.set_defaults(do=do, about_a_run=True)
+
+
+def parsed(words):
+    parser = argparse.ArgumentParser(prog="rtosim-report", description=DESCRIPTION)
+    commands = parser.add_subparsers(dest="command", metavar="COMMAND", required=True)
+    add_classes(commands)
+    add_show(commands)
+    add_formats(commands)
+    found = parser.parse_args(words)
+    if getattr(found, "campaign", False):
+        found.about_a_run = False
+    if found.application is not None and (found.report is not None or found.base is not None):
+        parser.error("--application makes the report and the base run: neither REPORT nor --base goes with it")
+    if found.workers is not None and found.application is None:
+        parser.error("--workers goes with --application")
+    return found
+
+
+def main(words=None):
+    """Does what the words ask for, and returns the status."""
+    found = parsed(words)
+    try:
+        with output_file(found.output) if found.output else standard_output() as output:
+            found.do(Job(found), output)
+        return 0
+    except ReaderLeft:
+        return STATUS_OUTPUT
+    except Fault as fault:
+        if str(fault):
+            print(f"rtosim-report: {plain(str(fault))}", file=sys.stderr)
+        return fault.status
+    except OSError as why:
+        print(f"rtosim-report: cannot go on: {plain(str(why))}", file=sys.stderr)
+        return STATUS_OUTPUT
+    except KeyboardInterrupt:
+        return 130

@@ -1,0 +1,116 @@
+"""In words: the first event of a row that the base run has not, or has at another place."""
+from dataclasses import dataclass
+from typing import Optional
+
+from .report import IDLE, leading_own
+
+
+@dataclass(frozen=True)
+class Difference:
+    """What differs from the base run, in words; nothing where all is the same but for the handler's own lines."""
+
+    words: str
+
+
+def told(what):
+    """What an event line tells, in words."""
+    kind, name, *rest = what.decode("ascii").split(" ")
+    if kind == "run":
+        return f"{'idle' if name == IDLE else name} runs"
+    if kind == "mark":
+        return f"{name}: mark {rest[0]}"
+    words = f"{name}: {' '.join(rest[1:])}"
+    return words if kind == "call" else f"handler {words}"
+
+
+def own_lines(tail, point, base_tail):
+    """How many lines at the injection are the injected handler's own: those of a base interrupt of the same handler, which
+    the base run has in the same step, are none of them."""
+    return max(0, leading_own(tail, point) - leading_own(base_tail, point))
+
+
+def difference(run, tail, position, base, keeps_ticks=False):
+    """What is different in this row, of which the tail is told from the injection on."""
+    if base is None:
+        return Difference("not known, without the base run")
+    base_tail = base.lines[position:]
+    rest = tail[own_lines(tail, run.head.point, base_tail) :] if run.head.is_reached else tail
+    seen = slice(1 if keeps_ticks else 2, 3)
+    for index, (line, wanted) in enumerate(zip(rest, base_tail)):
+        if line[seen] != wanted[seen]:
+            return Difference(where_they_part(rest[index:], base_tail[index:], run, base))
+    return Difference(where_one_ends(rest, base_tail, run, base, keeps_ticks))
+
+
+def where_one_ends(rest, base_tail, run, base, keeps_ticks):
+    """The lines of one are the first of the other's."""
+    count = min(len(rest), len(base_tail))
+    if base.head is None and len(rest) >= len(base_tail):
+        return f"nothing before step {base.known_until}, from which on the base run is not known"
+    if len(rest) != len(base_tail):
+        return where_they_part(rest[count:], base_tail[count:], run, base)
+    if run.head.verdict != base.head.verdict:
+        return f"the run is over ({run.head.verdict.text}), where the base run is over ({base.head.verdict.text})"
+    if keeps_ticks and run.head.ticks != base.head.ticks:
+        return f"the run takes {run.head.ticks} ticks, where the base run takes {base.head.ticks}"
+    return ""
+
+
+def where_they_part(rest, base_rest, run, base):
+    """The words for the first lines of the two, which differ, and for the next one that the base run never has."""
+    line = rest[0] if rest else None
+    wanted = base_rest[0] if base_rest else None
+    if line is None:
+        words = f"the run is over ({run.head.verdict.text})"
+    else:
+        words = told(line[2])
+    return words + ", " + in_base(line, wanted, base_rest, base) + afterwards(rest, base)
+
+
+def in_base(line, wanted, base_rest, base):
+    if wanted is None:
+        return "where the base run is over" if base.head else "after which the base run is not known"
+    if line is not None and line[2] == wanted[2]:
+        return f"at tick {int(line[1])}, where the base run has it at tick {int(wanted[1])}"
+    if line is not None and same_call(line[2], wanted[2]):
+        return f"where the base run has {wanted[2].rpartition(b' ')[2].decode()}"
+    later = line is not None and any(it[2] == line[2] for it in base_rest)
+    words = told(wanted[2])
+    if wanted[2].startswith(b"run "):
+        return f"where {words}{' first' if later else ''} in the base run"
+    return f"where the base run has {words}" + (" first" if later else "")
+
+
+def same_call(what, wanted):
+    """The same op of the same name, with another answer."""
+    return what.rpartition(b" ")[0] == wanted.rpartition(b" ")[0] and not what.startswith(b"run ")
+
+
+def afterwards(rest, base):
+    """After a change of the processor: what is told next that the base run never tells."""
+    if not rest or not rest[0][2].startswith(b"run "):
+        return ""
+    known = {it[2] for it in base.lines}
+    new = next((it[2] for it in rest if not it[2].startswith(b"run ") and it[2] not in known), None)
+    return "" if new is None else f"; then {told(new)}"
+
+
+def is_as_base(run, tail, position, base, keeps_ticks=False) -> bool:
+    """The row is the base run but for the handler's own lines, and the numbers of steps and ticks."""
+    if base is None or base.head is None or run.head.verdict != base.head.verdict:
+        return False
+    if keeps_ticks and run.head.ticks != base.head.ticks:
+        return False
+    own = len(tail) - (len(base.lines) - position)
+    if own < 0 or own and (not run.head.is_reached or own > leading_own(tail[:own], run.head.point)):
+        return False
+    seen = slice(1 if keeps_ticks else 2, 3)
+    for at in range(own, len(tail)):
+        if tail[at][seen] != base.lines[position + at - own][seen]:
+            return False
+    return True
+
+
+def equals_exactly(run, tail, position, base) -> Optional[bool]:
+    """The run is the base run, with all numbers."""
+    return base.head is not None and tail == base.lines[position:] and run.head.end_text() == base.head.end_text()

@@ -1,0 +1,47 @@
+"""Rows as JSON: an object a row, a line each. The schema is in docs/REPORTS.md."""
+import functools
+import json
+
+from .report import Kind, event_of
+
+
+def write_run(output, run):
+    """The run's object. Events are put together from texts that are kept, as most of them come again and again."""
+    fields = fields_of
+    events = b"},{".join([b'"step":%b,"tick":%b,%b' % (step, tick, fields(what)) for step, tick, what in run.checked_lines()])
+    output.write_bytes(b"%b,\"events\":[%b]}\n" % (head_fields(run.head).encode(), b"{%b}" % events if events else b""))
+
+
+def head_fields(head):
+    if head.row is None:
+        point, reached = "null", "null"
+    else:
+        point = f'{{"step":{head.point.step},"handler":"{head.point.handler}"}}'
+        reached = "true" if head.is_reached else "false"
+    return (
+        f'{{"row":{"null" if head.row is None else head.row},"point":{point},"reached":{reached},'
+        f'"verdict":{verdict_fields(head.verdict)},"steps":{head.steps},"ticks":{head.ticks}'
+    )
+
+
+@functools.lru_cache(maxsize=1 << 12)
+def verdict_fields(verdict):
+    fields = {"kind": verdict.kind}
+    if verdict.task is not None:
+        fields.update(zip(("task", "op", "code"), (verdict.task, *verdict.numbers)))
+    return json.dumps(fields, separators=(",", ":"))
+
+
+@functools.lru_cache(maxsize=1 << 16)
+def fields_of(what):
+    """The fields of an event but its step and its tick."""
+    event = event_of((b"0", b"0", what))
+    fields = {"event": event.kind.value}
+    if event.kind is Kind.RUN:
+        fields["task"] = None if event.name == "-" else event.name
+    elif event.kind is Kind.MARK:
+        fields.update(name=event.name, number=event.answer)
+    else:
+        who = "task" if event.kind is Kind.CALL else "handler"
+        fields.update({who: event.name, "op": event.op, "word": event.word, "answer": event.answer})
+    return json.dumps(fields, separators=(",", ":"))[1:-1].encode()

@@ -1,0 +1,156 @@
+"""A campaign as a picture: a column for each step of injection, a row for each handler, coloured by class.
+
+Where there are more steps than columns, a column stands for several steps, and shows the class that stands first in the
+table. What is kept is the classes of each column, never a row."""
+import math
+from typing import Dict, Tuple
+
+from . import drawing
+from .classes import OutcomeClass
+from .table import base_words, what_differs
+
+PLOT, TOP, CELL_HEIGHT, ROW_GAP, WIDEST, RIGHT = 1080, 44, 26, 8, 54, 24
+MOST_COLUMNS = 1080
+LEAST_FOR_NUMBER = 13
+SHOWN_CLASSES, LONGEST_WORDS = 24, 130
+# Colours of classes that fail, of those that pass, and of the one that is as the base run. Beyond them they come again.
+FAILING = ["#b3261e", "#e8590c", "#c2255c", "#9c36b5", "#e6a700", "#7a3e12"]
+PASSING = ["#2f6fce", "#0f9d8a", "#5b8c1a", "#3b4cc0", "#22a6d6", "#6a7f10"]
+AS_BASE = "#b8c0ca"
+STYLES = [
+    (".number", "fill:#ffffff", "fill:#ffffff"),
+    (".on-base", "fill:#1d2430", "fill:#1d2430"),
+    (".gap", "fill:none;stroke:#d5dae1", "fill:none;stroke:#343c47"),
+]
+
+
+class Map:
+    """Which classes are at which steps, of each handler: columns of one step, or, of many steps, of the same power of two."""
+
+    def __init__(self):
+        self.width = 1
+        self.last = -1
+        self.cells: Dict[Tuple[str, int], Dict[int, Tuple[OutcomeClass, int]]] = {}
+        self.not_reached = 0
+
+    def see(self, run, found):
+        """Takes a row with its class."""
+        head = run.head
+        if not head.is_reached:
+            self.not_reached += 1
+            return
+        self.last = max(self.last, head.point.step)
+        while self.last // self.width >= MOST_COLUMNS:
+            self.widen()
+        cell = self.cells.setdefault((head.point.handler, head.point.step // self.width), {})
+        cell[id(found)] = (found, cell.get(id(found), (found, 0))[1] + 1)
+
+    def widen(self):
+        """Puts two columns together."""
+        self.width *= 2
+        old, self.cells = self.cells, {}
+        for (handler, column), classes in old.items():
+            cell = self.cells.setdefault((handler, column // 2), {})
+            for key, (found, rows) in classes.items():
+                cell[key] = (found, cell.get(key, (found, 0))[1] + rows)
+
+    def handlers(self):
+        return list(dict.fromkeys(handler for handler, _ in self.cells))
+
+    def write(self, output, classes, rows, base):
+        Picture(self, classes, rows, base).write(output)
+
+
+def colours_of(classes):
+    """A colour for each class, by its number."""
+    found = {}
+    failing = passing = 0
+    for it in classes:
+        if it.is_base:
+            found[it.number] = AS_BASE
+        elif it.verdict.passes:
+            found[it.number] = PASSING[passing % len(PASSING)]
+            passing += 1
+        else:
+            found[it.number] = FAILING[failing % len(FAILING)]
+            failing += 1
+    return found
+
+
+class Picture:
+    """The map with its legend."""
+
+    def __init__(self, map_of_points, classes, rows, base):
+        self.map, self.classes, self.rows, self.base = map_of_points, classes, rows, base
+        self.colours = colours_of(classes)
+        self.handlers = self.map.handlers()
+        columns = max(1, math.ceil((self.map.last + 1) / self.map.width))
+        self.cell = min(WIDEST, PLOT / columns)
+        self.left = 22 + drawing.width_of("x" * max([6] + [len(it) for it in self.handlers]))
+        self.axis_top = TOP + len(self.handlers) * (CELL_HEIGHT + ROW_GAP)
+        self.legend_top = self.axis_top + 44
+        self.shown = min(len(classes), SHOWN_CLASSES)
+
+    def write(self, output):
+        width = self.left + PLOT + RIGHT
+        more = len(self.classes) > self.shown or self.map.not_reached
+        height = self.legend_top + 20 * self.shown + (26 if more else 10)
+        title = f"{self.rows:,} rows in {len(self.classes):,} classes; {base_words(self.base).split(' (')[0]}"
+        drawing.start(output, width, height, STYLES, title)
+        output.line(drawing.label(12, 24, title, "title"))
+        for at, handler in enumerate(self.handlers):
+            top = TOP + at * (CELL_HEIGHT + ROW_GAP)
+            output.line(drawing.label(12, top + 17, handler))
+            output.line(drawing.box(self.left, top, self.across(self.map.last + 1) - self.left, CELL_HEIGHT, "gap"))
+        for (handler, column), cell in sorted(self.map.cells.items()):
+            self.write_cell(output, self.handlers.index(handler), handler, column, cell)
+        self.write_axis(output)
+        self.write_legend(output)
+        drawing.end(output)
+
+    def across(self, step):
+        return self.left + step / self.map.width * self.cell
+
+    def write_cell(self, output, row, handler, column, cell):
+        found = sorted(cell.values(), key=lambda it: it[0].number)
+        first = found[0][0]
+        steps = f"step {column}" if self.map.width == 1 else \
+            f"steps {column * self.map.width} to {min((column + 1) * self.map.width - 1, self.map.last)}"
+        told = "; ".join(f"class {it.number} ({it.verdict.text}): {rows} rows" for it, rows in found[:6])
+        title = f"{handler} before {steps}: {told if len(found) > 1 or self.map.width > 1 else words_of(first)}"
+        left, top = self.left + column * self.cell, TOP + row * (CELL_HEIGHT + ROW_GAP)
+        gap = 1 if self.cell >= 5 else 0
+        shape = drawing.box(left, top, max(0.75, self.cell - gap), CELL_HEIGHT, "cell", title)
+        output.line(shape.replace('class="cell"', f'fill="{self.colours[first.number]}"', 1))
+        if self.cell >= max(LEAST_FOR_NUMBER, drawing.width_of(str(first.number)) + 4):
+            colour = "on-base" if first.is_base else "number"
+            output.line(drawing.label(left + self.cell / 2, top + 17, str(first.number), colour, "middle"))
+
+    def write_axis(self, output):
+        last = self.map.last + 1
+        widest = (len(f"{last:,}") + 2) * drawing.CHARACTER
+        interval = drawing.nice_interval(widest / self.cell * self.map.width)
+        output.line(drawing.label(12, self.axis_top + 16, "step", "quiet"))
+        middle = self.cell / 2 if self.map.width == 1 else 0
+        for step in range(0, last, interval):
+            output.line(drawing.label(self.across(step) + middle, self.axis_top + 16, f"{step:,}", "quiet", "middle"))
+
+    def write_legend(self, output):
+        top = self.legend_top
+        for it in self.classes[: self.shown]:
+            shape = drawing.box(12, top - 11, 26, 15, "cell")
+            output.line(shape.replace('class="cell"', f'fill="{self.colours[it.number]}"', 1))
+            output.line(drawing.label(25, top + 1, str(it.number), "on-base" if it.is_base else "number", "middle"))
+            words = f"{it.verdict.text}, {it.rows:,} row{'' if it.rows == 1 else 's'}: {what_differs(it)}"
+            shown = words if len(words) <= LONGEST_WORDS else words[: LONGEST_WORDS - 2] + ".."
+            output.line(drawing.label(46, top + 1, shown, "" if it.verdict.passes else "fails"))
+            top += 20
+        left_out = len(self.classes) - self.shown
+        notes = [f"and {left_out:,} more classes"] * bool(left_out)
+        notes += [f"{self.map.not_reached:,} points not reached"] * bool(self.map.not_reached)
+        if notes:
+            output.line(drawing.label(46, top + 1, "; ".join(notes), "quiet"))
+
+
+def words_of(it):
+    return f"class {it.number} ({it.verdict.text}): {what_differs(it)}"

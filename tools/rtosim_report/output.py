@@ -1,0 +1,96 @@
+"""What is written: all of it or nothing, and progress on a terminal meanwhile."""
+import contextlib
+import os
+import shutil
+import sys
+import tempfile
+import time
+
+from .escaping import plain
+from .faults import OutputFault
+
+IN_MEMORY = 1 << 24
+
+
+class ReaderLeft(Exception):
+    """Nobody reads standard output any more."""
+
+
+@contextlib.contextmanager
+def standard_output():
+    """A file of texts that goes to standard output when all of it is there."""
+    with tempfile.SpooledTemporaryFile(IN_MEMORY) as kept:
+        yield Text(kept)
+        kept.seek(0)
+        try:
+            shutil.copyfileobj(kept, sys.stdout.buffer, 1 << 18)
+            sys.stdout.buffer.flush()
+        except BrokenPipeError:
+            raise ReaderLeft() from None
+        except (OSError, AttributeError) as why:
+            raise OutputFault(f"cannot write: {getattr(why, 'strerror', None) or 'standard output is closed'}") from None
+
+
+@contextlib.contextmanager
+def output_file(name):
+    """A file of texts that takes this name when all of it is there: it is written beside and renamed."""
+    folder = os.path.dirname(os.path.abspath(name))
+    beside = None
+    try:
+        handle, beside = tempfile.mkstemp(prefix=".rtosim-report-", dir=folder)
+        with os.fdopen(handle, "wb") as file:
+            yield Text(file)
+        os.chmod(beside, 0o666 & ~current_mask())
+        os.replace(beside, name)
+        beside = None
+    except OSError as why:
+        raise OutputFault(f"cannot write {plain(name)}: {why.strerror}") from None
+    finally:
+        if beside is not None:
+            with contextlib.suppress(OSError):
+                os.unlink(beside)
+
+
+def current_mask():
+    mask = os.umask(0)
+    os.umask(mask)
+    return mask
+
+
+class Text:
+    """Texts are gathered and written as UTF-8; bytes of a file's name that are no UTF-8 are spelled out."""
+
+    def __init__(self, file):
+        self.file = file
+
+    def write(self, text):
+        self.file.write(text.encode("utf-8", "backslashreplace"))
+
+    def write_bytes(self, text):
+        self.file.write(text)
+
+    def line(self, text=""):
+        self.write(text + "\n")
+
+
+class Progress:
+    """Shows on standard error how far a report is read, where that is a terminal and it takes longer than a second."""
+
+    def __init__(self, size):
+        self.size, self.start, self.shown = size, time.monotonic(), 0.0
+        self.is_wanted = sys.stderr is not None and sys.stderr.isatty()
+
+    def show(self, bytes_read, rows):
+        now = time.monotonic()
+        if not self.is_wanted or now - self.start < 1 or now - self.shown < 0.1:
+            return
+        self.shown = now
+        share = 100 * bytes_read // max(1, self.size)
+        sys.stderr.write(f"\r\x1b[Krtosim-report: {share}%, {rows:,} rows")
+        sys.stderr.flush()
+
+    def end(self):
+        if self.shown:
+            sys.stderr.write("\r\x1b[K")
+            sys.stderr.flush()
+            self.shown = 0.0

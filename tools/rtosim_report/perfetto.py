@@ -1,0 +1,73 @@
+"""A run as a Chrome trace, which ui.perfetto.dev and chrome://tracing open: a track for each lane.
+
+A tick is a millisecond there; the steps of one tick follow each other within it."""
+import json
+
+from .report import Kind
+from .subticks import SubTicks
+from .timeline import LaneKind, WindowKind
+
+TICK = 1000
+PROCESS = 1
+
+
+def write(output, timeline):
+    times = SubTicks(timeline)
+    tracks = {lane: at for at, lane in enumerate(timeline.lanes, 1)}
+    output.line('{"displayTimeUnit":"ms","otherData":' + json.dumps(other_data(timeline, times)) + ',"traceEvents":[')
+    lines = [json.dumps(it, separators=(",", ":")) for it in events_of(timeline, times, tracks)]
+    output.line(",\n".join(lines))
+    output.line("]}")
+
+
+def other_data(timeline, times):
+    return {
+        "run": timeline.title(),
+        "tick": "1 ms",
+        "steps_per_tick_at_most": str(times.in_a_tick),
+        "tick_at_reset": str(timeline.clock.start),
+    }
+
+
+def events_of(timeline, times, tracks):
+    stamp = lambda boundary: round(times.at(boundary) * TICK / times.in_a_tick, 3)
+    yield {"ph": "M", "name": "process_name", "pid": PROCESS, "tid": 0, "ts": 0, "args": {"name": timeline.title()}}
+    for lane, track in tracks.items():
+        base = {"ph": "M", "pid": PROCESS, "tid": track, "ts": 0}
+        name = f"interrupt {lane.name}" if lane.kind is LaneKind.HANDLER else lane.name
+        yield {**base, "name": "thread_name", "args": {"name": name}}
+        yield {**base, "name": "thread_sort_index", "args": {"sort_index": track}}
+    slices = [(it.start, it.end, it.lane, bar_name(it), it.doing.value) for it in timeline.bars]
+    slices += [(it.start, it.end, it.lane, window_name(it), "window") for it in timeline.windows]
+    for start, end, lane, name, category in sorted(slices, key=lambda it: (it[0], -it[1], it[4])):
+        steps = {"first_step": start, "last_step": end - 1}
+        yield {
+            "ph": "X", "name": name, "cat": category.replace(" ", "_"), "pid": PROCESS, "tid": tracks[lane],
+            "ts": stamp(start), "dur": round(stamp(end) - stamp(start), 3), "args": steps,
+        }
+    for note in timeline.notes:
+        yield instant(note, stamp(note.boundary), tracks[note.lane])
+    if timeline.point is not None:
+        yield {
+            "ph": "i", "name": f"{timeline.point.handler} injected", "cat": "injection", "s": "g", "pid": PROCESS,
+            "tid": 0, "ts": stamp(timeline.point.step), "args": {"step": timeline.point.step},
+        }
+
+
+def bar_name(bar):
+    return f"{bar.doing.value}: {bar.word}" if bar.word else bar.doing.value
+
+
+def window_name(window):
+    return "queue locked" if window.kind is WindowKind.LOCKED else "scheduler held"
+
+
+def instant(note, stamp, track):
+    event = note.event
+    args = {"step": event.step, "tick": event.tick}
+    if event.kind is not Kind.MARK:
+        args.update(op=event.op, answer=event.answer)
+    return {
+        "ph": "i", "name": event.short(), "cat": event.kind.value, "s": "t", "pid": PROCESS, "tid": track,
+        "ts": stamp, "args": args,
+    }

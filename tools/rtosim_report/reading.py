@@ -1,0 +1,272 @@
+"""Reads a report run by run, so that one run at a time is in memory, and says at which line a text is no report."""
+import functools
+import re
+from typing import List, NamedTuple, Optional
+
+from . import grammar
+from .faults import BadReport, CutOff
+from .report import Head, Line, Point, Verdict
+
+BLOCK = 1 << 20
+NEXT_ROW, TOTAL_LINE = b"\nrow ", b"\ntotal "
+# What a line may look like of which only the beginning is there.
+CUT_LINE = re.compile(rb"[0-9brt][\x20-\x7e]{0,160}")
+AFTER_A_HEAD = f"an event ({grammar.AN_EVENT}), the next row's head line or the total line"
+
+
+class Run(NamedTuple):
+    """One run of a report: its head, the bytes of its event lines, and the number of its head line in the text."""
+
+    head: Head
+    text: bytes
+    line_number: int
+
+    def lines(self, start=0) -> List[Line]:
+        """The event lines from this byte on, checked."""
+        text = self.text[start:] if start else self.text
+        found = grammar.EVENT_LINES.findall(text)
+        if len(found) != text.count(b"\n"):
+            self.find_bad_line()
+        self.check_order(found)
+        return found
+
+    def find_bad_line(self):
+        for index, line in enumerate(self.text.split(b"\n")[:-1]):
+            if not grammar.EVENT_LINE.fullmatch(line):
+                raise BadReport(self.line_number + 1 + index, AFTER_A_HEAD, line)
+        raise AssertionError("a bad line is there")
+
+    def check_order(self, lines):
+        """Steps rise, and are those of the run."""
+        steps = [int(step) for step, _, _ in lines]
+        if not steps or steps[-1] < self.head.steps and steps == sorted(steps):
+            return
+        last, first = 0, self.text.count(b"\n") - len(lines)
+        for index, step in enumerate(steps):
+            if not last <= step < self.head.steps:
+                at = self.line_number + 1 + first + index
+                raise BadReport(at, f"a step from {last} to {self.head.steps - 1}", b" ".join(lines[index]))
+            last = step
+
+    def check_end(self, last_line: Optional[Line]):
+        """A run that passes goes to idle in its last step: without that line some are missing."""
+        if not self.head.verdict.passes or self.head.steps == 0:
+            return
+        if last_line is None or last_line[2] != b"run -" or int(last_line[0]) != self.head.steps - 1:
+            at = self.line_number + self.text.count(b"\n")
+            wanted = f"`{self.head.steps - 1} T run -` as the last line of a run that passes"
+            raise BadReport(at + 1, wanted, None if last_line is None else b" ".join(last_line))
+
+    def checked_lines(self):
+        lines = self.lines()
+        self.check_end(lines[-1] if lines else None)
+        return lines
+
+
+class Tally:
+    """Counts rows as the total line does."""
+
+    def __init__(self):
+        self.rows = 0
+        self.not_reached = 0
+        self.by_kind = dict.fromkeys(grammar.VERDICT_KINDS, 0)
+
+    def add(self, head):
+        self.rows += 1
+        self.not_reached += not head.is_reached
+        self.by_kind[head.verdict.kind] += 1
+
+    def text(self):
+        kinds = ", ".join(f"{kind} {count}" for kind, count in self.by_kind.items())
+        return f"total {self.rows}: {kinds}, not reached {self.not_reached}"
+
+
+class Reader:
+    """The runs of a report in order. After the last one it knows whether the report was whole.
+
+    Heads, their numbers and the total line are checked here; the event lines of a run when they are asked for."""
+
+    def __init__(self, stream, partial=False, progress=None):
+        self.stream, self.partial, self.progress = stream, partial, progress
+        self.tally = Tally()
+        self.is_cut_off = False
+        self.line_number = 1
+        self.bytes_read = 0
+
+    def __iter__(self):
+        kept = self.read()
+        if not kept:
+            raise CutOff(1, grammar.A_FIRST_LINE, None)
+        if kept.startswith(b"base: "):
+            yield self.lone_run(kept)
+            return
+        if not kept.startswith((b"row ", b"total ")):
+            raise BadReport(1, grammar.A_FIRST_LINE, first_line(kept))
+        kept = b"\n" + kept
+        while True:
+            rows, kept = whole_rows(kept)
+            for row in rows:
+                yield self.row_of(row + b"\n")
+            more = self.read()
+            if not more:
+                break
+            self.refuse_long_line(kept, more)
+            kept += more
+        yield from self.last_part(kept[1:])
+
+    def read(self):
+        block = self.stream.read(BLOCK)
+        self.bytes_read += len(block)
+        if self.progress:
+            self.progress.show(self.bytes_read, self.tally.rows)
+        return block
+
+    def refuse_long_line(self, kept, more):
+        """A line longer than a block isn't gathered."""
+        if len(more) == BLOCK and b"\n" not in more:
+            at = self.line_number + kept.count(b"\n")
+            raise BadReport(at, AFTER_A_HEAD, kept[kept.rfind(b"\n") + 1 :] + more[:80])
+
+    def row_of(self, text):
+        """The row whose head, without its first word, and lines this is."""
+        match = grammar.ROW_HEAD.match(text)
+        head = None if match is None else row_head(match)
+        tally = self.tally
+        if head is None or head.row != tally.rows:
+            raise BadReport(self.line_number, grammar.a_row(tally.rows), b"row " + first_line(text))
+        body = text[match.end() :]
+        run = Run(head, body, self.line_number)
+        tally.add(head)
+        self.line_number += 1 + body.count(b"\n")
+        return run
+
+    def lone_run(self, kept):
+        """The one run that follows a head of the base run."""
+        text = self.rest(kept)
+        line, _, body = text.partition(b"\n")
+        head = base_head(line)
+        if head is None and (b"\n" in text or not CUT_LINE.fullmatch(text)):
+            raise BadReport(1, grammar.A_FIRST_LINE, line)
+        if not text.endswith(b"\n"):
+            raise CutOff(1 + text.count(b"\n"), "a line feed at the line's end", None)
+        return Run(head, body, 1)
+
+    def rest(self, kept):
+        parts = [kept]
+        while True:
+            more = self.read()
+            if not more:
+                return b"".join(parts)
+            self.refuse_long_line(parts[-1], more)
+            parts.append(more)
+
+    def last_part(self, text):
+        """The last row, if there is one, and the total line."""
+        at = 0 if text.startswith(b"total ") else text.find(TOTAL_LINE) + 1
+        row, total = text[:at], text[at:]
+        if total.startswith(b"total "):
+            if row:
+                yield self.row_of(row[4:])
+            self.check_total(total)
+        elif self.tally.rows == 0 and text.endswith(b"\n"):
+            yield self.row_of(text[4:])
+        else:
+            self.cut_off(text)
+
+    def cut_off(self, row):
+        """A report without its total line. Its last row may lack lines too, so it isn't taken."""
+        *lines, cut_line = row.split(b"\n")
+        if cut_line and not CUT_LINE.fullmatch(cut_line):
+            raise BadReport(self.line_number + row.count(b"\n"), AFTER_A_HEAD, cut_line)
+        if lines:
+            match = grammar.ROW_HEAD.match(lines[0], 4)
+            head = None if match is None else row_head(match)
+            if head is None or head.row != self.tally.rows:
+                raise BadReport(self.line_number, grammar.a_row(self.tally.rows), lines[0])
+            Run(head, b"".join(it + b"\n" for it in lines[1:]), self.line_number).lines()
+        self.is_cut_off = True
+        if not self.partial:
+            at = self.line_number + row.count(b"\n")
+            raise CutOff(at, "the next line, up to the total line", self.tally.rows)
+
+    def check_total(self, total):
+        line, feed, after = total.partition(b"\n")
+        if after:
+            raise BadReport(self.line_number + 1, "nothing after the total line", first_line(after))
+        if not feed and CUT_LINE.fullmatch(line):
+            self.is_cut_off = True
+            if not self.partial:
+                raise CutOff(self.line_number, grammar.A_TOTAL, self.tally.rows)
+        elif line.decode("ascii", "replace") != self.tally.text():
+            raise BadReport(self.line_number, f"`{self.tally.text()}`, as the rows are", line)
+
+
+def whole_rows(kept):
+    """The rows whose end is there, without their first word and their last line feed; and what follows them."""
+    if not kept.startswith(NEXT_ROW):
+        return [], kept
+    _, *rows, last = kept.split(NEXT_ROW)
+    return rows, NEXT_ROW + last
+
+
+def first_line(text):
+    return text.partition(b"\n")[0]
+
+
+@functools.lru_cache(maxsize=1 << 12)
+def verdict_of(words):
+    text = words.decode()
+    return Verdict(text, text.split(" ", 1)[0])
+
+
+def base_head(line):
+    match = grammar.BASE_HEAD.fullmatch(line)
+    if match is None:
+        return None
+    verdict, steps, ticks = match.groups()
+    return Head(None, None, True, verdict_of(verdict), int(steps), int(ticks))
+
+
+@functools.lru_cache(maxsize=1 << 6)
+def name_of(handler):
+    return handler.decode()
+
+
+@functools.lru_cache(maxsize=1 << 14)
+def end_of_head(words):
+    """Whether the point is reached, the verdict, the steps and the ticks; None where the words are no end of a head."""
+    match = grammar.END_OF_ROW_HEAD.fullmatch(words)
+    if match is None:
+        return None
+    missed, verdict, steps, ticks = match.groups()
+    return missed is None, verdict_of(verdict), int(steps), int(ticks)
+
+
+def row_head(match):
+    row, step, handler, words = match.groups()
+    end = end_of_head(words)
+    if end is None:
+        return None
+    is_reached, verdict, steps, ticks = end
+    return Head(int(row), Point(int(step), name_of(handler)), is_reached, verdict, steps, ticks)
+
+
+def parts_of_rows(stream):
+    """The texts of the rows, each without its first word, unchecked: for a quick look."""
+    kept = b"\n"
+    while True:
+        more = stream.read(BLOCK)
+        rows, kept = whole_rows(kept + more)
+        yield from rows
+        if not more:
+            break
+    at = kept.find(TOTAL_LINE)
+    if kept.startswith(NEXT_ROW):
+        yield kept[len(NEXT_ROW) : at if at >= 0 else len(kept)].rstrip(b"\n")
+
+
+def run_of_part(part):
+    """The run of such a text, or None where it is none. The number of its line isn't known."""
+    match = grammar.ROW_HEAD.match(part + b"\n")
+    head = None if match is None else row_head(match)
+    return None if head is None else Run(head, part[match.end() :] + b"\n" * (match.end() <= len(part)), 0)

@@ -1,0 +1,123 @@
+"""What a report is made of: heads, runs, events."""
+import enum
+import functools
+from typing import List, NamedTuple, Optional, Tuple
+
+IDLE = "-"
+
+
+class Point(NamedTuple):
+    """An injection point: a handler before a step."""
+
+    step: int
+    handler: str
+
+
+class Verdict(NamedTuple):
+    """How a run ended: the words of its head line, and the first of them."""
+
+    text: str
+    kind: str
+
+    @property
+    def passes(self):
+        return self.kind == "pass"
+
+    @property
+    def task(self) -> Optional[str]:
+        """The task that a `check` or a `misuse` names."""
+        words = self.text.split(" ")
+        return words[1] if len(words) > 1 else None
+
+    @property
+    def numbers(self) -> List[int]:
+        """The index of the op, and of a misuse its code."""
+        return [int(it) for it in self.text.split(" ")[2:]]
+
+
+class Head(NamedTuple):
+    """The head line of a run: of the base run there is neither a row nor a point."""
+
+    row: Optional[int]
+    point: Optional[Point]
+    is_reached: bool
+    verdict: Verdict
+    steps: int
+    ticks: int
+
+    def is_base(self):
+        """The lines below it are those of the base run."""
+        return self.row is None or not self.is_reached
+
+    def end_text(self):
+        return f"{self.verdict.text} in {self.steps} steps, {self.ticks} ticks"
+
+    def text(self):
+        if self.row is None:
+            return f"base: {self.end_text()}"
+        reached = "" if self.is_reached else "not reached, "
+        return f"row {self.row} at {self.point.step} {self.point.handler}: {reached}{self.end_text()}"
+
+
+class Kind(enum.Enum):
+    """What an event line tells of."""
+
+    CALL = "call"
+    ISR = "isr"
+    MARK = "mark"
+    RUN = "run"
+
+
+class Event(NamedTuple):
+    """An event line, cut into its words. A mark has its number as the answer; idle is the name `-`."""
+
+    step: int
+    tick: int
+    kind: Kind
+    name: str
+    op: Optional[int] = None
+    word: Optional[str] = None
+    answer: Optional[int] = None
+
+    def short(self):
+        """Without the name."""
+        if self.kind is Kind.MARK:
+            return f"mark {self.answer}"
+        if self.kind is Kind.RUN:
+            return "runs"
+        return f"{self.word} = {'none' if self.answer is None else self.answer}"
+
+
+# The step, the tick, and what is told, as the bytes of the line.
+Line = Tuple[bytes, bytes, bytes]
+KINDS = {it.value: it for it in Kind}
+
+
+def event_of(line: Line) -> Event:
+    step, tick, what = line
+    words = what.decode("ascii").split(" ")
+    kind = KINDS[words[0]]
+    if kind is Kind.RUN:
+        return Event(int(step), int(tick), kind, words[1])
+    if kind is Kind.MARK:
+        return Event(int(step), int(tick), kind, words[1], answer=int(words[2]))
+    answer = None if words[5] == "none" else int(words[5])
+    return Event(int(step), int(tick), kind, words[1], int(words[2]), words[3], answer)
+
+
+@functools.lru_cache(maxsize=64)
+def own_words(handler):
+    """How the lines of a handler's ops begin."""
+    name = handler.encode()
+    return b"isr " + name + b" ", b"mark " + name + b" "
+
+
+def leading_own(lines, point):
+    """How many of the first lines are a handler's that comes at the point."""
+    step, own = str(point.step).encode(), own_words(point.handler)
+    count = 0
+    for line in lines:
+        if line[0] != step or not line[2].startswith(own):
+            break
+        count += 1
+    return count

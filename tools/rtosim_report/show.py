@@ -1,0 +1,127 @@
+"""A row beside the base run, line by line, with what differs marked."""
+import difflib
+import enum
+from dataclasses import dataclass
+from typing import Optional
+
+from .differences import own_lines
+from .report import Line
+
+LONGEST_COMPARED = 3000
+EMPTY = "(not known)"
+
+
+class Mark(enum.Enum):
+    """How a line of the row stands to that of the base run."""
+
+    SAME = " "
+    NUMBERS = "~"
+    OTHER = "|"
+    ONLY_BASE = "<"
+    ONLY_ROW = ">"
+    OWN = "+"
+
+
+COLOURS = {Mark.OTHER: "33", Mark.ONLY_BASE: "31", Mark.ONLY_ROW: "32", Mark.OWN: "36", Mark.NUMBERS: "2"}
+LEGEND = "~ other numbers   | other answer   < base run alone   > row alone   + injected"
+
+
+@dataclass(frozen=True)
+class Pair:
+    """A line of the base run and one of the row, or one of the two."""
+
+    base: Optional[Line]
+    row: Optional[Line]
+    mark: Mark
+
+
+def paired(base, row):
+    """The two lines beside each other."""
+    if base == row:
+        return Pair(base, row, Mark.SAME)
+    return Pair(base, row, Mark.NUMBERS if base[2] == row[2] else Mark.OTHER)
+
+
+def is_same_call(base, row):
+    return base[2].rpartition(b" ")[0] == row[2].rpartition(b" ")[0] != b"run"
+
+
+def pairs_of_replaced(base, row):
+    """Of lines that stand for one another, those of one call beside each other."""
+    for wanted, line in zip(base, row):
+        if is_same_call(wanted, line):
+            yield Pair(wanted, line, Mark.OTHER)
+        else:
+            yield Pair(wanted, None, Mark.ONLY_BASE)
+            yield Pair(None, line, Mark.ONLY_ROW)
+    for wanted in base[len(row) :]:
+        yield Pair(wanted, None, Mark.ONLY_BASE)
+    for line in row[len(base) :]:
+        yield Pair(None, line, Mark.ONLY_ROW)
+
+
+def pairs_of(base, row):
+    """The lines of the two, aligned. What is too long to be aligned is taken line by line."""
+    if max(len(base), len(row)) > LONGEST_COMPARED:
+        count = min(len(base), len(row))
+        yield from map(paired, base[:count], row[:count])
+        yield from pairs_of_replaced(base[count:], row[count:])
+        return
+    matcher = difflib.SequenceMatcher(None, [it[2] for it in base], [it[2] for it in row], autojunk=False)
+    for tag, base_start, base_end, row_start, row_end in matcher.get_opcodes():
+        if tag == "equal":
+            yield from map(paired, base[base_start:base_end], row[row_start:row_end])
+        else:
+            yield from pairs_of_replaced(base[base_start:base_end], row[row_start:row_end])
+
+
+def all_pairs(run, base):
+    """The whole of the row beside the base run: alike up to the injection, then the handler's own lines, then the rest."""
+    lines = run.checked_lines()
+    step = run.head.point.step if run.head.is_reached else run.head.steps
+    position = sum(int(it[0]) < step for it in lines)
+    base_tail = base.lines[position:] if base else []
+    own = own_lines(lines[position:], run.head.point, base_tail) if run.head.is_reached else 0
+    pairs = [paired(it, it) for it in lines[:position]]
+    pairs += [Pair(None, it, Mark.OWN) for it in lines[position : position + own]]
+    return pairs + list(pairs_of(base_tail, lines[position + own :]))
+
+
+def text_of(line):
+    return b" ".join(line).decode("ascii") if line else ""
+
+
+def write_row(output, run, base, context=None, has_colour=False):
+    """The two heads, the pairs, and what the marks mean."""
+    pairs = all_pairs(run, base)
+    base_head = base.head.text() if base and base.head else "base: not known whole"
+    width = max([len(base_head)] + [len(text_of(it.base)) for it in pairs])
+    output.line(f"  {base_head.ljust(width)}  {run.head.text()}")
+    folded = 0
+    for it, is_shown in zip(pairs, shown(pairs, context)):
+        if not is_shown:
+            folded += 1
+            continue
+        write_folded(output, folded)
+        folded = 0
+        line = f"{it.mark.value} {text_of(it.base).ljust(width)}  {text_of(it.row)}".rstrip()
+        colour = COLOURS.get(it.mark) if has_colour else None
+        output.line(f"\x1b[{colour}m{line}\x1b[0m" if colour else line)
+    write_folded(output, folded)
+    output.line(LEGEND)
+
+
+def write_folded(output, count):
+    if count:
+        output.line(f"  .. {count:,} alike ..")
+
+
+def shown(pairs, context):
+    """Which of the pairs are shown: all, or those that have something that differs in so many lines around them."""
+    if context is None:
+        return [True] * len(pairs)
+    flags = [False] * len(pairs)
+    for at, it in enumerate(pairs):
+        if it.mark not in (Mark.SAME, Mark.NUMBERS):
+            flags[max(0, at - context) : at + context + 1] = [True] * len(flags[max(0, at - context) : at + context + 1])
+    return flags

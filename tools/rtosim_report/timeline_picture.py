@@ -1,0 +1,244 @@
+"""A run as a picture: a lane for each task, for idle and for each handler, in bands that stand below each other."""
+import math
+from dataclasses import dataclass
+from itertools import groupby
+from typing import List
+
+from . import drawing
+from .timeline import Doing, LaneKind, WindowKind
+
+PLOT, RIGHT, TOP = 1080, 24, 58
+WIDEST_STEP, NARROWEST_STEP, MOST_BANDS = 54, 6, 16
+LABEL_ROW, BAR, LANE_GAP, AXIS, BAND_GAP = 14, 14, 12, 40, 18
+LEAST_VISIBLE = 0.75
+STYLES = [
+    (".runs", "fill:#2f6fce", "fill:#5c9bf5"),
+    (".on-bar", "fill:#ffffff", "fill:#0c1420"),
+    (".idle", "fill:#a9b3c0", "fill:#5b6573"),
+    (".waits", "fill:#f2c14e", "fill:#b98a1d"),
+    (".sleeps", "fill:#cfe0d4", "fill:#3c5a48"),
+    (".suspended", "fill:#e3c3e8", "fill:#68466f"),
+    (".locked", "fill:#c2410c", "fill:#ff9c66"),
+    (".held", "fill:#7c3aed", "fill:#b79bff"),
+    (".note", "stroke:#1d2430;stroke-width:1.5", "stroke:#e3e7ee;stroke-width:1.5"),
+    (".injection", "stroke:#b3261e;stroke-width:1.5;stroke-dasharray:4 3", "stroke:#ff8a80"),
+    (".injected", "fill:#b3261e", "fill:#ff8a80"),
+]
+CLASSES = {Doing.RUNS: "runs", Doing.WAITS: "waits", Doing.SLEEPS: "sleeps", Doing.SUSPENDED: "suspended"}
+LEGEND = [
+    ("runs", "runs"), ("waits", "waits in a call"), ("sleeps", "sleeps"), ("suspended", "suspended"),
+    ("idle", "idle runs"), ("locked", "queue locked"), ("held", "scheduler held"), ("injected", "injected"),
+]
+
+
+@dataclass
+class Layout:
+    """Where steps and lanes are."""
+
+    timeline: object
+    left: float
+    step_width: float
+    band_steps: int
+    bands: int
+    lane_tops: List[float]
+    band_height: float
+
+    def band_of(self, boundary):
+        return min(boundary // self.band_steps, self.bands - 1)
+
+    def first_step(self, band):
+        return band * self.band_steps
+
+    def last_step(self, band):
+        return min(self.timeline.steps, (band + 1) * self.band_steps)
+
+    def across(self, band, boundary):
+        return self.left + (boundary - self.first_step(band)) * self.step_width
+
+    def band_top(self, band):
+        return TOP + band * (self.band_height + BAND_GAP)
+
+    def bar_top(self, band, lane):
+        return self.band_top(band) + self.lane_tops[lane] + rows_of(self.timeline.lanes[lane]) * LABEL_ROW
+
+    @property
+    def width(self):
+        return self.left + PLOT + RIGHT
+
+    @property
+    def height(self):
+        return self.band_top(self.bands) + 22
+
+
+def rows_of(lane):
+    """How many rows of labels a lane has."""
+    return 0 if lane.kind is LaneKind.IDLE else 2
+
+
+def layout_of(timeline):
+    steps = max(1, timeline.steps)
+    bands = max(1, min(MOST_BANDS, math.ceil(steps * NARROWEST_STEP / PLOT)))
+    band_steps = math.ceil(steps / bands)
+    tops, at = [], 24.0
+    for lane in timeline.lanes:
+        tops.append(at)
+        at += rows_of(lane) * LABEL_ROW + BAR + LANE_GAP
+    latest = min(timeline.clock.start + timeline.clock.at(timeline.steps), (1 << 32) - 1)
+    margin = max(6, 5 + len(f"{latest:,}") // 2)
+    left = 22 + drawing.width_of("x" * max([margin] + [len(it.name) for it in timeline.lanes]))
+    step_width = min(WIDEST_STEP, PLOT / band_steps)
+    return Layout(timeline, left, step_width, band_steps, math.ceil(steps / band_steps), tops, at + AXIS)
+
+
+def write(output, timeline):
+    layout = layout_of(timeline)
+    drawing.start(output, layout.width, layout.height, STYLES, timeline.title())
+    fails = "" if timeline.head.verdict.passes else " fails"
+    output.line(drawing.label(12, 24, timeline.title(), "title" + fails))
+    for band in range(layout.bands):
+        write_band(output, layout, band)
+    write_lane_contents(output, layout)
+    write_injection(output, layout)
+    write_legend(output, layout)
+    drawing.end(output)
+
+
+def write_legend(output, layout):
+    at = 12.0
+    for name, text in LEGEND:
+        output.line(drawing.box(at, 36, 11, 11, name))
+        output.line(drawing.label(at + 16, 46, text, "quiet"))
+        at += 16 + drawing.width_of(text) + 18
+
+
+def write_band(output, layout, band):
+    """The ground of a band: the lanes with their names, and the axis."""
+    top = layout.band_top(band)
+    right = layout.across(band, layout.last_step(band))
+    for index, lane in enumerate(layout.timeline.lanes):
+        lane_top = top + layout.lane_tops[index]
+        height = rows_of(lane) * LABEL_ROW + BAR + LANE_GAP
+        if index % 2 == 0:
+            output.line(drawing.box(8, lane_top - LANE_GAP / 2, right - 8, height, "stripe"))
+        output.line(drawing.label(12, layout.bar_top(band, index) + BAR - 3, lane.name))
+    write_axis(output, layout, band, top + layout.band_height - AXIS)
+
+
+def write_axis(output, layout, band, top):
+    first, last = layout.first_step(band), layout.last_step(band)
+    clock = layout.timeline.clock
+    latest = min(clock.start + clock.at(last), (1 << 32) - 1)
+    widest = max(len(f"{last:,}"), len(f"{latest:,}"))
+    interval = drawing.nice_interval((widest + 2) * drawing.CHARACTER / layout.step_width)
+    output.line(drawing.label(12, top + 18, "step", "quiet"))
+    output.line(drawing.label(12, top + 32, "tick", "quiet"))
+    for step in range(-(-first // interval) * interval, last + 1, interval):
+        at = layout.across(band, step)
+        tick = (clock.start + clock.at(step)) % (1 << 32)
+        output.line(drawing.line(at, layout.band_top(band) + 18, at, top + 6, "rule"))
+        output.line(drawing.label(at, top + 18, f"{step:,}", "quiet", "middle"))
+        output.line(drawing.label(at, top + 32, f"{tick:,}", "quiet", "middle"))
+
+
+def write_lane_contents(output, layout):
+    timeline = layout.timeline
+    for index, lane in enumerate(timeline.lanes):
+        bars = sorted((it for it in timeline.bars if it.lane == lane), key=lambda it: it.start)
+        write_bars(output, layout, index, bars)
+        write_windows(output, layout, index, [it for it in timeline.windows if it.lane == lane])
+        write_notes(output, layout, index, [it for it in timeline.notes if it.lane == lane])
+    write_failure(output, layout)
+
+
+def pieces(layout, start, end):
+    """The parts of a stretch in the bands that it lies in."""
+    for band in range(layout.band_of(start), layout.band_of(max(start, end - 1)) + 1):
+        yield band, max(start, layout.first_step(band)), min(end, layout.last_step(band))
+
+
+def write_bars(output, layout, index, bars):
+    """Bars too narrow to be seen apart are drawn as one."""
+    drawn = []
+    for it in bars:
+        for band, start, end in pieces(layout, it.start, it.end):
+            last = drawn[-1] if drawn else None
+            narrow = (end - start) * layout.step_width < LEAST_VISIBLE
+            if last and narrow and last[0] == band and (start - last[2]) * layout.step_width < LEAST_VISIBLE:
+                last[2], last[4] = end, last[4] + 1
+            else:
+                drawn.append([band, start, end, it, 1])
+    for band, start, end, it, count in drawn:
+        output.line(bar_shape(layout, index, band, start, end, it, count))
+
+
+def bar_shape(layout, index, band, start, end, it, count):
+    left, right = layout.across(band, start), layout.across(band, end)
+    top = layout.bar_top(band, index)
+    name = "idle" if it.lane.kind is LaneKind.IDLE else CLASSES[it.doing]
+    clock = layout.timeline.clock
+    what = f"{it.lane.name} {it.doing.value}{' in ' + it.word if it.word else ''}"
+    title = f"{what}: steps {it.start} to {it.end - 1}, ticks {clock.at(it.start)} to {clock.at(it.end)}"
+    if count > 1:
+        title = f"{it.lane.name}: {count} turns in steps {start} to {end - 1}"
+    shape = drawing.box(left, top, max(right - left, LEAST_VISIBLE), BAR, name, title)
+    text = f"waits: {it.word}" if it.word else it.doing.value
+    if it.doing is not Doing.RUNS and drawing.width_of(text) + 6 < right - left:
+        shape += drawing.label((left + right) / 2, top + BAR - 3, text, "", "middle")
+    return shape
+
+
+def write_windows(output, layout, index, windows):
+    for it in windows:
+        below = 1 if it.kind is WindowKind.LOCKED else 5
+        name = "locked" if it.kind is WindowKind.LOCKED else "held"
+        for band, start, end in pieces(layout, it.start, it.end):
+            left, right = layout.across(band, start), layout.across(band, end)
+            top = layout.bar_top(band, index) + BAR + below
+            title = f"{it.kind.value}: steps {it.start} to {it.end - 1} of {it.lane.name}"
+            output.line(drawing.box(left, top, max(right - left, LEAST_VISIBLE), 3, name, title))
+
+
+def write_notes(output, layout, index, notes):
+    """A mark at each step with something told, and what is told above it where there is room."""
+    labels, marked, last_band = None, float("-inf"), None
+    for (step, is_injected), group in groupby(notes, key=lambda it: (it.step, it.is_injected)):
+        told = ", ".join(it.event.short() for it in group)
+        band = layout.band_of(step)
+        if band != last_band:
+            labels, marked, last_band = drawing.Labels(2), float("-inf"), band
+        at = layout.across(band, step + (0 if is_injected else 0.5))
+        top = layout.bar_top(band, index)
+        if at - marked < LEAST_VISIBLE:
+            continue
+        marked = at
+        title = f"{layout.timeline.lanes[index].name}: {told}; {'before ' if is_injected else ''}step {step}"
+        output.line(drawing.line(at, top - 3, at, top + BAR, "note", title))
+        left = min(at + (5 if is_injected else -2), layout.left + PLOT + RIGHT - 4 - drawing.width_of(told))
+        row = labels.place(left, told)
+        if row is not None:
+            colour = "injected" if is_injected else ""
+            output.line(drawing.label(left, top - 5 - row * LABEL_ROW, told, colour))
+
+
+def write_failure(output, layout):
+    """Where a run ends by a check or a misuse: in the lane of the task."""
+    head = layout.timeline.head
+    names = [it.name for it in layout.timeline.lanes]
+    if head.verdict.task not in names or not head.steps:
+        return
+    band, index = layout.band_of(head.steps - 1), names.index(head.verdict.task)
+    at, top = layout.across(band, head.steps), layout.bar_top(band, index)
+    output.line(drawing.box(at - 3, top - 4, 5, BAR + 8, "injected", head.end_text()))
+
+
+def write_injection(output, layout):
+    point = layout.timeline.point
+    if point is None:
+        return
+    band = layout.band_of(point.step)
+    at, top = layout.across(band, point.step), layout.band_top(band)
+    bottom = top + layout.band_height - AXIS + 4
+    text = f"{point.handler} before step {point.step}"
+    left = min(at + 5, layout.left + PLOT + RIGHT - 4 - drawing.width_of(text))
+    output.line(drawing.line(at, top, at, bottom, "injection", text))
+    output.line(drawing.label(left, top + 11, text, "injected"))

@@ -1,0 +1,151 @@
+"""A run as a value change dump, as GTKWave and PulseView read it.
+
+Of each task: whether it runs, whether it waits, its last answer and its last mark; of each handler: when it comes, its last
+answer and mark; and idle, the step, the printed tick, the windows and the injection."""
+from collections import defaultdict
+
+from .report import Kind
+from .subticks import SubTicks
+from .timeline import Doing, LaneKind, WindowKind
+
+WORD = 32
+FIRST, CODES = 33, 94
+
+
+def code_of(index):
+    """A short name of printable characters."""
+    text = ""
+    while True:
+        text += chr(FIRST + index % CODES)
+        index = index // CODES - 1
+        if index < 0:
+            return text
+
+
+class Signal:
+    """A wire or a register, with its changes."""
+
+    def __init__(self, name, size, code):
+        self.name, self.size, self.code = name, size, code
+
+    def change(self, value):
+        if self.size == 1:
+            return f"{'x' if value is None else int(value)}{self.code}"
+        return f"b{'x' if value is None else format(value, 'b')} {self.code}"
+
+    def declaration(self):
+        kind = "wire" if self.size == 1 else "reg"
+        return f"$var {kind} {self.size} {self.code} {self.name} $end"
+
+
+class Dump:
+    """Signals in scopes, and what changes when."""
+
+    def __init__(self):
+        self.scopes = defaultdict(list)
+        self.changes = defaultdict(dict)
+        self.count = 0
+
+    def signal(self, scope, name, size=1, value=0):
+        found = Signal(name, size, code_of(self.count))
+        self.count += 1
+        self.scopes[scope].append(found)
+        self.set(0, found, value)
+        return found
+
+    def set(self, time, signal, value):
+        self.changes[time][signal] = value
+
+    def while_on(self, signal, start, end):
+        """On from one time to another; what ends when the next begins stays on."""
+        if end > start:
+            self.set(start, signal, 1)
+            self.changes[end].setdefault(signal, 0)
+
+    def write(self, output, comment, scale, end):
+        output.line(f"$comment {comment} $end")
+        output.line(f"$timescale {scale} $end")
+        output.line("$scope module rtosim $end")
+        for scope, signals in self.scopes.items():
+            lines = [it.declaration() for it in signals]
+            if scope:
+                lines = [f"$scope module {scope} $end", *lines, "$upscope $end"]
+            output.line("\n".join(lines))
+        output.line("$upscope $end")
+        output.line("$enddefinitions $end")
+        for time in sorted({*self.changes, end}):
+            output.line(f"#{time}")
+            for signal, value in self.changes.get(time, {}).items():
+                output.line(signal.change(value))
+
+
+def scale_of(in_a_tick):
+    """A tick is a millisecond, or as much more as its parts need to be nanoseconds at least."""
+    if in_a_tick <= 1_000_000:
+        return {10: "100 us", 100: "10 us", 1000: "1 us", 10_000: "100 ns", 100_000: "10 ns"}.get(in_a_tick, "1 ns")
+    return "1 ns"
+
+
+def write(output, timeline):
+    times, dump = SubTicks(timeline), Dump()
+    add_counters(dump, timeline, times)
+    add_windows(dump, timeline, times)
+    for lane in timeline.lanes:
+        add_lane(dump, timeline, times, lane)
+    comment = f"{timeline.title()}; a tick is {times.in_a_tick} of these times"
+    dump.write(output, comment, scale_of(times.in_a_tick), times.at(timeline.steps) + 1)
+
+
+def add_counters(dump, timeline, times):
+    step, tick = dump.signal("", "step", WORD), dump.signal("", "tick", WORD)
+    last = None
+    for boundary in range(timeline.steps + 1):
+        if boundary < timeline.steps:
+            dump.set(times.at(boundary), step, boundary)
+        now = (timeline.clock.start + timeline.clock.at(boundary)) % (1 << WORD)
+        if now != last:
+            dump.set(times.at(boundary), tick, now)
+            last = now
+    if timeline.point is not None:
+        injected = dump.signal("", "injected")
+        at = times.at(timeline.point.step)
+        dump.while_on(injected, at, at + 1)
+
+
+def add_windows(dump, timeline, times):
+    for kind, name in ((WindowKind.LOCKED, "queue_locked"), (WindowKind.HELD, "scheduler_held")):
+        signal = dump.signal("", name)
+        for it in sorted(timeline.windows, key=lambda it: it.start):
+            if it.kind is kind:
+                dump.while_on(signal, times.at(it.start), times.at(it.end))
+
+
+def add_lane(dump, timeline, times, lane):
+    bars = sorted((it for it in timeline.bars if it.lane == lane), key=lambda it: it.start)
+    notes = [it for it in timeline.notes if it.lane == lane]
+    if lane.kind is LaneKind.HANDLER:
+        comes = dump.signal(lane.name, "comes")
+        for it in notes:
+            dump.while_on(comes, times.at(it.boundary), times.at(it.boundary) + 1)
+    else:
+        scope = lane.name if lane.kind is LaneKind.TASK else "idle"
+        add_doing(dump, times, scope if scope != "(not named)" else "not_named", bars)
+    if lane.kind is not LaneKind.IDLE and notes:
+        add_answers(dump, times, lane, notes)
+
+
+def add_doing(dump, times, scope, bars):
+    runs = dump.signal(scope, "runs")
+    away = dump.signal(scope, "waits") if scope != "idle" else None
+    for it in bars:
+        signal = runs if it.doing is Doing.RUNS else away
+        dump.while_on(signal, times.at(it.start), times.at(it.end))
+
+
+def add_answers(dump, times, lane, notes):
+    kinds = {it.event.kind for it in notes}
+    answer = dump.signal(lane.name, "answer", WORD, None) if kinds != {Kind.MARK} else None
+    mark = dump.signal(lane.name, "mark", WORD, None) if Kind.MARK in kinds else None
+    for it in notes:
+        signal = mark if it.event.kind is Kind.MARK else answer
+        dump.set(times.at(it.boundary), signal, it.event.answer)
