@@ -201,9 +201,6 @@ stands_placed t new s i w now age held sleepers awake h = record {
 append-none : (xs : List ℕ) → xs ≡ xs ++ []
 append-none xs = sym (append-nil xs)
 
-pub stands_for_ever : (t : Timeline) (s : State) (i : ℕ) → StandsBefore i None t s → StandsFor t s
-stands_for_ever t s i h = record { now = h.now; age = h.age; held = h.held; sorted = h.sorted; once = h.once; delayed = λ m. append-none (tasks_at m t.delayed_list) ∙ h.delayed m; table = h.table }
-
 -- the same of a time of these parts
 same_parts : (t new : Timeline) (s : State) → new.now ≡ t.now → new.age ≡ t.age → new.held ≡ t.held → new.delayed_list ≡ t.delayed_list → StandsFor t s → StandsFor new s
 same_parts t new s now age held sleepers h = record {
@@ -499,19 +496,6 @@ asleep_same t s i h = elim (has_or_not i t.delayed_list) [
       (λ some. absurd (let has = sleeper_in t s i (status_at s i) h refl some in cc))
       (λ t. none ∙ sym t)
 ]
-
-sleeper_not_ready : (u : Status) → is_some (wake_time_of u) ≡ true → is_some (ticket_if_ready u) ≡ false
-sleeper_not_ready (Ready n) t = absurd cc
-sleeper_not_ready (Awake w) t = refl
-sleeper_not_ready (Waiting w) t = refl
-sleeper_not_ready (Asleep w n) t = refl
-sleeper_not_ready (WaitingForBits g m d) t = refl
-sleeper_not_ready Suspended t = absurd cc
-sleeper_not_ready Ended t = absurd cc
-
--- a task that sleeps isn't Ready
-pub asleep_not_ready : (t : Timeline) (s : State) (i : ℕ) → StandsFor t s → is_asleep t i ≡ true → is_ready s i ≡ false
-asleep_not_ready t s i h asleep = sleeper_not_ready (status_at s i) (sym (asleep_same t s i h) ∙ asleep)
 
 -- ---- a wait begins
 

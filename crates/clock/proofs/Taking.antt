@@ -1,8 +1,7 @@
 -- The first entries of a list are taken out, one after another.
-use Rattle.std.proofs.Common.{◌≡◌, ◌≢◌, ℕ, ◌<◌, ◌≤◌, ◌+◌, inl, inr, Some, None, List, [], ◌∷◌, ◌++◌, length, map, sym, ◌∙◌, ap, ap₂, subst, arith, refl, append_assoc, length-append, true, false}
+use Rattle.std.proofs.Common.{◌≡◌, ◌≢◌, ℕ, ◌<◌, ◌≤◌, inl, inr, Some, None, List, [], ◌∷◌, ◌++◌, length, map, sym, ◌∙◌, ap, ap₂, subst, arith, refl, append_assoc, true, false}
 use Rattle.std.specs.Prelude.{◌==◌}
 use Rattle.std.proofs.lemmas.Bool.{cases_eq, eq-eqb, ne_eqb}
-use Rattle.std.proofs.lemmas.List.{length-map}
 use Rattle.std.proofs.lemmas.Option.{same_Some}
 use Rattle.lists.specs.Lists.{Each, IsSorted, IsSound, entries_of, without}
 use Rattle.lists.proofs.Entries.{Each-imp, none-some}
@@ -42,15 +41,6 @@ pub head_of : (list tick n : ℕ) (lists : List (List (ℕ × ℕ))) → Some n 
 head_of list tick n lists e =
     let f = split_at tick n (entries_of lists list) e in
     record { rest = f.0; is = f.1 }
-
--- where a list has a first entry left, fewer than 32 are taken
-pub has_room : (old new : List (List (ℕ × ℕ))) (list tick n : ℕ) (due : List ℕ) → IsSound 2 32 old → Taking old new list tick due → First list tick n new → length due < 32
-has_room old new list tick n due sound t f =
-    let few : length (entries_of old list) ≤ 32 = sound.few list in
-    let sum : length (entries_of old list) ≡ length (all_until tick due) + length (entries_of new list) = ap length t.whole ∙ length-append (all_until tick due) (entries_of new list) in
-    let same : length (all_until tick due) ≡ length due = length-map due (λ task. (task, tick)) in
-    let one : length (entries_of new list) ≡ length ((n, tick) ∷ f.rest) = ap length f.is in
-    omega (arith, few, sum, same, one)
 
 pub takes_one : (old new : List (List (ℕ × ℕ))) (list tick n : ℕ) (due : List ℕ) → IsSound 2 32 new → Taking old new list tick due → (f : First list tick n new) → Taking old (map (without n) new) list tick (due ++ n ∷ [])
 takes_one old new list tick n due sound t f =

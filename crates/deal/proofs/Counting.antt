@@ -1,22 +1,14 @@
 -- Each step keeps the rule of the count.
 use Rattle.std.proofs.Common.{◌≡◌, ◌≢◌, ◌≤◌, ◌<◌, ◌%◌, ◌^◌, ℕ, zero, suc, ◌+◌, max, List, [], ◌∷◌, length, length-append, set, slice_index, refl, sym, ◌∙◌, arith, subst, ⊎_elim}
-use mathlib.Core.Option.{none, some, some-ne-none, some-injective}
+use mathlib.Core.Option.{none, some}
 use lib.ListN.{get_elem?}
-use Rattle.atomic_table.specs.Table.{State, Allows, Splits, Joins, opening, step, keeps}
+use Rattle.atomic_table.specs.Table.{State, Allows, Splits, Joins, step, keeps}
 use Rattle.atomic_table.proofs.Lists.{at_set}
 use Rattle.deal.specs.declared.count.Mark.{Mark}
 use Rattle.deal.specs.declared.count.Size.{Size}
 use Rattle.deal.specs.Totals.{total, range}
-use Rattle.deal.specs.Marks.{mark, no_mark, first_mark, both_marks, first_of, others_of, without_first, ticket_mark, less_a_lane, lane_mark, FitsCount, IsCounted, IsAmong, Counting, Looking}
+use Rattle.deal.specs.Marks.{mark, no_mark, both_marks, first_of, others_of, without_first, ticket_mark, less_a_lane, lane_mark, FitsCount, IsCounted, IsAmong, Counting, Looking}
 use Rattle.deal.proofs.Sums.{total_set, total_append, total_at, total_length, length_range, total_below, total_lone, each_set, each_snoc, word_set, word_long}
-
--- a table that was just made
-pub opens : (k : Size) → IsCounted k (opening (0 ∷ []) [] (first_mark k))
-opens k = (omega arith, refl, omega arith, (λ h. omega arith), one)
-  where
-    one : (j : ℕ) (v : Mark) → get_elem? (first_mark k ∷ []) j ≡ some v → FitsCount k 0 v
-    one zero v e = subst (FitsCount k 0) (some-injective _ _ e) (omega arith, omega arith, (λ _. refl), omega arith, omega arith, λ _. (refl, refl))
-    one (suc j) v e = absurd (some-ne-none v (sym e))
 
 -- the count is below the number of blocks where a seat has a block that it did not count
 smaller : (k : Size) (s : State (Unit {0}) Mark) (id : ℕ) (v : Mark) → IsCounted k s → get_elem? s.views id ≡ some v → v.counted < length v.blocks → slice_index s.words 0 < k.blocks

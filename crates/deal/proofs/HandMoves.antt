@@ -153,7 +153,3 @@ last_hand z workers n cut k hands hand is h = subst (λ j. IsHand z workers n cu
 
 pub hands_before : (z : TableId) (workers n cut : ℕ) (hands : List Hand) (hand : Hand) → AreHands z workers n cut (hands ++ hand ∷ []) → AreHands z workers n cut hands
 hands_before z workers n cut hands hand h k v e = h k v (at_front hands (hand ∷ []) k v e)
-
--- a range that begins one earlier
-pub range_before : (first last : ℕ) → first < last → range first (last - first) ≡ first ∷ range (first + 1) (last - (first + 1))
-range_before first last short = range_next first last short

@@ -95,25 +95,6 @@ after_block size lengths share own others got z share' own' others' t seen l too
     empty [] e = refl
     empty (x ∷ xs) e = absurd (omega (arith, e))
 
--- a lane that looked at the count
-pub after_look : (size : Size) (lengths : List ℕ) (share : Seat (Unit {0}) Mark) (own : Log) (others : List Log) (got : List ℕ) (z : TableId)
-    (share' : Seat (Unit {0}) Mark) (seen : ℕ) → IsLane size lengths share own others got z → IsShareOf z share'
-    → share'.me.0 ≡ mark share.me.0.all share.me.0.lanes share.me.0.parts share.me.0.counted seen share.me.0.blocks
-    → IsLane size lengths share' own others got z
-after_look size lengths share own others got z share' seen l of is = (
-  of,
-  l.1,
-  l.2,
-  ap (λ (m : Mark). m.parts) is ∙ l.3,
-  ap (λ (m : Mark). m.all) is ∙ l.4,
-  ap (λ (m : Mark). m.lanes) is ∙ l.5,
-  ap (λ (m : Mark). m.counted) is ∙ l.6,
-  ap (λ (m : Mark). m.blocks) is ∙ l.7,
-  l.8,
-  l.9,
-  l.10,
-)
-
 -- the block that was taken is what the lane is answered
 pub answers_block : (r : Next) (old new : Sight) (n : ℕ) → IsTheBlock new.game.lengths n r → times n old.answered ≡ 0 → new.answered ≡ old.answered ++ n ∷ [] → MatchNext r old new
 answers_block (Block i first len) old new n is fresh more =

@@ -1,15 +1,15 @@
 -- Each step keeps the tally.
 use Rattle.std.proofs.Common.{◌≡◌, ◌≢◌, ◌≤◌, ◌<◌, ◌%◌, ◌^◌, ◌*◌, ℕ, zero, suc, ◌+◌, List, [], ◌∷◌, length, set, slice_index, replicate, refl, sym, ap, ◌∙◌, arith, subst, ⊎_elim}
-use mathlib.Core.Option.{none, some, some-ne-none, some-injective}
+use mathlib.Core.Option.{none, some}
 use lib.ListN.{get_elem?}
 use Rattle.std.proofs.lemmas.List.{length-set}
-use Rattle.atomic_table.specs.Table.{Allows, Joins, Splits, opening, step, keeps}
+use Rattle.atomic_table.specs.Table.{Allows, Joins, Splits, step, keeps}
 use Rattle.atomic_table.proofs.Lists.{at_set}
 use Rattle.deal.specs.declared.part.Part.{Part}
 use Rattle.deal.specs.Totals.{total}
 use Rattle.std.specs.List.{AllByRecursion}
 use Rattle.deal.specs.Tallies.{Sheet, Tallied, AreSeatsOf, fresh_seat}
-use Rattle.deal.specs.Parts.{part, no_part, first_part, less_a_seat, seat_part, both_parts, zeros, FitsTally, IsSummed, Adding, Seeing}
+use Rattle.deal.specs.Parts.{part, no_part, less_a_seat, seat_part, both_parts, zeros, FitsTally, IsSummed, Adding, Seeing}
 use Rattle.deal.proofs.Members.{all_of_each}
 use Rattle.deal.proofs.Sums.{total_set, total_append, total_at, total_lone, each_set, each_snoc}
 use Rattle.deal.proofs.Once.{same_or}
@@ -108,14 +108,6 @@ nothing (suc (suc (suc (suc zero)))) = refl
 nothing (suc (suc (suc (suc (suc zero))))) = refl
 nothing (suc (suc (suc (suc (suc (suc zero)))))) = refl
 nothing (suc (suc (suc (suc (suc (suc (suc k))))))) = refl
-
--- a table that was just made
-pub opens : (seats : ℕ) → seats ≤ 65536 → IsSummed seats (opening zeros [] (first_part seats))
-opens seats few = (refl, few, (λ k. omega (arith, nothing k)), omega arith, one)
-  where
-    one : (j : ℕ) (v : Part) → get_elem? (first_part seats ∷ []) j ≡ some v → FitsTally seats zeros v
-    one zero v e = subst (FitsTally seats zeros) (some-injective _ _ e) (refl, refl, (λ k. (omega arith, omega (arith, nothing k))), omega arith, λ _. refl)
-    one (suc j) v e = absurd (some-ne-none v (sym e))
 
 pub joins : (seats id : ℕ) (v : Part) (other : ℕ) (w : Part) → Joins (IsSummed seats) id v other w (both_parts v w) no_part
 joins seats id v other w s h at apart at' =

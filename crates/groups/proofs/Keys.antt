@@ -3,7 +3,7 @@ use Rattle.std.proofs.Common.{◌≡◌, ◌==◌, ℕ, ◌<◌, true, Option, S
 use Rattle.std.specs.Prelude.{if◌then◌else◌}
 use Rattle.std.specs.List.{AllByRecursion, cons_option}
 use Rattle.std.specs.Option.{is_some, option_map}
-use Rattle.model.specs.State.{Status, Ready, Awake, Waiting, Asleep, WaitingForBits, Suspended, Ended, Task, wait_of, ticket_if_ready, ticket_if_for_bits}
+use Rattle.model.specs.State.{Status, Ready, Awake, Waiting, Asleep, WaitingForBits, Suspended, Ended, Task, ticket_if_ready, ticket_if_for_bits}
 use Rattle.model.specs.Order.{Key, key}
 use Rattle.model.specs.Groups.{bits_key}
 use Rattle.model.specs.Invariant.{AllTicketsBelow, HasTicketBelow}
@@ -53,16 +53,6 @@ waits_at (WaitingForBits g n d) some = record { group = g; key = key 0 n; is = o
 waits_at (Asleep w n) some = absurd cc
 waits_at Suspended some = absurd cc
 waits_at Ended some = absurd cc
-
--- one that waits at an object doesn't wait for bits
-pub free_of_bits : (u : Status) → is_some (wait_of u) ≡ true → bits_wait u ≡ None
-free_of_bits (Ready n) some = refl
-free_of_bits (Awake w) some = refl
-free_of_bits (Waiting w) some = refl
-free_of_bits (WaitingForBits g n d) some = absurd cc
-free_of_bits (Asleep w n) some = refl
-free_of_bits Suspended some = refl
-free_of_bits Ended some = refl
 
 -- nor does one who is Ready
 pub ready_free_of_bits : (u : Status) → is_some (ticket_if_ready u) ≡ true → bits_wait u ≡ None

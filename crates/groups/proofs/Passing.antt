@@ -91,20 +91,6 @@ pub record Passed (old new : List (List (ℕ × ℕ))) (list : ℕ) (wants : Lis
   -- those met were woken, one after another
   pub woken : (v : EventGroups) (s : State) → v.waiting ≡ old → StandsFor v s → StandsFor (record v { waiting = new }) (for_each (λ task. wake_with_bits task bits) tasks s)
 
-pub passes_none : (old : List (List (ℕ × ℕ))) (list : ℕ) (wants : List Condition) (bits : ℕ) (at : Option ℕ) → IsSound 16 32 old → at ≡ first_of (entries_of old list) → Passed old old list wants bits at [] bits
-passes_none old list wants bits at sound first = record {
-  before = [];
-  rest = entries_of old list;
-  whole = refl;
-  here = first;
-  still = refl;
-  others = λ k ne. refl;
-  sound = sound;
-  met = refl;
-  remains = refl;
-  woken = λ v s is h. subst (λ (ls : List (List (ℕ × ℕ))). StandsFor (record v { waiting = ls }) s) is h;
-}
-
 -- the entry where the pass is, and those behind it
 pub record Head (n : ℕ) (rest : List (ℕ × ℕ)) : Type 0 where
   pub value : ℕ

@@ -11,14 +11,14 @@ use Rattle.model.specs.declared.event.Event.{Event}
 use Rattle.model.specs.declared.event.What.{What}
 use Rattle.model.specs.declared.op.IsrOp.{IsrOp}
 use Rattle.model.specs.declared.op.IsrOp.TheVariants.{GetBits}
-use Rattle.model.specs.declared.op.Op.TheVariants.{SetBits, WaitBits}
+use Rattle.model.specs.declared.op.Op.TheVariants.{SetBits}
 use Rattle.model.specs.Application.{Application}
 use Rattle.model.specs.State.{State, Task, Progress, Status, Ready, Awake, Waiting, WaitingForBits, Asleep, Suspended, Ended, no_task, ticket_if_ready, ticket_if_for_bits, wait_of, task_at, status_at, progress_at, call_at, bits_at, with_bits, for_each}
 use Rattle.model.specs.Order.{Key, Entry, key, tasks_of}
 use Rattle.model.specs.Switching.{is_ready, make_ready, write}
 use Rattle.model.specs.Suspension.{can_resume}
 use Rattle.model.specs.Waiting.{set_deadline}
-use Rattle.model.specs.Groups.{is_met, is_met_for, bits_left, bits_key, bits_set, bits_after_set, waiters_for_bits, met_by, want, keep_answer, wake_with_bits, wait_for_bits, answer_bits, begin_bits_wait, check, set_bits, wait_bits, set as set_in_group}
+use Rattle.model.specs.Groups.{is_met, is_met_for, bits_left, bits_key, bits_set, bits_after_set, waiters_for_bits, met_by, want, keep_answer, wake_with_bits, wait_for_bits, answer_bits, begin_bits_wait, check, set_bits, set as set_in_group}
 use Rattle.model.specs.Handlers.{isr_told, isr}
 use Rattle.model.specs.Step.{act}
 use Rattle.model.specs.Invariant.{Suspension}
@@ -431,16 +431,6 @@ module _ (app : Application) (old new : Kernel) (old_log new_log : Logged) (task
     at = λ s h.
         let now : (call_at s task).phase ≡ phase = ap (λ (p : Progress). p.call.phase) (sym (progress_is old s h.stands task)) ∙ e in
         subst (λ (p : Phase). AtAny new new_log.told (set_bits app task group mask p s)) (sym now) (d.at s h);
-    few = d.few;
-    before = d.before;
-  }
-
-  -- of a wait
-  pub wait_in_phase : (condition : Condition) (ticks : Option ℕ) (phase : Phase) → (progress_in old.progress task).call.phase ≡ phase → DoesAny 2 old old_log new new_log (wait_bits app task group condition ticks phase) → DoesAny 2 old old_log new new_log (act app task (WaitBits group condition ticks))
-  wait_in_phase condition ticks phase e d = record {
-    at = λ s h.
-        let now : (call_at s task).phase ≡ phase = ap (λ (p : Progress). p.call.phase) (sym (progress_is old s h.stands task)) ∙ e in
-        subst (λ (p : Phase). AtAny new new_log.told (wait_bits app task group condition ticks p s)) (sym now) (d.at s h);
     few = d.few;
     before = d.before;
   }

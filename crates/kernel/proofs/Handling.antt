@@ -19,8 +19,7 @@ use Rattle.model.specs.Handlers.{isr_told, isr, isr_each, handle, inject}
 use Rattle.model.proofs.Chosen.{each-end}
 use Rattle.model.proofs.InScripts.{isr_known}
 use Rattle.kernel.specs.declared.kernel.Kernel.{Kernel}
-use Rattle.kernel.specs.Logged.{Logged}
-use Rattle.kernel.specs.StandsFor.{Stands, At, AtAny, Does, DoesAny}
+use Rattle.kernel.specs.StandsFor.{Stands, At, AtAny}
 use Rattle.kernel.proofs.Either.{any, either}
 use Rattle.model.proofs.Handled.{and_left}
 use Rattle.kernel.specs.Can.{HasIsrObject, HasObjects, Leaves}
@@ -90,13 +89,6 @@ leaves_both a b c h g = record { depth = g.depth ∙ h.depth; objects = λ o a r
 
 pub room_after : (app : Application) (old new : Kernel) → HasObjects app old → Leaves old new → HasObjects app new
 room_after app old new room h o a fit = h.objects o a (room o a fit)
-
--- nothing is done yet
-pub does_nothing : (k : Kernel) (log : Logged) → Does 0 k log k log (λ s. s)
-does_nothing k log = record { at = λ s h. h; few = omega arith; before = refl }
-
-pub does_nothing_any : (k : Kernel) (log : Logged) → DoesAny 0 k log k log (λ s. s)
-does_nothing_any k log = record { at = λ s h. h; few = omega arith; before = refl }
 
 -- ---- a higher task may run after an injected handler, unless the scheduler is held
 

@@ -8,11 +8,11 @@ use Rattle.model.specs.declared.event.Misuse.TheVariants.{WhileSuspended, NotSus
 use Rattle.model.specs.declared.op.Op.{Op}
 use Rattle.model.specs.declared.op.Op.TheVariants.{Work, Delay, DelayUntil, Yield, Time, Mark, Expect, Repeat, End as EndLoop, Await, Do, GiveMutex, MessagesWaiting, SpacesAvailable, SetBits, ClearBits, GetBits, WaitBits, Suspend, Resume, SuspendAll, ResumeAll}
 use Rattle.model.specs.Application.{Application}
-use Rattle.model.specs.State.{State, Status, Ready, Awake, Waiting, Asleep, WaitingForBits, Suspended, Ended, status_at, progress_at}
+use Rattle.model.specs.State.{State, status_at, progress_at}
 use Rattle.model.specs.Switching.{is_held, is_scheduler_suspended, preempt, slice}
 use Rattle.model.specs.Time.{increment_tick, advance, apply_one, apply_held}
 use Rattle.model.specs.Ops.{answer}
-use Rattle.model.specs.Suspension.{can_suspend, can_resume, resume_scheduler, resume_all}
+use Rattle.model.specs.Suspension.{resume_scheduler, resume_all}
 use Rattle.model.specs.Handlers.{interrupt, tick_interrupt}
 use Rattle.model.specs.Step.{act, act_unless, is_ended, judge, may_switch, misuse, misused}
 use Rattle.model.specs.Invariant.{Hold, Suspension}
@@ -186,33 +186,6 @@ pub runs_after_all : (k new : Kernel) (i : ℕ) (s : State) → Runs k i → Sta
 runs_after_all k new i s r h g = runs_by k new i s (resume_scheduler s) r h g (current-resumed s) (resumed_apart s i (ready_by k s i r h))
 
 -- ---- who came to its end
-
-pub ended_is : (u : Status) → can_suspend u ≡ false → can_resume u ≡ false → is_ended u ≡ true
-ended_is (Ready n) a b = absurd (cc)
-ended_is (Awake w) a b = absurd (cc)
-ended_is (Waiting w) a b = absurd (cc)
-ended_is (Asleep w n) a b = absurd (cc)
-ended_is (WaitingForBits g n d) a b = absurd (cc)
-ended_is Suspended a b = absurd (cc)
-ended_is Ended a b = refl
-
-pub ended_not : (u : Status) → can_suspend u ≡ true → is_ended u ≡ false
-ended_not (Ready n) a = refl
-ended_not (Awake w) a = refl
-ended_not (Waiting w) a = refl
-ended_not (Asleep w n) a = refl
-ended_not (WaitingForBits g n d) a = refl
-ended_not Suspended a = absurd (cc)
-ended_not Ended a = absurd (cc)
-
-pub ended_not_suspended : (u : Status) → can_resume u ≡ true → is_ended u ≡ false
-ended_not_suspended (Ready n) a = refl
-ended_not_suspended (Awake w) a = refl
-ended_not_suspended (Waiting w) a = refl
-ended_not_suspended (Asleep w n) a = refl
-ended_not_suspended (WaitingForBits g n d) a = refl
-ended_not_suspended Suspended a = refl
-ended_not_suspended Ended a = absurd (cc)
 
 module _ (k : Kernel) (log : List Event) (s : State) (h : At k log s) (i op_index : ℕ) where
   pub judged : 0 < k.suspensions → is_ended (status_at s i) ≡ true → At (record k { stopped = Some (ending.Misuse i op_index EndedSuspended) }) log (judge i op_index s)

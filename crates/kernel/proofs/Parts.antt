@@ -94,10 +94,6 @@ ended_alike (WaitingForBits g m d) t = record { key = rw t refl; wake_time = sym
 ended_alike Suspended t = record { key = refl; wake_time = refl }
 ended_alike Ended t = record { key = refl; wake_time = refl }
 
-pub none_if_not : (o : Option ℕ) → is_some o ≡ false → o ≡ None
-none_if_not None t = refl
-none_if_not (Some n) t = absurd (cc)
-
 -- Who is Ready in the scheduler is not asleep in the clock, and the other way round.
 pub apart : (k : Kernel) (s : State) → StandsFor k s → (i : ℕ) → schedule.is_ready k.sched i ≡ true → is_asleep k.clock i ≡ false
 apart k s h i t =

@@ -59,11 +59,6 @@ left_next plan points n h = go points h.order h.ahead (λ m l. h.same m (omega a
 pub left_first : (plan : List Point) (n : ℕ) → IsPlan plan → AllByRecursion (λ (p : Point). n ≤ p.step) plan → IsLeft plan plan n
 left_first plan n is ahead = record { same = λ m l. refl; order = is.in_order; ahead = ahead }
 
--- at reset they all are
-pub all_ahead : (n : ℕ) → n ≡ 0 → (ps : List Point) → AllByRecursion (λ (p : Point). n ≤ p.step) ps
-all_ahead n e [] = tt
-all_ahead n e (p ∷ ps) = (omega arith, all_ahead n e ps)
-
 -- ---- those of one step, one after another
 
 -- from this one on

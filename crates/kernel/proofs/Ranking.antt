@@ -19,8 +19,8 @@ use Rattle.model.proofs.Passing.{acts_calm}
 use Rattle.model.specs.Switching.{preempt}
 use Rattle.model.specs.Waiting.{wake_best}
 use Rattle.model.specs.State.{with_object}
-use Rattle.std.proofs.lemmas.Bool.{lt-ltb, le-ltb, eq-eqb, ne_eqb}
-use Rattle.std.proofs.Common.{max, ◌≤◌, List}
+use Rattle.std.proofs.lemmas.Bool.{lt-ltb, eq-eqb, ne_eqb}
+use Rattle.std.proofs.Common.{max, List}
 use Rattle.objects.specs.Queues.{Exchange}
 use Rattle.objects.proofs.Ranking.{stands_ranked, at_locked-ranked}
 use Rattle.clock.proofs.Unmoved.{stands_prioritised}
@@ -80,19 +80,6 @@ ranked_at k log s h i priority v on =
       log = h.log ∙ sym (log-set_priority s i priority);
     }
 
-pub reranks : (k : Kernel) → Reranks k k
-reranks k = record { depth = refl; current = refl; ready = λ j. refl; op_index = λ j. refl; clock = refl; queues = refl }
-
-pub reranks_both : (a b c : Kernel) → Reranks a b → Reranks b c → Reranks a c
-reranks_both a b c h g = record {
-  depth = g.depth ∙ h.depth;
-  current = g.current ∙ h.current;
-  ready = λ j. g.ready j ∙ h.ready j;
-  op_index = λ j. g.op_index j ∙ h.op_index j;
-  clock = g.clock ∙ h.clock;
-  queues = g.queues ∙ h.queues;
-}
-
 -- Who runs, runs on.
 pub still_running : (old new : Kernel) (i : ℕ) → Reranks old new → Runs old i → Runs new i
 still_running old new i r h = record { current = r.current ∙ h.current; ready = r.ready i ∙ h.ready; op_index = rw (r.op_index i) h.op_index }
@@ -111,9 +98,6 @@ still_decides old new i r c agrees = record {
 module _ (P : State → Type 0) (s : State) where
   pub lent : (priority holder : ℕ) → (task_at s holder).priority < priority → P (set_priority holder priority s) → P (lend priority holder s)
   lent priority holder l h = rw (lt-ltb (task_at s holder).priority priority l) h
-
-  pub lent_nothing : (priority holder : ℕ) → priority ≤ (task_at s holder).priority → P s → P (lend priority holder s)
-  lent_nothing priority holder l h = rw (le-ltb (task_at s holder).priority priority l) h
 
   pub inherited : (i o holder : ℕ) → Some holder ≡ (object_at s o).holder → P (inherit_from i holder s) → P (inherit i o s)
   unfolding inherit

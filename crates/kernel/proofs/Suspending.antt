@@ -137,9 +137,6 @@ set_apart (x ∷ xs) (suc i) zero t u ne = refl
 set_apart (x ∷ xs) (suc i) (suc j) t u ne = ap (λ (ys : List Task). x ∷ ys) (set_apart xs i j t u (λ e. ne (ap suc e)))
 
 module _ (app : Application) (s : State) (i : ℕ) (ready : is_ready s i ≡ true) (l : i < length s.tasks) (a : Option ℕ) where
-  told : State
-  told = write (called i (progress_at s i).op_index a) s
-
   abbrev count : ℕ
   count = op_count app i
 

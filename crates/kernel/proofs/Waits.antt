@@ -170,9 +170,6 @@ module _ (k : Kernel) (s : State) (h : StandsFor k s) (list : WaitList) (i : ℕ
   pub woken_free : schedule.is_ready k.sched i ≡ false
   woken_free = on_sched.ready_same k.sched s i h.sched ∙ (waits_there s list i is).unready
 
-  pub woken_unsuspended : can_resume (status_at s i) ≡ false
-  woken_unsuspended = there_unsuspended s list i (waits_there s list i is)
-
   pub woken_at : (log : List Event) → log ≡ s.log → (v : Schedule) (t : Timeline) (q : Exchange) → (i < length s.tasks → sched.StandsFor v (make_ready i s)) → (i < length s.tasks → clock.StandsFor t (make_ready i s)) → queues.StandsFor q None (wake_best list s)
       → At (record k { sched = v; clock = t; queues = q }) log (wake_best list s)
   woken_at log same v t q on awake left =

@@ -1,25 +1,16 @@
 -- Who is Awake waited at the locked object: what keeps that.
-use Rattle.std.proofs.Common.{◌≡◌, ℕ, ◌<◌, ◌+◌, true, Option, Some, None, List, [], ◌∷◌, length, set, get_or, sym, ◌∙◌, ap, subst, refl, eqb}
+use Rattle.std.proofs.Common.{◌≡◌, ℕ, ◌<◌, true, Option, Some, None, List, [], ◌∷◌, length, set, get_or, sym, ◌∙◌, ap, subst, refl, eqb}
 use Rattle.std.specs.List.{AllByRecursion}
 use Rattle.std.specs.Option.{IfSome, option_and_then}
-use Rattle.model.specs.declared.call.Phase.TheVariants.{Place, Unlock}
+use Rattle.model.specs.declared.call.Phase.TheVariants.{Place}
 use Rattle.model.specs.declared.call.WaitList.{WaitList}
 use Rattle.model.specs.declared.op.Access.{Access}
-use Rattle.model.specs.declared.op.IsrOp.{IsrOp}
-use Rattle.model.specs.declared.op.IsrOp.TheVariants as isr_op
-use Rattle.model.specs.declared.event.What.TheVariants as what
-use Rattle.model.specs.Application.{Application, interrupts_at, ops_of}
-use Rattle.model.specs.State.{State, Object, Status, Task, Wait, Ready, Awake, Waiting, Asleep, WaitingForBits, Suspended, Ended, no_task, wait_if_awake, wait_if_waiting, status_at, task_at, progress_at, object_at, bits_at, with_object, with_task, go_on, for_one, for_each}
-use Rattle.model.specs.Order.{Entry, Key, first, task_of, tasks_of}
-use Rattle.model.specs.Switching.{make_ready, slice, write, is_scheduler_suspended, unless_held}
-use Rattle.model.specs.Time.{advance, due, increment_tick, wake_due}
-use Rattle.model.specs.Handlers.{handle, interrupt, isr, isr_each, isr_told, tick_interrupt}
-use Rattle.model.specs.Objects.{answer_to, attempt, fulfil, list_for, list_woken, object_after, possible}
+use Rattle.model.specs.State.{State, Object, Status, Task, Wait, Ready, Awake, Waiting, Asleep, WaitingForBits, Suspended, Ended, no_task, wait_if_awake, wait_if_waiting, status_at, task_at, with_object, go_on, for_one, for_each}
+use Rattle.model.specs.Order.{Entry, Key, first, task_of}
+use Rattle.model.specs.Switching.{make_ready}
+use Rattle.model.specs.Objects.{list_for}
 use Rattle.model.specs.Calls.{lock}
-use Rattle.model.specs.Ops.{one_if}
-use Rattle.model.specs.Suspension.{can_resume, resumed, resume}
 use Rattle.model.specs.Waiting.{awaken, awake_status, is_locked, same_list, unlock, unlock_object, wait_in, wait_key, waiters, wake_best, wake_one}
-use Rattle.model.specs.Invariant.{IsSound, hold_of}
 use Rattle.model.proofs.Sorting.{by_test}
 use Rattle.model.proofs.Lists.{HasKey, eqb-refl, eqb-same, list_has}
 use Rattle.model.proofs.Sound.{each-set}
@@ -30,7 +21,7 @@ use Rattle.objects.specs.WaitersStand.{AtLocked, Decider}
 use Rattle.objects.specs.Queues.{SameWaits}
 use Rattle.objects.proofs.Deciding.{others_as_before, waits_now}
 use Rattle.objects.proofs.Keys.{same_list-true, waiting_key}
-use Rattle.objects.proofs.Kept.{same_go_on, same_slice, same_unless_held, same_write}
+use Rattle.objects.proofs.Kept.{same_go_on}
 
 -- a wait of the locked object, if it is one
 abbrev WokenAt : Option ℕ → Option Wait → Type 0
@@ -43,10 +34,6 @@ nobody_awake d s none h i = none_awake s.locked (wait_if_awake (status_at s i)) 
 -- and then so it is
 pub at_locked-nobody : (s : State) → ((i : ℕ) → wait_if_awake (status_at s i) ≡ None) → AtLocked None s
 at_locked-nobody s nobody = record { awake = λ i. subst (WokenAt s.locked) (sym (nobody i)) tt; to_place = tt }
-
--- So it is in every state of a run.
-pub at_locked : (app : Application) (d : Option Decider) (s : State) → IsSound app (hold_of s) s → IfSome d (λ d. is_locked s.locked d.list ≡ true) → AtLocked d s
-at_locked app d s h to_place = record { awake = λ i. (h.calls i).awake; to_place = to_place }
 
 -- ---- what keeps it
 
@@ -101,72 +88,6 @@ pub at_locked-wake_best : (d : Option Decider) (list : WaitList) (s : State) →
 unfolding wake_best
 at_locked-wake_best d list s h = at_locked-woken_first d list s (waiters s list) (list_has (waiting_key list) s.tasks) h
 
-pub at_locked-fulfil : (d : Option Decider) (caller : Option ℕ) (o : ℕ) (a : Access) (s : State) → AtLocked d s → AtLocked d (fulfil caller o a s)
-unfolding fulfil
-at_locked-fulfil d caller o a s h = by_list (list_woken caller o a) where
-  t : State
-  t = with_object o (object_after caller a (object_at s o)) s
-
-  by_list : (list : Option WaitList) → AtLocked d (for_one wake_best list t)
-  by_list None = at_locked-stored d o (object_after caller a (object_at s o)) s h
-  by_list (Some list) = at_locked-wake_best d list t (at_locked-stored d o (object_after caller a (object_at s o)) s h)
-
-pub at_locked-attempt : (d : Option Decider) (caller : Option ℕ) (o : ℕ) (a : Access) (s : State) → AtLocked d s → AtLocked d (attempt caller o a s)
-unfolding attempt
-at_locked-attempt d caller o a s h = by_test (possible s o a) (λ t. rw t (at_locked-fulfil d caller o a s h)) (λ t. rw t h)
-
--- a task that is resumed
-pub at_locked-resume : (d : Option Decider) (i : ℕ) (s : State) → AtLocked d s → AtLocked d (resume i s)
-unfolding resume
-at_locked-resume d i s h =
-    let t : Task = record (task_at s i) { progress = resumed s.time (progress_at s i) } in
-    by_test (can_resume (status_at s i))
-    (λ q. rw q (at_locked-ready d i (with_task i t s) (at_locked-set d s (with_task i t s) i t refl refl (h.awake i) h)))
-    (λ q. rw q h)
-
--- ---- a handler, and a tick
-
-pub at_locked-isr : (d : Option Decider) (handler op_index : ℕ) (op : IsrOp) (s : State) → AtLocked d s → AtLocked d (isr handler op_index op s)
-at_locked-isr d handler op_index (isr_op.Do o a) s h =
-    let t : State = attempt None o a s in
-    let w = isr_told handler op_index (answer_to s o a) in
-    at_locked_same d t (write w t) (same_write w t) (at_locked-attempt d None o a s h)
-at_locked-isr d handler op_index (isr_op.Resume i) s h =
-    let t : State = resume i s in
-    let w = isr_told handler op_index (one_if (can_resume (status_at s i))) in
-    at_locked_same d t (write w t) (same_write w t) (at_locked-resume d i s h)
-at_locked-isr d handler op_index (isr_op.GetBits group) s h = let w = isr_told handler op_index (Some (bits_at s group)) in at_locked_same d s (write w s) (same_write w s) h
-at_locked-isr d handler op_index (isr_op.Mark n) s h = let w = what.IsrMark handler n in at_locked_same d s (write w s) (same_write w s) h
-
-at_locked-isr_each : (d : Option Decider) (handler op_index : ℕ) (ops : List IsrOp) (s : State) → AtLocked d s → AtLocked d (isr_each handler op_index ops s)
-at_locked-isr_each d handler op_index [] s h = h
-at_locked-isr_each d handler op_index (op ∷ ops) s h = at_locked-isr_each d handler (op_index + 1) ops (isr handler op_index op s) (at_locked-isr d handler op_index op s h)
-
-pub at_locked-handle : (d : Option Decider) (app : Application) (handler : ℕ) (s : State) → AtLocked d s → AtLocked d (handle app handler s)
-unfolding handle
-at_locked-handle d app handler s h = at_locked-isr_each d handler 0 (ops_of app handler) s h
-
-at_locked-handles : (d : Option Decider) (app : Application) (handlers : List ℕ) (s : State) → AtLocked d s → AtLocked d (for_each (handle app) handlers s)
-at_locked-handles d app [] s h = h
-at_locked-handles d app (handler ∷ handlers) s h = at_locked-handles d app handlers (handle app handler s) (at_locked-handle d app handler s h)
-
-pub at_locked-wake_due : (d : Option Decider) (s : State) → AtLocked d s → AtLocked d (wake_due s)
-unfolding wake_due
-at_locked-wake_due d s h = at_locked-all_ready d (tasks_of (due s)) s h
-
-pub at_locked-increment : (d : Option Decider) (s : State) → AtLocked d s → AtLocked d (increment_tick s)
-unfolding increment_tick advance
-at_locked-increment d s h = by_test (is_scheduler_suspended s)
-    (λ t. rw t (record { awake = h.awake; to_place = h.to_place }))
-    (λ t. rw t (at_locked-wake_due d (record s { time = s.time + 1; elapsed = s.elapsed + 1 }) (record { awake = h.awake; to_place = h.to_place })))
-
-pub at_locked-tick : (d : Option Decider) (app : Application) (s : State) → AtLocked d s → AtLocked d (tick_interrupt app s)
-unfolding tick_interrupt interrupt
-at_locked-tick d app s h =
-    let come : State = increment_tick s in
-    let told : State = for_each (handle app) (interrupts_at app come.elapsed) come in
-    at_locked_same d told (unless_held slice told) (same_unless_held slice told same_slice) (at_locked-handles d app (interrupts_at app come.elapsed) come (at_locked-increment d s h))
-
 -- ---- a decision, and an unlock
 
 -- the object is locked, while nothing was
@@ -185,11 +106,6 @@ module _ (s : State) (i o : ℕ) (a : Access) (none : s.locked ≡ None) (h : At
       let w : State = record (wait_in i (list_for o a) s) { call_hold = true; locked = Some o } in
       let begun : AtLocked d w = record { awake = (at_locked-nobody w (nobody_then l)).awake; to_place = is_locked-own o a } in
       at_locked_same d w (go_on i Place w) (same_go_on i Place w) begun
-
-pub at_locked-declines : (s : State) (i o : ℕ) → s.locked ≡ None → AtLocked None s → AtLocked None (lock i o Unlock s)
-at_locked-declines s i o none h =
-    let w : State = record s { call_hold = true; locked = Some o } in
-    at_locked_same None w (go_on i Unlock w) (same_go_on i Unlock w) (at_locked-nobody w (nobody_awake None s none h))
 
 -- the one who was to be placed is placed
 pub at_locked-placed : (d : Option Decider) (s : State) → AtLocked d s → AtLocked None s

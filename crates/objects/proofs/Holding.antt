@@ -97,15 +97,3 @@ module _ (holders : List (Option ℕ)) (held : List ℕ) (h : AreMutexes holders
       let some = one_held task l own in
       counts_put None task (get_or held task 0 - 1) l (omega (arith, here, gone, some)) (λ i ne.
       let e = eqb-apart task i (λ q. ne (sym q)) in ap (one_of i) own ∙ rw e refl)
-
-  -- A free one that stays free.
-  pub mutex_kept : holder_in holders o ≡ None → AreMutexes (set holders o None) held
-  mutex_kept free = record {
-    as_many = length-set holders o None ∙ h.as_many;
-    for_all = h.for_all;
-    counted = λ i m.
-        let put = count_put i holders o None there in
-        let here : one_of i (holder_in holders o) ≡ 0 = ap (one_of i) free in
-        let gone : one_of i None ≡ 0 = refl in
-        h.counted i m ∙ omega (arith, put, here, gone);
-  }

@@ -1,5 +1,5 @@
 -- The first of a list are taken out, one after another.
-use Rattle.std.proofs.Common.{◌≡◌, ℕ, zero, suc, ◌+◌, ◌<◌, inl, inr, Some, None, List, [], ◌∷◌, ◌++◌, set, length, map, take, drop, sym, ◌∙◌, ap, subst, arith, refl}
+use Rattle.std.proofs.Common.{◌≡◌, ℕ, zero, suc, ◌<◌, inl, inr, Some, None, List, [], ◌∷◌, ◌++◌, set, length, map, take, drop, sym, ◌∙◌, ap, subst, arith, refl}
 use Rattle.std.proofs.lemmas.Bool.{cases_eq, cases_lt}
 use Rattle.std.proofs.lemmas.List.{length-map, same_lists, length-set, get_or_default, get_or_past}
 use Rattle.std.proofs.lemmas.Option.{same_Some}
@@ -76,21 +76,9 @@ pub record TakenOut (old new : List (List (ℕ × ℕ))) (list : WaitList) (coun
   -- those taken became Ready, one after another
   pub woken : (s : State) → WaitersStand old None s → WaitersStand new None (for_each make_ready taken s)
 
-drop-zero : (xs : List (ℕ × ℕ)) → xs ≡ drop 0 xs
-drop-zero [] = refl
-drop-zero (x ∷ xs) = refl
-
 take-zero : (xs : List ℕ) → [] ≡ take 0 xs
 take-zero [] = refl
 take-zero (x ∷ xs) = refl
-
-pub takes_none : (old : List (List (ℕ × ℕ))) (list : WaitList) → IsSound 64 32 old → TakenOut old old list 0 []
-takes_none old list sound = record {
-  tasks = take-zero (tasks_in (waiting_in old list));
-  left = sym (set-self old (number_of list) (drop 0 (waiting_in old list)) (drop-zero (waiting_in old list)));
-  sound = sound;
-  woken = λ s h. h;
-}
 
 drop-next : (k : ℕ) (xs : List (ℕ × ℕ)) → drop 1 (drop k xs) ≡ drop (suc k) xs
 drop-next zero [] = refl
@@ -110,12 +98,6 @@ take-last (suc k) [] e = refl
 take-last zero (x ∷ xs) e = absurd (none-some x.0 e)
 take-last (suc k) (x ∷ xs) e = ap (λ (ms : List ℕ). x.0 ∷ ms) (take-last k xs e)
 
-taken-left : (k : ℕ) (xs : List (ℕ × ℕ)) → length (take k (tasks_in xs)) + length (drop k xs) ≡ length xs
-taken-left zero [] = refl
-taken-left (suc k) [] = refl
-taken-left zero (x ∷ xs) = omega arith
-taken-left (suc k) (x ∷ xs) = let e = taken-left k xs in omega (arith, e)
-
 module _ (old new : List (List (ℕ × ℕ))) (list : WaitList) (count : ℕ) (taken : List ℕ) (sound : IsSound 64 32 old) (h : TakenOut old new list count taken) where
   -- what is left of the list
   left_in : waiting_in new list ≡ drop count (waiting_in old list)
@@ -127,16 +109,6 @@ module _ (old new : List (List (ℕ × ℕ))) (list : WaitList) (count : ℕ) (t
       ∙ ap (λ (xs : List (ℕ × ℕ)). set new (number_of list) xs) (drop-next count (waiting_in old list))
       ∙ ap (λ (ls : List (List (ℕ × ℕ))). set ls (number_of list) (drop (suc count) (waiting_in old list))) h.left
       ∙ set-set old (number_of list) (drop count (waiting_in old list)) (drop (suc count) (waiting_in old list))
-
-  pub room : (n : ℕ) → Some n ≡ first_of (waiting_in new list) → length taken < 32
-  room n first =
-      let f = first_split n (waiting_in new list) first in
-      let rest : List (ℕ × ℕ) = f.1 in
-      let few = sound.few (number_of list) in
-      let some : length (drop count (waiting_in old list)) ≡ length ((n, f.0) ∷ rest) = ap length (sym left_in ∙ f.2) in
-      let all = taken-left count (waiting_in old list) in
-      let same : length taken ≡ length (take count (tasks_in (waiting_in old list))) = ap length h.tasks in
-      omega (arith, few, some, all, same)
 
   pub takes_next : (n : ℕ) → Some n ≡ first_of (waiting_in new list) → (newer : List (List (ℕ × ℕ))) → newer ≡ set new (number_of list) (drop 1 (waiting_in new list)) → IsSound 64 32 newer
       → ((s : State) → WaitersStand new None s → WaitersStand newer None (make_ready n s)) → TakenOut old newer list (suc count) (taken ++ n ∷ [])

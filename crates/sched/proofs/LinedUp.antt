@@ -8,7 +8,7 @@ use Rattle.model.proofs.Lists.{eqb-same}
 use Rattle.model.proofs.Sorting.{by_test}
 use Rattle.lists.specs.Lists.{Each, first_of, has_node, without}
 use Rattle.lists.proofs.Entries.{Each-append, Each-imp, Each-without, has_node-same, has_node-other, has_node-without_other, without-same, without-other}
-use Rattle.sched.specs.Schedule.{Schedule, add_to_ready_list, block, is_among, is_ready, line_up, lined_up, make_ready, pend_ready, priority_in, set_priority, to_back, unhold, wake, without_task}
+use Rattle.sched.specs.Schedule.{Schedule, add_to_ready_list, block, is_among, is_ready, line_up, lined_up, make_ready, pend_ready, priority_in, set_priority, to_back, wake, without_task}
 use Rattle.sched.specs.ReadyLists.{AtHome, ready_list_of}
 use Rattle.sched.proofs.ReadyList.{add-after, add-before, none_lower, or-false}
 
@@ -241,11 +241,6 @@ module _ {A : Type 0} (part : Schedule → A) where
       (λ t. rw t (same v (add_to_ready_list (i, priority_in v.priorities i) (without i v.ready))))
       (λ t. rw t refl)
 
-  pub priority_keeps : ((v : Schedule) (ready : List (ℕ × ℕ)) → part (record v { ready = ready }) ≡ part v) → ((v : Schedule) (priorities : List ℕ) → part (record v { priorities = priorities }) ≡ part v) → (v : Schedule) (i p : ℕ) → part (set_priority i p v) ≡ part v
-  priority_keeps same same' v i p = by_test (priority_in v.priorities i == p)
-      (λ t. rw t refl)
-      (λ t. rw t (back_keeps same (record v { priorities = set v.priorities i p }) i ∙ same' v (set v.priorities i p)))
-
 -- who is Ready after another is made so, or no more so
 
 pub ready_made : (v : Schedule) (i j : ℕ) → j ≢ i → is_ready (make_ready i v) j ≡ is_ready v j
@@ -293,10 +288,6 @@ first_free (t ∷ ts) (Some task) v apart is once = is_unready task v (apart tas
 -- where nobody is pending, the Ready tasks are those in the ready lists
 pub lined_up_calm : (v : Schedule) → v.pending ≡ [] → lined_up v ≡ v.ready
 lined_up_calm v none = ap (λ (ts : List ℕ). line_up ts v.priorities v.ready) none
-
--- a hold that is taken back changes nothing of who is Ready, and in which order
-pub lined_up-unhold : (v : Schedule) → lined_up (unhold v) ≡ lined_up v
-lined_up-unhold v = by_test (v.depth == 1) (λ t. rw t refl) (λ t. rw t refl)
 
 -- ---- whether any task is Ready
 

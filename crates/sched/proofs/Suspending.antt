@@ -1,10 +1,9 @@
 -- Tasks that are suspended and resumed.
 use Rattle.std.proofs.Common.{◌≡◌, ◌≢◌, ℕ, ◌<◌, true, false, length, sym, ◌∙◌, ap, refl}
 use Rattle.std.specs.Prelude.{◌==◌}
-use Rattle.std.specs.Option.{is_some}
 use Rattle.std.proofs.Math.ListN.{length-set}
 use Rattle.std.proofs.lemmas.List.{get_or-set_other, get_or-set_same}
-use Rattle.model.specs.State.{State, Status, Task, Progress, Ready, Awake, Waiting, Asleep, WaitingForBits, Suspended, Ended, task_at, status_at, progress_at, with_progress, with_status, ticket_if_ready}
+use Rattle.model.specs.State.{State, Task, Progress, Suspended, task_at, status_at, progress_at, with_progress, with_status}
 use Rattle.model.specs.Switching.{ready_key, ready_list}
 use Rattle.model.specs.Suspension.{can_resume, resume, resumed}
 use Rattle.model.specs.Invariant.{IsTable}
@@ -12,14 +11,12 @@ use Rattle.model.proofs.Sorting.{by_test}
 use Rattle.model.proofs.Lists.{eqb-same, list-gone}
 use Rattle.model.proofs.Tables.{table-set, ticket_at}
 use Rattle.lists.specs.Lists.{has_node, without}
-use Rattle.lists.proofs.Entries.{has_node-without_other}
 use Rattle.task_lists.specs.Priorities.{with_priorities}
-use Rattle.task_lists.proofs.Priorities.{has_node-with_priorities}
 use Rattle.sched.specs.Schedule as mine
-use Rattle.sched.specs.Schedule.{IsCalm, Schedule, is_suspended, lined_up, priority_in, unsuspend}
+use Rattle.sched.specs.Schedule.{IsCalm, Schedule, is_suspended, priority_in, unsuspend}
 use Rattle.sched.specs.StandsFor.{StandsFor, StandsBefore}
 use Rattle.sched.proofs.LinedUp.{IsFalling, has_node-added, lined_up-block}
-use Rattle.sched.proofs.Standing.{Adds, adds_made_ready, adds_pended, falling_ready, numbers_kept, placing_added, ready_in_list, ready_same, stands_added, stands_before_kept, stands_kept, suspended_changed, with_priorities-filter}
+use Rattle.sched.proofs.Standing.{Adds, adds_made_ready, adds_pended, falling_ready, numbers_kept, placing_added, stands_added, stands_before_kept, stands_kept, suspended_changed, with_priorities-filter}
 
 -- ---- suspend
 
@@ -39,28 +36,6 @@ stands_suspended v s i h l known =
       suspended = suspended_changed (is_suspended v) (is_suspended (mine.suspend i v)) s new i t h.suspended (λ j ne. get_or-set_other v.suspended i j true false ne) (get_or-set_same v.suspended i true false known) l refl;
       table = table-set s i t h.table tt;
     }
-
--- ---- a suspended task isn't Ready
-
-unready : (u : Status) → can_resume u ≡ true → is_some (ticket_if_ready u) ≡ false
-unready (Ready n) t = absurd cc
-unready (Awake w) t = absurd cc
-unready (Waiting w) t = absurd cc
-unready (Asleep m n) t = absurd cc
-unready (WaitingForBits g m d) t = absurd cc
-unready Suspended t = refl
-unready Ended t = absurd cc
-
-pub suspended_unready : (v : Schedule) (s : State) (i : ℕ) → StandsFor v s → is_suspended v i ≡ true → mine.is_ready v i ≡ false
-suspended_unready v s i h on = ready_same v s i h ∙ unready (status_at s i) (sym (h.suspended i) ∙ on)
-
--- Nor is one while another is still to be placed, which isn't suspended itself.
-pub suspended_unready_before : (v : Schedule) (s : State) (decider i : ℕ) → StandsBefore decider v s → can_resume (status_at s decider) ≡ false → is_suspended v i ≡ true → mine.is_ready v i ≡ false
-suspended_unready_before v s decider i h awake on =
-    let resumable : can_resume (status_at s i) ≡ true = sym (h.suspended i) ∙ on in
-    let ne : i ≢ decider = λ same. let off : can_resume (status_at s i) ≡ false = ap (λ (j : ℕ). can_resume (status_at s j)) same ∙ awake in cc in
-    sym (has_node-without_other decider i (lined_up v) ne)
-    ∙ ap (has_node i) h.ready ∙ has_node-with_priorities i (ready_list s) ∙ ready_in_list s i ∙ unready (status_at s i) resumable
 
 -- ---- resume
 
