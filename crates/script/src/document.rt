@@ -1,21 +1,21 @@
 //! An application from a document.
-ghost use Rattle.std.specs.Prelude.{◌≡◌, ◌≤◌, length, map, None, Option};
+ghost use Rattle.std.specs.Prelude.{◌≡◌, ◌≤◌, [], ◌∷◌, codes, length, map, None, Option};
 ghost use Rattle.std.specs.List.{AllByRecursion};
-ghost use Rattle.toml.specs.Data.{Members};
+ghost use Rattle.toml.specs.Data.{Members, get_member};
 ghost use Rattle.toml.specs.View.{table_view};
 ghost use Rattle.model.specs.Application.{Application};
 ghost use Rattle.model.specs.Scripts.{IsDefinition, IsHandler, KnowsAll, most_handlers};
 ghost use Rattle.script.specs.declared.fault.LoadFault.{LoadFault};
-ghost use Rattle.script.specs.Faults.{Judges, Loads};
+ghost use Rattle.script.specs.Faults.{first_fault, Judges, Loads};
 ghost use Rattle.script.specs.Values.{data_of};
 ghost use Rattle.script.specs.Objects.{kinds_of};
 ghost use Rattle.script.specs.Entries.{HasEntries};
 ghost use Rattle.script.specs.Tasks.{raw_view};
-ghost use Rattle.script.specs.Handlers.{isr_view};
+ghost use Rattle.script.specs.Handlers.{isr_view, isr_names};
 ghost use Rattle.script.specs.Ops.{scripts_fault, with_ops};
 ghost use Rattle.script.specs.IsrOps.{handler_ops_fault, with_isr_ops};
-ghost use Rattle.script.specs.Interrupts.{AreInterrupts};
-ghost use Rattle.script.specs.Points.{ArePoints};
+ghost use Rattle.script.specs.Interrupts.{AreInterrupts, interrupt_section_fault, interrupt_section_named};
+ghost use Rattle.script.specs.Points.{ArePoints, campaign_section_fault, campaign_section_named};
 ghost use Rattle.script.specs.Load.{limits_fault, limits_named, load_fault, app_named};
 
 use crate::entries::NamedEntries;
@@ -139,6 +139,58 @@ fn build(
     )
 }
 
+// The application of these parts and of the document's interrupts and points, whose ops are checked before these.
+fn checked(
+    alloc: Global,
+    start: u32,
+    limits: Limits,
+    entries: &NamedEntries<'_>,
+    handlers: &[RawHandler<'_>],
+    tasks: &[RawTask<'_>],
+    document: &Table,
+) -> Result<App, LoadFault>
+    requires some { 1 ≤ length tasks.now }
+    requires few { length tasks.now ≤ 32 }
+    requires named { length tasks.now ≡ length entries.now.tasks }
+    requires few_handlers { length handlers.now ≤ most_handlers }
+    ensures { Loads result
+        (first_fault (
+        handler_ops_fault entries.now 0 (map isr_view handlers.now)
+        ∷ scripts_fault entries.now 0 (map raw_view tasks.now)
+        ∷ interrupt_section_fault (isr_names (map isr_view handlers.now))
+        (get_member (codes "interrupt") (table_view document.now))
+        ∷ campaign_section_fault (isr_names (map isr_view handlers.now))
+        (get_member (codes "campaign") (table_view document.now))
+        ∷ []))
+        (record {
+          start = start;
+          limits = limits;
+          objects = kinds_of entries.now.objects;
+          group_count = length entries.now.groups;
+          handlers = map (with_isr_ops entries.now) (map isr_view handlers.now);
+          interrupts = interrupt_section_named (isr_names (map isr_view handlers.now))
+              (get_member (codes "interrupt") (table_view document.now));
+          tasks = map (with_ops entries.now) (map raw_view tasks.now);
+          points = campaign_section_named (isr_names (map isr_view handlers.now))
+              (get_member (codes "campaign") (table_view document.now));
+        }) }
+{
+    check_handlers(entries, handlers)?;
+    check_scripts(entries, tasks)?;
+    let interrupts = interrupts(member(document, "interrupt"), handlers)?;
+    let points = points(alloc, member(document, "campaign"), handlers)?;
+    build(
+        alloc,
+        start,
+        limits,
+        entries,
+        handlers,
+        &interrupts,
+        tasks,
+        points,
+    )
+}
+
 /// What a document describes.
 pub trait FromDocument: Sized {
     // The fault of the first check of a document that fails.
@@ -175,19 +227,14 @@ impl FromDocument for App {
             groups: &groups,
             tasks: &tasks,
         };
-        check_handlers(&entries, handlers.as_slice())?;
-        check_scripts(&entries, tasks.as_slice())?;
-        let interrupts = interrupts(member(document, "interrupt"), handlers.as_slice())?;
-        let points = points(alloc, member(document, "campaign"), handlers.as_slice())?;
-        build(
+        checked(
             alloc,
             start,
             limits,
             &entries,
             handlers.as_slice(),
-            &interrupts,
             tasks.as_slice(),
-            points,
+            document,
         )
     }
 }

@@ -1,5 +1,5 @@
 //! Which text spells which op.
-ghost use Rattle.std.specs.Prelude.{◌≡◌, List, ℕ, None, Some, IfSome, MatchOption, option_and_then};
+ghost use Rattle.std.specs.Prelude.{◌≡◌, List, ℕ, drop, None, Some, IfSome, MatchOption, option_and_then};
 ghost use Rattle.std.specs.Str.{bytes_eq};
 ghost use Rattle.model.specs.declared.op.Op.{Op};
 ghost use Rattle.model.specs.declared.op.IsrOp.{IsrOp};
@@ -93,6 +93,29 @@ fn semaphore_op_after(word: &[u8], words: &mut Words<'_>, finding: Finding<'_>) 
     }
 }
 
+// The op of this word on an object that sends nothing, whose arguments are the next words.
+fn reading_op_after(word: &[u8], words: &mut Words<'_>, finding: Finding<'_>) -> Option<Op>
+    // What is still to be read is whether the text ends here.
+    ensures { MatchOption result
+        (read_by word_of (found_by finding.entry) (drop 3 object_forms) word.now words.old ≡ None)
+        (λ op. read_by word_of (found_by finding.entry) (drop 3 object_forms) word.now words.old
+        ≡ read (found_by finding.entry) (Done op) words.new) }
+{
+    if is(word, "receive") {
+        let queue = words.object(ObjectSort::Queue, finding)?;
+        Some(Op::Await(queue, Access::Receive, words.wait()?))
+    } else if is(word, "peek") {
+        let queue = words.object(ObjectSort::Queue, finding)?;
+        Some(Op::Await(queue, Access::Peek, words.wait()?))
+    } else if is(word, "waiting") {
+        Some(Op::MessagesWaiting(words.object(ObjectSort::Queue, finding)?))
+    } else if is(word, "spaces") {
+        Some(Op::SpacesAvailable(words.object(ObjectSort::Queue, finding)?))
+    } else {
+        semaphore_op_after(word, words, finding)
+    }
+}
+
 // The op of this word on an object, whose arguments are the next words.
 fn object_op_after(word: &[u8], words: &mut Words<'_>, finding: Finding<'_>) -> Option<Op>
     // What is still to be read is whether the text ends here.
@@ -112,18 +135,31 @@ fn object_op_after(word: &[u8], words: &mut Words<'_>, finding: Finding<'_>) -> 
     } else if is(word, "overwrite") {
         let queue = words.object(ObjectSort::Queue, finding)?;
         Some(Op::Do(queue, Access::Overwrite(words.number()?)))
-    } else if is(word, "receive") {
-        let queue = words.object(ObjectSort::Queue, finding)?;
-        Some(Op::Await(queue, Access::Receive, words.wait()?))
-    } else if is(word, "peek") {
-        let queue = words.object(ObjectSort::Queue, finding)?;
-        Some(Op::Await(queue, Access::Peek, words.wait()?))
-    } else if is(word, "waiting") {
-        Some(Op::MessagesWaiting(words.object(ObjectSort::Queue, finding)?))
-    } else if is(word, "spaces") {
-        Some(Op::SpacesAvailable(words.object(ObjectSort::Queue, finding)?))
     } else {
-        semaphore_op_after(word, words, finding)
+        reading_op_after(word, words, finding)
+    }
+}
+
+// The op of this word that is none of the first four, whose arguments are the next words.
+fn later_op_after(word: &[u8], words: &mut Words<'_>, finding: Finding<'_>) -> Option<Op>
+    // What is still to be read is whether the text ends here; a number past what the code can hold is out of range.
+    ensures { MatchOption result
+        (option_and_then if_in_range (read_by word_of (found_by finding.entry) (drop 4 forms) word.now words.old) ≡ None)
+        (λ op. read_by word_of (found_by finding.entry) (drop 4 forms) word.now words.old
+        ≡ read (found_by finding.entry) (Done op) words.new) }
+{
+    if is(word, "time") {
+        Some(Op::Time)
+    } else if is(word, "mark") {
+        Some(Op::Mark(words.number()?))
+    } else if is(word, "expect") {
+        Some(Op::Expect(words.answer()?))
+    } else if is(word, "repeat") {
+        Some(Op::Repeat(u16::try_from(words.number()?).ok()?))
+    } else if is(word, "end") {
+        Some(Op::End)
+    } else {
+        object_op_after(word, words, finding)
     }
 }
 
@@ -143,18 +179,8 @@ fn op_after(word: &[u8], words: &mut Words<'_>, finding: Finding<'_>) -> Option<
         Some(Op::DelayUntil(words.number()?))
     } else if is(word, "yield") {
         Some(Op::Yield)
-    } else if is(word, "time") {
-        Some(Op::Time)
-    } else if is(word, "mark") {
-        Some(Op::Mark(words.number()?))
-    } else if is(word, "expect") {
-        Some(Op::Expect(words.answer()?))
-    } else if is(word, "repeat") {
-        Some(Op::Repeat(u16::try_from(words.number()?).ok()?))
-    } else if is(word, "end") {
-        Some(Op::End)
     } else {
-        object_op_after(word, words, finding)
+        later_op_after(word, words, finding)
     }
 }
 
@@ -168,6 +194,28 @@ pub(crate) fn op_of(text: &[u8], finding: Finding<'_>) -> Option<Op>
     let op = op_after(word, &mut words, finding)?;
     if words.is_at_end() && op.is_in_range() {
         Some(op)
+    } else {
+        None
+    }
+}
+
+// The op of a handler of this word that is none of the five on a queue, whose arguments are the next words.
+fn other_isr_op_after(word: &[u8], words: &mut Words<'_>, finding: Finding<'_>) -> Option<IsrOp>
+    // What is still to be read is whether the text ends here.
+    ensures { MatchOption result
+        (read_by word_of_isr (found_by finding.entry) (drop 5 isr_forms) word.now words.old ≡ None)
+        (λ op. read_by word_of_isr (found_by finding.entry) (drop 5 isr_forms) word.now words.old
+        ≡ read (found_by finding.entry) (Done op) words.new) }
+{
+    if is(word, "give") {
+        let semaphore = words.object(ObjectSort::Semaphore, finding)?;
+        Some(IsrOp::Do(semaphore, Access::Give))
+    } else if is(word, "resume") {
+        Some(IsrOp::Resume(words.task(finding)?))
+    } else if is(word, "bits") {
+        Some(IsrOp::GetBits(words.group(finding)?))
+    } else if is(word, "mark") {
+        Some(IsrOp::Mark(words.number()?))
     } else {
         None
     }
@@ -194,17 +242,8 @@ fn isr_op_after(word: &[u8], words: &mut Words<'_>, finding: Finding<'_>) -> Opt
         Some(IsrOp::Do(words.object(ObjectSort::Queue, finding)?, Access::Receive))
     } else if is(word, "peek") {
         Some(IsrOp::Do(words.object(ObjectSort::Queue, finding)?, Access::Peek))
-    } else if is(word, "give") {
-        let semaphore = words.object(ObjectSort::Semaphore, finding)?;
-        Some(IsrOp::Do(semaphore, Access::Give))
-    } else if is(word, "resume") {
-        Some(IsrOp::Resume(words.task(finding)?))
-    } else if is(word, "bits") {
-        Some(IsrOp::GetBits(words.group(finding)?))
-    } else if is(word, "mark") {
-        Some(IsrOp::Mark(words.number()?))
     } else {
-        None
+        other_isr_op_after(word, words, finding)
     }
 }
 

@@ -16,3 +16,12 @@ returns-clause-formed c app has =
     let short = subst (AllByRecursion (λ (h : Handler). length h.name ≤ most_name_bytes)) built c.loop-entry.invariant.short in
     let few = subst (AllByRecursion (λ (h : Handler). length h.ops ≤ most_handler_ops)) built c.loop-entry.invariant.few in
     subst (AllByRecursion (IsHandler app)) (sym built) (taken_handlers app entries has raws c.requires short few)
+
+pub loop-entry-preserved : goal.loop-entry-preserved
+loop-entry-preserved c = record {
+  checks = grind (arith, common_steps);
+  named = grind (arith, common_steps);
+  short = grind (arith, common_steps);
+  few = grind (arith, common_steps);
+  count = grind (arith, common_steps);
+}

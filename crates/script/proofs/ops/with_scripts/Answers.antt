@@ -13,3 +13,11 @@ returns-clause-known c app has =
     let raws = map raw_view c.args.tasks.now in
     let built : c.loop-entry.definitions.items ≡ map (with_ops entries) raws = grind (arith, common_steps) in
     subst (AllByRecursion (KnowsAll app)) (sym built) (known_tasks app entries has 0 raws c.requires)
+
+pub loop-entry-preserved : goal.loop-entry-preserved
+loop-entry-preserved c = record {
+  checks = grind (arith, common_steps);
+  named = grind (arith, common_steps);
+  formed = grind (arith, common_steps);
+  count = grind (arith, common_steps);
+}

@@ -1,0 +1,12 @@
+use Rattle.std.proofs.Common.{arith}
+use Rattle.std.proofs.lemmas.Grind.{common_steps}
+use Rattle.script.proofs.points.push_all.Goals as goal
+
+pub loop-index-preserved : goal.loop-index-preserved
+loop-index-preserved c = record {
+  checks = grind (arith, common_steps);
+  named = grind (arith, common_steps);
+  entries = grind (arith, common_steps);
+  count = grind (arith, common_steps);
+  room = grind (arith, common_steps);
+}
