@@ -1,6 +1,11 @@
 pub mod Campaigns
+pub mod Kinds
 pub mod OneRun
 pub mod Options
+pub mod Placing
 pub mod Points
 pub mod Report
 pub mod Serving
+pub mod Setup
+pub mod Start
+pub mod Working

@@ -1,65 +1,70 @@
 -- The rows of a campaign, as they are kept.
-use Rattle.std.specs.Prelude.{◌≡◌, ℕ, ◌+◌, ◌≤◌, List, [], ◌∷◌, ◌++◌, length, take, drop}
-use Rattle.std.specs.List.{AllByRecursion}
+use Rattle.std.specs.Prelude.{◌≡◌, ℕ, ◌+◌, ◌≤◌, List, [], ◌++◌, length, map, take, drop, slice_range, slice_get, nat_lt, Option, Some, None, IfSome}
+use Rattle.std.specs.List.{AllByRecursion, flat_map}
 use Rattle.kernel.specs.Logged.{all_of}
 use Rattle.model.specs.declared.event.Event.{Event}
-use Rattle.model.specs.declared.totals.Totals.{Totals}
 use Rattle.model.specs.declared.plan.Point.{Point}
 use Rattle.model.specs.Application.{Application, Limits}
 use Rattle.model.specs.Run.{Run, IsRow}
 use Rattle.model.specs.Campaign.{Row, totals_of}
 use Rattle.model.specs.Scripts.{most_points}
 use Rattle.campaign.specs.declared.rows.KeptRow.{KeptRow}
-use Rattle.campaign.specs.declared.rows.Rows.{Rows}
+use Rattle.campaign.specs.declared.rows.Part.{Part}
+use Rattle.campaign.specs.declared.rows.Place.{Place}
+use Rattle.campaign.specs.declared.campaign_report.Rows.{Rows}
 
--- A row that is kept begins as the base run does, with so many of its events, and goes on with its own.
-abbrev pub row_of : (base own : List Event) → KeptRow → Row
-row_of base own kept = record {
+-- A row that is kept begins as the base run does, with so many of its events, and goes on with its own, which stand in a trail.
+abbrev pub row_of : (base : Run) (trail : List Event) → KeptRow → Row
+row_of base trail kept = record {
   point = kept.point;
-  reached = kept.reached;
+  reached = nat_lt kept.point.step base.steps;
   run = record {
-    events = take kept.shared base ++ own;
+    events = take kept.shared base.events ++ slice_range trail kept.own_from kept.own_to;
     steps = kept.steps;
     ticks = kept.ticks;
     end = kept.end;
   };
 }
 
--- the rows that are kept, whose own events stand one after the other
-abbrev pub rows_of : (base events : List Event) → List KeptRow → List Row
-rows_of base events [] = []
-rows_of base events (kept ∷ rest) =
-    row_of base (take kept.own events) kept ∷ rows_of base (drop kept.own events) rest
+abbrev pub rows_of : (base : Run) (trail : List Event) → List KeptRow → List Row
+rows_of base trail kept = map (row_of base trail) kept
 
--- how many events they have of their own
-abbrev pub all_own : List KeptRow → ℕ
-all_own [] = 0
-all_own (kept ∷ rest) = kept.own + all_own rest
-
--- These rows are kept so, with these events of their own.
-pub record AreKept (base events : List Event) (kept : List KeptRow) (totals : Totals) : Type 0 where
-  pub own : all_own kept ≡ length events
-  pub shared : AllByRecursion (λ (k : KeptRow). k.shared ≤ length base) kept
-  pub few : length kept ≤ most_points
-  pub counted : totals ≡ totals_of (rows_of base events kept)
-
--- the rows as a whole
-abbrev pub whole : Rows → List Row
-whole rows = rows_of rows.base.events (all_of rows.trail) rows.kept.items
-
-abbrev pub IsSound : Rows → Type 0
-IsSound rows = AreKept rows.base.events (all_of rows.trail) rows.kept.items rows.totals
-
--- The row of this point is kept so, with these events of its own.
-pub record IsKeptRow (app : Application) (limits : Limits) (base : Run) (own : List Event) (point : Point) (kept : KeptRow) : Type 0 where
-  pub at_point : kept.point ≡ point
-  pub has_own : kept.own ≡ length own
+-- the events of the row are there
+pub record IsKept (base : Run) (trail : List Event) (kept : KeptRow) : Type 0 where
   pub shared : kept.shared ≤ length base.events
-  pub is_row : IsRow app limits point kept.reached (row_of base.events own kept).run
+  pub rises : kept.own_from ≤ kept.own_to
+  pub own : kept.own_to ≤ length trail
 
--- One row more is made: that of this point.
-pub record Gains (app : Application) (limits : Limits) (point : Point) (old new : List Row) : Type 0 where
-  pub row : Row
-  pub last : new ≡ old ++ row ∷ []
-  pub at_point : row.point ≡ point
-  pub is_row : IsRow app limits point row.reached row.run
+-- ---- the rows as a whole
+
+-- so many rows of a part, from the first on
+abbrev pub rows_in : Run → Part → (first count : ℕ) → List Row
+rows_in base part first count = rows_of base (all_of part.trail) (take count (drop first part.kept.items))
+
+abbrev pub rows_in_some : Run → Option Part → (first count : ℕ) → List Row
+rows_in_some base (Some part) first count = rows_in base part first count
+rows_in_some base None first count = []
+
+-- the rows of a place
+abbrev pub rows_at : Run → List Part → Place → List Row
+rows_at base parts place = rows_in_some base (slice_get parts place.part) place.first place.count
+
+-- there are rows in the place
+pub record IsPlace (parts : List Part) (place : Place) : Type 0 where
+  pub part : Part
+  pub at_part : slice_get parts place.part ≡ Some part
+  pub within : place.first + place.count ≤ length part.kept.items
+
+-- the rows that the parts keep in these places, one place after the other
+abbrev pub whole : Rows → List Row
+whole rows = flat_map (rows_at rows.base rows.parts.items) rows.places.items
+
+abbrev pub AreKept : Run → Part → Type 0
+AreKept base part = AllByRecursion (IsKept base (all_of part.trail)) part.kept.items
+
+-- Each row is there, and they add up to these totals.
+pub record IsSound (rows : Rows) : Type 0 where
+  pub kept : AllByRecursion (AreKept rows.base) rows.parts.items
+  pub placed : AllByRecursion (IsPlace rows.parts.items) rows.places.items
+  pub few : length (whole rows) ≤ most_points
+  pub counted : rows.totals ≡ totals_of (whole rows)

@@ -1,11 +1,19 @@
 //! The report of a campaign.
 ghost use Rattle.std.specs.Prelude.{◌≡◌};
 ghost use Rattle.model.specs.Campaign.{totals_of};
-ghost use Rattle.campaign.specs.Report.{whole, IsSound};
 
-use crate::rows::Rows;
-use model::Totals;
+use crate::rows::{Part, Place};
+use model::{Run, Totals};
 use std::marker::Model;
+
+/// The rows of a campaign: those of each block stand in its place, one block after the other. All begin as the base run does.
+#[derive(Drop)]
+pub(crate) struct Rows {
+    pub(crate) base: Run,
+    pub(crate) parts: Vec<Part>,
+    pub(crate) places: Vec<Place>,
+    pub(crate) totals: Totals,
+}
 
 /// The rows of a campaign, in the order of its points, and their totals.
 #[derive(Drop)]
@@ -27,6 +35,8 @@ impl Model for Report {
 }
 
 impl Report {
+    ghost use Rattle.campaign.specs.Report.{whole, IsSound};
+
     /// The report of these rows.
     pub(crate) fn new(rows: Rows) -> Report
         requires { IsSound rows }

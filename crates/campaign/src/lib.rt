@@ -5,22 +5,19 @@
 mod at;
 mod campaign_report;
 mod file;
-mod making;
+mod gate;
 mod one_run;
 mod options;
 mod points;
-mod progress;
 mod rows;
-mod serving;
-mod writing;
+mod start;
+mod tallying;
+mod worker;
 
 pub use at::At;
 pub use campaign_report::Report;
 pub use file::ServeFault;
-pub use making::campaign;
+pub use gate::{Gate, NoGate};
 pub use one_run::serve_run;
 pub use options::{BadOption, Options};
 pub use points::{ExpandFault, expand};
-pub use progress::{Progress, Unseen};
-pub use serving::{serve, serve_watched};
-pub use writing::write_report;

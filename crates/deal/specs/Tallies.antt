@@ -1,5 +1,5 @@
 -- What tallies and their seats stand for, and what their calls promise, whatever other seats do at the same time.
-use Rattle.std.specs.Prelude.{◌≡◌, ℕ, ◌+◌, ◌<◌, ◌≤◌, List, length, All, slice_index, slice_set}
+use Rattle.std.specs.Prelude.{◌≡◌, ℕ, ◌+◌, ◌<◌, ◌≤◌, ◌==◌, List, length, All, slice_index, if◌then◌else◌}
 use Rattle.atomic_table.specs.Seated.{TableId}
 use Rattle.deal.specs.Totals.{total}
 use Rattle.std.specs.List.{AllByRecursion}
@@ -31,9 +31,13 @@ fresh_seat tally = record { sheet = tally; added = zeros; seen = zeros }
 abbrev pub RisesAt : ℕ → ℕ → List ℕ → List ℕ → Type 0
 RisesAt kind n old new = (slice_index old kind + n ≤ slice_index new kind) × ((k : ℕ) → slice_index old k ≤ slice_index new k)
 
+-- n more of this kind, and of no other
+abbrev pub AddsAt : ℕ → ℕ → List ℕ → List ℕ → Type 0
+AddsAt kind n old new = (k : ℕ) → slice_index new k ≡ slice_index old k + (if k == kind then n else 0)
+
 -- the seat added n to a kind, and to no other, and saw the sum that it made
 abbrev pub Adds : ℕ → ℕ → Tallied → Tallied → Type 0
-Adds kind n old new = (new.sheet ≡ old.sheet) × (new.added ≡ slice_set old.added kind (slice_index old.added kind + n)) × RisesAt kind n old.seen new.seen
+Adds kind n old new = (new.sheet ≡ old.sheet) × AddsAt kind n old.added new.added × RisesAt kind n old.seen new.seen
 
 -- of each kind at most
 abbrev pub AtMost : List ℕ → List ℕ → Type 0

@@ -1,0 +1,11 @@
+use Rattle.std.proofs.Common.{◌≡◌, ◌∙◌, ap, length, arith}
+use Rattle.kernel.specs.Logged.{all_of}
+use Rattle.campaign.proofs.Keeping.{missed_row}
+use Rattle.campaign.proofs.worker.Worker.missed.Goals as goal
+
+pub returns : goal.returns
+returns c =
+    let start = c.args.start.now in
+    let same = c.base.view_is ∙ c.base-base.ensures in
+    missed_row c.args.app.now start.limits start.base c.requires.start.base c.args.point (all_of c.args.self.now.trail) _ _ _ same c.requires.missed
+    (omega (arith, c.len.ensures, c.base.inside.events.ok)) c.len-end.ensures

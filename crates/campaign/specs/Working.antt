@@ -1,0 +1,127 @@
+-- What workers make: the rows of blocks.
+use Rattle.std.specs.Prelude.{◌≡◌, ℕ, ◌+◌, ◌<◌, ◌≤◌, ◌^◌, Bool, true, false, List, [], ◌∷◌, ◌++◌, length, map, take, drop, sum, slice_index, nat_lt}
+use Rattle.std.specs.List.{AllByRecursion, concat}
+use Rattle.kernel.specs.Logged.{all_of}
+use Rattle.model.specs.declared.event.Event.{Event}
+use Rattle.model.specs.declared.plan.Point.{Point}
+use Rattle.model.specs.Application.{Application, Limits}
+use Rattle.model.specs.Run.{Run, IsRow}
+use Rattle.model.specs.Campaign.{Row, AreRows}
+use Rattle.deal.specs.Sharing.{Game, Sight, HasSeenAll}
+use Rattle.deal.specs.Tallies.{Sheet, Tallied}
+use Rattle.deal.specs.Totals.{total}
+use Rattle.campaign.specs.declared.rows.KeptRow.{KeptRow}
+use Rattle.campaign.specs.declared.rows.KeptBlock.{KeptBlock}
+use Rattle.campaign.specs.declared.rows.Part.{Part}
+use Rattle.campaign.specs.declared.worker.Job.{Job}
+use Rattle.campaign.specs.declared.worker.Done.{Done}
+use Rattle.campaign.specs.Kinds.{kind_in}
+use Rattle.campaign.specs.Report.{row_of, rows_of, rows_in, IsKept, AreKept}
+
+-- What there is to be done: rows of the application under these limits, with this base run, at these points, which are cut into
+-- blocks of these lengths.
+pub record Work : Type 0 where
+  pub app : Application
+  pub limits : Limits
+  pub base : Run
+  pub points : List Point
+  pub lengths : List ℕ
+
+-- ---- one row
+
+-- The row of this point is kept so. Its own events are the last of the trail.
+pub record IsKeptRow (app : Application) (limits : Limits) (base : Run) (trail : List Event) (point : Point) (kept : KeptRow) : Type 0 where
+  pub at_point : kept.point ≡ point
+  pub is_kept : IsKept base trail kept
+  pub is_row : IsRow app limits point (nat_lt point.step base.steps) (row_of base trail kept).run
+
+-- A trail gains some events, with which a row is kept.
+pub record GainsRow (app : Application) (limits : Limits) (base : Run) (point : Point) (old new : List Event) (kept : KeptRow) : Type 0 where
+  pub own : List Event
+  pub trail : new ≡ old ++ own
+  pub row : IsKeptRow app limits base new point kept
+
+-- ---- seats
+
+-- the seat added these, kind by kind
+pub record Gained (counts : ℕ → ℕ) (old new : Tallied) : Type 0 where
+  pub same : new.sheet ≡ old.sheet
+  pub rises : (kind : ℕ) → kind < 7 → slice_index new.added kind ≡ slice_index old.added kind + counts kind
+
+-- the seat may still add so many to each kind
+abbrev pub HasRoom : ℕ → Tallied → Type 0
+HasRoom count seat = (kind : ℕ) → kind < 7 → slice_index seat.added kind + count ≤ 2 ^ 40
+
+-- ---- the rows of several points
+
+-- Behind these rows and events come those of the rows of these points, and the seat counted them.
+pub record GainsRows (app : Application) (limits : Limits) (base : Run) (points : List Point)
+    (kept kept' : List KeptRow) (trail trail' : List Event) (seat seat' : Tallied) : Type 0 where
+  pub more : List KeptRow
+  pub rows_are : kept' ≡ kept ++ more
+  pub own : List Event
+  pub trail_is : trail' ≡ trail ++ own
+  pub sound : AllByRecursion (IsKept base trail') more
+  pub made : AreRows app limits points (rows_of base trail' more)
+  pub gained : Gained (kind_in (rows_of base trail' more)) seat seat'
+
+-- ---- blocks
+
+-- the points of a block
+abbrev pub block_points : Work → ℕ → List Point
+block_points work block = take (slice_index work.lengths block) (drop (sum (take block work.lengths)) work.points)
+
+-- these are the rows of each block
+abbrev pub AreRowsByBlock : Work → (ℕ → List Row) → Type 0
+AreRowsByBlock work rows = (block : ℕ) → block < length work.lengths → AreRows work.app work.limits (block_points work block) (rows block)
+
+-- The rows of a block are kept.
+pub record IsKeptBlock (work : Work) (kept : List KeptRow) (trail : List Event) (block : KeptBlock) : Type 0 where
+  pub is_block : block.number < length work.lengths
+  pub within : block.first + block.count ≤ length kept
+  pub made : AreRows work.app work.limits (block_points work block.number) (rows_of work.base trail (take block.count (drop block.first kept)))
+
+abbrev pub AreKeptBlocks : Work → List KeptRow → List Event → List KeptBlock → Type 0
+AreKeptBlocks work kept trail blocks = AllByRecursion (IsKeptBlock work kept trail) blocks
+
+-- A worker's part: rows that are there, of blocks.
+pub record IsKeptPart (work : Work) (part : Part) : Type 0 where
+  pub rows : AreKept work.base part
+  pub blocks : AreKeptBlocks work part.kept.items (all_of part.trail) part.blocks.items
+
+-- the numbers of the blocks
+abbrev pub numbers_of : List KeptBlock → List ℕ
+numbers_of blocks = map (λ (block : KeptBlock). block.number) blocks
+
+-- a seat counted the rows of these blocks, whichever rows each block has
+abbrev pub CountsBlocks : Work → List ℕ → (old new : Tallied) → Type 0
+CountsBlocks work blocks old new =
+    (rows : ℕ → List Row) → AreRowsByBlock work rows → Gained (λ kind. total (λ block. kind_in (rows block) kind) blocks) old new
+
+-- ---- workers
+
+-- the job of a lane of this deal and a seat of this tally, which has room for every point
+pub record IsJob (work : Work) (deal : Game) (tally : Sheet) (job : Job) : Type 0 where
+  pub lane : job.lane.game ≡ deal
+  pub fresh : job.lane.answered ≡ []
+  pub seat : job.seat.sheet ≡ tally
+  pub room : HasRoom (length work.points) job.seat
+
+-- a worker that was refused nothing: all blocks are handed out, and the rows of those that it was answered are made and counted
+pub record Brings (work : Work) (old : Tallied) (done : Done) : Type 0 where
+  pub all : HasSeenAll done.lane
+  pub part : IsKeptPart work done.part
+  pub numbers : numbers_of done.part.blocks.items ≡ done.lane.answered
+  pub counts : CountsBlocks work done.lane.answered old done.seat
+
+-- what comes of a job
+pub record IsDone (work : Work) (job : Job) (done : Done) : Type 0 where
+  pub lane : done.lane.game ≡ job.lane.game
+  pub seat : done.seat.sheet ≡ job.seat.sheet
+  pub brings : done.refused ≡ false → Brings work job.seat done
+
+-- each job, and what came of it
+abbrev pub AreDone : Work → List Job → List Done → Type 0
+AreDone work [] [] = Unit {0}
+AreDone work (job ∷ jobs) (done ∷ dones) = IsDone work job done × AreDone work jobs dones
+AreDone work jobs dones = ⊥

@@ -1,0 +1,274 @@
+//! A worker, which makes the rows of the blocks that its lane is answered.
+ghost use Rattle.std.specs.Prelude.{◌≡◌, ◌<◌, ◌≤◌, ◌+◌, ◌++◌, ◌∷◌, [], false, length, sum, take, drop, IfOk, OnOk};
+ghost use Rattle.kernel.specs.Logged.{all_of};
+ghost use Rattle.campaign.specs.Start.{IsStart};
+ghost use Rattle.campaign.specs.Working.{GainsRow, GainsRows, HasRoom, IsDone, IsJob};
+ghost use Rattle.campaign.specs.Setup.{work_of};
+
+use crate::gate::Gate;
+use crate::rows::{KeptBlock, KeptRow, Part, push};
+use crate::start::Start;
+use crate::tallying::count_row;
+use deal::{Lane, Next, Tally, TallySeat};
+use kernel::{Kernel, StepLog, Trail};
+use model::{App, Memory, Meter, Point};
+use std::alloc::Global;
+use std::sync::Wait;
+use std::sync::atomic::{AtomicU64, Ordering};
+use std::thread;
+
+/// What all workers of a campaign share.
+#[derive(Clone, Copy)]
+pub(crate) struct Setup<'a> {
+    pub(crate) app: &'a App,
+    pub(crate) start: &'a Start,
+    pub(crate) points: &'a [Point],
+    pub(crate) tally: &'a Tally,
+}
+
+/// What a worker is given: its number, its lane and its seat.
+#[derive(Drop)]
+pub(crate) struct Job {
+    pub(crate) number: usize,
+    pub(crate) lane: Lane,
+    pub(crate) seat: TallySeat,
+}
+
+/// What a worker hands on when it is joined. It is refused where it, or another, found no memory; then its part is of no use.
+#[derive(Drop)]
+pub(crate) struct Done {
+    pub(crate) lane: Lane,
+    pub(crate) seat: TallySeat,
+    pub(crate) part: Part,
+    pub(crate) refused: bool,
+}
+
+// What a worker has of its own: a kernel, the log of a step, and the rows that it made.
+#[derive(Drop)]
+struct Worker {
+    kernel: Kernel,
+    log: StepLog,
+    trail: Trail,
+    kept: Vec<KeptRow>,
+    blocks: Vec<KeptBlock>,
+}
+
+impl Worker {
+    // A worker that has made nothing.
+    fn new(alloc: Global, app: &App) -> Worker
+        ensures kept { result.kept.items ≡ [] }
+        ensures blocks { result.blocks.items ≡ [] }
+    {
+        Worker {
+            kernel: Kernel::boot(app),
+            log: StepLog::new(),
+            trail: Trail::new(alloc),
+            kept: Vec::new(alloc),
+            blocks: Vec::new(alloc),
+        }
+    }
+
+    // The row of a point that the base run doesn't reach: it is the base run.
+    fn missed(&self, app: &App, start: &Start, point: Point) -> KeptRow
+        requires start { IsStart app.now start.now }
+        requires missed { start.now.base.steps ≤ point.step }
+        ensures { GainsRow app.now start.now.limits start.now.base point (all_of self.now.trail) (all_of self.now.trail) result }
+    {
+        let base = start.base();
+        let end = self.trail.len();
+        KeptRow {
+            point,
+            shared: base.events.len(),
+            own_from: end,
+            own_to: end,
+            steps: base.steps,
+            ticks: base.ticks,
+            end: base.end,
+        }
+    }
+
+    // The row of a point that the base run reaches.
+    fn reached(&mut self, app: &App, start: &Start, point: &Point) -> Result<KeptRow, Memory>
+        requires start { IsStart app.now start.now }
+        requires reached { point.now.step < start.now.base.steps }
+        ensures kept { self.new.kept ≡ self.old.kept }
+        ensures blocks { self.new.blocks ≡ self.old.blocks }
+        ensures row { IfOk result (GainsRow app.now start.now.limits start.now.base point.now
+            (all_of self.old.trail) (all_of self.new.trail)) }
+    {
+        let own_from = self.trail.len();
+        let mut meter = Meter::new();
+        let row = start.run_reached(
+            app,
+            *point,
+            &mut self.kernel,
+            &mut meter,
+            &mut self.log,
+            &mut self.trail,
+        )?;
+        let own_to = self.trail.len();
+        Ok(KeptRow {
+            point: *point,
+            shared: row.before,
+            own_from,
+            own_to,
+            steps: row.steps,
+            ticks: row.ticks,
+            end: row.end,
+        })
+    }
+
+    // The row of a point, whose own events go to the trail.
+    fn made(&mut self, app: &App, start: &Start, point: &Point) -> Result<KeptRow, Memory>
+        requires { IsStart app.now start.now }
+        ensures kept { self.new.kept ≡ self.old.kept }
+        ensures blocks { self.new.blocks ≡ self.old.blocks }
+        ensures row { IfOk result (GainsRow app.now start.now.limits start.now.base point.now
+            (all_of self.old.trail) (all_of self.new.trail)) }
+    {
+        if start.reaches(point) {
+            self.reached(app, start, point)
+        } else {
+            Ok(self.missed(app, start, *point))
+        }
+    }
+
+    // Makes the row of a point, and then adds it to the seat. At `Err(Memory)` the worker is of no more use.
+    fn add_row(
+        &mut self,
+        setup: &Setup<'_>,
+        seat: &mut TallySeat,
+        point: &Point,
+    ) -> Result<(), Memory>
+        requires start { IsStart setup.now.app.now setup.now.start.now }
+        requires seat { seat.old.sheet ≡ setup.now.tally.now }
+        requires room { HasRoom 1 seat.old }
+        ensures blocks { self.new.blocks ≡ self.old.blocks }
+        ensures row { OnOk result (GainsRows setup.now.app.now setup.now.start.now.limits setup.now.start.now.base (point.now ∷ [])
+            self.old.kept.items self.new.kept.items (all_of self.old.trail) (all_of self.new.trail) seat.old seat.new) }
+    {
+        let start = setup.start;
+        let is_reached = start.reaches(point);
+        let row = self.made(setup.app, start, point)?;
+        let end = row.end;
+        push(&mut self.kept, row)?;
+        count_row(setup.tally, seat, is_reached, end);
+        Ok(())
+    }
+
+    // Makes the rows of these points, one by one.
+    fn add_rows(
+        &mut self,
+        setup: &Setup<'_>,
+        seat: &mut TallySeat,
+        points: &[Point],
+    ) -> Result<(), Memory>
+        requires start { IsStart setup.now.app.now setup.now.start.now }
+        requires seat { seat.old.sheet ≡ setup.now.tally.now }
+        requires room { HasRoom (length points.now) seat.old }
+        ensures blocks { self.new.blocks ≡ self.old.blocks }
+        ensures rows { OnOk result (GainsRows setup.now.app.now setup.now.start.now.limits setup.now.start.now.base points.now
+            self.old.kept.items self.new.kept.items (all_of self.old.trail) (all_of self.new.trail) seat.old seat.new) }
+    {
+        for point in points {
+            self.add_row(setup, seat, point)?;
+        }
+        Ok(())
+    }
+
+    // Makes the rows of a block, which has these points.
+    fn add_block(
+        &mut self,
+        setup: &Setup<'_>,
+        seat: &mut TallySeat,
+        number: usize,
+        first: usize,
+        count: usize,
+    ) -> Result<(), Memory>
+        requires start { IsStart setup.now.app.now setup.now.start.now }
+        requires seat { seat.old.sheet ≡ setup.now.tally.now }
+        requires points { first + count ≤ length setup.now.points.now }
+        requires room { HasRoom count seat.old }
+        ensures block { OnOk result (self.new.blocks.items ≡ self.old.blocks.items
+            ++ record { number = number; first = length self.old.kept.items; count = count } ∷ []) }
+        ensures rows { OnOk result (GainsRows setup.now.app.now setup.now.start.now.limits setup.now.start.now.base
+            (take count (drop first setup.now.points.now))
+            self.old.kept.items self.new.kept.items (all_of self.old.trail) (all_of self.new.trail) seat.old seat.new) }
+    {
+        let points = setup.points;
+        let block = KeptBlock {
+            number,
+            first: self.kept.len(),
+            count,
+        };
+        self.add_rows(setup, seat, &points[first..first + count])?;
+        if self.blocks.push(block).is_err() {
+            return Err(Memory);
+        }
+        Ok(())
+    }
+}
+
+/// Works until all blocks are handed out. Where memory is refused it raises `stop`; where that is raised, it stops at its next
+/// block.
+pub(crate) fn work<R: Wait, G: Gate>(
+    rt: &R,
+    alloc: Global,
+    setup: &Setup<'_>,
+    gate: &G,
+    stop: &AtomicU64,
+    job: Job,
+) -> Done
+    requires start { IsStart setup.now.app.now setup.now.start.now }
+    requires points { sum job.lane.game.lengths ≡ length setup.now.points.now }
+    requires job { IsJob (work_of setup.now job.lane.game.lengths) job.lane.game setup.now.tally.now job }
+    ensures { IsDone (work_of setup.now job.lane.game.lengths) job result }
+{
+    let Job {
+        number,
+        mut lane,
+        mut seat,
+    } = job;
+    let mut worker = Worker::new(alloc, setup.app);
+    let mut refused = false;
+    for _ in rt.forever() {
+        if stop.load(Ordering::SeqCst) != 0 {
+            refused = true;
+            break;
+        }
+        match lane.next() {
+            Next::Block {
+                number: block,
+                first,
+                length,
+            } => {
+                let seen = setup.tally.read(&mut seat);
+                gate.entered(number, block, &seen);
+                if worker.add_block(setup, &mut seat, block, first, length).is_err() {
+                    stop.store(1, Ordering::SeqCst);
+                    refused = true;
+                    break;
+                }
+            }
+            Next::Again => std::hint::spin_loop(),
+            Next::Empty => break,
+        }
+    }
+    let Worker {
+        kernel: _kernel,
+        log: _log,
+        trail,
+        kept,
+        blocks,
+    } = worker;
+    Done {
+        lane,
+        seat,
+        part: Part {
+            kept,
+            trail,
+            blocks,
+        },
+        refused,
+    }
+}
