@@ -87,7 +87,7 @@ one_row row (suc (suc zero)) l = rw (sym (misuses row.run.end)) (one row (is_mis
 one_row row (suc (suc (suc zero))) l = rw (sym (in_ticks row.run.end)) (one row (is_ticks row.run.end) _ (other row.reached))
 one_row row (suc (suc (suc (suc zero)))) l = rw (sym (in_steps row.run.end)) (one row (is_steps row.run.end) _ (other row.reached))
 one_row row (suc (suc (suc (suc (suc zero))))) l = rw (sym (is_stuck row.run.end)) (one row (is_stuck_end row.run.end) _ (other row.reached))
-one_row row (suc (suc (suc (suc (suc (suc zero)))))) l = rw (no_end row.run.end) (late row row.reached)
+one_row row (suc (suc (suc (suc (suc (suc zero)))))) l = let e = late row row.reached in rw (no_end row.run.end) (omega arith)
 one_row row (suc (suc (suc (suc (suc (suc (suc kind))))))) l = absurd (omega arith)
 
 -- a row that a seat counted so

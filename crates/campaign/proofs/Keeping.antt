@@ -1,9 +1,9 @@
 -- Rows that are kept.
 use Rattle.std.specs.Prelude.{nat_lt, slice_range, Result, Ok, Err, IfOk}
 use Rattle.std.proofs.lemmas.Bool.Decides.{nat_tests}
-use Rattle.std.proofs.Common.{◌≡◌, ℕ, ◌≤◌, ◌<◌, ◌+◌, ◌-◌, zero, suc, true, false, List, [], ◌∷◌, ◌++◌, length, length-append, slice_index, map, take, drop, refl, sym, ap, subst, ◌∙◌, append-nil, append_assoc, arith}
+use Rattle.std.proofs.Common.{◌≡◌, ℕ, ◌≤◌, ◌<◌, ◌+◌, ◌-◌, zero, suc, true, false, List, [], ◌∷◌, ◌++◌, length, length-append, slice_index, slice_index_or, map, take, drop, refl, sym, ap, subst, ◌∙◌, append-nil, append_assoc, arith}
 use Rattle.std.specs.List.{AllByRecursion}
-use Rattle.std.proofs.lemmas.List.{length-map, map-append, take-append-le, drop-append-le, length-drop, take_all, drop_at}
+use Rattle.std.proofs.lemmas.List.{length-map, map-append, take-append-le, drop-append-le, length-drop, take_all, take_more, drop_at}
 use Rattle.std.proofs.Math.Seq.{take-length}
 use Rattle.model.specs.declared.event.Event.{Event}
 use Rattle.model.specs.declared.plan.Point.{Point}
@@ -123,7 +123,7 @@ module _ (app : Application) (limits : Limits) (base : Run) (is : IsRun app [] l
 
 -- ---- several rows
 
-all-append : {X : Type 0} (P : X → Type 0) (xs ys : List X) → AllByRecursion P xs → AllByRecursion P ys → AllByRecursion P (xs ++ ys)
+pub all-append : {X : Type 0} (P : X → Type 0) (xs ys : List X) → AllByRecursion P xs → AllByRecursion P ys → AllByRecursion P (xs ++ ys)
 all-append P [] ys h k = k
 all-append P (x ∷ xs) ys h k = (h.0, all-append P xs ys h.1 k)
 
@@ -206,3 +206,7 @@ module _ (app : Application) (limits : Limits) (base : Run) where
       let count : length (rows_of base u g.more) ≡ length points = sym (length-map (rows_of base u g.more) (λ (row : Row). row.point)) ∙ ap length g.made.one_each in
       let rises = g.gained.rises kind l in
       omega arith
+
+pub next_point : (points : List Point) (index : ℕ) (point : Point) → index < length points → point ≡ slice_index_or points index point
+    → take (index + 1) points ≡ take index points ++ point ∷ []
+next_point points index point l is = take_more points index point l ∙ ap (λ (p : Point). take index points ++ p ∷ []) (sym is)

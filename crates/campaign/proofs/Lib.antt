@@ -1,3 +1,6 @@
+mod Blocks
+mod Determined
 mod Ends
 pub mod Faulty
 mod Keeping
+mod Multiplicity

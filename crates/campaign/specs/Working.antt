@@ -107,18 +107,18 @@ pub record IsJob (work : Work) (deal : Game) (tally : Sheet) (job : Job) : Type 
   pub seat : job.seat.sheet ≡ tally
   pub room : HasRoom (length work.points) job.seat
 
--- a worker that was refused nothing: all blocks are handed out, and the rows of those that it was answered are made and counted
-pub record Brings (work : Work) (old : Tallied) (done : Done) : Type 0 where
+-- what comes of a job where nothing was refused: all blocks are handed out, and the rows of those that the lane was answered are
+-- made and counted
+pub record Brings (work : Work) (job : Job) (done : Done) : Type 0 where
+  pub lane : done.lane.game ≡ job.lane.game
+  pub seat : done.seat.sheet ≡ job.seat.sheet
   pub all : HasSeenAll done.lane
   pub part : IsKeptPart work done.part
   pub numbers : numbers_of done.part.blocks.items ≡ done.lane.answered
-  pub counts : CountsBlocks work done.lane.answered old done.seat
+  pub counts : CountsBlocks work done.lane.answered job.seat done.seat
 
--- what comes of a job
-pub record IsDone (work : Work) (job : Job) (done : Done) : Type 0 where
-  pub lane : done.lane.game ≡ job.lane.game
-  pub seat : done.seat.sheet ≡ job.seat.sheet
-  pub brings : done.refused ≡ false → Brings work job.seat done
+abbrev pub IsDone : Work → Job → Done → Type 0
+IsDone work job done = done.refused ≡ false → Brings work job done
 
 -- each job, and what came of it
 abbrev pub AreDone : Work → List Job → List Done → Type 0

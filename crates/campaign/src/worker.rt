@@ -15,7 +15,6 @@ use model::{App, Memory, Meter, Point};
 use std::alloc::Global;
 use std::sync::Wait;
 use std::sync::atomic::{AtomicU64, Ordering};
-use std::thread;
 
 /// What all workers of a campaign share.
 #[derive(Clone, Copy)]
@@ -230,10 +229,9 @@ pub(crate) fn work<R: Wait, G: Gate>(
         mut seat,
     } = job;
     let mut worker = Worker::new(alloc, setup.app);
-    let mut refused = false;
+    let mut refused = true;
     for _ in rt.forever() {
         if stop.load(Ordering::SeqCst) != 0 {
-            refused = true;
             break;
         }
         match lane.next() {
@@ -246,12 +244,14 @@ pub(crate) fn work<R: Wait, G: Gate>(
                 gate.entered(number, block, &seen);
                 if worker.add_block(setup, &mut seat, block, first, length).is_err() {
                     stop.store(1, Ordering::SeqCst);
-                    refused = true;
                     break;
                 }
             }
             Next::Again => std::hint::spin_loop(),
-            Next::Empty => break,
+            Next::Empty => {
+                refused = false;
+                break;
+            }
         }
     }
     let Worker {

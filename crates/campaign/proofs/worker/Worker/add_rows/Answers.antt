@@ -1,17 +1,37 @@
-use Rattle.std.proofs.Common.{◌∙◌}
+use Rattle.std.proofs.Common.{◌≤◌, ◌∙◌, ◌∷◌, [], refl, length, take, arith}
+use Rattle.std.proofs.lemmas.List.{take_all, length-take-le}
+use Rattle.kernel.specs.Logged.{all_of}
+use Rattle.campaign.proofs.Keeping.{gains_none, gains_both, gained_few, next_point}
 use Rattle.campaign.proofs.worker.Worker.add_rows.Goals as goal
 
 pub loop-point-init : goal.loop-point-init
-loop-point-init c = ?
+loop-point-init c = record {
+  blocks = refl;
+  rows = gains_none c.args.setup.now.app.now c.args.setup.now.start.now.limits c.args.setup.now.start.now.base c.args.self.now.kept.items (all_of c.args.self.now.trail) c.args.seat.now;
+}
 
 pub add_row-requires-clause-seat : goal.add_row-requires-clause-seat
-add_row-requires-clause-seat c = ?
+add_row-requires-clause-seat c = c.loop-point.invariant.rows.gained.same ∙ c.requires.seat
 
 pub add_row-requires-clause-room : goal.add_row-requires-clause-room
-add_row-requires-clause-room c = ?
+add_row-requires-clause-room c kind l =
+    let start = c.args.setup.now.start.now in
+    let few = gained_few c.args.setup.now.app.now start.limits start.base _ _ _ _ _ _ _ c.loop-point.invariant.rows kind l in
+    let on = c.loop-point-test.true in
+    let room = c.requires.room kind l in
+    let count = length-take-le c.loop-point.point-index c.args.points.now (omega arith) in
+    omega arith
 
 pub loop-point-preserved : goal.loop-point-preserved
-loop-point-preserved c = ?
+loop-point-preserved c =
+    let start = c.args.setup.now.start.now in
+    record {
+      blocks = c.in_ok-add_row.ensures.blocks ∙ c.loop-point.invariant.blocks;
+      rows = rw (next_point c.args.points.now c.loop-point.point-index c.point-item.result c.loop-point-test.true c.point-item.is)
+          (gains_both c.args.setup.now.app.now start.limits start.base (take c.loop-point.point-index c.args.points.now) (c.point-item.result ∷ []) _ _ _ _ _ _ _ _ _ c.loop-point.invariant.rows c.in_ok-add_row.ensures.row);
+    }
 
 pub returns-clause-rows : goal.returns-clause-rows
-returns-clause-rows c = ?
+returns-clause-rows c =
+    let end : length c.args.points.now ≤ c.loop-point.point-index = omega (arith, c.loop-point-test.false) in
+    rw (← take_all c.loop-point.point-index c.args.points.now end) c.loop-point.invariant.rows

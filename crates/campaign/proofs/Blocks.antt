@@ -1,0 +1,209 @@
+-- What a worker has made between two blocks.
+use Rattle.std.specs.Prelude.{true, false, Result, Ok, Err, OnOk, is_err}
+use Rattle.std.proofs.Common.{◌≡◌, ◌≢◌, ◌≤◌, ◌<◌, ◌+◌, ◌^◌, ⊎_elim, ℕ, zero, suc, List, [], ◌∷◌, ◌++◌, length, map, take, drop, sum, slice_index, refl, sym, ap, ap₂, subst, ◌∙◌, arith}
+use Rattle.std.specs.List.{AllByRecursion}
+use Rattle.std.proofs.lemmas.List.{map-append, take-append-le, drop-append-le, length-drop, length-append, length-take, length-take-le, length-map, drop_at, take_all}
+use Rattle.std.proofs.lemmas.List.Sums.{sum_by_more_le}
+use Rattle.model.specs.declared.event.Event.{Event}
+use Rattle.model.specs.declared.plan.Point.{Point}
+use Rattle.model.specs.Application.{Application, Limits}
+use Rattle.model.specs.Run.{Run}
+use Rattle.model.specs.Campaign.{Row, AreRows}
+use Rattle.deal.specs.Divisions.{IsBlock}
+use Rattle.deal.specs.Tallies.{Tallied}
+use Rattle.deal.specs.Totals.{total, range, times, one_at}
+use Rattle.deal.proofs.Sums.{total_append}
+use Rattle.deal.proofs.Once.{times_one, same_or, elsewhere, once_within}
+use Rattle.campaign.specs.declared.rows.KeptRow.{KeptRow}
+use Rattle.campaign.specs.declared.rows.KeptBlock.{KeptBlock}
+use Rattle.campaign.specs.declared.worker.Job.{Job}
+use Rattle.campaign.specs.declared.worker.Done.{Done}
+use Rattle.deal.specs.Sharing.{HasSeenAll}
+use Rattle.kernel.specs.Logged.{all_of}
+use Rattle.campaign.specs.Kinds.{kind_in}
+use Rattle.campaign.specs.Report.{row_of, rows_of, IsKept}
+use Rattle.campaign.specs.Working.{Work, Gained, GainsRows, HasRoom, block_points, AreRowsByBlock, IsKeptBlock, AreKeptBlocks, numbers_of, CountsBlocks, IsDone}
+use Rattle.campaign.proofs.Keeping.{all-append, same_rows, still_kept, gained_few}
+use Rattle.campaign.proofs.Determined.{one_list}
+use Rattle.campaign.proofs.Multiplicity.{total_within, total_places}
+
+-- Rows of the blocks that were answered are kept, and the seat counted them.
+pub record HasWorked (work : Work) (kept : List KeptRow) (trail : List Event) (blocks : List KeptBlock) (answered : List ℕ) (old seat : Tallied) : Type 0 where
+  pub rows : AllByRecursion (IsKept work.base trail) kept
+  pub made : AreKeptBlocks work kept trail blocks
+  pub numbers : numbers_of blocks ≡ answered
+  pub same : seat.sheet ≡ old.sheet
+  pub counts : CountsBlocks work answered old seat
+  pub once : (x : ℕ) → times x answered ≤ times x (range 0 (length work.lengths))
+  pub few : (kind : ℕ) → kind < 7 → slice_index seat.added kind ≤ slice_index old.added kind + total (λ b. slice_index work.lengths b) answered
+
+pub none_worked : (work : Work) (kept : List KeptRow) (trail : List Event) (blocks : List KeptBlock) (answered : List ℕ) (seat : Tallied)
+    → kept ≡ [] → blocks ≡ [] → answered ≡ [] → HasWorked work kept trail blocks answered seat seat
+none_worked work kept trail blocks answered seat no_rows no_blocks none = rw (no_rows, no_blocks, none) (record {
+  rows = tt;
+  made = tt;
+  numbers = refl;
+  same = refl;
+  counts = λ rows are. record { same = refl; rises = λ kind l. omega arith };
+  once = λ x. omega arith;
+  few = λ kind l. omega arith;
+})
+
+-- ---- the next block
+
+module _ (work : Work) (kept : List KeptRow) (trail : List Event) (blocks : List KeptBlock) (answered : List ℕ) (old seat : Tallied)
+    (worked : HasWorked work kept trail blocks answered old seat) (number first count : ℕ)
+    (block : IsBlock work.lengths number first count) (new : times number answered ≡ 0) (whole : sum work.lengths ≡ length work.points) where
+  pub points_within : first + count ≤ length work.points
+  points_within =
+      let most = sum_by_more_le (λ (x : ℕ). x) work.lengths number 0 block.0 in
+      let start = block.1 in
+      let len = block.2 in
+      omega arith
+
+  -- it has not been answered before
+  still_once : (x : ℕ) → times x (answered ++ number ∷ []) ≤ times x (range 0 (length work.lengths))
+  still_once x =
+      let split = total_append (one_at x) answered (number ∷ []) in
+      let old_once = worked.once x in
+      ⊎_elim
+      (λ (e : number ≡ x). subst (λ y. times y (answered ++ number ∷ []) ≤ times y (range 0 (length work.lengths))) e
+          (omega (arith, new, total_append (one_at number) answered (number ∷ []), times_one number, once_within number 0 (length work.lengths) (omega arith) (omega (arith, block.0)))))
+      (λ (d : number ≢ x). omega (arith, old_once, split, elsewhere x number d))
+      (same_or number x)
+
+  pub room_left : (read : Tallied) → read.added ≡ seat.added → HasRoom (length work.points) old → HasRoom count read
+  room_left read same room kind l =
+      let few = worked.few kind l in
+      let most = total_within (answered ++ number ∷ []) (range 0 (length work.lengths)) still_once (λ b. slice_index work.lengths b) in
+      let split = total_append (λ b. slice_index work.lengths b) answered (number ∷ []) in
+      let all = total_places work.lengths in
+      let at = ap (λ (xs : List ℕ). slice_index xs kind) same in
+      let most_room = room kind l in
+      let len = block.2 in
+      omega arith
+
+-- ---- a block more
+
+-- what was kept is kept
+part_same : {X : Type 0} (kept more : List X) (first count : ℕ) → first + count ≤ length kept → take count (drop first (kept ++ more)) ≡ take count (drop first kept)
+part_same kept more first count within =
+    let start : first ≤ length kept = omega arith in
+    let long : count ≤ length (drop first kept) = omega (arith, length-drop first kept) in
+    rw (drop-append-le first kept more start) (take-append-le count (drop first kept) more long)
+
+-- a part of what is kept
+all-take : {X : Type 0} (P : X → Type 0) (n : ℕ) (xs : List X) → AllByRecursion P xs → AllByRecursion P (take n xs)
+all-take P zero xs h = tt
+all-take P (suc n) [] h = tt
+all-take P (suc n) (x ∷ xs) h = (h.0, all-take P n xs h.1)
+
+all-drop : {X : Type 0} (P : X → Type 0) (n : ℕ) (xs : List X) → AllByRecursion P xs → AllByRecursion P (drop n xs)
+all-drop P zero xs h = h
+all-drop P (suc n) [] h = tt
+all-drop P (suc n) (x ∷ xs) h = all-drop P n xs h.1
+
+old_block : (work : Work) (kept more : List KeptRow) (trail own : List Event) (block : KeptBlock) → AllByRecursion (IsKept work.base trail) kept
+    → IsKeptBlock work kept trail block → IsKeptBlock work (kept ++ more) (trail ++ own) block
+old_block work kept more trail own block rows is =
+    let part = take block.count (drop block.first kept) in
+    let same : rows_of work.base (trail ++ own) (take block.count (drop block.first (kept ++ more))) ≡ rows_of work.base trail part =
+    ap (rows_of work.base (trail ++ own)) (part_same kept more block.first block.count is.within)
+    ∙ same_rows work.base trail own part (all-take _ block.count _ (all-drop _ block.first kept rows)) in
+    record {
+      is_block = is.is_block;
+      within = (let within = is.within in omega (arith, length-append kept more));
+      made = subst (λ r. AreRows work.app work.limits (block_points work block.number) r) (sym same) is.made;
+    }
+
+old_blocks : (work : Work) (kept more : List KeptRow) (trail own : List Event) (blocks : List KeptBlock) → AllByRecursion (IsKept work.base trail) kept
+    → AreKeptBlocks work kept trail blocks → AreKeptBlocks work (kept ++ more) (trail ++ own) blocks
+old_blocks work kept more trail own [] rows all = tt
+old_blocks work kept more trail own (block ∷ blocks) rows all = (old_block work kept more trail own block rows all.0, old_blocks work kept more trail own blocks rows all.1)
+
+module _ (work : Work) (kept kept' : List KeptRow) (trail trail' : List Event) (blocks blocks' : List KeptBlock) (answered : List ℕ) (old seat read seat' : Tallied)
+    (worked : HasWorked work kept trail blocks answered old seat) (number first count : ℕ)
+    (block : IsBlock work.lengths number first count) (new : times number answered ≡ 0) (whole : sum work.lengths ≡ length work.points)
+    (same : read.sheet ≡ seat.sheet) (same_counts : read.added ≡ seat.added)
+    (gains : GainsRows work.app work.limits work.base (take count (drop first work.points)) kept kept' trail trail' read seat')
+    (pushed : blocks' ≡ blocks ++ record { number = number; first = length kept; count = count } ∷ []) where
+  its_points : block_points work number ≡ take count (drop first work.points)
+  its_points = ap₂ (λ (n : ℕ) (m : ℕ). take n (drop m work.points)) (sym block.2) (sym block.1)
+
+  its_rows : AreRows work.app work.limits (block_points work number) (rows_of work.base trail' gains.more)
+  its_rows = rw its_points gains.made
+
+  many : length gains.more ≡ count
+  many =
+      let within = points_within work kept trail blocks answered old seat worked number first count block new whole in
+      let long : count ≤ length (drop first work.points) = omega (arith, length-drop first work.points) in
+      sym (length-map gains.more (row_of work.base trail')) ∙ sym (length-map (rows_of work.base trail' gains.more) (λ (row : Row). row.point)) ∙ ap length gains.made.one_each
+      ∙ length-take-le count (drop first work.points) long
+
+  last : take count (drop (length kept) kept') ≡ gains.more
+  last = rw (gains.rows_are, drop_at kept gains.more (length kept) refl) (take_all count gains.more (let n = many in omega arith))
+
+  new_block : IsKeptBlock work kept' trail' (record { number = number; first = length kept; count = count })
+  new_block = record {
+    is_block = block.0;
+    within = (let long = ap length gains.rows_are in let n = many in omega (arith, length-append kept gains.more));
+    made = rw last its_rows;
+  }
+
+  old_ones : AreKeptBlocks work kept' trail' blocks
+  old_ones = rw (gains.rows_are, gains.trail_is) (old_blocks work kept gains.more trail gains.own blocks worked.rows worked.made)
+
+  still : AllByRecursion (IsKept work.base trail') kept
+  still = rw gains.trail_is (still_kept work.base trail gains.own kept worked.rows)
+
+  counts_more : CountsBlocks work (answered ++ number ∷ []) old seat'
+  counts_more rows are = record {
+    same = gains.gained.same ∙ same ∙ worked.same;
+    rises = λ kind l. (
+      let f : ℕ → ℕ = λ b. kind_in (rows b) kind in
+      let first = (worked.counts rows are).rises kind l in
+      let then = gains.gained.rises kind l in
+      let at = ap (λ (xs : List ℕ). slice_index xs kind) same_counts in
+      let its = ap (λ (r : List Row). kind_in r kind) (one_list work.app work.limits (block_points work number) (rows_of work.base trail' gains.more) (rows number) its_rows (are number block.0)) in
+      let split = total_append f answered (number ∷ []) in
+      omega arith);
+  }
+
+  pub worked_more : HasWorked work kept' trail' blocks' (answered ++ number ∷ []) old seat'
+  worked_more = record {
+    rows = rw gains.rows_are (all-append _ kept gains.more still gains.sound);
+    made = rw pushed (all-append _ blocks _ old_ones (new_block, tt));
+    numbers = ap numbers_of pushed ∙ map-append (λ (b : KeptBlock). b.number) blocks _ ∙ ap (λ (xs : List ℕ). xs ++ number ∷ []) worked.numbers;
+    same = gains.gained.same ∙ same ∙ worked.same;
+    counts = counts_more;
+    once = still_once work kept trail blocks answered old seat worked number first count block new whole;
+    few = λ kind l. (
+      let before = worked.few kind l in
+      let more = gained_few work.app work.limits work.base _ _ _ _ _ _ _ gains kind l in
+      let at = ap (λ (xs : List ℕ). slice_index xs kind) same_counts in
+      let most = length-take count (drop first work.points) in
+      let split = total_append (λ b. slice_index work.lengths b) answered (number ∷ []) in
+      let len = block.2 in
+      omega arith);
+  }
+
+-- ---- the end
+
+pub done_refused : (work : Work) (job : Job) (done : Done) → done.refused ≡ true → IsDone work job done
+done_refused work job done is e = absurd (cc)
+
+pub done_whole : (work : Work) (job : Job) (done : Done) → done.lane.game ≡ job.lane.game → HasSeenAll done.lane
+    → HasWorked work done.part.kept.items (all_of done.part.trail) done.part.blocks.items done.lane.answered job.seat done.seat → IsDone work job done
+done_whole work job done lane all worked e = record {
+  lane = lane;
+  seat = worked.same;
+  all = all;
+  part = record { rows = worked.rows; blocks = worked.made };
+  numbers = worked.numbers;
+  counts = worked.counts;
+}
+
+-- what an answer says that is no error
+pub on_ok_at : {T E P : Type 0} (r : Result T E) → is_err r ≡ false → OnOk r P → P
+on_ok_at (Ok x) e p = p
+on_ok_at (Err x) e p = absurd (cc)

@@ -1,0 +1,14 @@
+use Rattle.std.proofs.Common.{◌≡◌, true}
+use Rattle.kernel.specs.Logged.{all_of}
+use Rattle.campaign.specs.Setup.{work_of}
+use Rattle.campaign.proofs.Blocks.{HasWorked}
+use Rattle.campaign.proofs.worker.work.Given as goal
+
+abbrev pub invariant-loop : goal.invariant-loop
+invariant-loop g l = record {
+  able : (goal.iterator-loop g).can_next l.iterator';
+  finite : (goal.iterator-loop g).is_finite l.iterator';
+  refused : l.refused ≡ true;
+  game : l.lane.game ≡ l.fn.job.lane.game;
+  worked : HasWorked (work_of l.setup l.fn.job.lane.game.lengths) l.worker.kept.items (all_of l.worker.trail) l.worker.blocks.items l.lane.answered l.fn.job.seat l.seat;
+}
