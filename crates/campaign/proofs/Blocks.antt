@@ -1,5 +1,5 @@
 -- What a worker has made between two blocks.
-use Rattle.std.specs.Prelude.{true, false, Result, Ok, Err, OnOk, is_err}
+use Rattle.std.specs.Prelude.{true, false, Result, Ok, Err, OnOk, is_err, is_ok, if◌then◌else◌}
 use Rattle.std.proofs.Common.{◌≡◌, ◌≢◌, ◌≤◌, ◌<◌, ◌+◌, ◌^◌, ⊎_elim, ℕ, zero, suc, List, [], ◌∷◌, ◌++◌, length, map, take, drop, sum, slice_index, refl, sym, ap, ap₂, subst, ◌∙◌, arith}
 use Rattle.std.specs.List.{AllByRecursion}
 use Rattle.std.proofs.lemmas.List.{map-append, take-append-le, drop-append-le, length-drop, length-append, length-take, length-take-le, length-map, drop_at, take_all}
@@ -162,7 +162,7 @@ module _ (work : Work) (kept kept' : List KeptRow) (trail trail' : List Event) (
     rises = λ kind l. (
       let f : ℕ → ℕ = λ b. kind_in (rows b) kind in
       let first = (worked.counts rows are).rises kind l in
-      let then = gains.gained.rises kind l in
+      let its_gain = gains.gained.rises kind l in
       let at = ap (λ (xs : List ℕ). slice_index xs kind) same_counts in
       let its = ap (λ (r : List Row). kind_in r kind) (one_list work.app work.limits (block_points work number) (rows_of work.base trail' gains.more) (rows number) its_rows (are number block.0)) in
       let split = total_append f answered (number ∷ []) in
@@ -207,3 +207,7 @@ done_whole work job done lane all worked e = record {
 pub on_ok_at : {T E P : Type 0} (r : Result T E) → is_err r ≡ false → OnOk r P → P
 on_ok_at (Ok x) e p = p
 on_ok_at (Err x) e p = absurd (cc)
+
+pub pushed_at : {T E X : Type 0} (r : Result T E) (new a b : X) → is_err r ≡ false → new ≡ (if is_ok r then a else b) → new ≡ a
+pushed_at (Ok x) new a b e is = is
+pushed_at (Err x) new a b e is = absurd (cc)

@@ -2,5 +2,8 @@ mod Blocks
 mod Determined
 mod Ends
 pub mod Faulty
+mod Jobs
 mod Keeping
 mod Multiplicity
+mod Placed
+mod Totalling

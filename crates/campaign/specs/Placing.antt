@@ -1,6 +1,6 @@
 -- Where the rows of each block are.
-use Rattle.std.specs.Prelude.{◌≡◌, ℕ, ◌+◌, List, [], ◌∷◌, slice_set}
-use Rattle.std.specs.List.{flat_map}
+use Rattle.std.specs.Prelude.{ℕ, ◌+◌, ◌<◌, List, [], ◌∷◌, slice_set}
+use Rattle.std.specs.List.{AllByRecursion, flat_map}
 use Rattle.campaign.specs.declared.rows.KeptBlock.{KeptBlock}
 use Rattle.campaign.specs.declared.rows.Part.{Part}
 use Rattle.campaign.specs.declared.rows.Place.{Place}
@@ -18,6 +18,10 @@ placed part (block ∷ blocks) places = placed part blocks (slice_set places blo
 abbrev pub all_placed : (first : ℕ) → List Part → List Place → List Place
 all_placed first [] places = places
 all_placed first (part ∷ parts) places = all_placed (first + 1) parts (placed first part.blocks.items places)
+
+-- each block's number is below this one
+abbrev pub AreBelow : ℕ → List Part → Type 0
+AreBelow count parts = AllByRecursion (λ (part : Part). AllByRecursion (λ (block : KeptBlock). block.number < count) part.blocks.items) parts
 
 -- the blocks of the parts, one part after the other
 abbrev pub all_numbers : List Part → List ℕ

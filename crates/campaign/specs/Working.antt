@@ -100,12 +100,23 @@ CountsBlocks work blocks old new =
 
 -- ---- workers
 
--- the job of a lane of this deal and a seat of this tally, which has room for every point
-pub record IsJob (work : Work) (deal : Game) (tally : Sheet) (job : Job) : Type 0 where
+-- lanes of this deal, which have been answered nothing
+abbrev pub AreIdle : Game → List Sight → Type 0
+AreIdle deal lanes = AllByRecursion (λ (lane : Sight). (lane.game ≡ deal) × (lane.answered ≡ [])) lanes
+
+-- seats of this tally, each with room for so many points
+abbrev pub AreReady : Sheet → ℕ → List Tallied → Type 0
+AreReady tally count seats = AllByRecursion (λ (seat : Tallied). (seat.sheet ≡ tally) × HasRoom count seat) seats
+
+-- the job of such a lane and such a seat
+pub record IsJob (deal : Game) (tally : Sheet) (count : ℕ) (job : Job) : Type 0 where
   pub lane : job.lane.game ≡ deal
   pub fresh : job.lane.answered ≡ []
   pub seat : job.seat.sheet ≡ tally
-  pub room : HasRoom (length work.points) job.seat
+  pub room : HasRoom count job.seat
+
+abbrev pub AreJobs : Game → Sheet → ℕ → List Job → Type 0
+AreJobs deal tally count jobs = AllByRecursion (IsJob deal tally count) jobs
 
 -- what comes of a job where nothing was refused: all blocks are handed out, and the rows of those that the lane was answered are
 -- made and counted
@@ -125,3 +136,18 @@ abbrev pub AreDone : Work → List Job → List Done → Type 0
 AreDone work [] [] = Unit {0}
 AreDone work (job ∷ jobs) (done ∷ dones) = IsDone work job done × AreDone work jobs dones
 AreDone work jobs dones = ⊥
+
+-- ---- what workers bring
+
+abbrev pub lanes_in : List Done → List Sight
+lanes_in dones = map (λ (done : Done). done.lane) dones
+
+abbrev pub seats_in : List Done → List Tallied
+seats_in dones = map (λ (done : Done). done.seat) dones
+
+abbrev pub parts_in : List Done → List Part
+parts_in dones = map (λ (done : Done). done.part) dones
+
+-- the seats of these jobs
+abbrev pub seats_of : List Job → List Tallied
+seats_of jobs = map (λ (job : Job). job.seat) jobs

@@ -220,7 +220,7 @@ pub(crate) fn work<R: Wait, G: Gate>(
 ) -> Done
     requires start { IsStart setup.now.app.now setup.now.start.now }
     requires points { sum job.lane.game.lengths ≡ length setup.now.points.now }
-    requires job { IsJob (work_of setup.now job.lane.game.lengths) job.lane.game setup.now.tally.now job }
+    requires job { IsJob job.lane.game setup.now.tally.now (length setup.now.points.now) job }
     ensures { IsDone (work_of setup.now job.lane.game.lengths) job result }
 {
     let Job {

@@ -1,0 +1,89 @@
+-- Rows counted one after the other.
+use Rattle.std.specs.Prelude.{slice_get, nat_lt, Some, Option}
+use Rattle.std.specs.List.{AllByRecursion, flat_map}
+use Rattle.std.proofs.Common.{◌≡◌, ◌<◌, ◌≤◌, ◌+◌, ◌-◌, ℕ, zero, suc, List, [], ◌∷◌, ◌++◌, length, map, take, drop, slice_index_or, refl, sym, ap, ap₂, subst, ◌∙◌, append_assoc, append-nil, length-append, add-one, arith}
+use Rattle.std.proofs.lemmas.List.{length-take, length-drop, length-map, take_all, take_more, drop_more, map-append}
+use Rattle.model.specs.declared.event.Event.{Event}
+use Rattle.model.specs.Run.{Run}
+use Rattle.model.specs.Campaign.{Row}
+use Rattle.kernel.specs.Logged.{all_of}
+use Rattle.campaign.specs.declared.rows.KeptRow.{KeptRow}
+use Rattle.campaign.specs.declared.rows.Part.{Part}
+use Rattle.campaign.specs.declared.rows.Place.{Place}
+use Rattle.campaign.specs.Report.{row_of, rows_of, rows_in, rows_in_some, rows_at, IsPlace}
+
+-- ---- the rows of a part
+
+module _ (base : Run) (trail : List Event) (slice : List KeptRow) where
+  pub one_row_more : (rows : List Row) (index : ℕ) (row : KeptRow) → index < length slice → row ≡ slice_index_or slice index row
+      → (rows ++ rows_of base trail (take index slice)) ++ row_of base trail row ∷ [] ≡ rows ++ rows_of base trail (take (index + 1) slice)
+  one_row_more rows index row l is =
+      let next : take (index + 1) slice ≡ take index slice ++ row ∷ [] = take_more slice index row l ∙ ap (λ (r : KeptRow). take index slice ++ r ∷ []) (sym is) in
+      append_assoc rows (rows_of base trail (take index slice)) (row_of base trail row ∷ [])
+      ∙ ap (λ (rs : List Row). rows ++ rs) (sym (map-append (row_of base trail) (take index slice) (row ∷ [])) ∙ ap (rows_of base trail) (sym next))
+
+  pub rows_few : (rows : List Row) (index count : ℕ) → index < length slice → length slice ≤ count → length (rows ++ rows_of base trail (take index slice)) ≤ length rows + count
+  rows_few rows index count l few =
+      let long = length-append rows (rows_of base trail (take index slice)) in
+      let same = length-map (take index slice) (row_of base trail) in
+      let within = length-take index slice in
+      omega arith
+
+-- the rows of a place stand there
+pub slice_few : (items : List KeptRow) (first count : ℕ) → length (take (first + count - first) (drop first items)) ≤ count
+slice_few items first count = let within = length-take (first + count - first) (drop first items) in omega arith
+
+pub slice_whole : (items kept : List KeptRow) (first count index : ℕ) → items ≡ kept → length (take (first + count - first) (drop first items)) ≤ index
+    → take index (take (first + count - first) (drop first items)) ≡ take count (drop first kept)
+slice_whole items kept first count index same end =
+    let n : first + count - first ≡ count = omega arith in
+    take_all index (take (first + count - first) (drop first items)) end ∙ ap₂ (λ (m : ℕ) (xs : List KeptRow). take m (drop first xs)) n same
+
+-- ---- the rows of several places
+
+flat_suc : {X A : Type 0} (f : X → List A) (xs : List X) (index : ℕ) (x : X) → index < length xs → x ≡ slice_index_or xs index x → flat_map f (take (suc index) xs) ≡ flat_map f (take index xs) ++ f x
+flat_suc f [] index x l is = absurd (omega arith)
+flat_suc f (y ∷ xs) zero x l is = append-nil (f y) ∙ ap f (sym is)
+flat_suc f (y ∷ xs) (suc index) x l is = ap (λ zs. f y ++ zs) (flat_suc f xs index x (omega arith) is) ∙ sym (append_assoc (f y) (flat_map f (take index xs)) (f x))
+
+pub flat_more : {X A : Type 0} (f : X → List A) (xs : List X) (index : ℕ) (x : X) → index < length xs → x ≡ slice_index_or xs index x → flat_map f (take (index + 1) xs) ≡ flat_map f (take index xs) ++ f x
+flat_more f xs index x l is = ap (λ n. flat_map f (take n xs)) (add-one index) ∙ flat_suc f xs index x l is
+
+-- a place's rows are those of its part
+pub rows_there : (base : Run) (parts : List Part) (place : Place) (part : Part) → slice_get parts place.part ≡ Some part → rows_at base parts place ≡ rows_in base part place.first place.count
+rows_there base parts place part is = ap (λ (o : Option Part). rows_in_some base o place.first place.count) is
+
+pub got : {X : Type 0} (xs : List X) (i : ℕ) (x : X) → i < length xs → x ≡ slice_index_or xs i x → slice_get xs i ≡ Some x
+got [] i x l is = absurd (omega arith)
+got (y ∷ xs) zero x l is = ap Some (sym is)
+got (y ∷ xs) (suc i) x l is = got xs i x (omega arith) is
+
+pub within_list : {X : Type 0} (xs : List X) (i : ℕ) (x : X) → slice_get xs i ≡ Some x → i < length xs
+within_list [] i x e = absurd (cc)
+within_list (y ∷ xs) zero x e = omega arith
+within_list (y ∷ xs) (suc i) x e = let l = within_list xs i x e in omega arith
+
+pub flat_few : {X A : Type 0} (f : X → List A) (xs : List X) (index : ℕ) (x : X) → index < length xs → x ≡ slice_index_or xs index x → length (flat_map f (take index xs)) + length (f x) ≤ length (flat_map f xs)
+flat_few f [] index x l is = absurd (omega arith)
+flat_few f (y ∷ xs) zero x l is = let long = length-append (f y) (flat_map f xs) in let same = ap (λ z. length (f z)) is in omega arith
+flat_few f (y ∷ xs) (suc index) x l is =
+    let rest = flat_few f xs index x (omega arith) is in
+    let long = length-append (f y) (flat_map f xs) in
+    let part = length-append (f y) (flat_map f (take index xs)) in
+    omega arith
+
+-- an element is what it is whatever stands for none
+pub any_default : {X : Type 0} (xs : List X) (i : ℕ) (d e : X) → i < length xs → slice_index_or xs i d ≡ slice_index_or xs i e
+any_default [] i d e l = absurd (omega arith)
+any_default (y ∷ xs) zero d e l = refl
+any_default (y ∷ xs) (suc i) d e l = any_default xs i d e (omega arith)
+
+pub length_at : (base : Run) (parts : List Part) (place : Place) → IsPlace parts place → length (rows_at base parts place) ≡ place.count
+length_at base parts place is =
+    let items = is.part.kept.items in
+    let within = is.within in
+    let there = ap length (rows_there base parts place is.part is.at_part) in
+    let same = length-map (take place.count (drop place.first items)) (row_of base (all_of is.part.trail)) in
+    let cut = length-take place.count (drop place.first items) in
+    let rest = length-drop place.first items in
+    omega arith
