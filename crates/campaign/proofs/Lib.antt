@@ -7,3 +7,4 @@ mod Keeping
 mod Multiplicity
 mod Placed
 mod Totalling
+mod Whole

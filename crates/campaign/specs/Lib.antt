@@ -1,5 +1,6 @@
 pub mod Campaigns
 pub mod Kinds
+pub mod Made
 pub mod OneRun
 pub mod Options
 pub mod Placing

@@ -7,6 +7,7 @@ mod campaign_report;
 mod file;
 mod gate;
 mod gathering;
+mod making;
 mod one_run;
 mod options;
 mod placing;

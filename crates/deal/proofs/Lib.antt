@@ -1,4 +1,5 @@
 pub mod Counting
+pub mod Crossing
 pub mod Gathering
 pub mod HandMoves
 pub mod LaneMoves
