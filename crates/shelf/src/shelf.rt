@@ -32,19 +32,6 @@ impl Model for Shelf {
     ghost view = { λ s. record { base = s.base; limits = s.limits; stride = s.stride; stops = s.stops.items } };
 }
 
-/// The first `count` of these events, and then the others.
-fn joined(alloc: Global, events: &[Event], count: usize, others: &[Event]) -> Result<Vec<Event>, Memory>
-    requires { count ≤ length events.now }
-    ensures joined { IfOk result (λ joined. joined.items ≡ take count events.now ++ others.now) }
-    ensures memory { OnErr result (0 < count + length others.now) }
-{
-    let mut joined = Vec::new(alloc);
-    joined.reserve_exact(count + others.len())?;
-    joined.extend_from_slice(&events[..count])?;
-    joined.extend_from_slice(others)?;
-    Ok(joined)
-}
-
 impl Shelf {
     /// Runs an application to its end under these limits, without injections, and keeps the kernel as it stands before every
     /// `stride`-th step: 1 to 65,536. Each of these snapshots takes some 4.5 kB and four bytes for each item that the queues of
@@ -98,6 +85,13 @@ impl Shelf {
         self.base
     }
 
+    /// How many events the base run has.
+    fn count_events(&self) -> usize
+        ensures { result ≡ length self.now.base.events }
+    {
+        self.base.events.len()
+    }
+
     /// Runs the row of a point that the base run reaches, from the nearest stop before the point's step. The trail gains the
     /// row's events from the injection on; those before it are the base run's, and the answer tells how many they are. What the
     /// kernel and the log have doesn't matter.
@@ -127,6 +121,8 @@ impl Shelf {
             → (meter.new ≤ meter.old + cost_of self.now point run.steps) × (0 < length run.events)) }
     {
         let stop = &self.stops[(point.step / self.stride) as usize];
+        // No row shares more events with the base run than that has, so the sum below fits.
+        let _ = self.count_events();
         kernel.restore(&stop.kernel);
         let kept = trail.len();
         match run_row(kernel, app, point, &self.limits, meter, log, trail) {
@@ -141,12 +137,26 @@ impl Shelf {
         }
     }
 
+    /// The first `count` events of the base run, and behind them these.
+    fn with_shared(&self, alloc: Global, count: usize, own: &[Event]) -> Result<Vec<Event>, Memory>
+        requires { count ≤ length self.now.base.events }
+        ensures events { IfOk result (λ events. events.items ≡ take count self.now.base.events ++ own.now) }
+        ensures memory { OnErr result (0 < count + length own.now) }
+    {
+        let shared = &self.base.events[..count];
+        let mut events = Vec::new(alloc);
+        events.reserve_exact(shared.len() + own.len())?;
+        events.extend_from_slice(shared)?;
+        events.extend_from_slice(own)?;
+        Ok(events)
+    }
+
     /// The row of a point that the base run doesn't reach.
     fn missed_row(&self, alloc: Global, point: Point) -> Result<Row, Memory>
         ensures row { IfOk result (λ row. row ≡ record { point = point; reached = false; run = self.now.base }) }
         ensures memory { OnErr result (0 < length self.now.base.events) }
     {
-        let events = joined(alloc, self.base.events.as_slice(), self.base.events.len(), &[])?;
+        let events = self.with_shared(alloc, self.count_events(), &[])?;
         Ok(Row {
             point,
             reached: false,
@@ -164,33 +174,39 @@ impl Shelf {
         &self,
         alloc: Global,
         app: &App,
-        point: Point,
+        point: &Point,
         meter: &mut Meter,
     ) -> Result<Row, Memory>
         requires shelf { IsShelf app.now self.now }
-        requires reached { point.step < self.now.base.steps }
+        requires reached { point.now.step < self.now.base.steps }
         requires meter { meter.old < 2 ^ 62 }
-        ensures row { IfOk result (λ row. (row.point ≡ point) × (row.reached ≡ true)
-            × IsRun app.now (point ∷ []) self.now.limits row.run) }
-        ensures meter { IfOk result (λ row. meter.new ≡ meter.old + cost_of self.now point row.run.steps) }
+        ensures row { IfOk result (λ row. (row.point ≡ point.now) × (row.reached ≡ true)
+            × IsRun app.now (point.now ∷ []) self.now.limits row.run) }
+        ensures meter { IfOk result (λ row. meter.new ≡ meter.old + cost_of self.now point.now row.run.steps) }
         ensures rises { meter.old ≤ meter.new }
-        ensures refused { OnErr result ((run : definition.Run) → IsRun app.now (point ∷ []) self.now.limits run
-            → (meter.new ≤ meter.old + cost_of self.now point run.steps) × (0 < length run.events)) }
+        ensures refused { OnErr result ((run : definition.Run) → IsRun app.now (point.now ∷ []) self.now.limits run
+            → (meter.new ≤ meter.old + cost_of self.now point.now run.steps) × (0 < length run.events)) }
     {
         let mut kernel = Kernel::boot(app);
         let mut log = StepLog::new();
         let mut trail = Trail::new(alloc);
-        let row = self.run_reached(app, point, &mut kernel, meter, &mut log, &mut trail)?;
-        let events = joined(alloc, self.base.events.as_slice(), row.before, trail.events())?;
+        let RowEnding {
+            before,
+            steps,
+            ticks,
+            end,
+        } = self.run_reached(app, *point, &mut kernel, meter, &mut log, &mut trail)?;
+        let events = self.with_shared(alloc, before, trail.events())?;
+        let run = Run {
+            events,
+            steps,
+            ticks,
+            end,
+        };
         Ok(Row {
-            point,
+            point: *point,
             reached: true,
-            run: Run {
-                events,
-                steps: row.steps,
-                ticks: row.ticks,
-                end: row.end,
-            },
+            run,
         })
     }
 
@@ -217,7 +233,7 @@ impl Shelf {
             → (meter.new ≤ meter.old + cost_of self.now point run.steps) × (0 < length run.events)) }
     {
         if point.step < self.base.steps {
-            self.reached_row(alloc, app, point, meter)
+            self.reached_row(alloc, app, &point, meter)
         } else {
             self.missed_row(alloc, point)
         }
