@@ -1,11 +1,10 @@
 -- Rows that are kept.
-use Rattle.std.specs.Prelude.{nat_lt, Result, Ok, Err, MatchResult}
-use Rattle.std.specs.Result.{IsErr}
+use Rattle.std.specs.Prelude.{nat_lt, Result}
 use Rattle.std.proofs.lemmas.Bool.Decides.{nat_tests}
-use Rattle.std.proofs.Common.{◌≡◌, ℕ, ◌≤◌, ◌<◌, ◌+◌, ◌-◌, zero, suc, slice_index_or, true, false, List, [], ◌∷◌, ◌++◌, length, length-append, map, take, drop, refl, sym, ap, ap₂, subst, ◌∙◌, append-nil, append_assoc, arith, Option}
+use Rattle.std.proofs.Common.{◌≡◌, ℕ, ◌≤◌, ◌<◌, ◌+◌, ◌-◌, zero, suc, slice_index_or, true, false, List, [], ◌∷◌, ◌++◌, length, length-append, take, drop, refl, sym, ap, ap₂, ◌∙◌, append-nil, arith, Option}
 use Rattle.std.specs.List.{AllByRecursion}
-use Rattle.std.proofs.lemmas.List.{map-append, take-append-le, drop-append-le, length-drop, drop_all, take_more}
-use Rattle.std.proofs.Math.Seq.{take-length, drop-length, drop-cons}
+use Rattle.std.proofs.lemmas.List.{map-append, get_or-map, length-map, length-take-le, take-append-drop, take-append-le, drop-append-le, length-drop, drop_all, take_all, take_more}
+use Rattle.std.proofs.Math.Seq.{take-length}
 use Rattle.model.specs.declared.event.Event.{Event}
 use Rattle.model.specs.declared.totals.Totals.{Totals}
 use Rattle.model.specs.declared.plan.Point.{Point}
@@ -18,7 +17,7 @@ use Rattle.model.specs.Campaign.{Row, AreRows, totals_of}
 use Rattle.model.specs.Scripts.{most_points}
 use Rattle.campaign.specs.declared.rows.KeptRow.{KeptRow}
 use Rattle.campaign.specs.declared.rows.Rows.{Rows}
-use Rattle.campaign.specs.Report.{row_of, rows_of, all_own, whole, IsSound, AreKept, IsKeptRow, Gains}
+use Rattle.campaign.specs.Report.{row_of, own_of, row_in, rows_of, whole, IsWithin, IsSound, AreKept, AreDefined, IsAmong, IsKeptRow, Gains, Grows}
 use Rattle.byte_io.specs.Bytes.{Sent, SentFront, Writes}
 use Rattle.byte_io.proofs.Sending.{Sent_none, SentFront_longer, SentFront_two, Writes_then}
 use Rattle.report.proofs.Rows.{Sent_row, SentFront_row, Sent_totals, SentFront_campaign, rows_text-append}
@@ -27,42 +26,43 @@ use Rattle.kernel.specs.Logged.{all_of}
 
 -- ---- one row more
 
-all_own-more : (kept : List KeptRow) (k : KeptRow) → all_own (kept ++ k ∷ []) ≡ all_own kept + k.own
-all_own-more [] k = omega arith
-all_own-more (r ∷ rs) k = let more = all_own-more rs k in omega arith
-
 all-more : {X : Type 0} (P : X → Type 0) (xs : List X) (x : X) → AllByRecursion P xs → P x → AllByRecursion P (xs ++ x ∷ [])
 all-more P [] x all is = (is, tt)
 all-more P (y ∷ ys) x all is = (all.0, all-more P ys x all.1 is)
 
-nothing : {X : Type 0} (xs : List X) → 0 ≡ length xs → xs ≡ []
-nothing [] e = refl
-nothing (x ∷ xs) e = absurd (cc)
+module _ (base events more : List Event) where
+  own_same : (k : KeptRow) → IsWithin base events k → own_of (events ++ more) k ≡ own_of events k
+  own_same k is =
+      let to = is.2 in
+      let rest : length (drop k.own_from events) ≡ length events - k.own_from = length-drop k.own_from events in
+      rw (drop-append-le k.own_from events more (let from = is.1 in omega arith))
+      (take-append-le (k.own_to - k.own_from) (drop k.own_from events) more (omega arith))
 
-pub rows_of-more : (base events own : List Event) (kept : List KeptRow) (k : KeptRow) → all_own kept ≡ length events → k.own ≡ length own
-    → rows_of base (events ++ own) (kept ++ k ∷ []) ≡ rows_of base events kept ++ row_of base own k ∷ []
-rows_of-more base events own [] k all is =
-    let none : events ≡ [] = nothing events all in
-    rw (none, is, take-length own) refl
-rows_of-more base events own (r ∷ rs) k all is =
-    let within : r.own ≤ length events = omega arith in
-    let rest : all_own rs ≡ length (drop r.own events) = omega (arith, length-drop r.own events) in
-    rw (take-append-le r.own events own within, drop-append-le r.own events own within)
-    (ap (λ rows. row_of base (take r.own events) r ∷ rows) (rows_of-more base (drop r.own events) own rs k rest is))
+  -- the rows stay as they are where other events come behind theirs
+  rows_same : (kept : List KeptRow) → AllByRecursion (IsWithin base events) kept → rows_of base (events ++ more) kept ≡ rows_of base events kept
+  rows_same [] are = refl
+  rows_same (k ∷ kept) are =
+      ap₂ (λ (row : Row) (rows : List Row). row ∷ rows) (ap (λ own. row_of base own k) (own_same k are.0)) (rows_same kept are.1)
 
--- a row that is kept after others
-pub kept-more : (base events own : List Event) (kept : List KeptRow) (old new : Totals) (k : KeptRow) → AreKept base events kept old → k.own ≡ length own → k.shared ≤ length base
-    → length kept < most_points → new ≡ totals_of (rows_of base events kept ++ row_of base own k ∷ []) → AreKept base (events ++ own) (kept ++ k ∷ []) new
-kept-more base events own kept old new k are is within few totals = record {
-  own = let o = are.own in let m = all_own-more kept k in omega (arith, length-append events own);
-  shared = all-more _ kept k are.shared within;
-  few = omega (arith, length-append kept (k ∷ []));
-  counted = totals ∙ ap totals_of (sym (rows_of-more base events own kept k are.own is));
-}
+  within_more : (kept : List KeptRow) → AllByRecursion (IsWithin base events) kept → AllByRecursion (IsWithin base (events ++ more)) kept
+  within_more [] are = tt
+  within_more (k ∷ kept) are =
+      let to = are.0.2 in
+      ((are.0.0, are.0.1, omega (arith, length-append events more)), within_more kept are.1)
 
-pub length-rows_of : (base events : List Event) (kept : List KeptRow) → length (rows_of base events kept) ≡ length kept
-length-rows_of base events [] = refl
-length-rows_of base events (k ∷ kept) = let rest = length-rows_of base (drop k.own events) kept in omega arith
+  rows_of-more : (kept : List KeptRow) (k : KeptRow) → AllByRecursion (IsWithin base events) kept
+      → rows_of base (events ++ more) (kept ++ k ∷ []) ≡ rows_of base events kept ++ row_in base (events ++ more) k ∷ []
+  rows_of-more kept k are =
+      map-append (row_in base (events ++ more)) kept (k ∷ []) ∙ ap (λ (rows : List Row). rows ++ row_in base (events ++ more) k ∷ []) (rows_same kept are)
+
+  -- a row that is kept after others
+  kept-more : (kept : List KeptRow) (old new : Totals) (k : KeptRow) → AreKept base events kept old → IsWithin base (events ++ more) k
+      → length kept < most_points → new ≡ totals_of (rows_of base events kept ++ row_in base (events ++ more) k ∷ []) → AreKept base (events ++ more) (kept ++ k ∷ []) new
+  kept-more kept old new k are within few totals = record {
+    within = all-more _ kept k (within_more kept are.within) within;
+    few = omega (arith, length-append kept (k ∷ []));
+    counted = totals ∙ ap totals_of (sym (rows_of-more kept k are.within));
+  }
 
 -- no rows, of no points
 pub no_rows : (app : Application) (limits : Limits) (points : List Point) (rows : Rows) → rows.kept.items ≡ [] → AreRows app limits (take 0 points) (whole rows)
@@ -88,35 +88,42 @@ less a b l = grind (arith, nat_tests)
 no_less : (a b : ℕ) → b ≤ a → nat_lt a b ≡ false
 no_less a b l = grind (arith, nat_tests)
 
+-- the events that came last
+own_last : (old own : List Event) (from to : ℕ) → from ≡ length old → to ≡ length (old ++ own) → take (to - from) (drop from (old ++ own)) ≡ own
+own_last old own from to first last =
+    let many : to - from ≡ length own = omega (arith, length-append old own) in
+    let none : drop from old ≡ [] = drop_all from old (omega arith) in
+    rw (drop-append-le from old own (omega arith), none, many) (take-length own)
+
 module _ (app : Application) (limits : Limits) (base : Run) (is : IsRun app [] limits base) (point : Point) where
   -- a row that is reached begins as the base run does
-  pub reached_row : (old new : List Event) (before own : ℕ) (ending : RowEnding) → point.step < base.steps → (from : IsRowFrom app point limits old new ending)
-      → before ≡ length (events_after app [] point.step) → own ≡ length from.own
-      → IsKeptRow app limits base from.own point (record { point = point; reached = true; shared = before; own = own; steps = ending.steps; ticks = ending.ticks; end = ending.end })
-  reached_row old new before own ending l from counted few =
+  pub reached_row : (old new : List Event) (before own_from own_to : ℕ) (ending : RowEnding) → point.step < base.steps → (from : IsRowFrom app point limits old new ending)
+      → before ≡ length (events_after app [] point.step) → own_from ≡ length old → own_to ≡ length new
+      → IsKeptRow app limits base new point (record { point = point; reached = true; shared = before; own_from = own_from; own_to = own_to; steps = ending.steps; ticks = ending.ticks; end = ending.end })
+  reached_row old new before own_from own_to ending l from counted first last =
       let within : point.step ≤ base.steps = omega arith in
-      let first : take before base.events ≡ events_after app [] point.step = rw (counted, is.trace) (begins_with app [] point.step base.steps within) in
+      let begins : take before base.events ≡ events_after app [] point.step = rw (counted, is.trace) (begins_with app [] point.step base.steps within) in
+      let own : take (own_to - own_from) (drop own_from new) ≡ from.own = rw from.kept (own_last old from.own own_from own_to first (last ∙ ap length from.kept)) in
+      let long : length new ≡ length old + length from.own = ap length from.kept ∙ length-append old from.own in
       record {
         at_point = refl;
-        has_own = few;
-        shared = rw (counted, is.trace) (no_fewer app [] point.step base.steps within);
+        within = (rw (counted, is.trace) (no_fewer app [] point.step base.steps within), omega arith, omega arith);
         is_row = record {
           base = base;
           is_base = is;
           is_reached = sym (less point.step base.steps l);
-          is_row = rw first from.run;
+          is_row = rw (begins, own) from.run;
         };
       }
 
   -- one that isn't is the base run
-  pub missed_row : base.steps ≤ point.step
-      → IsKeptRow app limits base [] point (record { point = point; reached = false; shared = length base.events; own = 0; steps = base.steps; ticks = base.ticks; end = base.end })
-  missed_row l =
+  pub missed_row : (events : List Event) → base.steps ≤ point.step
+      → IsKeptRow app limits base events point (record { point = point; reached = false; shared = length base.events; own_from = 0; own_to = 0; steps = base.steps; ticks = base.ticks; end = base.end })
+  missed_row events l =
       let all : take (length base.events) base.events ++ [] ≡ base.events = rw (take-length base.events) (append-nil base.events) in
       record {
         at_point = refl;
-        has_own = refl;
-        shared = omega arith;
+        within = (omega arith, omega arith, omega arith);
         is_row = record {
           base = base;
           is_base = is;
@@ -125,6 +132,30 @@ module _ (app : Application) (limits : Limits) (base : Run) (is : IsRun app [] l
         };
       }
 
+-- ---- a point that was run before
+
+all_at : {X : Type 0} (P : X → Type 0) (xs : List X) (i : ℕ) (x : X) → i < length xs → x ≡ slice_index_or xs i x → AllByRecursion P xs → P x
+all_at P [] i x l is all = absurd (omega arith)
+all_at P (y ∷ ys) zero x l is all = rw is all.0
+all_at P (y ∷ ys) (suc i) x l is all = all_at P ys i x (omega arith) is all.1
+
+defined_at : (app : Application) (limits : Limits) (base events : List Event) (kept : List KeptRow) → AreDefined app limits (rows_of base events kept)
+    → AllByRecursion (λ (k : KeptRow). IsRow app limits k.point k.reached (row_in base events k).run) kept
+defined_at app limits base events [] are = tt
+defined_at app limits base events (k ∷ kept) are = (are.0, defined_at app limits base events kept are.1)
+
+pub row_again : (app : Application) (limits : Limits) (rows : Rows) (point : Point) (k : KeptRow) → IsSound rows → AreDefined app limits (whole rows) → IsAmong rows.kept.items point k
+    → IsKeptRow app limits rows.base (all_of rows.trail) point k
+row_again app limits rows point k sound are among = record {
+  at_point = among.at_point;
+  within = all_at _ rows.kept.items among.number k among.within among.is sound.within;
+  is_row = rw (← among.at_point)
+      (all_at _ rows.kept.items among.number k among.within among.is (defined_at app limits rows.base.events (all_of rows.trail) rows.kept.items are));
+}
+
+pub no_more : (events : List Event) → Grows events events
+no_more events = ([], sym (append-nil events))
+
 -- the events before a row's own, on a kernel of which no step is done
 pub from_here : (app : Application) (steps before step : ℕ) → steps ≡ 0
     → length (events_after app [] steps) + before ≡ length (events_after app [] step) → before ≡ length (events_after app [] step)
@@ -132,19 +163,21 @@ from_here app zero before step none count = let from : 0 + before ≡ length (ev
 from_here app (suc steps) before step none count = absurd (omega arith)
 
 -- One row more is kept: that of this point.
-module _ (app : Application) (limits : Limits) (old new : Rows) (own : List Event) (point : Point) (k : KeptRow)
-    (base : new.base ≡ old.base) (kept : new.kept.items ≡ old.kept.items ++ k ∷ []) (trail : all_of new.trail ≡ all_of old.trail ++ own)
-    (sound : IsSound old) (row : IsKeptRow app limits old.base own point k) (few : length old.kept.items < most_points) where
-  grown : whole new ≡ whole old ++ row_of old.base.events own k ∷ []
-  grown = rw (base, kept, trail) (rows_of-more old.base.events (all_of old.trail) own old.kept.items k sound.own row.has_own)
+module _ (app : Application) (limits : Limits) (old new : Rows) (events : List Event) (point : Point) (k : KeptRow)
+    (base : new.base ≡ old.base) (kept : new.kept.items ≡ old.kept.items ++ k ∷ []) (trail : all_of new.trail ≡ events) (grows : Grows (all_of old.trail) events)
+    (sound : IsSound old) (row : IsKeptRow app limits old.base events point k) (few : length old.kept.items < most_points) where
+  grown : whole new ≡ whole old ++ row_in old.base.events events k ∷ []
+  grown = rw (base, kept, trail, grows.1) (rows_of-more old.base.events (all_of old.trail) grows.0 old.kept.items k sound.within)
 
-  pub sound_more : new.totals ≡ totals_of (whole old ++ row_of old.base.events own k ∷ []) → IsSound new
+  pub sound_more : new.totals ≡ totals_of (whole old ++ row_in old.base.events events k ∷ []) → IsSound new
   sound_more totals =
-      rw (base, kept, trail) (kept-more old.base.events (all_of old.trail) own old.kept.items old.totals new.totals k sound row.has_own row.shared few totals)
+      let totals : new.totals ≡ totals_of (whole old ++ row_in old.base.events (all_of old.trail ++ grows.0) k ∷ []) = rw (← grows.1) totals in
+      rw (base, kept, trail, grows.1)
+      (kept-more old.base.events (all_of old.trail) grows.0 old.kept.items old.totals new.totals k sound (rw (← grows.1) row.within) few totals)
 
   pub gains_more : Gains app limits point (whole old) (whole new)
   gains_more = record {
-    row = row_of old.base.events own k;
+    row = row_in old.base.events events k;
     last = grown;
     at_point = row.at_point;
     is_row = row.is_row;
@@ -152,72 +185,49 @@ module _ (app : Application) (limits : Limits) (old new : Rows) (own : List Even
 
 -- ---- writing them
 
--- So many rows are written, and these events are those of the others.
-pub record IsPart (app : Application) (rows : Rows) (index : ℕ) (rest : List Event) (a b : Option (List ℕ)) (page : List ℕ) : Type 0 where
-  pub done : List Row
-  pub count : length done ≡ index
-  pub left : whole rows ≡ done ++ rows_of rows.base.events rest (drop index rows.kept.items)
-  pub own : all_own (drop index rows.kept.items) ≡ length rest
-  pub shared : AllByRecursion (λ (k : KeptRow). k.shared ≤ length rows.base.events) (drop index rows.kept.items)
-  pub sent : Sent a b (rows_text app 0 done) page
+-- So many rows are written.
+pub record IsPart (app : Application) (rows : Rows) (index : ℕ) (a b : Option (List ℕ)) (page : List ℕ) : Type 0 where
+  pub within : index ≤ length rows.kept.items
+  pub sent : Sent a b (rows_text app 0 (take index (whole rows))) page
 
-pub none_written : (app : Application) (rows : Rows) (sound : IsSound rows) (a : Option (List ℕ)) (rest : List Event) (page : List ℕ)
-    → rest ≡ all_of rows.trail → page ≡ [] → IsPart app rows 0 rest a a page
-none_written app rows sound a rest page all empty = rw (all, empty) (record {
-  done = [];
-  count = refl;
-  left = refl;
-  own = sound.own;
-  shared = sound.shared;
-  sent = Sent_none a [];
-})
+pub none_written : (app : Application) (rows : Rows) (a : Option (List ℕ)) (page : List ℕ) → page ≡ [] → IsPart app rows 0 a a page
+none_written app rows a page empty = rw empty (record { within = omega arith; sent = Sent_none a [] })
 
--- the row of this index is the first of those from it on
-pub row_at : (items kept : List KeptRow) (index : ℕ) (k : KeptRow) → items ≡ kept → index < length items → k ≡ slice_index_or items index k
-    → drop index kept ≡ k ∷ drop (index + 1) kept
-row_at items kept index k same l is =
-    let next : suc index ≡ index + 1 = omega arith in
-    rw (← same) (drop-cons items index k l ∙ ap (λ (n : ℕ). slice_index_or items index k ∷ drop n items) next ∙ ap (λ (x : KeptRow). x ∷ drop (index + 1) items) (sym is))
+module _ (app : Application) (rows : Rows) (index : ℕ) (k : KeptRow) (items : List KeptRow) (same : items ≡ rows.kept.items)
+    (l : index < length items) (is : k ≡ slice_index_or items index k) where
+  abbrev next : Row
+  next = row_in rows.base.events (all_of rows.trail) k
 
-module _ (app : Application) (rows : Rows) (index : ℕ) (rest : List Event) (a b : Option (List ℕ)) (page : List ℕ) (k : KeptRow)
-    (part : IsPart app rows index rest a b page) (is : drop index rows.kept.items ≡ k ∷ drop (index + 1) rows.kept.items) where
-  pub own_within : k.own ≤ length rest
-  own_within = let own : k.own + all_own (drop (index + 1) rows.kept.items) ≡ length rest = rw is at part.own in omega arith
+  pub next_within : IsSound rows → IsWithin rows.base.events (all_of rows.trail) k
+  next_within sound = all_at _ rows.kept.items index k (rw (← same) l) (rw (← same) is) sound.within
 
-  pub shared_within : k.shared ≤ length rows.base.events
-  shared_within = let all = rw is at part.shared in all.0
+  count : index ≤ length rows.kept.items → length (take index (whole rows)) ≡ index
+  count within = length-take-le index (whole rows) (let many = length-map rows.kept.items (row_in rows.base.events (all_of rows.trail)) in omega arith)
 
--- the rows of which the first is this one
-module _ (app : Application) (rows : Rows) (index : ℕ) (rest own others : List Event) (a b c : Option (List ℕ)) (page kept : List ℕ) (k : KeptRow)
-    (part : IsPart app rows index rest a b page) (is : drop index rows.kept.items ≡ k ∷ drop (index + 1) rows.kept.items)
-    (first : take k.own rest ≡ own) (then : drop k.own rest ≡ others) where
-  abbrev pub next : Row
-  next = row_of rows.base.events own k
+  next_row : take (index + 1) (whole rows) ≡ take index (whole rows) ++ next ∷ []
+  next_row =
+      let f = row_in rows.base.events (all_of rows.trail) in
+      let within : index < length (whole rows) = rw (length-map rows.kept.items f, ← same) l in
+      let at : slice_index_or rows.kept.items index k ≡ k = rw (← same) (sym is) in
+      take_more (whole rows) index next within
+      ∙ ap (λ (row : Row). take index (whole rows) ++ row ∷ []) (get_or-map f rows.kept.items index k next (rw (← same) l) ∙ ap f at)
 
-  left_next : whole rows ≡ (part.done ++ next ∷ []) ++ rows_of rows.base.events others (drop (index + 1) rows.kept.items)
-  left_next = part.left ∙ rw (is, first, then) (sym (append_assoc part.done (next ∷ []) (rows_of rows.base.events others (drop (index + 1) rows.kept.items))))
+  module _ (a b c : Option (List ℕ)) (page kept : List ℕ) (part : IsPart app rows index a b page) where
+    -- one more is written
+    pub more_written : Sent b c (page ++ row_text app index next) kept → IsPart app rows (index + 1) a c kept
+    more_written sent = record {
+      within = (let many : length items ≡ length rows.kept.items = ap length same in omega arith);
+      sent = rw next_row (Sent_row app (take index (whole rows)) a b next c page kept part.sent (rw (count part.within) sent));
+    }
 
-  -- one more is written
-  pub more_written : Sent b c (page ++ row_text app index next) kept → IsPart app rows (index + 1) others a c kept
-  more_written sent =
-      let own_is : k.own + all_own (drop (index + 1) rows.kept.items) ≡ length rest = rw is at part.own in
-      let rest_is : length others ≡ length rest - k.own = rw (← then) (length-drop k.own rest) in
-      let all = rw is at part.shared in
-      record {
-        done = part.done ++ next ∷ [];
-        count = (let n = part.count in omega (arith, length-append part.done (next ∷ [])));
-        left = left_next;
-        own = omega arith;
-        shared = all.1;
-        sent = Sent_row app part.done a b next c page kept part.sent (rw part.count sent);
-      }
-
-  -- it is written in part
-  pub written_in_part : SentFront b c (page ++ row_text app index next) → SentFront a c (rows_text app 0 (whole rows))
-  written_in_part sent =
-      rw (left_next, rows_text-append app 0 (part.done ++ next ∷ []) (rows_of rows.base.events others (drop (index + 1) rows.kept.items)))
-      (SentFront_longer a c (rows_text app 0 (part.done ++ next ∷ [])) (rows_text app (0 + length (part.done ++ next ∷ [])) (rows_of rows.base.events others (drop (index + 1) rows.kept.items)))
-      (SentFront_row app part.done a b next c page part.sent (rw part.count sent)))
+    -- it is written in part
+    pub written_in_part : SentFront b c (page ++ row_text app index next) → SentFront a c (rows_text app 0 (whole rows))
+    written_in_part sent =
+        let front : SentFront a c (rows_text app 0 (take (index + 1) (whole rows))) =
+        rw next_row (SentFront_row app (take index (whole rows)) a b next c page part.sent (rw (count part.within) sent)) in
+        let parts : take (index + 1) (whole rows) ++ drop (index + 1) (whole rows) ≡ whole rows = take-append-drop (index + 1) (whole rows) in
+        rw (← parts, rows_text-append app 0 (take (index + 1) (whole rows)) (drop (index + 1) (whole rows)))
+        (SentFront_longer a c _ _ front)
 
 -- a beginning of the rows is one of the report
 pub rows_of_report : (app : Application) (rows report : List Row) (a b : Option (List ℕ)) → rows ≡ report → SentFront a b (rows_text app 0 rows) → SentFront a b (campaign_text app report)
@@ -236,9 +246,9 @@ whole_report app rows report a b c d page kept r same first second last =
     Writes_then a c d r (campaign_text app report) kept (rw (← same) (Sent_totals app rows a b c page kept first (rw same second))) last
 
 -- all are written
-pub all_written : (app : Application) (rows : Rows) (index : ℕ) (rest : List Event) (a b : Option (List ℕ)) (page : List ℕ) → IsPart app rows index rest a b page
+pub all_written : (app : Application) (rows : Rows) (index : ℕ) (a b : Option (List ℕ)) (page : List ℕ) → IsPart app rows index a b page
     → length rows.kept.items ≤ index → Sent a b (rows_text app 0 (whole rows)) page
-all_written app rows index rest a b page part end =
-    let none : drop index rows.kept.items ≡ [] = drop_all index rows.kept.items end in
-    let all : whole rows ≡ part.done = part.left ∙ rw none (append-nil part.done) in
-    rw all part.sent
+all_written app rows index a b page part end =
+    let many = length-map rows.kept.items (row_in rows.base.events (all_of rows.trail)) in
+    let all : take index (whole rows) ≡ whole rows = take_all index (whole rows) (omega arith) in
+    rw (← all) part.sent

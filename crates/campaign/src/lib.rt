@@ -10,6 +10,7 @@ mod one_run;
 mod options;
 mod points;
 mod progress;
+mod recent;
 mod rows;
 mod serving;
 mod writing;

@@ -60,11 +60,10 @@ fn add_rows<W: Sink>(
     ensures failed { W.has_failed writer.new ≡ is_err result }
 {
     let base = rows.base.events.as_slice();
-    let mut rest = rows.trail.events();
+    let events = rows.trail.events();
     for (number, row) in rows.kept.iter().enumerate() {
-        let (own, others) = rest.split_at(row.own);
+        let own = &events[row.own_from..row.own_to];
         add_row(writer, text, number, row, base, own)?;
-        rest = others;
     }
     Ok(())
 }

@@ -17,6 +17,9 @@ add-requires-clause-base g c = rw c.loop-index.invariant.base c.requires.base
 pub add-requires-clause-sound : goal.add-requires-clause-sound
 add-requires-clause-sound g c = c.loop-index.invariant.sound
 
+pub add-requires-clause-rows : goal.add-requires-clause-rows
+add-requires-clause-rows g c = c.loop-index.invariant.rows.each
+
 pub add-requires-clause-few : goal.add-requires-clause-few
 add-requires-clause-few g c = let count = c.loop-index.invariant.count in let on = c.loop-index-test.true in let few = c.requires.few in omega arith
 
