@@ -90,7 +90,7 @@ impl Trail {
         ensures { all_of self.new ≡ take count (all_of self.old) }
     {
         self.events.truncate(count);
-        self.start = self.events.len();
+        self.start = self.start.min(self.events.len());
     }
 
     /// All its events.

@@ -49,7 +49,15 @@ impl Shelf {
         let mut kernel = Kernel::boot(app);
         let mut trail = Trail::new(alloc);
         let mut stops = Vec::new(alloc);
-        let end = put_stops(alloc, app, &limits, stride, &mut kernel, &mut trail, &mut stops)?;
+        let end = put_stops(
+            alloc,
+            app,
+            &limits,
+            stride,
+            &mut kernel,
+            &mut trail,
+            &mut stops,
+        )?;
         let base = Run {
             events: trail.into_events(),
             steps: kernel.steps(),

@@ -31,8 +31,8 @@ stops-preserved c =
     let there = c.in_ok-end.ensures.there c.in_default.is in
     let put = there ∙ c.stops.invariant.next in
     let events = c.in_ok-end.ensures.events
-        ∙ ap (λ (events : List Event). events ++ events_from c.args.app.now [] c.stops.kernel.steps c.follow.new.kernel.steps) c.stops.invariant.events
-        ∙ goes_on_with c.args.app.now [] c.stops.kernel.steps c.follow.new.kernel.steps c.in_ok-end.ensures.on in
+    ∙ ap (λ (events : List Event). events ++ events_from c.args.app.now [] c.stops.kernel.steps c.follow.new.kernel.steps) c.stops.invariant.events
+    ∙ goes_on_with c.args.app.now [] c.stops.kernel.steps c.follow.new.kernel.steps c.in_ok-end.ensures.on in
     let metered = c.in_ok-end.ensures.meter in
     let meter = c.stops.invariant.meter in
     let low = c.stops.invariant.low in

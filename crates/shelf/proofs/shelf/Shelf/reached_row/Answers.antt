@@ -19,6 +19,9 @@ returns-in_err-events-clause-refused c =
 
 pub returns-clause-row : goal.returns-clause-row
 returns-clause-row c =
-    let none = ap₂ (λ (told more : List Event). told ++ more) c.new-trail.ensures.before c.new-trail.ensures.told in
-    (refl, refl, whole_row c.args.app.now c.args.self.now c.requires.shelf c.args.point.now c.requires.reached _ _ none c.in_ok-before.field-0 c.in_ok-before.ensures.row c.in_ok-before.ensures.before
-    c.in_ok-events.events.items (c.in_ok-events.ensures.events ∙ ap (λ (events : List Event). take c.in_ok-before.field-0.before c.args.self.now.base.events ++ events) c.events.ensures))
+    let none = ap₂ (λ (told more : List Event). told ++ more) c.new-trail.ensures.before c.new-trail.ensures.told in (
+      refl,
+      refl,
+      whole_row c.args.app.now c.args.self.now c.requires.shelf c.args.point.now c.requires.reached _ _ none c.in_ok-before.field-0 c.in_ok-before.ensures.row c.in_ok-before.ensures.before
+          c.in_ok-events.events.items (c.in_ok-events.ensures.events ∙ ap (λ (events : List Event). take c.in_ok-before.field-0.before c.args.self.now.base.events ++ events) c.events.ensures),
+    )
