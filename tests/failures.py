@@ -2,7 +2,10 @@
 import itertools
 import json
 import os
+import pty
+import re
 import resource
+import select
 import signal
 import socket
 import subprocess
@@ -251,7 +254,7 @@ def a_campaign_that_is_stopped_ends_at_once_and_has_written_nothing():
             equal(started.poll(), None)
             status, out, err, seconds = stopped_by(number, started)
             equal((status, out, err), (-number, b"", b""))
-            assert seconds < 2, seconds
+            assert seconds < 5, seconds
 
 
 @case
@@ -297,19 +300,25 @@ def least(kind, step, found, *words):
     return next(it for it in range(step, 1 << 16, step) if with_memory(it, *words, kind=kind)[0] in found)
 
 
-def with_falling_memory(whole, step, *words):
-    """With each size of the heap, from the least with which the program starts, it answers this, or that no memory is left; and
-    at the end just this. Returns how often no memory was left."""
-    size, refused, last = least(resource.RLIMIT_DATA, 4, (3, 4), "run", "not there"), 0, 0
-    while last < 8:
-        found = with_memory(size, *words, kind=resource.RLIMIT_DATA)
-        if found == OUT_OF_MEMORY:
-            refused, last = refused + 1, 0
-        else:
-            equal(found, whole)
-            last += 1
+def answers(kind, size, step, whole, *words):
+    """What the program answers with more and more memory of this kind, from this size on, until it is the whole each time."""
+    found = []
+    while found[-8:] != [whole] * 8:
+        assert len(found) < 5000, f"with {size} kilobytes it is not the whole"
+        found.append(with_memory(size, *words, kind=kind))
         size += step or max(4, size // 8)
-    return refused
+    return found
+
+
+def with_falling_memory(whole, step, *words):
+    """With each size of the heap, from the least with which the program starts, it answers this, or that no memory is left.
+    Returns how often no memory was left."""
+    size = least(resource.RLIMIT_DATA, 4, (3, 4), "run", "not there")
+    found = answers(resource.RLIMIT_DATA, size, step, whole, *words)
+    for it in found:
+        if it != OUT_OF_MEMORY:
+            equal(it, whole)
+    return found.count(OUT_OF_MEMORY)
 
 
 def many_events():
@@ -360,13 +369,13 @@ def with_little_memory_for_words_the_answer_is_whole_or_says_so():
 
 
 def with_little_memory_in_all():
-    """What a campaign answers with each of some limits on all of its memory, its stack included."""
+    """What a campaign answers with little memory, its stack included, but for its report and that no memory is left."""
     write("application.toml", TASK)
     first, rows = least(resource.RLIMIT_AS, 64, (0,), "run", "application.toml"), 3000
     write("campaign.toml", campaign_of(rows))
     whole = (0, rows_report(rows), b"")
-    found = [with_memory(it, "campaign", "campaign.toml") for it in range(first, first + 2048, 16)]
-    assert found.count(OUT_OF_MEMORY) > 5 and found[-1] == whole, found.count(OUT_OF_MEMORY)
+    found = answers(resource.RLIMIT_AS, first, 16, whole, "campaign", "campaign.toml")
+    assert found.count(OUT_OF_MEMORY) > 5, found.count(OUT_OF_MEMORY)
     return [it for it in found if it not in (OUT_OF_MEMORY, whole)]
 
 
@@ -407,6 +416,26 @@ def a_million_points_in_512_megabytes():
 
 
 # What is shown
+
+
+def shown_on_a_terminal(seconds, *words):
+    """What the program shows there first of this long campaign, or nothing within this time."""
+    write("application.toml", LONG_CAMPAIGN)
+    ours, its = pty.openpty()
+    with subprocess.Popen([PROGRAM, "campaign", "application.toml", *words], stdout=subprocess.DEVNULL, stderr=its) as started:
+        os.close(its)
+        is_there = select.select([ours], [], [], seconds)[0]
+        shown = os.read(ours, 100) if is_there else b""
+        started.kill()
+    os.close(ours)
+    return shown
+
+
+@case
+def a_campaign_shows_on_a_terminal_how_far_it_is_unless_it_is_quiet():
+    shown = shown_on_a_terminal(PATIENCE)
+    assert re.fullmatch(rb"\rrtosim: [1-9]\d* of 901001 rows", shown), shown
+    equal(shown_on_a_terminal(1.5, "--quiet"), b"")
 
 
 def controls(text):
