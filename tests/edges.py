@@ -1,4 +1,5 @@
 """Files at the limits of docs/FORMATS.md and one past them: what is taken, and what is refused with which line."""
+import hashlib
 import json
 
 from cases import case, equal
@@ -67,6 +68,62 @@ def edges_of_the_limits_of_a_run():
 @case
 def a_loop_of_a_million_steps_comes_to_the_limit():
     tells(task("repeat 1000", "work 1000", "end"), "steps in 1000000 steps, 999000 ticks")
+
+
+def without_end(*script):
+    """A script that goes on for longer than any run."""
+    return ["repeat 1000"] * 3 + [*script] + ["end"] * 3
+
+
+def tasks_without_end(count, *script, rises=False):
+    return "".join(task(*without_end(*script), name=f"t{it}", priority=it if rises else 1) for it in range(count))
+
+
+# Runs of a million steps: the parts of the file, the verdict, and the digest of all that is written, as an independent program
+# has it.
+MILLION_STEPS = {
+    "32 tasks that sleep a tick": ([tasks_without_end(32, "delay 1")], "steps in 1000000 steps, 15368 ticks", "b893763aa9da380f"),
+    "32 tasks of all priorities that sleep": ([
+        tasks_without_end(32, "delay 3", "delay 2", rises=True),
+    ], "steps in 1000000 steps, 49472 ticks", "3219785aadcc1a4f"),
+    "32 tasks that yield": ([tasks_without_end(32, "yield")], "steps in 1000000 steps, 0 ticks", "573cda2de750e256"),
+    "31 tasks that wait for a bit": ([
+        GROUP,
+        tasks_without_end(31, "wait g 1 any clear forever"),
+        task(*without_end("set g 1"), name="s", priority=0),
+    ], "steps in 1000000 steps, 0 ticks", "dc95152d249e7c01"),
+    "32 tasks at one queue": ([
+        QUEUE,
+        tasks_without_end(16, "receive q 2"),
+        task(*without_end("send q 1 1"), name="s", priority=0),
+        *[task(*without_end("send q 2 forever", "work 1"), name=f"u{it}", priority=it) for it in range(15)],
+    ], "steps in 1000000 steps, 99947 ticks", "9d888583c85e983b"),
+    "32 tasks at one mutex": ([
+        '[[mutex]]\nname = "m"\n',
+        *[task(*without_end(f"delay {it + 1}", "lock m forever", "work 1", "unlock m"), name=f"t{it}", priority=it % 8)
+          for it in range(32)],
+    ], "steps in 1000000 steps, 129358 ticks", "02415957c728c5e5"),
+    "a scheduler that is suspended for 100 ticks again and again": ([
+        task(*without_end("suspend_all", "work 100", "resume_all")), tasks_without_end(31, "delay 7", "yield"),
+    ], "steps in 1000000 steps, 970854 ticks", "a46f8d6e9c955025"),
+    "as many interrupts as there can be": ([
+        '[[handler]]\nname = "h"\nops = ' + json.dumps(["mark 4294967295"] * 16) + "\n",
+        task("work 1000000", "mark 1"),
+        *[f'[[interrupt]]\ntick = {1 + it // 4}\nhandler = "h"\n' for it in range(1024)],
+    ], "ticks in 1000000 steps, 1000000 ticks", "39a259b9e925afed"),
+    "nobody but an interrupt at the last tick": ([
+        QUEUE, HANDLER, *[task("receive q forever", name=f"t{it}") for it in range(32)],
+        '[[interrupt]]\ntick = 1000000\nhandler = "h"\n',
+    ], "steps in 1000000 steps, 999840 ticks", "78840fa74d98ac64"),
+}
+
+
+@case
+def runs_of_a_million_steps_as_an_independent_program_has_them():
+    for name, (parts, verdict, digest) in MILLION_STEPS.items():
+        _, out, err = run_text("".join(parts))
+        found = out.partition(b"\n")[0].decode(), hashlib.sha256(out).hexdigest()[:16], err
+        assert found == (f"base: {verdict}", digest, b""), f"{name}: {found}"
 
 
 @case
@@ -315,6 +372,15 @@ def edges_of_the_number_of_points():
     is_refused(campaign_text(many.format(1_000_001 * '"",')), 3, "9 TooMany: campaign points")
     # one less: every entry is looked at
     is_refused(campaign_text(many.format(999_999 * '"0 h",' + '""')), 3, "4 BadOp: campaign points 999999")
+
+
+@case
+def many_keys_and_sections_that_are_ignored():
+    many = range(50_000)
+    is_taken(
+        "".join(f"k{it} = 1\n" for it in many) + "".join(f"d.k{it} = 1\n" for it in many) + "x = [" + 50_000 * "1," + "]\n"
+        + "".join(f"[t{it}]\n" for it in many) + "[[other]]\n" * 50_000 + TASK
+    )
 
 
 @case
