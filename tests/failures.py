@@ -6,6 +6,7 @@ import pty
 import re
 import resource
 import select
+import shutil
 import signal
 import socket
 import subprocess
@@ -118,9 +119,19 @@ def each_way_in_which_a_file_can_not_be_read():
     for name in ("not there", "file/below", "loop", "socket", 300 * "n", 5000 * "n/", ".", "..", "/", "/proc/self/mem"):
         for command in ("run", "campaign"):
             is_refused(run(command, name), 3, f"cannot read {name}")
-    if os.geteuid() != 0:
-        os.chmod("file", 0)
-        is_refused(run("run", "file"), 3, "cannot read file")
+
+
+@case
+def a_file_that_may_not_be_read():
+    # (root may read it: then the program, in a copy that anybody may start, is started as nobody)
+    become = (lambda: os.setuid(65534)) if os.geteuid() == 0 else None
+    os.chmod(".", 0o755)
+    shutil.copy(PROGRAM, "program")
+    write("file", TASK)
+    for mode, wanted in ((0o644, (0, TASK_RUNS, b"")), (0, (3, b"", b"rtosim: cannot read file\n"))):
+        os.chmod("file", mode)
+        ran = subprocess.run(["./program", "run", "file"], preexec_fn=become, capture_output=True, timeout=PATIENCE)
+        equal((ran.returncode, ran.stdout, ran.stderr), wanted)
 
 
 @case
