@@ -145,39 +145,33 @@ defined_at app limits base events [] are = tt
 defined_at app limits base events (k ∷ kept) are = (are.0, defined_at app limits base events kept are.1)
 
 pub row_again : (app : Application) (limits : Limits) (rows : Rows) (point : Point) (k : KeptRow) → IsSound rows → AreDefined app limits (whole rows) → IsAmong rows.kept.items point k
-    → IsKeptRow app limits rows.base (all_of rows.trail) point k
+    → IsKeptRow app limits rows.shelf.base (all_of rows.trail) point k
 row_again app limits rows point k sound are among = record {
   at_point = among.at_point;
   within = all_at _ rows.kept.items among.number k among.within among.is sound.within;
   is_row = rw (← among.at_point)
-      (all_at _ rows.kept.items among.number k among.within among.is (defined_at app limits rows.base.events (all_of rows.trail) rows.kept.items are));
+      (all_at _ rows.kept.items among.number k among.within among.is (defined_at app limits rows.shelf.base.events (all_of rows.trail) rows.kept.items are));
 }
 
 pub no_more : (events : List Event) → Grows events events
 no_more events = ([], sym (append-nil events))
 
--- the events before a row's own, on a kernel of which no step is done
-pub from_here : (app : Application) (steps before step : ℕ) → steps ≡ 0
-    → length (events_after app [] steps) + before ≡ length (events_after app [] step) → before ≡ length (events_after app [] step)
-from_here app zero before step none count = let from : 0 + before ≡ length (events_after app [] step) = count in omega arith
-from_here app (suc steps) before step none count = absurd (omega arith)
-
 -- One row more is kept: that of this point.
 module _ (app : Application) (limits : Limits) (old new : Rows) (events : List Event) (point : Point) (k : KeptRow)
-    (base : new.base ≡ old.base) (kept : new.kept.items ≡ old.kept.items ++ k ∷ []) (trail : all_of new.trail ≡ events) (grows : Grows (all_of old.trail) events)
-    (sound : IsSound old) (row : IsKeptRow app limits old.base events point k) (few : length old.kept.items < most_points) where
-  grown : whole new ≡ whole old ++ row_in old.base.events events k ∷ []
-  grown = rw (base, kept, trail, grows.1) (rows_of-more old.base.events (all_of old.trail) grows.0 old.kept.items k sound.within)
+    (shelf : new.shelf ≡ old.shelf) (kept : new.kept.items ≡ old.kept.items ++ k ∷ []) (trail : all_of new.trail ≡ events) (grows : Grows (all_of old.trail) events)
+    (sound : IsSound old) (row : IsKeptRow app limits old.shelf.base events point k) (few : length old.kept.items < most_points) where
+  grown : whole new ≡ whole old ++ row_in old.shelf.base.events events k ∷ []
+  grown = rw (shelf, kept, trail, grows.1) (rows_of-more old.shelf.base.events (all_of old.trail) grows.0 old.kept.items k sound.within)
 
-  pub sound_more : new.totals ≡ totals_of (whole old ++ row_in old.base.events events k ∷ []) → IsSound new
+  pub sound_more : new.totals ≡ totals_of (whole old ++ row_in old.shelf.base.events events k ∷ []) → IsSound new
   sound_more totals =
-      let totals : new.totals ≡ totals_of (whole old ++ row_in old.base.events (all_of old.trail ++ grows.0) k ∷ []) = rw (← grows.1) totals in
-      rw (base, kept, trail, grows.1)
-      (kept-more old.base.events (all_of old.trail) grows.0 old.kept.items old.totals new.totals k sound (rw (← grows.1) row.within) few totals)
+      let totals : new.totals ≡ totals_of (whole old ++ row_in old.shelf.base.events (all_of old.trail ++ grows.0) k ∷ []) = rw (← grows.1) totals in
+      rw (shelf, kept, trail, grows.1)
+      (kept-more old.shelf.base.events (all_of old.trail) grows.0 old.kept.items old.totals new.totals k sound (rw (← grows.1) row.within) few totals)
 
   pub gains_more : Gains app limits point (whole old) (whole new)
   gains_more = record {
-    row = row_in old.base.events events k;
+    row = row_in old.shelf.base.events events k;
     last = grown;
     at_point = row.at_point;
     is_row = row.is_row;
@@ -196,17 +190,17 @@ none_written app rows a page empty = rw empty (record { within = omega arith; se
 module _ (app : Application) (rows : Rows) (index : ℕ) (k : KeptRow) (items : List KeptRow) (same : items ≡ rows.kept.items)
     (l : index < length items) (is : k ≡ slice_index_or items index k) where
   abbrev next : Row
-  next = row_in rows.base.events (all_of rows.trail) k
+  next = row_in rows.shelf.base.events (all_of rows.trail) k
 
-  pub next_within : IsSound rows → IsWithin rows.base.events (all_of rows.trail) k
+  pub next_within : IsSound rows → IsWithin rows.shelf.base.events (all_of rows.trail) k
   next_within sound = all_at _ rows.kept.items index k (rw (← same) l) (rw (← same) is) sound.within
 
   count : index ≤ length rows.kept.items → length (take index (whole rows)) ≡ index
-  count within = length-take-le index (whole rows) (let many = length-map rows.kept.items (row_in rows.base.events (all_of rows.trail)) in omega arith)
+  count within = length-take-le index (whole rows) (let many = length-map rows.kept.items (row_in rows.shelf.base.events (all_of rows.trail)) in omega arith)
 
   next_row : take (index + 1) (whole rows) ≡ take index (whole rows) ++ next ∷ []
   next_row =
-      let f = row_in rows.base.events (all_of rows.trail) in
+      let f = row_in rows.shelf.base.events (all_of rows.trail) in
       let within : index < length (whole rows) = rw (length-map rows.kept.items f, ← same) l in
       let at : slice_index_or rows.kept.items index k ≡ k = rw (← same) (sym is) in
       take_more (whole rows) index next within
@@ -249,6 +243,6 @@ whole_report app rows report a b c d page kept r same first second last =
 pub all_written : (app : Application) (rows : Rows) (index : ℕ) (a b : Option (List ℕ)) (page : List ℕ) → IsPart app rows index a b page
     → length rows.kept.items ≤ index → Sent a b (rows_text app 0 (whole rows)) page
 all_written app rows index a b page part end =
-    let many = length-map rows.kept.items (row_in rows.base.events (all_of rows.trail)) in
+    let many = length-map rows.kept.items (row_in rows.shelf.base.events (all_of rows.trail)) in
     let all : take index (whole rows) ≡ whole rows = take_all index (whole rows) (omega arith) in
     rw (← all) part.sent

@@ -49,10 +49,10 @@ pub record AreKept (base events : List Event) (kept : List KeptRow) (totals : To
 
 -- the rows as a whole
 abbrev pub whole : Rows → List Row
-whole rows = rows_of rows.base.events (all_of rows.trail) rows.kept.items
+whole rows = rows_of rows.shelf.base.events (all_of rows.trail) rows.kept.items
 
 abbrev pub IsSound : Rows → Type 0
-IsSound rows = AreKept rows.base.events (all_of rows.trail) rows.kept.items rows.totals
+IsSound rows = AreKept rows.shelf.base.events (all_of rows.trail) rows.kept.items rows.totals
 
 -- Each row is the definition's.
 abbrev pub AreDefined : Application → Limits → List Row → Type 0

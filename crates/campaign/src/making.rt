@@ -1,36 +1,36 @@
 //! The rows of a campaign.
-ghost use Rattle.std.specs.Prelude.{◌≡◌, ◌<◌, ◌≤◌, [], length, IfOk, OnErr};
-ghost use Rattle.model.specs.Run.{IsRun};
+ghost use Rattle.std.specs.Prelude.{◌<◌, ◌≤◌, length, IfOk};
 ghost use Rattle.model.specs.Scripts.{most_points};
 ghost use Rattle.model.specs.Campaign.{AreRows};
+ghost use Rattle.shelf.specs.Shelves.{IsShelf};
 
 use crate::campaign_report::Report;
-use crate::one_run::base_run;
 use crate::progress::{Progress, Unseen};
 use crate::rows::rows_of;
-use model::{App, Limits, Memory, Point, Run};
+use model::{App, Limits, Memory, Point};
+use shelf::Shelf;
 use std::alloc::Global;
 
-/// The report of the rows of these points, where the base run is this one.
+/// The report of the rows of these points, from a shelf of the application.
 pub(crate) fn campaign_from<P: Progress>(
     alloc: Global,
     app: &App,
-    base: Run,
+    shelf: Shelf,
     points: Vec<Point>,
-    limits: Limits,
     progress: &mut P,
 ) -> Result<Report, Memory>
-    requires base { IsRun app.now [] limits base }
+    requires shelf { IsShelf app.now shelf }
     requires few { length points.items ≤ most_points }
-    ensures { IfOk result (λ rows. AreRows app.now limits points.items rows) }
+    ensures { IfOk result (λ rows. AreRows app.now shelf.limits points.items rows) }
 {
-    let rows = rows_of(alloc, app, base, points.as_slice(), &limits, progress)?;
+    let rows = rows_of(alloc, app, shelf, points.as_slice(), progress)?;
     Ok(Report::new(rows))
 }
 
 /// Runs an application once for each of these points, under these limits, and reports the rows: a row's point is injected where
 /// the base run reaches its step, else the row is the base run. There are at most 1,000,000 points, and their handlers are the
-/// application's.
+/// application's. The kernel is kept before each `stride`-th step of the base run, 1 to 65,536, and each row runs from there; the
+/// report doesn't depend on it.
 ///
 /// `Memory` is answered only where a growth was refused.
 pub fn campaign(
@@ -38,10 +38,13 @@ pub fn campaign(
     app: &App,
     points: Vec<Point>,
     limits: Limits,
+    stride: u32,
 ) -> Result<Report, Memory>
-    requires { length points.items ≤ most_points }
+    requires few { length points.items ≤ most_points }
+    requires apart { 0 < stride }
+    requires near { stride ≤ 65536 }
     ensures { IfOk result (λ rows. AreRows app.now limits points.items rows) }
 {
-    let base = base_run(alloc, app, limits)?;
-    campaign_from(alloc, app, base, points, limits, &mut Unseen)
+    let shelf = Shelf::make(alloc, app, limits, stride)?;
+    campaign_from(alloc, app, shelf, points, &mut Unseen)
 }

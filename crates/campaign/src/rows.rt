@@ -5,13 +5,14 @@ ghost use Rattle.model.specs.Run.{IsRun, IsRow};
 ghost use Rattle.model.specs.Application as application;
 ghost use Rattle.model.specs.Scripts.{most_points};
 ghost use Rattle.model.specs.Campaign.{AreRows, totals_of};
-ghost use Rattle.kernel.specs.Can.{IsUnderWay};
+ghost use Rattle.shelf.specs.Shelves.{IsShelf};
 ghost use Rattle.campaign.specs.Report.{whole, AreDefined, IsSound, IsAmong, IsKeptRow, Gains, Grows};
 
 use crate::progress::Progress;
 use crate::recent::Recent;
-use kernel::{Kernel, StepLog, Trail, run_row};
-use model::{App, End, Limits, Memory, Meter, Point, Run, Totals};
+use kernel::{Kernel, StepLog, Trail};
+use model::{App, End, Memory, Meter, Point, Totals};
+use shelf::Shelf;
 use std::alloc::Global;
 
 /// A row as it is kept: its events begin with so many of the base run's, and go on with its own, which stand among those of
@@ -34,7 +35,7 @@ pub(crate) struct KeptRow {
 /// injection on stand in one trail, those of a point that comes again once.
 #[derive(Drop)]
 pub(crate) struct Rows {
-    pub(crate) base: Run,
+    pub(crate) shelf: Shelf,
     pub(crate) kept: Vec<KeptRow>,
     pub(crate) trail: Trail,
     pub(crate) totals: Totals,
@@ -73,9 +74,9 @@ fn push(kept: &mut Vec<KeptRow>, row: KeptRow) -> Result<(), Memory>
 }
 
 impl Rows {
-    /// No rows yet, of a campaign with this base run, and room for so many.
-    fn new(alloc: Global, base: Run, count: usize) -> Result<Rows, Memory>
-        ensures base { IfOk result (λ rows. rows.base ≡ base) }
+    /// No rows yet, and room for so many.
+    fn new(alloc: Global, shelf: Shelf, count: usize) -> Result<Rows, Memory>
+        ensures shelf { IfOk result (λ rows. rows.shelf ≡ shelf) }
         ensures none { IfOk result (λ rows. rows.kept.items ≡ []) }
         ensures sound { IfOk result IsSound }
     {
@@ -84,7 +85,7 @@ impl Rows {
             return Err(Memory);
         }
         Ok(Rows {
-            base,
+            shelf,
             kept,
             trail: Trail::new(alloc),
             totals: Totals::new(),
@@ -94,19 +95,20 @@ impl Rows {
 
     // The row of a point that the base run doesn't reach: it is the base run.
     fn missed(&self, point: Point) -> KeptRow
-        requires missed { self.now.base.steps ≤ point.step }
-        ensures row { (app : application.Application) (limits : application.Limits) → IsRun app [] limits self.now.base
-            → IsKeptRow app limits self.now.base (all_of self.now.trail) point result }
+        requires missed { self.now.shelf.base.steps ≤ point.step }
+        ensures row { (app : application.Application) → IsShelf app self.now.shelf
+            → IsKeptRow app self.now.shelf.limits self.now.shelf.base (all_of self.now.trail) point result }
     {
+        let base = self.shelf.base();
         KeptRow {
             point,
             reached: false,
-            shared: self.base.events.len(),
+            shared: base.events.len(),
             own_from: 0,
             own_to: 0,
-            steps: self.base.steps,
-            ticks: self.base.ticks,
-            end: self.base.end,
+            steps: base.steps,
+            ticks: base.ticks,
+            end: base.end,
         }
     }
 
@@ -114,35 +116,22 @@ impl Rows {
     fn reached(
         &mut self,
         app: &App,
-        limits: &Limits,
-        reset: &Kernel,
         kernel: &mut Kernel,
         log: &mut StepLog,
         point: &Point,
     ) -> Result<KeptRow, Memory>
-        requires base { IsRun app.now [] limits.now self.old.base }
-        requires reset { IsUnderWay app.now [] limits.now reset.now }
-        requires none_done { reset.now.steps ≡ 0 }
-        requires reached { point.now.step < self.old.base.steps }
-        ensures base { self.new.base ≡ self.old.base }
+        requires shelf { IsShelf app.now self.old.shelf }
+        requires reached { point.now.step < self.old.shelf.base.steps }
+        ensures shelf { self.new.shelf ≡ self.old.shelf }
         ensures kept { self.new.kept ≡ self.old.kept }
         ensures totals { self.new.totals ≡ self.old.totals }
         ensures trail { IfOk result (λ _. Grows (all_of self.old.trail) (all_of self.new.trail)) }
         ensures row { IfOk result (λ row.
-            IsKeptRow app.now limits.now self.old.base (all_of self.new.trail) point.now row) }
+            IsKeptRow app.now self.old.shelf.limits self.old.shelf.base (all_of self.new.trail) point.now row) }
     {
         let own_from = self.trail.len();
-        kernel.set_from(reset);
         let mut meter = Meter::new();
-        let row = run_row(
-            kernel,
-            app,
-            *point,
-            limits,
-            &mut meter,
-            log,
-            &mut self.trail,
-        )?;
+        let row = self.shelf.run_reached(app, *point, kernel, &mut meter, log, &mut self.trail)?;
         Ok(KeptRow {
             point: *point,
             reached: true,
@@ -159,24 +148,20 @@ impl Rows {
     fn made(
         &mut self,
         app: &App,
-        limits: &Limits,
-        reset: &Kernel,
         kernel: &mut Kernel,
         log: &mut StepLog,
         point: Point,
     ) -> Result<KeptRow, Memory>
-        requires base { IsRun app.now [] limits.now self.old.base }
-        requires reset { IsUnderWay app.now [] limits.now reset.now }
-        requires none_done { reset.now.steps ≡ 0 }
-        ensures base { self.new.base ≡ self.old.base }
+        requires shelf { IsShelf app.now self.old.shelf }
+        ensures shelf { self.new.shelf ≡ self.old.shelf }
         ensures kept { self.new.kept ≡ self.old.kept }
         ensures totals { self.new.totals ≡ self.old.totals }
         ensures trail { IfOk result (λ _. Grows (all_of self.old.trail) (all_of self.new.trail)) }
         ensures row { IfOk result (λ row.
-            IsKeptRow app.now limits.now self.old.base (all_of self.new.trail) point row) }
+            IsKeptRow app.now self.old.shelf.limits self.old.shelf.base (all_of self.new.trail) point row) }
     {
-        if point.step < self.base.steps {
-            self.reached(app, limits, reset, kernel, log, &point)
+        if point.step < self.shelf.base().steps {
+            self.reached(app, kernel, log, &point)
         } else {
             Ok(self.missed(point))
         }
@@ -198,79 +183,68 @@ impl Rows {
     fn row_of_point(
         &mut self,
         app: &App,
-        limits: &Limits,
-        reset: &Kernel,
         kernel: &mut Kernel,
         log: &mut StepLog,
         point: Point,
     ) -> Result<KeptRow, Memory>
-        requires base { IsRun app.now [] limits.now self.old.base }
-        requires reset { IsUnderWay app.now [] limits.now reset.now }
-        requires none_done { reset.now.steps ≡ 0 }
+        requires shelf { IsShelf app.now self.old.shelf }
         requires sound { IsSound self.old }
-        requires rows { AreDefined app.now limits.now (whole self.old) }
-        ensures base { self.new.base ≡ self.old.base }
+        requires rows { AreDefined app.now self.old.shelf.limits (whole self.old) }
+        ensures shelf { self.new.shelf ≡ self.old.shelf }
         ensures kept { self.new.kept ≡ self.old.kept }
         ensures totals { self.new.totals ≡ self.old.totals }
         ensures trail { IfOk result (λ _. Grows (all_of self.old.trail) (all_of self.new.trail)) }
         ensures row { IfOk result (λ row.
-            IsKeptRow app.now limits.now self.old.base (all_of self.new.trail) point row) }
+            IsKeptRow app.now self.old.shelf.limits self.old.shelf.base (all_of self.new.trail) point row) }
     {
         match self.again(self.recent.row(&point), &point) {
             Some(row) => Ok(row),
-            None => self.made(app, limits, reset, kernel, log, point),
+            None => self.made(app, kernel, log, point),
         }
     }
 
-    // Adds the row of a point, under these limits. At `Err(Memory)` the rows are of no more use.
+    // Adds the row of a point. At `Err(Memory)` the rows are of no more use.
     fn add(
         &mut self,
         app: &App,
-        limits: &Limits,
-        reset: &Kernel,
         kernel: &mut Kernel,
         log: &mut StepLog,
         point: Point,
     ) -> Result<(), Memory>
-        requires base { IsRun app.now [] limits.now self.old.base }
-        requires reset { IsUnderWay app.now [] limits.now reset.now }
-        requires none_done { reset.now.steps ≡ 0 }
+        requires shelf { IsShelf app.now self.old.shelf }
         requires sound { IsSound self.old }
-        requires rows { AreDefined app.now limits.now (whole self.old) }
+        requires rows { AreDefined app.now self.old.shelf.limits (whole self.old) }
         requires few { length self.old.kept.items < most_points }
-        ensures base { self.new.base ≡ self.old.base }
+        ensures shelf { self.new.shelf ≡ self.old.shelf }
         ensures sound { OnOk result (IsSound self.new) }
         ensures count { OnOk result (length self.new.kept.items ≡ length self.old.kept.items + 1) }
-        ensures row { OnOk result (Gains app.now limits.now point (whole self.old) (whole self.new)) }
+        ensures row { OnOk result (Gains app.now self.old.shelf.limits point (whole self.old) (whole self.new)) }
     {
-        let row = self.row_of_point(app, limits, reset, kernel, log, point)?;
+        let row = self.row_of_point(app, kernel, log, point)?;
         self.recent.set(&point, self.kept.len());
         self.totals.count(row.reached, row.end);
         push(&mut self.kept, row)
     }
 }
 
-/// The rows of these points, each run from reset unless its point was run before, where the base run is this one.
+/// The rows of these points, each run from the stop before its point unless its point was run before.
 pub(crate) fn rows_of<P: Progress>(
     alloc: Global,
     app: &App,
-    base: Run,
+    shelf: Shelf,
     points: &[Point],
-    limits: &Limits,
     progress: &mut P,
 ) -> Result<Rows, Memory>
-    requires base { IsRun app.now [] limits.now base }
+    requires shelf { IsShelf app.now shelf }
     requires few { length points.now ≤ most_points }
-    ensures base { IfOk result (λ rows. rows.base ≡ base) }
     ensures sound { IfOk result IsSound }
-    ensures rows { IfOk result (λ rows. AreRows app.now limits.now points.now (whole rows)) }
+    ensures rows { IfOk result (λ rows. AreRows app.now shelf.limits points.now (whole rows)) }
 {
-    let reset = Kernel::boot(app);
     let mut kernel = Kernel::boot(app);
     let mut log = StepLog::new();
-    let mut rows = Rows::new(alloc, base, points.len())?;
+    let mut rows = Rows::new(alloc, shelf, points.len())?;
     for (index, point) in points.iter().enumerate() {
-        rows.add(app, limits, &reset, &mut kernel, &mut log, *point)?;
+        rows.add(app, &mut kernel, &mut log, *point)?;
         progress.made(index + 1, points.len());
     }
     Ok(rows)

@@ -5,13 +5,13 @@ ghost use Rattle.campaign.specs.Campaigns.{AreRowsOf, IsCampaignFault, ServesCam
 use crate::campaign_report::Report;
 use crate::file::{ServeFault, app_of};
 use crate::making::campaign_from;
-use crate::one_run::base_run;
 use crate::options::Options;
 use crate::points::{ExpandFault, expand};
 use crate::progress::{Progress, Unseen};
 use crate::writing::write_report;
 use byte_io::{Sink, Source};
 use model::{App, Totals};
+use shelf::Shelf;
 use std::alloc::Global;
 
 impl From<ExpandFault> for ServeFault {
@@ -28,12 +28,17 @@ impl From<ExpandFault> for ServeFault {
 }
 
 // The report of the application's own points, under its own limits.
-fn report_of<P: Progress>(alloc: Global, app: &App, progress: &mut P) -> Result<Report, ServeFault>
+fn report_of<P: Progress>(
+    alloc: Global,
+    app: &App,
+    options: Options,
+    progress: &mut P,
+) -> Result<Report, ServeFault>
     ensures { MatchResult result (AreRowsOf app.now) (IsCampaignFault app.now) }
 {
-    let base = base_run(alloc, app, app.limits())?;
-    let points = expand(alloc, app, &base)?;
-    let report = campaign_from(alloc, app, base, points, app.limits(), progress)?;
+    let shelf = Shelf::make(alloc, app, app.limits(), options.stride())?;
+    let points = expand(alloc, app, shelf.base())?;
+    let report = campaign_from(alloc, app, shelf, points, progress)?;
     Ok(report)
 }
 
@@ -48,7 +53,7 @@ pub fn serve_watched<R: Source, W: Sink, P: Progress>(
     alloc: Global,
     reader: &mut R,
     writer: &mut W,
-    _options: Options,
+    options: Options,
     progress: &mut P,
 ) -> Result<Totals, ServeFault>
     requires reads { R.has_failed reader.old ≡ false }
@@ -57,7 +62,7 @@ pub fn serve_watched<R: Source, W: Sink, P: Progress>(
         (W.held writer.old) (W.held writer.new) (W.has_failed writer.new) result }
 {
     let app = app_of(alloc, reader)?;
-    let report = report_of(alloc, &app, progress);
+    let report = report_of(alloc, &app, options, progress);
     progress.ended();
     let report = report?;
     write_report(&app, &report, writer)?;

@@ -59,7 +59,7 @@ fn add_rows<W: Sink>(
         (rows_text text.old.app 0 (whole rows.now))) }
     ensures failed { W.has_failed writer.new ≡ is_err result }
 {
-    let base = rows.base.events.as_slice();
+    let base = rows.shelf.events();
     let events = rows.trail.events();
     for (number, row) in rows.kept.iter().enumerate() {
         let own = &events[row.own_from..row.own_to];

@@ -178,11 +178,9 @@ fn words_that_name_a_campaign(rt: HostRuntime) {
         let (workers, stride, block) = named.options;
         let job = Job::Campaign {
             file: "app.toml",
-            options: Options {
-                workers,
-                stride,
-                block,
-            },
+            options: Options::new(workers, stride, block)
+                .ok()
+                .expect(&rt, "options"),
             quiet: named.quiet,
         };
         assert_eq!(rt; answer(rt.alloc(), named.words), Ok(job));

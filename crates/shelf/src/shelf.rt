@@ -79,6 +79,13 @@ impl Shelf {
         &self.base
     }
 
+    /// The events of the base run, in order.
+    pub fn events(&self) -> &[Event]
+        ensures { result.now ≡ self.now.base.events }
+    {
+        self.base.events.as_slice()
+    }
+
     /// The limits of the base run, which are those of the rows.
     pub fn limits(&self) -> Limits
         ensures { result ≡ self.now.limits }

@@ -14,7 +14,7 @@ set-requires c =
 
 pub count-requires : goal.count-requires
 count-requires c =
-    let rows = length-map c.args.self.now.kept.items (row_in c.args.self.now.base.events (all_of c.args.self.now.trail)) in
+    let rows = length-map c.args.self.now.kept.items (row_in c.args.self.now.shelf.base.events (all_of c.args.self.now.trail)) in
     let few = c.requires.few in
     (whole c.args.self.now, c.row_of_point.ensures.totals ∙ c.requires.sound.counted, omega arith)
 
@@ -22,10 +22,10 @@ pub returns-clause-sound : goal.returns-clause-sound
 returns-clause-sound c =
     on_ok_weaker c.push.result
     (λ kept.
-    sound_more c.args.app.now c.args.limits.now c.args.self.now (record c.row_of_point.new.self { kept = c.push.new.kept; totals = c.count.new.self; recent = c.set.new.self })
-    (all_of c.row_of_point.new.self.trail) c.args.point c.in_ok-row.row c.row_of_point.ensures.base
+    sound_more c.args.app.now c.args.self.now.shelf.limits c.args.self.now (record c.row_of_point.new.self { kept = c.push.new.kept; totals = c.count.new.self; recent = c.set.new.self })
+    (all_of c.row_of_point.new.self.trail) c.args.point c.in_ok-row.row c.row_of_point.ensures.shelf
     (kept ∙ ap (λ k. k.items ++ c.in_ok-row.row ∷ []) c.row_of_point.ensures.kept) refl c.in_ok-row.ensures.trail c.requires.sound c.in_ok-row.ensures.row c.requires.few
-    (c.count.ensures (whole c.args.self.now) (row_in c.args.self.now.base.events (all_of c.row_of_point.new.self.trail) c.in_ok-row.row)
+    (c.count.ensures (whole c.args.self.now) (row_in c.args.self.now.shelf.base.events (all_of c.row_of_point.new.self.trail) c.in_ok-row.row)
     (c.row_of_point.ensures.totals ∙ c.requires.sound.counted) refl refl))
     c.push.ensures
 
@@ -33,7 +33,7 @@ pub returns-clause-row : goal.returns-clause-row
 returns-clause-row c =
     on_ok_weaker c.push.result
     (λ kept.
-    gains_more c.args.app.now c.args.limits.now c.args.self.now (record c.row_of_point.new.self { kept = c.push.new.kept; totals = c.count.new.self; recent = c.set.new.self })
-    (all_of c.row_of_point.new.self.trail) c.args.point c.in_ok-row.row c.row_of_point.ensures.base
+    gains_more c.args.app.now c.args.self.now.shelf.limits c.args.self.now (record c.row_of_point.new.self { kept = c.push.new.kept; totals = c.count.new.self; recent = c.set.new.self })
+    (all_of c.row_of_point.new.self.trail) c.args.point c.in_ok-row.row c.row_of_point.ensures.shelf
     (kept ∙ ap (λ k. k.items ++ c.in_ok-row.row ∷ []) c.row_of_point.ensures.kept) refl c.in_ok-row.ensures.trail c.requires.sound c.in_ok-row.ensures.row c.requires.few)
     c.push.ensures
