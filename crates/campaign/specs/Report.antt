@@ -41,7 +41,7 @@ rows_of base events kept = map (row_in base events) kept
 abbrev pub IsWithin : (base events : List Event) → KeptRow → Type 0
 IsWithin base events kept = (kept.shared ≤ length base) × (kept.own_from ≤ kept.own_to) × (kept.own_to ≤ length events)
 
--- These rows are kept so, with these events of their own.
+-- These rows are kept so, and have their own events among these.
 pub record AreKept (base events : List Event) (kept : List KeptRow) (totals : Totals) : Type 0 where
   pub within : AllByRecursion (IsWithin base events) kept
   pub few : length kept ≤ most_points

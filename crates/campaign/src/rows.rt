@@ -29,7 +29,7 @@ pub(crate) struct KeptRow {
     pub(crate) end: End,
 }
 
-/// The rows of a campaign that are made so far, in the order of its points, and their totals.
+/// The rows of a campaign that are made so far, in the order of its points, their totals, and which were made last.
 ///
 /// Until its injection a row tells what the base run tells, so those events are kept once for all rows; the events from the
 /// injection on stand in one trail, those of a point that comes again once.
