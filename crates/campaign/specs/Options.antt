@@ -4,12 +4,6 @@ use Rattle.model.specs.Scripts.{is_within}
 use Rattle.campaign.specs.declared.options.BadOption.{BadOption}
 use Rattle.campaign.specs.declared.options.BadOption.TheVariants.{Workers, Stride, Block}
 
--- how many threads work on a campaign, how many steps lie between two states that are kept, and how many points a worker takes
-pub record Options : Type 0 where
-  pub workers : ℕ
-  pub stride : ℕ
-  pub block : ℕ
-
 -- the first number that is out of its range, if any is (profile)
 abbrev pub bad_option : (workers stride block : ℕ) → Option BadOption
 bad_option workers stride block =

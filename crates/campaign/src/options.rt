@@ -1,32 +1,17 @@
 //! How a campaign is worked off.
-ghost use Rattle.std.specs.Prelude.{◌≡◌, ◌<◌, ◌≤◌, Some, None, MatchResult};
+ghost use Rattle.std.specs.Prelude.{◌≡◌, Some, None, MatchResult};
 ghost use Rattle.campaign.specs.Options.{bad_option};
 
-use std::marker::Model;
-
-/// How a campaign is worked off (profile). Its report doesn't depend on it.
+/// How a campaign is worked off (profile). Its report doesn't depend on it. A number that is out of its range, as `Options::new`
+/// never gives one, is taken for the nearest in it.
 #[derive(Clone, Copy, Debug, PartialEq, Eq)]
 pub struct Options {
     /// How many threads work on it, 1 to 64.
-    workers: u32,
+    pub workers: u32,
     /// How many steps lie between two states of the base run that are kept, 1 to 65,536.
-    stride: u32,
+    pub stride: u32,
     /// How many points a worker takes at once, 1 to 1,000,000.
-    block: u32,
-}
-
-// Clauses see the three numbers.
-impl Model for Options {
-    ghost use Rattle.std.specs.Prelude.{◌≡◌, None};
-    ghost use Rattle.campaign.specs.Options as definition;
-
-    ghost Value = { definition.Options };
-
-    ghost view = { λ o. record { workers = o.workers; stride = o.stride; block = o.block } };
-
-    ghost invariant = { λ o. definition.bad_option o.workers o.stride o.block ≡ None };
-
-    ghost inverse = { λ o. record { workers = o.workers; stride = o.stride; block = o.block } };
+    pub block: u32,
 }
 
 /// Which number is out of its range.
@@ -52,6 +37,9 @@ impl Default for Options {
 }
 
 impl Options {
+    /// The longest stride.
+    pub const MOST_STRIDE: u32 = 65_536;
+
     /// The options of these numbers; the first of them that is out of its range is the error.
     pub fn new(workers: u32, stride: u32, block: u32) -> Result<Options, BadOption>
         ensures { MatchResult result
@@ -62,7 +50,7 @@ impl Options {
         if !(1..=64).contains(&workers) {
             return Err(BadOption::Workers);
         }
-        if !(1..=65_536).contains(&stride) {
+        if !(1..=Self::MOST_STRIDE).contains(&stride) {
             return Err(BadOption::Stride);
         }
         if !(1..=1_000_000).contains(&block) {
@@ -73,32 +61,5 @@ impl Options {
             stride,
             block,
         })
-    }
-
-    /// How many threads work on the campaign, 1 to 64.
-    pub fn workers(&self) -> u32
-        ensures value { result ≡ self.now.workers }
-        ensures some { 0 < result }
-        ensures few { result ≤ 64 }
-    {
-        self.workers
-    }
-
-    /// How many steps lie between two states of the base run that are kept, 1 to 65,536.
-    pub fn stride(&self) -> u32
-        ensures value { result ≡ self.now.stride }
-        ensures some { 0 < result }
-        ensures few { result ≤ 65536 }
-    {
-        self.stride
-    }
-
-    /// How many points a worker takes at once, 1 to 1,000,000.
-    pub fn block(&self) -> u32
-        ensures value { result ≡ self.now.block }
-        ensures some { 0 < result }
-        ensures few { result ≤ 1000000 }
-    {
-        self.block
     }
 }

@@ -131,7 +131,9 @@ impl Rows {
     {
         let own_from = self.trail.len();
         let mut meter = Meter::new();
-        let row = self.shelf.run_reached(app, *point, kernel, &mut meter, log, &mut self.trail)?;
+        let row = self
+            .shelf
+            .run_reached(app, *point, kernel, &mut meter, log, &mut self.trail)?;
         Ok(KeptRow {
             point: *point,
             reached: true,

@@ -36,7 +36,8 @@ fn report_of<P: Progress>(
 ) -> Result<Report, ServeFault>
     ensures { MatchResult result (AreRowsOf app.now) (IsCampaignFault app.now) }
 {
-    let shelf = Shelf::make(alloc, app, app.limits(), options.stride())?;
+    let stride = options.stride.clamp(1, Options::MOST_STRIDE);
+    let shelf = Shelf::make(alloc, app, app.limits(), stride)?;
     let points = expand(alloc, app, shelf.base())?;
     let report = campaign_from(alloc, app, shelf, points, progress)?;
     Ok(report)

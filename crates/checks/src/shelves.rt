@@ -27,14 +27,62 @@ struct Cost {
 }
 
 const COSTS: [Cost; 8] = [
-    Cost { stride: 1, step: 5, is_reached: true, steps: 12, run: 7 },
-    Cost { stride: 4, step: 0, is_reached: true, steps: 7, run: 7 },
-    Cost { stride: 4, step: 2, is_reached: true, steps: 12, run: 12 },
-    Cost { stride: 4, step: 5, is_reached: true, steps: 12, run: 8 },
-    Cost { stride: 4, step: 6, is_reached: true, steps: 7, run: 3 },
-    Cost { stride: 4, step: 7, is_reached: false, steps: 7, run: 0 },
-    Cost { stride: 1000, step: 5, is_reached: true, steps: 12, run: 12 },
-    Cost { stride: 65_536, step: 7, is_reached: false, steps: 7, run: 0 },
+    Cost {
+        stride: 1,
+        step: 5,
+        is_reached: true,
+        steps: 12,
+        run: 7,
+    },
+    Cost {
+        stride: 4,
+        step: 0,
+        is_reached: true,
+        steps: 7,
+        run: 7,
+    },
+    Cost {
+        stride: 4,
+        step: 2,
+        is_reached: true,
+        steps: 12,
+        run: 12,
+    },
+    Cost {
+        stride: 4,
+        step: 5,
+        is_reached: true,
+        steps: 12,
+        run: 8,
+    },
+    Cost {
+        stride: 4,
+        step: 6,
+        is_reached: true,
+        steps: 7,
+        run: 3,
+    },
+    Cost {
+        stride: 4,
+        step: 7,
+        is_reached: false,
+        steps: 7,
+        run: 0,
+    },
+    Cost {
+        stride: 1000,
+        step: 5,
+        is_reached: true,
+        steps: 12,
+        run: 12,
+    },
+    Cost {
+        stride: 65_536,
+        step: 7,
+        is_reached: false,
+        steps: 7,
+        run: 0,
+    },
 ];
 
 /// The row of the first handler before this step, and how many steps were run for it.
@@ -48,7 +96,9 @@ fn row_from(rt: &impl Abort, alloc: Global, app: &App, stride: u32, step: u32) -
         handler: HandlerId { number: 0 },
     };
     let mut meter = Meter::new();
-    let row = shelf.run_point(alloc, app, point, &mut meter).expect(rt, "memory");
+    let row = shelf
+        .run_point(alloc, app, point, &mut meter)
+        .expect(rt, "memory");
     (row, meter.steps())
 }
 

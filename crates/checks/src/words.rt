@@ -178,9 +178,11 @@ fn words_that_name_a_campaign(rt: HostRuntime) {
         let (workers, stride, block) = named.options;
         let job = Job::Campaign {
             file: "app.toml",
-            options: Options::new(workers, stride, block)
-                .ok()
-                .expect(&rt, "options"),
+            options: Options {
+                workers,
+                stride,
+                block,
+            },
             quiet: named.quiet,
         };
         assert_eq!(rt; answer(rt.alloc(), named.words), Ok(job));

@@ -91,13 +91,7 @@ fn stride_of(dice: &mut Dice) -> u32
 }
 
 /// The report of the campaign over these points.
-fn report_of(
-    rt: &impl Abort,
-    alloc: Global,
-    app: &App,
-    points: Vec<Point>,
-    stride: u32,
-) -> Report
+fn report_of(rt: &impl Abort, alloc: Global, app: &App, points: Vec<Point>, stride: u32) -> Report
     requires some { 0 < stride }
     requires few { stride ≤ 65536 }
 {
@@ -147,7 +141,9 @@ fn a_campaign_is_its_rows_one_by_one(rt: HostRuntime) {
             .expect(&rt, "memory");
         if written.as_slice() != wanted.as_slice() {
             let file = file_of(alloc, &app).expect(&rt, "memory");
-            panic!(rt; "seed {seed}, stride {stride}: another report, of points{told} on this file\n{file}");
+            panic!(rt;
+                "seed {seed}, stride {stride}: another report, of points{told} on this file\n{file}"
+            );
         }
     }
     assert!(rt; seen.rows == 24_000 && seen.missed > 1_000, "{seen:?}");

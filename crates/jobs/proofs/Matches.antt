@@ -7,7 +7,7 @@ use Rattle.clap.specs.Words.{TriesOne, App, Row, is_simple, takes, fault_of, is_
 use Rattle.clap.specs.declared.parser.matches.ArgMatches.{ArgMatches}
 use Rattle.clap.proofs.OnLiterals.{clap_on_literals}
 use Rattle.campaign.specs.declared.options.BadOption.{BadOption}
-use Rattle.campaign.specs.Options.{Options}
+use Rattle.campaign.specs.declared.options.Options.{Options}
 use Rattle.campaign.specs.Options.{bad_option}
 use Rattle.jobs.specs.declared.acting.Job.{Job}
 use Rattle.jobs.specs.Words.{IsJobOf, IsNoNumber, NamesNoOptions, number_in, number_of, rtosim_app}

@@ -11,7 +11,8 @@ use Rattle.clap.specs.declared.builder.arg.Arg.{Arg}
 use Rattle.clap.specs.declared.builder.command.Command.{Command}
 use Rattle.clap.specs.declared.builder.command.Command.TheViews.{out-Command as fields_of}
 use Rattle.campaign.specs.declared.options.BadOption.{BadOption}
-use Rattle.campaign.specs.Options.{Options, bad_option}
+use Rattle.campaign.specs.declared.options.Options.{Options}
+use Rattle.campaign.specs.Options.{bad_option}
 use Rattle.jobs.specs.declared.acting.Job.{Job}
 use Rattle.jobs.specs.declared.acting.Job.TheVariants.{Run, Campaign}
 
