@@ -2,7 +2,7 @@
 import os
 import tempfile
 
-CASES = []
+CASES, LONG, AWAITED = [], [], []
 
 
 def case(function):
@@ -10,9 +10,27 @@ def case(function):
     return function
 
 
+def long_case(function):
+    """A case that takes minutes, for a run of these alone."""
+    LONG.append(function)
+    return function
+
+
+def awaited(function):
+    """A case of what isn't there yet: it counts only where it passes, and should be a case then."""
+    AWAITED.append(function)
+    return case(function)
+
+
 def equal(found, wanted):
     if found == wanted:
         return
+    if isinstance(found, tuple) and isinstance(wanted, tuple) and len(found) == len(wanted):
+        for it, wanted_there in zip(found, wanted):
+            if not isinstance(it, bytes) and it != wanted_there:
+                raise AssertionError(f"{it!r}, and not {wanted_there!r}, in {str(found)[:400]}")
+        for it, wanted_there in zip(found, wanted):
+            equal(it, wanted_there)
     if isinstance(found, bytes) and isinstance(wanted, bytes) and len(found) + len(wanted) > 400:
         at = len(os.path.commonprefix([found, wanted]))
         there, wanted_there = found[at : at + 60], wanted[at : at + 60]
@@ -24,17 +42,19 @@ def holds(text, part):
     assert part in text, f"{part!r} is not in {text!r}"
 
 
-def run_cases(start):
+def run_cases(start, is_long=False):
     """Starts each case by a call with its function and a new folder, and returns the status for all."""
-    failed = 0
-    for function in CASES:
+    passed = failed = 0
+    for function in LONG if is_long else CASES:
         name = function.__name__.replace("_", " ")
         with tempfile.TemporaryDirectory(prefix="rtosim-test-") as room:
             try:
                 start(function, os.path.realpath(room))
+                passed += 1
                 print(f"ok: {name}", flush=True)
             except Exception as why:
-                failed += 1
-                print(f"FAILED: {name}: {type(why).__name__}: {why}", flush=True)
-    print(f"{len(CASES) - failed} passed, {failed} failed")
+                failed += function not in AWAITED
+                told = "not yet" if function in AWAITED else "FAILED"
+                print(f"{told}: {name}: {type(why).__name__}: {why}", flush=True)
+    print(f"{passed} passed, {failed} failed")
     return 1 if failed else 0

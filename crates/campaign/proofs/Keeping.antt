@@ -1,5 +1,5 @@
 -- Rows that are kept.
-use Rattle.std.specs.Prelude.{nat_lt, slice_range, Result, Ok, Err, IfOk}
+use Rattle.std.specs.Prelude.{nat_lt, slice_range}
 use Rattle.std.proofs.lemmas.Bool.Decides.{nat_tests}
 use Rattle.std.proofs.Common.{◌≡◌, ℕ, ◌≤◌, ◌<◌, ◌+◌, ◌-◌, zero, suc, true, false, List, [], ◌∷◌, ◌++◌, length, length-append, slice_index, slice_index_or, map, take, drop, refl, sym, ap, subst, ◌∙◌, append-nil, append_assoc, arith}
 use Rattle.std.specs.List.{AllByRecursion}
@@ -17,8 +17,7 @@ use Rattle.deal.specs.Tallies.{Tallied}
 use Rattle.campaign.specs.declared.rows.KeptRow.{KeptRow}
 use Rattle.campaign.specs.Kinds.{kind_in}
 use Rattle.campaign.specs.Report.{row_of, rows_of, IsKept}
-use Rattle.campaign.specs.Start.{IsReached}
-use Rattle.campaign.specs.Working.{IsKeptRow, GainsRow, Gained, GainsRows, HasRoom}
+use Rattle.campaign.specs.Working.{AreKnown, IsAmong, IsKeptRow, GainsRow, Gained, GainsRows, HasRoom}
 use Rattle.campaign.proofs.Ends.{kind_in-append, kind_in-few}
 
 less : (a b : ℕ) → a < b → nat_lt a b ≡ true
@@ -26,11 +25,6 @@ less a b l = grind (arith, nat_tests)
 
 no_less : (a b : ℕ) → b ≤ a → nat_lt a b ≡ false
 no_less a b l = grind (arith, nat_tests)
-
--- two facts of an answer
-pub ok_both : {T E : Type 0} (r : Result T E) (P Q R : T → Type 0) → IfOk r P → IfOk r Q → ((x : T) → P x → Q x → R x) → IfOk r R
-ok_both (Ok x) P Q R p q f = f x p q
-ok_both (Err e) P Q R p q f = p
 
 -- ---- events of a trail
 
@@ -51,46 +45,31 @@ none trail i = let e : i - i ≡ 0 = omega arith in rw e refl
 
 -- ---- a row of its own
 
--- the events before a row's own, on a kernel of which no step is done
-from_here : (app : Application) (steps before step : ℕ) → steps ≡ 0
-    → length (events_after app [] steps) + before ≡ length (events_after app [] step) → before ≡ length (events_after app [] step)
-from_here app zero before step none count = let from : 0 + before ≡ length (events_after app [] step) = count in omega arith
-from_here app (suc steps) before step none count = absurd (omega arith)
-
 module _ (app : Application) (limits : Limits) (base : Run) (is : IsRun app [] limits base) (point : Point) where
-  -- a row that is reached begins as the base run does
-  pub run_reached : (old new : List Event) (row : RowEnding) (steps : ℕ) → point.step < base.steps → (from : IsRowFrom app point limits old new row) → steps ≡ 0
-      → length (events_after app [] steps) + row.before ≡ length (events_after app [] point.step) → IsReached app limits base point from.own row
-  run_reached old new row steps l from none count =
-      let before = from_here app steps row.before point.step none count in
+  -- a row that is reached begins as the base run does, and is kept with the last events of the trail
+  pub reached_row : (old new : List Event) (row : RowEnding) (from to : ℕ) → point.step < base.steps → IsRowFrom app point limits old new row
+      → row.before ≡ length (events_after app [] point.step) → from ≡ length old → to ≡ length new
+      → GainsRow app limits base point old new (record { point = point; shared = row.before; own_from = from; own_to = to; steps = row.steps; ticks = row.ticks; end = row.end })
+  reached_row old new row from to l made before e f =
       let within : point.step ≤ base.steps = omega arith in
       let first : take row.before base.events ≡ events_after app [] point.step = rw (before, is.trace) (begins_with app [] point.step base.steps within) in
-      record {
-        shared = rw (before, is.trace) (no_fewer app [] point.step base.steps within);
-        run = rw first from.run;
-      }
-
-  -- it is kept with the last events of the trail
-  pub reached_row : (old new own : List Event) (row : RowEnding) (from to : ℕ) → point.step < base.steps → IsReached app limits base point own row → new ≡ old ++ own → from ≡ length old → to ≡ length new
-      → GainsRow app limits base point old new (record { point = point; shared = row.before; own_from = from; own_to = to; steps = row.steps; ticks = row.ticks; end = row.end })
-  reached_row old new own row from to l reached grown e f =
-      let last : slice_range new from to ≡ own = rw grown (last_own old own from to e (f ∙ ap length grown)) in
+      let last : slice_range new from to ≡ made.own = rw made.kept (last_own old made.own from to e (f ∙ ap length made.kept)) in
       let reaches = less point.step base.steps l in
       record {
-        own = own;
-        trail = grown;
+        own = made.own;
+        trail = made.kept;
         row = record {
           at_point = refl;
           is_kept = record {
-            shared = reached.shared;
-            rises = (let long = ap length grown in omega (arith, length-append old own));
+            shared = rw (before, is.trace) (no_fewer app [] point.step base.steps within);
+            rises = (let long = ap length made.kept in omega (arith, length-append old made.own));
             own = omega arith;
           };
           is_row = record {
             base = base;
             is_base = is;
             is_reached = refl;
-            is_row = rw (reaches, last) reached.run;
+            is_row = rw (reaches, first, last) made.run;
           };
         };
       }
@@ -210,3 +189,42 @@ module _ (app : Application) (limits : Limits) (base : Run) where
 pub next_point : (points : List Point) (index : ℕ) (point : Point) → index < length points → point ≡ slice_index_or points index point
     → take (index + 1) points ≡ take index points ++ point ∷ []
 next_point points index point l is = take_more points index point l ∙ ap (λ (p : Point). take index points ++ p ∷ []) (sym is)
+
+-- ---- a point that was run before
+
+all_at : {X : Type 0} (P : X → Type 0) (xs : List X) (i : ℕ) (x : X) → i < length xs → x ≡ slice_index_or xs i x → AllByRecursion P xs → P x
+all_at P [] i x l is all = absurd (omega arith)
+all_at P (y ∷ ys) zero x l is all = rw is all.0
+all_at P (y ∷ ys) (suc i) x l is all = all_at P ys i x (omega arith) is all.1
+
+module _ (app : Application) (limits : Limits) (base : Run) where
+  -- its row is kept
+  pub row_again : (point : Point) (trail : List Event) (kept : List KeptRow) (k : KeptRow) → AreKnown app limits base kept trail → IsAmong kept point k
+      → GainsRow app limits base point trail trail k
+  row_again point trail kept k known among = record {
+    own = [];
+    trail = sym (append-nil trail);
+    row = subst (λ (p : Point). IsKeptRow app limits base trail p k) among.at_point (all_at _ kept among.number k among.within among.is known);
+  }
+
+  still_known : (kept : List KeptRow) (trail more : List Event) → AreKnown app limits base kept trail → AreKnown app limits base kept (trail ++ more)
+  still_known [] trail more known = tt
+  still_known (k ∷ kept) trail more known =
+      let own = known.0.is_kept.own in
+      (record {
+        at_point = refl;
+        is_kept = record { shared = known.0.is_kept.shared; rises = known.0.is_kept.rises; own = omega (arith, own, length-append trail more) };
+        is_row = rw (same_own trail more k.own_from k.own_to known.0.is_kept.rises own) known.0.is_row;
+      }, still_known kept trail more known.1)
+
+  made_known : (kept : List KeptRow) (trail : List Event) → AllByRecursion (IsKept base trail) kept
+      → AllByRecursion (λ (row : Row). IsRow app limits row.point row.reached row.run) (rows_of base trail kept) → AreKnown app limits base kept trail
+  made_known [] trail sound made = tt
+  made_known (k ∷ kept) trail sound made =
+      (record { at_point = refl; is_kept = sound.0; is_row = made.0 }, made_known kept trail sound.1 made.1)
+
+  -- rows that were gained are known too
+  pub known_more : (points : List Point) (a b : List KeptRow) (t u : List Event) (x y : Tallied) → AreKnown app limits base a t
+      → GainsRows app limits base points a b t u x y → AreKnown app limits base b u
+  known_more points a b t u x y known g =
+      rw g.rows_are (all-append _ a g.more (rw g.trail_is (still_known a t g.own known)) (made_known g.more u g.sound g.made.each))

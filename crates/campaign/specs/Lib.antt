@@ -8,5 +8,4 @@ pub mod Points
 pub mod Report
 pub mod Serving
 pub mod Setup
-pub mod Start
 pub mod Working

@@ -1,5 +1,5 @@
 -- What workers make: the rows of blocks.
-use Rattle.std.specs.Prelude.{◌≡◌, ℕ, ◌+◌, ◌<◌, ◌≤◌, ◌^◌, Bool, true, false, List, [], ◌∷◌, ◌++◌, length, map, take, drop, sum, slice_index, nat_lt}
+use Rattle.std.specs.Prelude.{◌≡◌, ℕ, ◌+◌, ◌<◌, ◌≤◌, ◌^◌, Bool, true, false, List, [], ◌∷◌, ◌++◌, length, map, take, drop, sum, slice_index, slice_index_or, nat_lt}
 use Rattle.std.specs.List.{AllByRecursion, concat}
 use Rattle.kernel.specs.Logged.{all_of}
 use Rattle.model.specs.declared.event.Event.{Event}
@@ -40,6 +40,17 @@ pub record GainsRow (app : Application) (limits : Limits) (base : Run) (point : 
   pub own : List Event
   pub trail : new ≡ old ++ own
   pub row : IsKeptRow app limits base new point kept
+
+-- Each row is that of its point.
+abbrev pub AreKnown : Application → Limits → Run → List KeptRow → (trail : List Event) → Type 0
+AreKnown app limits base kept trail = AllByRecursion (λ (k : KeptRow). IsKeptRow app limits base trail k.point k) kept
+
+-- The row is one of these, and of this point.
+pub record IsAmong (rows : List KeptRow) (point : Point) (kept : KeptRow) : Type 0 where
+  pub at_point : kept.point ≡ point
+  pub number : ℕ
+  pub within : number < length rows
+  pub is : kept ≡ slice_index_or rows number kept
 
 -- ---- seats
 

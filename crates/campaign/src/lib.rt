@@ -12,8 +12,8 @@ mod one_run;
 mod options;
 mod placing;
 mod points;
+mod recent;
 mod rows;
-mod start;
 mod tallying;
 mod worker;
 

@@ -3,7 +3,7 @@ ghost use Rattle.std.specs.Prelude.{◌≡◌, ◌<◌, ◌≤◌, length, sum, 
 ghost use Rattle.model.specs.Scripts.{most_points};
 ghost use Rattle.deal.specs.Sharing.{Game};
 ghost use Rattle.campaign.specs.declared.worker.Job as declared;
-ghost use Rattle.campaign.specs.Start.{IsStart};
+ghost use Rattle.shelf.specs.Shelves.{IsShelf};
 ghost use Rattle.campaign.specs.Setup.{work_of};
 ghost use Rattle.campaign.specs.Working.{AreDone, AreJobs, AreReady, IsDone, IsJob};
 ghost use Rattle.campaign.specs.Made.{IsMade};
@@ -38,7 +38,7 @@ fn run_all<R: Threads + Wait + Sync, G: Gate + Sync>(
     gate: &G,
     jobs: Vec<Job>,
 ) -> Result<Vec<Done>, Memory>
-    requires start { IsStart setup.now.app.now setup.now.start.now }
+    requires start { IsShelf setup.now.app.now setup.now.start.now }
     requires points { All (λ (job : declared.Job). sum job.lane.game.lengths ≡ length setup.now.points.now) jobs.items }
     requires jobs { All (λ (job : declared.Job). IsJob job.lane.game setup.now.tally.now (length setup.now.points.now) job) jobs.items }
     ensures { IfOk result (λ dones. (deal : Game) → AreJobs deal setup.now.tally.now (length setup.now.points.now) jobs.items
@@ -47,7 +47,7 @@ fn run_all<R: Threads + Wait + Sync, G: Gate + Sync>(
     let stop = AtomicU64::new(0);
     let shared = &stop;
     let each = |job: Job| -> Done
-        requires start { IsStart setup.now.app.now setup.now.start.now }
+        requires start { IsShelf setup.now.app.now setup.now.start.now }
         requires points { sum job.lane.game.lengths ≡ length setup.now.points.now }
         requires job { IsJob job.lane.game setup.now.tally.now (length setup.now.points.now) job }
         ensures { IsDone (work_of setup.entry.now job.lane.game.lengths) job result }

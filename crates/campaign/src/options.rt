@@ -2,7 +2,8 @@
 ghost use Rattle.std.specs.Prelude.{◌≡◌, Some, None, MatchResult};
 ghost use Rattle.campaign.specs.Options.{bad_option};
 
-/// How a campaign is worked off (profile). Its report doesn't depend on it.
+/// How a campaign is worked off (profile). Its report doesn't depend on it. A number that is out of its range, as `Options::new`
+/// never gives one, is taken for the nearest in it.
 #[derive(Clone, Copy, Debug, PartialEq, Eq)]
 pub struct Options {
     /// How many threads work on it, 1 to 64.
@@ -36,6 +37,9 @@ impl Default for Options {
 }
 
 impl Options {
+    /// The longest stride.
+    pub const MOST_STRIDE: u32 = 65_536;
+
     /// The options of these numbers; the first of them that is out of its range is the error.
     pub fn new(workers: u32, stride: u32, block: u32) -> Result<Options, BadOption>
         ensures { MatchResult result
@@ -46,7 +50,7 @@ impl Options {
         if !(1..=64).contains(&workers) {
             return Err(BadOption::Workers);
         }
-        if !(1..=65_536).contains(&stride) {
+        if !(1..=Self::MOST_STRIDE).contains(&stride) {
             return Err(BadOption::Stride);
         }
         if !(1..=1_000_000).contains(&block) {

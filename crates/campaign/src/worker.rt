@@ -1,17 +1,18 @@
 //! A worker, which makes the rows of the blocks that its lane is answered.
-ghost use Rattle.std.specs.Prelude.{◌≡◌, ◌<◌, ◌≤◌, ◌+◌, ◌++◌, ◌∷◌, [], false, length, sum, take, drop, IfOk, OnOk};
+ghost use Rattle.std.specs.Prelude.{◌≡◌, ◌<◌, ◌≤◌, ◌+◌, ◌++◌, ◌∷◌, [], false, length, sum, take, drop, IfOk, IfSome, OnOk};
 ghost use Rattle.kernel.specs.Logged.{all_of};
-ghost use Rattle.campaign.specs.Start.{IsStart};
-ghost use Rattle.campaign.specs.Working.{GainsRow, GainsRows, HasRoom, IsDone, IsJob};
+ghost use Rattle.shelf.specs.Shelves.{IsShelf};
+ghost use Rattle.campaign.specs.Working.{AreKnown, GainsRow, GainsRows, HasRoom, IsAmong, IsDone, IsJob};
 ghost use Rattle.campaign.specs.Setup.{work_of};
 
 use crate::gate::Gate;
+use crate::recent::Recent;
 use crate::rows::{KeptBlock, KeptRow, Part, push};
-use crate::start::Start;
 use crate::tallying::count_row;
 use deal::{Lane, Next, Tally, TallySeat};
 use kernel::{Kernel, StepLog, Trail};
 use model::{App, Memory, Meter, Point};
+use shelf::Shelf;
 use std::alloc::Global;
 use std::sync::Wait;
 use std::sync::atomic::{AtomicU64, Ordering};
@@ -20,7 +21,7 @@ use std::sync::atomic::{AtomicU64, Ordering};
 #[derive(Clone, Copy)]
 pub(crate) struct Setup<'a> {
     pub(crate) app: &'a App,
-    pub(crate) start: &'a Start,
+    pub(crate) start: &'a Shelf,
     pub(crate) points: &'a [Point],
     pub(crate) tally: &'a Tally,
 }
@@ -50,6 +51,7 @@ struct Worker {
     trail: Trail,
     kept: Vec<KeptRow>,
     blocks: Vec<KeptBlock>,
+    recent: Recent,
 }
 
 impl Worker {
@@ -64,12 +66,13 @@ impl Worker {
             trail: Trail::new(alloc),
             kept: Vec::new(alloc),
             blocks: Vec::new(alloc),
+            recent: Recent::new(),
         }
     }
 
     // The row of a point that the base run doesn't reach: it is the base run.
-    fn missed(&self, app: &App, start: &Start, point: Point) -> KeptRow
-        requires start { IsStart app.now start.now }
+    fn missed(&self, app: &App, start: &Shelf, point: Point) -> KeptRow
+        requires start { IsShelf app.now start.now }
         requires missed { start.now.base.steps ≤ point.step }
         ensures { GainsRow app.now start.now.limits start.now.base point (all_of self.now.trail) (all_of self.now.trail) result }
     {
@@ -87,8 +90,8 @@ impl Worker {
     }
 
     // The row of a point that the base run reaches.
-    fn reached(&mut self, app: &App, start: &Start, point: &Point) -> Result<KeptRow, Memory>
-        requires start { IsStart app.now start.now }
+    fn reached(&mut self, app: &App, start: &Shelf, point: &Point) -> Result<KeptRow, Memory>
+        requires start { IsShelf app.now start.now }
         requires reached { point.now.step < start.now.base.steps }
         ensures kept { self.new.kept ≡ self.old.kept }
         ensures blocks { self.new.blocks ≡ self.old.blocks }
@@ -118,8 +121,8 @@ impl Worker {
     }
 
     // The row of a point, whose own events go to the trail.
-    fn made(&mut self, app: &App, start: &Start, point: &Point) -> Result<KeptRow, Memory>
-        requires { IsStart app.now start.now }
+    fn made(&mut self, app: &App, start: &Shelf, point: &Point) -> Result<KeptRow, Memory>
+        requires { IsShelf app.now start.now }
         ensures kept { self.new.kept ≡ self.old.kept }
         ensures blocks { self.new.blocks ≡ self.old.blocks }
         ensures row { IfOk result (GainsRow app.now start.now.limits start.now.base point.now
@@ -132,6 +135,33 @@ impl Worker {
         }
     }
 
+    // The row that is kept of this point, where the one that was made last of it is found.
+    fn again(&self, point: &Point) -> Option<KeptRow>
+        ensures { IfSome result (IsAmong self.now.kept.items point.now) }
+    {
+        let row = self.kept.get(self.recent.row(point))?;
+        if row.point == *point {
+            Some(*row)
+        } else {
+            None
+        }
+    }
+
+    // The row of a point: that of the same point before, where it is found, or else it is made.
+    fn row_of(&mut self, app: &App, start: &Shelf, point: &Point) -> Result<KeptRow, Memory>
+        requires start { IsShelf app.now start.now }
+        requires known { AreKnown app.now start.now.limits start.now.base self.old.kept.items (all_of self.old.trail) }
+        ensures kept { self.new.kept ≡ self.old.kept }
+        ensures blocks { self.new.blocks ≡ self.old.blocks }
+        ensures row { IfOk result (GainsRow app.now start.now.limits start.now.base point.now
+            (all_of self.old.trail) (all_of self.new.trail)) }
+    {
+        match self.again(point) {
+            Some(row) => Ok(row),
+            None => self.made(app, start, point),
+        }
+    }
+
     // Makes the row of a point, and then adds it to the seat. At `Err(Memory)` the worker is of no more use.
     fn add_row(
         &mut self,
@@ -139,17 +169,20 @@ impl Worker {
         seat: &mut TallySeat,
         point: &Point,
     ) -> Result<(), Memory>
-        requires start { IsStart setup.now.app.now setup.now.start.now }
+        requires start { IsShelf setup.now.app.now setup.now.start.now }
+        requires known { AreKnown setup.now.app.now setup.now.start.now.limits setup.now.start.now.base self.old.kept.items (all_of self.old.trail) }
         requires seat { seat.old.sheet ≡ setup.now.tally.now }
         requires room { HasRoom 1 seat.old }
+        ensures known { OnOk result (AreKnown setup.now.app.now setup.now.start.now.limits setup.now.start.now.base self.new.kept.items (all_of self.new.trail)) }
         ensures blocks { self.new.blocks ≡ self.old.blocks }
         ensures row { OnOk result (GainsRows setup.now.app.now setup.now.start.now.limits setup.now.start.now.base (point.now ∷ [])
             self.old.kept.items self.new.kept.items (all_of self.old.trail) (all_of self.new.trail) seat.old seat.new) }
     {
         let start = setup.start;
         let is_reached = start.reaches(point);
-        let row = self.made(setup.app, start, point)?;
+        let row = self.row_of(setup.app, start, point)?;
         let end = row.end;
+        self.recent.set(point, self.kept.len());
         push(&mut self.kept, row)?;
         count_row(setup.tally, seat, is_reached, end);
         Ok(())
@@ -162,9 +195,11 @@ impl Worker {
         seat: &mut TallySeat,
         points: &[Point],
     ) -> Result<(), Memory>
-        requires start { IsStart setup.now.app.now setup.now.start.now }
+        requires start { IsShelf setup.now.app.now setup.now.start.now }
+        requires known { AreKnown setup.now.app.now setup.now.start.now.limits setup.now.start.now.base self.old.kept.items (all_of self.old.trail) }
         requires seat { seat.old.sheet ≡ setup.now.tally.now }
         requires room { HasRoom (length points.now) seat.old }
+        ensures known { OnOk result (AreKnown setup.now.app.now setup.now.start.now.limits setup.now.start.now.base self.new.kept.items (all_of self.new.trail)) }
         ensures blocks { self.new.blocks ≡ self.old.blocks }
         ensures rows { OnOk result (GainsRows setup.now.app.now setup.now.start.now.limits setup.now.start.now.base points.now
             self.old.kept.items self.new.kept.items (all_of self.old.trail) (all_of self.new.trail) seat.old seat.new) }
@@ -184,10 +219,12 @@ impl Worker {
         first: usize,
         count: usize,
     ) -> Result<(), Memory>
-        requires start { IsStart setup.now.app.now setup.now.start.now }
+        requires start { IsShelf setup.now.app.now setup.now.start.now }
+        requires known { AreKnown setup.now.app.now setup.now.start.now.limits setup.now.start.now.base self.old.kept.items (all_of self.old.trail) }
         requires seat { seat.old.sheet ≡ setup.now.tally.now }
         requires points { first + count ≤ length setup.now.points.now }
         requires room { HasRoom count seat.old }
+        ensures known { OnOk result (AreKnown setup.now.app.now setup.now.start.now.limits setup.now.start.now.base self.new.kept.items (all_of self.new.trail)) }
         ensures block { OnOk result (self.new.blocks.items ≡ self.old.blocks.items
             ++ record { number = number; first = length self.old.kept.items; count = count } ∷ []) }
         ensures rows { OnOk result (GainsRows setup.now.app.now setup.now.start.now.limits setup.now.start.now.base
@@ -218,7 +255,7 @@ pub(crate) fn work<R: Wait, G: Gate>(
     stop: &AtomicU64,
     job: Job,
 ) -> Done
-    requires start { IsStart setup.now.app.now setup.now.start.now }
+    requires start { IsShelf setup.now.app.now setup.now.start.now }
     requires points { sum job.lane.game.lengths ≡ length setup.now.points.now }
     requires job { IsJob job.lane.game setup.now.tally.now (length setup.now.points.now) job }
     ensures { IsDone (work_of setup.now job.lane.game.lengths) job result }
@@ -260,6 +297,7 @@ pub(crate) fn work<R: Wait, G: Gate>(
         trail,
         kept,
         blocks,
+        recent: _recent,
     } = worker;
     Done {
         lane,

@@ -1,6 +1,7 @@
 //! Campaigns: whole reports, and files whose campaign is refused.
 
 use crate::sinks::{check_text, serve_job};
+use campaign::Options;
 use jobs::Job;
 
 /// A campaign: its status, what it writes, and what it tells.
@@ -149,6 +150,7 @@ fn campaigns_have_their_reports(rt: HostRuntime) {
         let name = campaign.name;
         let job = Job::Campaign {
             file: "app.toml",
+            options: Options::default(),
             quiet: true,
         };
         for at_once in [4096, 1] {

@@ -25,6 +25,8 @@ mod rows;
 #[cfg(test)]
 mod runs;
 #[cfg(test)]
+mod shelves;
+#[cfg(test)]
 mod sinks;
 #[cfg(test)]
 mod sizes;

@@ -1,7 +1,7 @@
 //! The words of the command line, and what the program does for them.
 
 use crate::sinks::{Holder, base_run_of, check_text};
-use campaign::Unseen;
+use campaign::{Options, Unseen};
 use clap::error::ErrorKind;
 use jobs::{Job, job_named, obey, open_and_act};
 use std::alloc::Global;
@@ -114,21 +114,78 @@ fn words_that_name_a_job(rt: HostRuntime) {
     }
 }
 
-/// The words of `campaign` that name a job, and whether it is quiet.
-const CAMPAIGNS: [(&[&str], bool); 3] = [
-    (&["rtosim", "campaign", "app.toml"], false),
-    (&["rtosim", "campaign", "app.toml", "--quiet"], true),
-    (&["rtosim", "campaign", "--quiet", "app.toml"], true),
+/// The words of `campaign` that name a job, and the job: how many workers, the stride, how many points a block has, and whether
+/// it is quiet.
+#[derive(Clone, Copy)]
+struct NamedCampaign {
+    words: &'static [&'static str],
+    options: (u32, u32, u32),
+    quiet: bool,
+}
+
+const CAMPAIGNS: [NamedCampaign; 7] = [
+    NamedCampaign {
+        words: &["rtosim", "campaign", "app.toml"],
+        options: (1, 64, 16),
+        quiet: false,
+    },
+    NamedCampaign {
+        words: &["rtosim", "campaign", "app.toml", "--quiet"],
+        options: (1, 64, 16),
+        quiet: true,
+    },
+    NamedCampaign {
+        words: &["rtosim", "campaign", "--quiet", "app.toml"],
+        options: (1, 64, 16),
+        quiet: true,
+    },
+    NamedCampaign {
+        words: &["rtosim", "campaign", "app.toml", "--workers", "64"],
+        options: (64, 64, 16),
+        quiet: false,
+    },
+    NamedCampaign {
+        words: &["rtosim", "campaign", "--stride=65536", "app.toml"],
+        options: (1, 65_536, 16),
+        quiet: false,
+    },
+    NamedCampaign {
+        words: &["rtosim", "campaign", "app.toml", "--block=01000000"],
+        options: (1, 64, 1_000_000),
+        quiet: false,
+    },
+    NamedCampaign {
+        words: &[
+            "rtosim",
+            "campaign",
+            "--block",
+            "1",
+            "--quiet",
+            "--stride",
+            "1",
+            "app.toml",
+            "--workers",
+            "2",
+        ],
+        options: (2, 1, 1),
+        quiet: true,
+    },
 ];
 
 #[test]
 fn words_that_name_a_campaign(rt: HostRuntime) {
-    for (words, quiet) in CAMPAIGNS {
+    for named in CAMPAIGNS {
+        let (workers, stride, block) = named.options;
         let job = Job::Campaign {
             file: "app.toml",
-            quiet,
+            options: Options {
+                workers,
+                stride,
+                block,
+            },
+            quiet: named.quiet,
         };
-        assert_eq!(rt; answer(rt.alloc(), words), Ok(job));
+        assert_eq!(rt; answer(rt.alloc(), named.words), Ok(job));
     }
 }
 
@@ -186,8 +243,11 @@ Arguments:
   <FILE>  The application, a TOML file
 
 Options:
-      --quiet  Tells nobody how far the campaign has come
-  -h, --help   Print help
+      --workers <N>  Threads that work on the campaign, 1 to 64 [default: 1]
+      --stride <S>   Steps between two kept states of the base run, 1 to 65536 [default: 64]
+      --block <B>    Points that a worker takes at once, 1 to 1000000 [default: 16]
+      --quiet        Tells nobody how far the campaign has come
+  -h, --help         Print help
 
 Exit status:
   0  the run or every row passes, or help or the version was asked for
@@ -209,7 +269,7 @@ struct Case {
     told: &'static str,
 }
 
-const CASES: [Case; 17] = [
+const CASES: [Case; 22] = [
     Case {
         words: &["rtosim", "--help"],
         kind: ErrorKind::DisplayHelp,
@@ -240,6 +300,56 @@ const CASES: [Case; 17] = [
   <FILE>
 
 Usage: rtosim campaign --quiet <FILE>
+
+For more information, try '--help'.
+",
+    },
+    Case {
+        words: &["rtosim", "campaign", "a", "--workers", "0"],
+        kind: ErrorKind::ValueValidation,
+        status: 2,
+        written: "",
+        told: r"error: invalid value '0' for '--workers <N>': 0 is not in 1..=64
+
+For more information, try '--help'.
+",
+    },
+    Case {
+        words: &["rtosim", "campaign", "a", "--workers=65"],
+        kind: ErrorKind::ValueValidation,
+        status: 2,
+        written: "",
+        told: r"error: invalid value '65' for '--workers <N>': 65 is not in 1..=64
+
+For more information, try '--help'.
+",
+    },
+    Case {
+        words: &["rtosim", "campaign", "a", "--stride", "65537"],
+        kind: ErrorKind::ValueValidation,
+        status: 2,
+        written: "",
+        told: r"error: invalid value '65537' for '--stride <S>': 65537 is not in 1..=65536
+
+For more information, try '--help'.
+",
+    },
+    Case {
+        words: &["rtosim", "campaign", "a", "--block", "1000001"],
+        kind: ErrorKind::ValueValidation,
+        status: 2,
+        written: "",
+        told: r"error: invalid value '1000001' for '--block <B>': 1000001 is not in 1..=1000000
+
+For more information, try '--help'.
+",
+    },
+    Case {
+        words: &["rtosim", "campaign", "a", "--block", "all"],
+        kind: ErrorKind::ValueValidation,
+        status: 2,
+        written: "",
+        told: r"error: invalid value 'all' for '--block <B>': invalid digit found in string
 
 For more information, try '--help'.
 ",

@@ -1,5 +1,5 @@
 //! Campaigns beside runs one by one, of many random applications.
-ghost use Rattle.std.specs.Prelude.{◌≡◌, ◌≤◌, false};
+ghost use Rattle.std.specs.Prelude.{◌≡◌, ◌<◌, ◌≤◌, false};
 
 use crate::dice::Dice;
 use crate::file::{file_of, points_text};
@@ -76,10 +76,27 @@ impl Seen {
     }
 }
 
+/// How many steps lie between two states of the base run that are kept.
+fn stride_of(dice: &mut Dice) -> u32
+    ensures some { 0 < result }
+    ensures few { result ≤ 65536 }
+{
+    match dice.roll(5) {
+        0 => 1,
+        1 => 2,
+        2 => 7,
+        3 => 64,
+        _ => 65_536,
+    }
+}
+
 /// The report of the campaign over these points.
-fn report_of(rt: &impl Abort, alloc: Global, app: &App, points: Vec<Point>) -> Report {
+fn report_of(rt: &impl Abort, alloc: Global, app: &App, points: Vec<Point>, stride: u32) -> Report
+    requires some { 0 < stride }
+    requires few { stride ≤ 65536 }
+{
     assert!(rt; points.len() <= 1_000_000, "few points");
-    campaign(alloc, app, points, app.limits())
+    campaign(alloc, app, points, app.limits(), stride)
         .ok()
         .expect(rt, "memory")
 }
@@ -111,7 +128,8 @@ fn a_campaign_is_its_rows_one_by_one(rt: HostRuntime) {
                 .expect(&rt, "memory");
         }
         let told = points_text(alloc, &app, points.as_slice()).expect(&rt, "memory");
-        let report = report_of(&rt, alloc, &app, points);
+        let stride = stride_of(&mut dice);
+        let report = report_of(&rt, alloc, &app, points, stride);
         let line = total_line(alloc, report.totals()).expect(&rt, "memory");
         wanted
             .extend_from_slice(line.as_bytes())
@@ -123,7 +141,9 @@ fn a_campaign_is_its_rows_one_by_one(rt: HostRuntime) {
             .expect(&rt, "memory");
         if written.as_slice() != wanted.as_slice() {
             let file = file_of(alloc, &app).expect(&rt, "memory");
-            panic!(rt; "seed {seed}: another report, of points{told} on this file\n{file}");
+            panic!(rt;
+                "seed {seed}, stride {stride}: another report, of points{told} on this file\n{file}"
+            );
         }
     }
     assert!(rt; seen.rows == 24_000 && seen.missed > 1_000, "{seen:?}");

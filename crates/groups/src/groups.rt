@@ -72,6 +72,15 @@ impl Groups {
         }
     }
 
+    /// A copy. It takes no memory.
+    pub fn copy(&self) -> Self
+        ensures { result ≡ self.now }
+    {
+        let mut copy = Groups::new();
+        copy.set_from(self);
+        copy
+    }
+
     /// Becomes a copy of the other, in place. It takes no memory.
     pub fn set_from(&mut self, other: &Self)
         ensures { self.new ≡ other.now }

@@ -1,8 +1,21 @@
 -- A command that is built of others is read as its definition.
 use Rattle.std.proofs.Common.{◌∙◌, ap, ap₂, refl, Result, Ok, Err, IfOk}
-use Rattle.clap.specs.Words.{App, AddsSubcommand, with_subcommand}
+use Rattle.clap.specs.Words.{App, Rule, AddsArg, AddsSubcommand, with_rule, with_subcommand}
+use Rattle.clap.specs.declared.builder.arg.Arg.{Arg}
 use Rattle.clap.specs.declared.builder.command.Command.{Command}
-use Rattle.jobs.specs.Words.{IsCommandOf}
+use Rattle.jobs.specs.Words.{IsArgOf, IsCommandOf}
+
+pub with_one_argument : (app : App) (rule : Rule) (old new : Command) (a : Arg) → IsCommandOf app old → IsArgOf rule a → AddsArg old a new
+    → IsCommandOf (with_rule app rule) new
+with_one_argument app rule old new a was is adds = record {
+  reads = adds.shape is.is_local ∙ ap₂ with_rule was.reads is.reads;
+  is_local = adds.globals ∙ rw (was.is_local, is.is_local) refl;
+}
+
+pub with_argument : {E : Type 0} (r : Result Command E) (app : App) (rule : Rule) (old : Command) (a : Arg) → IsCommandOf app old → IsArgOf rule a
+    → IfOk r (λ new. AddsArg old a new) → IfOk r (λ new. IsCommandOf (with_rule app rule) new)
+with_argument (Ok new) app rule old a was is adds = with_one_argument app rule old new a was is adds
+with_argument (Err e) app rule old a was is adds = tt
 
 pub with_one : (app below : App) (old sub new : Command) → IsCommandOf app old → IsCommandOf below sub → AddsSubcommand old sub new
     → IsCommandOf (with_subcommand app below.top) new

@@ -1,12 +1,16 @@
 -- What the matches of the words say of the job.
-use Rattle.std.proofs.Common.{◌≡◌, ◌∙◌, ap, refl, sym, subst, true, List, ℕ, Option, Some, None, Result, Ok, Err, option_map}
+use Rattle.std.proofs.Common.{◌≡◌, ◌∙◌, ap, refl, sym, subst, true, codes, inr, List, ℕ, Option, Some, None, Result, Ok, Err, option_map, IsNone}
 use Rattle.std.specs.Prelude.{MatchResult}
+use Rattle.std.specs.Result.{result_ok}
 use Rattle.std.specs.Str.Parse.{ParsesUnsigned}
 use Rattle.clap.specs.Words.{TriesOne, App, Row, is_simple, takes, fault_of, is_simple_and_free, Kinds, subcommand_of, subcommand_rows_of, HasMatchesOf}
 use Rattle.clap.specs.declared.parser.matches.ArgMatches.{ArgMatches}
 use Rattle.clap.proofs.OnLiterals.{clap_on_literals}
+use Rattle.campaign.specs.declared.options.BadOption.{BadOption}
+use Rattle.campaign.specs.declared.options.Options.{Options}
+use Rattle.campaign.specs.Options.{bad_option}
 use Rattle.jobs.specs.declared.acting.Job.{Job}
-use Rattle.jobs.specs.Words.{IsJobOf, IsNoNumber, number_of, rtosim_app}
+use Rattle.jobs.specs.Words.{IsJobOf, IsNoNumber, NamesNoOptions, number_in, number_of, rtosim_app}
 
 pub taken_as : (a b : App) (words : List (List ℕ)) (P : Type 0) → a ≡ b → (takes a words ≡ true → P) → takes b words ≡ true → P
 taken_as a b words P same gives took = gives (rw same took)
@@ -39,3 +43,19 @@ number_read gives None r parses none some = rw (none refl) refl
 number_read gives (Some t) (Ok (Some n)) parses none some = ap Some (sym (parses t (Ok n) (some t refl)).1)
 number_read gives (Some t) (Ok None) parses none some = absurd (some t refl)
 number_read gives (Some t) (Err e) parses none some = parses t (Err e) (some t refl)
+
+-- Numbers of which no options are made are out of range.
+pub out_of_range : (rows : List Row) (workers stride block : ℕ) (r : Result Options BadOption)
+    → number_in (codes "workers") rows ≡ Some workers → number_in (codes "stride") rows ≡ Some stride → number_in (codes "block") rows ≡ Some block
+    → MatchResult r (λ (options : Options). (bad_option workers stride block ≡ None) × (options ≡ record { workers = workers; stride = stride; block = block }))
+    (λ fault. bad_option workers stride block ≡ Some fault)
+    → IsNone (result_ok r) → NamesNoOptions rows
+out_of_range rows workers stride block (Ok options) w s b made none = absurd (cc)
+out_of_range rows workers stride block (Err fault) w s b bad none = inr (inr (inr (record {
+  options = record { workers = workers; stride = stride; block = block };
+  workers = w;
+  stride = s;
+  block = b;
+  fault = fault;
+  bad = bad;
+})))

@@ -31,7 +31,7 @@ campaign_unknown input rf old new wf (Err fault) h = serves_unknown _ _ input rf
 served_unknown : (job : Job) (input : Option (List ℕ)) (rf : Bool) (old new : Option (List ℕ)) (wf : Bool) (outcome : Result Bool ServeFault)
     → Served job input rf old new wf outcome → Served job None rf old new wf outcome
 served_unknown (Run file at handler) input rf old new wf outcome h = run_unknown (injection_of (Run file at handler)) input rf old new wf outcome h
-served_unknown (Campaign file quiet) input rf old new wf outcome h = campaign_unknown input rf old new wf outcome h
+served_unknown (Campaign file options quiet) input rf old new wf outcome h = campaign_unknown input rf old new wf outcome h
 
 does_unknown : (job : Job) (input : Option (List ℕ)) (rf : Bool) (old new : Option (List ℕ)) (wf : Bool) (outcome : Result Bool JobFault)
     → Does job input rf old new wf outcome → Does job None rf old new wf outcome

@@ -24,12 +24,12 @@ use Rattle.jobs.specs.declared.acting.JobFault.TheVariants.{Unpaired, Serve}
 -- the name of the file that a job reads
 abbrev pub file_of : Job → List ℕ
 file_of (Run file at handler) = file.now
-file_of (Campaign file quiet) = file.now
+file_of (Campaign file options quiet) = file.now
 
 -- the name of the handler that a job injects; empty where it has none
 abbrev pub handler_of : Job → List ℕ
 handler_of (Run file at handler) = option_map_or (λ name. name.now) handler []
-handler_of (Campaign file quiet) = []
+handler_of (Campaign file options quiet) = []
 
 -- The job has a step and no handler, or a handler and no step.
 abbrev pub is_unpaired : Job → Bool
@@ -37,14 +37,14 @@ is_unpaired (Run file (Some step) None) = true
 is_unpaired (Run file None (Some handler)) = true
 is_unpaired (Run file (Some step) (Some handler)) = false
 is_unpaired (Run file None None) = false
-is_unpaired (Campaign file quiet) = false
+is_unpaired (Campaign file options quiet) = false
 
 -- the injection that a job asks for, where it has both
 abbrev pub injection_of : Job → Option At
 injection_of (Run file (Some step) (Some handler)) = Some (record { step = step; handler = handler })
 injection_of (Run file (Some step) None) = None
 injection_of (Run file None handler) = None
-injection_of (Campaign file quiet) = None
+injection_of (Campaign file options quiet) = None
 
 -- Every row of a campaign passes.
 abbrev pub all_pass : Totals → Bool
@@ -69,7 +69,7 @@ abbrev pub Served : Job → (input : Option (List ℕ)) → (read_failed : Bool)
     → Result Bool ServeFault → Type 0
 Served (Run file at handler) input read_failed old new write_failed outcome =
     RunServed (injection_of (Run file at handler)) input read_failed old new write_failed outcome
-Served (Campaign file quiet) input read_failed old new write_failed outcome =
+Served (Campaign file options quiet) input read_failed old new write_failed outcome =
     CampaignServed input read_failed old new write_failed outcome
 
 -- What doing a job comes to, over an input: what it asks for is served; or its step and its handler don't go together, and

@@ -1,5 +1,5 @@
 -- The words that the program takes.
-use Rattle.std.specs.Prelude.{◌≡◌, ◌<◌, ◌^◌, ◌⊎◌, Bool, true, false, ℕ, List, map, codes, pos, Option, Some, None, option_map}
+use Rattle.std.specs.Prelude.{◌≡◌, ◌<◌, ◌^◌, ◌⊎◌, Bool, true, false, ℕ, List, [], ◌∷◌, map, codes, pos, Option, Some, None, option_map}
 use Rattle.std.specs.Borrow.{Bor}
 use Rattle.std.specs.Str.{bytes_eq}
 use Rattle.std.specs.Str.Parse.{IsNumeral, digits_value, without_leading_plus}
@@ -10,6 +10,9 @@ use Rattle.clap.specs.declared.builder.value_parser.ValueParser.TheVariants.{Sig
 use Rattle.clap.specs.declared.builder.arg.Arg.{Arg}
 use Rattle.clap.specs.declared.builder.command.Command.{Command}
 use Rattle.clap.specs.declared.builder.command.Command.TheViews.{out-Command as fields_of}
+use Rattle.campaign.specs.declared.options.BadOption.{BadOption}
+use Rattle.campaign.specs.declared.options.Options.{Options}
+use Rattle.campaign.specs.Options.{bad_option}
 use Rattle.jobs.specs.declared.acting.Job.{Job}
 use Rattle.jobs.specs.declared.acting.Job.TheVariants.{Run, Campaign}
 
@@ -38,8 +41,29 @@ run_app = with_rule (with_rule (with_rule (new_app (codes "run")) file_rule) at_
 abbrev pub quiet_rule : Rule
 quiet_rule = record (new_rule (codes "quiet")) { long = Some (codes "quiet"); action = Some SetTrue }
 
+-- a number of this range, and what it is where it isn't named
+abbrev pub option_rule : (name default : Text) → (least greatest : ℕ) → Rule
+option_rule name default least greatest = record (new_rule name) {
+  long = Some name;
+  value_names = 1;
+  action = Some Set;
+  defaults = default ∷ [];
+  parser = Some (Signed (pos least) (pos greatest));
+}
+
+abbrev pub workers_rule : Rule
+workers_rule = option_rule (codes "workers") (codes "1") 1 64
+
+abbrev pub stride_rule : Rule
+stride_rule = option_rule (codes "stride") (codes "64") 1 65536
+
+abbrev pub block_rule : Rule
+block_rule = option_rule (codes "block") (codes "16") 1 1000000
+
 abbrev pub campaign_app : App
-campaign_app = with_rule (with_rule (new_app (codes "campaign")) file_rule) quiet_rule
+campaign_app =
+    with_rule (with_rule (with_rule (with_rule (with_rule (new_app (codes "campaign")) file_rule) workers_rule) stride_rule) block_rule)
+    quiet_rule
 
 -- the program without its commands: one of them has to be named
 abbrev pub rtosim_top : App
@@ -77,18 +101,29 @@ IsRunOf rows (Run file at handler) =
     (first_of (codes "FILE") rows ≡ Some file.now)
     × (option_map number_of (one_of (codes "at") rows) ≡ at)
     × (first_of (codes "handler") rows ≡ option_map (λ name. name.now) handler)
-IsRunOf rows (Campaign file quiet) = ⊥
+IsRunOf rows (Campaign file options quiet) = ⊥
 
 -- A flag that is given has the value `true`, one that is not given `false`.
 abbrev pub is_given : Option Text → Bool
 is_given None = false
 is_given (Some text) = bytes_eq text (codes "true")
 
--- The job is the campaign of the file that the words of `campaign` name, quiet or not.
+-- the number of an option
+abbrev pub number_in : (name : Text) → List Row → Option ℕ
+number_in name rows = option_map number_of (one_of name rows)
+
+-- The options are the numbers that the words of `campaign` name, or their defaults; each is in its range.
+pub record AreOptionsOf (rows : List Row) (options : Options) : Type 0 where
+  pub workers : number_in (codes "workers") rows ≡ Some options.workers
+  pub stride : number_in (codes "stride") rows ≡ Some options.stride
+  pub block : number_in (codes "block") rows ≡ Some options.block
+  pub within : bad_option options.workers options.stride options.block ≡ None
+
+-- The job is the campaign of the file that the words of `campaign` name, with the options that they name, quiet or not.
 abbrev pub IsCampaignOf : List Row → Job → Type 0
 IsCampaignOf rows (Run file at handler) = ⊥
-IsCampaignOf rows (Campaign file quiet) =
-    (first_of (codes "FILE") rows ≡ Some file.now) × (is_given (first_of (codes "quiet") rows) ≡ quiet)
+IsCampaignOf rows (Campaign file options quiet) =
+    (first_of (codes "FILE") rows ≡ Some file.now) × AreOptionsOf rows options × (is_given (first_of (codes "quiet") rows) ≡ quiet)
 
 -- The job is what the words name, by the command and its own words.
 abbrev pub IsJobOf : Option (Text × List Row) → Job → Type 0
@@ -105,9 +140,27 @@ IsNoNumber (Some text) = IsNumber text → ⊥
 abbrev pub NamesNoRun : List Row → Type 0
 NamesNoRun rows = (first_of (codes "FILE") rows ≡ None) ⊎ IsNoNumber (one_of (codes "at") rows)
 
--- The words of `campaign` name no file.
+-- An option has no number.
+abbrev pub LacksNumber : (name : Text) → List Row → Type 0
+LacksNumber name rows = (number_in name rows ≡ None) ⊎ IsNoNumber (one_of name rows)
+
+-- The options of these numbers are out of range.
+pub record AreOutOfRange (rows : List Row) : Type 0 where
+  pub options : Options
+  pub workers : number_in (codes "workers") rows ≡ Some options.workers
+  pub stride : number_in (codes "stride") rows ≡ Some options.stride
+  pub block : number_in (codes "block") rows ≡ Some options.block
+  pub fault : BadOption
+  pub bad : bad_option options.workers options.stride options.block ≡ Some fault
+
+-- The words of `campaign` name no options: one of the numbers is none, or out of its range.
+abbrev pub NamesNoOptions : List Row → Type 0
+NamesNoOptions rows =
+    LacksNumber (codes "workers") rows ⊎ (LacksNumber (codes "stride") rows ⊎ (LacksNumber (codes "block") rows ⊎ AreOutOfRange rows))
+
+-- The words of `campaign` name no file, or no options.
 abbrev pub NamesNoCampaign : List Row → Type 0
-NamesNoCampaign rows = first_of (codes "FILE") rows ≡ None
+NamesNoCampaign rows = (first_of (codes "FILE") rows ≡ None) ⊎ NamesNoOptions rows
 
 -- The words name no job.
 abbrev pub NamesNoJob : Option (Text × List Row) → Type 0

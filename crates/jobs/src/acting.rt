@@ -25,9 +25,11 @@ pub enum Job<'a> {
         at: Option<u32>,
         handler: Option<&'a str>,
     },
-    /// Write the report of the campaign of this file. Where it is quiet, nobody is told how far it has come.
+    /// Write the report of the campaign of this file, worked off as the options say. Where it is quiet, nobody is told how far
+    /// it has come.
     Campaign {
         file: &'a str,
+        options: Options,
         quiet: bool,
     },
 }
@@ -165,6 +167,7 @@ fn serve_run_of<R: Source, W: Sink>(
 // Serves a campaign. Answers whether all its rows pass.
 fn serve_campaign<R: Source, W: Sink, P: Progress>(
     alloc: Global,
+    options: Options,
     quiet: bool,
     reader: &mut R,
     writer: &mut W,
@@ -175,7 +178,6 @@ fn serve_campaign<R: Source, W: Sink, P: Progress>(
     ensures { CampaignServed (R.left reader.old) (R.has_failed reader.new)
         (W.held writer.old) (W.held writer.new) (W.has_failed writer.new) result }
 {
-    let options = Options::default();
     let totals = if quiet {
         serve_watched(alloc, reader, writer, options, &mut Unseen)?
     } else {
@@ -202,7 +204,9 @@ fn serve_job<R: Source, W: Sink, P: Progress>(
     let at = job.injection()?;
     let served = match *job {
         Job::Run { .. } => serve_run_of(alloc, at, reader, writer),
-        Job::Campaign { quiet, .. } => serve_campaign(alloc, quiet, reader, writer, progress),
+        Job::Campaign { options, quiet, .. } => {
+            serve_campaign(alloc, options, quiet, reader, writer, progress)
+        }
     };
     match served {
         Ok(passes) => Ok(passes),

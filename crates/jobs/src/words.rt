@@ -2,9 +2,10 @@
 ghost use Rattle.std.specs.Prelude.{◌≡◌, IfOk, IfErr, IfSome, IsNone, MatchResult, true, map, option_map};
 ghost use Rattle.clap.specs.Words.{takes, kind_of, subcommand_of, first_of, one_of, found_of, rows_of, subcommand_rows_of, fault_of, FailsBy};
 ghost use Rattle.clap.specs.declared.error.kind.ErrorKind.TheVariants.{OutOfMemory};
-ghost use Rattle.jobs.specs.Words.{file_rule, at_rule, handler_rule, quiet_rule, run_app, campaign_app, rtosim_top, rtosim_app, texts_of, number_of, is_given, IsCommandOf, IsArgOf, IsRunOf, IsCampaignOf, IsJobOf, IsNoNumber, NamesNoRun, NamesNoCampaign, NamesNoJob};
+ghost use Rattle.jobs.specs.Words.{file_rule, at_rule, handler_rule, quiet_rule, workers_rule, stride_rule, block_rule, run_app, campaign_app, rtosim_top, rtosim_app, texts_of, number_of, is_given, IsCommandOf, IsArgOf, IsRunOf, AreOptionsOf, IsCampaignOf, IsJobOf, IsNoNumber, NamesNoRun, NamesNoOptions, NamesNoCampaign, NamesNoJob};
 
 use crate::acting::Job;
+use campaign::Options;
 use clap::{Arg, ArgAction, ArgMatches, Command, Error, value_parser};
 use std::alloc::{AllocError, Global};
 use std::num::ParseIntError;
@@ -57,6 +58,42 @@ fn quiet_argument<'a>(alloc: Global) -> Arg<'a>
         .help("Tells nobody how far the campaign has come")
 }
 
+fn workers_argument<'a>(alloc: Global) -> Arg<'a>
+    ensures { IsArgOf workers_rule result }
+{
+    Arg::new(alloc, "workers")
+        .long("workers")
+        .value_name("N")
+        .action(ArgAction::Set)
+        .value_parser(value_parser!(u32).range(1..=64))
+        .default_value("1")
+        .help("Threads that work on the campaign, 1 to 64")
+}
+
+fn stride_argument<'a>(alloc: Global) -> Arg<'a>
+    ensures { IsArgOf stride_rule result }
+{
+    Arg::new(alloc, "stride")
+        .long("stride")
+        .value_name("S")
+        .action(ArgAction::Set)
+        .value_parser(value_parser!(u32).range(1..=65_536))
+        .default_value("64")
+        .help("Steps between two kept states of the base run, 1 to 65536")
+}
+
+fn block_argument<'a>(alloc: Global) -> Arg<'a>
+    ensures { IsArgOf block_rule result }
+{
+    Arg::new(alloc, "block")
+        .long("block")
+        .value_name("B")
+        .action(ArgAction::Set)
+        .value_parser(value_parser!(u32).range(1..=1_000_000))
+        .default_value("16")
+        .help("Points that a worker takes at once, 1 to 1000000")
+}
+
 fn run_command<'a>(alloc: Global) -> Result<Command<'a>, AllocError>
     ensures { IfOk result (λ command. IsCommandOf run_app command) }
 {
@@ -75,6 +112,9 @@ fn campaign_command<'a>(alloc: Global) -> Result<Command<'a>, AllocError>
         .about("Runs an application once for each of its points, and writes the report")
         .after_help(STATUSES)
         .arg(file_argument(alloc))?
+        .arg(workers_argument(alloc))?
+        .arg(stride_argument(alloc))?
+        .arg(block_argument(alloc))?
         .arg(quiet_argument(alloc))
 }
 
@@ -135,14 +175,36 @@ fn is_given(matches: &ArgMatches<'_>, id: &str) -> bool
     }
 }
 
+// The options of the command `campaign`.
+fn options_of(matches: &ArgMatches<'_>) -> Option<Options>
+    ensures options { IfSome result (AreOptionsOf (rows_of (found_of matches.now))) }
+    ensures none { IsNone result → NamesNoOptions (rows_of (found_of matches.now)) }
+{
+    let Ok(Some(workers)) = number(matches, "workers") else {
+        return None;
+    };
+    let Ok(Some(stride)) = number(matches, "stride") else {
+        return None;
+    };
+    let Ok(Some(block)) = number(matches, "block") else {
+        return None;
+    };
+    Options::new(workers, stride, block).ok()
+}
+
 // The job of the command `campaign`.
 fn campaign_job<'a>(matches: &ArgMatches<'a>) -> Option<Job<'a>>
     ensures job { IfSome result (IsCampaignOf (rows_of (found_of matches.now))) }
     ensures none { IsNone result → NamesNoCampaign (rows_of (found_of matches.now)) }
 {
     let file = text(matches, "FILE")?;
+    let options = options_of(matches)?;
     let quiet = is_given(matches, "quiet");
-    Some(Job::Campaign { file, quiet })
+    Some(Job::Campaign {
+        file,
+        options,
+        quiet,
+    })
 }
 
 fn job_of<'a>(matches: &ArgMatches<'a>) -> Option<Job<'a>>

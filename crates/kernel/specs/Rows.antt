@@ -10,6 +10,10 @@ use Rattle.model.specs.Run.{IsRun, events_after}
 abbrev pub events_from : Application → List Point → (first next : ℕ) → List Event
 events_from app plan first next = drop (length (events_after app plan first)) (events_after app plan next)
 
+-- Some events, or none, came behind those that were there.
+abbrev pub Extends : (old new : List Event) → Type 0
+Extends old new = (more : List Event) × (new ≡ old ++ more)
+
 -- The run with this point alone ends so. Of its events those from the injection on came behind the others that were kept;
 -- those before it are the base run's.
 pub record IsRowFrom (app : Application) (point : Point) (limits : Limits) (old new : List Event) (ending : RowEnding) : Type 0 where

@@ -24,7 +24,7 @@ use sched::Sched;
 use std::array;
 
 /// The progress where there are no tasks: a value made for each place, since they are not copied.
-fn without_tasks() -> [Progress; 32]
+pub(crate) fn without_tasks() -> [Progress; 32]
     ensures progress { (task : ℕ) → progress_in result task ≡ no_progress }
     ensures full { length result ≡ 32 }
 {

@@ -9,8 +9,9 @@ ghost use Rattle.groups.specs.StandsFor.{StandsFor as GroupsStandFor};
 ghost use Rattle.model.specs.Switching.{write};
 ghost use Rattle.model.specs.Suspension.{phase_resumed, resumed};
 ghost use Rattle.kernel.specs.Loops.{after_turn, next_turn};
-ghost use Rattle.kernel.specs.StandsFor.{StandsFor, StandsBefore, Does, DoesAny, decider, progress_in, with_progress};
+ghost use Rattle.kernel.specs.StandsFor.{Stands, StandsFor, StandsBefore, Does, DoesAny, decider, progress_in, with_progress};
 
+use crate::boot::without_tasks;
 use crate::log::Log;
 use crate::progress::Progress;
 use clock::Clock;
@@ -34,13 +35,22 @@ pub struct Kernel {
 }
 
 /// Each progress becomes a copy of the other at its place, in place.
-fn copy_progress(progress: &mut [Progress; 32], other: &[Progress; 32])
+pub(crate) fn set_progress_from(progress: &mut [Progress; 32], other: &[Progress; 32])
     ensures { progress.new ≡ other.now }
 {
     for task in 0..32 {
         let one = &mut progress[task];
         one.set_from(&other[task]);
     }
+}
+
+/// A copy of each progress.
+pub(crate) fn copy_progress(progress: &[Progress; 32]) -> [Progress; 32]
+    ensures { result ≡ progress.now }
+{
+    let mut copy = without_tasks();
+    set_progress_from(&mut copy, progress);
+    copy
 }
 
 /// The phase in which a resumed task's call goes on: one that was to decide tries again.
@@ -54,11 +64,27 @@ fn phase_resumed(phase: Phase) -> Phase
 }
 
 impl Kernel {
+    /// A copy. It takes no memory.
+    pub fn copy(&self) -> Self
+        ensures { result ≡ self.now }
+    {
+        Kernel {
+            progress: copy_progress(&self.progress),
+            sched: self.sched.copy(),
+            clock: self.clock.copy(),
+            queues: self.queues.copy(),
+            groups: self.groups.copy(),
+            suspensions: self.suspensions,
+            steps: self.steps,
+            stopped: self.stopped,
+        }
+    }
+
     /// Becomes a copy of the other, in place. It takes no memory.
     pub fn set_from(&mut self, other: &Self)
         ensures { self.new ≡ other.now }
     {
-        copy_progress(&mut self.progress, &other.progress);
+        set_progress_from(&mut self.progress, &other.progress);
         self.sched.set_from(&other.sched);
         self.clock.set_from(&other.clock);
         self.queues.set_from(&other.queues);
@@ -66,6 +92,20 @@ impl Kernel {
         self.suspensions = other.suspensions;
         self.steps = other.steps;
         self.stopped = other.stopped;
+    }
+
+    /// How many steps are done, at most 1,000,000 in a run.
+    pub fn steps(&self) -> u32
+        ensures { result ≡ self.now.steps }
+    {
+        self.steps
+    }
+
+    /// The ticks since reset, at most 1,000,000 in a run that is under way.
+    pub fn ticks(&self) -> u64
+        ensures { (s : State) → Stands self.now s → result ≡ s.elapsed }
+    {
+        self.clock.elapsed()
     }
 
     /// The scheduler, as it stands for each state that the kernel stands for. A task that is still to be placed is among

@@ -46,6 +46,15 @@ impl Progress {
         }
     }
 
+    /// A copy.
+    pub(crate) fn copy(&self) -> Progress
+        ensures { result ≡ self.now }
+    {
+        let mut copy = Progress::new(0);
+        copy.set_from(self);
+        copy
+    }
+
     /// Becomes a copy of the other, in place.
     pub(crate) fn set_from(&mut self, other: &Self)
         ensures { self.new ≡ other.now }

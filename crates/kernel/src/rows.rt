@@ -4,7 +4,7 @@ ghost use Rattle.model.specs.Run as definition;
 ghost use Rattle.model.specs.Run.{end_of, IsRun, state_after, events_after};
 ghost use Rattle.kernel.specs.Logged.{all_of};
 ghost use Rattle.kernel.specs.Can.{IsUnderWay};
-ghost use Rattle.kernel.specs.Rows.{IsRowFrom};
+ghost use Rattle.kernel.specs.Rows.{IsRowFrom, Extends};
 
 use crate::kernel::Kernel;
 use crate::log::StepLog;
@@ -81,6 +81,7 @@ pub fn run_row(
         ≡ length (events_after app.now [] point.step)) }
     ensures meter { IfOk result (λ row. meter.new + kernel.old.steps ≡ meter.old + row.steps) }
     ensures rises { meter.old ≤ meter.new }
+    ensures kept { OnErr result (Extends (all_of trail.old) (all_of trail.new)) }
     ensures refused { OnErr result ((run : definition.Run) → IsRun app.now (point ∷ []) limits.now run
         → (meter.new + kernel.old.steps ≤ meter.old + run.steps) × (0 < length run.events)) }
 {

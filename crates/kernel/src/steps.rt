@@ -13,7 +13,7 @@ ghost use Rattle.kernel.specs.Logged.{all_of};
 ghost use Rattle.kernel.specs.StandsFor.{Stands, StandsFor, DoesAny};
 ghost use Rattle.kernel.specs.Blocked.{is_blocked};
 ghost use Rattle.kernel.specs.Can.{CanAct, CanStep, IsUnderWay};
-ghost use Rattle.kernel.specs.Rows.{events_from};
+ghost use Rattle.kernel.specs.Rows.{events_from, Extends};
 
 use crate::kernel::Kernel;
 use crate::log::{Log, StepLog};
@@ -166,6 +166,7 @@ fn step_apart(
         → trail.new.told ≡ (step app.now handlers.now s).log) }
     ensures before { trail.new.before ≡ trail.old.before }
     ensures meter { meter.new ≡ meter.old + 1 }
+    ensures kept { OnErr result (trail.new.told ≡ []) }
     ensures memory { OnErr result ((s : State) → Stands kernel.old s
         → 0 < length (step app.now handlers.now s).log) }
 {
@@ -189,6 +190,7 @@ fn step_along(
     ensures told { OnOk result ((s : State) → Stands kernel.old s
         → all_of trail.new ≡ all_of trail.old ++ (step app.now [] s).log) }
     ensures meter { meter.new ≡ meter.old + 1 }
+    ensures kept { OnErr result (all_of trail.new ≡ all_of trail.old) }
     ensures memory { OnErr result ((s : State) → Stands kernel.old s
         → 0 < length (step app.now [] s).log) }
 {
@@ -242,6 +244,7 @@ fn step_after(
     ensures told { OnOk result ((s : State) → Stands kernel.old s
         → all_of trail.new ≡ all_of trail.old ++ (step app.now handlers.now s).log) }
     ensures meter { meter.new ≡ meter.old + 1 }
+    ensures kept { OnErr result (all_of trail.new ≡ all_of trail.old) }
     ensures memory { OnErr result ((s : State) → Stands kernel.old s
         → 0 < length (step app.now handlers.now s).log) }
 {
@@ -274,6 +277,7 @@ fn step_after_points<'a>(
     ensures later { IfOk result (λ later. later.now
         ≡ drop (length (injected points.now kernel.old.steps)) points.now) }
     ensures meter { meter.new ≡ meter.old + 1 }
+    ensures kept { OnErr result (all_of trail.new ≡ all_of trail.old) }
     ensures memory { OnErr result ((s : State) → Stands kernel.old s
         → 0 < length (step app.now (injected points.now kernel.old.steps) s).log) }
 {
@@ -304,6 +308,7 @@ fn step_by_plan<'a>(
     ensures later { IfOk result (λ later. later.now
         ≡ drop (length (injected points.now kernel.old.steps)) points.now) }
     ensures meter { meter.new ≡ meter.old + 1 }
+    ensures kept { OnErr result (all_of trail.new ≡ all_of trail.old) }
     ensures memory { OnErr result ((s : State) → Stands kernel.old s
         → 0 < length (step app.now (injected points.now kernel.old.steps) s).log) }
 {
@@ -336,6 +341,7 @@ pub(crate) fn finish(
     ensures ended { IfOk result
         (λ end. end_of app.now limits.now (state_after app.now points.now kernel.new.steps) ≡ Some end) }
     ensures meter { meter.new + kernel.old.steps ≡ meter.old + kernel.new.steps }
+    ensures kept { OnErr result (Extends (all_of trail.old) (all_of trail.new)) }
     // memory is asked for events alone
     ensures memory { OnErr result (0 < length (events_after app.now points.now kernel.new.steps)) }
 {
@@ -347,6 +353,46 @@ pub(crate) fn finish(
             return Ok(end);
         }
         left = step_by_plan(kernel, app, left, meter, log, trail)?;
+    }
+}
+
+/// Goes along a run without injections up to this step, and keeps the events from where it is. It answers how the run ends
+/// there; `None` where it goes on. Where it ends before, it has come to that end.
+///
+/// The meter, which is below 2^62, rises by the steps that are done here. At `Err(Memory)`, answered only where a growth was
+/// refused, so never where the run tells nothing, it has come to some step before, and has kept some of the events.
+pub fn follow(
+    kernel: &mut Kernel,
+    app: &App,
+    step: u32,
+    limits: &Limits,
+    meter: &mut Meter,
+    log: &mut StepLog,
+    trail: &mut Trail,
+) -> Result<Option<End>, Memory>
+    requires way { IsUnderWay app.now [] limits.now kernel.old }
+    requires ahead { kernel.old.steps ≤ step }
+    requires meter { meter.old < 2 ^ 62 }
+    ensures way { IsUnderWay app.now [] limits.now kernel.new }
+    ensures on { kernel.old.steps ≤ kernel.new.steps }
+    ensures far { kernel.new.steps ≤ step }
+    ensures events { OnOk result
+        (all_of trail.new ≡ all_of trail.old ++ events_from app.now [] kernel.old.steps kernel.new.steps) }
+    ensures end { IfOk result (λ end. end ≡ end_of app.now limits.now (state_after app.now [] kernel.new.steps)) }
+    ensures there { IfOk result (λ end. end ≡ None → kernel.new.steps ≡ step) }
+    ensures meter { meter.new + kernel.old.steps ≡ meter.old + kernel.new.steps }
+    ensures memory { OnErr result (0 < length (events_after app.now [] kernel.new.steps)) }
+{
+    app.well_formed();
+    limits.well_formed();
+    'steps: loop {
+        if let Some(end) = kernel.ended(app, limits) {
+            return Ok(Some(end));
+        }
+        if kernel.steps == step {
+            return Ok(None);
+        }
+        step_along(kernel, app, meter, log, trail)?;
     }
 }
 

@@ -1,5 +1,5 @@
 //! The events of a run, or of several, with room for those of one more step.
-ghost use Rattle.std.specs.Prelude.{◌≡◌, ◌<◌, ◌≤◌, ◌++◌, [], OnOk, OnErr, length};
+ghost use Rattle.std.specs.Prelude.{◌≡◌, ◌<◌, ◌≤◌, ◌++◌, [], OnOk, OnErr, length, take};
 ghost use Rattle.kernel.specs.Logged.{all_of};
 
 use crate::log::Log;
@@ -83,6 +83,14 @@ impl Trail {
             return Err(Memory);
         }
         Ok(())
+    }
+
+    /// Keeps so many events, those told first; where there are no more, all.
+    pub fn truncate(&mut self, count: usize)
+        ensures { all_of self.new ≡ take count (all_of self.old) }
+    {
+        self.events.truncate(count);
+        self.start = self.start.min(self.events.len());
     }
 
     /// All its events.

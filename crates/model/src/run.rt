@@ -1,10 +1,23 @@
 //! What a run comes to.
 use crate::event::{End, Event};
+use std::alloc::{AllocError, AllocFailed};
 use std::marker::Model;
 
-/// No memory for what a run tells.
+/// There was no memory for what was asked.
 #[derive(Clone, Copy, Debug, PartialEq, Eq)]
 pub struct Memory;
+
+impl From<AllocError> for Memory {
+    fn from(_: AllocError) -> Memory {
+        Memory
+    }
+}
+
+impl<T: Drop> From<AllocFailed<T>> for Memory {
+    fn from(_: AllocFailed<T>) -> Memory {
+        Memory
+    }
+}
 
 /// How a run ended, and when.
 #[derive(Clone, Copy, Debug, PartialEq, Eq)]

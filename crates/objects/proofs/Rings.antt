@@ -1,11 +1,12 @@
 -- The rings after a write to one of them.
-use Rattle.std.proofs.Common.{true, false, ◌≡◌, ◌≢◌, ℕ, suc, ◌+◌, ◌-◌, ◌<◌, ◌≤◌, inl, inr, Some, List, [], ◌∷◌, ◌++◌, get_or, set, length, drop, take, sym, ◌∙◌, ap, ap₂, subst, arith, refl}
-use Rattle.std.proofs.lemmas.List.{get_or-set_same, get_or-set_other, length-set, length-take, get_or-take, get_or_past, get_or_append_left}
+use Rattle.std.proofs.Common.{true, false, ◌≡◌, ◌≢◌, ℕ, suc, ◌+◌, ◌-◌, ◌<◌, ◌≤◌, inl, inr, Some, List, [], ◌∷◌, ◌++◌, get_or, set, length, drop, take, sym, ◌∙◌, ap, ap₂, subst, arith, refl, append-nil}
+use Rattle.std.proofs.lemmas.List.{get_or-set_same, get_or-set_other, length-set, length-take, get_or-take, get_or_past, get_or_append_left, take-append-drop}
+use Rattle.std.proofs.Math.Seq.{take-append_seam}
 use Rattle.std.proofs.lemmas.Bool.{cases_eq, cases_lt, lt-ltb, le-ltb}
 use Rattle.std.specs.Prelude.{nat_lt, slice_get}
 use Rattle.model.specs.State.{Object, no_object}
 use Rattle.objects.specs.Items.{IsSound, object_in, holding}
-use Rattle.objects.specs.Rings.{Fields, IsItems, listed, wrap, place, ring, object_of, objects_of, base_of, size_of, head_of, count_of}
+use Rattle.objects.specs.Rings.{Fields, IsItems, IsFront, with_pool, listed, wrap, place, ring, object_of, objects_of, base_of, size_of, head_of, count_of}
 use Rattle.objects.proofs.Listed.{length-listed, get_or-listed, listed-same, listed-more, listed-set, listed-none, listed-first, listed-rest, listed-add, set-own}
 
 -- places in a region
@@ -379,3 +380,29 @@ copied {a} h front back e =
     let len : length front ≡ used = ap length e ∙ length-take used a.pool ∙ omega (arith, fits, pool) in
     same_front h (front ++ back) (λ i hi.
     get_or_append_left front back 0 i (omega (arith, len, hi)) ∙ ap (λ (xs : List ℕ). get_or xs i 0) e ∙ get_or-take used a.pool i 0 hi)
+
+-- ---- a storage without what lies behind its last region
+
+-- It is the front of the storage's pool, and holds the same queues.
+module _ {a : Fields} (h : IsItems a) (front : List ℕ) (e : front ≡ take (base_of a 31 + size_of a 31) a.pool) where
+  pub front_is : IsFront (with_pool front a)
+  front_is =
+      let used = base_of a 31 + size_of a 31 in
+      let fits = h.fits 31 (omega arith) in
+      let pool = h.pool_length in
+      record {
+        back = drop used a.pool;
+        storage = subst (λ (pool : List ℕ). IsItems (with_pool pool a)) (sym (take-append-drop used a.pool) ∙ ap (λ (xs : List ℕ). xs ++ drop used a.pool) (sym e)) h;
+        front = ap length e ∙ length-take used a.pool ∙ omega (arith, fits, pool);
+      }
+
+  pub front_holds : objects_of (with_pool front a) ≡ objects_of a
+  front_holds = ap (λ (pool : List ℕ). objects_of (with_pool pool a)) (sym (append-nil front)) ∙ copied h front [] e
+
+-- Whatever comes behind it, it holds the same queues.
+module _ {a : Fields} (h : IsFront a) (back : List ℕ) where
+  refilled_front : a.pool ≡ take (base_of a 31 + size_of a 31) (a.pool ++ h.back)
+  refilled_front = sym (ap (λ (n : ℕ). take n (a.pool ++ h.back)) (sym h.front) ∙ take-append_seam a.pool h.back)
+
+  pub refilled : objects_of (with_pool (a.pool ++ back) a) ≡ objects_of a
+  refilled = copied h.storage a.pool back refilled_front ∙ sym (copied h.storage a.pool [] refilled_front) ∙ ap (λ (pool : List ℕ). objects_of (with_pool pool a)) (append-nil a.pool)

@@ -1,5 +1,5 @@
 -- How one pool holds the items of all queues, each in a region of its own, around which they go.
-use Rattle.std.specs.Prelude.{◌≡◌, ℕ, zero, suc, ◌+◌, ◌-◌, ◌<◌, ◌≤◌, nat_lt, if◌then◌else◌, List, [], ◌∷◌, get_or, length}
+use Rattle.std.specs.Prelude.{◌≡◌, ℕ, zero, suc, ◌+◌, ◌-◌, ◌<◌, ◌≤◌, nat_lt, if◌then◌else◌, List, [], ◌∷◌, ◌++◌, get_or, length}
 use Rattle.model.specs.State.{Object, no_object}
 
 -- the first n values of f
@@ -59,3 +59,13 @@ pub record IsItems (a : Fields) : Type 0 where
   pub apart : (q r : ℕ) → q < r → r < 32 → base_of a q + size_of a q ≤ base_of a r
   pub started : (q : ℕ) → q < 32 → 0 < size_of a q → head_of a q < size_of a q
   pub few : (q : ℕ) → q < 32 → count_of a q ≤ size_of a q
+
+-- the same arrays, with another pool
+abbrev pub with_pool : List ℕ → Fields → Fields
+with_pool pool a = record { pool = pool; bases = a.bases; lengths = a.lengths; heads = a.heads; counts = a.counts }
+
+-- The pool ends with the last region: with what lies behind it there, these are the arrays of a storage.
+pub record IsFront (a : Fields) : Type 0 where
+  pub back : List ℕ
+  pub storage : IsItems (with_pool (a.pool ++ back) a)
+  pub front : length a.pool ≡ base_of a 31 + size_of a 31

@@ -1,5 +1,5 @@
 //! The items of the queues: a pool, and a ring in it for each queue.
-ghost use Rattle.std.specs.Prelude.{◌≡◌, ℕ, ◌+◌, ◌-◌, ◌<◌, ◌≤◌, List, [], ◌∷◌, ◌++◌, All, length, map, drop, slice_index_or, slice_set, slice_get};
+ghost use Rattle.std.specs.Prelude.{◌≡◌, ℕ, ◌+◌, ◌-◌, ◌<◌, ◌≤◌, List, [], ◌∷◌, ◌++◌, All, length, map, drop, slice_index_or, slice_set, slice_get, IfOk};
 ghost use Rattle.std.specs.List.{AllByRecursion};
 ghost use Rattle.model.specs.Scripts.{IsObjectKind};
 ghost use Rattle.model.specs.State.{no_object};
@@ -7,7 +7,8 @@ ghost use Rattle.model.specs.Step.{object_at_reset};
 ghost use Rattle.objects.specs.Items.{holding, object_in, IsSound};
 ghost use Rattle.objects.specs.Rings.{wrap};
 
-use model::ObjectKind;
+use model::{Memory, ObjectKind};
+use std::alloc::Global;
 use std::marker::Model;
 
 /// The items of 32 queues, in one pool.
@@ -31,6 +32,29 @@ impl Model for Items {
     ghost view = { λ s. objects_of (record { pool = s.pool; bases = s.bases; lengths = s.lengths; heads = s.heads; counts = s.counts }) };
 
     ghost invariant = { λ s. IsItems (record { pool = s.pool; bases = s.bases; lengths = s.lengths; heads = s.heads; counts = s.counts }) };
+}
+
+/// The items of 32 queues as they stood once: of the pool only the regions of the queues.
+#[derive(Drop)]
+pub(crate) struct ItemsSnapshot {
+    pool: Vec<u32>,
+    bases: [u16; 32],
+    lengths: [u16; 32],
+    heads: [u16; 32],
+    counts: [u16; 32],
+}
+
+// Clauses see the objects of the definitions, as they stood.
+impl Model for ItemsSnapshot {
+    ghost use Rattle.std.specs.Prelude.{List};
+    ghost use Rattle.model.specs.State.{Object};
+    ghost use Rattle.objects.specs.Rings.{objects_of, IsFront};
+
+    ghost Value = { List Object };
+
+    ghost view = { λ s. objects_of (record { pool = s.pool.items; bases = s.bases; lengths = s.lengths; heads = s.heads; counts = s.counts }) };
+
+    ghost invariant = { λ s. IsFront (record { pool = s.pool.items; bases = s.bases; lengths = s.lengths; heads = s.heads; counts = s.counts }) };
 }
 
 /// A place in a region of a size, counted on around it.
@@ -206,5 +230,35 @@ impl Items {
         self.lengths = other.lengths;
         self.heads = other.heads;
         self.counts = other.counts;
+    }
+
+    /// The queues as they stand now, with no more of the pool than the regions of the queues.
+    pub(crate) fn snapshot(&self, alloc: Global) -> Result<ItemsSnapshot, Memory>
+        ensures { IfOk result (λ snapshot. snapshot ≡ self.now) }
+    {
+        let used = self.bases[31] as usize + self.lengths[31] as usize;
+        let mut pool = Vec::new(alloc);
+        pool.reserve_exact(used)?;
+        pool.extend_from_slice(&self.pool[..used])?;
+        Ok(ItemsSnapshot {
+            pool,
+            bases: self.bases,
+            lengths: self.lengths,
+            heads: self.heads,
+            counts: self.counts,
+        })
+    }
+
+    /// Makes the queues those of a snapshot. It takes no memory.
+    pub(crate) fn restore(&mut self, snapshot: &ItemsSnapshot)
+        ensures same { self.new ≡ snapshot.now }
+        ensures sound { IsSound self.new }
+    {
+        let used = snapshot.pool.len();
+        self.pool[..used].copy_from_slice(snapshot.pool.as_slice());
+        self.bases = snapshot.bases;
+        self.lengths = snapshot.lengths;
+        self.heads = snapshot.heads;
+        self.counts = snapshot.counts;
     }
 }

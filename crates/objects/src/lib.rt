@@ -11,5 +11,5 @@ mod semaphores;
 mod waiting_lists;
 
 pub use lock::Lock;
-pub use queues::{NotHolder, Queues};
+pub use queues::{NotHolder, Queues, QueuesSnapshot};
 pub use waiting_lists::{Taken, Unlocked};

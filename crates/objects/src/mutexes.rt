@@ -36,6 +36,15 @@ impl Mutexes {
         }
     }
 
+    /// A copy.
+    pub(crate) fn copy(&self) -> Self
+        ensures { result ≡ self.now }
+    {
+        let mut copy = Mutexes::new();
+        copy.set_from(self);
+        copy
+    }
+
     /// Becomes a copy of the other, in place.
     pub(crate) fn set_from(&mut self, other: &Self)
         ensures { self.new ≡ other.now }

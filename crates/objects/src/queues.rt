@@ -1,5 +1,5 @@
 //! The objects that tasks share: queues, semaphores and mutexes, who waits at them, and which one is locked.
-ghost use Rattle.std.specs.Prelude.{◌≡◌, ◌==◌, ◌&&◌, not, ℕ, ◌-◌, ◌<◌, ◌≤◌, [], length, replicate, slice_index_or, slice_set, map, ◌++◌, ◌↔◌, if◌then◌else◌, true, Some, None, Option, IsSome, IfSome, IsOk, OnOk, OnErr};
+ghost use Rattle.std.specs.Prelude.{◌≡◌, ◌==◌, ◌&&◌, not, ℕ, ◌-◌, ◌<◌, ◌≤◌, [], length, replicate, slice_index_or, slice_set, map, ◌++◌, ◌↔◌, if◌then◌else◌, true, Some, None, Option, IsSome, IfSome, IfOk, IsOk, OnOk, OnErr};
 ghost use Rattle.std.specs.List.{AllByRecursion, list_any};
 ghost use Rattle.std.specs.Option.{is_some};
 ghost use Rattle.lists.specs.Lists.{place_of, without};
@@ -22,12 +22,13 @@ ghost use Rattle.objects.specs.WaitingLists.{first_priority, insert_by_priority,
 ghost use Rattle.objects.specs.WaitersStand.{AreAwakened, AtLocked, Decider, opened};
 ghost use Rattle.objects.specs.Queues.{AreCounted, HasRoom, StandsFor, after_unlock, after_wake, counted_by, readied_by};
 
-use crate::items::Items;
+use crate::items::{Items, ItemsSnapshot};
 use crate::lock::Lock;
 use crate::mutexes::Mutexes;
 use crate::semaphores::Semaphores;
 use crate::waiting_lists::{Unlocked, WaitingLists};
-use model::{Access, ObjectId, ObjectKind, TaskId, WaitList};
+use model::{Access, Memory, ObjectId, ObjectKind, TaskId, WaitList};
+use std::alloc::Global;
 use std::marker::Model;
 
 /// It isn't the task that holds the mutex.
@@ -46,6 +47,26 @@ pub struct Queues {
 
 // Clauses see the objects of the definitions, and for each list its tasks in order.
 impl Model for Queues {
+    ghost use Rattle.objects.specs.Objects.{objects_of_all};
+    ghost use Rattle.objects.specs.Queues.{Exchange};
+
+    ghost Value = { Exchange };
+
+    ghost view = { λ q. record { objects = objects_of_all q.items q.semaphores q.mutexes; waiting = q.waiting; lock = q.lock } };
+}
+
+/// The objects as they stood once: with no more of the items' storage than the application's queues have.
+#[derive(Drop)]
+pub struct QueuesSnapshot {
+    items: ItemsSnapshot,
+    semaphores: Semaphores,
+    mutexes: Mutexes,
+    waiting: WaitingLists,
+    lock: Option<Lock>,
+}
+
+// Clauses see the same as of the objects themselves.
+impl Model for QueuesSnapshot {
     ghost use Rattle.objects.specs.Objects.{objects_of_all};
     ghost use Rattle.objects.specs.Queues.{Exchange};
 
@@ -77,6 +98,15 @@ impl Queues {
         }
     }
 
+    /// A copy. It takes no memory.
+    pub fn copy(&self) -> Self
+        ensures { result ≡ self.now }
+    {
+        let mut copy = Queues::new(&[]);
+        copy.set_from(self);
+        copy
+    }
+
     /// Becomes a copy of the other, in place. It takes no memory. Of the pool only the regions of the queues are copied.
     pub fn set_from(&mut self, other: &Self)
         ensures { self.new ≡ other.now }
@@ -86,6 +116,32 @@ impl Queues {
         self.mutexes.set_from(&other.mutexes);
         self.waiting.set_from(&other.waiting);
         self.lock = other.lock;
+    }
+
+    /// The objects as they stand now. It takes four bytes of memory for each item that the queues can hold.
+    ///
+    /// `Memory` is answered only where a growth was refused.
+    pub fn snapshot(&self, alloc: Global) -> Result<QueuesSnapshot, Memory>
+        ensures { IfOk result (λ snapshot. snapshot ≡ self.now) }
+    {
+        Ok(QueuesSnapshot {
+            items: self.items.snapshot(alloc)?,
+            semaphores: self.semaphores.copy(),
+            mutexes: self.mutexes.copy(),
+            waiting: self.waiting.copy(),
+            lock: self.lock,
+        })
+    }
+
+    /// Becomes what a snapshot tells, in place. It takes no memory.
+    pub fn restore(&mut self, snapshot: &QueuesSnapshot)
+        ensures { self.new ≡ snapshot.now }
+    {
+        self.items.restore(&snapshot.items);
+        self.semaphores.set_from(&snapshot.semaphores);
+        self.mutexes.set_from(&snapshot.mutexes);
+        self.waiting.set_from(&snapshot.waiting);
+        self.lock = snapshot.lock;
     }
 
     /// The number of items in a queue (`uxQueueMessagesWaiting`).

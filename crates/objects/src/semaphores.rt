@@ -59,6 +59,16 @@ impl Semaphores {
         Semaphores { max_counts, counts }
     }
 
+    /// A copy.
+    pub(crate) fn copy(&self) -> Self
+        ensures { result ≡ self.now }
+    {
+        Semaphores {
+            max_counts: self.max_counts,
+            counts: self.counts,
+        }
+    }
+
     /// Becomes a copy of the other, in place.
     pub(crate) fn set_from(&mut self, other: &Self)
         ensures { self.new ≡ other.now }

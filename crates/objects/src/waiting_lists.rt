@@ -78,6 +78,15 @@ impl WaitingLists {
         }
     }
 
+    /// A copy.
+    pub(crate) fn copy(&self) -> Self
+        ensures { result ≡ self.now }
+    {
+        let mut copy = WaitingLists::new();
+        copy.set_from(self);
+        copy
+    }
+
     /// Becomes a copy of the other, in place.
     pub(crate) fn set_from(&mut self, other: &Self)
         ensures { self.new ≡ other.now }

@@ -10,7 +10,7 @@ use Rattle.deal.proofs.Crossing.{tally_sync}
 use Rattle.campaign.specs.declared.worker.Job.{Job}
 use Rattle.campaign.specs.Setup.{work_of}
 use Rattle.campaign.specs.Working.{IsDone}
-use Rattle.campaign.proofs.start.Start.TheSendSync as start
+use Rattle.shelf.proofs.shelf.Shelf.TheSendSync as start
 use Rattle.campaign.proofs.Whole.{done_each}
 use Rattle.campaign.proofs.making.run_all.Goals as goal
 

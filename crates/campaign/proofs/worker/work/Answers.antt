@@ -36,6 +36,7 @@ loop-preserved-else-is_err g c =
       finite = tt;
       refused = c.loop.invariant.refused;
       game = game;
+      known = on_ok_at c.add_block.result ok c.add_block.ensures.known;
       worked = subst (λ (l : List ℕ). HasWorked work c.add_block.new.self.kept.items (all_of c.add_block.new.self.trail) c.add_block.new.self.blocks.items l c.args.job.seat c.add_block.new.seat) (sym next.2) more;
     }
 

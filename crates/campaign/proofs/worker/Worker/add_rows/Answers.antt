@@ -7,6 +7,7 @@ use Rattle.campaign.proofs.worker.Worker.add_rows.Goals as goal
 pub loop-point-init : goal.loop-point-init
 loop-point-init c = record {
   blocks = refl;
+  known = c.requires.known;
   rows = gains_none c.args.setup.now.app.now c.args.setup.now.start.now.limits c.args.setup.now.start.now.base c.args.self.now.kept.items (all_of c.args.self.now.trail) c.args.seat.now;
 }
 
@@ -27,6 +28,7 @@ loop-point-preserved c =
     let start = c.args.setup.now.start.now in
     record {
       blocks = c.in_ok-add_row.ensures.blocks ∙ c.loop-point.invariant.blocks;
+      known = c.in_ok-add_row.ensures.known;
       rows = rw (next_point c.args.points.now c.loop-point.point-index c.point-item.result c.loop-point-test.true c.point-item.is)
           (gains_both c.args.setup.now.app.now start.limits start.base (take c.loop-point.point-index c.args.points.now) (c.point-item.result ∷ []) _ _ _ _ _ _ _ _ _ c.loop-point.invariant.rows c.in_ok-add_row.ensures.row);
     }

@@ -1,6 +1,6 @@
 use Rattle.std.proofs.Common.{◌≡◌, ℕ, ◌<◌, length}
 use Rattle.kernel.specs.StandsFor.{progress_in}
-use Rattle.kernel.proofs.kernel.copy_progress.Given as goal
+use Rattle.kernel.proofs.kernel.set_progress_from.Given as goal
 
 abbrev pub invariant-loop-task : goal.invariant-loop-task
 invariant-loop-task l = record {

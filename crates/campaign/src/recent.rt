@@ -1,0 +1,35 @@
+//! Which rows were made last.
+ghost use Rattle.std.specs.Prelude.{◌<◌};
+
+use model::Point;
+
+/// The number of the row that was made last of a point, so that a point that comes again is not run again. It is a guess, as
+/// points of steps that are 64 apart share a place.
+#[derive(Drop)]
+pub(crate) struct Recent {
+    rows: [usize; 1024],
+}
+
+// The place of a point.
+fn place(point: &Point) -> usize
+    ensures { result < 1024 }
+{
+    (point.step as usize % 64) * 16 + point.handler.number as usize
+}
+
+impl Recent {
+    /// No row is made.
+    pub(crate) fn new() -> Recent {
+        Recent { rows: [0; 1024] }
+    }
+
+    /// The number of the row that may be of this point.
+    pub(crate) fn row(&self, point: &Point) -> usize {
+        self.rows[place(point)]
+    }
+
+    /// The row of this number is the last one of this point.
+    pub(crate) fn set(&mut self, point: &Point, number: usize) {
+        self.rows[place(point)] = number;
+    }
+}

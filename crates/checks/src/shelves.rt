@@ -1,0 +1,128 @@
+//! Rows that start at the nearest stop before their point.
+ghost use Rattle.std.specs.Prelude.{◌<◌, ◌≤◌};
+
+use crate::loading::loaded;
+use model::{App, HandlerId, Meter, Point};
+use shelf::{Row, Shelf};
+use std::alloc::Global;
+use std::process::Abort;
+
+/// A receive that waits a tick, and a handler that sends and takes the item again.
+const RECEIVE: &str = "
+queue = [{ name = 'q', length = 1 }]
+handler = [{ name = 'h', ops = ['send q 7', 'receive q'] }]
+task = [{ name = 'a', priority = 1, script = ['receive q 1'] }]
+";
+
+/// What the row of a point costs, where a stop is before every so many steps.
+#[derive(Clone, Copy)]
+struct Cost {
+    stride: u32,
+    step: u32,
+    is_reached: bool,
+    /// How many steps the row has.
+    steps: u32,
+    /// How many of them are run.
+    run: u64,
+}
+
+const COSTS: [Cost; 8] = [
+    Cost {
+        stride: 1,
+        step: 5,
+        is_reached: true,
+        steps: 12,
+        run: 7,
+    },
+    Cost {
+        stride: 4,
+        step: 0,
+        is_reached: true,
+        steps: 7,
+        run: 7,
+    },
+    Cost {
+        stride: 4,
+        step: 2,
+        is_reached: true,
+        steps: 12,
+        run: 12,
+    },
+    Cost {
+        stride: 4,
+        step: 5,
+        is_reached: true,
+        steps: 12,
+        run: 8,
+    },
+    Cost {
+        stride: 4,
+        step: 6,
+        is_reached: true,
+        steps: 7,
+        run: 3,
+    },
+    Cost {
+        stride: 4,
+        step: 7,
+        is_reached: false,
+        steps: 7,
+        run: 0,
+    },
+    Cost {
+        stride: 1000,
+        step: 5,
+        is_reached: true,
+        steps: 12,
+        run: 12,
+    },
+    Cost {
+        stride: 65_536,
+        step: 7,
+        is_reached: false,
+        steps: 7,
+        run: 0,
+    },
+];
+
+/// The row of the first handler before this step, and how many steps were run for it.
+fn row_from(rt: &impl Abort, alloc: Global, app: &App, stride: u32, step: u32) -> (Row, u64)
+    requires some { 0 < stride }
+    requires few { stride ≤ 65536 }
+{
+    let shelf = Shelf::make(alloc, app, app.limits(), stride).expect(rt, "memory");
+    let point = Point {
+        step,
+        handler: HandlerId { number: 0 },
+    };
+    let mut meter = Meter::new();
+    let row = shelf
+        .run_point(alloc, app, point, &mut meter)
+        .expect(rt, "memory");
+    (row, meter.steps())
+}
+
+#[test]
+fn a_row_costs_the_steps_from_the_stop_before_its_point(rt: HostRuntime) {
+    let app = loaded(&rt, rt.alloc(), RECEIVE);
+    for cost in COSTS.iter() {
+        let stride = cost.stride.clamp(1, 65_536);
+        let (row, run) = row_from(&rt, rt.alloc(), &app, stride, cost.step);
+        assert!(rt; run == cost.run, "stride {stride}");
+        assert!(rt; row.reached == cost.is_reached, "stride {stride}");
+        assert!(rt; row.run.steps == cost.steps, "stride {stride}");
+    }
+}
+
+#[test]
+fn a_row_is_the_same_from_each_stride(rt: HostRuntime) {
+    let app = loaded(&rt, rt.alloc(), RECEIVE);
+    for step in 0..8_u32 {
+        let (wanted, _) = row_from(&rt, rt.alloc(), &app, 1000, step);
+        for stride in 1..9_u32 {
+            let (row, _) = row_from(&rt, rt.alloc(), &app, stride, step);
+            assert!(rt; row.run.events.as_slice() == wanted.run.events.as_slice());
+            assert!(rt; row.run.end == wanted.run.end);
+        }
+    }
+}

@@ -1,0 +1,166 @@
+-- Stops along a base run, and rows from them on.
+use Rattle.std.proofs.Common.{◌≡◌, ◌+◌, ◌-◌, ◌*◌, ◌/◌, ◌%◌, ◌<◌, ◌≤◌, ℕ, suc, inl, inr, List, [], ◌∷◌, ◌++◌, None, Some, get_or, take, length, length-append, ap, sym, subst, ◌∙◌, ap₂, arith, refl, true}
+use Rattle.std.specs.Prelude.{IfSome, nat_lt}
+use Rattle.std.proofs.lemmas.List.{get_or_append_left, length-take}
+use Rattle.std.proofs.lemmas.Bool.{cases_lt, lt-ltb}
+use Rattle.std.proofs.lemmas.Option.{slice_get-get_or, slice_get_past}
+use Rattle.std.proofs.Math.Nat.{mod-add-div', div-lt_iff_lt-mul, suc-mul}
+use Rattle.std.proofs.Math.Seq.{get_or-append_seam}
+use Rattle.model.specs.declared.event.Event.{Event}
+use Rattle.model.specs.declared.plan.Point.{Point}
+use Rattle.model.specs.Application.{Application, Limits}
+use Rattle.model.specs.State.{State}
+use Rattle.model.specs.Run.{Run, IsRun, end_of, state_after, events_after}
+use Rattle.model.proofs.Injected.{same_state, begins_with}
+use Rattle.kernel.specs.declared.rows.RowEnding.{RowEnding}
+use Rattle.kernel.specs.Rows.{IsRowFrom}
+use Rattle.shelf.specs.declared.stops.Stop.{Stop}
+use Rattle.shelf.specs.Shelves.{IsStop, AreStops, Shelved, IsShelf, cost_of}
+
+-- ---- putting stops
+
+pub one_more : (app : Application) (limits : Limits) (stride : ℕ) (stops more : List Stop) (stop : Stop) → AreStops app limits stride stops
+    → more ≡ stops ++ stop ∷ [] → IsStop app limits (length stops * stride) stop → AreStops app limits stride more
+one_more app limits stride stops more stop h is last n = rw is (elim (cases_lt n (length stops)) [
+  | inl less ↦ subst (λ o. IfSome o (IsStop app limits (n * stride)))
+      (slice_get-get_or stops n stop less ∙ ap Some (sym (get_or_append_left stops (stop ∷ []) stop n less)) ∙ sym (slice_get-get_or (stops ++ stop ∷ []) n stop (omega (arith, less, length-append stops (stop ∷ []))))) (h n)
+  | inr more ↦ elim (cases_lt (length stops) n) [
+    | inl past ↦ subst (λ o. IfSome o (IsStop app limits (n * stride))) (sym (slice_get_past (stops ++ stop ∷ []) n (omega (arith, past, length-append stops (stop ∷ []))))) tt
+    | inr at_most ↦
+        let same : n ≡ length stops = omega (arith, more, at_most) in
+        let seam = get_or-append_seam stops stop [] stop in
+        let within : length stops < length (stops ++ stop ∷ []) = omega (arith, length-append stops (stop ∷ [])) in
+        rw same (subst (λ o. IfSome o (IsStop app limits (length stops * stride))) (sym (slice_get-get_or (stops ++ stop ∷ []) (length stops) stop within ∙ ap Some seam)) last)
+  ]
+])
+
+-- how many stops there are
+pub put_more : (stops more : List Stop) (stop : Stop) (stride next : ℕ) → more ≡ stops ++ stop ∷ [] → next ≡ length stops * stride → next + stride ≡ length more * stride
+put_more stops more stop stride next is e =
+    let one : length more ≡ suc (length stops) = omega (arith, ap length is, length-append stops (stop ∷ [])) in
+    rw one (ap (λ (n : ℕ). n + stride) e ∙ sym (suc-mul (length stops) stride))
+
+-- ---- the stop before a step
+
+module _ (app : Application) (shelf : Shelved) (h : IsShelf app shelf) (step : ℕ) (l : step < shelf.base.steps) where
+  abbrev number : ℕ
+  number = step / shelf.stride
+
+  split : step % shelf.stride + number * shelf.stride ≡ step
+  split = mod-add-div' step shelf.stride
+
+  stop_below : number < length shelf.stops
+  stop_below = (div-lt_iff_lt-mul h.apart).1 (let enough = h.enough in omega (arith, enough, l))
+
+  pub stop_is : (d : Stop) → IsStop app shelf.limits (number * shelf.stride) (get_or shelf.stops number d)
+  stop_is d = subst (λ o. IfSome o (IsStop app shelf.limits (number * shelf.stride))) (slice_get-get_or shelf.stops number d stop_below) (h.are_stops number)
+
+  -- the base run goes on there, and before
+  pub goes_on : (n : ℕ) → n ≤ step → end_of app shelf.limits (state_after app [] n) ≡ None
+  goes_on n m = h.is_base.goes_on n (omega (arith, l, m))
+
+  -- no more events than the base run has
+  pub few_before : length (events_after app [] step) ≤ length shelf.base.events
+  few_before =
+      let front = ap length (begins_with app [] step shelf.base.steps (omega (arith, l))) in
+      let cut = length-take (length (events_after app [] step)) (events_after app [] shelf.base.steps) in
+      let all = ap length h.is_base.trace in
+      omega (arith, front, cut, all)
+
+  -- which it begins with
+  pub shared_is : (count : ℕ) → count ≡ length (events_after app [] step) → take count shelf.base.events ≡ events_after app [] step
+  shared_is count is = rw (is, h.is_base.trace) (begins_with app [] step shelf.base.steps (omega (arith, l)))
+
+-- ---- a run is the only one
+
+module _ (app : Application) (plan : List Point) (limits : Limits) where
+  no_longer : (one other : Run) → IsRun app plan limits one → IsRun app plan limits other → one.steps ≤ other.steps
+  no_longer one other is also = elim (cases_lt other.steps one.steps) [
+    | inl less ↦ let none = is.goes_on other.steps less in let end = also.ends in absurd (cc)
+    | inr more ↦ more
+  ]
+
+  pub same_steps : (one other : Run) → IsRun app plan limits one → IsRun app plan limits other → one.steps ≡ other.steps
+  same_steps one other is also =
+      let forth = no_longer one other is also in
+      let back = no_longer other one also is in
+      omega (arith, forth, back)
+
+  pub same_events : (one other : Run) → IsRun app plan limits one → IsRun app plan limits other → one.events ≡ other.events
+  same_events one other is also = is.trace ∙ ap (events_after app plan) (same_steps one other is also) ∙ sym also.trace
+
+-- ---- the row of a point that is reached
+
+-- from a shelf, as it is kept inside, and the stop that is read there
+module _ (app : Application) (inside now : Shelved) (same : inside ≡ now) (kept : IsShelf app now) (point : Point) (reached : point.step < now.base.steps) where
+  h : IsShelf app inside
+  h = subst (IsShelf app) (sym same) kept
+
+  l : point.step < inside.base.steps
+  l = subst (λ (s : Shelved). point.step < s.base.steps) (sym same) reached
+
+  pub read_is : (stop d : Stop) → stop ≡ get_or inside.stops (point.step / inside.stride) d → IsStop app inside.limits (point.step / inside.stride * inside.stride) stop
+  read_is stop d read = subst (IsStop app inside.limits (point.step / inside.stride * inside.stride)) (sym read) (stop_is app inside h point.step l d)
+
+  -- it isn't past the point
+  pub no_further : point.step / inside.stride * inside.stride ≤ point.step
+  no_further = omega (arith, split app inside h point.step l)
+
+  pub base_goes_on : (n : ℕ) → n ≤ point.step → end_of app inside.limits (state_after app [] n) ≡ None
+  base_goes_on = goes_on app inside h point.step l
+
+  pub shares_few : length (events_after app [] point.step) ≤ length now.base.events
+  shares_few = few_before app now kept point.step reached
+
+  -- the row ends behind the point's step
+  pub row_beyond : (run : Run) → IsRun app (point ∷ []) inside.limits run → point.step < run.steps
+  row_beyond run is = elim (cases_lt point.step run.steps) [
+    | inl less ↦ less
+    | inr more ↦
+        let end = is.ends in
+        let none = ap (λ (s : State). end_of app inside.limits s) (same_state app point run.steps more) ∙ base_goes_on run.steps more in
+        absurd (cc)
+  ]
+
+  pub cost_is : (steps : ℕ) → cost_of now point steps ≡ point.step % inside.stride + (steps - point.step)
+  cost_is steps =
+      let t : nat_lt point.step now.base.steps ≡ true = lt-ltb point.step now.base.steps reached in
+      rw (t, sym same) refl
+
+  -- what a meter has risen by
+  module _ (old new start : ℕ) (from : start ≡ point.step / inside.stride * inside.stride) (run : Run) (is : IsRun app (point ∷ []) inside.limits run) where
+    pub risen : new + start ≡ old + run.steps → new ≡ old + cost_of now point run.steps
+    risen e =
+        let beyond = row_beyond run is in
+        let parts = split app inside h point.step l in
+        rw (cost_is run.steps) (omega (arith, e, beyond, parts, from))
+
+    pub risen_by_less : new + start ≤ old + run.steps → new ≤ old + cost_of now point run.steps
+    risen_by_less e =
+        let beyond = row_beyond run is in
+        let parts = split app inside h point.step l in
+        rw (cost_is run.steps) (omega (arith, e, beyond, parts, from))
+
+-- ---- a row with all its events, from those that came into an empty trail
+
+module _ (app : Application) (shelf : Shelved) (h : IsShelf app shelf) (point : Point) (reached : point.step < shelf.base.steps)
+    (old new : List Event) (none : old ≡ []) (ending : RowEnding) (row : IsRowFrom app point shelf.limits old new ending)
+    (before : ending.before ≡ length (events_after app [] point.step)) where
+  is_own : new ≡ row.own
+  is_own = row.kept ∙ ap (λ (events : List Event). events ++ row.own) none
+
+  pub whole_row : (events : List Event) → events ≡ take ending.before shelf.base.events ++ new
+      → IsRun app (point ∷ []) shelf.limits (record { events = events; steps = ending.steps; ticks = ending.ticks; end = ending.end })
+  whole_row events e =
+      subst (λ (events : List Event). IsRun app (point ∷ []) shelf.limits (record { events = events; steps = ending.steps; ticks = ending.ticks; end = ending.end }))
+      (sym (e ∙ ap₂ (λ (front own : List Event). front ++ own) (shared_is app shelf h point.step reached ending.before before) is_own)) row.run
+
+  -- where there was no memory for them, the meter has risen by the row's steps all the same
+  pub whole_refused : (from to : ℕ) → to ≡ from + cost_of shelf point ending.steps → 0 < ending.before + length new
+      → (run : Run) → IsRun app (point ∷ []) shelf.limits run → (to ≤ from + cost_of shelf point run.steps) × (0 < length run.events)
+  whole_refused from to risen some run is =
+      let steps = same_steps app (point ∷ []) shelf.limits run _ is row.run in
+      let events = ap length (same_events app (point ∷ []) shelf.limits run _ is row.run) in
+      let own = ap length is_own in
+      let all = length-append (events_after app [] point.step) row.own in
+      (rw steps (omega (arith, risen)), omega (arith, events, own, all, some, before))

@@ -1,0 +1,37 @@
+-- A base run with the kernel as it stood along it, and what rows cost from there.
+use Rattle.std.specs.Prelude.{◌≡◌, ℕ, ◌+◌, ◌-◌, ◌*◌, ◌%◌, ◌<◌, ◌≤◌, List, [], IfSome, length, nat_lt, slice_get, if◌then◌else◌}
+use Rattle.model.specs.declared.plan.Point.{Point}
+use Rattle.model.specs.Application.{Application, Limits}
+use Rattle.model.specs.Run.{Run, IsRun, events_after}
+use Rattle.kernel.specs.Can.{IsUnderWay}
+use Rattle.shelf.specs.declared.stops.Stop.{Stop}
+
+-- The kernel stood so before this step of the base run, which had told so many events by then.
+pub record IsStop (app : Application) (limits : Limits) (step : ℕ) (stop : Stop) : Type 0 where
+  pub way : IsUnderWay app [] limits stop.kernel
+  pub there : stop.kernel.steps ≡ step
+  pub before : stop.before ≡ length (events_after app [] step)
+
+-- These are the stops before steps 0, stride, 2 stride and so on.
+abbrev pub AreStops : Application → Limits → (stride : ℕ) → List Stop → Type 0
+AreStops app limits stride stops = (number : ℕ) → IfSome (slice_get stops number) (IsStop app limits (number * stride))
+
+-- a base run, its limits, and the stops along it
+pub record Shelved : Type 0 where
+  pub base : Run
+  pub limits : Limits
+  pub stride : ℕ
+  pub stops : List Stop
+
+-- It is the application's base run, with stops as far as it goes.
+pub record IsShelf (app : Application) (shelf : Shelved) : Type 0 where
+  pub is_base : IsRun app [] shelf.limits shelf.base
+  pub apart : 0 < shelf.stride
+  pub are_stops : AreStops app shelf.limits shelf.stride shelf.stops
+  pub enough : shelf.base.steps ≤ length shelf.stops * shelf.stride
+
+-- How many steps are done for the row of a point, which ends after so many: those from the stop before the point on; none
+-- where the base run doesn't reach the point.
+abbrev pub cost_of : Shelved → Point → ℕ → ℕ
+cost_of shelf point steps =
+    if nat_lt point.step shelf.base.steps then point.step % shelf.stride + (steps - point.step) else 0

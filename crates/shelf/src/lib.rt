@@ -1,0 +1,10 @@
+//! The base run of an application with snapshots of the kernel along it, and rows that start at the nearest one before their
+//! point.
+#![tactic(auto)]
+
+mod row;
+mod shelf;
+mod stops;
+
+pub use row::Row;
+pub use shelf::Shelf;

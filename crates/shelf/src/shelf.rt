@@ -1,0 +1,263 @@
+//! Rows from the nearest stop before their point.
+ghost use Rattle.std.specs.Prelude.{◌≡◌, Bool, true, false, nat_lt, ◌<◌, ◌≤◌, ◌+◌, ◌%◌, ◌^◌, ◌∷◌, ◌++◌, [], take, length, IfOk, OnErr};
+ghost use Rattle.model.specs.Run as definition;
+ghost use Rattle.model.specs.Run.{IsRun, IsRow, events_after};
+ghost use Rattle.kernel.specs.Logged.{all_of};
+ghost use Rattle.kernel.specs.Rows.{IsRowFrom};
+ghost use Rattle.shelf.specs.Shelves.{IsShelf, cost_of};
+
+use crate::row::Row;
+use crate::stops::{Stop, put_stops};
+use kernel::{Kernel, RowEnding, StepLog, Trail, run_row};
+use model::{App, Event, Limits, Memory, Meter, Point, Run};
+use std::alloc::Global;
+use std::marker::Model;
+
+/// The base run of an application, and the kernel as it stood along it: before steps 0, `stride`, 2 `stride` and so on. No row
+/// changes it.
+#[derive(Drop)]
+pub struct Shelf {
+    base: Run,
+    limits: Limits,
+    stride: u32,
+    stops: Vec<Stop>,
+}
+
+// Clauses see the base run, its limits, and the stops along it.
+impl Model for Shelf {
+    ghost use Rattle.shelf.specs.Shelves.{Shelved};
+
+    ghost Value = { Shelved };
+
+    ghost view = { λ s. record { base = s.base; limits = s.limits; stride = s.stride; stops = s.stops.items } };
+}
+
+impl Shelf {
+    /// Runs an application to its end under these limits, without injections, and keeps the kernel as it stands before every
+    /// `stride`-th step: 1 to 65,536. Each of these snapshots takes some 4.5 kB and four bytes for each item that the queues of
+    /// the application can hold.
+    ///
+    /// `Memory` is answered only where a growth was refused.
+    pub fn make(alloc: Global, app: &App, limits: Limits, stride: u32) -> Result<Shelf, Memory>
+        requires apart { 0 < stride }
+        requires near { stride ≤ 65536 }
+        ensures shelf { IfOk result (λ shelf. IsShelf app.now shelf) }
+        ensures limits { IfOk result (λ shelf. shelf.limits ≡ limits) }
+        ensures stride { IfOk result (λ shelf. shelf.stride ≡ stride) }
+    {
+        limits.well_formed();
+        let mut kernel = Kernel::boot(app);
+        let mut trail = Trail::new(alloc);
+        let mut stops = Vec::new(alloc);
+        let end = put_stops(
+            alloc,
+            app,
+            &limits,
+            stride,
+            &mut kernel,
+            &mut trail,
+            &mut stops,
+        )?;
+        let base = Run {
+            events: trail.into_events(),
+            steps: kernel.steps(),
+            ticks: kernel.ticks() as u32,
+            end,
+        };
+        Ok(Shelf {
+            base,
+            limits,
+            stride,
+            stops,
+        })
+    }
+
+    /// The base run.
+    pub fn base(&self) -> &Run
+        ensures { result.now ≡ self.now.base }
+    {
+        &self.base
+    }
+
+    /// The events of the base run, in order.
+    pub fn events(&self) -> &[Event]
+        ensures { result.now ≡ self.now.base.events }
+    {
+        self.base.events.as_slice()
+    }
+
+    /// The limits of the base run, which are those of the rows.
+    pub fn limits(&self) -> Limits
+        ensures { result ≡ self.now.limits }
+    {
+        self.limits
+    }
+
+    /// Whether the base run gets beyond the point's step.
+    pub fn reaches(&self, point: &Point) -> bool
+        ensures { result ≡ nat_lt point.now.step self.now.base.steps }
+    {
+        point.step < self.base.steps
+    }
+
+    /// The base run alone.
+    pub fn into_base(self) -> Run
+        ensures { result ≡ self.base }
+    {
+        self.base
+    }
+
+    /// How many events the base run has.
+    fn count_events(&self) -> usize
+        ensures { result ≡ length self.now.base.events }
+    {
+        self.base.events.len()
+    }
+
+    /// Runs the row of a point that the base run reaches, from the nearest stop before the point's step. The trail gains the
+    /// row's events from the injection on; those before it are the base run's, and the answer tells how many they are. What the
+    /// kernel and the log have doesn't matter.
+    ///
+    /// The meter, which is below 2^62, rises by the steps from that stop to the row's end. At `Err(Memory)`, answered only
+    /// where a growth was refused, so never where the row tells nothing, it has risen by no more than that, and the trail is
+    /// as it was.
+    pub fn run_reached(
+        &self,
+        app: &App,
+        point: Point,
+        kernel: &mut Kernel,
+        meter: &mut Meter,
+        log: &mut StepLog,
+        trail: &mut Trail,
+    ) -> Result<RowEnding, Memory>
+        requires shelf { IsShelf app.now self.now }
+        requires reached { point.step < self.now.base.steps }
+        requires meter { meter.old < 2 ^ 62 }
+        ensures row { IfOk result (λ row.
+            IsRowFrom app.now point self.now.limits (all_of trail.old) (all_of trail.new) row) }
+        ensures before { IfOk result (λ row. row.before ≡ length (events_after app.now [] point.step)) }
+        ensures meter { IfOk result (λ row. meter.new ≡ meter.old + cost_of self.now point row.steps) }
+        ensures rises { meter.old ≤ meter.new }
+        ensures kept { OnErr result (all_of trail.new ≡ all_of trail.old) }
+        ensures refused { OnErr result ((run : definition.Run) → IsRun app.now (point ∷ []) self.now.limits run
+            → (meter.new ≤ meter.old + cost_of self.now point run.steps) × (0 < length run.events)) }
+    {
+        let stop = &self.stops[(point.step / self.stride) as usize];
+        // No row shares more events with the base run than that has, so the sum below fits.
+        let _ = self.count_events();
+        kernel.restore(&stop.kernel);
+        let kept = trail.len();
+        match run_row(kernel, app, point, &self.limits, meter, log, trail) {
+            Ok(row) => Ok(RowEnding {
+                before: stop.before + row.before,
+                ..row
+            }),
+            Err(Memory) => {
+                trail.truncate(kept);
+                Err(Memory)
+            }
+        }
+    }
+
+    /// The first `count` events of the base run, and behind them these.
+    fn with_shared(&self, alloc: Global, count: usize, own: &[Event]) -> Result<Vec<Event>, Memory>
+        requires { count ≤ length self.now.base.events }
+        ensures events { IfOk result (λ events. events.items ≡ take count self.now.base.events ++ own.now) }
+        ensures memory { OnErr result (0 < count + length own.now) }
+    {
+        let shared = &self.base.events[..count];
+        let mut events = Vec::new(alloc);
+        events.reserve_exact(shared.len() + own.len())?;
+        events.extend_from_slice(shared)?;
+        events.extend_from_slice(own)?;
+        Ok(events)
+    }
+
+    /// The row of a point that the base run doesn't reach.
+    fn missed_row(&self, alloc: Global, point: Point) -> Result<Row, Memory>
+        ensures row { IfOk result (λ row. row ≡ record { point = point; reached = false; run = self.now.base }) }
+        ensures memory { OnErr result (0 < length self.now.base.events) }
+    {
+        let events = self.with_shared(alloc, self.count_events(), &[])?;
+        Ok(Row {
+            point,
+            reached: false,
+            run: Run {
+                events,
+                steps: self.base.steps,
+                ticks: self.base.ticks,
+                end: self.base.end,
+            },
+        })
+    }
+
+    /// The row of a point that the base run reaches.
+    fn reached_row(
+        &self,
+        alloc: Global,
+        app: &App,
+        point: &Point,
+        meter: &mut Meter,
+    ) -> Result<Row, Memory>
+        requires shelf { IsShelf app.now self.now }
+        requires reached { point.now.step < self.now.base.steps }
+        requires meter { meter.old < 2 ^ 62 }
+        ensures row { IfOk result (λ row. (row.point ≡ point.now) × (row.reached ≡ true)
+            × IsRun app.now (point.now ∷ []) self.now.limits row.run) }
+        ensures meter { IfOk result (λ row. meter.new ≡ meter.old + cost_of self.now point.now row.run.steps) }
+        ensures rises { meter.old ≤ meter.new }
+        ensures refused { OnErr result ((run : definition.Run) → IsRun app.now (point.now ∷ []) self.now.limits run
+            → (meter.new ≤ meter.old + cost_of self.now point.now run.steps) × (0 < length run.events)) }
+    {
+        let mut kernel = Kernel::boot(app);
+        let mut log = StepLog::new();
+        let mut trail = Trail::new(alloc);
+        let RowEnding {
+            before,
+            steps,
+            ticks,
+            end,
+        } = self.run_reached(app, *point, &mut kernel, meter, &mut log, &mut trail)?;
+        let events = self.with_shared(alloc, before, trail.events())?;
+        let run = Run {
+            events,
+            steps,
+            ticks,
+            end,
+        };
+        Ok(Row {
+            point: *point,
+            reached: true,
+            run,
+        })
+    }
+
+    /// The row of a point: the run with the point where the base run reaches its step, and else the base run.
+    ///
+    /// The meter, which is below 2^62, rises by the steps from the nearest stop before the point's step to the row's end; by
+    /// none where the point isn't reached. At `Err(Memory)`, answered only where a growth was refused, so never where the row
+    /// tells nothing, it has risen by no more than that.
+    pub fn run_point(
+        &self,
+        alloc: Global,
+        app: &App,
+        point: Point,
+        meter: &mut Meter,
+    ) -> Result<Row, Memory>
+        requires shelf { IsShelf app.now self.now }
+        requires meter { meter.old < 2 ^ 62 }
+        ensures point { IfOk result (λ row. row.point ≡ point) }
+        ensures row { IfOk result (λ row. IsRow app.now self.now.limits point row.reached row.run) }
+        ensures meter { IfOk result (λ row. meter.new ≡ meter.old + cost_of self.now point row.run.steps) }
+        ensures rises { meter.old ≤ meter.new }
+        ensures refused { OnErr result ((reached : Bool) (run : definition.Run)
+            → IsRow app.now self.now.limits point reached run
+            → (meter.new ≤ meter.old + cost_of self.now point run.steps) × (0 < length run.events)) }
+    {
+        if self.reaches(&point) {
+            self.reached_row(alloc, app, &point, meter)
+        } else {
+            self.missed_row(alloc, point)
+        }
+    }
+}

@@ -1,0 +1,423 @@
+"""Files at the limits of docs/FORMATS.md and one past them: what is taken, and what is refused with which line."""
+import hashlib
+import json
+
+from cases import case, equal
+from running import HANDLER, TASK, TASK_RUNS, campaign_text, is_refused, points, run_text
+
+LARGEST = 4294967295
+QUEUE = '[[queue]]\nname = "q"\nlength = 1\n'
+GROUP = '[[group]]\nname = "g"\n'
+EACH_KIND = QUEUE + '[[binary]]\nname = "s"\n[[mutex]]\nname = "m"\n' + GROUP
+
+
+def task(*script, name="a", priority=1):
+    return f'[[task]]\nname = "{name}"\npriority = {priority}\nscript = {json.dumps(script)}\n'
+
+
+def entries(section, count, lines="", letter=None):
+    """So many entries of a section, with names of their own and these lines each."""
+    return "".join(f'[[{section}]]\nname = "{letter or section[0]}{it}"\n{lines}' for it in range(count))
+
+
+def tells(text, head, *lines):
+    """The run has this head line and these lines, and the status of its verdict."""
+    wanted = "".join(f"{it}\n" for it in (f"base: {head}", *lines))
+    equal(run_text(text), (0 if head.startswith("pass ") else 1, wanted.encode(), b""))
+
+
+def is_taken(text):
+    """The file is as good as that of TASK, whose run it has."""
+    equal(run_text(text), (0, TASK_RUNS, b""))
+
+
+def faults(text, line):
+    is_refused(run_text(text), 3, line)
+
+
+def refuses_numbers(text, place, *numbers, code="3 OutOfRange"):
+    """With each of these numbers in the place of N the file is refused."""
+    for number in numbers:
+        faults(text.replace("N", str(number)), f"{code}: {place}")
+
+
+@case
+def edges_of_the_time_at_reset():
+    tells("start = 0\n" + task("time"), "pass in 1 steps, 0 ticks", "0 0 call a 0 time = 0", "0 0 run -")
+    tells(
+        f"start = {LARGEST}\n" + task("time", "work 1", "time"), "pass in 3 steps, 1 ticks",
+        f"0 {LARGEST} call a 0 time = {LARGEST}", "2 0 call a 2 time = 0", "2 0 run -",
+    )
+    refuses_numbers("start = N\n" + TASK, "start", -1, LARGEST + 1, 2**63 - 1, -(2**63))
+
+
+@case
+def edges_of_the_limits_of_a_run():
+    for key in ("ticks", "steps"):
+        is_taken(f"[limits]\n{key} = 1000000\n{TASK}")
+        refuses_numbers(f"[limits]\n{key} = N\n{TASK}", f"limits {key}", 0, -1, 1_000_001)
+    tells("[limits]\nticks = 1\n" + task("work 2"), "ticks in 1 steps, 1 ticks")
+    tells("[limits]\nsteps = 1\n" + task("mark 1", "mark 2"), "steps in 1 steps, 0 ticks", "0 0 mark a 1")
+    is_taken("[limits]\nsteps = 1\n" + TASK)
+    tells(task("work 1000000"), "pass in 1000000 steps, 1000000 ticks", "999999 1000000 run -")
+    tells(task("work 1000000", "mark 1"), "ticks in 1000000 steps, 1000000 ticks")
+    # a delay takes a step of its own, so the steps come to their limit first
+    tells(task("delay 1000000", "mark 1"), "steps in 1000000 steps, 999999 ticks", "0 0 call a 0 delay = 0", "0 0 run -")
+
+
+@case
+def a_loop_of_a_million_steps_comes_to_the_limit():
+    tells(task("repeat 1000", "work 1000", "end"), "steps in 1000000 steps, 999000 ticks")
+
+
+def without_end(*script):
+    """A script that goes on for longer than any run."""
+    return ["repeat 1000"] * 3 + [*script] + ["end"] * 3
+
+
+def tasks_without_end(count, *script, rises=False):
+    return "".join(task(*without_end(*script), name=f"t{it}", priority=it if rises else 1) for it in range(count))
+
+
+# Runs of a million steps: the parts of the file, the verdict, and the digest of all that is written, as an independent program
+# has it.
+MILLION_STEPS = {
+    "32 tasks that sleep a tick": ([tasks_without_end(32, "delay 1")], "steps in 1000000 steps, 15368 ticks", "b893763aa9da380f"),
+    "32 tasks of all priorities that sleep": ([
+        tasks_without_end(32, "delay 3", "delay 2", rises=True),
+    ], "steps in 1000000 steps, 49472 ticks", "3219785aadcc1a4f"),
+    "32 tasks that yield": ([tasks_without_end(32, "yield")], "steps in 1000000 steps, 0 ticks", "573cda2de750e256"),
+    "31 tasks that wait for a bit": ([
+        GROUP,
+        tasks_without_end(31, "wait g 1 any clear forever"),
+        task(*without_end("set g 1"), name="s", priority=0),
+    ], "steps in 1000000 steps, 0 ticks", "dc95152d249e7c01"),
+    "32 tasks at one queue": ([
+        QUEUE,
+        tasks_without_end(16, "receive q 2"),
+        task(*without_end("send q 1 1"), name="s", priority=0),
+        *[task(*without_end("send q 2 forever", "work 1"), name=f"u{it}", priority=it) for it in range(15)],
+    ], "steps in 1000000 steps, 99947 ticks", "9d888583c85e983b"),
+    "32 tasks at one mutex": ([
+        '[[mutex]]\nname = "m"\n',
+        *[task(*without_end(f"delay {it + 1}", "lock m forever", "work 1", "unlock m"), name=f"t{it}", priority=it % 8)
+          for it in range(32)],
+    ], "steps in 1000000 steps, 129358 ticks", "02415957c728c5e5"),
+    "a scheduler that is suspended for 100 ticks again and again": ([
+        task(*without_end("suspend_all", "work 100", "resume_all")), tasks_without_end(31, "delay 7", "yield"),
+    ], "steps in 1000000 steps, 970854 ticks", "a46f8d6e9c955025"),
+    "as many interrupts as there can be": ([
+        '[[handler]]\nname = "h"\nops = ' + json.dumps(["mark 4294967295"] * 16) + "\n",
+        task("work 1000000", "mark 1"),
+        *[f'[[interrupt]]\ntick = {1 + it // 4}\nhandler = "h"\n' for it in range(1024)],
+    ], "ticks in 1000000 steps, 1000000 ticks", "39a259b9e925afed"),
+    "nobody but an interrupt at the last tick": ([
+        QUEUE, HANDLER, *[task("receive q forever", name=f"t{it}") for it in range(32)],
+        '[[interrupt]]\ntick = 1000000\nhandler = "h"\n',
+    ], "steps in 1000000 steps, 999840 ticks", "78840fa74d98ac64"),
+}
+
+
+@case
+def runs_of_a_million_steps_as_an_independent_program_has_them():
+    for name, (parts, verdict, digest) in MILLION_STEPS.items():
+        _, out, err = run_text("".join(parts))
+        found = out.partition(b"\n")[0].decode(), hashlib.sha256(out).hexdigest()[:16], err
+        assert found == (f"base: {verdict}", digest, b""), f"{name}: {found}"
+
+
+@case
+def edges_of_the_number_of_tasks():
+    names = [f"t{it}" for it in range(32)]
+    text = "".join(task(f"mark {it}", name=name) for it, name in enumerate(names))
+    lines = [it for i, name in enumerate(names) for it in (f"{i} 0 mark {name} {i}", f"{i} 0 run {[*names, '-'][i + 1]}")]
+    tells(text, "pass in 32 steps, 0 ticks", *lines)
+    faults(text + task(name="t32"), "9 TooMany: task")
+    # too many are told before a look at the first
+    faults("[[task]]\n" * 33, "9 TooMany: task")
+    faults("task = []\n", "1 Missing: task")
+
+
+@case
+def edges_of_the_priorities():
+    tells(
+        task("mark 1", priority=0) + task("mark 2", name="b", priority=31), "pass in 2 steps, 0 ticks",
+        "0 0 mark b 2", "0 0 run a", "1 0 mark a 1", "1 0 run -",
+    )
+    refuses_numbers(task(priority="N"), "task 0 priority", -1, 32, LARGEST + 1)
+
+
+@case
+def edges_of_a_script():
+    tells(task(), "pass in 0 steps, 0 ticks")
+    tells(task(*["time"] * 255, "mark 9"), "pass in 256 steps, 0 ticks", *[f"{it} 0 call a {it} time = 0" for it in range(255)],
+          "255 0 mark a 9", "255 0 run -")
+    faults(task(*["time"] * 257), "9 TooMany: task 0 script")
+    # .. before any of its ops is read
+    faults(task(*["no op"] * 257), "9 TooMany: task 0 script")
+
+
+@case
+def edges_of_loops():
+    four = ["repeat 1"] * 4
+    tells(task(*four, "mark 5", *["end"] * 4), "pass in 9 steps, 0 ticks", "4 0 mark a 5", "8 0 run -")
+    faults(task(*four, "repeat 1", *["end"] * 5), "7 BadNesting: task 0 script 4")
+    faults(task(*four, *["end"] * 5), "7 BadNesting: task 0 script 8")
+    faults(task(*four, *["end"] * 3), "7 BadNesting: task 0 script 7")
+    tells(task("repeat 1000", "end"), "pass in 1001 steps, 0 ticks", "1000 0 run -")
+
+
+@case
+def edges_of_a_name():
+    for name in ("a" * 16, "Z", "a_9", "forever", "all", "none", "any", "keep", "clear", "mark"):
+        tells(task("mark 1", name=name), "pass in 1 steps, 0 ticks", f"0 0 mark {name} 1", "0 0 run -")
+    for name in ("", "a" * 17, "9", "_a", "a b", "a-b", " a", "a.b", "\u00e4", "\u00b2"):
+        faults(task(name=name), "3 OutOfRange: task 0 name")
+    for escape in ("\\u0000", "\\u001b[31m", "\\n", "\\u007f", "a\\u0000"):
+        faults(task(name=escape), "3 OutOfRange: task 0 name")
+    # the first pass goes through all sections before an op is read
+    faults('[[handler]]\nname = "h"\nops = ["nop"]\n' + task(name="9"), "3 OutOfRange: task 0 name")
+
+
+@case
+def names_differ_also_between_sections():
+    for section, place, lines in (
+        ("binary", "binary 0", ""), ("counting", "counting 0", "max = 1\n"), ("mutex", "mutex 0", ""), ("group", "group 0", ""),
+        ("handler", "handler 0", "ops = []\n"), ("task", "task 0", "priority = 1\nscript = []\n"),
+    ):
+        text = QUEUE.replace('"q"', '"a"') + f'[[{section}]]\nname = "a"\n{lines}'
+        faults(text, f"6 DoubleName: {place} name")
+    faults(TASK + HANDLER.replace('"h"', '"a"'), "6 DoubleName: task 0 name")
+
+
+@case
+def edges_of_the_objects_which_are_32_together():
+    queues, mutexes = entries("queue", 20, "length = 1\n"), entries("mutex", 12)
+    is_taken(queues + mutexes + TASK)
+    faults(queues + entries("mutex", 13) + TASK, "9 TooMany: mutex")
+    for section, lines in (("queue", "length = 1\n"), ("binary", ""), ("counting", "max = 1\n"), ("mutex", "")):
+        is_taken(entries(section, 32, lines) + TASK)
+        faults(entries(section, 33, lines) + TASK, f"9 TooMany: {section}")
+    eight = "".join(
+        entries(section, 8, lines)
+        for section, lines in (("queue", "length = 1\n"), ("binary", ""), ("counting", "max = 1\n"), ("mutex", ""))
+    )
+    is_taken(eight + TASK)
+    # the section that goes past the sum is named, in the order of the checks and not of the file
+    faults(entries("mutex", 32) + QUEUE + TASK, "9 TooMany: mutex")
+    faults(eight + '[[counting]]\nname = "more"\nmax = 1\n' + TASK, "9 TooMany: mutex")
+
+
+@case
+def edges_of_a_queue():
+    full = QUEUE.replace("1", "256")
+    script = [f"send q {it} 0" for it in range(253)] + ["spaces q", "waiting q", "receive q 0"]
+    lines = [f"{it} 0 call a {it} send = 1" for it in range(253)]
+    lines += ["253 0 call a 253 spaces = 3", "254 0 call a 254 waiting = 253", "255 0 call a 255 receive = 0", "255 0 run -"]
+    tells(full + task(*script), "pass in 256 steps, 0 ticks", *lines)
+    # 256 items, and no room for one more
+    script = ["repeat 256", "send q 7 0", "end", "send q 8 0", "spaces q", "waiting q"]
+    lines = [f"{2 * it + 1} 0 call a 1 send = 1" for it in range(256)]
+    lines += ["513 0 call a 3 send = 0", "514 0 call a 4 spaces = 0", "515 0 call a 5 waiting = 256", "515 0 run -"]
+    tells(full + task(*script), "pass in 516 steps, 0 ticks", *lines)
+    refuses_numbers(QUEUE.replace("1", "N") + TASK, "queue 0 length", -1, 0, 257)
+    # 32 queues of the greatest length are all full at once
+    queues = entries("queue", 32, "length = 256\n")
+    script = ["repeat 256", *[f"send q{it} {it} 0" for it in range(32)], "end", *[f"waiting q{it}" for it in range(32)]]
+    sends = [f"{1 + 33 * turn + it} 0 call a {1 + it} send = 1" for turn in range(256) for it in range(32)]
+    counts = [f"{8449 + it} 0 call a {34 + it} waiting = 256" for it in range(32)]
+    tells(queues + task(*script), "pass in 8481 steps, 0 ticks", *sends, *counts, "8480 0 run -")
+
+
+@case
+def edges_of_a_counting_semaphore():
+    least = '[[counting]]\nname = "s"\nmax = 1\n'
+    most = '[[counting]]\nname = "s"\nmax = 65535\ninitial = 65535\n'
+    tells(least + task("give s", "give s", "take s 0", "take s 0"), "pass in 4 steps, 0 ticks", "0 0 call a 0 give = 1",
+          "1 0 call a 1 give = 0", "2 0 call a 2 take = 1", "3 0 call a 3 take = 0", "3 0 run -")
+    tells(most + task("give s", "take s 0", "give s"), "pass in 3 steps, 0 ticks", "0 0 call a 0 give = 0",
+          "1 0 call a 1 take = 1", "2 0 call a 2 give = 1", "2 0 run -")
+    refuses_numbers('[[counting]]\nname = "s"\nmax = N\n' + TASK, "counting 0 max", -1, 0, 65536)
+    refuses_numbers('[[counting]]\nname = "s"\nmax = 7\ninitial = N\n' + TASK, "counting 0 initial", -1, 8, 65536)
+    is_taken('[[counting]]\nname = "s"\nmax = 7\ninitial = 7\n' + TASK)
+
+
+@case
+def edges_of_event_groups():
+    is_taken(entries("group", 16) + TASK)
+    faults(entries("group", 17) + TASK, "9 TooMany: group")
+    # they are counted by themselves
+    is_taken(entries("group", 16) + entries("mutex", 32) + TASK)
+    tells(GROUP + task("set g 16777215", "bits g", "clear g 1"), "pass in 4 steps, 0 ticks", "1 0 call a 0 set = 16777215",
+          "2 0 call a 1 bits = 16777215", "3 0 call a 2 clear = 16777215", "3 0 run -")
+
+
+@case
+def edges_of_handlers():
+    is_taken(entries("handler", 16, "ops = []\n") + TASK)
+    faults(entries("handler", 17, "ops = []\n") + TASK, "9 TooMany: handler")
+    sixteen = '[[handler]]\nname = "h"\nops = ' + json.dumps([f"mark {it}" for it in range(16)]) + "\n"
+    marks = "".join(f"0 0 mark h {it}\n" for it in range(16))
+    wanted = f"row 0 at 0 h: pass in 1 steps, 0 ticks\n{marks}0 0 mark a 7\n0 0 run -\n"
+    equal(run_text(sixteen + TASK, "--at", "0", "--handler", "h"), (0, wanted.encode(), b""))
+    faults(sixteen.replace('["mark 0"', '["mark 9", "mark 0"') + TASK, "9 TooMany: handler 0 ops")
+
+
+@case
+def edges_of_base_interrupts():
+    at = '[[interrupt]]\ntick = {}\nhandler = "h"\n'.format
+    four = HANDLER + task("work 1") + at(1) * 4
+    tells(four, "pass in 1 steps, 1 ticks", "0 1 run -")
+    faults(four + at(1), "9 TooMany: interrupt 4")
+    # the fifth of its tick, wherever it stands
+    faults(four + at(2) + at(1), "9 TooMany: interrupt 5")
+    refuses_numbers(HANDLER + TASK + at("N"), "interrupt 0 tick", -1, 0, 1_000_001)
+    is_taken(HANDLER + TASK + at(1_000_000))
+    all_of_them = "".join(at(1 + it // 4) for it in range(1024))
+    is_taken(HANDLER + TASK + all_of_them)
+    faults(HANDLER + TASK + all_of_them + at(1_000_000), "9 TooMany: interrupt")
+    # .. before a look at the first
+    faults(HANDLER + TASK + "[[interrupt]]\n" * 1025, "9 TooMany: interrupt")
+    marked = HANDLER.replace("[]", '["mark 3"]')
+    lines = [line for it in range(1, 257) for line in [f"{it - 1} {it} mark h 3"] * 4]
+    tells(marked + task("work 256") + all_of_them, "pass in 256 steps, 256 ticks", *lines, "255 256 run -")
+
+
+@case
+def a_step_with_as_many_events_as_handlers_can_tell():
+    marks = [f"mark {it}" for it in range(16)]
+    handlers = "".join(f'[[handler]]\nname = "h{it}"\nops = {json.dumps(marks)}\n' for it in range(5))
+    text = handlers + task("work 1") + "".join(f'[[interrupt]]\ntick = 1\nhandler = "h{it}"\n' for it in range(4))
+    lines = [f"0 {tick} mark h{it} {n}" for tick, it in ((0, 4), (1, 0), (1, 1), (1, 2), (1, 3)) for n in range(16)]
+    wanted = "".join(f"{it}\n" for it in ["row 0 at 0 h4: pass in 1 steps, 1 ticks", *lines, "0 1 run -"])
+    equal(run_text(text, "--at", "0", "--handler", "h4"), (0, wanted.encode(), b""))
+
+
+@case
+def numbers_of_ops_out_of_their_range_are_no_ops():
+    for op in (
+        "work 0", "work 1000001", "repeat 0", "repeat 1001", "delay 4294967296", "delay_until 0", "delay_until 4294967296",
+        "mark 4294967296", "mark 00000000001", "mark -1", "mark +1", "mark 1.0", "mark 0x1", "mark", "mark 1 2", "expect 4294967296",
+        "expect nothing", "set g 0", "set g 16777216", "clear g 0", "clear g 16777216", "wait g 0 any keep 1",
+        "wait g 16777216 all clear 1", "wait g 1 some keep 1", "wait g 1 any leave 1", "receive q 4294967295", "receive q -1",
+        "receive q ever", "receive q", "send q 4294967296 0", "send q 1 4294967295", "send q 1", "take s 4294967295",
+        "lock m 4294967295", "", " ", "nop", "MARK 1", "mark\t1", "mark\u00a01", "mark \u0661", "give 9s", "send 9q 1 0",
+    ):
+        faults(EACH_KIND + task(op), "4 BadOp: task 0 script 0")
+
+
+@case
+def numbers_of_ops_at_the_ends_of_their_range():
+    tells(task("mark 0", "mark 4294967295", "mark 0000000001", "  mark   7  "), "pass in 4 steps, 0 ticks", "0 0 mark a 0",
+          "1 0 mark a 4294967295", "2 0 mark a 1", "3 0 mark a 7", "3 0 run -")
+    tells(task("repeat 1", "end", "delay_until 1", "delay 0"), "pass in 5 steps, 1 ticks", "2 0 call a 2 delay_until = 1",
+          "2 0 run -", "3 1 run a", "4 1 call a 3 delay = 0", "4 1 run -")
+    text = QUEUE + task("send q 4294967295 0", "receive q 0", "expect 4294967295", "receive q 0", "expect none", "expect 0")
+    tells(text, "check a 5 in 6 steps, 0 ticks", "0 0 call a 0 send = 1", "1 0 call a 1 receive = 4294967295",
+          "3 0 call a 3 receive = none")
+    # the longest wait that ends, and one that doesn't
+    for wait, head in (("4294967294", "ticks in 1000 steps, 995 ticks"), ("forever", "stuck in 5 steps, 0 ticks")):
+        tells("[limits]\nticks = 995\n" + QUEUE + task(f"receive q {wait}", "mark 1"), head, "4 0 run -")
+    tells("[limits]\nticks = 10\n" + task("delay 4294967295"), "pass in 1 steps, 0 ticks", "0 0 call a 0 delay = 0", "0 0 run -")
+    tells("[limits]\nticks = 10\n" + task("delay_until 4294967295", "mark 1"), "ticks in 11 steps, 10 ticks",
+          "0 0 call a 0 delay_until = 1", "0 0 run -")
+
+
+@case
+def names_of_another_kind_are_unknown():
+    for op in (
+        "give q", "give m", "take m 0", "take q 0", "lock s 0", "lock q 0", "unlock s", "send s 1 0", "send m 1 0", "receive g 0",
+        "waiting s", "bits q", "bits s", "set s 1", "suspend h", "suspend q", "resume g", "give nobody", "suspend nobody",
+        "give " + 16 * "n",
+    ):
+        faults(EACH_KIND + HANDLER + task(op), "5 UnknownName: task 0 script 0")
+    faults(EACH_KIND + HANDLER + task("give " + 17 * "n"), "4 BadOp: task 0 script 0")
+    for op in ("give q", "send s 1", "resume h", "bits s"):
+        faults(EACH_KIND + HANDLER.replace("[]", json.dumps([op])) + TASK, "5 UnknownName: handler 0 ops 0")
+
+
+@case
+def ops_that_are_not_for_handlers():
+    for op in ("send q 1 0", "receive q 0", "lock m 0", "unlock m", "take s 0", "work 1", "delay 1", "yield", "time", "expect 1",
+               "repeat 1", "end", "set g 1", "clear g 1", "suspend a", "suspend_all", "resume_all", "waiting q", "wait g 1 any keep 1"):
+        faults(EACH_KIND + HANDLER.replace("[]", json.dumps([op])) + TASK, "4 BadOp: handler 0 ops 0")
+
+
+@case
+def edges_of_points():
+    file = HANDLER + TASK
+    for text, line in (
+        ("1000001 h", "4 BadOp: campaign points 0"), ("00000000000 h", "4 BadOp: campaign points 0"),
+        ("0 nobody", "5 UnknownName: campaign points 0"), ("0 9h", "4 BadOp: campaign points 0"),
+        ("all nobody", "5 UnknownName: campaign points 0"), ("h", "4 BadOp: campaign points 0"), ("", "4 BadOp: campaign points 0"),
+        ("0 a", "5 UnknownName: campaign points 0"), ("-1 h", "4 BadOp: campaign points 0"),
+        ("all h all h", "4 BadOp: campaign points 0"), ("0 h all h", "4 BadOp: campaign points 0"),
+    ):
+        faults(file + points(text), line)
+        is_refused(campaign_text(file + points("0 h", text)), 3, line[:-1] + "1")
+    total = "total 2: pass 2, check 0, misuse 0, ticks 0, steps 0, stuck 0, not reached 1\n"
+    lines = TASK_RUNS.decode().partition("\n")[2]
+    wanted = f"row 0 at 0 h: pass in 1 steps, 0 ticks\n{lines}row 1 at 1000000 h: not reached, pass in 1 steps, 0 ticks\n{lines}{total}"
+    equal(campaign_text(file + points(" 0000000000  h ", "1000000 h")), (0, wanted.encode(), b""))
+    faults(file + "[campaign]\n", "1 Missing: campaign points")
+    faults("campaign = 1\n" + file, "2 WrongKind: campaign")
+    faults(file + '[campaign]\npoints = "0 h"\n', "2 WrongKind: campaign points")
+    faults(file + "[campaign]\npoints = [0]\n", "2 WrongKind: campaign points 0")
+
+
+@case
+def edges_of_the_number_of_points():
+    file = HANDLER + TASK
+    many = file + "[campaign]\npoints = [{}]\n"
+    is_refused(campaign_text(many.format(1_000_001 * '"",')), 3, "9 TooMany: campaign points")
+    # one less: every entry is looked at
+    is_refused(campaign_text(many.format(999_999 * '"0 h",' + '""')), 3, "4 BadOp: campaign points 999999")
+
+
+@case
+def many_keys_and_sections_that_are_ignored():
+    many = range(50_000)
+    is_taken(
+        "".join(f"k{it} = 1\n" for it in many) + "".join(f"d.k{it} = 1\n" for it in many) + "x = [" + 50_000 * "1," + "]\n"
+        + "".join(f"[t{it}]\n" for it in many) + "[[other]]\n" * 50_000 + TASK
+    )
+
+
+@case
+def what_a_task_may_not_do_while_the_scheduler_is_suspended():
+    misused = ["delay 1", "delay 0", "delay_until 1", "yield", "send q 1 0", "send_front q 1 0", "overwrite q 1", "receive q 0",
+               "peek q 0", "take s 0", "give s", "lock m 0", "unlock m", "set g 1", "wait g 1 any keep 0", "suspend b", "suspend a",
+               "resume b", "resume a"]
+    both = EACH_KIND + task(name="b", priority=0)
+    for op in misused:
+        tells(both + task("suspend_all", op), "misuse a 1 1 in 2 steps, 0 ticks", "0 0 call a 0 suspend_all = 0")
+    allowed = ["work 1", "repeat 1", "end", "mark 3", "time", "waiting q", "spaces q", "bits g", "clear g 1", "expect 0",
+               "suspend_all", "resume_all"]
+    tells(both + task("suspend_all", *allowed, "resume_all"), "pass in 14 steps, 1 ticks", "0 0 call a 0 suspend_all = 0",
+          "4 0 mark a 3", "5 0 call a 5 time = 0", "6 0 call a 6 waiting = 0", "7 0 call a 7 spaces = 1", "8 0 call a 8 bits = 0",
+          "9 0 call a 9 clear = 0", "11 0 call a 11 suspend_all = 0", "12 0 call a 12 resume_all = 0",
+          "13 1 call a 13 resume_all = 0", "13 1 run -")
+
+
+@case
+def the_other_misuses():
+    tells(task("resume_all"), "misuse a 0 2 in 1 steps, 0 ticks")
+    tells(EACH_KIND + task("lock m 0", priority=2) + task("unlock m", name="b"), "misuse b 0 3 in 2 steps, 0 ticks",
+          "0 0 call a 0 lock = 1", "0 0 run b")
+    tells(task("suspend_all"), "misuse a 0 4 in 1 steps, 0 ticks", "0 0 call a 0 suspend_all = 0")
+
+
+@case
+def a_mutex_that_its_holder_locks_again():
+    tells(EACH_KIND + task("lock m 0", "lock m 3"), "pass in 10 steps, 3 ticks", "0 0 call a 0 lock = 1", "5 0 run -", "8 3 run a",
+          "9 3 call a 1 lock = 0", "9 3 run -")
+    tells(EACH_KIND + task("lock m 0", "lock m forever"), "stuck in 6 steps, 0 ticks", "0 0 call a 0 lock = 1", "5 0 run -")
+
+
+@case
+def the_step_of_the_command_line_at_its_edge():
+    wanted = TASK_RUNS.replace(b"base: ", b"row 0 at 1000000 h: not reached, ")
+    equal(run_text(HANDLER + TASK, "--at", "1000000", "--handler", "h"), (0, wanted, b""))
+    for step in ("1000001", "4294967296", "99999999999999999999", "-1", "", "1.0", "0x1", "one"):
+        status, out, err = run_text(HANDLER + TASK, f"--at={step}", "--handler", "h")
+        equal((status, out, err.startswith(b"error: ")), (2, b"", True))

@@ -1,0 +1,70 @@
+"""Runs the built program on small files, for the cases of tests/program.
+
+The program is crates/rtosim/out/rtosim, or the one that is named as the argument."""
+import fcntl
+import json
+import os
+import subprocess
+import sys
+
+from cases import equal
+
+ROOT = os.path.dirname(os.path.dirname(os.path.realpath(__file__)))
+FLAGS = [it for it in sys.argv[1:] if it.startswith("--")]
+NAMED = [it for it in sys.argv[1:] if not it.startswith("--")]
+PROGRAM = os.path.abspath(NAMED[0]) if NAMED else f"{ROOT}/crates/rtosim/out/rtosim"
+PATIENCE = 60
+TASK = '[[task]]\nname = "a"\npriority = 1\nscript = ["mark 7"]\n'
+TASK_RUNS = b"base: pass in 1 steps, 0 ticks\n0 0 mark a 7\n0 0 run -\n"
+HANDLER = '[[handler]]\nname = "h"\nops = []\n'
+F_SETPIPE_SZ = 1031
+
+
+def run(*words, **how):
+    """Runs the program, and returns its status and what it wrote to its two streams."""
+    streams = {"stdin": subprocess.DEVNULL, "stdout": subprocess.PIPE, "stderr": subprocess.PIPE}
+    ran = subprocess.run([PROGRAM, *words], timeout=PATIENCE, **{**streams, **how})
+    return ran.returncode, ran.stdout, ran.stderr
+
+
+def write(name, text):
+    with open(name, "wb") as it:
+        it.write(text if isinstance(text, bytes) else text.encode())
+
+
+def run_text(text, *words, name="application.toml", **how):
+    """Runs the program on a file with this text, with these words after its name."""
+    write(name, text)
+    return run("run", name, *words, **how)
+
+
+def campaign_text(text, *words, **how):
+    """Runs the program's campaign on a file with this text, with these words after its name."""
+    write("application.toml", text)
+    return run("campaign", "application.toml", *words, **how)
+
+
+def points(*texts):
+    """The section of these points."""
+    return f"[campaign]\npoints = {json.dumps(texts)}\n"
+
+
+def is_refused(found, status, line):
+    """Nothing on standard output, and this line on standard error."""
+    equal(found, (status, b"", f"rtosim: {line}\n".encode()))
+
+
+def stored(name):
+    """The bytes of a file of the repository."""
+    with open(f"{ROOT}/{name}", "rb") as it:
+        return it.read()
+
+
+def started_with_small_pipe(*words, **how):
+    """Starts the program, its output going to a pipe that holds 4096 bytes."""
+    reader, writer = os.pipe()
+    fcntl.fcntl(writer, F_SETPIPE_SZ, 4096)
+    started = subprocess.Popen([PROGRAM, *words], stdout=writer, stderr=subprocess.PIPE, **how)
+    os.close(writer)
+    started.stdout = os.fdopen(reader, "rb", buffering=0)
+    return started
