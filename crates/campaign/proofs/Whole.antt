@@ -25,9 +25,10 @@ use Rattle.campaign.specs.declared.worker.Done.{Done}
 use Rattle.campaign.specs.declared.worker.Setup.{Setup}
 use Rattle.campaign.specs.Setup.{work_of}
 use Rattle.campaign.specs.Kinds.{kind_in}
-use Rattle.campaign.specs.Report.{rows_in, rows_at, IsPlace, AreKept}
+use Rattle.campaign.specs.Report.{rows_in, rows_at, IsPlace, AreKept, IsSound, whole as whole_rows}
 use Rattle.campaign.specs.Kinds.{kinds_of, RiseBy}
-use Rattle.campaign.specs.Made.{IsWhole, BringsWhole, ComeBack, IsBrought, rows_placed}
+use Rattle.campaign.specs.Made.{IsWhole, BringsWhole, ComeBack, IsBrought, IsMade, rows_placed}
+use Rattle.campaign.specs.declared.making.Made.{Made}
 use Rattle.campaign.specs.Placing.{place_of, placed, all_placed, all_numbers, AreBelow}
 use Rattle.campaign.specs.Working.{Work, block_points, AreRowsByBlock, IsKeptBlock, AreKeptBlocks, IsKeptPart, numbers_of, Brings, IsDone, AreDone, AreIdle, AreJobs, lanes_in, seats_in, parts_in, seats_of}
 use Rattle.campaign.proofs.Ends.{kind_in-append, kind_in-few}
@@ -330,3 +331,25 @@ module _ (work : Work) (base : Run) (deal : Game) (lanes : List Sight) (parts : 
         let flat = kinds_flat rows_by kind (range 0 (length work.lengths)) in
         let order = ap (λ (rows : List Row). kind_in rows kind) in_order in
         sum ∙ ap (λ m. added_in kind old + m) (each ∙ sym flat ∙ sym order)
+
+-- ---- the report
+
+module _ (work : Work) (tally : Sheet) (old : List Tallied) (made : Made) (is : IsMade work tally old made) (base : Run) (same : base ≡ work.base) (few : length work.points ≤ most_points) where
+  pub sound_made : IsSound (record { base = base; parts = made.parts; places = made.places; totals = made.totals })
+  sound_made =
+      let count = sym (length-map (rows_placed work.base made.parts.items made.places.items) (λ (row : Row). row.point)) ∙ ap length is.rows.one_each in
+      subst (λ b. IsSound (record { base = b; parts = made.parts; places = made.places; totals = made.totals })) (sym same) (record {
+        kept = is.kept;
+        placed = is.placed;
+        few = omega (arith, count, few);
+        counted = is.counted;
+      })
+
+  rows_same : (report : List Row) → report ≡ whole_rows (record { base = base; parts = made.parts; places = made.places; totals = made.totals }) → report ≡ rows_placed work.base made.parts.items made.places.items
+  rows_same report e = e ∙ ap (λ (b : Run). rows_placed b made.parts.items made.places.items) same
+
+  pub rows_made : (report : List Row) → report ≡ whole_rows (record { base = base; parts = made.parts; places = made.places; totals = made.totals }) → AreRows work.app work.limits work.points report
+  rows_made report e = rw (rows_same report e) is.rows
+
+  pub rise_made : (report : List Row) → report ≡ whole_rows (record { base = base; parts = made.parts; places = made.places; totals = made.totals }) → RiseBy (totals_of report) old made.seats.items
+  rise_made report e = subst (λ rs. RiseBy (totals_of rs) old made.seats.items) (sym (rows_same report e)) is.rise
