@@ -6,5 +6,6 @@ mod Jobs
 mod Keeping
 mod Multiplicity
 mod Placed
+mod Sending
 mod Totalling
 mod Whole

@@ -1,17 +1,21 @@
 -- What all workers made together.
 use Rattle.std.specs.Prelude.{All, Bool, true, false, ◌||◌, slice_get, Some, ◌⊎◌, if◌then◌else◌, nat_lt}
 use Rattle.std.specs.List.{AllByRecursion, concat, flat_map, list_any}
-use Rattle.std.proofs.Common.{◌≡◌, ◌≢◌, ◌<◌, ◌≤◌, ◌+◌, ℕ, zero, suc, List, [], ◌∷◌, ◌++◌, length, map, take, drop, sum, replicate, set, slice_index, slice_index_or, get_or-set_same, get_or-set_other, refl, sym, ap, subst, ◌∙◌, append_assoc, append-nil, length-append, add-one, add-zero, inl, inr, ⊎_elim, arith}
-use Rattle.std.proofs.lemmas.List.{take_all, length-set}
+use Rattle.std.proofs.Common.{◌≡◌, ◌≢◌, ◌<◌, ◌≤◌, ◌+◌, ℕ, zero, suc, List, [], ◌∷◌, ◌++◌, length, cond, map, take, drop, sum, replicate, set, slice_index, slice_index_or, get_or-set_same, get_or-set_other, refl, sym, ap, subst, ◌∙◌, append_assoc, append-nil, length-append, add-one, add-zero, inl, inr, ⊎_elim, arith}
+use Rattle.std.proofs.lemmas.List.{take_all, length-set, length-map, length-replicate}
+use Rattle.std.proofs.lemmas.Bool.Decides.{nat_tests}
 use Rattle.std.proofs.lemmas.List.Sums.{sum_by_more}
 use Rattle.kernel.specs.Logged.{all_of}
 use Rattle.model.specs.declared.plan.Point.{Point}
 use Rattle.model.specs.Run.{Run}
-use Rattle.model.specs.Campaign.{Row, AreRows}
+use Rattle.model.specs.Campaign.{Row, AreRows, totals_of}
+use Rattle.model.specs.Scripts.{most_points}
 use Rattle.deal.specs.Sharing.{Game, Sight, HasSeenAll, SomeHasSeenAll, AreLanesOf, lists_of, fresh, fresh_lanes}
 use Rattle.deal.specs.Tallies.{Sheet, Tallied, added_in}
 use Rattle.deal.specs.Totals.{total, range, times, one_at, HasEachOnce}
-use Rattle.deal.proofs.Sums.{total_append}
+use Rattle.deal.proofs.Sums.{total_append, length_range}
+use Rattle.deal.proofs.Members.{all_of_each}
+use Rattle.campaign.proofs.Multiplicity.{total_each}
 use Rattle.deal.proofs.Once.{same_or, elsewhere}
 use Rattle.campaign.specs.declared.rows.KeptBlock.{KeptBlock}
 use Rattle.campaign.specs.declared.rows.Part.{Part}
@@ -21,7 +25,10 @@ use Rattle.campaign.specs.declared.worker.Done.{Done}
 use Rattle.campaign.specs.declared.worker.Setup.{Setup}
 use Rattle.campaign.specs.Setup.{work_of}
 use Rattle.campaign.specs.Kinds.{kind_in}
-use Rattle.campaign.specs.Report.{rows_in, rows_at, IsPlace, AreKept}
+use Rattle.campaign.specs.Report.{rows_in, rows_at, IsPlace, AreKept, IsSound, whole as whole_rows}
+use Rattle.campaign.specs.Kinds.{kinds_of, RiseBy}
+use Rattle.campaign.specs.Made.{IsWhole, BringsWhole, ComeBack, IsBrought, IsMade, rows_placed}
+use Rattle.campaign.specs.declared.making.Made.{Made}
 use Rattle.campaign.specs.Placing.{place_of, placed, all_placed, all_numbers, AreBelow}
 use Rattle.campaign.specs.Working.{Work, block_points, AreRowsByBlock, IsKeptBlock, AreKeptBlocks, IsKeptPart, numbers_of, Brings, IsDone, AreDone, AreIdle, AreJobs, lanes_in, seats_in, parts_in, seats_of}
 use Rattle.campaign.proofs.Ends.{kind_in-append, kind_in-few}
@@ -245,3 +252,104 @@ done_each setup deal tally count (job ∷ jobs) [] same each are = absurd (cc)
 done_each setup deal tally count (job ∷ jobs) (done ∷ dones) same each are =
     (subst (λ (g : Game). IsDone (work_of setup g.lengths) job done) are.0.lane (each 0 job done (omega arith)),
     done_each setup deal tally count jobs dones (omega (arith, same)) (λ i j d l. each (suc i) j d (omega arith)) are.1)
+
+-- ---- what they brought together
+
+pub all_brought : (work : Work) (deal : Game) (tally : Sheet) (count workers : ℕ) (old : List Tallied) (jobs : List Job) (dones : List Done)
+    (lanes : List Sight) (new : List Tallied) (parts : List Part) → lanes ≡ lanes_in dones → new ≡ seats_in dones → parts ≡ parts_in dones
+    → AreJobs deal tally count jobs → AreDone work jobs dones → list_any (λ (done : Done). done.refused) dones ≡ false
+    → length jobs ≡ workers → deal.lanes ≡ workers → 0 < workers → length old ≡ workers → ((kind : ℕ) → added_in kind (seats_of jobs) ≡ added_in kind old)
+    → IsBrought work deal tally old lanes new parts
+all_brought work deal tally count workers old jobs dones lanes new parts is_lanes is_seats is_parts are done none many lane_many some seat_many added =
+    let all = all_bring work jobs dones done none in
+    let seats_all = seats_long work jobs dones all in
+    let lanes_all = dones_long work jobs dones all in
+    rw (is_lanes, is_seats, is_parts) (record {
+      brings = record {
+        its_lanes = all_of_each (λ (lane : Sight). lane.game ≡ deal) (lanes_in dones) (lanes_are work deal tally count jobs dones all are);
+        all_lanes = omega (arith, lanes_all, many, lane_many);
+        seen = some_seen work jobs dones all (omega (arith, some, many));
+        made = parts_are work jobs dones all;
+        numbers = numbers_are work jobs dones all;
+      };
+      back = record { all = omega (arith, seats_all, many, seat_many); same = seats_are work deal tally count jobs dones all are };
+      counts = λ rows by_block kind l. counts_are work rows by_block kind l jobs dones all ∙ ap (λ n. n + total (λ b. kind_in (rows b) kind) (concat (lists_of (lanes_in dones)))) (added kind);
+    })
+
+below_one : (b n : ℕ) → b < n → cond {A = ℕ} (nat_lt b n) 1 0 ≡ 1
+below_one b n l = grind (arith, nat_tests)
+
+module _ (work : Work) (base : Run) (deal : Game) (lanes : List Sight) (parts : List Part) (whole : IsWhole work base deal) (brings : BringsWhole work deal lanes parts) where
+  pub numbers_below : (n : ℕ) → n ≡ length deal.lengths → AreBelow n parts
+  numbers_below n is = let same : n ≡ length work.lengths = is ∙ ap length (sym whole.same_lengths) in rw same (parts_below work parts brings.made)
+
+  module _ (rest : List ℕ) (places : List Place) (n : ℕ) (none : Place) (once : HasEachOnce (length deal.lengths) (concat (lists_of lanes) ++ rest))
+      (all : length lanes ≡ deal.lanes → SomeHasSeenAll lanes → rest ≡ []) (count : n ≡ length deal.lengths) (placed : places ≡ all_placed 0 parts (replicate n none)) where
+    each_once : HasEachOnce (length work.lengths) (concat (lists_of lanes))
+    each_once =
+        let nothing = all brings.all_lanes brings.seen in
+        let alone : concat (lists_of lanes) ++ rest ≡ concat (lists_of lanes) = ap (λ r. concat (lists_of lanes) ++ r) nothing ∙ append-nil (concat (lists_of lanes)) in
+        subst (λ m. HasEachOnce m (concat (lists_of lanes))) (ap length (sym whole.same_lengths)) (subst (HasEachOnce (length deal.lengths)) alone once)
+
+    many_places : length places ≡ length work.lengths
+    many_places = ap length placed ∙ length-all_placed 0 parts (replicate n none) ∙ length-replicate n none ∙ count ∙ ap length (sym whole.same_lengths)
+
+    its_place : (b : ℕ) → b < length work.lengths → (d : Place) → IsPlaceOf work parts b (slice_index_or places b d)
+    its_place b l d =
+        let long : length work.lengths ≤ length (replicate n none) = omega (arith, length-replicate n none, count, ap length whole.same_lengths) in
+        let there : times b (all_numbers parts) ≡ 1 = ap (times b) brings.numbers ∙ each_once b ∙ below_one b (length work.lengths) l in
+        rw placed (all_put work parts brings.made (replicate n none) long b d (omega arith))
+
+    abbrev rows_by : ℕ → List Row
+    rows_by b = rows_at work.base parts (slice_index_or places b none)
+
+    by_block : AreRowsByBlock work rows_by
+    by_block b l = (its_place b l none).made
+
+    in_order : rows_placed work.base parts places ≡ flat_map rows_by (range 0 (length work.lengths))
+    in_order = flat_at (rows_at work.base parts) places none ∙ ap (λ m. flat_map rows_by (range 0 m)) many_places
+
+    pub all_at : AllByRecursion (IsPlace parts) places
+    all_at = each_of places (λ i d l. (its_place i (omega (arith, l, many_places)) d).is_place)
+      where
+        each_of : (xs : List Place) → ((i : ℕ) (d : Place) → i < length xs → IsPlace parts (slice_index_or xs i d)) → AllByRecursion (IsPlace parts) xs
+        each_of [] h = tt
+        each_of (x ∷ xs) h = (h 0 x (omega arith), each_of xs (λ i d l. h (suc i) d (omega arith)))
+
+    pub rows_all : AreRows work.app work.limits work.points (rows_placed work.base parts places)
+    rows_all = rw in_order (all_rows work rows_by by_block whole.whole)
+
+    pub rows_few : length (rows_placed work.base parts places) ≤ most_points
+    rows_few =
+        let same = sym (length-map (rows_placed work.base parts places) (λ (row : Row). row.point)) ∙ ap length rows_all.one_each in
+        omega (arith, same, whole.few)
+
+    pub seats_rise : (tally : Sheet) (old new : List Tallied) → IsBrought work deal tally old lanes new parts → RiseBy (totals_of (rows_placed work.base parts places)) old new
+    seats_rise tally old new brought kind l =
+        let sum = brought.counts rows_by by_block kind l in
+        let each = total_each (length work.lengths) (concat (lists_of lanes)) each_once (λ b. kind_in (rows_by b) kind) in
+        let flat = kinds_flat rows_by kind (range 0 (length work.lengths)) in
+        let order = ap (λ (rows : List Row). kind_in rows kind) in_order in
+        sum ∙ ap (λ m. added_in kind old + m) (each ∙ sym flat ∙ sym order)
+
+-- ---- the report
+
+module _ (work : Work) (tally : Sheet) (old : List Tallied) (made : Made) (is : IsMade work tally old made) (base : Run) (same : base ≡ work.base) (few : length work.points ≤ most_points) where
+  pub sound_made : IsSound (record { base = base; parts = made.parts; places = made.places; totals = made.totals })
+  sound_made =
+      let count = sym (length-map (rows_placed work.base made.parts.items made.places.items) (λ (row : Row). row.point)) ∙ ap length is.rows.one_each in
+      subst (λ b. IsSound (record { base = b; parts = made.parts; places = made.places; totals = made.totals })) (sym same) (record {
+        kept = is.kept;
+        placed = is.placed;
+        few = omega (arith, count, few);
+        counted = is.counted;
+      })
+
+  rows_same : (report : List Row) → report ≡ whole_rows (record { base = base; parts = made.parts; places = made.places; totals = made.totals }) → report ≡ rows_placed work.base made.parts.items made.places.items
+  rows_same report e = e ∙ ap (λ (b : Run). rows_placed b made.parts.items made.places.items) same
+
+  pub rows_made : (report : List Row) → report ≡ whole_rows (record { base = base; parts = made.parts; places = made.places; totals = made.totals }) → AreRows work.app work.limits work.points report
+  rows_made report e = rw (rows_same report e) is.rows
+
+  pub rise_made : (report : List Row) → report ≡ whole_rows (record { base = base; parts = made.parts; places = made.places; totals = made.totals }) → RiseBy (totals_of report) old made.seats.items
+  rise_made report e = subst (λ rs. RiseBy (totals_of rs) old made.seats.items) (sym (rows_same report e)) is.rise

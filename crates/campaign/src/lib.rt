@@ -16,11 +16,14 @@ mod recent;
 mod rows;
 mod tallying;
 mod worker;
+mod writing;
 
 pub use at::At;
 pub use campaign_report::Report;
 pub use file::ServeFault;
 pub use gate::{Gate, NoGate};
+pub use making::{Finished, campaign};
 pub use one_run::serve_run;
 pub use options::{BadOption, Options};
 pub use points::{ExpandFault, expand};
+pub use writing::write_report;

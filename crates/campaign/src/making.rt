@@ -1,20 +1,25 @@
 //! The rows of a campaign, which workers make.
-ghost use Rattle.std.specs.Prelude.{◌≡◌, ◌<◌, ◌≤◌, length, sum, vec_len, All, IfOk};
+ghost use Rattle.std.specs.Prelude.{◌≡◌, ◌<◌, ◌≤◌, List, length, sum, vec_len, All, IfOk};
 ghost use Rattle.model.specs.Scripts.{most_points};
+ghost use Rattle.model.specs.Campaign.{AreRows, totals_of};
 ghost use Rattle.deal.specs.Sharing.{Game};
+ghost use Rattle.deal.specs.Tallies.{Sheet, Tallied};
 ghost use Rattle.campaign.specs.declared.worker.Job as declared;
 ghost use Rattle.shelf.specs.Shelves.{IsShelf};
 ghost use Rattle.campaign.specs.Setup.{work_of};
-ghost use Rattle.campaign.specs.Working.{AreDone, AreJobs, AreReady, IsDone, IsJob};
-ghost use Rattle.campaign.specs.Made.{IsMade};
+ghost use Rattle.campaign.specs.Working.{AreDone, AreJobs, AreReady, IsDone, IsJob, Work};
+ghost use Rattle.campaign.specs.Kinds.{RiseBy};
+ghost use Rattle.campaign.specs.Made.{BringsWhole, ComeBack, IsBrought, IsMade, IsWhole};
 
+use crate::campaign_report::{Report, Rows};
 use crate::gate::Gate;
 use crate::gathering::{Apart, is_refused, jobs_of, take_apart};
 use crate::placing::{count_all, places_of};
 use crate::rows::{Part, Place};
+use crate::start::Start;
 use crate::worker::{Done, Job, Setup, work};
-use deal::{Deal, Division, TallySeat};
-use model::{Memory, Totals};
+use deal::{Deal, Division, Tally, TallySeat};
+use model::{App, Limits, Memory, Point, Run, Totals};
 use std::alloc::Global;
 use std::sync::Wait;
 use std::sync::atomic::AtomicU64;
@@ -28,6 +33,13 @@ pub(crate) struct Made {
     pub(crate) places: Vec<Place>,
     pub(crate) totals: Totals,
     pub(crate) seats: Vec<TallySeat>,
+}
+
+// What the workers brought, and the deal that they worked off.
+#[derive(Drop)]
+struct Brought {
+    deal: Deal,
+    apart: Apart,
 }
 
 // Does the jobs, each in a thread of its own where one can be started, else one after the other.
@@ -56,4 +68,161 @@ fn run_all<R: Threads + Wait + Sync, G: Gate + Sync>(
         Ok(dones) => Ok(dones),
         Err(_) => Err(Memory),
     }
+}
+
+// Deals the blocks among so many workers, each with a seat, and lets them work.
+fn bring_all<R: Threads + Wait + Sync, G: Gate + Sync>(
+    rt: &R,
+    alloc: Global,
+    setup: &Setup<'_>,
+    gate: &G,
+    workers: usize,
+    division: Division,
+    seats: Vec<TallySeat>,
+) -> Result<Brought, Memory>
+    requires start { IsStart setup.now.app.now setup.now.start.now }
+    requires workers { (0 < workers) × (workers ≤ 64) }
+    requires division { sum division ≡ length setup.now.points.now }
+    requires seats { (vec_len seats ≡ workers)
+        × AreReady setup.now.tally.now (length setup.now.points.now) seats.items }
+    ensures deal { IfOk result (λ brought. brought.deal.lengths ≡ division) }
+    ensures brought { IfOk result (λ brought. IsBrought (work_of setup.now division) brought.deal setup.now.tally.now seats.items
+        brought.apart.lanes.items brought.apart.seats.items brought.apart.parts.items) }
+{
+    let Ok((deal, lanes)) = Deal::new(alloc, division, workers) else {
+        return Err(Memory);
+    };
+    let jobs = jobs_of(alloc, lanes, seats)?;
+    let dones = run_all(rt, alloc, setup, gate, jobs)?;
+    if is_refused(&dones) {
+        return Err(Memory);
+    }
+    let apart = take_apart(alloc, dones)?;
+    Ok(Brought { deal, apart })
+}
+
+// Gathers the rows by the numbers of their blocks. All lanes came back and were answered all blocks, so none is left over.
+fn gather_rows(alloc: Global, base: &Run, brought: Brought, blocks: usize) -> Result<Made, Memory>
+    requires blocks { blocks ≡ length brought.deal.lengths }
+    requires points { (work : Work) × IsWhole work base.now brought.deal
+        × BringsWhole work brought.deal brought.apart.lanes.items brought.apart.parts.items }
+    ensures { IfOk result (λ made. (work : Work) (tally : Sheet) (old : List Tallied) → IsWhole work base.now brought.deal
+        → IsBrought work brought.deal tally old brought.apart.lanes.items brought.apart.seats.items brought.apart.parts.items
+        → IsMade work tally old made) }
+{
+    let Brought { deal, apart } = brought;
+    let Apart {
+        lanes,
+        seats,
+        parts,
+    } = apart;
+    let _closed = deal.close(lanes);
+    let places = places_of(alloc, &parts, blocks)?;
+    let totals = count_all(base, &parts, &places);
+    Ok(Made {
+        parts,
+        places,
+        totals,
+        seats,
+    })
+}
+
+/// A finished campaign: its report, and the seats that came back, to which its rows were added.
+#[derive(Drop)]
+pub struct Finished {
+    pub report: Report,
+    pub seats: Vec<TallySeat>,
+}
+
+/// The report of the rows of these points, each run from this start.
+pub(crate) fn campaign_from<R: Threads + Wait + Sync, G: Gate + Sync>(
+    rt: &R,
+    alloc: Global,
+    app: &App,
+    start: Start,
+    points: &[Point],
+    workers: usize,
+    division: Division,
+    gate: &G,
+    tally: &Tally,
+    seats: Vec<TallySeat>,
+) -> Result<Finished, Memory>
+    requires start { IsStart app.now start }
+    requires few { length points.now ≤ most_points }
+    requires workers { (0 < workers) × (workers ≤ 64) }
+    requires division { sum division ≡ length points.now }
+    requires seats { (vec_len seats ≡ workers) × AreReady tally.now (length points.now) seats.items }
+    ensures rows { IfOk result (λ finished. AreRows app.now start.limits points.now finished.report) }
+    ensures back { IfOk result (λ finished. ComeBack tally.now seats.items finished.seats.items) }
+    ensures rise { IfOk result (λ finished. RiseBy (totals_of finished.report) seats.items finished.seats.items) }
+{
+    let blocks = division.count();
+    let setup = Setup {
+        app,
+        start: &start,
+        points,
+        tally,
+    };
+    gate.begun(points.len());
+    let brought = bring_all(rt, alloc, &setup, gate, workers, division, seats);
+    gate.ended();
+    let Made {
+        parts,
+        places,
+        totals,
+        seats,
+    } = gather_rows(alloc, start.base(), brought?, blocks)?;
+    let rows = Rows {
+        base: start.into_base(),
+        parts,
+        places,
+        totals,
+    };
+    let report = Report::new(rows);
+    Ok(Finished { report, seats })
+}
+
+/// Runs an application once for each of these points, under these limits, and reports the rows: a row's point is injected where
+/// the base run reaches its step, else the row is the base run. There are at most 1,000,000 points, and their handlers are the
+/// application's.
+///
+/// So many workers make the rows, 1 to 64, each in a thread of its own where one can be started; this thread is one of them. A
+/// worker takes blocks of the division until all are handed out, and adds each row to its seat when it is made. The gate is told
+/// of each block before its first point. The stride says how many steps lie between two states of the base run that are kept.
+///
+/// `Memory` is answered only where a growth was refused; then the seats are spent. It waits for the workers.
+pub fn campaign<R: Threads + Wait + Sync, G: Gate + Sync>(
+    rt: &R,
+    alloc: Global,
+    app: &App,
+    points: Vec<Point>,
+    limits: Limits,
+    stride: u32,
+    workers: usize,
+    division: Division,
+    gate: &G,
+    tally: &Tally,
+    seats: Vec<TallySeat>,
+) -> Result<Finished, Memory>
+    requires few { length points.items ≤ most_points }
+    requires workers { (0 < workers) × (workers ≤ 64) }
+    requires division { sum division ≡ length points.items }
+    requires seats { (vec_len seats ≡ workers) × AreReady tally.now (length points.items) seats.items }
+    ensures rows { IfOk result (λ finished. AreRows app.now limits points.items finished.report) }
+    ensures back { IfOk result (λ finished. ComeBack tally.now seats.items finished.seats.items) }
+    ensures rise { IfOk result (λ finished. RiseBy (totals_of finished.report) seats.items finished.seats.items) }
+{
+    let start = Start::make(alloc, app, limits, stride)?;
+    campaign_from(
+        rt,
+        alloc,
+        app,
+        start,
+        points.as_slice(),
+        workers,
+        division,
+        gate,
+        tally,
+        seats,
+    )
 }
