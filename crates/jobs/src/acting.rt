@@ -8,12 +8,14 @@ ghost use Rattle.jobs.specs.Acting.{RunServed, CampaignServed, Does, OpensAndDoe
 
 use crate::fault_line::tell;
 use byte_io::{FromReader, Sink, Source};
-use campaign::{At, Options, Progress, ServeFault, Unseen, serve_run, serve_watched};
+use campaign::{At, Gate, Options, ServeFault, serve, serve_run, serve_watched};
 use model::End;
 use std::alloc::Global;
 use std::fs::File;
 use std::io::{self, ErrorKind};
 use std::rt::Files;
+use std::sync::Wait;
+use std::thread::Threads;
 
 /// What the program is to do.
 #[derive(Clone, Copy, Debug, PartialEq, Eq)]
@@ -165,13 +167,14 @@ fn serve_run_of<R: Source, W: Sink>(
 }
 
 // Serves a campaign. Answers whether all its rows pass.
-fn serve_campaign<R: Source, W: Sink, P: Progress>(
+fn serve_campaign<T: Threads + Wait + Sync, R: Source, W: Sink, G: Gate + Sync>(
+    rt: &T,
     alloc: Global,
     options: Options,
     quiet: bool,
     reader: &mut R,
     writer: &mut W,
-    progress: &mut P,
+    gate: &G,
 ) -> Result<bool, ServeFault>
     requires reads { R.has_failed reader.old ≡ false }
     requires writes { W.has_failed writer.old ≡ false }
@@ -179,21 +182,22 @@ fn serve_campaign<R: Source, W: Sink, P: Progress>(
         (W.held writer.old) (W.held writer.new) (W.has_failed writer.new) result }
 {
     let totals = if quiet {
-        serve_watched(alloc, reader, writer, options, &mut Unseen)?
+        serve(rt, alloc, reader, writer, options)?
     } else {
-        serve_watched(alloc, reader, writer, options, progress)?
+        serve_watched(rt, alloc, reader, writer, options, gate)?
     };
     Ok(totals.pass == totals.rows)
 }
 
 // Reads the file of the job from `reader`, and writes to `writer` what the job asks for. Nothing is read where its step and its
 // handler don't go together.
-fn serve_job<R: Source, W: Sink, P: Progress>(
+fn serve_job<T: Threads + Wait + Sync, R: Source, W: Sink, G: Gate + Sync>(
+    rt: &T,
     alloc: Global,
     job: &Job<'_>,
     reader: &mut R,
     writer: &mut W,
-    progress: &mut P,
+    gate: &G,
 ) -> Result<bool, JobFault>
     requires reads { R.has_failed reader.old ≡ false }
     requires writes { W.has_failed writer.old ≡ false }
@@ -205,7 +209,7 @@ fn serve_job<R: Source, W: Sink, P: Progress>(
     let served = match *job {
         Job::Run { .. } => serve_run_of(alloc, at, reader, writer),
         Job::Campaign { options, quiet, .. } => {
-            serve_campaign(alloc, options, quiet, reader, writer, progress)
+            serve_campaign(rt, alloc, options, quiet, reader, writer, gate)
         }
     };
     match served {
@@ -217,15 +221,16 @@ fn serve_job<R: Source, W: Sink, P: Progress>(
 /// Does the job: reads its file from `reader`, and writes to `writer` what the job asks for. Answers the status that the
 /// program ends with, and puts the line of a fault, if any, to `faults`; that this fails changes nothing.
 ///
-/// Where the job's step and its handler don't go together, nothing is read. `progress` is told how far a campaign has come,
-/// unless it is quiet; no clause speaks of that.
-pub fn act<R: Source, W: Sink, F: Sink, P: Progress>(
+/// Where the job's step and its handler don't go together, nothing is read. The gate is told how far a campaign has come,
+/// unless it is quiet; no clause speaks of that. It waits for the workers of a campaign, whose threads are this runtime's.
+pub fn act<T: Threads + Wait + Sync, R: Source, W: Sink, F: Sink, G: Gate + Sync>(
+    rt: &T,
     alloc: Global,
     job: &Job<'_>,
     reader: &mut R,
     writer: &mut W,
     faults: &mut F,
-    progress: &mut P,
+    gate: &G,
 ) -> u8
     requires reads { R.has_failed reader.old ≡ false }
     requires writes { W.has_failed writer.old ≡ false }
@@ -237,7 +242,7 @@ pub fn act<R: Source, W: Sink, F: Sink, P: Progress>(
         × (result ≡ status_of outcome) }
     ensures unread { is_unpaired job.now ≡ true → R.left reader.new ≡ R.left reader.old }
 {
-    let outcome = serve_job(alloc, job, reader, writer, progress);
+    let outcome = serve_job(rt, alloc, job, reader, writer, gate);
     conclude(job, faults, outcome)
 }
 
@@ -257,13 +262,13 @@ fn fault_of(error: &io::Error) -> ServeFault
 /// Opens the file of the job, and does the job over it and the two sinks. A file that can't be opened is one that can't be
 /// read, also where the job's step and handler don't go together. The contract says of the file's bytes that there are such;
 /// that they are those of the file, the tests show.
-pub fn open_and_act<S: Files, W: Sink, F: Sink, P: Progress>(
+pub fn open_and_act<T: Threads + Wait + Files + Sync, W: Sink, F: Sink, G: Gate + Sync>(
+    rt: &T,
     alloc: Global,
-    files: &S,
     job: &Job<'_>,
     writer: &mut W,
     faults: &mut F,
-    progress: &mut P,
+    gate: &G,
 ) -> u8
     requires writes { W.has_failed writer.old ≡ false }
     requires tells { F.has_failed faults.old ≡ false }
@@ -272,10 +277,10 @@ pub fn open_and_act<S: Files, W: Sink, F: Sink, P: Progress>(
         × Tells (F.held faults.old) (F.held faults.new) (F.has_failed faults.new) (told job.now outcome)
         × (result ≡ status_of outcome) }
 {
-    match File::open(files, job.file()) {
+    match File::open(rt, job.file()) {
         Ok(file) => {
             let mut reader = FromReader::new(file);
-            act(alloc, job, &mut reader, writer, faults, progress)
+            act(rt, alloc, job, &mut reader, writer, faults, gate)
         }
         Err(error) => conclude(job, faults, Err(JobFault::Serve(fault_of(&error)))),
     }

@@ -8,7 +8,7 @@ ghost use Rattle.jobs.specs.Words.{texts_of};
 use crate::acting::{open_and_act, refuse};
 use crate::words::job_named;
 use byte_io::{Sink, WriteFault, put_all};
-use campaign::{Progress, ServeFault};
+use campaign::{Gate, ServeFault};
 use clap::Error;
 use clap::error::ErrorKind;
 use std::alloc::Global;
@@ -68,14 +68,15 @@ pub fn conclude_error<W: Sink, F: Sink>(
 }
 
 /// Does what the words ask for: a job over the two sinks, or to show help or the version, or to say why they are refused.
-/// `progress` is told how far a campaign has come, unless the words ask for quiet.
-pub fn obey<S: Files, W: Sink, F: Sink, P: Progress>(
+/// The gate is told how far a campaign has come, unless the words ask for quiet. It waits for the workers of a campaign, whose threads
+/// are this runtime's, as the files are.
+pub fn obey<T: Threads + Wait + Files + Sync, W: Sink, F: Sink, G: Gate + Sync>(
+    rt: &T,
     alloc: Global,
-    files: &S,
     words: &[&str],
     writer: &mut W,
     faults: &mut F,
-    progress: &mut P,
+    gate: &G,
 ) -> u8
     requires writes { W.has_failed writer.old ≡ false }
     requires tells { F.has_failed faults.old ≡ false }
@@ -84,7 +85,7 @@ pub fn obey<S: Files, W: Sink, F: Sink, P: Progress>(
         (F.held faults.old) (F.held faults.new) (F.has_failed faults.new) result }
 {
     match job_named(alloc, words) {
-        Ok(job) => open_and_act(alloc, files, &job, writer, faults, progress),
+        Ok(job) => open_and_act(rt, alloc, &job, writer, faults, gate),
         Err(error) => conclude_error(alloc, &error, writer, faults),
     }
 }

@@ -1,7 +1,8 @@
 //! How far a campaign has come, on a terminal.
-use campaign::Progress;
+use campaign::{Counts, Gate};
 use std::io::IsTerminal;
-use std::time::{Duration, Instant};
+use std::sync::atomic::{AtomicU64, Ordering};
+use std::time::Instant;
 
 // How many milliseconds a campaign takes before it is shown.
 const FIRST: u64 = 1_000;
@@ -10,51 +11,69 @@ const FIRST: u64 = 1_000;
 const NEXT: u64 = 100;
 
 /// A line on standard error that says how many rows are made of how many, where that is a terminal. Nothing of it stays when the
-/// campaign ends.
+/// campaign ends. The first worker shows it, before a block.
 #[derive(Drop)]
 pub(crate) struct Counter<'a> {
     rt: &'a HostRuntime,
-    /// When it was shown last, or made; `None` where standard error is no terminal, or there is no clock.
-    last: Option<Instant>,
-    is_shown: bool,
+    /// When it was made; `None` where standard error is no terminal, or there is no clock.
+    start: Option<Instant>,
+    /// How many rows there will be.
+    all: AtomicU64,
+    /// How many milliseconds after the start it was shown last; 0 where it isn't shown.
+    shown: AtomicU64,
 }
 
 impl<'a> Counter<'a> {
     pub(crate) fn new(rt: &'a HostRuntime) -> Counter<'a> {
-        let last = if rt.stderr().is_terminal() {
+        let start = if rt.stderr().is_terminal() {
             Instant::now(rt).ok()
         } else {
             None
         };
         Counter {
             rt,
-            last,
-            is_shown: false,
+            start,
+            all: AtomicU64::new(0),
+            shown: AtomicU64::new(0),
         }
+    }
+
+    // The milliseconds since the start; `None` where nothing is to be shown.
+    fn elapsed(&self) -> Option<u64> {
+        let start = self.start?;
+        let now = Instant::now(self.rt).ok()?;
+        let elapsed = now.saturating_duration_since(start);
+        Some(elapsed.as_secs().saturating_mul(1_000).saturating_add(elapsed.subsec_millis() as u64))
     }
 }
 
-impl Progress for Counter<'_> {
-    fn made(&mut self, rows: usize, all: usize) {
-        let Some(last) = self.last else {
-            return;
-        };
-        let Ok(now) = Instant::now(self.rt) else {
-            return;
-        };
-        let pause = if self.is_shown { NEXT } else { FIRST };
-        if now.saturating_duration_since(last) < Duration::from_millis(pause) {
-            return;
-        }
-        let _ = eprint!(self.rt; "\rrtosim: {rows} of {all} rows");
-        self.last = Some(now);
-        self.is_shown = true;
+impl Gate for Counter<'_> {
+    fn begun(&self, points: usize) {
+        self.all.store(points as u64, Ordering::SeqCst);
     }
 
-    fn ended(&mut self) {
-        if self.is_shown {
+    fn entered(&self, worker: usize, _block: usize, seen: &Counts) {
+        if worker > 0 {
+            return;
+        }
+        let Some(now) = self.elapsed() else {
+            return;
+        };
+        let shown = self.shown.load(Ordering::SeqCst);
+        let due = if shown == 0 { FIRST } else { shown.saturating_add(NEXT) };
+        if now < due {
+            return;
+        }
+        let rows = seen.rows();
+        let all = self.all.load(Ordering::SeqCst);
+        let _ = eprint!(self.rt; "\rrtosim: {rows} of {all} rows");
+        self.shown.store(now, Ordering::SeqCst);
+    }
+
+    fn ended(&self) {
+        if self.shown.load(Ordering::SeqCst) > 0 {
             let _ = eprint!(self.rt; "\r\x1b[K");
-            self.is_shown = false;
+            self.shown.store(0, Ordering::SeqCst);
         }
     }
 }
