@@ -1,5 +1,5 @@
 -- Which numbers the options of a campaign may be.
-use Rattle.std.specs.Prelude.{ℕ, not, Option, Some, None, if◌then◌else◌}
+use Rattle.std.specs.Prelude.{ℕ, ◌≤◌, not, Option, Some, None, if◌then◌else◌}
 use Rattle.model.specs.Scripts.{is_within}
 use Rattle.campaign.specs.declared.options.BadOption.{BadOption}
 use Rattle.campaign.specs.declared.options.BadOption.TheVariants.{Workers, Stride, Block}
@@ -11,3 +11,14 @@ bad_option workers stride block =
     else if not (is_within 1 65536 stride) then Some Stride
     else if not (is_within 1 1000000 block) then Some Block
     else None
+
+-- how a campaign is worked off
+pub record Chosen : Type 0 where
+  pub workers : ℕ
+  pub stride : ℕ
+  pub block : ℕ
+
+-- each in its range
+abbrev pub AreOptions : (workers stride block : ℕ) → Type 0
+AreOptions workers stride block =
+    (1 ≤ workers) × (workers ≤ 64) × (1 ≤ stride) × (stride ≤ 65536) × (1 ≤ block) × (block ≤ 1000000)

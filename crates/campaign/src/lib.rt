@@ -13,7 +13,9 @@ mod options;
 mod placing;
 mod points;
 mod rows;
+mod serving;
 mod start;
+
 mod tallying;
 mod worker;
 mod writing;
@@ -26,4 +28,5 @@ pub use making::{Finished, campaign};
 pub use one_run::serve_run;
 pub use options::{BadOption, Options};
 pub use points::{ExpandFault, expand};
+pub use serving::{serve, serve_watched};
 pub use writing::write_report;

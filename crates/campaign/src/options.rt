@@ -1,6 +1,8 @@
 //! How a campaign is worked off.
 ghost use Rattle.std.specs.Prelude.{◌≡◌, Some, None, MatchResult};
-ghost use Rattle.campaign.specs.Options.{bad_option};
+ghost use Rattle.campaign.specs.Options.{bad_option, AreOptions};
+
+use std::marker::Model;
 
 /// How a campaign is worked off (profile). Its report doesn't depend on it.
 #[derive(Clone, Copy, Debug, PartialEq, Eq)]
@@ -11,6 +13,19 @@ pub struct Options {
     pub stride: u32,
     /// How many points a worker takes at once, 1 to 1,000,000.
     pub block: u32,
+}
+
+// Clauses see the three numbers.
+impl Model for Options {
+    ghost use Rattle.campaign.specs.Options.{AreOptions, Chosen};
+
+    ghost Value = { Chosen };
+
+    ghost view = { λ o. record { workers = o.workers; stride = o.stride; block = o.block } };
+
+    ghost invariant = { λ o. AreOptions o.workers o.stride o.block };
+
+    ghost inverse = { λ o. record { workers = o.workers; stride = o.stride; block = o.block } };
 }
 
 /// Which number is out of its range.
@@ -57,5 +72,12 @@ impl Options {
             stride,
             block,
         })
+    }
+
+    /// Does nothing: its contract tells callers what holds of all options.
+    pub fn well_formed(&self)
+        ensures { AreOptions self.now.workers self.now.stride self.now.block }
+    {
+        let _ = &self.workers;
     }
 }
