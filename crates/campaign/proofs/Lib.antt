@@ -1,4 +1,5 @@
 mod Blocks
+mod Counters
 mod Determined
 mod Ends
 pub mod Faulty

@@ -13,6 +13,7 @@ use Rattle.report.proofs.Rows.{Sent_totals, SentFront_campaign, rows_text-append
 use Rattle.report.specs.Text.{row_text, rows_text, total_text, campaign_text}
 use Rattle.campaign.specs.declared.rows.KeptRow.{KeptRow}
 use Rattle.campaign.specs.Report.{row_of, rows_of}
+use Rattle.campaign.proofs.Totalling.{flat_more}
 
 -- the rows before, a row, and those behind it
 module _ (app : Application) (number : ℕ) (rows : List Row) (a b c : Option (List ℕ)) (page mid : List ℕ) (sent : Sent a b (page ++ rows_text app number rows) mid) where
@@ -60,3 +61,40 @@ module _ {X : Type 0} (f : X → Row) (xs : List X) (index : ℕ) (x : X) (l : i
 
   pub many_before : length (map f (take index xs)) ≡ index
   many_before = length-map (take index xs) f ∙ length-take-le index xs (omega arith)
+
+  module _ (app : Application) (number : ℕ) (a b c : Option (List ℕ)) (page mid : List ℕ) (sent : Sent a b (page ++ rows_text app number (map f (take index xs))) mid) where
+    its_text : rows_text app (number + length (map f (take index xs))) (f x ∷ []) ≡ row_text app (number + index) (f x)
+    its_text = one_text app (number + length (map f (take index xs))) (f x) ∙ ap (λ n. row_text app (number + n) (f x)) many_before
+
+    pub row_sent : (kept : List ℕ) → Sent b c (mid ++ row_text app (number + index) (f x)) kept → Sent a c (page ++ rows_text app number (map f (take (index + 1) xs))) kept
+    row_sent kept second =
+        subst (λ rs. Sent a c (page ++ rows_text app number rs) kept) (sym next_rows)
+        (sent_more app number (map f (take index xs)) a b c page mid sent (f x ∷ []) kept (subst (λ t. Sent b c (mid ++ t) kept) (sym its_text) second))
+
+    pub row_stopped : SentFront b c (mid ++ row_text app (number + index) (f x)) → SentFront a c (page ++ rows_text app number (map f xs))
+    row_stopped second =
+        subst (λ rs. SentFront a c (page ++ rows_text app number rs)) (sym rows_behind)
+        (front_more app number (map f (take index xs)) a b c page mid sent (f x ∷ []) (map f (drop (index + 1) xs)) (subst (λ t. SentFront b c (mid ++ t)) (sym its_text) second))
+
+flat-append : {X A : Type 0} (f : X → List A) (xs ys : List X) → flat_map f (xs ++ ys) ≡ flat_map f xs ++ flat_map f ys
+flat-append f [] ys = refl
+flat-append f (x ∷ xs) ys = ap (λ r. f x ++ r) (flat-append f xs ys) ∙ sym (append_assoc (f x) (flat_map f xs) (flat_map f ys))
+
+module _ {X : Type 0} (f : X → List Row) (xs : List X) (index : ℕ) (x : X) (l : index < length xs) (is : x ≡ slice_index_or xs index x)
+    (app : Application) (number : ℕ) (count : number ≡ length (flat_map f (take index xs)))
+    (a b c : Option (List ℕ)) (mid : List ℕ) (sent : Sent a b (rows_text app 0 (flat_map f (take index xs))) mid) where
+  all_behind : flat_map f xs ≡ (flat_map f (take index xs) ++ f x) ++ flat_map f (drop (index + 1) xs)
+  all_behind = ap (flat_map f) (sym (take-append-drop (index + 1) xs)) ∙ flat-append f (take (index + 1) xs) (drop (index + 1) xs) ∙ ap (λ rows. rows ++ flat_map f (drop (index + 1) xs)) (flat_more f xs index x l is)
+
+  from : 0 + length (flat_map f (take index xs)) ≡ number
+  from = omega (arith, count)
+
+  pub place_sent : (kept : List ℕ) → Sent b c (mid ++ rows_text app number (f x)) kept → Sent a c (rows_text app 0 (flat_map f (take (index + 1) xs))) kept
+  place_sent kept second =
+      subst (λ rs. Sent a c (rows_text app 0 rs) kept) (sym (flat_more f xs index x l is))
+      (sent_more app 0 (flat_map f (take index xs)) a b c [] mid sent (f x) kept (subst (λ n. Sent b c (mid ++ rows_text app n (f x)) kept) (sym from) second))
+
+  pub place_stopped : SentFront b c (mid ++ rows_text app number (f x)) → SentFront a c (rows_text app 0 (flat_map f xs))
+  place_stopped second =
+      subst (λ rs. SentFront a c (rows_text app 0 rs)) (sym all_behind)
+      (front_more app 0 (flat_map f (take index xs)) a b c [] mid sent (f x) (flat_map f (drop (index + 1) xs)) (subst (λ n. SentFront b c (mid ++ rows_text app n (f x))) (sym from) second))

@@ -212,7 +212,7 @@ pub fn campaign<R: Threads + Wait + Sync, G: Gate + Sync>(
     ensures back { IfOk result (λ finished. ComeBack tally.now seats.items finished.seats.items) }
     ensures rise { IfOk result (λ finished. RiseBy (totals_of finished.report) seats.items finished.seats.items) }
 {
-    let start = Start::make(alloc, app, limits, stride)?;
+    let start = Shelf::make(alloc, app, limits, stride)?;
     campaign_from(
         rt,
         alloc,

@@ -37,8 +37,12 @@ impl Default for Options {
 }
 
 impl Options {
+    /// The most workers.
+    pub const MOST_WORKERS: u32 = 64;
     /// The longest stride.
     pub const MOST_STRIDE: u32 = 65_536;
+    /// The longest block.
+    pub const MOST_BLOCK: u32 = 1_000_000;
 
     /// The options of these numbers; the first of them that is out of its range is the error.
     pub fn new(workers: u32, stride: u32, block: u32) -> Result<Options, BadOption>
@@ -47,13 +51,13 @@ impl Options {
             × (options ≡ record { workers = workers; stride = stride; block = block }))
             (λ fault. bad_option workers stride block ≡ Some fault) }
     {
-        if !(1..=64).contains(&workers) {
+        if !(1..=Self::MOST_WORKERS).contains(&workers) {
             return Err(BadOption::Workers);
         }
         if !(1..=Self::MOST_STRIDE).contains(&stride) {
             return Err(BadOption::Stride);
         }
-        if !(1..=1_000_000).contains(&block) {
+        if !(1..=Self::MOST_BLOCK).contains(&block) {
             return Err(BadOption::Block);
         }
         Ok(Options {

@@ -1,5 +1,6 @@
 //! How far a campaign has come, on a terminal.
-use campaign::{Counts, Gate};
+use campaign::Gate;
+use deal::Counts;
 use std::io::IsTerminal;
 use std::sync::atomic::{AtomicU64, Ordering};
 use std::time::Instant;
@@ -47,6 +48,15 @@ impl<'a> Counter<'a> {
     }
 }
 
+// How many rows are made: those of each end.
+fn rows_in(seen: &Counts) -> u64 {
+    let mut rows = 0_u64;
+    for count in &seen.kinds[..6] {
+        rows = rows.saturating_add(*count);
+    }
+    rows
+}
+
 impl Gate for Counter<'_> {
     fn begun(&self, points: usize) {
         self.all.store(points as u64, Ordering::SeqCst);
@@ -64,7 +74,7 @@ impl Gate for Counter<'_> {
         if now < due {
             return;
         }
-        let rows = seen.rows();
+        let rows = rows_in(seen);
         let all = self.all.load(Ordering::SeqCst);
         let _ = eprint!(self.rt; "\rrtosim: {rows} of {all} rows");
         self.shown.store(now, Ordering::SeqCst);

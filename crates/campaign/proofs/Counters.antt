@@ -1,0 +1,39 @@
+-- Points cut into even blocks, and the seats of a new tally.
+use Rattle.std.proofs.Common.{◌≡◌, ◌≤◌, ◌<◌, ◌+◌, ◌*◌, ◌/◌, ◌%◌, ◌^◌, ℕ, zero, suc, List, [], ◌∷◌, ◌++◌, sum, replicate, slice_index, refl, ap, ◌∙◌, arith}
+use Rattle.std.specs.List.{AllByRecursion}
+use Rattle.std.proofs.lemmas.List.Folds.{sum_by-replicate}
+use Rattle.std.proofs.lemmas.List.Sums.{sum_by-append}
+use Rattle.std.proofs.lemmas.Nat.{div-add-mod'}
+use Rattle.deal.specs.Divisions.{even_lengths, rest_block}
+use Rattle.deal.specs.Parts.{zeros}
+use Rattle.deal.specs.Tallies.{Sheet, Tallied, fresh_seat}
+use Rattle.campaign.specs.Working.{AreReady, HasRoom}
+
+sum_rest : (n : ℕ) → sum (rest_block n) ≡ n
+sum_rest zero = refl
+sum_rest (suc n) = omega arith
+
+pub sum_even : (total block : ℕ) → sum (even_lengths total block) ≡ total
+sum_even total block =
+    let both = sum_by-append (λ (x : ℕ). x) (replicate (total / block) block) (rest_block (total % block)) in
+    let first = sum_by-replicate (λ (x : ℕ). x) (total / block) block in
+    let rest = sum_rest (total % block) in
+    let all = div-add-mod' total block in
+    omega arith
+
+none_added : (kind : ℕ) → slice_index zeros kind ≡ 0
+none_added zero = refl
+none_added (suc zero) = refl
+none_added (suc (suc zero)) = refl
+none_added (suc (suc (suc zero))) = refl
+none_added (suc (suc (suc (suc zero)))) = refl
+none_added (suc (suc (suc (suc (suc zero))))) = refl
+none_added (suc (suc (suc (suc (suc (suc zero)))))) = refl
+none_added (suc (suc (suc (suc (suc (suc (suc kind))))))) = refl
+
+ready : (tally : Sheet) (count n : ℕ) → count ≤ 2 ^ 40 → AreReady tally count (replicate n (fresh_seat tally))
+ready tally count zero few = tt
+ready tally count (suc n) few = ((refl, λ kind l. let none = none_added kind in omega arith), ready tally count n few)
+
+pub ready_seats : (tally : Sheet) (count n : ℕ) (seats : List Tallied) → count ≤ 2 ^ 40 → seats ≡ replicate n (fresh_seat tally) → AreReady tally count seats
+ready_seats tally count n seats few is = rw is (ready tally count n few)

@@ -1,0 +1,120 @@
+//! From the bytes of a file to the report of its campaign.
+ghost use Rattle.std.specs.Prelude.{◌≡◌, ◌≤◌, false, length, IfOk, MatchResult};
+ghost use Rattle.model.specs.Campaign.{AreRows};
+ghost use Rattle.model.specs.Scripts.{most_points};
+ghost use Rattle.campaign.specs.Campaigns.{AreRowsOf, IsCampaignFault, ServesCampaign};
+ghost use Rattle.campaign.specs.Start.{IsStart};
+
+use crate::campaign_report::Report;
+use crate::file::{ServeFault, app_of};
+use crate::gate::{Gate, NoGate};
+use crate::making::campaign_from;
+use crate::options::Options;
+use crate::points::{ExpandFault, expand};
+use crate::start::Start;
+use crate::writing::write_report;
+use byte_io::{Sink, Source};
+use deal::{Division, Tally};
+use model::{App, Memory, Point, Totals};
+use std::alloc::Global;
+use std::sync::Wait;
+use std::thread::Threads;
+
+impl From<ExpandFault> for ServeFault {
+    ghost use Rattle.campaign.specs.Campaigns.{of_expanding};
+
+    ghost from_gives = { λ fault given. given ≡ of_expanding fault };
+
+    fn from(fault: ExpandFault) -> ServeFault {
+        match fault {
+            ExpandFault::TooManyPoints => ServeFault::TooManyPoints,
+            ExpandFault::Memory => ServeFault::Memory,
+        }
+    }
+}
+
+// The report of these points, whose rows are counted by a tally of its own.
+fn report_from<R: Threads + Wait + Sync, G: Gate + Sync>(
+    rt: &R,
+    alloc: Global,
+    app: &App,
+    start: Start,
+    points: &[Point],
+    options: Options,
+    gate: &G,
+) -> Result<Report, Memory>
+    requires start { IsStart app.now start }
+    requires few { length points.now ≤ most_points }
+    ensures { IfOk result (λ report. AreRows app.now start.limits points.now report) }
+{
+    options.well_formed();
+    let workers = options.workers as usize;
+    let Ok(division) = Division::even(alloc, points.len(), options.block as usize) else {
+        return Err(Memory);
+    };
+    let Ok((tally, seats)) = Tally::make(alloc, workers) else {
+        return Err(Memory);
+    };
+    let finished = campaign_from(
+        rt, alloc, app, start, points, workers, division, gate, &tally, seats,
+    )?;
+    Ok(finished.report)
+}
+
+// The report of the application's own points, under its own limits.
+fn report_of<R: Threads + Wait + Sync, G: Gate + Sync>(
+    rt: &R,
+    alloc: Global,
+    app: &App,
+    options: Options,
+    gate: &G,
+) -> Result<Report, ServeFault>
+    ensures { MatchResult result (AreRowsOf app.now) (IsCampaignFault app.now) }
+{
+    let start = Start::make(alloc, app, app.limits(), options.stride)?;
+    let points = expand(alloc, app, start.base())?;
+    let report = report_from(rt, alloc, app, start, points.as_slice(), options, gate)?;
+    Ok(report)
+}
+
+/// Reads a file, runs the application that it names once for each of its points, under its own limits, and writes the report of
+/// the rows, as its last deed: so all rows are made before the first byte goes out. Answers the totals that it wrote. The
+/// report doesn't depend on the options. The gate is told what the workers do. It waits for them.
+///
+/// At `Write` a beginning of the report is written. At every other error nothing is. `TooManyPoints` comes after every fault of
+/// the file; `UnknownHandler` never does.
+#[tactic(auto, using(crate::proofs::Faulty::campaign_serves_file_fault, crate::proofs::Faulty::campaign_serves_rows_fault))]
+pub fn serve_watched<T: Threads + Wait + Sync, R: Source, W: Sink, G: Gate + Sync>(
+    rt: &T,
+    alloc: Global,
+    reader: &mut R,
+    writer: &mut W,
+    options: Options,
+    gate: &G,
+) -> Result<Totals, ServeFault>
+    requires reads { R.has_failed reader.old ≡ false }
+    requires writes { W.has_failed writer.old ≡ false }
+    ensures { ServesCampaign (R.left reader.old) (R.has_failed reader.new)
+        (W.held writer.old) (W.held writer.new) (W.has_failed writer.new) result }
+{
+    let app = app_of(alloc, reader)?;
+    let report = report_of(rt, alloc, &app, options, gate)?;
+    write_report(&app, &report, writer)?;
+    Ok(report.totals())
+}
+
+/// The same as `serve_watched`, with a gate that does nothing.
+pub fn serve<T: Threads + Wait + Sync, R: Source, W: Sink>(
+    rt: &T,
+    alloc: Global,
+    reader: &mut R,
+    writer: &mut W,
+    options: Options,
+) -> Result<Totals, ServeFault>
+    requires reads { R.has_failed reader.old ≡ false }
+    requires writes { W.has_failed writer.old ≡ false }
+    ensures { ServesCampaign (R.left reader.old) (R.has_failed reader.new)
+        (W.held writer.old) (W.held writer.new) (W.has_failed writer.new) result }
+{
+    serve_watched(rt, alloc, reader, writer, options, &NoGate)
+}
