@@ -16,10 +16,10 @@ use crate::gate::Gate;
 use crate::gathering::{Apart, is_refused, jobs_of, take_apart};
 use crate::placing::{count_all, places_of};
 use crate::rows::{Part, Place};
-use crate::start::Start;
 use crate::worker::{Done, Job, Setup, work};
 use deal::{Deal, Division, Tally, TallySeat};
 use model::{App, Limits, Memory, Point, Run, Totals};
+use shelf::Shelf;
 use std::alloc::Global;
 use std::sync::Wait;
 use std::sync::atomic::AtomicU64;
@@ -80,7 +80,7 @@ fn bring_all<R: Threads + Wait + Sync, G: Gate + Sync>(
     division: Division,
     seats: Vec<TallySeat>,
 ) -> Result<Brought, Memory>
-    requires start { IsStart setup.now.app.now setup.now.start.now }
+    requires start { IsShelf setup.now.app.now setup.now.start.now }
     requires workers { (0 < workers) × (workers ≤ 64) }
     requires division { sum division ≡ length setup.now.points.now }
     requires seats { (vec_len seats ≡ workers)
@@ -139,7 +139,7 @@ pub(crate) fn campaign_from<R: Threads + Wait + Sync, G: Gate + Sync>(
     rt: &R,
     alloc: Global,
     app: &App,
-    start: Start,
+    start: Shelf,
     points: &[Point],
     workers: usize,
     division: Division,
@@ -147,7 +147,7 @@ pub(crate) fn campaign_from<R: Threads + Wait + Sync, G: Gate + Sync>(
     tally: &Tally,
     seats: Vec<TallySeat>,
 ) -> Result<Finished, Memory>
-    requires start { IsStart app.now start }
+    requires start { IsShelf app.now start }
     requires few { length points.now ≤ most_points }
     requires workers { (0 < workers) × (workers ≤ 64) }
     requires division { sum division ≡ length points.now }
@@ -206,6 +206,7 @@ pub fn campaign<R: Threads + Wait + Sync, G: Gate + Sync>(
 ) -> Result<Finished, Memory>
     requires few { length points.items ≤ most_points }
     requires workers { (0 < workers) × (workers ≤ 64) }
+    requires stride { (0 < stride) × (stride ≤ 65536) }
     requires division { sum division ≡ length points.items }
     requires seats { (vec_len seats ≡ workers) × AreReady tally.now (length points.items) seats.items }
     ensures rows { IfOk result (λ finished. AreRows app.now limits points.items finished.report) }

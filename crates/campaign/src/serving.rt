@@ -3,7 +3,7 @@ ghost use Rattle.std.specs.Prelude.{◌≡◌, ◌≤◌, false, length, IfOk, M
 ghost use Rattle.model.specs.Campaign.{AreRows};
 ghost use Rattle.model.specs.Scripts.{most_points};
 ghost use Rattle.campaign.specs.Campaigns.{AreRowsOf, IsCampaignFault, ServesCampaign};
-ghost use Rattle.campaign.specs.Start.{IsStart};
+ghost use Rattle.shelf.specs.Shelves.{IsShelf};
 
 use crate::campaign_report::Report;
 use crate::file::{ServeFault, app_of};
@@ -11,11 +11,11 @@ use crate::gate::{Gate, NoGate};
 use crate::making::campaign_from;
 use crate::options::Options;
 use crate::points::{ExpandFault, expand};
-use crate::start::Start;
 use crate::writing::write_report;
 use byte_io::{Sink, Source};
 use deal::{Division, Tally};
 use model::{App, Memory, Point, Totals};
+use shelf::Shelf;
 use std::alloc::Global;
 use std::sync::Wait;
 use std::thread::Threads;
@@ -38,18 +38,18 @@ fn report_from<R: Threads + Wait + Sync, G: Gate + Sync>(
     rt: &R,
     alloc: Global,
     app: &App,
-    start: Start,
+    start: Shelf,
     points: &[Point],
     options: Options,
     gate: &G,
 ) -> Result<Report, Memory>
-    requires start { IsStart app.now start }
+    requires start { IsShelf app.now start }
     requires few { length points.now ≤ most_points }
     ensures { IfOk result (λ report. AreRows app.now start.limits points.now report) }
 {
-    options.well_formed();
-    let workers = options.workers as usize;
-    let Ok(division) = Division::even(alloc, points.len(), options.block as usize) else {
+    let workers = options.workers.clamp(1, Options::MOST_WORKERS) as usize;
+    let block = options.block.clamp(1, Options::MOST_BLOCK) as usize;
+    let Ok(division) = Division::even(alloc, points.len(), block) else {
         return Err(Memory);
     };
     let Ok((tally, seats)) = Tally::make(alloc, workers) else {
@@ -71,7 +71,8 @@ fn report_of<R: Threads + Wait + Sync, G: Gate + Sync>(
 ) -> Result<Report, ServeFault>
     ensures { MatchResult result (AreRowsOf app.now) (IsCampaignFault app.now) }
 {
-    let start = Start::make(alloc, app, app.limits(), options.stride)?;
+    let stride = options.stride.clamp(1, Options::MOST_STRIDE);
+    let start = Shelf::make(alloc, app, app.limits(), stride)?;
     let points = expand(alloc, app, start.base())?;
     let report = report_from(rt, alloc, app, start, points.as_slice(), options, gate)?;
     Ok(report)
