@@ -15,7 +15,6 @@ mod points;
 mod rows;
 mod serving;
 mod start;
-
 mod tallying;
 mod worker;
 mod writing;

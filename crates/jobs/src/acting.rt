@@ -8,12 +8,14 @@ ghost use Rattle.jobs.specs.Acting.{RunServed, CampaignServed, Does, OpensAndDoe
 
 use crate::fault_line::tell;
 use byte_io::{FromReader, Sink, Source};
-use campaign::{At, Options, Progress, ServeFault, Unseen, serve_run, serve_watched};
+use campaign::{At, Gate, NoGate, Options, ServeFault, serve_run, serve_watched};
 use model::End;
 use std::alloc::Global;
 use std::fs::File;
 use std::io::{self, ErrorKind};
 use std::rt::Files;
+use std::sync::Wait;
+use std::thread::Threads;
 
 /// What the program is to do.
 #[derive(Clone, Copy, Debug, PartialEq, Eq)]
@@ -163,12 +165,13 @@ fn serve_run_of<R: Source, W: Sink>(
 }
 
 // Serves a campaign. Answers whether all its rows pass.
-fn serve_campaign<R: Source, W: Sink, P: Progress>(
+fn serve_campaign<T: Threads + Wait + Sync, R: Source, W: Sink, G: Gate + Sync>(
+    rt: &T,
     alloc: Global,
     quiet: bool,
     reader: &mut R,
     writer: &mut W,
-    progress: &mut P,
+    gate: &G,
 ) -> Result<bool, ServeFault>
     requires reads { R.has_failed reader.old ≡ false }
     requires writes { W.has_failed writer.old ≡ false }
@@ -177,21 +180,22 @@ fn serve_campaign<R: Source, W: Sink, P: Progress>(
 {
     let options = Options::default();
     let totals = if quiet {
-        serve_watched(alloc, reader, writer, options, &mut Unseen)?
+        serve_watched(rt, alloc, reader, writer, options, &NoGate)?
     } else {
-        serve_watched(alloc, reader, writer, options, progress)?
+        serve_watched(rt, alloc, reader, writer, options, gate)?
     };
     Ok(totals.pass == totals.rows)
 }
 
 // Reads the file of the job from `reader`, and writes to `writer` what the job asks for. Nothing is read where its step and its
 // handler don't go together.
-fn serve_job<R: Source, W: Sink, P: Progress>(
+fn serve_job<T: Threads + Wait + Sync, R: Source, W: Sink, G: Gate + Sync>(
+    rt: &T,
     alloc: Global,
     job: &Job<'_>,
     reader: &mut R,
     writer: &mut W,
-    progress: &mut P,
+    gate: &G,
 ) -> Result<bool, JobFault>
     requires reads { R.has_failed reader.old ≡ false }
     requires writes { W.has_failed writer.old ≡ false }
@@ -202,7 +206,7 @@ fn serve_job<R: Source, W: Sink, P: Progress>(
     let at = job.injection()?;
     let served = match *job {
         Job::Run { .. } => serve_run_of(alloc, at, reader, writer),
-        Job::Campaign { quiet, .. } => serve_campaign(alloc, quiet, reader, writer, progress),
+        Job::Campaign { quiet, .. } => serve_campaign(rt, alloc, quiet, reader, writer, gate),
     };
     match served {
         Ok(passes) => Ok(passes),
@@ -213,15 +217,16 @@ fn serve_job<R: Source, W: Sink, P: Progress>(
 /// Does the job: reads its file from `reader`, and writes to `writer` what the job asks for. Answers the status that the
 /// program ends with, and puts the line of a fault, if any, to `faults`; that this fails changes nothing.
 ///
-/// Where the job's step and its handler don't go together, nothing is read. `progress` is told how far a campaign has come,
-/// unless it is quiet; no clause speaks of that.
-pub fn act<R: Source, W: Sink, F: Sink, P: Progress>(
+/// Where the job's step and its handler don't go together, nothing is read. The gate is told what the workers of a campaign do,
+/// unless it is quiet; no clause speaks of that. A campaign waits for its workers.
+pub fn act<T: Threads + Wait + Sync, R: Source, W: Sink, F: Sink, G: Gate + Sync>(
+    rt: &T,
     alloc: Global,
     job: &Job<'_>,
     reader: &mut R,
     writer: &mut W,
     faults: &mut F,
-    progress: &mut P,
+    gate: &G,
 ) -> u8
     requires reads { R.has_failed reader.old ≡ false }
     requires writes { W.has_failed writer.old ≡ false }
@@ -233,7 +238,7 @@ pub fn act<R: Source, W: Sink, F: Sink, P: Progress>(
         × (result ≡ status_of outcome) }
     ensures unread { is_unpaired job.now ≡ true → R.left reader.new ≡ R.left reader.old }
 {
-    let outcome = serve_job(alloc, job, reader, writer, progress);
+    let outcome = serve_job(rt, alloc, job, reader, writer, gate);
     conclude(job, faults, outcome)
 }
 
@@ -253,13 +258,13 @@ fn fault_of(error: &io::Error) -> ServeFault
 /// Opens the file of the job, and does the job over it and the two sinks. A file that can't be opened is one that can't be
 /// read, also where the job's step and handler don't go together. The contract says of the file's bytes that there are such;
 /// that they are those of the file, the tests show.
-pub fn open_and_act<S: Files, W: Sink, F: Sink, P: Progress>(
+pub fn open_and_act<S: Files + Threads + Wait + Sync, W: Sink, F: Sink, G: Gate + Sync>(
+    rt: &S,
     alloc: Global,
-    files: &S,
     job: &Job<'_>,
     writer: &mut W,
     faults: &mut F,
-    progress: &mut P,
+    gate: &G,
 ) -> u8
     requires writes { W.has_failed writer.old ≡ false }
     requires tells { F.has_failed faults.old ≡ false }
@@ -268,10 +273,10 @@ pub fn open_and_act<S: Files, W: Sink, F: Sink, P: Progress>(
         × Tells (F.held faults.old) (F.held faults.new) (F.has_failed faults.new) (told job.now outcome)
         × (result ≡ status_of outcome) }
 {
-    match File::open(files, job.file()) {
+    match File::open(rt, job.file()) {
         Ok(file) => {
             let mut reader = FromReader::new(file);
-            act(alloc, job, &mut reader, writer, faults, progress)
+            act(rt, alloc, job, &mut reader, writer, faults, gate)
         }
         Err(error) => conclude(job, faults, Err(JobFault::Serve(fault_of(&error)))),
     }

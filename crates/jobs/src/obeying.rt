@@ -8,11 +8,15 @@ ghost use Rattle.jobs.specs.Words.{texts_of};
 use crate::acting::{open_and_act, refuse};
 use crate::words::job_named;
 use byte_io::{Sink, WriteFault, put_all};
-use campaign::{Progress, ServeFault};
+use campaign::{Gate, ServeFault};
 use clap::Error;
 use clap::error::ErrorKind;
 use std::alloc::Global;
 use std::rt::Files;
+use std::sync::Wait;
+use std::thread::Threads;
+use std::sync::Wait;
+use std::thread::Threads;
 
 // Writes help or the version, as far as the writer takes it.
 fn show<W: Sink, F: Sink>(text: &str, writer: &mut W, faults: &mut F) -> u8
@@ -68,14 +72,14 @@ pub fn conclude_error<W: Sink, F: Sink>(
 }
 
 /// Does what the words ask for: a job over the two sinks, or to show help or the version, or to say why they are refused.
-/// `progress` is told how far a campaign has come, unless the words ask for quiet.
-pub fn obey<S: Files, W: Sink, F: Sink, P: Progress>(
+/// The gate is told what the workers of a campaign do, unless the words ask for quiet. A campaign waits for its workers.
+pub fn obey<S: Files + Threads + Wait + Sync, W: Sink, F: Sink, G: Gate + Sync>(
+    rt: &S,
     alloc: Global,
-    files: &S,
     words: &[&str],
     writer: &mut W,
     faults: &mut F,
-    progress: &mut P,
+    gate: &G,
 ) -> u8
     requires writes { W.has_failed writer.old ≡ false }
     requires tells { F.has_failed faults.old ≡ false }
@@ -84,7 +88,7 @@ pub fn obey<S: Files, W: Sink, F: Sink, P: Progress>(
         (F.held faults.old) (F.held faults.new) (F.has_failed faults.new) result }
 {
     match job_named(alloc, words) {
-        Ok(job) => open_and_act(alloc, files, &job, writer, faults, progress),
+        Ok(job) => open_and_act(rt, alloc, &job, writer, faults, gate),
         Err(error) => conclude_error(alloc, &error, writer, faults),
     }
 }

@@ -22,12 +22,12 @@ fn status(rt: &HostRuntime) -> io::Result<u8> {
         words.push(argument.as_str())?;
     }
     Ok(obey(
-        rt.alloc(),
         rt,
+        rt.alloc(),
         words.as_slice(),
         &mut ToWriter::new(rt.stdout()),
         &mut ToWriter::new(rt.stderr()),
-        &mut Counter::new(rt),
+        &Counter::new(rt),
     ))
 }
 

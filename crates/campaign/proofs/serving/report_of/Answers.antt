@@ -7,7 +7,7 @@ pub returns-in_err-points : goal.returns-in_err-points
 returns-in_err-points g c =
     let p = err_from_is_err_and c.from_residual-in_err-points.result c.from_residual-in_err-points.ensures.1 in
     let own = c.in_ok-start.ensures.limits ∙ c.limits.ensures in
-    rw (p.1, p.2) (expand_fault c.args.app.now c.in_ok-start.start c.base.result.now c.in_ok-start.ensures.start own c.base.ensures c.in_err-points.field-0 c.in_err-points.ensures.fault)
+    rw (p.1, p.2) (expand_fault c.args.app.now c.in_ok-start.start c.base.result.now c.in_ok-start.ensures.start own c.base.ensures c.in_err-points.field-0.0 c.in_err-points.ensures.fault)
 
 pub returns : goal.returns
 returns g c =
