@@ -4,11 +4,14 @@ ghost use Rattle.std.specs.Prelude.{◌≡◌, ◌≤◌, false};
 use crate::dice::Dice;
 use crate::file::{file_of, points_text};
 use byte_io::ToWriter;
-use campaign::{Report, campaign, write_report};
+use campaign::{NoGate, Report, campaign, write_report};
+use deal::{Division, Tally};
 use model::{App, HandlerId, Memory, Meter, Plan, Point, Run, Totals};
 use report::{Title, write_run};
 use std::alloc::Global;
 use std::process::Abort;
+use std::sync::Wait;
+use std::thread::Threads;
 
 /// How many of the rows there are of each kind.
 #[derive(Debug, Default, Drop)]
@@ -77,11 +80,36 @@ impl Seen {
 }
 
 /// The report of the campaign over these points.
-fn report_of(rt: &impl Abort, alloc: Global, app: &App, points: Vec<Point>) -> Report {
+fn report_of<R: Abort + Threads + Wait + Sync>(
+    rt: &R,
+    alloc: Global,
+    app: &App,
+    points: Vec<Point>,
+    workers: usize,
+    block: usize,
+) -> Report
+    requires workers { (0 < workers) × (workers ≤ 64) }
+    requires block { 0 < block }
+{
     assert!(rt; points.len() <= 1_000_000, "few points");
-    campaign(alloc, app, points, app.limits())
+    let division = Division::even(alloc, points.len(), block)
         .ok()
-        .expect(rt, "memory")
+        .expect(rt, "memory");
+    let (tally, seats) = Tally::make(alloc, workers).ok().expect(rt, "memory");
+    let finished = campaign(
+        rt,
+        alloc,
+        app,
+        points,
+        app.limits(),
+        64,
+        workers,
+        division,
+        &NoGate,
+        &tally,
+        seats,
+    );
+    finished.ok().expect(rt, "memory").report
 }
 
 /// The line of totals.
@@ -111,7 +139,7 @@ fn a_campaign_is_its_rows_one_by_one(rt: HostRuntime) {
                 .expect(&rt, "memory");
         }
         let told = points_text(alloc, &app, points.as_slice()).expect(&rt, "memory");
-        let report = report_of(&rt, alloc, &app, points);
+        let report = report_of(&rt, alloc, &app, points, 1 + seed as usize % 4, 1 + seed as usize % 5);
         let line = total_line(alloc, report.totals()).expect(&rt, "memory");
         wanted
             .extend_from_slice(line.as_bytes())
