@@ -8,5 +8,6 @@ mod Keeping
 mod Multiplicity
 mod Placed
 mod Sending
+mod Started
 mod Totalling
 mod Whole

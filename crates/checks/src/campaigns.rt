@@ -154,7 +154,7 @@ fn campaigns_have_their_reports(rt: HostRuntime) {
             quiet: true,
         };
         for at_once in [4096, 1] {
-            let answer = serve_job(rt.alloc(), &job, campaign.file.as_bytes(), at_once);
+            let answer = serve_job(&rt, rt.alloc(), &job, campaign.file.as_bytes(), at_once);
             assert_eq!(rt; answer.status, campaign.status, "{name}");
             let written = answer.written.bytes();
             check_text(&rt, rt.alloc(), name, written, campaign.written);

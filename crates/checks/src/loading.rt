@@ -238,7 +238,7 @@ fn an_application_without_points(rt: HostRuntime) {
 #[test]
 fn the_run_of_a_file_with_points_is_the_same(rt: HostRuntime) {
     let report = "base: pass in 3 steps, 2 ticks\n2 2 mark a 7\n2 2 run -\n";
-    let answer = serve(rt.alloc(), POINTS.as_bytes(), 100);
+    let answer = serve(&rt, rt.alloc(), POINTS.as_bytes(), 100);
     assert_eq!(rt; answer.status, 0);
     check_text(&rt, rt.alloc(), "points", answer.written.bytes(), report);
 }

@@ -3,6 +3,8 @@
 use crate::sinks::{check_text, serve};
 use std::alloc::{AllocError, Global};
 use std::process::Abort;
+use std::sync::Wait;
+use std::thread::Threads;
 
 // A queue, a semaphore, a mutex, an event group, and the head of a task.
 const OBJECTS: &str = r"[[queue]]
@@ -48,11 +50,11 @@ const SWITCHING: [&str; 17] = [
 const MISUSE: &str = "base: misuse a 1 1 in 2 steps, 0 ticks\n0 0 call a 0 suspend_all = 0\n";
 
 /// Runs a file whose task suspends the scheduler and then does this op.
-fn check_switching(rt: &impl Abort, alloc: Global, op: &str) -> Result<(), AllocError> {
+fn check_switching<R: Abort + Threads + Wait + Sync>(rt: &R, alloc: Global, op: &str) -> Result<(), AllocError> {
     let mut file = String::from_str(alloc, OBJECTS)?;
     let script = format!(in alloc; "script = ['suspend_all', '{op}']\n")?;
     file.push_str(script.as_str())?;
-    let answer = serve(alloc, file.as_bytes(), 4096);
+    let answer = serve(rt, alloc, file.as_bytes(), 4096);
     assert_eq!(rt; answer.status, 1, "{op}");
     check_text(rt, alloc, op, answer.written.bytes(), MISUSE);
     check_text(rt, alloc, op, answer.told.bytes(), "");

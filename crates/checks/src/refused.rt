@@ -3,6 +3,8 @@
 use crate::sinks::{check_text, serve};
 use std::alloc::Global;
 use std::process::Abort;
+use std::sync::Wait;
+use std::thread::Threads;
 
 /// A file, and the fault line that its run is refused with.
 #[derive(Clone, Copy)]
@@ -504,9 +506,9 @@ handler = 'a'
 ];
 
 /// Runs the file over sinks that take a byte a call and over wide ones, and compares the status and the line.
-pub(crate) fn check(rt: &impl Abort, alloc: Global, case: Case) {
+pub(crate) fn check<R: Abort + Threads + Wait + Sync>(rt: &R, alloc: Global, case: Case) {
     for at_once in [1, 4096] {
-        let answer = serve(alloc, case.file, at_once);
+        let answer = serve(rt, alloc, case.file, at_once);
         assert_eq!(rt; answer.status, 3, "{}", case.line);
         check_text(rt, alloc, case.line, answer.written.bytes(), "");
         check_text(rt, alloc, case.line, answer.told.bytes(), case.line);

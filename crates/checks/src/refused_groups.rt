@@ -5,6 +5,8 @@ use crate::refused::{Case, check};
 use crate::sinks::{check_text, serve};
 use std::alloc::{AllocError, Global};
 use std::process::Abort;
+use std::sync::Wait;
+use std::thread::Threads;
 
 const CASES: [Case; 18] = [
     Case {
@@ -242,8 +244,8 @@ name = 'g'
 ";
 
 /// Runs a file with these ops of its handler and these of its task, as texts of an array, which is refused with this line.
-fn check_ops(
-    rt: &impl Abort,
+fn check_ops<R: Abort + Threads + Wait + Sync>(
+    rt: &R,
     alloc: Global,
     isr_ops: &str,
     ops: &str,
@@ -254,7 +256,7 @@ fn check_ops(
     file.push_str(handler.as_str())?;
     let task = format!(in alloc; "[[task]]\nname = 'a'\npriority = 1\nscript = [{ops}]\n")?;
     file.push_str(task.as_str())?;
-    let answer = serve(alloc, file.as_bytes(), 4096);
+    let answer = serve(rt, alloc, file.as_bytes(), 4096);
     assert_eq!(rt; answer.status, 3, "{file}");
     check_text(rt, alloc, file.as_str(), answer.written.bytes(), "");
     check_text(rt, alloc, file.as_str(), answer.told.bytes(), line);
@@ -262,13 +264,13 @@ fn check_ops(
 }
 
 /// Runs a file whose task has this one op.
-fn check_op(rt: &impl Abort, alloc: Global, op: &str, line: &str) -> Result<(), AllocError> {
+fn check_op<R: Abort + Threads + Wait + Sync>(rt: &R, alloc: Global, op: &str, line: &str) -> Result<(), AllocError> {
     let ops = format!(in alloc; "'{op}'")?;
     check_ops(rt, alloc, "", ops.as_str(), line)
 }
 
 /// Runs a file whose handler has this one op.
-fn check_isr_op(rt: &impl Abort, alloc: Global, op: &str, line: &str) -> Result<(), AllocError> {
+fn check_isr_op<R: Abort + Threads + Wait + Sync>(rt: &R, alloc: Global, op: &str, line: &str) -> Result<(), AllocError> {
     let isr_ops = format!(in alloc; "'{op}'")?;
     check_ops(rt, alloc, isr_ops.as_str(), "", line)
 }

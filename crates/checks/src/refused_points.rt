@@ -4,6 +4,8 @@ use crate::refused::{Case, check};
 use crate::sinks::{check_text, serve};
 use std::alloc::{AllocError, Global};
 use std::process::Abort;
+use std::sync::Wait;
+use std::thread::Threads;
 
 const CASES: [Case; 11] = [
     Case {
@@ -98,9 +100,9 @@ campaign = {{ points = [{points}] }}
 }
 
 /// Runs a file with these points, which is to be refused with this line.
-fn refuse(rt: &impl Abort, alloc: Global, points: &str, line: &str) -> Result<(), AllocError> {
+fn refuse<R: Abort + Threads + Wait + Sync>(rt: &R, alloc: Global, points: &str, line: &str) -> Result<(), AllocError> {
     let file = with_points(alloc, points)?;
-    let answer = serve(alloc, file.as_bytes(), 100);
+    let answer = serve(rt, alloc, file.as_bytes(), 100);
     assert_eq!(rt; answer.status, 3, "{points}");
     check_text(rt, alloc, points, answer.told.bytes(), line);
     Ok(())

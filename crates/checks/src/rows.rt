@@ -1,11 +1,13 @@
 //! Jobs with a step or a handler: which points are reached, one without the other, and a handler that is unknown.
 
 use crate::sinks::{Breaking, Holder, check_text, serve_job};
-use campaign::Unseen;
+use campaign::NoGate;
 use jobs::{Job, act, obey};
 use std::alloc::{AllocError, Global};
 use std::process::Abort;
 use std::rt::Files;
+use std::sync::Wait;
+use std::thread::Threads;
 
 // Two tasks that share the processor for six steps, and a handler that does nothing.
 const SHARED: &str = "
@@ -112,7 +114,7 @@ fn rows_of_a_handler_that_does_nothing(rt: HostRuntime) -> Result<(), AllocError
             at: Some(row.at),
             handler: Some("h"),
         };
-        let answer = serve_job(rt.alloc(), &job, row.file.as_bytes(), 4096);
+        let answer = serve_job(&rt, rt.alloc(), &job, row.file.as_bytes(), 4096);
         assert_eq!(rt; answer.status, row.status, "{}", row.head);
         let head = row.head;
         let events = row.events;
@@ -194,7 +196,7 @@ fn handlers_that_are_unknown(rt: HostRuntime) {
                 at: Some(at),
                 handler: Some(refused.handler),
             };
-            let answer = serve_job(rt.alloc(), &job, refused.file.as_bytes(), 4096);
+            let answer = serve_job(&rt, rt.alloc(), &job, refused.file.as_bytes(), 4096);
             assert_eq!(rt; answer.status, refused.status, "{}", refused.line);
             check_text(&rt, rt.alloc(), refused.line, answer.written.bytes(), "");
             check_text(
@@ -211,7 +213,7 @@ fn handlers_that_are_unknown(rt: HostRuntime) {
 const UNPAIRED: &str = "rtosim: --at and --handler go together\n";
 
 /// Does a job that has one without the other, over a reader that fails at once.
-fn check_unpaired(rt: &impl Abort, alloc: Global, at: Option<u32>, handler: Option<&str>) {
+fn check_unpaired<R: Abort + Threads + Wait + Sync>(rt: &R, alloc: Global, at: Option<u32>, handler: Option<&str>) {
     let job = Job::Run {
         file: "app.toml",
         at,
@@ -221,19 +223,20 @@ fn check_unpaired(rt: &impl Abort, alloc: Global, at: Option<u32>, handler: Opti
     let mut written = Holder::wide(alloc, 4096);
     let mut told = Holder::wide(alloc, 4096);
     let status = act(
+        rt,
         alloc,
         &job,
         &mut reader,
         &mut written,
         &mut told,
-        &mut Unseen,
+        &NoGate,
     );
     assert_eq!(rt; status, 2);
     check_text(rt, alloc, "unpaired", written.bytes(), "");
     check_text(rt, alloc, "unpaired", told.bytes(), UNPAIRED);
     // Nor is anything said of bytes that are no TOML.
     for file in [b"task = [".as_slice(), b"\xff".as_slice()] {
-        let answer = serve_job(alloc, &job, file, 4096);
+        let answer = serve_job(rt, alloc, &job, file, 4096);
         assert_eq!(rt; answer.status, 2);
         check_text(rt, alloc, "unpaired", answer.told.bytes(), UNPAIRED);
     }
@@ -248,10 +251,10 @@ fn a_step_without_a_handler_and_the_reverse(rt: HostRuntime) {
 }
 
 /// Does what these words ask for, which is refused with this status and line.
-fn check_words<R: Abort + Files>(rt: &R, alloc: Global, words: &[&str], status: u8, line: &str) {
+fn check_words<R: Abort + Files + Threads + Wait + Sync>(rt: &R, alloc: Global, words: &[&str], status: u8, line: &str) {
     let mut written = Holder::wide(alloc, 4096);
     let mut told = Holder::wide(alloc, 4096);
-    let ended = obey(alloc, rt, words, &mut written, &mut told, &mut Unseen);
+    let ended = obey(rt, alloc, words, &mut written, &mut told, &NoGate);
     assert_eq!(rt; ended, status, "{line}");
     check_text(rt, alloc, line, written.bytes(), "");
     check_text(rt, alloc, line, told.bytes(), line);

@@ -4,6 +4,8 @@
 use crate::sinks::{check_text, serve};
 use std::alloc::Global;
 use std::process::Abort;
+use std::sync::Wait;
+use std::thread::Threads;
 
 /// A file, and the status and the report of its run.
 #[derive(Clone, Copy)]
@@ -48,9 +50,9 @@ script = ['delay 1', 'time', 'expect 0']
 ];
 
 /// Runs the file over sinks that take so many bytes a call, and compares the status and the report.
-fn check_over(rt: &impl Abort, alloc: Global, case: Case, at_once: usize) {
+fn check_over<R: Abort + Threads + Wait + Sync>(rt: &R, alloc: Global, case: Case, at_once: usize) {
     let name = case.name;
-    let answer = serve(alloc, case.file.as_bytes(), at_once);
+    let answer = serve(rt, alloc, case.file.as_bytes(), at_once);
     let status = answer.status;
     assert!(rt; status == case.status, "{name}: status {status}");
     check_text(rt, alloc, name, answer.written.bytes(), case.report);
@@ -58,7 +60,7 @@ fn check_over(rt: &impl Abort, alloc: Global, case: Case, at_once: usize) {
 }
 
 /// The same, over sinks that take a byte a call and over wide ones.
-fn check_case(rt: &impl Abort, alloc: Global, case: Case) {
+fn check_case<R: Abort + Threads + Wait + Sync>(rt: &R, alloc: Global, case: Case) {
     check_over(rt, alloc, case, 1);
     check_over(rt, alloc, case, 4096);
 }

@@ -2,10 +2,12 @@
 ghost use Rattle.std.specs.Prelude.{◌≡◌, false};
 
 use byte_io::{Failed, FromReader, Sink, Source};
-use campaign::Unseen;
+use campaign::NoGate;
 use jobs::{Job, act};
 use std::alloc::Global;
 use std::process::Abort;
+use std::sync::Wait;
+use std::thread::Threads;
 
 /// Holds what it is given, at most so many bytes a call. Once there is no more room it fails, or takes no more.
 #[derive(Drop)]
@@ -121,17 +123,24 @@ pub(crate) fn base_run_of(file: &str) -> Job<'_> {
 }
 
 /// Does a job over a file, and sinks that take so many bytes a call.
-pub(crate) fn serve_job(alloc: Global, job: &Job<'_>, file: &[u8], at_once: usize) -> Answer {
+pub(crate) fn serve_job<R: Threads + Wait + Sync>(
+    rt: &R,
+    alloc: Global,
+    job: &Job<'_>,
+    file: &[u8],
+    at_once: usize,
+) -> Answer {
     let mut written = Holder::wide(alloc, at_once);
     let mut told = Holder::wide(alloc, at_once);
     let mut reader = FromReader::new(file);
     let status = act(
+        rt,
         alloc,
         job,
         &mut reader,
         &mut written,
         &mut told,
-        &mut Unseen,
+        &NoGate,
     );
     Answer {
         status,
@@ -141,8 +150,13 @@ pub(crate) fn serve_job(alloc: Global, job: &Job<'_>, file: &[u8], at_once: usiz
 }
 
 /// Runs a file, over sinks that take so many bytes a call.
-pub(crate) fn serve(alloc: Global, file: &[u8], at_once: usize) -> Answer {
-    serve_job(alloc, &base_run_of("app.toml"), file, at_once)
+pub(crate) fn serve<R: Threads + Wait + Sync>(
+    rt: &R,
+    alloc: Global,
+    file: &[u8],
+    at_once: usize,
+) -> Answer {
+    serve_job(rt, alloc, &base_run_of("app.toml"), file, at_once)
 }
 
 /// Compares a text with the one that is wanted, and shows both where they differ.

@@ -3,7 +3,7 @@ ghost use Rattle.std.specs.Prelude.{◌<◌};
 
 use crate::sinks::{base_run_of, check_text, serve};
 use byte_io::{Failed, FromReader, Sink, ToWriter};
-use campaign::{Unseen, serve_run};
+use campaign::{NoGate, serve_run};
 use jobs::act;
 use model::End;
 use std::alloc::{AllocError, Global};
@@ -69,7 +69,7 @@ fn objects(alloc: Global, counts: [u32; 4]) -> Result<String, AllocError> {
 #[test]
 fn at_most_256_ops(rt: HostRuntime) -> Result<(), AllocError> {
     let (file, report) = marks(rt.alloc(), 256)?;
-    let answer = serve(rt.alloc(), file.as_bytes(), 100);
+    let answer = serve(&rt, rt.alloc(), file.as_bytes(), 100);
     let name = "256 ops";
     check_text(
         &rt,
@@ -80,7 +80,7 @@ fn at_most_256_ops(rt: HostRuntime) -> Result<(), AllocError> {
     );
     assert_eq!(rt; answer.status, 0);
     let (file, _) = marks(rt.alloc(), 257)?;
-    let answer = serve(rt.alloc(), file.as_bytes(), 100);
+    let answer = serve(&rt, rt.alloc(), file.as_bytes(), 100);
     let line = "rtosim: 9 TooMany: task 0 script\n";
     check_text(&rt, rt.alloc(), "257 ops", answer.told.bytes(), line);
     assert_eq!(rt; answer.status, 3);
@@ -90,11 +90,11 @@ fn at_most_256_ops(rt: HostRuntime) -> Result<(), AllocError> {
 #[test]
 fn at_most_32_tasks(rt: HostRuntime) -> Result<(), AllocError> {
     let file = tasks(rt.alloc(), 32)?;
-    let answer = serve(rt.alloc(), file.as_bytes(), 100);
+    let answer = serve(&rt, rt.alloc(), file.as_bytes(), 100);
     let report = "base: pass in 0 steps, 0 ticks\n";
     check_text(&rt, rt.alloc(), "32 tasks", answer.written.bytes(), report);
     let file = tasks(rt.alloc(), 33)?;
-    let answer = serve(rt.alloc(), file.as_bytes(), 100);
+    let answer = serve(&rt, rt.alloc(), file.as_bytes(), 100);
     let line = "rtosim: 9 TooMany: task\n";
     check_text(&rt, rt.alloc(), "33 tasks", answer.told.bytes(), line);
     Ok(())
@@ -106,7 +106,7 @@ fn at_most_32_objects(rt: HostRuntime) -> Result<(), AllocError> {
     let report = "base: pass in 0 steps, 0 ticks\n";
     for counts in [[20, 0, 0, 12], [8, 8, 8, 8], [0, 0, 0, 32]] {
         let file = objects(alloc, counts)?;
-        let answer = serve(alloc, file.as_bytes(), 100);
+        let answer = serve(&rt, alloc, file.as_bytes(), 100);
         check_text(&rt, alloc, "32 objects", answer.written.bytes(), report);
     }
     Ok(())
@@ -123,7 +123,7 @@ fn no_33rd_object(rt: HostRuntime) -> Result<(), AllocError> {
         ([20, 0, 0, 13], "rtosim: 9 TooMany: mutex\n"),
     ] {
         let file = objects(alloc, counts)?;
-        let answer = serve(alloc, file.as_bytes(), 100);
+        let answer = serve(&rt, alloc, file.as_bytes(), 100);
         check_text(&rt, alloc, "33 objects", answer.told.bytes(), line);
         assert_eq!(rt; answer.status, 3);
     }
@@ -136,12 +136,12 @@ fn at_most_16_groups(rt: HostRuntime) -> Result<(), AllocError> {
     let alloc = rt.alloc();
     let mut file = objects(alloc, [8, 8, 8, 8])?;
     push_objects(&mut file, alloc, "group", "", 16)?;
-    let answer = serve(alloc, file.as_bytes(), 100);
+    let answer = serve(&rt, alloc, file.as_bytes(), 100);
     let report = "base: pass in 0 steps, 0 ticks\n";
     check_text(&rt, alloc, "16 groups", answer.written.bytes(), report);
     let mut file = objects(alloc, [0, 0, 0, 0])?;
     push_objects(&mut file, alloc, "group", "", 17)?;
-    let answer = serve(alloc, file.as_bytes(), 100);
+    let answer = serve(&rt, alloc, file.as_bytes(), 100);
     let line = "rtosim: 9 TooMany: group\n";
     check_text(&rt, alloc, "17 groups", answer.told.bytes(), line);
     assert_eq!(rt; answer.status, 3);
@@ -167,12 +167,12 @@ fn points(alloc: Global, count: u32, entry: &str) -> Result<String, AllocError> 
 fn at_most_1000000_points(rt: HostRuntime) -> Result<(), AllocError> {
     let alloc = rt.alloc();
     let file = points(alloc, 1_000_000, "'0 h'")?;
-    let answer = serve(alloc, file.as_bytes(), usize::MAX);
+    let answer = serve(&rt, alloc, file.as_bytes(), usize::MAX);
     let report = "base: pass in 0 steps, 0 ticks\n";
     let name = "1,000,000 points";
     check_text(&rt, alloc, name, answer.written.bytes(), report);
     let file = points(alloc, 1_000_001, "0")?;
-    let answer = serve(alloc, file.as_bytes(), usize::MAX);
+    let answer = serve(&rt, alloc, file.as_bytes(), usize::MAX);
     let line = "rtosim: 9 TooMany: campaign points\n";
     let name = "1,000,001 points";
     check_text(&rt, alloc, name, answer.told.bytes(), line);
@@ -203,12 +203,13 @@ fn a_report_of_several_pages(rt: HostRuntime) -> Result<(), AllocError> {
     let mut told = Vec::new(rt.alloc());
     let job = base_run_of("app.toml");
     let status = act(
+        &rt,
         rt.alloc(),
         &job,
         &mut FromReader::new(TWO_THOUSAND_MARKS.as_bytes()),
         &mut ToWriter::new(&mut written),
         &mut ToWriter::new(&mut told),
-        &mut Unseen,
+        &NoGate,
     );
     assert_eq!(rt; status, 0);
     assert!(rt; told.is_empty());
@@ -257,7 +258,7 @@ fn a_file_of_three_hundred_kilobytes(rt: HostRuntime) -> Result<(), AllocError> 
         push_long_lines(&mut report, alloc, task, next)?;
     }
     assert!(rt; file.len() > 300_000);
-    let answer = serve(alloc, file.as_bytes(), usize::MAX);
+    let answer = serve(&rt, alloc, file.as_bytes(), usize::MAX);
     assert_eq!(rt; answer.status, 0);
     let name = "32 tasks of 256 marks";
     check_text(&rt, alloc, name, answer.written.bytes(), report.as_str());

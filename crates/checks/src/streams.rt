@@ -2,10 +2,12 @@
 
 use crate::sinks::{Breaking, Holder, base_run_of, check_text};
 use byte_io::FromReader;
-use campaign::Unseen;
+use campaign::NoGate;
 use jobs::act;
 use std::alloc::Global;
 use std::process::Abort;
+use std::sync::Wait;
+use std::thread::Threads;
 
 // A sound file, which ends in a comment so that it may be given again and again.
 const ONE_MARK: &str = "task = [{ name = 'a', priority = 1, script = ['mark 5'] }] # ";
@@ -19,8 +21,8 @@ const MANY_MARKS: &str =
 const MANY_MARKS_SIZE: usize = 31_309;
 
 /// Runs a sound file, over a writer that has room for so many bytes of its report. Answers what was written.
-fn check_full_writer(
-    rt: &impl Abort,
+fn check_full_writer<R: Abort + Threads + Wait + Sync>(
+    rt: &R,
     alloc: Global,
     file: &str,
     room: usize,
@@ -31,12 +33,13 @@ fn check_full_writer(
     let mut written = Holder::new(alloc, 4096, room, is_polite);
     let mut told = Holder::wide(alloc, 4096);
     let status = act(
+        rt,
         alloc,
         &job,
         &mut reader,
         &mut written,
         &mut told,
-        &mut Unseen,
+        &NoGate,
     );
     assert_eq!(rt; status, 5, "with room for {room}");
     let line = "rtosim: cannot write\n";
@@ -64,18 +67,19 @@ fn a_writer_is_full_after_some_pages(rt: HostRuntime) {
 }
 
 /// Runs a file whose reader fails after so many reads, over a sink of faults with so much room.
-fn check_broken_reader(rt: &impl Abort, alloc: Global, calls: u32, room: usize) {
+fn check_broken_reader<R: Abort + Threads + Wait + Sync>(rt: &R, alloc: Global, calls: u32, room: usize) {
     let job = base_run_of("a folder");
     let mut reader = Breaking::new(ONE_MARK.as_bytes(), calls);
     let mut written = Holder::wide(alloc, 4096);
     let mut told = Holder::new(alloc, 4096, room, false);
     let status = act(
+        rt,
         alloc,
         &job,
         &mut reader,
         &mut written,
         &mut told,
-        &mut Unseen,
+        &NoGate,
     );
     let line = b"rtosim: cannot read a folder\n".as_slice();
     assert_eq!(rt; status, 3);

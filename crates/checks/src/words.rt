@@ -1,7 +1,7 @@
 //! The words of the command line, and what the program does for them.
 
 use crate::sinks::{Holder, base_run_of, check_text};
-use campaign::{Options, Unseen};
+use campaign::{NoGate, Options};
 use clap::error::ErrorKind;
 use jobs::{Job, job_named, obey, open_and_act};
 use std::alloc::Global;
@@ -21,7 +21,7 @@ fn a_file_that_cannot_be_read(rt: HostRuntime) {
         let mut written = Holder::wide(rt.alloc(), 4096);
         let mut told = Holder::wide(rt.alloc(), 4096);
         let job = base_run_of(file);
-        let status = open_and_act(rt.alloc(), &rt, &job, &mut written, &mut told, &mut Unseen);
+        let status = open_and_act(&rt, rt.alloc(), &job, &mut written, &mut told, &NoGate);
         assert_eq!(rt; status, 3, "{file}");
         check_text(&rt, rt.alloc(), file, written.bytes(), "");
         check_text(&rt, rt.alloc(), file, told.bytes(), line);
@@ -510,12 +510,12 @@ fn words_that_name_no_job(rt: HostRuntime) {
         let mut told = Holder::wide(rt.alloc(), 4096);
         assert!(rt; answer(rt.alloc(), case.words) == Err(case.kind));
         let status = obey(
-            rt.alloc(),
             &rt,
+            rt.alloc(),
             case.words,
             &mut written,
             &mut told,
-            &mut Unseen,
+            &NoGate,
         );
         assert_eq!(rt; status, case.status, "{}", case.told);
         check_text(&rt, rt.alloc(), "written", written.bytes(), case.written);
@@ -530,12 +530,12 @@ fn help_that_cannot_be_written(rt: HostRuntime) {
         let mut told = Holder::wide(rt.alloc(), 4096);
         let words = ["rtosim", word];
         let status = obey(
-            rt.alloc(),
             &rt,
+            rt.alloc(),
             &words,
             &mut written,
             &mut told,
-            &mut Unseen,
+            &NoGate,
         );
         assert_eq!(rt; status, 5, "{word}");
         check_text(
@@ -556,12 +556,12 @@ fn a_refusal_that_cannot_be_told(rt: HostRuntime) {
     let words = ["rtosim", "fly"];
     assert_eq!(rt;
         obey(
-            rt.alloc(),
             &rt,
+            rt.alloc(),
             &words,
             &mut written,
             &mut told,
-            &mut Unseen
+            &NoGate
         ),
         2
     );
@@ -575,12 +575,12 @@ fn a_job_is_done_over_the_sinks(rt: HostRuntime) {
     let words = ["rtosim", "run", "/nonexistent/app.toml"];
     assert_eq!(rt;
         obey(
-            rt.alloc(),
             &rt,
+            rt.alloc(),
             &words,
             &mut written,
             &mut told,
-            &mut Unseen
+            &NoGate
         ),
         3
     );

@@ -4,11 +4,14 @@ ghost use Rattle.std.specs.Prelude.{◌≡◌, ◌<◌, ◌≤◌, false};
 use crate::dice::Dice;
 use crate::file::{file_of, points_text};
 use byte_io::ToWriter;
-use campaign::{Report, campaign, write_report};
+use campaign::{NoGate, Report, campaign, write_report};
+use deal::{Division, Tally};
 use model::{App, HandlerId, Memory, Meter, Plan, Point, Run, Totals};
 use report::{Title, write_run};
 use std::alloc::Global;
 use std::process::Abort;
+use std::sync::Wait;
+use std::thread::Threads;
 
 /// How many of the rows there are of each kind.
 #[derive(Debug, Default, Drop)]
@@ -91,14 +94,38 @@ fn stride_of(dice: &mut Dice) -> u32
 }
 
 /// The report of the campaign over these points.
-fn report_of(rt: &impl Abort, alloc: Global, app: &App, points: Vec<Point>, stride: u32) -> Report
-    requires some { 0 < stride }
-    requires few { stride ≤ 65536 }
+fn report_of<R: Abort + Threads + Wait + Sync>(
+    rt: &R,
+    alloc: Global,
+    app: &App,
+    points: Vec<Point>,
+    stride: u32,
+    workers: usize,
+    block: usize,
+) -> Report
+    requires stride { (0 < stride) × (stride ≤ 65536) }
+    requires workers { (0 < workers) × (workers ≤ 64) }
+    requires block { 0 < block }
 {
     assert!(rt; points.len() <= 1_000_000, "few points");
-    campaign(alloc, app, points, app.limits(), stride)
+    let division = Division::even(alloc, points.len(), block)
         .ok()
-        .expect(rt, "memory")
+        .expect(rt, "memory");
+    let (tally, seats) = Tally::make(alloc, workers).ok().expect(rt, "memory");
+    let finished = campaign(
+        rt,
+        alloc,
+        app,
+        points,
+        app.limits(),
+        stride,
+        workers,
+        division,
+        &NoGate,
+        &tally,
+        seats,
+    );
+    finished.ok().expect(rt, "memory").report
 }
 
 /// The line of totals.
@@ -129,7 +156,9 @@ fn a_campaign_is_its_rows_one_by_one(rt: HostRuntime) {
         }
         let told = points_text(alloc, &app, points.as_slice()).expect(&rt, "memory");
         let stride = stride_of(&mut dice);
-        let report = report_of(&rt, alloc, &app, points, stride);
+        let workers = 1 + seed as usize % 4;
+        let block = 1 + seed as usize % 5;
+        let report = report_of(&rt, alloc, &app, points, stride, workers, block);
         let line = total_line(alloc, report.totals()).expect(&rt, "memory");
         wanted
             .extend_from_slice(line.as_bytes())

@@ -11,6 +11,9 @@ const FIRST: u64 = 1_000;
 // How many milliseconds each showing stands at least.
 const NEXT: u64 = 100;
 
+// How many of the kinds are ends.
+const ENDS: usize = 6;
+
 /// A line on standard error that says how many rows are made of how many, where that is a terminal. Nothing of it stays when the
 /// campaign ends. The first worker shows it, before a block.
 #[derive(Drop)]
@@ -51,7 +54,7 @@ impl<'a> Counter<'a> {
 // How many rows are made: those of each end.
 fn rows_in(seen: &Counts) -> u64 {
     let mut rows = 0_u64;
-    for count in &seen.kinds[..6] {
+    for count in &seen.kinds[..ENDS] {
         rows = rows.saturating_add(*count);
     }
     rows

@@ -1,0 +1,26 @@
+-- The campaign of an application, from its start.
+use Rattle.std.proofs.Common.{◌≡◌, ◌∙◌, ℕ, List, [], ap, sym, subst}
+use Rattle.model.specs.declared.plan.Point.{Point}
+use Rattle.model.specs.Application.{Application, Limits}
+use Rattle.model.specs.Run.{Run, IsRun}
+use Rattle.model.specs.Campaign.{Row, AreRows, points_in}
+use Rattle.campaign.specs.declared.points.ExpandFault.{ExpandFault}
+use Rattle.campaign.specs.declared.points.ExpandFault.TheVariants.{TooManyPoints, Memory}
+use Rattle.campaign.specs.Campaigns.{AreRowsOf, IsCampaignFault, of_expanding}
+use Rattle.campaign.specs.Points.{IsExpandFault}
+use Rattle.shelf.specs.Shelves.{Shelved, IsShelf}
+
+module _ (app : Application) (start : Shelved) (base : Run) (is : IsShelf app start) (own : start.limits ≡ app.limits) (same : base ≡ start.base) where
+  its_run : IsRun app [] app.limits base
+  its_run = subst (λ r. IsRun app [] app.limits r) (sym same) (subst (λ (limits : Limits). IsRun app [] limits start.base) own is.is_base)
+
+  pub expand_fault : (fault : ExpandFault) → IsExpandFault app base.steps fault → IsCampaignFault app (of_expanding fault)
+  expand_fault TooManyPoints many = record { base = base; is_base = its_run; many = many }
+  expand_fault Memory few = tt
+
+  pub app_rows : (points : List Point) (rows : List Row) → points ≡ points_in app base.steps → AreRows app start.limits points rows → AreRowsOf app rows
+  app_rows points rows its are = record {
+    base = base;
+    is_base = its_run;
+    are_rows = subst (λ ps. AreRows app app.limits ps rows) its (subst (λ (limits : Limits). AreRows app limits points rows) own are);
+  }

@@ -1,0 +1,10 @@
+use Rattle.std.proofs.Common.{◌≡◌, ◌≤◌, ◌^◌, ◌∙◌, length, vec_len, ap, arith}
+use Rattle.std.proofs.lemmas.List.{length-replicate}
+use Rattle.campaign.proofs.Counters.{ready_seats}
+use Rattle.campaign.proofs.serving.report_from.Goals as goal
+
+pub campaign_from-requires-clause-seats : goal.campaign_from-requires-clause-seats
+campaign_from-requires-clause-seats g c κs within =
+    let few : length c.args.points.now ≤ 2 ^ 40 = (let most = c.requires.few in omega arith) in
+    let many = ap length c.in-Ok-make.ensures.seats ∙ length-replicate _ _ in
+    (omega (arith, many, c.in-Ok-make.seats.ok), ready_seats c.in-Ok-make.tally (length c.args.points.now) _ c.in-Ok-make.seats.items few c.in-Ok-make.ensures.seats)
