@@ -1,13 +1,10 @@
 -- What a worker has made between two blocks.
 use Rattle.std.specs.Prelude.{true, false, Result, Ok, Err, OnOk, is_err, is_ok, if◌then◌else◌}
-use Rattle.std.proofs.Common.{◌≡◌, ◌≢◌, ◌≤◌, ◌<◌, ◌+◌, ◌^◌, ⊎_elim, ℕ, zero, suc, List, [], ◌∷◌, ◌++◌, length, map, take, drop, sum, slice_index, refl, sym, ap, ap₂, subst, ◌∙◌, arith}
+use Rattle.std.proofs.Common.{◌≡◌, ◌≢◌, ◌≤◌, ◌<◌, ◌+◌, ⊎_elim, ℕ, zero, suc, List, [], ◌∷◌, ◌++◌, length, take, drop, sum, slice_index, refl, sym, ap, ap₂, subst, ◌∙◌, arith}
 use Rattle.std.specs.List.{AllByRecursion}
 use Rattle.std.proofs.lemmas.List.{map-append, take-append-le, drop-append-le, length-drop, length-append, length-take, length-take-le, length-map, drop_at, take_all}
 use Rattle.std.proofs.lemmas.List.Sums.{sum_by_more_le}
 use Rattle.model.specs.declared.event.Event.{Event}
-use Rattle.model.specs.declared.plan.Point.{Point}
-use Rattle.model.specs.Application.{Application, Limits}
-use Rattle.model.specs.Run.{Run}
 use Rattle.model.specs.Campaign.{Row, AreRows}
 use Rattle.deal.specs.Divisions.{IsBlock}
 use Rattle.deal.specs.Tallies.{Tallied}
@@ -22,7 +19,7 @@ use Rattle.deal.specs.Sharing.{HasSeenAll}
 use Rattle.kernel.specs.Logged.{all_of}
 use Rattle.campaign.specs.Kinds.{kind_in}
 use Rattle.campaign.specs.Report.{row_of, rows_of, IsKept}
-use Rattle.campaign.specs.Working.{Work, Gained, GainsRows, HasRoom, block_points, AreRowsByBlock, IsKeptBlock, AreKeptBlocks, numbers_of, CountsBlocks, IsDone}
+use Rattle.campaign.specs.Working.{Work, GainsRows, HasRoom, block_points, IsKeptBlock, AreKeptBlocks, numbers_of, CountsBlocks, IsDone}
 use Rattle.campaign.proofs.Keeping.{all-append, same_rows, still_kept, gained_few}
 use Rattle.campaign.proofs.Determined.{one_list}
 use Rattle.campaign.proofs.Multiplicity.{total_within, total_places}

@@ -1,14 +1,14 @@
 -- Rows that are kept.
 use Rattle.std.specs.Prelude.{nat_lt, slice_range, Result, Ok, Err, IfOk}
 use Rattle.std.proofs.lemmas.Bool.Decides.{nat_tests}
-use Rattle.std.proofs.Common.{◌≡◌, ℕ, ◌≤◌, ◌<◌, ◌+◌, ◌-◌, zero, suc, true, false, List, [], ◌∷◌, ◌++◌, length, length-append, slice_index, slice_index_or, map, take, drop, refl, sym, ap, subst, ◌∙◌, append-nil, append_assoc, arith}
+use Rattle.std.proofs.Common.{◌≡◌, ℕ, ◌≤◌, ◌<◌, ◌+◌, ◌-◌, zero, suc, true, false, List, [], ◌∷◌, ◌++◌, length, length-append, slice_index, slice_index_or, take, drop, refl, sym, ap, ◌∙◌, append-nil, append_assoc, arith}
 use Rattle.std.specs.List.{AllByRecursion}
 use Rattle.std.proofs.lemmas.List.{length-map, map-append, take-append-le, drop-append-le, length-drop, take_all, take_more, drop_at}
 use Rattle.std.proofs.Math.Seq.{take-length}
 use Rattle.model.specs.declared.event.Event.{Event}
 use Rattle.model.specs.declared.plan.Point.{Point}
 use Rattle.model.specs.Application.{Application, Limits}
-use Rattle.model.specs.Run.{Run, IsRun, IsRow, plan_of, events_after}
+use Rattle.model.specs.Run.{Run, IsRun, events_after}
 use Rattle.model.proofs.Injected.{begins_with, no_fewer}
 use Rattle.kernel.specs.declared.rows.RowEnding.{RowEnding}
 use Rattle.kernel.specs.Rows.{IsRowFrom}
@@ -18,7 +18,7 @@ use Rattle.campaign.specs.declared.rows.KeptRow.{KeptRow}
 use Rattle.campaign.specs.Kinds.{kind_in}
 use Rattle.campaign.specs.Report.{row_of, rows_of, IsKept}
 use Rattle.campaign.specs.Start.{IsReached}
-use Rattle.campaign.specs.Working.{IsKeptRow, GainsRow, Gained, GainsRows, HasRoom}
+use Rattle.campaign.specs.Working.{GainsRow, Gained, GainsRows}
 use Rattle.campaign.proofs.Ends.{kind_in-append, kind_in-few}
 
 less : (a b : ℕ) → a < b → nat_lt a b ≡ true

@@ -1,5 +1,5 @@
 //! Campaigns beside runs one by one, of many random applications.
-ghost use Rattle.std.specs.Prelude.{◌≡◌, ◌≤◌, false};
+ghost use Rattle.std.specs.Prelude.{◌≡◌, ◌<◌, ◌≤◌, false};
 
 use crate::dice::Dice;
 use crate::file::{file_of, points_text};

@@ -1,4 +1,4 @@
-use Rattle.std.proofs.Common.{◌≡◌, ℕ, slice_index_or, sym, subst, arith}
+use Rattle.std.proofs.Common.{slice_index_or, sym, subst, arith}
 use mir.Syntax.{of_param}
 use denote.Param.Send.{shr_slice_sync}
 use Rattle.std.proofs.alloc.Global.TheSendSync as global
