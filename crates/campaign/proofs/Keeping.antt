@@ -191,10 +191,10 @@ module _ (app : Application) (limits : Limits) (base : Run) where
         gained = record {
           same = h.gained.same ∙ g.gained.same;
           rises = λ kind l. (
-            let p = g.gained.rises kind l in
-            let q = h.gained.rises kind l in
-            let sum = ap (λ (rows : List Row). kind_in rows kind) both ∙ kind_in-append (rows_of base u g.more) (rows_of base v h.more) kind in
-            omega arith);
+              let p = g.gained.rises kind l in
+              let q = h.gained.rises kind l in
+              let sum = ap (λ (rows : List Row). kind_in rows kind) both ∙ kind_in-append (rows_of base u g.more) (rows_of base v h.more) kind in
+              omega arith);
         };
       }
 

@@ -248,9 +248,10 @@ pub done_each : (setup : Setup) (deal : Game) (tally : Sheet) (count : ℕ) (job
 done_each setup deal tally count [] [] same each are = tt
 done_each setup deal tally count [] (done ∷ dones) same each are = absurd (cc)
 done_each setup deal tally count (job ∷ jobs) [] same each are = absurd (cc)
-done_each setup deal tally count (job ∷ jobs) (done ∷ dones) same each are =
-    (subst (λ (g : Game). IsDone (work_of setup g.lengths) job done) are.0.lane (each 0 job done (omega arith)),
-    done_each setup deal tally count jobs dones (omega (arith, same)) (λ i j d l. each (suc i) j d (omega arith)) are.1)
+done_each setup deal tally count (job ∷ jobs) (done ∷ dones) same each are = (
+  subst (λ (g : Game). IsDone (work_of setup g.lengths) job done) are.0.lane (each 0 job done (omega arith)),
+  done_each setup deal tally count jobs dones (omega (arith, same)) (λ i j d l. each (suc i) j d (omega arith)) are.1,
+)
 
 -- ---- what they brought together
 

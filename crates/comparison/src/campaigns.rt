@@ -139,7 +139,14 @@ fn a_campaign_is_its_rows_one_by_one(rt: HostRuntime) {
                 .expect(&rt, "memory");
         }
         let told = points_text(alloc, &app, points.as_slice()).expect(&rt, "memory");
-        let report = report_of(&rt, alloc, &app, points, 1 + seed as usize % 4, 1 + seed as usize % 5);
+        let report = report_of(
+            &rt,
+            alloc,
+            &app,
+            points,
+            1 + seed as usize % 4,
+            1 + seed as usize % 5,
+        );
         let line = total_line(alloc, report.totals()).expect(&rt, "memory");
         wanted
             .extend_from_slice(line.as_bytes())

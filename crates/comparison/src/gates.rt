@@ -65,7 +65,10 @@ fn points(rt: &impl Abort, alloc: Global) -> Vec<Point> {
     let handler = HandlerId::new(0).expect(rt, "a handler");
     let mut points = Vec::new(alloc);
     for step in [0, 2, 2, 3, 5, 6, 7] {
-        points.push(Point { step, handler }).ok().expect(rt, "memory");
+        points
+            .push(Point { step, handler })
+            .ok()
+            .expect(rt, "memory");
     }
     points
 }
@@ -84,7 +87,9 @@ fn run<R: Abort + Threads + Wait + Sync, G: Gate + Sync>(
     let points = points(rt, alloc);
     assert!(rt; points.len() <= 1_000_000);
     let lengths = Vec::from_slice(alloc, lengths).ok().expect(rt, "memory");
-    let division = Division::new(points.len(), lengths).ok().expect(rt, "a division");
+    let division = Division::new(points.len(), lengths)
+        .ok()
+        .expect(rt, "a division");
     let (tally, seats) = Tally::make(alloc, workers).ok().expect(rt, "memory");
     let finished = campaign(
         rt,

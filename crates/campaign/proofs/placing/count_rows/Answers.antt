@@ -21,9 +21,9 @@ loop-row-preserved c =
     record {
       steps = c.loop-row.invariant.steps;
       totals = λ rows e. (
-        c.count.ensures (rows ++ rows_of c.args.base.now trail (take c.loop-row.row-index slice)) (row_of c.args.base.now trail c.row-item.result) (c.loop-row.invariant.totals rows e)
-        (ap (λ (n : ℕ). nat_lt c.row-item.result.point.step n) (sym c.loop-row.invariant.steps)) refl
-        ∙ ap totals_of (one_row_more c.args.base.now trail slice rows c.loop-row.row-index c.row-item.result c.loop-row-test.true c.row-item.is));
+          c.count.ensures (rows ++ rows_of c.args.base.now trail (take c.loop-row.row-index slice)) (row_of c.args.base.now trail c.row-item.result) (c.loop-row.invariant.totals rows e)
+          (ap (λ (n : ℕ). nat_lt c.row-item.result.point.step n) (sym c.loop-row.invariant.steps)) refl
+          ∙ ap totals_of (one_row_more c.args.base.now trail slice rows c.loop-row.row-index c.row-item.result c.loop-row-test.true c.row-item.is));
     }
 
 pub returns : goal.returns
