@@ -13,8 +13,8 @@ use clap::Error;
 use clap::error::ErrorKind;
 use std::alloc::Global;
 use std::rt::Files;
-use std::sync::{Wait, Wait};
-use std::thread::{Threads, Threads};
+use std::sync::Wait;
+use std::thread::Threads;
 
 // Writes help or the version, as far as the writer takes it.
 fn show<W: Sink, F: Sink>(text: &str, writer: &mut W, faults: &mut F) -> u8
