@@ -1,13 +1,10 @@
 -- What a worker has made between two blocks.
 use Rattle.std.specs.Prelude.{true, false, Result, Ok, Err, OnOk, is_err, is_ok, if◌then◌else◌}
-use Rattle.std.proofs.Common.{◌≡◌, ◌≢◌, ◌≤◌, ◌<◌, ◌+◌, ◌^◌, ⊎_elim, ℕ, zero, suc, List, [], ◌∷◌, ◌++◌, length, map, take, drop, sum, slice_index, refl, sym, ap, ap₂, subst, ◌∙◌, arith}
+use Rattle.std.proofs.Common.{◌≡◌, ◌≢◌, ◌≤◌, ◌<◌, ◌+◌, ⊎_elim, ℕ, zero, suc, List, [], ◌∷◌, ◌++◌, length, take, drop, sum, slice_index, refl, sym, ap, ap₂, subst, ◌∙◌, arith}
 use Rattle.std.specs.List.{AllByRecursion}
 use Rattle.std.proofs.lemmas.List.{map-append, take-append-le, drop-append-le, length-drop, length-append, length-take, length-take-le, length-map, drop_at, take_all}
 use Rattle.std.proofs.lemmas.List.Sums.{sum_by_more_le}
 use Rattle.model.specs.declared.event.Event.{Event}
-use Rattle.model.specs.declared.plan.Point.{Point}
-use Rattle.model.specs.Application.{Application, Limits}
-use Rattle.model.specs.Run.{Run}
 use Rattle.model.specs.Campaign.{Row, AreRows}
 use Rattle.deal.specs.Divisions.{IsBlock}
 use Rattle.deal.specs.Tallies.{Tallied}
@@ -22,7 +19,7 @@ use Rattle.deal.specs.Sharing.{HasSeenAll}
 use Rattle.kernel.specs.Logged.{all_of}
 use Rattle.campaign.specs.Kinds.{kind_in}
 use Rattle.campaign.specs.Report.{row_of, rows_of, IsKept}
-use Rattle.campaign.specs.Working.{Work, Gained, GainsRows, HasRoom, block_points, AreRowsByBlock, IsKeptBlock, AreKeptBlocks, numbers_of, CountsBlocks, IsDone}
+use Rattle.campaign.specs.Working.{Work, GainsRows, HasRoom, block_points, IsKeptBlock, AreKeptBlocks, numbers_of, CountsBlocks, IsDone}
 use Rattle.campaign.proofs.Keeping.{all-append, same_rows, still_kept, gained_few}
 use Rattle.campaign.proofs.Determined.{one_list}
 use Rattle.campaign.proofs.Multiplicity.{total_within, total_places}
@@ -68,7 +65,7 @@ module _ (work : Work) (kept : List KeptRow) (trail : List Event) (blocks : List
       let old_once = worked.once x in
       ⊎_elim
       (λ (e : number ≡ x). subst (λ y. times y (answered ++ number ∷ []) ≤ times y (range 0 (length work.lengths))) e
-          (omega (arith, new, total_append (one_at number) answered (number ∷ []), times_one number, once_within number 0 (length work.lengths) (omega arith) (omega (arith, block.0)))))
+      (omega (arith, new, total_append (one_at number) answered (number ∷ []), times_one number, once_within number 0 (length work.lengths) (omega arith) (omega (arith, block.0)))))
       (λ (d : number ≢ x). omega (arith, old_once, split, elsewhere x number d))
       (same_or number x)
 
@@ -160,13 +157,13 @@ module _ (work : Work) (kept kept' : List KeptRow) (trail trail' : List Event) (
   counts_more rows are = record {
     same = gains.gained.same ∙ same ∙ worked.same;
     rises = λ kind l. (
-      let f : ℕ → ℕ = λ b. kind_in (rows b) kind in
-      let first = (worked.counts rows are).rises kind l in
-      let its_gain = gains.gained.rises kind l in
-      let at = ap (λ (xs : List ℕ). slice_index xs kind) same_counts in
-      let its = ap (λ (r : List Row). kind_in r kind) (one_list work.app work.limits (block_points work number) (rows_of work.base trail' gains.more) (rows number) its_rows (are number block.0)) in
-      let split = total_append f answered (number ∷ []) in
-      omega arith);
+        let f : ℕ → ℕ = λ b. kind_in (rows b) kind in
+        let first = (worked.counts rows are).rises kind l in
+        let its_gain = gains.gained.rises kind l in
+        let at = ap (λ (xs : List ℕ). slice_index xs kind) same_counts in
+        let its = ap (λ (r : List Row). kind_in r kind) (one_list work.app work.limits (block_points work number) (rows_of work.base trail' gains.more) (rows number) its_rows (are number block.0)) in
+        let split = total_append f answered (number ∷ []) in
+        omega arith);
   }
 
   pub worked_more : HasWorked work kept' trail' blocks' (answered ++ number ∷ []) old seat'
@@ -178,13 +175,13 @@ module _ (work : Work) (kept kept' : List KeptRow) (trail trail' : List Event) (
     counts = counts_more;
     once = still_once work kept trail blocks answered old seat worked number first count block new whole;
     few = λ kind l. (
-      let before = worked.few kind l in
-      let more = gained_few work.app work.limits work.base _ _ _ _ _ _ _ gains kind l in
-      let at = ap (λ (xs : List ℕ). slice_index xs kind) same_counts in
-      let most = length-take count (drop first work.points) in
-      let split = total_append (λ b. slice_index work.lengths b) answered (number ∷ []) in
-      let len = block.2 in
-      omega arith);
+        let before = worked.few kind l in
+        let more = gained_few work.app work.limits work.base _ _ _ _ _ _ _ gains kind l in
+        let at = ap (λ (xs : List ℕ). slice_index xs kind) same_counts in
+        let most = length-take count (drop first work.points) in
+        let split = total_append (λ b. slice_index work.lengths b) answered (number ∷ []) in
+        let len = block.2 in
+        omega arith);
   }
 
 -- ---- the end

@@ -1,13 +1,12 @@
 -- Points cut into even blocks, and the seats of a new tally.
-use Rattle.std.proofs.Common.{◌≡◌, ◌≤◌, ◌<◌, ◌+◌, ◌*◌, ◌/◌, ◌%◌, ◌^◌, ℕ, zero, suc, List, [], ◌∷◌, ◌++◌, sum, replicate, slice_index, refl, ap, ◌∙◌, arith}
-use Rattle.std.specs.List.{AllByRecursion}
+use Rattle.std.proofs.Common.{◌≡◌, ◌≤◌, ◌/◌, ◌%◌, ◌^◌, ℕ, zero, suc, List, sum, replicate, slice_index, refl, arith}
 use Rattle.std.proofs.lemmas.List.Folds.{sum_by-replicate}
 use Rattle.std.proofs.lemmas.List.Sums.{sum_by-append}
 use Rattle.std.proofs.lemmas.Nat.{div-add-mod'}
 use Rattle.deal.specs.Divisions.{even_lengths, rest_block}
 use Rattle.deal.specs.Parts.{zeros}
 use Rattle.deal.specs.Tallies.{Sheet, Tallied, fresh_seat}
-use Rattle.campaign.specs.Working.{AreReady, HasRoom}
+use Rattle.campaign.specs.Working.{AreReady}
 
 sum_rest : (n : ℕ) → sum (rest_block n) ≡ n
 sum_rest zero = refl

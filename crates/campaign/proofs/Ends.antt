@@ -1,8 +1,8 @@
 -- How many rows are of a kind.
-use Rattle.std.proofs.Common.{◌≡◌, ◌≤◌, ◌<◌, ◌+◌, ℕ, zero, suc, Bool, true, false, cond, not, eqb, List, [], ◌∷◌, ◌++◌, length, filter, slice_index, refl, sym, ap, ap₂, ◌∙◌, arith}
+use Rattle.std.proofs.Common.{◌≡◌, ◌≤◌, ◌<◌, ◌+◌, ℕ, zero, suc, Bool, true, false, cond, not, eqb, List, [], ◌∷◌, ◌++◌, length, filter, refl, sym, ap, ap₂, ◌∙◌, arith}
 use Rattle.model.specs.declared.event.End.{End}
-use Rattle.model.specs.declared.event.End.TheVariants.{Pass, Check, Misuse, Ticks, Steps, Stuck}
-use Rattle.model.specs.Campaign.{Row, is_pass, is_check, is_misuse, is_ticks, is_steps, is_stuck_end, ended}
+use Rattle.model.specs.declared.event.End.TheVariants.{Pass}
+use Rattle.model.specs.Campaign.{Row, is_pass, is_check, is_misuse, is_ticks, is_steps, is_stuck_end}
 use Rattle.model.proofs.Counting.{passed_few}
 use Rattle.campaign.specs.Kinds.{kind_of, kind_in}
 

@@ -1,13 +1,12 @@
 -- Jobs of lanes and seats.
-use Rattle.std.proofs.Common.{◌≡◌, ◌+◌, ℕ, List, [], ◌∷◌, ◌++◌, length, map, slice_index, refl, sym, ap, subst, ◌∙◌, arith}
-use Rattle.std.specs.List.{AllByRecursion}
+use Rattle.std.proofs.Common.{◌≡◌, ◌+◌, ℕ, List, [], ◌∷◌, ◌++◌, slice_index, ap, subst, ◌∙◌, arith}
 use Rattle.std.proofs.lemmas.List.{map_push}
 use Rattle.deal.specs.Sharing.{Game, Sight}
 use Rattle.deal.specs.Tallies.{Sheet, Tallied, added_in}
 use Rattle.deal.proofs.Members.{each_left, each_middle, each_last}
 use Rattle.deal.proofs.Sums.{total_append}
 use Rattle.campaign.specs.declared.worker.Job.{Job}
-use Rattle.campaign.specs.Working.{AreIdle, AreJobs, AreReady, IsJob, seats_of}
+use Rattle.campaign.specs.Working.{AreIdle, AreJobs, AreReady, seats_of}
 
 -- the last lane and the last seat get a job
 pub jobs_more : (deal : Game) (tally : Sheet) (count : ℕ) (lanes others : List Sight) (seats rest : List Tallied) (lane : Sight) (seat : Tallied) (jobs new : List Job) (number : ℕ)

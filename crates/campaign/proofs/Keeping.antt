@@ -1,14 +1,14 @@
 -- Rows that are kept.
 use Rattle.std.specs.Prelude.{nat_lt, slice_range}
 use Rattle.std.proofs.lemmas.Bool.Decides.{nat_tests}
-use Rattle.std.proofs.Common.{◌≡◌, ℕ, ◌≤◌, ◌<◌, ◌+◌, ◌-◌, zero, suc, true, false, List, [], ◌∷◌, ◌++◌, length, length-append, slice_index, slice_index_or, map, take, drop, refl, sym, ap, subst, ◌∙◌, append-nil, append_assoc, arith}
+use Rattle.std.proofs.Common.{◌≡◌, ℕ, ◌≤◌, ◌<◌, ◌+◌, ◌-◌, zero, suc, true, false, List, [], ◌∷◌, ◌++◌, length, length-append, slice_index, slice_index_or, take, drop, refl, sym, ap, subst, ◌∙◌, append-nil, append_assoc, arith}
 use Rattle.std.specs.List.{AllByRecursion}
 use Rattle.std.proofs.lemmas.List.{length-map, map-append, take-append-le, drop-append-le, length-drop, take_all, take_more, drop_at}
 use Rattle.std.proofs.Math.Seq.{take-length}
 use Rattle.model.specs.declared.event.Event.{Event}
 use Rattle.model.specs.declared.plan.Point.{Point}
 use Rattle.model.specs.Application.{Application, Limits}
-use Rattle.model.specs.Run.{Run, IsRun, IsRow, plan_of, events_after}
+use Rattle.model.specs.Run.{Run, IsRun, events_after}
 use Rattle.model.proofs.Injected.{begins_with, no_fewer}
 use Rattle.kernel.specs.declared.rows.RowEnding.{RowEnding}
 use Rattle.kernel.specs.Rows.{IsRowFrom}
@@ -170,10 +170,10 @@ module _ (app : Application) (limits : Limits) (base : Run) where
         gained = record {
           same = h.gained.same ∙ g.gained.same;
           rises = λ kind l. (
-            let p = g.gained.rises kind l in
-            let q = h.gained.rises kind l in
-            let sum = ap (λ (rows : List Row). kind_in rows kind) both ∙ kind_in-append (rows_of base u g.more) (rows_of base v h.more) kind in
-            omega arith);
+              let p = g.gained.rises kind l in
+              let q = h.gained.rises kind l in
+              let sum = ap (λ (rows : List Row). kind_in rows kind) both ∙ kind_in-append (rows_of base u g.more) (rows_of base v h.more) kind in
+              omega arith);
         };
       }
 

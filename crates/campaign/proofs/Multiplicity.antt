@@ -28,9 +28,9 @@ total_within [] ys within h = omega arith
 total_within (x ∷ xs) ys within h =
     let at = found x ys (omega (arith, within x, here x x refl)) in
     let rest : (z : ℕ) → times z xs ≤ times z (at.front ++ at.back) = λ z. (
-      let all = within z in
-      let split : times z ys ≡ times z at.front + (one_at z x + times z at.back) = ap (times z) at.whole ∙ total_append (one_at z) at.front (x ∷ at.back) in
-      omega (arith, all, split, total_append (one_at z) at.front at.back)) in
+    let all = within z in
+    let split : times z ys ≡ times z at.front + (one_at z x + times z at.back) = ap (times z) at.whole ∙ total_append (one_at z) at.front (x ∷ at.back) in
+    omega (arith, all, split, total_append (one_at z) at.front at.back)) in
     let split : total h ys ≡ total h at.front + (h x + total h at.back) = ap (total h) at.whole ∙ total_append h at.front (x ∷ at.back) in
     omega (arith, total_within xs (at.front ++ at.back) rest h, split, total_append h at.front at.back)
 

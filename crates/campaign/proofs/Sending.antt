@@ -1,18 +1,14 @@
 -- Rows that are written one after the other.
-use Rattle.std.specs.Prelude.{Result, Ok, Err, Option}
+use Rattle.std.specs.Prelude.{Result, Option}
 use Rattle.std.specs.List.{flat_map}
-use Rattle.std.proofs.Common.{◌≡◌, ◌<◌, ◌≤◌, ◌+◌, ◌-◌, ℕ, List, [], ◌∷◌, ◌++◌, length, map, take, drop, slice_index_or, refl, sym, ap, subst, ◌∙◌, append-nil, append_assoc, length-append, arith}
+use Rattle.std.proofs.Common.{◌≡◌, ◌<◌, ◌+◌, ℕ, List, [], ◌∷◌, ◌++◌, length, map, take, drop, slice_index_or, refl, sym, ap, subst, ◌∙◌, append-nil, append_assoc, arith}
 use Rattle.std.proofs.lemmas.List.{length-map, length-take-le, map-append, take_more, take-append-drop}
 use Rattle.byte_io.specs.Bytes.{Sent, SentFront, Writes}
-use Rattle.byte_io.proofs.Sending.{Sent_none, Sent_two, SentFront_two, SentFront_longer, Writes_then}
-use Rattle.model.specs.declared.event.Event.{Event}
+use Rattle.byte_io.proofs.Sending.{Sent_two, SentFront_two, SentFront_longer, Writes_then}
 use Rattle.model.specs.Application.{Application}
-use Rattle.model.specs.Run.{Run}
 use Rattle.model.specs.Campaign.{Row, totals_of}
-use Rattle.report.proofs.Rows.{Sent_totals, SentFront_campaign, rows_text-append, rows_text-more}
+use Rattle.report.proofs.Rows.{Sent_totals, SentFront_campaign, rows_text-append}
 use Rattle.report.specs.Text.{row_text, rows_text, total_text, campaign_text}
-use Rattle.campaign.specs.declared.rows.KeptRow.{KeptRow}
-use Rattle.campaign.specs.Report.{row_of, rows_of}
 use Rattle.campaign.proofs.Totalling.{flat_more}
 
 -- the rows before, a row, and those behind it

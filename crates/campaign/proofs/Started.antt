@@ -1,5 +1,5 @@
 -- The campaign of an application, from its start.
-use Rattle.std.proofs.Common.{◌≡◌, ◌∙◌, ℕ, List, [], ap, sym, subst}
+use Rattle.std.proofs.Common.{◌≡◌, List, [], sym, subst}
 use Rattle.model.specs.declared.plan.Point.{Point}
 use Rattle.model.specs.Application.{Application, Limits}
 use Rattle.model.specs.Run.{Run, IsRun}

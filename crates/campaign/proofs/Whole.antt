@@ -1,19 +1,18 @@
 -- What all workers made together.
-use Rattle.std.specs.Prelude.{All, Bool, true, false, ◌||◌, slice_get, Some, ◌⊎◌, if◌then◌else◌, nat_lt}
+use Rattle.std.specs.Prelude.{Bool, true, false, ◌||◌, slice_get, Some, nat_lt}
 use Rattle.std.specs.List.{AllByRecursion, concat, flat_map, list_any}
-use Rattle.std.proofs.Common.{◌≡◌, ◌≢◌, ◌<◌, ◌≤◌, ◌+◌, ℕ, zero, suc, List, [], ◌∷◌, ◌++◌, length, cond, map, take, drop, sum, replicate, set, slice_index, slice_index_or, get_or-set_same, get_or-set_other, refl, sym, ap, subst, ◌∙◌, append_assoc, append-nil, length-append, add-one, add-zero, inl, inr, ⊎_elim, arith}
+use Rattle.std.proofs.Common.{◌≡◌, ◌≢◌, ◌<◌, ◌≤◌, ◌+◌, ℕ, zero, suc, List, [], ◌∷◌, ◌++◌, length, cond, map, take, drop, sum, replicate, set, slice_index, slice_index_or, get_or-set_same, get_or-set_other, refl, sym, ap, subst, ◌∙◌, append_assoc, append-nil, length-append, add-one, add-zero, inl, ⊎_elim, arith}
 use Rattle.std.proofs.lemmas.List.{take_all, length-set, length-map, length-replicate}
 use Rattle.std.proofs.lemmas.Bool.Decides.{nat_tests}
 use Rattle.std.proofs.lemmas.List.Sums.{sum_by_more}
 use Rattle.kernel.specs.Logged.{all_of}
-use Rattle.model.specs.declared.plan.Point.{Point}
 use Rattle.model.specs.Run.{Run}
 use Rattle.model.specs.Campaign.{Row, AreRows, totals_of}
 use Rattle.model.specs.Scripts.{most_points}
-use Rattle.deal.specs.Sharing.{Game, Sight, HasSeenAll, SomeHasSeenAll, AreLanesOf, lists_of, fresh, fresh_lanes}
+use Rattle.deal.specs.Sharing.{Game, Sight, SomeHasSeenAll, lists_of, fresh, fresh_lanes}
 use Rattle.deal.specs.Tallies.{Sheet, Tallied, added_in}
 use Rattle.deal.specs.Totals.{total, range, times, one_at, HasEachOnce}
-use Rattle.deal.proofs.Sums.{total_append, length_range}
+use Rattle.deal.proofs.Sums.{total_append}
 use Rattle.deal.proofs.Members.{all_of_each}
 use Rattle.campaign.proofs.Multiplicity.{total_each}
 use Rattle.deal.proofs.Once.{same_or, elsewhere}
@@ -25,16 +24,16 @@ use Rattle.campaign.specs.declared.worker.Done.{Done}
 use Rattle.campaign.specs.declared.worker.Setup.{Setup}
 use Rattle.campaign.specs.Setup.{work_of}
 use Rattle.campaign.specs.Kinds.{kind_in}
-use Rattle.campaign.specs.Report.{rows_in, rows_at, IsPlace, AreKept, IsSound, whole as whole_rows}
-use Rattle.campaign.specs.Kinds.{kinds_of, RiseBy}
-use Rattle.campaign.specs.Made.{IsWhole, BringsWhole, ComeBack, IsBrought, IsMade, rows_placed}
+use Rattle.campaign.specs.Report.{rows_at, IsPlace, AreKept, IsSound, whole as whole_rows}
+use Rattle.campaign.specs.Kinds.{RiseBy}
+use Rattle.campaign.specs.Made.{IsWhole, BringsWhole, IsBrought, IsMade, rows_placed}
 use Rattle.campaign.specs.declared.making.Made.{Made}
 use Rattle.campaign.specs.Placing.{place_of, placed, all_placed, all_numbers, AreBelow}
 use Rattle.campaign.specs.Working.{Work, block_points, AreRowsByBlock, IsKeptBlock, AreKeptBlocks, IsKeptPart, numbers_of, Brings, IsDone, AreDone, AreIdle, AreJobs, lanes_in, seats_in, parts_in, seats_of}
 use Rattle.campaign.proofs.Ends.{kind_in-append, kind_in-few}
 use Rattle.campaign.proofs.Keeping.{rows-append}
 use Rattle.campaign.proofs.Placed.{length-placed}
-use Rattle.campaign.proofs.Totalling.{rows_there, within_list}
+use Rattle.campaign.proofs.Totalling.{rows_there}
 
 -- ---- what was brought
 
@@ -249,9 +248,10 @@ pub done_each : (setup : Setup) (deal : Game) (tally : Sheet) (count : ℕ) (job
 done_each setup deal tally count [] [] same each are = tt
 done_each setup deal tally count [] (done ∷ dones) same each are = absurd (cc)
 done_each setup deal tally count (job ∷ jobs) [] same each are = absurd (cc)
-done_each setup deal tally count (job ∷ jobs) (done ∷ dones) same each are =
-    (subst (λ (g : Game). IsDone (work_of setup g.lengths) job done) are.0.lane (each 0 job done (omega arith)),
-    done_each setup deal tally count jobs dones (omega (arith, same)) (λ i j d l. each (suc i) j d (omega arith)) are.1)
+done_each setup deal tally count (job ∷ jobs) (done ∷ dones) same each are = (
+  subst (λ (g : Game). IsDone (work_of setup g.lengths) job done) are.0.lane (each 0 job done (omega arith)),
+  done_each setup deal tally count jobs dones (omega (arith, same)) (λ i j d l. each (suc i) j d (omega arith)) are.1,
+)
 
 -- ---- what they brought together
 

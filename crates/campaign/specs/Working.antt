@@ -16,7 +16,7 @@ use Rattle.campaign.specs.declared.rows.Part.{Part}
 use Rattle.campaign.specs.declared.worker.Job.{Job}
 use Rattle.campaign.specs.declared.worker.Done.{Done}
 use Rattle.campaign.specs.Kinds.{kind_in}
-use Rattle.campaign.specs.Report.{row_of, rows_of, rows_in, IsKept, AreKept}
+use Rattle.campaign.specs.Report.{row_of, rows_of, IsKept, AreKept}
 
 -- What there is to be done: rows of the application under these limits, with this base run, at these points, which are cut into
 -- blocks of these lengths.

@@ -74,7 +74,13 @@ pub(crate) fn count_all(base: &Run, parts: &[Part], places: &[Place]) -> Totals
 {
     let mut totals = Totals::new();
     for place in places {
-        count_rows(base, &parts[place.part], place.first, place.count, &mut totals);
+        count_rows(
+            base,
+            &parts[place.part],
+            place.first,
+            place.count,
+            &mut totals,
+        );
     }
     totals
 }

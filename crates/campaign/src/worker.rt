@@ -279,7 +279,10 @@ pub(crate) fn work<R: Wait, G: Gate>(
             } => {
                 let seen = setup.tally.read(&mut seat);
                 gate.entered(number, block, &seen);
-                if worker.add_block(setup, &mut seat, block, first, length).is_err() {
+                if worker
+                    .add_block(setup, &mut seat, block, first, length)
+                    .is_err()
+                {
                     stop.store(1, Ordering::SeqCst);
                     break;
                 }

@@ -94,7 +94,15 @@ fn add_rows<W: Sink>(
     let parts = rows.parts.as_slice();
     for place in &rows.places {
         let part = &parts[place.part];
-        add_place(writer, text, number, &rows.base, part, place.first, place.count)?;
+        add_place(
+            writer,
+            text,
+            number,
+            &rows.base,
+            part,
+            place.first,
+            place.count,
+        )?;
         number += place.count;
     }
     Ok(())

@@ -50,7 +50,11 @@ const SWITCHING: [&str; 17] = [
 const MISUSE: &str = "base: misuse a 1 1 in 2 steps, 0 ticks\n0 0 call a 0 suspend_all = 0\n";
 
 /// Runs a file whose task suspends the scheduler and then does this op.
-fn check_switching<R: Abort + Threads + Wait + Sync>(rt: &R, alloc: Global, op: &str) -> Result<(), AllocError> {
+fn check_switching<R: Abort + Threads + Wait + Sync>(
+    rt: &R,
+    alloc: Global,
+    op: &str,
+) -> Result<(), AllocError> {
     let mut file = String::from_str(alloc, OBJECTS)?;
     let script = format!(in alloc; "script = ['suspend_all', '{op}']\n")?;
     file.push_str(script.as_str())?;

@@ -264,13 +264,23 @@ fn check_ops<R: Abort + Threads + Wait + Sync>(
 }
 
 /// Runs a file whose task has this one op.
-fn check_op<R: Abort + Threads + Wait + Sync>(rt: &R, alloc: Global, op: &str, line: &str) -> Result<(), AllocError> {
+fn check_op<R: Abort + Threads + Wait + Sync>(
+    rt: &R,
+    alloc: Global,
+    op: &str,
+    line: &str,
+) -> Result<(), AllocError> {
     let ops = format!(in alloc; "'{op}'")?;
     check_ops(rt, alloc, "", ops.as_str(), line)
 }
 
 /// Runs a file whose handler has this one op.
-fn check_isr_op<R: Abort + Threads + Wait + Sync>(rt: &R, alloc: Global, op: &str, line: &str) -> Result<(), AllocError> {
+fn check_isr_op<R: Abort + Threads + Wait + Sync>(
+    rt: &R,
+    alloc: Global,
+    op: &str,
+    line: &str,
+) -> Result<(), AllocError> {
     let isr_ops = format!(in alloc; "'{op}'")?;
     check_ops(rt, alloc, isr_ops.as_str(), "", line)
 }

@@ -100,7 +100,12 @@ campaign = {{ points = [{points}] }}
 }
 
 /// Runs a file with these points, which is to be refused with this line.
-fn refuse<R: Abort + Threads + Wait + Sync>(rt: &R, alloc: Global, points: &str, line: &str) -> Result<(), AllocError> {
+fn refuse<R: Abort + Threads + Wait + Sync>(
+    rt: &R,
+    alloc: Global,
+    points: &str,
+    line: &str,
+) -> Result<(), AllocError> {
     let file = with_points(alloc, points)?;
     let answer = serve(rt, alloc, file.as_bytes(), 100);
     assert_eq!(rt; answer.status, 3, "{points}");

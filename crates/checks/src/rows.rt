@@ -213,7 +213,12 @@ fn handlers_that_are_unknown(rt: HostRuntime) {
 const UNPAIRED: &str = "rtosim: --at and --handler go together\n";
 
 /// Does a job that has one without the other, over a reader that fails at once.
-fn check_unpaired<R: Abort + Threads + Wait + Sync>(rt: &R, alloc: Global, at: Option<u32>, handler: Option<&str>) {
+fn check_unpaired<R: Abort + Threads + Wait + Sync>(
+    rt: &R,
+    alloc: Global,
+    at: Option<u32>,
+    handler: Option<&str>,
+) {
     let job = Job::Run {
         file: "app.toml",
         at,
@@ -251,7 +256,13 @@ fn a_step_without_a_handler_and_the_reverse(rt: HostRuntime) {
 }
 
 /// Does what these words ask for, which is refused with this status and line.
-fn check_words<R: Abort + Files + Threads + Wait + Sync>(rt: &R, alloc: Global, words: &[&str], status: u8, line: &str) {
+fn check_words<R: Abort + Files + Threads + Wait + Sync>(
+    rt: &R,
+    alloc: Global,
+    words: &[&str],
+    status: u8,
+    line: &str,
+) {
     let mut written = Holder::wide(alloc, 4096);
     let mut told = Holder::wide(alloc, 4096);
     let ended = obey(rt, alloc, words, &mut written, &mut told, &NoGate);

@@ -67,7 +67,12 @@ fn a_writer_is_full_after_some_pages(rt: HostRuntime) {
 }
 
 /// Runs a file whose reader fails after so many reads, over a sink of faults with so much room.
-fn check_broken_reader<R: Abort + Threads + Wait + Sync>(rt: &R, alloc: Global, calls: u32, room: usize) {
+fn check_broken_reader<R: Abort + Threads + Wait + Sync>(
+    rt: &R,
+    alloc: Global,
+    calls: u32,
+    room: usize,
+) {
     let job = base_run_of("a folder");
     let mut reader = Breaking::new(ONE_MARK.as_bytes(), calls);
     let mut written = Holder::wide(alloc, 4096);

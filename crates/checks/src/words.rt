@@ -529,14 +529,7 @@ fn help_that_cannot_be_written(rt: HostRuntime) {
         let mut written = Holder::new(rt.alloc(), 4096, 5, false);
         let mut told = Holder::wide(rt.alloc(), 4096);
         let words = ["rtosim", word];
-        let status = obey(
-            &rt,
-            rt.alloc(),
-            &words,
-            &mut written,
-            &mut told,
-            &NoGate,
-        );
+        let status = obey(&rt, rt.alloc(), &words, &mut written, &mut told, &NoGate);
         assert_eq!(rt; status, 5, "{word}");
         check_text(
             &rt,
@@ -555,14 +548,7 @@ fn a_refusal_that_cannot_be_told(rt: HostRuntime) {
     let mut told = Holder::new(rt.alloc(), 4096, 5, false);
     let words = ["rtosim", "fly"];
     assert_eq!(rt;
-        obey(
-            &rt,
-            rt.alloc(),
-            &words,
-            &mut written,
-            &mut told,
-            &NoGate
-        ),
+        obey(&rt, rt.alloc(), &words, &mut written, &mut told, &NoGate),
         2
     );
     check_text(&rt, rt.alloc(), "fly", written.bytes(), "");
@@ -574,14 +560,7 @@ fn a_job_is_done_over_the_sinks(rt: HostRuntime) {
     let mut told = Holder::wide(rt.alloc(), 4096);
     let words = ["rtosim", "run", "/nonexistent/app.toml"];
     assert_eq!(rt;
-        obey(
-            &rt,
-            rt.alloc(),
-            &words,
-            &mut written,
-            &mut told,
-            &NoGate
-        ),
+        obey(&rt, rt.alloc(), &words, &mut written, &mut told, &NoGate),
         3
     );
     let line = "rtosim: cannot read /nonexistent/app.toml\n";

@@ -9,6 +9,8 @@ mod dice;
 #[cfg(test)]
 mod file;
 #[cfg(test)]
+mod gates;
+#[cfg(test)]
 mod planner;
 #[cfg(test)]
 mod random;

@@ -1,4 +1,4 @@
-use Rattle.std.proofs.Common.{◌≡◌, ◌+◌, ◌∙◌, ◌++◌, ◌∷◌, [], vec_len, arith, sym}
+use Rattle.std.proofs.Common.{◌≡◌, ◌+◌, ◌∙◌, vec_len, arith, sym}
 use Rattle.campaign.proofs.Blocks.{pushed_at}
 use Rattle.campaign.proofs.Jobs.{jobs_more, added_more}
 use Rattle.campaign.proofs.gathering.jobs_of.Goals as goal

@@ -1,5 +1,5 @@
 use Rattle.std.proofs.Common.{sym}
-use Rattle.campaign.specs.Made.{IsWhole, IsMade}
+use Rattle.campaign.specs.Made.{IsWhole}
 use Rattle.campaign.specs.Working.{Work}
 use Rattle.campaign.proofs.Whole.{sound_made, rows_made, rise_made}
 use Rattle.campaign.proofs.making.campaign_from.Goals as goal

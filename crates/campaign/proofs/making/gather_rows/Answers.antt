@@ -1,12 +1,10 @@
-use Rattle.std.proofs.Common.{◌≡◌, ◌≤◌, ◌∙◌, List, length, replicate, ap, ap₂, sym, subst}
-use Rattle.std.specs.List.{AllByRecursion}
+use Rattle.std.proofs.Common.{◌≤◌, ◌∙◌, List, length, replicate, ap, ap₂, sym, subst}
 use Rattle.model.specs.Run.{Run}
 use Rattle.model.specs.Scripts.{most_points}
 use Rattle.model.specs.Campaign.{totals_of}
 use Rattle.campaign.specs.declared.rows.Part.{Part}
 use Rattle.campaign.specs.declared.rows.Place.{Place}
 use Rattle.campaign.specs.Made.{rows_placed}
-use Rattle.campaign.specs.Report.{IsPlace}
 use Rattle.campaign.specs.Placing.{all_placed}
 use Rattle.campaign.proofs.Whole.{all_at, parts_kept, rows_all, rows_few, seats_rise}
 use Rattle.campaign.proofs.making.gather_rows.Goals as goal

@@ -1,4 +1,4 @@
-use Rattle.std.proofs.Common.{◌≡◌, ℕ, slice_index_or, sym, subst, arith}
+use Rattle.std.proofs.Common.{slice_index_or, sym, subst, arith}
 use mir.Syntax.{of_param}
 use denote.Param.Send.{shr_slice_sync}
 use Rattle.std.proofs.alloc.Global.TheSendSync as global
@@ -16,19 +16,41 @@ use Rattle.campaign.proofs.making.run_all.Goals as goal
 
 -- All that a worker borrows may be shared: the runtime, the allocator, the setup, the gate and the word that stops it.
 pub map_vec-requires-sync-F : goal.map_vec-requires-sync-F
-map_vec-requires-sync-F g c κs within = record { shared = λ x b o κ.
-    let s = x.2.now in
-    let there = κs.1.1.1.1.1.1.1.1.1.1.0 in (
-      (((λ q. tt), c.type_bounds.sync-R.shared x.0.now x.0.ref_ptr.0 x.0.ref_ptr.1 κs.1.1.1.1.1.1.1.0),
-      (((λ q. tt), global.the_sync.shared x.1.now x.1.ref_ptr.0 x.1.ref_ptr.1 κ),
-      (((λ q. tt), (
-        (((λ q. tt), app.the_sync.shared s.app.now s.app.ref_ptr.0 s.app.ref_ptr.1 there),
-        (((λ q. tt), start.the_sync.shared s.start.now s.start.ref_ptr.0 s.start.ref_ptr.1 there),
-        (((λ q. (tt, (tt, tt))), ((shr_slice_sync (of_param 0) there points.the_row point.the_sync).shared s.points b o there).1),
-        (((λ q. tt), tally_sync.shared s.tally.now s.tally.ref_ptr.0 s.tally.ref_ptr.1 there), tt)))), λ q. tt)),
-      (((λ q. tt), c.type_bounds.sync-G.shared x.3.now x.3.ref_ptr.0 x.3.ref_ptr.1 κs.1.1.1.1.1.1.1.1.1.1.1.0),
-      (((λ q. tt), atomic.the_sync.shared x.4.now x.4.ref_ptr.0 x.4.ref_ptr.1 κs.1.1.1.1.1.1.1.1.1.1.1.1.0), tt))))),
-      λ q. tt) }
+map_vec-requires-sync-F g c κs within = record {
+  shared = λ x b o κ.
+      let s = x.2.now in
+      let there = κs.1.1.1.1.1.1.1.1.1.1.0 in (
+        (
+          ((λ q. tt), c.type_bounds.sync-R.shared x.0.now x.0.ref_ptr.0 x.0.ref_ptr.1 κs.1.1.1.1.1.1.1.0),
+          (
+            ((λ q. tt), global.the_sync.shared x.1.now x.1.ref_ptr.0 x.1.ref_ptr.1 κ),
+            (
+              (
+                (λ q. tt),
+                (
+                  (
+                    ((λ q. tt), app.the_sync.shared s.app.now s.app.ref_ptr.0 s.app.ref_ptr.1 there),
+                    (
+                      ((λ q. tt), start.the_sync.shared s.start.now s.start.ref_ptr.0 s.start.ref_ptr.1 there),
+                      (
+                        ((λ q. (tt, (tt, tt))), ((shr_slice_sync (of_param 0) there points.the_row point.the_sync).shared s.points b o there).1),
+                        (((λ q. tt), tally_sync.shared s.tally.now s.tally.ref_ptr.0 s.tally.ref_ptr.1 there), tt),
+                      ),
+                    ),
+                  ),
+                  λ q. tt,
+                ),
+              ),
+              (
+                ((λ q. tt), c.type_bounds.sync-G.shared x.3.now x.3.ref_ptr.0 x.3.ref_ptr.1 κs.1.1.1.1.1.1.1.1.1.1.1.0),
+                (((λ q. tt), atomic.the_sync.shared x.4.now x.4.ref_ptr.0 x.4.ref_ptr.1 κs.1.1.1.1.1.1.1.1.1.1.1.1.0), tt),
+              ),
+            ),
+          ),
+        ),
+        λ q. tt,
+      );
+}
 
 pub returns-in-Ok : goal.returns-in-Ok
 returns-in-Ok g c deal are =

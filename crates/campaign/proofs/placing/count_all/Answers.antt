@@ -1,6 +1,6 @@
 use Rattle.std.proofs.Common.{◌≡◌, ◌<◌, ◌∙◌, ◌++◌, take, sym, ap, arith, slice_index_or, length}
 use Rattle.std.specs.List.{flat_map}
-use Rattle.model.specs.Campaign.{Row, totals_of}
+use Rattle.model.specs.Campaign.{totals_of}
 use Rattle.campaign.specs.declared.rows.Place.{Place}
 use Rattle.campaign.specs.Report.{rows_at}
 use Rattle.campaign.proofs.Placed.{each_at}

@@ -1,4 +1,4 @@
-use Rattle.std.proofs.Common.{◌≡◌, ◌≤◌, ◌^◌, ◌∙◌, length, vec_len, ap, arith}
+use Rattle.std.proofs.Common.{◌≤◌, ◌^◌, ◌∙◌, length, ap, arith}
 use Rattle.std.proofs.lemmas.List.{length-replicate}
 use Rattle.campaign.proofs.Counters.{ready_seats}
 use Rattle.campaign.proofs.serving.report_from.Goals as goal

@@ -1,4 +1,4 @@
-use Rattle.std.proofs.Common.{◌∙◌, ap}
+use Rattle.std.proofs.Common.{◌∙◌}
 use Rattle.std.proofs.lemmas.Result.{err_from_is_err_and}
 use Rattle.campaign.proofs.Started.{expand_fault, app_rows}
 use Rattle.campaign.proofs.serving.report_of.Goals as goal

@@ -1,4 +1,4 @@
-use Rattle.std.proofs.Common.{◌∙◌, ap, not, Bool, arith}
+use Rattle.std.proofs.Common.{◌∙◌}
 use Rattle.campaign.proofs.Ends.{counts_reached, counts_missed}
 use Rattle.campaign.proofs.tallying.count_row.Goals as goal
 

@@ -1,7 +1,7 @@
-use Rattle.std.proofs.Common.{◌≡◌, ◌∙◌, ◌++◌, ◌∷◌, [], ap, sym, subst, refl, false, List, ℕ}
+use Rattle.std.proofs.Common.{◌∙◌, sym, subst, List, ℕ}
 use Rattle.kernel.specs.Logged.{all_of}
 use Rattle.deal.specs.Divisions.{IsBlock}
-use Rattle.deal.specs.Sharing.{Game, HasSeenAll}
+use Rattle.deal.specs.Sharing.{Game}
 use Rattle.campaign.specs.Setup.{work_of}
 use Rattle.campaign.proofs.Blocks.{HasWorked, points_within, room_left, worked_more, done_refused, done_whole, on_ok_at}
 use Rattle.campaign.proofs.worker.work.Goals as goal

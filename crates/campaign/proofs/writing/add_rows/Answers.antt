@@ -1,5 +1,4 @@
-use Rattle.std.proofs.Common.{◌≡◌, ◌≤◌, ◌<◌, ◌∙◌, ◌+◌, ◌++◌, length-append, ℕ, List, take, length, slice_index_or, ap, sym, subst, Some, arith}
-use Rattle.std.specs.Prelude.{slice_get}
+use Rattle.std.proofs.Common.{◌≡◌, ◌≤◌, ◌<◌, ◌∙◌, ◌+◌, ◌++◌, length-append, List, take, length, slice_index_or, ap, sym, subst, Some, arith}
 use Rattle.std.specs.List.{flat_map}
 use Rattle.std.proofs.lemmas.Result.{MatchResult-from_err}
 use Rattle.byte_io.specs.Bytes.{Sent, SentFront}

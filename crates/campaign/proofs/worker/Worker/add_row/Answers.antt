@@ -1,4 +1,4 @@
-use Rattle.std.proofs.Common.{◌∙◌, ◌++◌, ◌∷◌, [], refl, ap, sym, ℕ}
+use Rattle.std.proofs.Common.{◌∙◌, ◌++◌, ◌∷◌, [], refl, ap, sym}
 use Rattle.std.specs.Prelude.{nat_lt}
 use Rattle.kernel.specs.Logged.{all_of}
 use Rattle.model.specs.declared.plan.Point.{Point}
