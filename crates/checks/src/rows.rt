@@ -2,7 +2,7 @@
 
 use crate::sinks::{Breaking, Holder, check_text, serve_job};
 use campaign::Unseen;
-use jobs::{Job, act, obey};
+use jobs::{Job, Limited, act, obey};
 use std::alloc::{AllocError, Global};
 use std::process::Abort;
 use std::rt::Files;
@@ -217,7 +217,7 @@ fn check_unpaired(rt: &impl Abort, alloc: Global, at: Option<u32>, handler: Opti
         at,
         handler,
     };
-    let mut reader = Breaking::new(b"", 0);
+    let mut reader = Limited::new(Breaking::new(b"", 0));
     let mut written = Holder::wide(alloc, 4096);
     let mut told = Holder::wide(alloc, 4096);
     let status = act(

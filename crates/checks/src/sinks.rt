@@ -3,7 +3,7 @@ ghost use Rattle.std.specs.Prelude.{◌≡◌, false};
 
 use byte_io::{Failed, FromReader, Sink, Source};
 use campaign::Unseen;
-use jobs::{Job, act};
+use jobs::{Job, Limited, act};
 use std::alloc::Global;
 use std::process::Abort;
 
@@ -124,7 +124,7 @@ pub(crate) fn base_run_of(file: &str) -> Job<'_> {
 pub(crate) fn serve_job(alloc: Global, job: &Job<'_>, file: &[u8], at_once: usize) -> Answer {
     let mut written = Holder::wide(alloc, at_once);
     let mut told = Holder::wide(alloc, at_once);
-    let mut reader = FromReader::new(file);
+    let mut reader = Limited::new(FromReader::new(file));
     let status = act(
         alloc,
         job,

@@ -3,7 +3,7 @@
 use crate::sinks::{Breaking, Holder, base_run_of, check_text};
 use byte_io::FromReader;
 use campaign::Unseen;
-use jobs::act;
+use jobs::{Limited, act};
 use std::alloc::Global;
 use std::process::Abort;
 
@@ -27,7 +27,7 @@ fn check_full_writer(
     is_polite: bool,
 ) -> Holder {
     let job = base_run_of("app.toml");
-    let mut reader = FromReader::new(file.as_bytes());
+    let mut reader = Limited::new(FromReader::new(file.as_bytes()));
     let mut written = Holder::new(alloc, 4096, room, is_polite);
     let mut told = Holder::wide(alloc, 4096);
     let status = act(
@@ -66,7 +66,7 @@ fn a_writer_is_full_after_some_pages(rt: HostRuntime) {
 /// Runs a file whose reader fails after so many reads, over a sink of faults with so much room.
 fn check_broken_reader(rt: &impl Abort, alloc: Global, calls: u32, room: usize) {
     let job = base_run_of("a folder");
-    let mut reader = Breaking::new(ONE_MARK.as_bytes(), calls);
+    let mut reader = Limited::new(Breaking::new(ONE_MARK.as_bytes(), calls));
     let mut written = Holder::wide(alloc, 4096);
     let mut told = Holder::new(alloc, 4096, room, false);
     let status = act(
