@@ -468,28 +468,33 @@ def no_control_character_of_a_file_is_shown():
                 equal((controls(out), controls(err)), ([], []))
 
 
-STRANGE = "x\x1b[31m\r\x07\x08\x7f\u0085y"
+STRANGE = "x\x1b[31m\r\x07\x08\x7f\u0085\u00a0\u00e9\\y"
 
 
-@awaited
+def shown(name):
+    """The name as it is shown: the number of a control character in two hexadecimal digits."""
+    return "".join(f"\\u{{{ord(it):02x}}}" if controls(it.encode()) or it == "\n" else it for it in name)
+
+
+@case
 def no_control_character_of_a_file_name_is_shown():
     for name in (STRANGE, f"{STRANGE}\nrtosim: all is well"):
-        status, out, err = run("run", name)
-        equal((status, out, controls(err), err.count(b"\n")), (3, b"", [], 1))
+        is_refused(run("run", name), 3, f"cannot read {shown(name)}")
+        is_refused(run("campaign", name), 3, f"cannot read {shown(name)}")
 
 
-@awaited
+@case
 def no_control_character_of_a_handler_is_shown():
     for name in (STRANGE, f"{STRANGE}\nrtosim: all is well"):
-        status, out, err = run_text(HANDLER + TASK, "--at", "0", "--handler", name)
-        equal((status, out, controls(err), err.count(b"\n")), (2, b"", [], 1))
+        is_refused(run_text(HANDLER + TASK, "--at", "0", "--handler", name), 2, f"unknown handler {shown(name)}")
 
 
-@awaited
+@case
 def no_control_character_of_a_refused_word_is_shown():
     for words in ([STRANGE], ["run", "a", STRANGE], ["run", "a", f"--at={STRANGE}", "--handler", "h"], ["run", f"--{STRANGE}"]):
         status, out, err = run(*words)
         equal((status, out, controls(err)), (2, b"", []))
+        assert shown(STRANGE) in err.decode(), err
 
 
 # Input without end
@@ -503,7 +508,7 @@ def is_too_large(*words, **how):
     is_refused(found, 3, f"cannot read {words[1]}: larger than 64 MiB")
 
 
-@awaited
+@case
 def a_file_of_more_than_64_megabytes():
     with open("large.toml", "wb") as it:
         it.truncate(MOST + 1)
@@ -514,7 +519,7 @@ def a_file_of_more_than_64_megabytes():
     equal(run("run", "just.toml"), (0, TASK_RUNS, b""))
 
 
-@awaited
+@case
 def input_without_end():
     is_too_large("run", "/dev/zero")
     os.mkfifo("pipe")

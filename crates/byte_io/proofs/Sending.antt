@@ -2,7 +2,7 @@
 use Rattle.std.proofs.Common.{◌≡◌, ℕ, ◌≤◌, ◌<◌, ◌+◌, ◌-◌, List, [], ◌++◌, length, take, drop, get_or, Option, Result, Ok, Err, refl, sym, ap, ◌∙◌, append_assoc, append-nil, arith, take-append-drop}
 use Rattle.std.proofs.lemmas.Grind.{common_steps}
 use Rattle.std.proofs.lemmas.Bool.{false≢true}
-use Rattle.std.proofs.lemmas.List.{drop_more}
+use Rattle.std.proofs.lemmas.List.{drop_all, drop_more}
 use Rattle.std.proofs.KnownBytes.{Appends-trans, Appends-nil}
 use Rattle.std.specs.Io.KnownBytes.{Appends}
 use Rattle.std.specs.List.{flat_map}
@@ -96,6 +96,13 @@ pub SentFront_item : {A : Type 0} (f : A → List ℕ) (xs : List A) (i : ℕ) (
 SentFront_item f xs i x d a b c text page within is sent more =
     SentFront_then a b c text (page ++ flat_map f (drop i xs)) sent
     (rw (page_and_rest f xs i x d page within is) (SentFront_longer b c (page ++ f x) (flat_map f (drop (i + 1) xs)) more))
+
+-- No item is left.
+pub Sent_rest : {A : Type 0} (f : A → List ℕ) (xs : List A) (i : ℕ) (a b : Option (List ℕ)) (text page : List ℕ) → i ≡ length xs
+    → Sent a b text (page ++ flat_map f (drop i xs)) → Sent a b text page
+Sent_rest f xs i a b text page all sent =
+    let none : page ++ flat_map f (drop i xs) ≡ page = ap (λ l. page ++ flat_map f l) (drop_all i xs (omega (arith, all))) ∙ append-nil page in
+    rw (← none) sent
 
 -- a call that fails before or while it adds a text
 

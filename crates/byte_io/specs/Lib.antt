@@ -1,4 +1,5 @@
 pub mod Bytes
 pub mod Line
 pub mod Read
+pub mod Shown
 pub mod StdIo

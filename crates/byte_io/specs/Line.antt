@@ -2,11 +2,14 @@
 use Rattle.std.specs.Prelude.{ℕ, List, [], ◌∷◌, ◌++◌, codes, decimal}
 use Rattle.std.specs.List.{flat_map}
 use Rattle.byte_io.specs.declared.line.Piece.{Piece}
-use Rattle.byte_io.specs.declared.line.Piece.TheVariants.{Text, Number}
+use Rattle.byte_io.specs.declared.line.Piece.TheVariants.{Text, Name, Label, Number}
+use Rattle.byte_io.specs.Shown.{shown_name}
 
 -- the text of a piece
 abbrev pub piece_text : Piece → List ℕ
 piece_text (Text text) = text.now
+piece_text (Name name) = shown_name name.now
+piece_text (Label name) = shown_name name.now ++ codes ":"
 piece_text (Number number) = decimal number
 
 -- a space and the text

@@ -7,6 +7,7 @@ mod numeral;
 mod page;
 mod put;
 mod read;
+mod shown;
 mod std_io;
 mod stream;
 
@@ -16,5 +17,6 @@ pub use numeral::Numeral;
 pub use page::Page;
 pub use put::{WriteFault, put_all};
 pub use read::{ReadFault, read_all};
+pub use shown::put_lines;
 pub use std_io::{FromReader, ToWriter};
 pub use stream::{Failed, Sink, Source};

@@ -1,13 +1,15 @@
 //! A line of text, made of pieces.
-ghost use Rattle.std.specs.Prelude.{◌≡◌, ◌∷◌, false, map};
+ghost use Rattle.std.specs.Prelude.{◌≡◌, ◌∷◌, ◌++◌, codes, false, map};
 ghost use Rattle.std.specs.List.{flat_map};
 ghost use Rattle.std.specs.Result.{is_err};
 ghost use Rattle.byte_io.specs.Bytes.{Writes, Adds};
 ghost use Rattle.byte_io.specs.Line.{piece_text, spaced_text, joined_line};
+ghost use Rattle.byte_io.specs.Shown.{shown_name};
 
 use crate::add::{add_text, flush};
 use crate::page::Page;
 use crate::put::WriteFault;
+use crate::shown::add_shown;
 use crate::stream::Sink;
 
 /// A piece of a line.
@@ -15,6 +17,10 @@ use crate::stream::Sink;
 pub enum Piece<'a> {
     /// The text itself.
     Text(&'a str),
+    /// A name from outside: its control characters are escaped.
+    Name(&'a str),
+    /// The same, and a colon.
+    Label(&'a str),
     /// A number in decimal digits.
     Number(u64),
 }
@@ -25,6 +31,17 @@ impl Default for Piece<'_> {
     }
 }
 
+// Adds a name from outside, and a colon.
+fn add_label<W: Sink>(writer: &mut W, page: &mut Page, name: &str) -> Result<(), WriteFault>
+    requires { W.has_failed writer.old ≡ false }
+    ensures text { Adds (W.held writer.old) (W.held writer.new) page.old page.new result
+        (shown_name name.now ++ codes ":") }
+    ensures failed { W.has_failed writer.new ≡ is_err result }
+{
+    add_shown(writer, page, name, false)?;
+    add_text(writer, page, b":")
+}
+
 fn add_piece<W: Sink>(writer: &mut W, page: &mut Page, piece: Piece<'_>) -> Result<(), WriteFault>
     requires { W.has_failed writer.old ≡ false }
     ensures text { Adds (W.held writer.old) (W.held writer.new) page.old page.new result
@@ -33,6 +50,8 @@ fn add_piece<W: Sink>(writer: &mut W, page: &mut Page, piece: Piece<'_>) -> Resu
 {
     match piece {
         Piece::Text(text) => add_text(writer, page, text.as_bytes()),
+        Piece::Name(name) => add_shown(writer, page, name, false),
+        Piece::Label(name) => add_label(writer, page, name),
         Piece::Number(number) => {
             let mut buffer = itoa::Buffer::new();
             add_text(writer, page, buffer.format(number).as_bytes())

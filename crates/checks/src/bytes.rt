@@ -56,6 +56,18 @@ fn pieces_make_a_line(rt: HostRuntime) {
 }
 
 #[test]
+fn control_characters_of_a_name_are_escaped(rt: HostRuntime) {
+    let mut sink = Holder::wide(rt.alloc(), 3);
+    let pieces = [
+        Piece::Name("a\u{1b}[31m\n\u{7}\u{7f}\u{80}\u{9f}\u{a0}é\\"),
+        Piece::Label("\0b"),
+    ];
+    assert!(rt; write_line(&mut sink, &pieces).is_ok());
+    let line = "a\\u{1b}[31m\\u{0a}\\u{07}\\u{7f}\\u{80}\\u{9f}\u{a0}é\\ \\u{00}b:\n";
+    check_text(&rt, rt.alloc(), "two names", sink.bytes(), line);
+}
+
+#[test]
 fn no_pieces_make_an_empty_line(rt: HostRuntime) {
     let mut sink = Holder::wide(rt.alloc(), 3);
     assert!(rt; write_line(&mut sink, &[]).is_ok());

@@ -2,7 +2,7 @@
 
 use crate::sinks::{Breaking, Holder, check_text, serve_job};
 use campaign::NoGate;
-use jobs::{Job, act, obey};
+use jobs::{Job, Limited, act, obey};
 use std::alloc::{AllocError, Global};
 use std::process::Abort;
 use std::rt::Files;
@@ -224,7 +224,7 @@ fn check_unpaired<R: Abort + Threads + Wait + Sync>(
         at,
         handler,
     };
-    let mut reader = Breaking::new(b"", 0);
+    let mut reader = Limited::new(Breaking::new(b"", 0));
     let mut written = Holder::wide(alloc, 4096);
     let mut told = Holder::wide(alloc, 4096);
     let status = act(

@@ -3,7 +3,7 @@ ghost use Rattle.std.specs.Prelude.{◌≡◌, false};
 
 use byte_io::{Failed, FromReader, Sink, Source};
 use campaign::NoGate;
-use jobs::{Job, act};
+use jobs::{Job, Limited, act};
 use std::alloc::Global;
 use std::process::Abort;
 use std::sync::Wait;
@@ -132,7 +132,7 @@ pub(crate) fn serve_job<R: Threads + Wait + Sync>(
 ) -> Answer {
     let mut written = Holder::wide(alloc, at_once);
     let mut told = Holder::wide(alloc, at_once);
-    let mut reader = FromReader::new(file);
+    let mut reader = Limited::new(FromReader::new(file));
     let status = act(
         rt,
         alloc,

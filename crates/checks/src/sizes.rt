@@ -4,7 +4,7 @@ ghost use Rattle.std.specs.Prelude.{◌<◌};
 use crate::sinks::{base_run_of, check_text, serve};
 use byte_io::{Failed, FromReader, Sink, ToWriter};
 use campaign::{NoGate, serve_run};
-use jobs::act;
+use jobs::{Limited, act};
 use model::End;
 use std::alloc::{AllocError, Global};
 use std::process::Abort;
@@ -206,7 +206,7 @@ fn a_report_of_several_pages(rt: HostRuntime) -> Result<(), AllocError> {
         &rt,
         rt.alloc(),
         &job,
-        &mut FromReader::new(TWO_THOUSAND_MARKS.as_bytes()),
+        &mut Limited::new(FromReader::new(TWO_THOUSAND_MARKS.as_bytes())),
         &mut ToWriter::new(&mut written),
         &mut ToWriter::new(&mut told),
         &NoGate,

@@ -3,7 +3,7 @@
 use crate::sinks::{Breaking, Holder, base_run_of, check_text};
 use byte_io::FromReader;
 use campaign::NoGate;
-use jobs::act;
+use jobs::{Limited, act};
 use std::alloc::Global;
 use std::process::Abort;
 use std::sync::Wait;
@@ -29,7 +29,7 @@ fn check_full_writer<R: Abort + Threads + Wait + Sync>(
     is_polite: bool,
 ) -> Holder {
     let job = base_run_of("app.toml");
-    let mut reader = FromReader::new(file.as_bytes());
+    let mut reader = Limited::new(FromReader::new(file.as_bytes()));
     let mut written = Holder::new(alloc, 4096, room, is_polite);
     let mut told = Holder::wide(alloc, 4096);
     let status = act(
@@ -74,7 +74,7 @@ fn check_broken_reader<R: Abort + Threads + Wait + Sync>(
     room: usize,
 ) {
     let job = base_run_of("a folder");
-    let mut reader = Breaking::new(ONE_MARK.as_bytes(), calls);
+    let mut reader = Limited::new(Breaking::new(ONE_MARK.as_bytes(), calls));
     let mut written = Holder::wide(alloc, 4096);
     let mut told = Holder::new(alloc, 4096, room, false);
     let status = act(

@@ -9,7 +9,7 @@ use Rattle.campaign.proofs.Faulty.{serves_unknown}
 use Rattle.jobs.specs.declared.acting.Job.{Job}
 use Rattle.jobs.specs.declared.acting.Job.TheVariants.{Run, Campaign}
 use Rattle.jobs.specs.declared.acting.JobFault.{JobFault}
-use Rattle.jobs.specs.declared.acting.JobFault.TheVariants.{Serve, Unpaired}
+use Rattle.jobs.specs.declared.acting.JobFault.TheVariants.{Serve, TooLarge, Unpaired}
 use Rattle.jobs.specs.Acting.{RunServed, CampaignServed, Served, Does, LacksFile, OpensAndDoes, injection_of}
 
 -- A file that could not be opened.
@@ -33,13 +33,14 @@ served_unknown : (job : Job) (input : Option (List ℕ)) (rf : Bool) (old new : 
 served_unknown (Run file at handler) input rf old new wf outcome h = run_unknown (injection_of (Run file at handler)) input rf old new wf outcome h
 served_unknown (Campaign file options quiet) input rf old new wf outcome h = campaign_unknown input rf old new wf outcome h
 
-does_unknown : (job : Job) (input : Option (List ℕ)) (rf : Bool) (old new : Option (List ℕ)) (wf : Bool) (outcome : Result Bool JobFault)
-    → Does job input rf old new wf outcome → Does job None rf old new wf outcome
-does_unknown job input rf old new wf (Ok passes) h = (h.0, served_unknown job input rf old new wf (Ok passes) h.1)
-does_unknown job input rf old new wf (Err (Serve fault)) h = (h.0, served_unknown job input rf old new wf (Err fault) h.1)
-does_unknown job input rf old new wf (Err Unpaired) h = h
+does_unknown : (job : Job) (input : Option (List ℕ)) (rf past : Bool) (old new : Option (List ℕ)) (wf : Bool) (outcome : Result Bool JobFault)
+    → Does job input rf past old new wf outcome → Does job None rf past old new wf outcome
+does_unknown job input rf past old new wf (Ok passes) h = (h.0, served_unknown job input rf old new wf (Ok passes) h.1)
+does_unknown job input rf past old new wf (Err (Serve fault)) h = (h.0, h.1, served_unknown job input rf old new wf (Err fault) h.2)
+does_unknown job input rf past old new wf (Err TooLarge) h = (h.0, h.1, served_unknown job input rf old new wf (Err Read) h.2)
+does_unknown job input rf past old new wf (Err Unpaired) h = h
 
 -- A file that was opened.
-pub opens : (job : Job) (input : Option (List ℕ)) (rf : Bool) (old new : Option (List ℕ)) (wf : Bool) (outcome : Result Bool JobFault)
-    → Does job input rf old new wf outcome → OpensAndDoes job old new wf outcome
-opens job input rf old new wf outcome done = inr (rf, does_unknown job input rf old new wf outcome done)
+pub opens : (job : Job) (input : Option (List ℕ)) (rf past : Bool) (old new : Option (List ℕ)) (wf : Bool) (outcome : Result Bool JobFault)
+    → Does job input rf past old new wf outcome → OpensAndDoes job old new wf outcome
+opens job input rf past old new wf outcome done = inr (rf, past, does_unknown job input rf past old new wf outcome done)

@@ -4,6 +4,7 @@ use Rattle.std.specs.Option.{option_map_or}
 use Rattle.std.specs.Io.KnownBytes.{Appends, Keeps}
 use Rattle.byte_io.specs.Bytes.{SentFront}
 use Rattle.byte_io.specs.Line.{joined_line}
+use Rattle.byte_io.specs.Shown.{shown_name}
 use Rattle.model.specs.declared.event.End.{End}
 use Rattle.model.specs.declared.totals.Totals.{Totals}
 use Rattle.model.specs.Campaign.{is_pass}
@@ -17,7 +18,7 @@ use Rattle.campaign.specs.Campaigns.{ServesCampaign}
 use Rattle.jobs.specs.declared.acting.Job.{Job}
 use Rattle.jobs.specs.declared.acting.Job.TheVariants.{Run, Campaign}
 use Rattle.jobs.specs.declared.acting.JobFault.{JobFault}
-use Rattle.jobs.specs.declared.acting.JobFault.TheVariants.{Unpaired, Serve}
+use Rattle.jobs.specs.declared.acting.JobFault.TheVariants.{Unpaired, TooLarge, Serve}
 
 -- ---- jobs
 
@@ -72,15 +73,17 @@ Served (Run file at handler) input read_failed old new write_failed outcome =
 Served (Campaign file options quiet) input read_failed old new write_failed outcome =
     CampaignServed input read_failed old new write_failed outcome
 
--- What doing a job comes to, over an input: what it asks for is served; or its step and its handler don't go together, and
--- nothing is written.
-abbrev pub Does : Job → (input : Option (List ℕ)) → (read_failed : Bool) → (old new : Option (List ℕ)) → (write_failed : Bool)
+-- What doing a job comes to, over an input: what it asks for is served; or its reader has failed since too much came; or its step
+-- and its handler don't go together, and nothing is written.
+abbrev pub Does : Job → (input : Option (List ℕ)) → (read_failed is_past : Bool) → (old new : Option (List ℕ)) → (write_failed : Bool)
     → Result Bool JobFault → Type 0
-Does job input read_failed old new write_failed (Ok passes) =
+Does job input read_failed is_past old new write_failed (Ok passes) =
     (is_unpaired job ≡ false) × Served job input read_failed old new write_failed (Ok passes)
-Does job input read_failed old new write_failed (Err (Serve fault)) =
-    (is_unpaired job ≡ false) × Served job input read_failed old new write_failed (Err fault)
-Does job input read_failed old new write_failed (Err Unpaired) =
+Does job input read_failed is_past old new write_failed (Err (Serve fault)) =
+    (is_unpaired job ≡ false) × (fault ≡ Read → is_past ≡ false) × Served job input read_failed old new write_failed (Err fault)
+Does job input read_failed is_past old new write_failed (Err TooLarge) =
+    (is_unpaired job ≡ false) × (is_past ≡ true) × Served job input read_failed old new write_failed (Err Read)
+Does job input read_failed is_past old new write_failed (Err Unpaired) =
     (is_unpaired job ≡ true) × (read_failed ≡ false) × Keeps old new × (write_failed ≡ false)
 
 -- The file of a job can't be opened, or there is no memory for it: nothing is written.
@@ -91,7 +94,7 @@ LacksFile old new write_failed outcome =
 -- What doing a job over the file that it names comes to: one of the two, for some bytes.
 abbrev pub OpensAndDoes : Job → (old new : Option (List ℕ)) → (write_failed : Bool) → Result Bool JobFault → Type 0
 OpensAndDoes job old new write_failed outcome =
-    LacksFile old new write_failed outcome ⊎ ((read_failed : Bool) × Does job None read_failed old new write_failed outcome)
+    LacksFile old new write_failed outcome ⊎ ((read_failed is_past : Bool) × Does job None read_failed is_past old new write_failed outcome)
 
 -- ---- the status
 
@@ -99,6 +102,7 @@ abbrev pub status_of : Result Bool JobFault → ℕ
 status_of (Ok true) = 0
 status_of (Ok false) = 1
 status_of (Err Unpaired) = 2
+status_of (Err TooLarge) = 3
 status_of (Err (Serve UnknownHandler)) = 2
 status_of (Err (Serve Read)) = 3
 status_of (Err (Serve NotToml)) = 3
@@ -115,13 +119,14 @@ load_pieces fault =
     codes "rtosim:" ∷ decimal (fault_code fault) ∷ (fault_name fault ++ codes ":")
     ∷ option_map_or place_words (fault_place fault) []
 
--- the pieces of a fault's line, which may tell a name
+-- the pieces of a fault's line, which may tell a name; its control characters are escaped
 abbrev pub fault_pieces : (name : List ℕ) → JobFault → List (List ℕ)
 fault_pieces name Unpaired = codes "rtosim: --at and --handler go together" ∷ []
-fault_pieces name (Serve Read) = codes "rtosim: cannot read" ∷ name ∷ []
+fault_pieces name TooLarge = codes "rtosim: cannot read" ∷ (shown_name name ++ codes ":") ∷ codes "larger than 64 MiB" ∷ []
+fault_pieces name (Serve Read) = codes "rtosim: cannot read" ∷ shown_name name ∷ []
 fault_pieces name (Serve NotToml) = codes "rtosim: not TOML" ∷ []
 fault_pieces name (Serve (Load fault)) = load_pieces fault
-fault_pieces name (Serve UnknownHandler) = codes "rtosim: unknown handler" ∷ name ∷ []
+fault_pieces name (Serve UnknownHandler) = codes "rtosim: unknown handler" ∷ shown_name name ∷ []
 fault_pieces name (Serve TooManyPoints) = codes "rtosim: too many points" ∷ []
 fault_pieces name (Serve Memory) = codes "rtosim: out of memory" ∷ []
 fault_pieces name (Serve Write) = codes "rtosim: cannot write" ∷ []

@@ -1,6 +1,7 @@
 -- What the program does for the words of its command line.
 use Rattle.std.specs.Prelude.{◌≡◌, ◌≢◌, ◌⊎◌, ℕ, Bool, true, false, List, [], Option, Result}
 use Rattle.std.specs.Io.KnownBytes.{Keeps}
+use Rattle.byte_io.specs.Shown.{shown_lines}
 use Rattle.clap.specs.Words.{IsAmong, fault_of, subcommand_of}
 use Rattle.clap.specs.declared.error.kind.ErrorKind.{ErrorKind}
 use Rattle.clap.specs.declared.error.kind.ErrorKind.TheVariants.{DisplayHelp, DisplayVersion, OutOfMemory}
@@ -36,12 +37,12 @@ pub record Shows (kind : ErrorKind) (old new : Option (List ℕ)) (write_failed 
   pub tells : ShownTells write_failed faults_old faults_new tell_failed
   pub ends : status ≡ shown_status write_failed
 
--- The words are refused: a text that says why is told, and nothing is written.
+-- The words are refused: a text that says why is told, its control characters escaped, and nothing is written.
 pub record RefusesWords (kind : ErrorKind) (old new : Option (List ℕ)) (write_failed : Bool)
     (faults_old faults_new : Option (List ℕ)) (tell_failed : Bool) (status : ℕ) : Type 0 where
   pub refused : IsRefusal kind
   pub text : List ℕ
-  pub tells : Tells faults_old faults_new tell_failed text
+  pub tells : Tells faults_old faults_new tell_failed (shown_lines text)
   pub keeps : Keeps old new
   pub working : write_failed ≡ false
   pub ends : status ≡ 2

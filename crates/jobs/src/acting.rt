@@ -5,8 +5,10 @@ ghost use Rattle.campaign.specs.declared.file.ServeFault.{ServeFault};
 ghost use Rattle.jobs.specs.declared.acting.JobFault.{JobFault};
 ghost use Rattle.jobs.specs.declared.acting.JobFault.TheVariants as job_fault;
 ghost use Rattle.jobs.specs.Acting.{RunServed, CampaignServed, Does, OpensAndDoes, Tells, fault_line, is_unpaired, told, status_of};
+ghost use Rattle.jobs.specs.Limited.{is_past, left_of, failed_of};
 
 use crate::fault_line::tell;
+use crate::limited::Limited;
 use byte_io::{FromReader, Sink, Source};
 use campaign::{At, Gate, Options, ServeFault, serve, serve_run, serve_watched};
 use model::End;
@@ -41,6 +43,8 @@ pub enum Job<'a> {
 pub enum JobFault {
     /// The job has a step and no handler, or a handler and no step.
     Unpaired,
+    /// The job's file is larger than 64 MiB (profile).
+    TooLarge,
     /// What is asked for could not be served.
     Serve(ServeFault),
 }
@@ -113,7 +117,8 @@ pub fn status_of(outcome: Result<bool, JobFault>) -> u8
         Ok(false) => 1,
         Err(JobFault::Unpaired | JobFault::Serve(ServeFault::UnknownHandler)) => 2,
         Err(
-            JobFault::Serve(
+            JobFault::TooLarge
+            | JobFault::Serve(
                 ServeFault::Read
                 | ServeFault::NotToml
                 | ServeFault::Load(_)
@@ -195,15 +200,15 @@ fn serve_job<T: Threads + Wait + Sync, R: Source, W: Sink, G: Gate + Sync>(
     rt: &T,
     alloc: Global,
     job: &Job<'_>,
-    reader: &mut R,
+    reader: &mut Limited<R>,
     writer: &mut W,
     gate: &G,
 ) -> Result<bool, JobFault>
-    requires reads { R.has_failed reader.old ≡ false }
+    requires reads { failed_of R.has_failed reader.old ≡ false }
     requires writes { W.has_failed writer.old ≡ false }
-    ensures does { Does job.now (R.left reader.old) (R.has_failed reader.new)
+    ensures does { Does job.now (left_of R.left reader.old) (failed_of R.has_failed reader.new) (is_past reader.new)
         (W.held writer.old) (W.held writer.new) (W.has_failed writer.new) result }
-    ensures unread { is_unpaired job.now ≡ true → R.left reader.new ≡ R.left reader.old }
+    ensures unread { is_unpaired job.now ≡ true → left_of R.left reader.new ≡ left_of R.left reader.old }
 {
     let at = job.injection()?;
     let served = match *job {
@@ -214,6 +219,7 @@ fn serve_job<T: Threads + Wait + Sync, R: Source, W: Sink, G: Gate + Sync>(
     };
     match served {
         Ok(passes) => Ok(passes),
+        Err(ServeFault::Read) if reader.is_past() => Err(JobFault::TooLarge),
         Err(fault) => Err(JobFault::Serve(fault)),
     }
 }
@@ -221,26 +227,27 @@ fn serve_job<T: Threads + Wait + Sync, R: Source, W: Sink, G: Gate + Sync>(
 /// Does the job: reads its file from `reader`, and writes to `writer` what the job asks for. Answers the status that the
 /// program ends with, and puts the line of a fault, if any, to `faults`; that this fails changes nothing.
 ///
-/// Where the job's step and its handler don't go together, nothing is read. The gate is told how far a campaign has come,
-/// unless it is quiet; no clause speaks of that. It waits for the workers of a campaign, whose threads are this runtime's.
+/// Where the job's step and its handler don't go together, nothing is read. Where the reader has failed since more than 64 MiB
+/// came, this is told. The gate is told how far a campaign has come, unless it is quiet; no clause speaks of that. It waits for the
+/// workers of a campaign, whose threads are this runtime's.
 pub fn act<T: Threads + Wait + Sync, R: Source, W: Sink, F: Sink, G: Gate + Sync>(
     rt: &T,
     alloc: Global,
     job: &Job<'_>,
-    reader: &mut R,
+    reader: &mut Limited<R>,
     writer: &mut W,
     faults: &mut F,
     gate: &G,
 ) -> u8
-    requires reads { R.has_failed reader.old ≡ false }
+    requires reads { failed_of R.has_failed reader.old ≡ false }
     requires writes { W.has_failed writer.old ≡ false }
     requires tells { F.has_failed faults.old ≡ false }
     ensures does { (outcome : Result Bool JobFault)
-        × Does job.now (R.left reader.old) (R.has_failed reader.new)
+        × Does job.now (left_of R.left reader.old) (failed_of R.has_failed reader.new) (is_past reader.new)
         (W.held writer.old) (W.held writer.new) (W.has_failed writer.new) outcome
         × Tells (F.held faults.old) (F.held faults.new) (F.has_failed faults.new) (told job.now outcome)
         × (result ≡ status_of outcome) }
-    ensures unread { is_unpaired job.now ≡ true → R.left reader.new ≡ R.left reader.old }
+    ensures unread { is_unpaired job.now ≡ true → left_of R.left reader.new ≡ left_of R.left reader.old }
 {
     let outcome = serve_job(rt, alloc, job, reader, writer, gate);
     conclude(job, faults, outcome)
@@ -279,7 +286,7 @@ pub fn open_and_act<T: Threads + Wait + Files + Sync, W: Sink, F: Sink, G: Gate 
 {
     match File::open(rt, job.file()) {
         Ok(file) => {
-            let mut reader = FromReader::new(file);
+            let mut reader = Limited::new(FromReader::new(file));
             act(rt, alloc, job, &mut reader, writer, faults, gate)
         }
         Err(error) => conclude(job, faults, Err(JobFault::Serve(fault_of(&error)))),

@@ -89,13 +89,13 @@ fn serve_pieces<'a>(name: &'a str, fault: ServeFault) -> Pieces<'a>
     match fault {
         ServeFault::Read => {
             pieces.push(Piece::Text("rtosim: cannot read"));
-            pieces.push(Piece::Text(name));
+            pieces.push(Piece::Name(name));
         }
         ServeFault::NotToml => pieces.push(Piece::Text("rtosim: not TOML")),
         ServeFault::Load(fault) => push_load(&mut pieces, fault),
         ServeFault::UnknownHandler => {
             pieces.push(Piece::Text("rtosim: unknown handler"));
-            pieces.push(Piece::Text(name));
+            pieces.push(Piece::Name(name));
         }
         ServeFault::TooManyPoints => pieces.push(Piece::Text("rtosim: too many points")),
         ServeFault::Memory => pieces.push(Piece::Text("rtosim: out of memory")),
@@ -112,6 +112,13 @@ fn pieces_of<'a>(name: &'a str, fault: JobFault) -> Pieces<'a>
         JobFault::Unpaired => {
             let mut pieces = Pieces::new();
             pieces.push(Piece::Text("rtosim: --at and --handler go together"));
+            pieces
+        }
+        JobFault::TooLarge => {
+            let mut pieces = Pieces::new();
+            pieces.push(Piece::Text("rtosim: cannot read"));
+            pieces.push(Piece::Label(name));
+            pieces.push(Piece::Text("larger than 64 MiB"));
             pieces
         }
         JobFault::Serve(fault) => serve_pieces(name, fault),

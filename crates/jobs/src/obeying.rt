@@ -1,5 +1,6 @@
 //! What is done for the words of the command line.
 ghost use Rattle.std.specs.Prelude.{◌≡◌, false};
+ghost use Rattle.byte_io.specs.Shown.{shown_lines};
 ghost use Rattle.clap.specs.Words.{kind_of};
 ghost use Rattle.jobs.specs.Acting.{Tells};
 ghost use Rattle.jobs.specs.Obeying.{Concludes, Obeys, ShownTells, shown_status};
@@ -7,7 +8,7 @@ ghost use Rattle.jobs.specs.Words.{texts_of};
 
 use crate::acting::{open_and_act, refuse};
 use crate::words::job_named;
-use byte_io::{Sink, WriteFault, put_all};
+use byte_io::{Sink, WriteFault, put_all, put_lines};
 use campaign::{Gate, ServeFault};
 use clap::Error;
 use clap::error::ErrorKind;
@@ -32,18 +33,20 @@ fn show<W: Sink, F: Sink>(text: &str, writer: &mut W, faults: &mut F) -> u8
     }
 }
 
-// Tells why the words are refused. That the text can't be put changes nothing of the status.
+// Tells why the words are refused: the text of `clap`, in which the words may stand. That it can't be put changes nothing of the
+// status.
 fn refuse_words<F: Sink>(text: &str, faults: &mut F) -> u8
     requires { F.has_failed faults.old ≡ false }
     ensures tells { Tells (F.held faults.old) (F.held faults.new) (F.has_failed faults.new)
-        text.now }
+        (shown_lines text.now) }
     ensures status { result ≡ 2 }
 {
-    let _ = put_all(faults, text.as_bytes());
+    let _ = put_lines(faults, text);
     2
 }
 
-/// Ends a call whose words name no job: help and the version are written, any other text of `clap` is told.
+/// Ends a call whose words name no job: help and the version are written, any other text of `clap` is told, its
+/// control characters escaped but for the line feeds.
 pub fn conclude_error<W: Sink, F: Sink>(
     alloc: Global,
     error: &Error,

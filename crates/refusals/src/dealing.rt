@@ -1,0 +1,37 @@
+//! A division, a deal and a tally.
+ghost use Rattle.std.specs.Prelude.{IfOk};
+
+use crate::fault::Fault;
+use deal::{Counts, Deal, Division, Next, Tally};
+use std::alloc::Global;
+
+/// Ten points in blocks of three.
+pub(crate) fn divided(alloc: Global) -> Result<Division, Fault> {
+    match Division::even(alloc, 10, 3) {
+        Ok(division) => Ok(division),
+        Err(_) => Err(Fault::Memory),
+    }
+}
+
+/// What the first of two lanes is answered at first.
+pub(crate) fn dealt(alloc: Global) -> Result<Next, Fault> {
+    let division = divided(alloc)?;
+    let Ok((_deal, mut lanes)) = Deal::new(alloc, division, 2) else {
+        return Err(Fault::Memory);
+    };
+    match lanes.first_mut() {
+        Some(lane) => Ok(lane.next()),
+        None => Err(Fault::Other),
+    }
+}
+
+/// The counts of a tally of three seats, none of which has added.
+pub(crate) fn counted(alloc: Global) -> Result<Counts, Fault> {
+    let Ok((tally, seats)) = Tally::make(alloc, 3) else {
+        return Err(Fault::Memory);
+    };
+    match tally.close(seats) {
+        Ok(counts) => Ok(counts),
+        Err(_) => Err(Fault::Other),
+    }
+}

@@ -1,0 +1,31 @@
+//! Why a call gave nothing.
+use campaign::{ExpandFault, ServeFault};
+use script::LoadFault;
+
+/// Memory was refused; or there is another fault, which no call here has.
+#[derive(Clone, Copy, Debug, PartialEq, Eq)]
+pub(crate) enum Fault {
+    Memory,
+    Other,
+}
+
+pub(crate) fn of_loading(fault: LoadFault) -> Fault {
+    match fault {
+        LoadFault::Memory => Fault::Memory,
+        _ => Fault::Other,
+    }
+}
+
+pub(crate) fn of_expanding(fault: ExpandFault) -> Fault {
+    match fault {
+        ExpandFault::Memory => Fault::Memory,
+        ExpandFault::TooManyPoints => Fault::Other,
+    }
+}
+
+pub(crate) fn of_serving(fault: ServeFault) -> Fault {
+    match fault {
+        ServeFault::Memory => Fault::Memory,
+        _ => Fault::Other,
+    }
+}

@@ -1,0 +1,45 @@
+/* Stands before the system's allocator, and refuses the growth of one number: REFUSED, counted from 1. Where there was no growth
+   of that number it says so at the end, on file descriptor 9. */
+#define _GNU_SOURCE
+#include <dlfcn.h>
+#include <errno.h>
+#include <stddef.h>
+#include <stdlib.h>
+#include <unistd.h>
+
+static long growths, refused;
+
+/* Whether this growth is the one. */
+static int is_refused(void)
+{
+    if (!refused) {
+        const char *number = getenv("REFUSED");
+        refused = number ? atol(number) : -1;
+    }
+    if (++growths != refused)
+        return 0;
+    errno = ENOMEM;
+    return 1;
+}
+
+void *malloc(size_t size)
+{
+    static void *(*next)(size_t);
+    if (!next)
+        next = (void *(*)(size_t))dlsym(RTLD_NEXT, "malloc");
+    return is_refused() ? NULL : next(size);
+}
+
+void *realloc(void *old, size_t size)
+{
+    static void *(*next)(void *, size_t);
+    if (!next)
+        next = (void *(*)(void *, size_t))dlsym(RTLD_NEXT, "realloc");
+    return is_refused() ? NULL : next(old, size);
+}
+
+__attribute__((destructor)) static void end(void)
+{
+    if (growths < refused && write(9, "none", 4) != 4)
+        _exit(99);
+}
