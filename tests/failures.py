@@ -13,7 +13,7 @@ import subprocess
 import threading
 import time
 
-from cases import awaited, case, equal, long_case
+from cases import case, equal, long_case
 from running import (HANDLER, PATIENCE, PROGRAM, ROOT, TASK, TASK_RUNS, is_refused, points, run, run_text,
                      started_with_small_pipe, stored, write)
 
@@ -391,12 +391,6 @@ def with_little_memory_in_all():
 
 
 @case
-def with_little_memory_in_all_nothing_is_written_or_the_whole():
-    for found in with_little_memory_in_all():
-        equal(found, (-signal.SIGSEGV, b"", b""))
-
-
-@awaited
 def with_little_memory_in_all_the_answer_is_whole_or_says_so():
     equal(with_little_memory_in_all(), [])
 

@@ -8,7 +8,7 @@ use Rattle.std.proofs.Math.Seq.{take-length}
 use Rattle.model.specs.declared.event.Event.{Event}
 use Rattle.model.specs.declared.plan.Point.{Point}
 use Rattle.model.specs.Application.{Application, Limits}
-use Rattle.model.specs.Run.{Run, IsRun, events_after}
+use Rattle.model.specs.Run.{Run, IsRun, IsRow, events_after}
 use Rattle.model.proofs.Injected.{begins_with, no_fewer}
 use Rattle.kernel.specs.declared.rows.RowEnding.{RowEnding}
 use Rattle.kernel.specs.Rows.{IsRowFrom}

@@ -11,6 +11,18 @@ use std::alloc::Global;
 use std::io;
 use std::process::ExitCode;
 
+// So many bytes of stack a job takes at most, and some more.
+const STACK: usize = 393_216;
+
+// Takes that much stack, and gives it back: it stays the program's. So where a limit on all memory leaves no room for it, the
+// program ends before it has done anything, and else the stack need not grow later. Answers 0 or 1, by what lies at `place`.
+#[inline(never)]
+fn take_stack(place: usize) -> u8 {
+    let mut stack = [0_u8; STACK];
+    stack[place % STACK] = 1;
+    stack[place / 2 % STACK]
+}
+
 fn arguments(rt: &HostRuntime) -> io::Result<Vec<String>> {
     Ok(std::env::args(rt)?.collect(rt.alloc())?)
 }
@@ -38,6 +50,10 @@ fn main(rt: HostRuntime) -> ExitCode {
         Ok(arguments) => arguments,
         Err(error) => return ExitCode::from(refuse_words(&rt, &error)),
     };
+    if take_stack(arguments.len()) > 1 {
+        // This never comes, but the stack is not left out for it.
+        return ExitCode::from(4);
+    }
     let words = match words_in(rt.alloc(), &arguments) {
         Ok(words) => words,
         Err(error) => return ExitCode::from(refuse_words(&rt, &error)),
