@@ -210,12 +210,14 @@ module _ (app : Application) (limits : Limits) (base : Run) where
   still_known : (kept : List KeptRow) (trail more : List Event) → AreKnown app limits base kept trail → AreKnown app limits base kept (trail ++ more)
   still_known [] trail more known = tt
   still_known (k ∷ kept) trail more known =
-      let own = known.0.is_kept.own in
-      (record {
-        at_point = refl;
-        is_kept = record { shared = known.0.is_kept.shared; rises = known.0.is_kept.rises; own = omega (arith, own, length-append trail more) };
-        is_row = rw (same_own trail more k.own_from k.own_to known.0.is_kept.rises own) known.0.is_row;
-      }, still_known kept trail more known.1)
+      let own = known.0.is_kept.own in (
+        record {
+          at_point = refl;
+          is_kept = record { shared = known.0.is_kept.shared; rises = known.0.is_kept.rises; own = omega (arith, own, length-append trail more) };
+          is_row = rw (same_own trail more k.own_from k.own_to known.0.is_kept.rises own) known.0.is_row;
+        },
+        still_known kept trail more known.1,
+      )
 
   made_known : (kept : List KeptRow) (trail : List Event) → AllByRecursion (IsKept base trail) kept
       → AllByRecursion (λ (row : Row). IsRow app limits row.point row.reached row.run) (rows_of base trail kept) → AreKnown app limits base kept trail

@@ -47,7 +47,12 @@ impl<'a> Counter<'a> {
         let start = self.start?;
         let now = Instant::now(self.rt).ok()?;
         let elapsed = now.saturating_duration_since(start);
-        Some(elapsed.as_secs().saturating_mul(1_000).saturating_add(elapsed.subsec_millis() as u64))
+        Some(
+            elapsed
+                .as_secs()
+                .saturating_mul(1_000)
+                .saturating_add(elapsed.subsec_millis() as u64),
+        )
     }
 }
 
@@ -73,7 +78,11 @@ impl Gate for Counter<'_> {
             return;
         };
         let shown = self.shown.load(Ordering::SeqCst);
-        let due = if shown == 0 { FIRST } else { shown.saturating_add(NEXT) };
+        let due = if shown == 0 {
+            FIRST
+        } else {
+            shown.saturating_add(NEXT)
+        };
         if now < due {
             return;
         }
