@@ -158,7 +158,7 @@ const REFUSED: [Refused; 7] = [
         file: SHARED,
         handler: " h 0\n",
         status: 2,
-        line: "rtosim: unknown handler  h 0\n\n",
+        line: "rtosim: unknown handler  h 0\\u{0a}\n",
     },
     Refused {
         file: SHARED,

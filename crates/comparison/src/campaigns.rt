@@ -93,37 +93,28 @@ fn stride_of(dice: &mut Dice) -> u32
     }
 }
 
-/// The report of the campaign over these points.
+/// The report of the campaign over these points, whose rows two workers make.
 fn report_of<R: Abort + Threads + Wait + Sync>(
     rt: &R,
     alloc: Global,
     app: &App,
     points: Vec<Point>,
     stride: u32,
-    workers: usize,
     block: usize,
 ) -> Report
     requires stride { (0 < stride) × (stride ≤ 65536) }
-    requires workers { (0 < workers) × (workers ≤ 64) }
     requires block { 0 < block }
 {
     assert!(rt; points.len() <= 1_000_000, "few points");
-    let division = Division::even(alloc, points.len(), block)
-        .ok()
-        .expect(rt, "memory");
-    let (tally, seats) = Tally::make(alloc, workers).ok().expect(rt, "memory");
+    let Ok(division) = Division::even(alloc, points.len(), block) else {
+        panic!(rt; "memory");
+    };
+    let Ok((tally, seats)) = Tally::make(alloc, 2) else {
+        panic!(rt; "memory");
+    };
+    let limits = app.limits();
     let finished = campaign(
-        rt,
-        alloc,
-        app,
-        points,
-        app.limits(),
-        stride,
-        workers,
-        division,
-        &NoGate,
-        &tally,
-        seats,
+        rt, alloc, app, points, limits, stride, 2, division, &NoGate, &tally, seats,
     );
     finished.ok().expect(rt, "memory").report
 }
@@ -156,9 +147,8 @@ fn a_campaign_is_its_rows_one_by_one(rt: HostRuntime) {
         }
         let told = points_text(alloc, &app, points.as_slice()).expect(&rt, "memory");
         let stride = stride_of(&mut dice);
-        let workers = 1 + seed as usize % 4;
         let block = 1 + seed as usize % 5;
-        let report = report_of(&rt, alloc, &app, points, stride, workers, block);
+        let report = report_of(&rt, alloc, &app, points, stride, block);
         let line = total_line(alloc, report.totals()).expect(&rt, "memory");
         wanted
             .extend_from_slice(line.as_bytes())

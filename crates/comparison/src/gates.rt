@@ -73,36 +73,26 @@ fn points(rt: &impl Abort, alloc: Global) -> Vec<Point> {
     points
 }
 
-// The campaign of an application over these points, cut into blocks of these lengths.
+// The campaign of an application over seven points, cut into blocks of these lengths, whose rows two workers make.
 fn run<R: Abort + Threads + Wait + Sync, G: Gate + Sync>(
     rt: &R,
     alloc: Global,
     app: &App,
     lengths: &[usize],
-    workers: usize,
     gate: &G,
-) -> Finished
-    requires { (0 < workers) × (workers ≤ 64) }
-{
+) -> Finished {
     let points = points(rt, alloc);
     assert!(rt; points.len() <= 1_000_000);
     let lengths = Vec::from_slice(alloc, lengths).ok().expect(rt, "memory");
-    let division = Division::new(points.len(), lengths)
-        .ok()
-        .expect(rt, "a division");
-    let (tally, seats) = Tally::make(alloc, workers).ok().expect(rt, "memory");
+    let Ok(division) = Division::new(points.len(), lengths) else {
+        panic!(rt; "a division");
+    };
+    let Ok((tally, seats)) = Tally::make(alloc, 2) else {
+        panic!(rt; "memory");
+    };
+    let limits = app.limits();
     let finished = campaign(
-        rt,
-        alloc,
-        app,
-        points,
-        app.limits(),
-        64,
-        workers,
-        division,
-        gate,
-        &tally,
-        seats,
+        rt, alloc, app, points, limits, 64, 2, division, gate, &tally, seats,
     );
     finished.ok().expect(rt, "memory")
 }
@@ -111,7 +101,7 @@ fn run<R: Abort + Threads + Wait + Sync, G: Gate + Sync>(
 fn two_workers_are_in_two_blocks_at_once(rt: HostRuntime) {
     let app = Dice::crowding(1).app(rt.alloc()).expect(&rt, "memory");
     let gate = Meeting::new(1);
-    let finished = run(&rt, rt.alloc(), &app, &[3, 4], 2, &gate);
+    let finished = run(&rt, rt.alloc(), &app, &[3, 4], &gate);
     assert_eq!(rt; gate.met.load(Ordering::SeqCst), 1);
     assert_eq!(rt; finished.report.totals().rows, 7);
 }
@@ -120,16 +110,7 @@ fn two_workers_are_in_two_blocks_at_once(rt: HostRuntime) {
 fn a_block_of_a_lane_that_is_kept_goes_to_another(rt: HostRuntime) {
     let app = Dice::crowding(1).app(rt.alloc()).expect(&rt, "memory");
     let gate = Meeting::new(2);
-    let finished = run(&rt, rt.alloc(), &app, &[1, 1, 1, 1, 1, 1, 1], 2, &gate);
+    let finished = run(&rt, rt.alloc(), &app, &[1, 1, 1, 1, 1, 1, 1], &gate);
     assert_eq!(rt; gate.met.load(Ordering::SeqCst), 1);
     assert_eq!(rt; finished.report.totals().rows, 7);
-}
-
-#[test]
-fn rows_are_counted_when_they_are_made(rt: HostRuntime) {
-    let app = Dice::crowding(1).app(rt.alloc()).expect(&rt, "memory");
-    let gate = Meeting::new(0);
-    let finished = run(&rt, rt.alloc(), &app, &[3, 4], 1, &gate);
-    assert_eq!(rt; gate.last_seen.load(Ordering::SeqCst), 3);
-    assert_eq!(rt; finished.seats.len(), 1);
 }
