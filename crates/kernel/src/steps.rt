@@ -360,7 +360,7 @@ pub(crate) fn finish(
 /// there; `None` where it goes on. Where it ends before, it has come to that end.
 ///
 /// The meter, which is below 2^62, rises by the steps that are done here. At `Err(Memory)`, answered only where a growth was
-/// refused, so never where the run tells nothing, it has come to some step before, and has kept some of the events.
+/// refused, so never where the run tells nothing, it has come to some step before, and the trail is of no more use.
 pub fn follow(
     kernel: &mut Kernel,
     app: &App,
