@@ -10,6 +10,12 @@ def case(function):
     return function
 
 
+def case_named(name, function):
+    """A case that is told by this name, and not by that of its function."""
+    function.told_as = name
+    return case(function)
+
+
 def long_case(function):
     """A case that takes minutes, for a run of these alone."""
     LONG.append(function)
@@ -46,7 +52,7 @@ def run_cases(start, is_long=False):
     """Starts each case by a call with its function and a new folder, and returns the status for all."""
     passed = failed = 0
     for function in LONG if is_long else CASES:
-        name = function.__name__.replace("_", " ")
+        name = getattr(function, "told_as", function.__name__.replace("_", " "))
         with tempfile.TemporaryDirectory(prefix="rtosim-test-") as room:
             try:
                 start(function, os.path.realpath(room))

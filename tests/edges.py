@@ -206,6 +206,9 @@ def edges_of_the_objects_which_are_32_together():
     # the section that goes past the sum is named, in the order of the checks and not of the file
     faults(entries("mutex", 32) + QUEUE + TASK, "9 TooMany: mutex")
     faults(eight + '[[counting]]\nname = "more"\nmax = 1\n' + TASK, "9 TooMany: mutex")
+    faults(entries("queue", 32, "length = 1\n") + entries("binary", 1) + TASK, "9 TooMany: binary")
+    faults(entries("queue", 8, "length = 1\n") + entries("binary", 8) + entries("counting", 17, "max = 1\n") + entries("mutex", 1)
+           + TASK, "9 TooMany: counting")
 
 
 @case
@@ -294,19 +297,6 @@ def a_step_with_as_many_events_as_handlers_can_tell():
 
 
 @case
-def numbers_of_ops_out_of_their_range_are_no_ops():
-    for op in (
-        "work 0", "work 1000001", "repeat 0", "repeat 1001", "delay 4294967296", "delay_until 0", "delay_until 4294967296",
-        "mark 4294967296", "mark 00000000001", "mark -1", "mark +1", "mark 1.0", "mark 0x1", "mark", "mark 1 2", "expect 4294967296",
-        "expect nothing", "set g 0", "set g 16777216", "clear g 0", "clear g 16777216", "wait g 0 any keep 1",
-        "wait g 16777216 all clear 1", "wait g 1 some keep 1", "wait g 1 any leave 1", "receive q 4294967295", "receive q -1",
-        "receive q ever", "receive q", "send q 4294967296 0", "send q 1 4294967295", "send q 1", "take s 4294967295",
-        "lock m 4294967295", "", " ", "nop", "MARK 1", "mark\t1", "mark\u00a01", "mark \u0661", "give 9s", "send 9q 1 0",
-    ):
-        faults(EACH_KIND + task(op), "4 BadOp: task 0 script 0")
-
-
-@case
 def numbers_of_ops_at_the_ends_of_their_range():
     tells(task("mark 0", "mark 4294967295", "mark 0000000001", "  mark   7  "), "pass in 4 steps, 0 ticks", "0 0 mark a 0",
           "1 0 mark a 4294967295", "2 0 mark a 1", "3 0 mark a 7", "3 0 run -")
@@ -324,45 +314,12 @@ def numbers_of_ops_at_the_ends_of_their_range():
 
 
 @case
-def names_of_another_kind_are_unknown():
-    for op in (
-        "give q", "give m", "take m 0", "take q 0", "lock s 0", "lock q 0", "unlock s", "send s 1 0", "send m 1 0", "receive g 0",
-        "waiting s", "bits q", "bits s", "set s 1", "suspend h", "suspend q", "resume g", "give nobody", "suspend nobody",
-        "give " + 16 * "n",
-    ):
-        faults(EACH_KIND + HANDLER + task(op), "5 UnknownName: task 0 script 0")
-    faults(EACH_KIND + HANDLER + task("give " + 17 * "n"), "4 BadOp: task 0 script 0")
-    for op in ("give q", "send s 1", "resume h", "bits s"):
-        faults(EACH_KIND + HANDLER.replace("[]", json.dumps([op])) + TASK, "5 UnknownName: handler 0 ops 0")
-
-
-@case
-def ops_that_are_not_for_handlers():
-    for op in ("send q 1 0", "receive q 0", "lock m 0", "unlock m", "take s 0", "work 1", "delay 1", "yield", "time", "expect 1",
-               "repeat 1", "end", "set g 1", "clear g 1", "suspend a", "suspend_all", "resume_all", "waiting q", "wait g 1 any keep 1"):
-        faults(EACH_KIND + HANDLER.replace("[]", json.dumps([op])) + TASK, "4 BadOp: handler 0 ops 0")
-
-
-@case
 def edges_of_points():
     file = HANDLER + TASK
-    for text, line in (
-        ("1000001 h", "4 BadOp: campaign points 0"), ("00000000000 h", "4 BadOp: campaign points 0"),
-        ("0 nobody", "5 UnknownName: campaign points 0"), ("0 9h", "4 BadOp: campaign points 0"),
-        ("all nobody", "5 UnknownName: campaign points 0"), ("h", "4 BadOp: campaign points 0"), ("", "4 BadOp: campaign points 0"),
-        ("0 a", "5 UnknownName: campaign points 0"), ("-1 h", "4 BadOp: campaign points 0"),
-        ("all h all h", "4 BadOp: campaign points 0"), ("0 h all h", "4 BadOp: campaign points 0"),
-    ):
-        faults(file + points(text), line)
-        is_refused(campaign_text(file + points("0 h", text)), 3, line[:-1] + "1")
     total = "total 2: pass 2, check 0, misuse 0, ticks 0, steps 0, stuck 0, not reached 1\n"
     lines = TASK_RUNS.decode().partition("\n")[2]
     wanted = f"row 0 at 0 h: pass in 1 steps, 0 ticks\n{lines}row 1 at 1000000 h: not reached, pass in 1 steps, 0 ticks\n{lines}{total}"
     equal(campaign_text(file + points(" 0000000000  h ", "1000000 h")), (0, wanted.encode(), b""))
-    faults(file + "[campaign]\n", "1 Missing: campaign points")
-    faults("campaign = 1\n" + file, "2 WrongKind: campaign")
-    faults(file + '[campaign]\npoints = "0 h"\n', "2 WrongKind: campaign points")
-    faults(file + "[campaign]\npoints = [0]\n", "2 WrongKind: campaign points 0")
 
 
 @case
@@ -370,7 +327,9 @@ def edges_of_the_number_of_points():
     file = HANDLER + TASK
     many = file + "[campaign]\npoints = [{}]\n"
     is_refused(campaign_text(many.format(1_000_001 * '"",')), 3, "9 TooMany: campaign points")
-    # one less: every entry is looked at
+    faults(many.format(1_000_001 * "0,"), "9 TooMany: campaign points")
+    is_taken(many.format(1_000_000 * '"0 h",'))
+    # every entry is looked at
     is_refused(campaign_text(many.format(999_999 * '"0 h",' + '""')), 3, "4 BadOp: campaign points 999999")
 
 

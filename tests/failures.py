@@ -219,7 +219,9 @@ def a_pipe_that_takes_nothing_more_and_may_not_be_waited_for():
 
 @case
 def faults_that_can_not_be_told_change_no_status():
-    for words, status in ((["run", "not there"], 3), (["run", "application.toml"], 0), (["run", "application.toml", "--at", "0"], 2)):
+    for words, status in (
+        (["run", "not there"], 3), (["run", "application.toml"], 0), (["run", "application.toml", "--at", "0"], 2), (["fly"], 2),
+    ):
         run_text(TASK)
         wanted = TASK_RUNS if status == 0 else b""
         with open("/dev/full", "wb") as full:

@@ -21,9 +21,9 @@ F_SETPIPE_SZ = 1031
 
 
 def run(*words, **how):
-    """Runs the program, and returns its status and what it wrote to its two streams."""
+    """Runs the program, called rtosim, and returns its status and what it wrote to its two streams."""
     streams = {"stdin": subprocess.DEVNULL, "stdout": subprocess.PIPE, "stderr": subprocess.PIPE}
-    ran = subprocess.run([PROGRAM, *words], timeout=PATIENCE, **{**streams, **how})
+    ran = subprocess.run(["rtosim", *words], executable=PROGRAM, timeout=PATIENCE, **{**streams, **how})
     return ran.returncode, ran.stdout, ran.stderr
 
 

@@ -1,6 +1,5 @@
 //! What a file is loaded as.
 
-use crate::sinks::{check_text, serve};
 use model::{
     Access, App, Condition, GroupId, HandlerId, IsrOp, ObjectId, ObjectKind, Op, Point, PointEntry,
     TaskId,
@@ -233,12 +232,4 @@ fn points_are_loaded(rt: HostRuntime) {
 fn an_application_without_points(rt: HostRuntime) {
     let app = loaded(&rt, rt.alloc(), QUEUES);
     assert_eq!(rt; app.points().len(), 0);
-}
-
-#[test]
-fn the_run_of_a_file_with_points_is_the_same(rt: HostRuntime) {
-    let report = "base: pass in 3 steps, 2 ticks\n2 2 mark a 7\n2 2 run -\n";
-    let answer = serve(&rt, rt.alloc(), POINTS.as_bytes(), 100);
-    assert_eq!(rt; answer.status, 0);
-    check_text(&rt, rt.alloc(), "points", answer.written.bytes(), report);
 }

@@ -1,13 +1,9 @@
-//! Sinks and sources that are narrow, or fail, and the program's answer over them.
+//! Sinks and sources that are narrow, or fail.
 ghost use Rattle.std.specs.Prelude.{◌≡◌, false};
 
-use byte_io::{Failed, FromReader, Sink, Source};
-use campaign::NoGate;
-use jobs::{Job, Limited, act};
+use byte_io::{Failed, Sink, Source};
 use std::alloc::Global;
 use std::process::Abort;
-use std::sync::Wait;
-use std::thread::Threads;
 
 /// Holds what it is given, at most so many bytes a call. Once there is no more room it fails, or takes no more.
 #[derive(Drop)]
@@ -103,60 +99,6 @@ impl Source for Breaking {
         buffer[..count].copy_from_slice(self.text);
         Ok(count)
     }
-}
-
-/// What the program answers.
-#[derive(Drop)]
-pub(crate) struct Answer {
-    pub(crate) status: u8,
-    pub(crate) written: Holder,
-    pub(crate) told: Holder,
-}
-
-/// The job that writes the base run of this file.
-pub(crate) fn base_run_of(file: &str) -> Job<'_> {
-    Job::Run {
-        file,
-        at: None,
-        handler: None,
-    }
-}
-
-/// Does a job over a file, and sinks that take so many bytes a call.
-pub(crate) fn serve_job<R: Threads + Wait + Sync>(
-    rt: &R,
-    alloc: Global,
-    job: &Job<'_>,
-    file: &[u8],
-    at_once: usize,
-) -> Answer {
-    let mut written = Holder::wide(alloc, at_once);
-    let mut told = Holder::wide(alloc, at_once);
-    let mut reader = Limited::new(FromReader::new(file));
-    let status = act(
-        rt,
-        alloc,
-        job,
-        &mut reader,
-        &mut written,
-        &mut told,
-        &NoGate,
-    );
-    Answer {
-        status,
-        written,
-        told,
-    }
-}
-
-/// Runs a file, over sinks that take so many bytes a call.
-pub(crate) fn serve<R: Threads + Wait + Sync>(
-    rt: &R,
-    alloc: Global,
-    file: &[u8],
-    at_once: usize,
-) -> Answer {
-    serve_job(rt, alloc, &base_run_of("app.toml"), file, at_once)
 }
 
 /// Compares a text with the one that is wanted, and shows both where they differ.

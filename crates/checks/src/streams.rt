@@ -1,9 +1,9 @@
-//! Readers and writers that fail, at once or in mid-stream.
+//! Jobs over readers and writers that are narrow, or fail at once or in mid-stream.
 
-use crate::sinks::{Breaking, Holder, base_run_of, check_text};
+use crate::sinks::{Breaking, Holder, check_text};
 use byte_io::FromReader;
-use campaign::NoGate;
-use jobs::{Limited, act};
+use campaign::{NoGate, Options};
+use jobs::{Job, Limited, act};
 use std::alloc::Global;
 use std::process::Abort;
 use std::sync::Wait;
@@ -19,6 +19,72 @@ const MANY_MARKS: &str =
     "task = [{ name = 'a', priority = 1, script = ['repeat 1000', 'mark 1', 'mark 2', 'end'] }]";
 
 const MANY_MARKS_SIZE: usize = 31_309;
+
+/// The job that writes the base run of this file.
+fn base_run_of(file: &str) -> Job<'_> {
+    Job::Run {
+        file,
+        at: None,
+        handler: None,
+    }
+}
+
+// A campaign of two rows, and its report.
+const TWO_ROWS: &str = "
+handler = [{ name = 'h', ops = ['mark 5'] }]
+task = [{ name = 'a', priority = 1, script = ['mark 1', 'expect 0'] }]
+campaign = { points = ['all h'] }
+";
+
+const TWO_ROWS_REPORT: &str = "row 0 at 0 h: check a 1 in 2 steps, 0 ticks
+0 0 mark h 5
+0 0 mark a 1
+row 1 at 1 h: check a 1 in 2 steps, 0 ticks
+0 0 mark a 1
+1 0 mark h 5
+total 2: pass 0, check 2, misuse 0, ticks 0, steps 0, stuck 0, not reached 0
+";
+
+/// Does a job over sinks that take a byte a call, and compares its status, what it writes and what it tells.
+fn check_byte_by_byte<R: Abort + Threads + Wait + Sync>(
+    rt: &R,
+    alloc: Global,
+    job: &Job<'_>,
+    file: &str,
+    status: u8,
+    texts: (&str, &str),
+) {
+    let mut reader = Limited::new(FromReader::new(file.as_bytes()));
+    let mut written = Holder::wide(alloc, 1);
+    let mut told = Holder::wide(alloc, 1);
+    let found = act(
+        rt,
+        alloc,
+        job,
+        &mut reader,
+        &mut written,
+        &mut told,
+        &NoGate,
+    );
+    assert_eq!(rt; found, status);
+    check_text(rt, alloc, "written", written.bytes(), texts.0);
+    check_text(rt, alloc, "told", told.bytes(), texts.1);
+}
+
+#[test]
+fn sinks_that_take_a_byte_a_call(rt: HostRuntime) {
+    let alloc = rt.alloc();
+    let job = base_run_of("app.toml");
+    check_byte_by_byte(&rt, alloc, &job, ONE_MARK, 0, (ONE_MARK_REPORT, ""));
+    let line = "rtosim: 1 Missing: task\n";
+    check_byte_by_byte(&rt, alloc, &job, "", 3, ("", line));
+    let job = Job::Campaign {
+        file: "app.toml",
+        options: Options::default(),
+        quiet: true,
+    };
+    check_byte_by_byte(&rt, alloc, &job, TWO_ROWS, 1, (TWO_ROWS_REPORT, ""));
+}
 
 /// Runs a sound file, over a writer that has room for so many bytes of its report. Answers what was written.
 fn check_full_writer<R: Abort + Threads + Wait + Sync>(
