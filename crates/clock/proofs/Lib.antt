@@ -1,4 +1,5 @@
 pub mod Advancing
+pub mod Quiet
 pub mod Sleeping
 pub mod Standing
 pub mod Taking

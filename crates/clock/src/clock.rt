@@ -299,6 +299,32 @@ impl Clock {
         true
     }
 
+    /// How many ticks can pass, one after another, with which nobody's sleep ends and the tick that is shown doesn't become 0.
+    pub fn quiet_ticks(&self) -> u32
+        ensures asleep { Each (λ e. self.now.now + result < e.1) self.now.delayed_list }
+        ensures turn { self.now.now % 2 ^ 32 + result < 2 ^ 32 }
+    {
+        match self.lists.first(self.current) {
+            None => u32::MAX - self.tick,
+            Some(first) => self.lists.value(first) - self.tick - 1,
+        }
+    }
+
+    /// Lets one tick pass, with which nobody's sleep ends and the tick that is shown doesn't become 0 (`quiet_ticks` tells).
+    pub fn advance_quietly(&mut self)
+        requires age { self.old.age < 2 ^ 62 }
+        requires asleep { Each (λ e. self.old.now + 1 < e.1) self.old.delayed_list }
+        requires turn { self.old.now % 2 ^ 32 + 1 < 2 ^ 32 }
+        ensures advances { Advances self.old self.new [] }
+        // In the definitions nobody is due then, and the tick has come.
+        ensures due { (s : State) → StandsFor self.old s → [] ≡ tasks_of (time.due (at_next_tick s)) }
+        ensures woken { (s : State) → StandsFor self.old s → is_scheduler_suspended s ≡ false
+            → StandsFor self.new (time.increment_tick s) }
+    {
+        self.age += 1;
+        self.tick += 1;
+    }
+
     /// The time, without bound.
     fn now(&self) -> u64
         ensures now { result ≡ self.now.now }

@@ -12,6 +12,7 @@ pub mod Booting
 pub mod Waits
 pub mod Ranking
 pub mod Deciding
+pub mod Ticking
 pub mod Unlocking
 pub mod EventBits
 pub mod Before

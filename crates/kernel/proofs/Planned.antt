@@ -1,7 +1,8 @@
 -- The handlers of a plan, step by step.
-use Rattle.std.proofs.Common.{◌≡◌, ◌≢◌, ◌<◌, ◌≤◌, ◌+◌, ℕ, zero, suc, true, false, eqb, List, [], ◌∷◌, ◌++◌, length, get_or, drop, refl, ap, sym, subst, ◌∙◌, arith, length-append, append-nil}
+use Rattle.std.proofs.Common.{Some, ◌≡◌, ◌≢◌, ◌<◌, ◌≤◌, ◌+◌, ℕ, zero, suc, true, false, eqb, List, [], ◌∷◌, ◌++◌, length, get_or, drop, refl, ap, sym, subst, ◌∙◌, arith, length-append, append-nil}
 use Rattle.std.specs.List.{AllByRecursion}
 use Rattle.std.proofs.lemmas.Bool.{eq-eqb, ne_eqb}
+use Rattle.std.proofs.lemmas.Option.{same_Some}
 use Rattle.std.proofs.lemmas.List.{append_assoc, drop_more}
 use Rattle.model.specs.declared.plan.Point.{Point}
 use Rattle.model.specs.Application.{Application}
@@ -129,3 +130,24 @@ none_due n [] order ahead off = refl
 none_due n (p ∷ ps) order ahead off =
     let ne : p.step ≢ n = (λ e. let u : eqb p.step n ≡ true = eq-eqb p.step n e in absurd (cc)) in
     sym (none_at n (p ∷ ps) (later n p ps order ahead.0 ne))
+
+-- ---- before the first that is left
+
+module _ (points : List Point) (first : Point) (is : slice_get points 0 ≡ Some first) (order : Rises (λ (p : Point). p.step) points) where
+  pub all_ahead : (n : ℕ) → n ≤ first.step → AllByRecursion (λ (p : Point). n ≤ p.step) points
+  all_ahead n l = by_points points is order where
+    by_points : (ps : List Point) → slice_get ps 0 ≡ Some first → Rises (λ (p : Point). p.step) ps → AllByRecursion (λ (p : Point). n ≤ p.step) ps
+    by_points [] e o = tt
+    by_points (p ∷ ps) e o = let same : p.step ≡ first.step = ap (λ (q : Point). q.step) (same_Some p first e) in (omega arith, all_from n p.step ps (omega arith) o.0)
+
+  pub least_is : (n : ℕ) → AllByRecursion (λ (p : Point). n ≤ p.step) points → n ≤ first.step
+  least_is n h = by_points points is h where
+    by_points : (ps : List Point) → slice_get ps 0 ≡ Some first → AllByRecursion (λ (p : Point). n ≤ p.step) ps → n ≤ first.step
+    by_points [] e a = absurd (cc)
+    by_points (p ∷ ps) e a = let same : p.step ≡ first.step = ap (λ (q : Point). q.step) (same_Some p first e) in let l = a.0 in omega arith
+
+  pub none_before : (n : ℕ) → n < first.step → injected points n ≡ []
+  none_before n l = none_at n points (all_ahead (suc n) (omega arith))
+
+pub left_on : (plan points : List Point) (n m : ℕ) → n ≤ m → AllByRecursion (λ (p : Point). m ≤ p.step) points → IsLeft plan points n → IsLeft plan points m
+left_on plan points n m le ahead left = record { same = λ k l. left.same k (omega arith); order = left.order; ahead = ahead }

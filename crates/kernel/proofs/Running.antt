@@ -1,5 +1,5 @@
 -- A run, step by step.
-use Rattle.std.proofs.Common.{◌+◌, ◌≡◌, ◌≢◌, ◌<◌, ◌≤◌, ℕ, zero, suc, true, false, eqb, leb, List, [], ◌++◌, Option, Some, None, refl, ap, sym, subst, ◌∙◌, arith, length, length-append}
+use Rattle.std.proofs.Common.{◌+◌, ◌≡◌, ◌≢◌, ◌<◌, ◌≤◌, ℕ, zero, suc, true, false, eqb, leb, List, [], ◌++◌, Option, Some, None, refl, ap, sym, subst, ◌∙◌, arith, drop, length, length-append, append-nil}
 use Rattle.std.proofs.lemmas.List.{append_assoc}
 use Rattle.std.proofs.lemmas.Bool.Decides.{nat_tests}
 use Rattle.model.proofs.Sorting.{by_test}
@@ -12,7 +12,7 @@ use Rattle.model.specs.State.{State, Progress, progress_at}
 use Rattle.model.specs.Step.{act_unless, misuse, act_if, act_current, step, reset}
 use Rattle.model.specs.declared.plan.Point.{Point}
 use Rattle.model.specs.Run.{Run, IsRun, end_of, injected, state_after, events_after}
-use Rattle.model.proofs.Injected.{from_one_more}
+use Rattle.model.proofs.Injected.{from_one_more, goes_on_with}
 use Rattle.model.proofs.Passing.{elapsed-reset, elapsed-step}
 use Rattle.kernel.specs.declared.kernel.Kernel.{Kernel}
 use Rattle.kernel.specs.Logged.{Logged, all_of}
@@ -113,6 +113,16 @@ module _ (app : Application) (formed : IsWellFormed app) (plan : List Point) (li
     -- where the step tells something, so has the run
     pub told_more : 0 < length (step app (injected plan k.steps) (state_after app plan k.steps)).log → 0 < length (events_after app plan next.steps)
     told_more one = rw steps_more (omega (arith, length-append (events_after app plan k.steps) (step app (injected plan k.steps) (state_after app plan k.steps)).log))
+
+-- ---- steps that told nothing
+
+module _ (app : Application) (plan : List Point) (n m : ℕ) (l : n ≤ m) (silent : events_from app plan n m ≡ []) where
+  pub same_events : events_after app plan m ≡ events_after app plan n
+  same_events = sym (goes_on_with app plan n m l) ∙ ap (λ (es : List Event). events_after app plan n ++ es) silent ∙ append-nil (events_after app plan n)
+
+  -- the events from any step on are those before them
+  pub silent_from : (first : ℕ) → events_from app plan first m ≡ events_from app plan first n
+  silent_from first = ap (λ (es : List Event). drop (length (events_after app plan first)) es) same_events
 
 -- The ticks of a run, as far as it has gone
 ticks_by : (app : Application) (plan : List Point) (limits : Limits) → AreLimits limits.ticks limits.steps → (n : ℕ) → ((m : ℕ) → m < n → end_of app limits (state_after app plan m) ≡ None) → (state_after app plan n).elapsed ≤ 1000000

@@ -6,3 +6,4 @@ pub mod Can
 pub mod Boot
 pub mod Keeping
 pub mod Rows
+pub mod Quiet

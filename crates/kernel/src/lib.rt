@@ -8,6 +8,7 @@ mod log;
 mod loops;
 mod ops;
 mod progress;
+mod quiet;
 mod rows;
 mod snapshot;
 mod steps;

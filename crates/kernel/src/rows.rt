@@ -8,6 +8,7 @@ ghost use Rattle.kernel.specs.Rows.{IsRowFrom, Extends};
 
 use crate::kernel::Kernel;
 use crate::log::StepLog;
+use crate::quiet::pass_on;
 use crate::steps::finish;
 use crate::trail::Trail;
 use model::{App, End, Limits, Memory, Meter, Point};
@@ -50,6 +51,7 @@ fn advance(
     'steps: while kernel.steps < step {
         kernel.step(app, &[], meter, log);
         count += log.len();
+        pass_on(kernel, app, &[], step, log.is_empty(), limits, meter);
     }
     count
 }

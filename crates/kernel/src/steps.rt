@@ -17,6 +17,7 @@ ghost use Rattle.kernel.specs.Rows.{events_from, Extends};
 
 use crate::kernel::Kernel;
 use crate::log::{Log, StepLog};
+use crate::quiet::{next_point, pass_on};
 use crate::trail::Trail;
 use arrayvec::ArrayVec;
 use model::{App, End, HandlerId, Limits, Memory, Meter, Plan, Point, Run};
@@ -353,6 +354,8 @@ pub(crate) fn finish(
             return Ok(end);
         }
         left = step_by_plan(kernel, app, left, meter, log, trail)?;
+        let until = next_point(left);
+        pass_on(kernel, app, points, until, trail.is_silent(), limits, meter);
     }
 }
 
@@ -393,6 +396,7 @@ pub fn follow(
             return Ok(None);
         }
         step_along(kernel, app, meter, log, trail)?;
+        pass_on(kernel, app, &[], step, trail.is_silent(), limits, meter);
     }
 }
 

@@ -55,6 +55,12 @@ impl Trail {
         self.events.as_slice()
     }
 
+    /// Whether this step has told nothing.
+    #[inline]
+    pub(crate) fn is_silent(&self) -> bool {
+        self.events.len() == self.start
+    }
+
     /// The next step begins, of which nothing is told yet, and there is room for 128 events of it. At `Err(Memory)`, where
     /// the growth was refused, there is less room.
     #[inline]

@@ -327,6 +327,17 @@ pub does_slice : {old new : Schedule} → IsCalm old → new ≡ mine.slice old 
 unfolding slice
 does_slice calm is = does slice (λ v s none h. yielded_if v s (mine.is_outranked v || mine.is_sharing v) (is_outranked s || is_sharing s) (ap₂ (λ (a b : Bool). a || b) (outranked_same v s none h) (sharing_same v s none h)) none h) calm is
 
+steady_apart : (a : Bool) → not a ≡ true → a ≡ false
+steady_apart true t = absurd (cc)
+steady_apart false t = refl
+
+-- the end of a tick switches nothing
+pub slice_none : (v : Schedule) (s : State) → v.pending ≡ [] → StandsFor v s → mine.is_steady v ≡ true → slice s ≡ s
+unfolding slice
+slice_none v s none h t =
+    let u : (is_outranked s || is_sharing s) ≡ false = ap₂ (λ (a b : Bool). a || b) (sym (outranked_same v s none h)) (sym (sharing_same v s none h)) ∙ steady_apart (mine.is_outranked v || mine.is_sharing v) t in
+    rw u refl
+
 -- a task changes by itself
 
 falling_with_priorities : (es : List Entry) → Falls es → IsFalling (with_priorities es)

@@ -143,3 +143,7 @@ preempt s = if is_outranked s then yield_now s else s
 -- The same, and also where another task in a ready list has the running one's priority (`configUSE_TIME_SLICING`).
 abbrev pub slice : Schedule → Schedule
 slice s = if is_outranked s || is_sharing s then yield_now s else s
+
+-- The end of a tick switches nothing.
+abbrev pub is_steady : Schedule → Bool
+is_steady s = not (is_outranked s || is_sharing s)

@@ -8,7 +8,7 @@ ghost use Rattle.model.specs.Switching as switching;
 ghost use Rattle.model.specs.Suspension as suspension;
 ghost use Rattle.model.specs.Suspension.{can_resume};
 ghost use Rattle.lists.specs.Lists.{first_of};
-ghost use Rattle.sched.specs.Schedule.{IsCalm, priority_in, is_ready, is_outranked, is_sharing, is_suspended, block, choose, hold, line_up_pending, lined_up, make_ready, pend_ready, preempt, resume, set_priority, slice, suspend, to_back, unhold, wake, yield_now};
+ghost use Rattle.sched.specs.Schedule.{IsCalm, priority_in, is_ready, is_outranked, is_sharing, is_steady, is_suspended, block, choose, hold, line_up_pending, lined_up, make_ready, pend_ready, preempt, resume, set_priority, slice, suspend, to_back, unhold, wake, yield_now};
 ghost use Rattle.sched.specs.StandsFor.{StandsFor, StandsBefore, DoesFree};
 
 use crate::pending::PendingReadyList;
@@ -367,6 +367,15 @@ impl Sched {
             self.yield_now();
         }
         ended
+    }
+
+    /// Whether the end of a tick switches nothing, as `slice` then would: no task in a ready list is above the running one, or
+    /// another of its priority.
+    pub fn is_steady(&self) -> bool
+        ensures steady { result ≡ is_steady self.now }
+        ensures calm { IsCalm self.now }
+    {
+        !self.is_outranked() && !self.is_sharing()
     }
 
     /// Puts a task that isn't Ready last into its ready list.

@@ -1,6 +1,7 @@
-use Rattle.std.proofs.Common.{◌≡◌, ◌<◌, None, [], arith}
-use Rattle.model.specs.Run.{end_of, state_after}
-use Rattle.kernel.proofs.Running.{steps_more, goes_on, more_counted}
+use Rattle.std.proofs.Common.{◌≡◌, ◌<◌, List, None, [], ap, length, arith}
+use Rattle.model.specs.declared.event.Event.{Event}
+use Rattle.model.specs.Run.{end_of, events_after, state_after}
+use Rattle.kernel.proofs.Running.{steps_more, goes_on, more_counted, same_events}
 use Rattle.kernel.proofs.rows.advance.Goals as goal
 
 pub steps-smaller : goal.steps-smaller
@@ -8,6 +9,23 @@ steps-smaller c =
     let lt : c.steps.kernel.steps < c.args.step = omega (arith, c.steps-test.true) in
     let on : end_of c.args.app.now c.args.limits.now (state_after c.args.app.now [] c.steps.kernel.steps) ≡ None = c.requires.reached c.steps.kernel.steps lt in
     let more = steps_more c.args.app.now c.well_formed-2.ensures [] c.args.limits.now c.well_formed-3.ensures c.steps.kernel c.steps.invariant.way on c.step.new.self c.step.ensures.stands in
+    let passed = c.pass_on.ensures.on in
+    omega arith
+
+pub pass_on-requires-clause-way : goal.pass_on-requires-clause-way
+pass_on-requires-clause-way c =
+    let lt : c.steps.kernel.steps < c.args.step = omega (arith, c.steps-test.true) in
+    let on : end_of c.args.app.now c.args.limits.now (state_after c.args.app.now [] c.steps.kernel.steps) ≡ None = c.requires.reached c.steps.kernel.steps lt in
+    goes_on c.args.app.now c.well_formed-2.ensures [] c.args.limits.now c.well_formed-3.ensures c.steps.kernel c.steps.invariant.way on c.step.new.self c.step.ensures.stands
+
+pub pass_on-requires-clause-meter : goal.pass_on-requires-clause-meter
+pass_on-requires-clause-meter c =
+    let lt : c.steps.kernel.steps < c.args.step = omega (arith, c.steps-test.true) in
+    let on : end_of c.args.app.now c.args.limits.now (state_after c.args.app.now [] c.steps.kernel.steps) ≡ None = c.requires.reached c.steps.kernel.steps lt in
+    let more = steps_more c.args.app.now c.well_formed-2.ensures [] c.args.limits.now c.well_formed-3.ensures c.steps.kernel c.steps.invariant.way on c.step.new.self c.step.ensures.stands in
+    let meter = c.steps.invariant.meter in
+    let one = c.step.ensures.meter in
+    let low = c.requires.meter in
     omega arith
 
 pub steps-preserved : goal.steps-preserved
@@ -22,9 +40,12 @@ steps-preserved c =
     let one = c.step.ensures.meter in
     let len = c.len-count.ensures.value in
     let fits = c.len-count.ensures.fits in
+    let passed = c.pass_on.ensures.on in
+    let rest = c.pass_on.ensures.meter in
+    let same : length (events_after c.args.app.now [] c.pass_on.new.kernel.steps) ≡ length (events_after c.args.app.now [] c.step.new.self.steps) = ap (λ (es : List Event). length es) (same_events c.args.app.now [] c.step.new.self.steps c.pass_on.new.kernel.steps passed c.pass_on.ensures.silent) in
     record {
-      way = goes_on c.args.app.now c.well_formed-2.ensures [] c.args.limits.now c.well_formed-3.ensures c.steps.kernel c.steps.invariant.way on c.step.new.self c.step.ensures.stands;
-      ahead = omega arith;
+      way = c.pass_on.ensures.way;
+      ahead = c.pass_on.ensures.far (omega arith);
       count = omega arith;
       few = omega arith;
       meter = omega arith;

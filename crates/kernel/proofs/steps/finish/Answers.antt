@@ -1,11 +1,13 @@
-use Rattle.std.proofs.Common.{◌≡◌, ◌<◌, ◌++◌, ℕ, List, None, length, ap, sym, subst, refl, ◌∙◌, append-nil, arith}
+use Rattle.std.proofs.Common.{◌^◌, ◌≡◌, ◌<◌, ◌++◌, ℕ, List, None, length, ap, sym, subst, refl, ◌∙◌, append-nil, arith}
 use Rattle.std.proofs.lemmas.Result.{err_from_is_err_and}
 use Rattle.model.specs.Run.{end_of, state_after}
+use Rattle.model.specs.declared.event.Event.{Event}
 use Rattle.kernel.specs.Logged.{all_of}
-use Rattle.kernel.proofs.Running.{can_step, steps_below, steps_more, goes_on, more_events, told_more}
+use Rattle.kernel.specs.Rows.{events_from}
+use Rattle.kernel.proofs.Running.{can_step, steps_below, steps_more, goes_on, more_events, told_more, silent_from}
 use Rattle.model.specs.Step.{step}
 use Rattle.model.proofs.Injected.{from_here}
-use Rattle.kernel.proofs.Planned.{few_left, handlers_are, left_first, left_next, stands_as}
+use Rattle.kernel.proofs.Planned.{few_left, handlers_are, left_first, left_next, left_on, IsLeft, stands_as}
 use Rattle.kernel.proofs.steps.finish.Goals as goal
 
 pub steps-init : goal.steps-init
@@ -25,20 +27,57 @@ steps-smaller c =
     let on : end_of c.args.app.now c.args.limits.now (state_after c.args.app.now c.args.points.now c.steps.kernel.steps) ≡ None = sym (c.in_default.ensures _ c.steps.invariant.way.stands) in
     let l = steps_below c.args.app.now c.well_formed-2.ensures c.args.points.now c.args.limits.now c.well_formed-3.ensures c.steps.kernel c.steps.invariant.way on in
     let m = steps_more c.args.app.now c.well_formed-2.ensures c.args.points.now c.args.limits.now c.well_formed-3.ensures c.steps.kernel c.steps.invariant.way on c.step_by_plan.new.kernel (stands_as c.args.app.now c.steps.kernel c.step_by_plan.new.kernel _ _ (handlers_are c.args.points.now c.steps.left.now c.steps.kernel.steps _ refl c.steps.invariant.left) c.in_ok-left.ensures.stands) in
+    let p = c.pass_on.ensures.on in
+    omega arith
+
+-- where the next point is, once the step is done
+pub next_point-until-requires : goal.next_point-until-requires
+next_point-until-requires c =
+    let on : end_of c.args.app.now c.args.limits.now (state_after c.args.app.now c.args.points.now c.steps.kernel.steps) ≡ None = sym (c.in_default.ensures _ c.steps.invariant.way.stands) in
+    let m = steps_more c.args.app.now c.well_formed-2.ensures c.args.points.now c.args.limits.now c.well_formed-3.ensures c.steps.kernel c.steps.invariant.way on c.step_by_plan.new.kernel (stands_as c.args.app.now c.steps.kernel c.step_by_plan.new.kernel _ _ (handlers_are c.args.points.now c.steps.left.now c.steps.kernel.steps _ refl c.steps.invariant.left) c.in_ok-left.ensures.stands) in
+    let left : IsLeft c.args.points.now c.in_ok-left.left.now c.step_by_plan.new.kernel.steps = rw (c.in_ok-left.ensures.later, m) (left_next c.args.points.now c.steps.left.now c.steps.kernel.steps c.steps.invariant.left) in
+    record { order = left.order }
+
+pub pass_on-requires-clause-way : goal.pass_on-requires-clause-way
+pass_on-requires-clause-way c =
+    let on : end_of c.args.app.now c.args.limits.now (state_after c.args.app.now c.args.points.now c.steps.kernel.steps) ≡ None = sym (c.in_default.ensures _ c.steps.invariant.way.stands) in
+    goes_on c.args.app.now c.well_formed-2.ensures c.args.points.now c.args.limits.now c.well_formed-3.ensures c.steps.kernel c.steps.invariant.way on c.step_by_plan.new.kernel (stands_as c.args.app.now c.steps.kernel c.step_by_plan.new.kernel _ _ (handlers_are c.args.points.now c.steps.left.now c.steps.kernel.steps _ refl c.steps.invariant.left) c.in_ok-left.ensures.stands)
+
+pub pass_on-requires-clause-alone : goal.pass_on-requires-clause-alone
+pass_on-requires-clause-alone c =
+    let on : end_of c.args.app.now c.args.limits.now (state_after c.args.app.now c.args.points.now c.steps.kernel.steps) ≡ None = sym (c.in_default.ensures _ c.steps.invariant.way.stands) in
+    let m = steps_more c.args.app.now c.well_formed-2.ensures c.args.points.now c.args.limits.now c.well_formed-3.ensures c.steps.kernel c.steps.invariant.way on c.step_by_plan.new.kernel (stands_as c.args.app.now c.steps.kernel c.step_by_plan.new.kernel _ _ (handlers_are c.args.points.now c.steps.left.now c.steps.kernel.steps _ refl c.steps.invariant.left) c.in_ok-left.ensures.stands) in
+    let left : IsLeft c.args.points.now c.in_ok-left.left.now c.step_by_plan.new.kernel.steps = rw (c.in_ok-left.ensures.later, m) (left_next c.args.points.now c.steps.left.now c.steps.kernel.steps c.steps.invariant.left) in
+    λ n from below. sym (left.same n from) ∙ c.next_point-until.ensures.alone n below
+
+pub pass_on-requires-clause-meter : goal.pass_on-requires-clause-meter
+pass_on-requires-clause-meter c =
+    let on : end_of c.args.app.now c.args.limits.now (state_after c.args.app.now c.args.points.now c.steps.kernel.steps) ≡ None = sym (c.in_default.ensures _ c.steps.invariant.way.stands) in
+    let m = steps_more c.args.app.now c.well_formed-2.ensures c.args.points.now c.args.limits.now c.well_formed-3.ensures c.steps.kernel c.steps.invariant.way on c.step_by_plan.new.kernel (stands_as c.args.app.now c.steps.kernel c.step_by_plan.new.kernel _ _ (handlers_are c.args.points.now c.steps.left.now c.steps.kernel.steps _ refl c.steps.invariant.left) c.in_ok-left.ensures.stands) in
+    let e = c.in_ok-left.ensures.meter in
+    let f = c.steps.invariant.meter in
+    let low = c.requires.meter in
     omega arith
 
 pub steps-preserved : goal.steps-preserved
 steps-preserved c =
     let on : end_of c.args.app.now c.args.limits.now (state_after c.args.app.now c.args.points.now c.steps.kernel.steps) ≡ None = sym (c.in_default.ensures _ c.steps.invariant.way.stands) in
     let m = steps_more c.args.app.now c.well_formed-2.ensures c.args.points.now c.args.limits.now c.well_formed-3.ensures c.steps.kernel c.steps.invariant.way on c.step_by_plan.new.kernel (stands_as c.args.app.now c.steps.kernel c.step_by_plan.new.kernel _ _ (handlers_are c.args.points.now c.steps.left.now c.steps.kernel.steps _ refl c.steps.invariant.left) c.in_ok-left.ensures.stands) in
+    let left : IsLeft c.args.points.now c.in_ok-left.left.now c.step_by_plan.new.kernel.steps = rw (c.in_ok-left.ensures.later, m) (left_next c.args.points.now c.steps.left.now c.steps.kernel.steps c.steps.invariant.left) in
     let e = c.in_ok-left.ensures.meter in
     let f = c.steps.invariant.meter in
     let o = c.steps.invariant.on in
+    let passed = c.pass_on.ensures.on in
+    let g = c.pass_on.ensures.meter in
+    let low = steps_below c.args.app.now c.well_formed-2.ensures c.args.points.now c.args.limits.now c.well_formed-3.ensures c.steps.kernel c.steps.invariant.way on in
+    let most = c.well_formed-3.ensures.3 in
+    let small : c.step_by_plan.new.kernel.steps < 2 ^ 32 = omega arith in
+    let whole : all_of c.step_by_plan.new.trail ≡ all_of c.args.trail.now ++ events_from c.args.app.now c.args.points.now c.args.kernel.now.steps c.step_by_plan.new.kernel.steps = more_events c.args.app.now c.well_formed-2.ensures c.args.points.now c.args.limits.now c.well_formed-3.ensures c.steps.kernel c.steps.invariant.way on c.step_by_plan.new.kernel (stands_as c.args.app.now c.steps.kernel c.step_by_plan.new.kernel _ _ (handlers_are c.args.points.now c.steps.left.now c.steps.kernel.steps _ refl c.steps.invariant.left) c.in_ok-left.ensures.stands) c.args.kernel.now.steps c.steps.invariant.on (all_of c.args.trail.now) (all_of c.steps.trail) (all_of c.step_by_plan.new.trail) c.steps.invariant.events (subst (λ (hs : List ℕ). all_of c.step_by_plan.new.trail ≡ all_of c.steps.trail ++ (step c.args.app.now hs (state_after c.args.app.now c.args.points.now c.steps.kernel.steps)).log) (handlers_are c.args.points.now c.steps.left.now c.steps.kernel.steps _ refl c.steps.invariant.left) (c.in_ok-left.ensures.told _ c.steps.invariant.way.stands)) in
     record {
-      way = goes_on c.args.app.now c.well_formed-2.ensures c.args.points.now c.args.limits.now c.well_formed-3.ensures c.steps.kernel c.steps.invariant.way on c.step_by_plan.new.kernel (stands_as c.args.app.now c.steps.kernel c.step_by_plan.new.kernel _ _ (handlers_are c.args.points.now c.steps.left.now c.steps.kernel.steps _ refl c.steps.invariant.left) c.in_ok-left.ensures.stands);
+      way = c.pass_on.ensures.way;
       on = omega arith;
-      events = more_events c.args.app.now c.well_formed-2.ensures c.args.points.now c.args.limits.now c.well_formed-3.ensures c.steps.kernel c.steps.invariant.way on c.step_by_plan.new.kernel (stands_as c.args.app.now c.steps.kernel c.step_by_plan.new.kernel _ _ (handlers_are c.args.points.now c.steps.left.now c.steps.kernel.steps _ refl c.steps.invariant.left) c.in_ok-left.ensures.stands) c.args.kernel.now.steps c.steps.invariant.on (all_of c.args.trail.now) (all_of c.steps.trail) (all_of c.step_by_plan.new.trail) c.steps.invariant.events (subst (λ (hs : List ℕ). all_of c.step_by_plan.new.trail ≡ all_of c.steps.trail ++ (step c.args.app.now hs (state_after c.args.app.now c.args.points.now c.steps.kernel.steps)).log) (handlers_are c.args.points.now c.steps.left.now c.steps.kernel.steps _ refl c.steps.invariant.left) (c.in_ok-left.ensures.told _ c.steps.invariant.way.stands));
-      left = rw (c.in_ok-left.ensures.later, m) (left_next c.args.points.now c.steps.left.now c.steps.kernel.steps c.steps.invariant.left);
+      events = whole ∙ ap (λ (es : List Event). all_of c.args.trail.now ++ es) (sym (silent_from c.args.app.now c.args.points.now c.step_by_plan.new.kernel.steps c.pass_on.new.kernel.steps passed c.pass_on.ensures.silent c.args.kernel.now.steps));
+      left = left_on c.args.points.now c.in_ok-left.left.now c.step_by_plan.new.kernel.steps c.pass_on.new.kernel.steps passed (c.next_point-until.ensures.ahead c.pass_on.new.kernel.steps (c.pass_on.ensures.far (c.next_point-until.ensures.least c.step_by_plan.new.kernel.steps small left.ahead))) left;
       meter = omega arith;
     }
 

@@ -1,0 +1,293 @@
+-- Steps in which nothing happens but that a tick passes.
+use Rattle.std.proofs.Common.{◌≡◌, ◌<◌, ◌≤◌, ◌+◌, ◌^◌, ◌%◌, ℕ, suc, Bool, true, false, not, ◌&&◌, ◌||◌, ltb, List, [], ◌∷◌, length, map, Option, Some, None, refl, ap, sym, subst, ◌∙◌, arith, get_or-set_same}
+use Rattle.std.specs.Prelude.{◌==◌, nat_lt, if◌then◌else◌}
+use Rattle.std.specs.List.{list_any, filter}
+use Rattle.std.specs.Option.{is_none, is_some}
+use Rattle.std.proofs.lemmas.Bool.{le-ltb, ltb-false, ne_eqb}
+use Rattle.model.specs.declared.event.Event.{Event}
+use Rattle.model.specs.declared.op.Op.{Op}
+use Rattle.model.specs.declared.op.Op.TheVariants.{Work}
+use Rattle.model.specs.Application.{Application, Interrupt, Limits, op_at, interrupts_at}
+use Rattle.model.specs.State.{State, Progress, no_progress, progress_at}
+use Rattle.model.specs.Switching.{is_ready, slice, settle, unless_held}
+use Rattle.model.specs.Time.{increment_tick}
+use Rattle.model.specs.Ops.{use_up}
+use Rattle.model.specs.Handlers.{interrupt, tick_interrupt}
+use Rattle.model.specs.Step.{act_if, act_current, before_step, step}
+use Rattle.model.specs.Run.{are_all_ended, end_of, is_interrupt_to_come, is_stuck}
+use Rattle.model.proofs.Settled.{when_free}
+use Rattle.model.proofs.Passing.{acts_calm}
+use Rattle.lists.specs.Lists.{Each, first_of, has_node}
+use Rattle.lists.proofs.Entries.{Each-imp}
+use Rattle.sched.specs.Schedule.{is_steady, lined_up}
+use Rattle.sched.proofs.Standing as on_sched
+use Rattle.clock.specs.Timeline.{Timeline, Advances}
+use Rattle.clock.proofs.Standing.{due_next, stands_advanced}
+use Rattle.kernel.specs.declared.kernel.Kernel.{Kernel}
+use Rattle.kernel.specs.StandsFor.{StandsFor, Stands, At, AtAny, progress_in, with_progress}
+use Rattle.kernel.specs.StandsFor.Stands.{Placed, Placing}
+use Rattle.kernel.specs.Quiet.{IsQuiet, Passes, WorksOn, used_by}
+use Rattle.kernel.proofs.Acting.{used_more, within}
+use Rattle.kernel.proofs.Either.{any, current_is, elapsed_is, steps_are, stopped_is}
+use Rattle.kernel.proofs.Ending.{begun, ends_not, not_over_by, on_by, stepped, stuck_by}
+use Rattle.kernel.proofs.Switches.{settled_either, settled_idle, settled_on, unheld_by}
+use Rattle.kernel.proofs.Waking.{groups-ticked, queues-ticked, sched-ticked, woken}
+
+-- ---- nothing is held
+
+zero_left : (n m : ℕ) → n + m ≡ 0 → n ≡ 0
+zero_left n m e = omega arith
+
+placed_by : (k : Kernel) (s : State) → k.sched.depth ≡ 0 → Stands k s → StandsFor k s
+placed_by k s z (Placed h) = h
+placed_by k s z (Placing task list b) =
+    let e : k.sched.depth ≡ s.suspensions + 1 = b.sched.depth ∙ ap (λ (h : Bool). s.suspensions + (if h then 1 else 0)) b.held in
+    absurd (omega arith)
+
+none_suspended : (k : Kernel) (s : State) → k.sched.depth ≡ 0 → StandsFor k s → s.suspensions ≡ 0
+none_suspended k s z h = zero_left s.suspensions (if s.call_hold then 1 else 0) (sym h.sched.depth ∙ z)
+
+-- ---- no base interrupt comes
+
+none_at_next : (n : ℕ) (is : List Interrupt) → list_any (λ (i : Interrupt). nat_lt n i.tick) is ≡ false → filter (λ (i : Interrupt). i.tick == n + 1) is ≡ []
+none_at_next n [] none = refl
+none_at_next n (i ∷ is) none =
+    let here : ltb n i.tick ≡ false = first_false (ltb n i.tick) (list_any (λ (j : Interrupt). nat_lt n j.tick) is) none in
+    let le = ltb-false n i.tick here in
+    rw (ne_eqb i.tick (n + 1) (λ e. absurd (omega arith))) (none_at_next n is (second_false (ltb n i.tick) (list_any (λ (j : Interrupt). nat_lt n j.tick) is) none)) where
+      first_false : (a b : Bool) → a || b ≡ false → a ≡ false
+      first_false true b e = absurd (cc)
+      first_false false b e = refl
+
+      second_false : (a b : Bool) → a || b ≡ false → b ≡ false
+      second_false true b e = absurd (cc)
+      second_false false b e = e
+
+none_later : (n : ℕ) (is : List Interrupt) → list_any (λ (i : Interrupt). nat_lt n i.tick) is ≡ false → list_any (λ (i : Interrupt). nat_lt (n + 1) i.tick) is ≡ false
+none_later n [] none = refl
+none_later n (i ∷ is) none =
+    let here : ltb n i.tick ≡ false = first_false (ltb n i.tick) (list_any (λ (j : Interrupt). nat_lt n j.tick) is) none in
+    let le = ltb-false n i.tick here in
+    rw (later_false n i.tick le) (none_later n is (second_false (ltb n i.tick) (list_any (λ (j : Interrupt). nat_lt n j.tick) is) none)) where
+      first_false : (a b : Bool) → a || b ≡ false → a ≡ false
+      first_false true b e = absurd (cc)
+      first_false false b e = refl
+
+      second_false : (a b : Bool) → a || b ≡ false → b ≡ false
+      second_false true b e = absurd (cc)
+      second_false false b e = e
+
+      later_false : (n t : ℕ) → t ≤ n → ltb (n + 1) t ≡ false
+      later_false n t le = le-ltb (n + 1) t (omega arith)
+
+uninterrupted : (app : Application) (s : State) → interrupts_at app s.elapsed ≡ [] → interrupt app s ≡ s
+unfolding interrupt
+uninterrupted app s none = rw none refl
+
+-- ---- a tick
+
+module _ (app : Application) (k : Kernel) (z : k.sched.depth ≡ 0) (calm : k.sched.pending ≡ []) (steady : is_steady k.sched ≡ true) (none : list_any (λ (i : Interrupt). nat_lt (k.clock.age + k.clock.held) i.tick) app.interrupts ≡ false) (clock : Timeline) (a : Advances k.clock clock []) where
+  module _ (log : List Event) (s : State) (h : At k log s) where
+    free : s.suspensions ≡ 0
+    free = none_suspended k s z h.stands
+
+    come : At (record k { clock = clock }) log (increment_tick s)
+    come = woken k log s h [] k.sched k.queues clock k.groups (due_next k.clock clock s [] a h.stands.rest.clock) (sched-ticked k log s h) (queues-ticked k log s h) (groups-ticked k log s h)
+        (stands_advanced k.clock clock s [] a h.stands.rest.clock (rw free refl)) free
+
+    elapsed_next : (increment_tick s).elapsed ≡ k.clock.age + k.clock.held + 1
+    elapsed_next = let e = come.stands.rest.clock.age in let f = a.age in let g = a.held in omega arith
+
+    alone : interrupts_at app (increment_tick s).elapsed ≡ []
+    alone = rw elapsed_next (ap (map (λ (i : Interrupt). i.handler)) (none_at_next (k.clock.age + k.clock.held) app.interrupts none))
+
+    ticked_is : tick_interrupt app s ≡ increment_tick s
+    unfolding tick_interrupt
+    ticked_is =
+        ap (unless_held slice) (uninterrupted app (increment_tick s) alone)
+        ∙ when_free slice (increment_tick s) (unheld_by k.sched (increment_tick s) come.stands.sched z)
+        ∙ on_sched.slice_none k.sched (increment_tick s) calm come.stands.sched steady
+
+    tick_passed : At (record k { clock = clock }) log (tick_interrupt app s)
+    tick_passed = subst (At (record k { clock = clock }) log) (sym ticked_is) come
+
+-- ---- the step
+
+before_none : (app : Application) (s : State) → before_step app [] s ≡ record s { log = [] }
+unfolding before_step
+before_none app s = refl
+
+-- a `work` goes on
+works_on : (app : Application) (s : State) (task n : ℕ) → s.suspensions ≡ 0 → s.current ≡ Some task → op_at app task (progress_at s task).op_index ≡ Some (Work n) → act_current app s.current s ≡ tick_interrupt app (use_up app task n s)
+works_on app s task n free runs is =
+    ap (λ (c : Option ℕ). act_current app c s) runs
+    ∙ ap (λ (o : Option Op). act_if app task o s) is
+    ∙ acts_calm app task (Work n) s free refl (λ e. cc)
+
+module _ (app : Application) (limits : Limits) (count : ℕ) (k : Kernel) (q : IsQuiet app limits (suc count) k) (clock : Timeline) (a : Advances k.clock clock []) where
+  -- what the step comes to, but for its number
+  abbrev after : Kernel
+  after = record k { clock = clock; progress = used_by k.sched.current k.progress }
+
+  acted : (r : State) → At k [] r → (o : Option ℕ) → k.sched.current ≡ o → WorksOn app (suc count) k o → At (record k { clock = clock; progress = used_by o k.progress }) [] (unless_held settle (act_current app r.current r))
+  acted r h None e w =
+      let idle : r.current ≡ None = sym h.stands.sched.current ∙ e in
+      let t : State = tick_interrupt app r in
+      let at : At (record k { clock = clock }) [] t = tick_passed app k q.depth q.pending q.steady q.interrupts clock a [] r h in
+      let still : t.current ≡ None = sym at.stands.sched.current ∙ e in
+      let end : At (record k { clock = clock }) [] (unless_held settle t) = settled_either (record k { clock = clock }) [] t at (settled_idle (record k { clock = clock }) [] t at still) in
+      subst (λ (c : Option ℕ). At (record k { clock = clock }) [] (unless_held settle (act_current app c r))) (sym idle) end
+  acted r h (Some task) e w =
+      let p : Progress = progress_in k.progress task in
+      let n : ℕ = w.2 in
+      let used = w.4 in
+      let mid : Kernel = with_progress task (record p { used = p.used + 1 }) k in
+      let same : p ≡ progress_at r task = h.stands.rest.progress task in
+      let on : At mid [] (use_up app task n r) = used_more app k mid [] r h task e p refl n (λ f. absurd (omega arith)) refl in
+      let t : State = tick_interrupt app (use_up app task n r) in
+      let at : At (record mid { clock = clock }) [] t = tick_passed app mid q.depth q.pending q.steady q.interrupts clock a [] (use_up app task n r) on in
+      let still : t.current ≡ Some task = sym at.stands.sched.current ∙ e in
+      let ready : is_ready t task ≡ true = sym (on_sched.ready_same k.sched t task at.stands.sched) ∙ w.0 in
+      let end : At (record mid { clock = clock }) [] (unless_held settle t) = settled_either (record mid { clock = clock }) [] t at (settled_on (record mid { clock = clock }) [] t at task still ready) in
+      let op : op_at app task (progress_at r task).op_index ≡ Some (Work n) = subst (λ (x : Progress). op_at app task x.op_index ≡ Some (Work n)) same w.3 in
+      let is : act_current app r.current r ≡ t = works_on app r task n (none_suspended k r q.depth h.stands) (sym h.stands.sched.current ∙ e) op in
+      subst (λ (x : State). At (record mid { clock = clock }) [] (unless_held settle x)) (sym is) end
+
+  came : (s : State) → Stands k s → At after [] (unless_held settle (act_current app (before_step app [] s).current (before_step app [] s)))
+  came s h =
+      let r : State = record s { log = [] } in
+      let b : AtAny k [] r = begun k [] s h refl in
+      let end : At after [] (unless_held settle (act_current app r.current r)) = acted r (record { stands = placed_by k r q.depth b.stands; log = b.log }) k.sched.current refl q.works in
+      subst (λ (x : State). At after [] (unless_held settle (act_current app x.current x))) (sym (before_none app s)) end
+
+  passed : (s : State) → Stands k s → Stands (record after { steps = k.steps + 1 }) (step app [] s)
+  passed s h = stepped app [] s after [] k.steps (steps_are k s h) (any after [] (unless_held settle (act_current app (before_step app [] s).current (before_step app [] s))) (came s h))
+
+  -- it tells nothing
+  pub silent : (s : State) → Stands k s → [] ≡ (step app [] s).log
+  unfolding step
+  silent s h = (came s h).log
+
+  -- what is left is quiet too
+
+  asleep_on : Each (λ e. clock.now + count < e.1) clock.delayed_list
+  asleep_on =
+      let now = a.now in
+      subst (Each (λ e. clock.now + count < e.1)) a.delayed (Each-imp (λ e. k.clock.now + suc count < e.1) (λ e. clock.now + count < e.1) k.clock.delayed_list (λ e l. omega (arith, l)) q.asleep)
+
+  turn_on : clock.now % 2 ^ 32 + count < 2 ^ 32
+  turn_on = let now = a.now in let t = q.turn in rw now (omega arith)
+
+  interrupts_on : list_any (λ (i : Interrupt). nat_lt (clock.age + clock.held) i.tick) app.interrupts ≡ false
+  interrupts_on =
+      let age = a.age in
+      let held = a.held in
+      let more : clock.age + clock.held ≡ k.clock.age + k.clock.held + 1 = omega arith in
+      rw more (none_later (k.clock.age + k.clock.held) app.interrupts q.interrupts)
+
+  still_works : (s : State) → StandsFor k s → (o : Option ℕ) → k.sched.current ≡ o → WorksOn app (suc count) k o → WorksOn app count (record k { clock = clock; progress = used_by o k.progress; steps = k.steps + 1 }) o
+  still_works s h None e w = λ none. w (a.delayed ∙ none)
+  still_works s h (Some task) e w =
+      let p : Progress = progress_in k.progress task in
+      let l : task < length s.tasks = within k s.log s (record { stands = h; log = refl }) task e in
+      let few = h.sched.table.few in
+      let full = h.rest.full in
+      let known : task < length k.progress = omega arith in
+      let is : progress_in (used_by (Some task) k.progress) task ≡ record p { used = p.used + 1 } = get_or-set_same k.progress task (record p { used = p.used + 1 }) no_progress known in
+      let fits = w.1 in
+      let less = w.4 in
+      rw is (w.0, omega arith, w.2, w.3, omega arith)
+
+  stays : (s : State) → Stands k s → IsQuiet app limits count (record after { steps = k.steps + 1 })
+  stays s h =
+      let age = a.age in
+      let held = a.held in
+      let ticks = q.ticks in
+      let steps = q.steps in
+      record {
+        stopped = q.stopped;
+        depth = q.depth;
+        pending = q.pending;
+        steady = q.steady;
+        asleep = asleep_on;
+        turn = turn_on;
+        interrupts = interrupts_on;
+        ticks = omega arith;
+        steps = omega arith;
+        works = still_works s (placed_by k s q.depth h) k.sched.current refl q.works;
+      }
+
+module _ (app : Application) (limits : Limits) (count : ℕ) (k new : Kernel) (q : IsQuiet app limits (suc count) k) (p : Passes k new) where
+  -- A step that only lets a tick pass is the definition's.
+  pub stands_passed : (s : State) → Stands k s → Stands new (step app [] s)
+  stands_passed s h = subst (λ (x : Kernel). Stands x (step app [] s)) (sym p.same) (passed app limits count k q new.clock p.clock s h)
+
+  pub quiet_stays : (s : State) → Stands k s → IsQuiet app limits count new
+  quiet_stays s h = subst (IsQuiet app limits count) (sym p.same) (stays app limits count k q new.clock p.clock s h)
+
+  pub one_passed : new.steps ≡ suc k.steps
+  one_passed = ap (λ (x : Kernel). x.steps) p.same ∙ (let e : k.steps + 1 ≡ suc k.steps = omega arith in e)
+
+-- ---- before it the run goes on
+
+listed_some : (task : ℕ) (es : List (ℕ × ℕ)) → has_node task es ≡ true → is_some (first_of es) ≡ true
+listed_some task [] t = absurd (cc)
+listed_some task (e ∷ es) t = refl
+
+and_none : (a : Bool) → not a && false ≡ false
+and_none true = refl
+and_none false = refl
+
+module _ (app : Application) (limits : Limits) (count : ℕ) (k : Kernel) (q : IsQuiet app limits (suc count) k) (s : State) (h : Stands k s) where
+  abbrev ready : Bool
+  ready = is_some (first_of (lined_up k.sched))
+
+  not_ended : (o : Option ℕ) → WorksOn app (suc count) k o → are_all_ended s ≡ false
+  not_ended None w = on_by k s ready false refl ((λ t. absurd (cc)), (λ none. absurd (w none))) h (and_none ready)
+  not_ended (Some task) w = not_over_by k s ready refl h (listed_some task (lined_up k.sched) w.0)
+
+  not_stuck : (o : Option ℕ) → k.sched.current ≡ o → WorksOn app (suc count) k o → is_stuck app s ≡ false
+  not_stuck None e w = sym (stuck_by app k s true false (is_interrupt_to_come app s) h (ap is_none (sym e)) ((λ t. absurd (cc)), (λ none. absurd (w none))) refl)
+  not_stuck (Some task) e w = rw (sym (current_is k s h) ∙ e) refl
+
+  pub quiet_on : end_of app limits s ≡ None
+  quiet_on =
+      let elapsed = elapsed_is k s h in
+      let steps = steps_are k s h in
+      let ticks = q.ticks in
+      let few = q.steps in
+      sym (ends_not app limits s (sym (stopped_is k s h) ∙ q.stopped) (not_ended k.sched.current q.works) (omega arith) (omega arith) (not_stuck k.sched.current refl q.works))
+
+-- ---- what the step asks
+
+module _ (app : Application) (limits : Limits) (count : ℕ) (k : Kernel) (q : IsQuiet app limits (suc count) k) where
+  pub asleep_once : Each (λ e. k.clock.now + 1 < e.1) k.clock.delayed_list
+  asleep_once = Each-imp (λ e. k.clock.now + suc count < e.1) (λ e. k.clock.now + 1 < e.1) k.clock.delayed_list (λ e l. omega (arith, l)) q.asleep
+
+  pub turn_once : k.clock.now % 2 ^ 32 + 1 < 2 ^ 32
+  turn_once = let t = q.turn in omega arith
+
+  pub used_once : (task : ℕ) → k.sched.current ≡ Some task → (progress_in k.progress task).used + 1 < 2 ^ 32
+  used_once task e = let w : WorksOn app (suc count) k (Some task) = subst (WorksOn app (suc count) k) e q.works in let fits = w.1 in omega arith
+
+-- so many steps are quiet, and so are fewer
+pub quiet_fewer : (app : Application) (limits : Limits) (count few : ℕ) (k : Kernel) → few ≤ count → IsQuiet app limits count k → IsQuiet app limits few k
+quiet_fewer app limits count few k le q =
+    let ticks = q.ticks in
+    let steps = q.steps in
+    let turn = q.turn in
+    record {
+      stopped = q.stopped;
+      depth = q.depth;
+      pending = q.pending;
+      steady = q.steady;
+      asleep = Each-imp (λ e. k.clock.now + count < e.1) (λ e. k.clock.now + few < e.1) k.clock.delayed_list (λ e l. omega (arith, l)) q.asleep;
+      turn = omega arith;
+      interrupts = q.interrupts;
+      ticks = omega arith;
+      steps = omega arith;
+      works = by_current k.sched.current q.works;
+    } where
+      by_current : (o : Option ℕ) → WorksOn app count k o → WorksOn app few k o
+      by_current None w = w
+      by_current (Some task) w = let fits = w.1 in let less = w.4 in (w.0, omega arith, w.2, w.3, omega arith)

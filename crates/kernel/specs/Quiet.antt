@@ -1,0 +1,42 @@
+-- Steps in which nothing happens but that a tick passes.
+use Rattle.std.specs.Prelude.{◌≡◌, ◌≢◌, ◌<◌, ◌≤◌, ℕ, ◌+◌, ◌^◌, ◌%◌, true, false, List, [], Option, Some, None, nat_lt, slice_set}
+use Rattle.std.specs.List.{list_any}
+use Rattle.model.specs.declared.op.Op.TheVariants.{Work}
+use Rattle.model.specs.Application.{Application, Interrupt, Limits, op_at}
+use Rattle.model.specs.State.{Progress}
+use Rattle.lists.specs.Lists.{Each}
+use Rattle.sched.specs.Schedule.{is_ready, is_steady}
+use Rattle.clock.specs.Timeline.{Advances}
+use Rattle.kernel.specs.declared.kernel.Kernel.{Kernel}
+use Rattle.kernel.specs.StandsFor.{progress_in}
+
+-- The running task has more than so much of a `work` before it; or idle runs, and somebody sleeps.
+abbrev pub WorksOn : Application → ℕ → Kernel → Option ℕ → Type 0
+WorksOn app count k None = k.clock.delayed_list ≢ []
+WorksOn app count k (Some task) =
+    (is_ready k.sched task ≡ true) × ((progress_in k.progress task).used + count < 2 ^ 32)
+    × (ticks : ℕ) × (op_at app task (progress_in k.progress task).op_index ≡ Some (Work ticks)) × ((progress_in k.progress task).used + count < ticks)
+
+-- So many steps only let a tick pass, each before the end under these limits: nobody's sleep ends, the tick that is shown
+-- doesn't become 0, no base interrupt comes, and nothing switches.
+pub record IsQuiet (app : Application) (limits : Limits) (count : ℕ) (k : Kernel) : Type 0 where
+  pub stopped : k.stopped ≡ None
+  pub depth : k.sched.depth ≡ 0
+  pub pending : k.sched.pending ≡ []
+  pub steady : is_steady k.sched ≡ true
+  pub asleep : Each (λ e. k.clock.now + count < e.1) k.clock.delayed_list
+  pub turn : k.clock.now % 2 ^ 32 + count < 2 ^ 32
+  pub interrupts : list_any (λ (i : Interrupt). nat_lt (k.clock.age + k.clock.held) i.tick) app.interrupts ≡ false
+  pub ticks : k.clock.age + k.clock.held + count ≤ limits.ticks
+  pub steps : k.steps + count ≤ limits.steps
+  pub works : WorksOn app count k k.sched.current
+
+-- one more of its `work` is used up by the running task, if there is one
+abbrev pub used_by : Option ℕ → List Progress → List Progress
+used_by None ps = ps
+used_by (Some task) ps = slice_set ps task (record (progress_in ps task) { used = (progress_in ps task).used + 1 })
+
+-- One such step is done.
+pub record Passes (old new : Kernel) : Type 0 where
+  pub clock : Advances old.clock new.clock []
+  pub same : new ≡ record old { clock = new.clock; steps = old.steps + 1; progress = used_by old.sched.current old.progress }
