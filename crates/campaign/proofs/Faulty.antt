@@ -9,7 +9,8 @@ use Rattle.toml.proofs.OnLiterals.{toml_on_literals}
 use Rattle.model.specs.Application.{Application}
 use Rattle.model.specs.declared.event.End.{End}
 use Rattle.model.specs.declared.totals.Totals.{Totals}
-use Rattle.script.specs.Load.{load_fault}
+use Rattle.script.specs.Sections.{objects_fault, objects_named, more_objects_fault, with_objects, groups_fault, groups_named, handlers_fault, handlers_named, tasks_fault, tasks_named}
+use Rattle.script.specs.Load.{entries_of, entries_fault, load_fault}
 use Rattle.byte_io.specs.Bytes.{SentFront}
 use Rattle.byte_io.specs.declared.read.ReadFault.{ReadFault}
 use Rattle.byte_io.specs.declared.read.ReadFault.TheVariants as read
@@ -48,6 +49,7 @@ unfolding toml_on_literals
 nothing_parsed = refl
 
 nothing_names_no_task : load_fault no_members ≡ None → ⊥
+unfolding entries_fault entries_of objects_fault objects_named more_objects_fault with_objects groups_fault groups_named handlers_fault handlers_named tasks_fault tasks_named
 nothing_names_no_task sound = cc sound
 
 no_fault_in_nothing : (document : Members) → parse_document [] ≡ Some document → load_fault document ≡ None → ⊥

@@ -5,7 +5,7 @@ ghost use Rattle.campaign.specs.declared.file.ServeFault.TheVariants as fault;
 
 use byte_io::{ReadFault, Source, WriteFault, read_all};
 use model::{App, Memory};
-use script::{FromDocument, LoadFault};
+use script::{Fault, FromDocument, LoadError};
 use std::alloc::Global;
 
 /// Why what is asked for of a file was not written, or not as a whole.
@@ -16,7 +16,7 @@ pub enum ServeFault {
     /// The bytes are not UTF-8, or spell no TOML document.
     NotToml,
     /// The document has this fault, the first that its checks find.
-    Load(LoadFault),
+    Load(Fault),
     /// An injection is asked for, and no handler of the application has the name.
     UnknownHandler,
     /// The points of the campaign are more than 1,000,000 (profile).
@@ -69,8 +69,8 @@ fn app_in(alloc: Global, bytes: &[u8]) -> Result<App, ServeFault>
     };
     match App::from_document(alloc, &document) {
         Ok(app) => Ok(app),
-        Err(LoadFault::Memory) => Err(ServeFault::Memory),
-        Err(fault) => Err(ServeFault::Load(fault)),
+        Err(LoadError::Memory) => Err(ServeFault::Memory),
+        Err(LoadError::Fault(fault)) => Err(ServeFault::Load(fault)),
     }
 }
 

@@ -8,8 +8,8 @@ use Rattle.byte_io.specs.Shown.{shown_name}
 use Rattle.model.specs.declared.event.End.{End}
 use Rattle.model.specs.declared.totals.Totals.{Totals}
 use Rattle.model.specs.Campaign.{is_pass}
-use Rattle.script.specs.declared.fault.LoadFault.{LoadFault}
-use Rattle.script.specs.Faults.{fault_code, fault_name, fault_place, place_words}
+use Rattle.script.specs.declared.fault.Fault.{Fault}
+use Rattle.script.specs.Faults.{fault_code, fault_name, place_words}
 use Rattle.campaign.specs.declared.at.At.{At}
 use Rattle.campaign.specs.declared.file.ServeFault.{ServeFault}
 use Rattle.campaign.specs.declared.file.ServeFault.TheVariants.{Read, NotToml, Load, UnknownHandler, TooManyPoints, Memory, Write}
@@ -114,10 +114,9 @@ status_of (Err (Serve Write)) = 5
 -- ---- the fault line
 
 -- a load fault: its number, its name, and the place where the check failed
-abbrev pub load_pieces : LoadFault → List (List ℕ)
+abbrev pub load_pieces : Fault → List (List ℕ)
 load_pieces fault =
-    codes "rtosim:" ∷ decimal (fault_code fault) ∷ (fault_name fault ++ codes ":")
-    ∷ option_map_or place_words (fault_place fault) []
+    codes "rtosim:" ∷ decimal (fault_code fault.kind) ∷ (fault_name fault.kind ++ codes ":") ∷ place_words fault.place
 
 -- the pieces of a fault's line, which may tell a name; its control characters are escaped
 abbrev pub fault_pieces : (name : List ℕ) → JobFault → List (List ℕ)

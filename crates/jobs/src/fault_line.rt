@@ -11,26 +11,25 @@ use crate::acting::JobFault;
 use arrayvec::ArrayVec;
 use byte_io::{Piece, Sink, write_line};
 use campaign::ServeFault;
-use script::{LoadFault, Place, PlaceWord};
+use script::{Fault, FaultKind, Place, PlaceWord};
 
 // The pieces of a line, of which a fault has seven at most: three of a load fault itself, and four of its place.
 type Pieces<'a> = ArrayVec<Piece<'a>, 7>;
 
-// The name of a load fault, and a colon.
-fn label(fault: LoadFault) -> &'static str
-    ensures { result.now ≡ fault_name fault ++ codes ":" }
+// The name of a load fault of this kind, and a colon.
+fn label(kind: FaultKind) -> &'static str
+    ensures { result.now ≡ fault_name kind ++ codes ":" }
 {
-    match fault {
-        LoadFault::Missing(_) => "Missing:",
-        LoadFault::WrongKind(_) => "WrongKind:",
-        LoadFault::OutOfRange(_) => "OutOfRange:",
-        LoadFault::BadOp(_) => "BadOp:",
-        LoadFault::UnknownName(_) => "UnknownName:",
-        LoadFault::DoubleName(_) => "DoubleName:",
-        LoadFault::BadNesting(_) => "BadNesting:",
-        LoadFault::OverwriteLength(_) => "OverwriteLength:",
-        LoadFault::TooMany(_) => "TooMany:",
-        LoadFault::Memory => "Memory:",
+    match kind {
+        FaultKind::Missing => "Missing:",
+        FaultKind::WrongKind => "WrongKind:",
+        FaultKind::OutOfRange => "OutOfRange:",
+        FaultKind::BadOp => "BadOp:",
+        FaultKind::UnknownName => "UnknownName:",
+        FaultKind::DoubleName => "DoubleName:",
+        FaultKind::BadNesting => "BadNesting:",
+        FaultKind::OverwriteLength => "OverwriteLength:",
+        FaultKind::TooMany => "TooMany:",
     }
 }
 
@@ -69,16 +68,14 @@ fn push_place(pieces: &mut Pieces<'_>, place: Place)
 }
 
 // Appends the pieces of a load fault.
-fn push_load<'a>(pieces: &mut Pieces<'a>, fault: LoadFault)
+fn push_load<'a>(pieces: &mut Pieces<'a>, fault: Fault)
     requires { pieces.old.items ≡ [] }
     ensures { map piece_text pieces.new.items ≡ load_pieces fault }
 {
     pieces.push(Piece::Text("rtosim:"));
-    pieces.push(Piece::Number(u64::from(fault.code())));
-    pieces.push(Piece::Text(label(fault)));
-    if let Some(place) = fault.place() {
-        push_place(pieces, place);
-    }
+    pieces.push(Piece::Number(u64::from(fault.kind.code())));
+    pieces.push(Piece::Text(label(fault.kind)));
+    push_place(pieces, fault.place);
 }
 
 // The pieces of the line of a fault in serving.

@@ -1,6 +1,6 @@
 //! Why a call gave nothing.
 use campaign::{ExpandFault, ServeFault};
-use script::LoadFault;
+use script::LoadError;
 
 /// Memory was refused; or there is another fault, which no call here has.
 #[derive(Clone, Copy, Debug, PartialEq, Eq)]
@@ -9,10 +9,10 @@ pub(crate) enum Fault {
     Other,
 }
 
-pub(crate) fn of_loading(fault: LoadFault) -> Fault {
-    match fault {
-        LoadFault::Memory => Fault::Memory,
-        _ => Fault::Other,
+pub(crate) fn of_loading(error: LoadError) -> Fault {
+    match error {
+        LoadError::Memory => Fault::Memory,
+        LoadError::Fault(_) => Fault::Other,
     }
 }
 

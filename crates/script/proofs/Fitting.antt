@@ -1,10 +1,11 @@
 -- An entry that a name finds is what the op asks for.
-use Rattle.std.proofs.Common.{◌≡◌, ◌+◌, ◌<◌, ℕ, zero, suc, Bool, true, false, List, [], ◌∷◌, length, Some, refl, sym, subst, inl, inr, arith, ◌∙◌}
+use Rattle.std.proofs.Common.{◌≡◌, ◌+◌, ◌<◌, ℕ, zero, suc, Bool, true, false, List, [], ◌∷◌, length, map, Some, refl, sym, subst, inl, inr, arith, ◌∙◌}
 use Rattle.std.specs.Prelude.{nat_lt}
-use Rattle.std.specs.List.{slice_get}
+use Rattle.std.specs.List.{slice_get, position_from}
 use Rattle.std.specs.Option.{option_map, unwrap_or}
 use Rattle.std.specs.Str.{bytes_eq}
 use Rattle.std.proofs.lemmas.Bool.{and_parts, lt-ltb}
+use Rattle.std.proofs.lemmas.List.{length-map}
 use Rattle.model.specs.declared.object.ObjectKind.{ObjectKind}
 use Rattle.model.specs.declared.object.ObjectKind.TheVariants as kind
 use Rattle.model.specs.declared.op.Access.{Access}
@@ -13,16 +14,16 @@ use Rattle.model.specs.Scripts.{fits, fits_object, is_of_semaphore, is_of_mutex,
 use Rattle.script.specs.declared.object_sort.ObjectSort.{ObjectSort}
 use Rattle.script.specs.declared.object_sort.ObjectSort.TheVariants.{Queue, Semaphore, Mutex}
 use Rattle.script.specs.Grammar.{Word, NameSort, OfObject, OfGroup, OfTask}
-use Rattle.script.specs.Objects.{Named, kinds_of}
-use Rattle.script.specs.Entries.{Entries, HasEntries}
-use Rattle.script.specs.Finding.{index_from, is_of_sort, is_called, object_from, among}
+use Rattle.script.specs.Entries.{Object, Group, Raw, Entries, HasEntries}
+use Rattle.script.specs.Finding.{is_of_sort, is_called, among}
+use Rattle.script.specs.Ops.{allows}
 use Rattle.script.proofs.Reading.{chosen}
 
 -- These objects have one of this index and this sort.
-abbrev is_at : List Named → ObjectSort → ℕ → Bool
-is_at objects sort n = unwrap_or (option_map (λ (o : Named). is_of_sort sort o.kind) (slice_get objects n)) false
+abbrev is_at : List Object → ObjectSort → ℕ → Bool
+is_at objects sort n = unwrap_or (option_map (λ (o : Object). is_of_sort sort o.kind) (slice_get objects n)) false
 
-abbrev IsObject : List Named → ObjectSort → ℕ → Type 0
+abbrev IsObject : List Object → ObjectSort → ℕ → Type 0
 IsObject objects sort n = is_at objects sort n ≡ true
 
 -- These entries have one of this index and this sort.
@@ -31,7 +32,7 @@ IsAt entries (OfObject sort) n = IsObject entries.objects sort n
 IsAt entries OfGroup n = nat_lt n (length entries.groups) ≡ true
 IsAt entries OfTask n = nat_lt n (length entries.tasks) ≡ true
 
-found_from : (i : ℕ) (sort : ObjectSort) (w : Word) (objects : List Named) (n : ℕ) → object_from i sort w objects ≡ Some n
+found_from : (i : ℕ) (sort : ObjectSort) (w : Word) (objects : List Object) (n : ℕ) → position_from (is_called sort w) i objects ≡ Some n
     → (k : ℕ) × (i + k ≡ n) × IsObject objects sort k
 found_from i sort w [] n e = cc
 found_from i sort w (o ∷ os) n e = elim (chosen (is_called sort w o) _ _ _ e) [
@@ -44,7 +45,7 @@ found_from i sort w (o ∷ os) n e = elim (chosen (is_called sort w o) _ _ _ e) 
       (suc found.0, omega arith, found.2)
 ]
 
-below_from : (i : ℕ) (w : Word) (names : List Word) (n : ℕ) → index_from i w names ≡ Some n → n < i + length names
+pub below_from : (i : ℕ) (w : Word) (names : List Word) (n : ℕ) → position_from (λ name. bytes_eq name w) i names ≡ Some n → n < i + length names
 below_from i w [] n e = cc
 below_from i w (name ∷ names) n e = elim (chosen (bytes_eq name w) _ _ _ e) [
   | inl here ↦ let same : i ≡ n = cc in omega arith
@@ -58,10 +59,14 @@ found_at entries (OfObject sort) w n e =
     let same : found.0 ≡ n = omega arith in
     subst (IsObject entries.objects sort) same found.2
 found_at entries OfGroup w n e =
-    let below = below_from 0 w entries.groups n e in
+    let names = map (λ (g : Group). g.name) entries.groups in
+    let below = below_from 0 w names n e in
+    let count : length names ≡ length entries.groups = length-map entries.groups (λ (g : Group). g.name) in
     lt-ltb n (length entries.groups) (omega arith)
 found_at entries OfTask w n e =
-    let below = below_from 0 w entries.tasks n e in
+    let names = map (λ (t : Raw). t.name) entries.tasks in
+    let below = below_from 0 w names n e in
+    let count : length names ≡ length entries.tasks = length-map entries.tasks (λ (t : Raw). t.name) in
     lt-ltb n (length entries.tasks) (omega arith)
 
 -- ---- which calls it allows
@@ -87,14 +92,14 @@ kind_fits Mutex access fit kind.Mutex is = fit
 abbrev fits_at : List ObjectKind → ℕ → Access → Bool
 fits_at kinds n access = unwrap_or (option_map (λ k. fits k access) (slice_get kinds n)) false
 
-sort_fits : (sort : ObjectSort) (access : Access) → Fit sort access → (objects : List Named) (n : ℕ) → IsObject objects sort n
-    → fits_at (kinds_of objects) n access ≡ true
+sort_fits : (sort : ObjectSort) (access : Access) → Fit sort access → (objects : List Object) (n : ℕ) → IsObject objects sort n
+    → fits_at (map (λ (o : Object). o.kind) objects) n access ≡ true
 sort_fits sort access fit [] n at = cc
 sort_fits sort access fit (o ∷ os) zero at = kind_fits sort access fit o.kind at
 sort_fits sort access fit (o ∷ os) (suc n) at = sort_fits sort access fit os n at
 
-same_fit : (access : Access) (objects : List Named) (n : ℕ)
-    → unwrap_or (option_map (λ (o : Named). fits o.kind access) (slice_get objects n)) false ≡ fits_at (kinds_of objects) n access
+same_fit : (access : Access) (objects : List Object) (n : ℕ)
+    → allows objects n access ≡ fits_at (map (λ (o : Object). o.kind) objects) n access
 same_fit access [] n = refl
 same_fit access (o ∷ os) zero = refl
 same_fit access (o ∷ os) (suc n) = same_fit access os n
@@ -104,9 +109,7 @@ module _ (app : Application) (entries : Entries) (has : HasEntries app entries) 
       → fits_object app n access ≡ true
   at_fits sort access fit n at = rw has.objects (sort_fits sort access fit entries.objects n at)
 
-  pub allowed_fits : (access : Access) (n : ℕ)
-      → unwrap_or (option_map (λ (o : Named). fits o.kind access) (slice_get entries.objects n)) false ≡ true
-      → fits_object app n access ≡ true
+  pub allowed_fits : (access : Access) (n : ℕ) → allows entries.objects n access ≡ true → fits_object app n access ≡ true
   allowed_fits access n allowed = rw has.objects (sym (same_fit access entries.objects n) ∙ allowed)
 
   pub at_group : (n : ℕ) → IsAt entries OfGroup n → has_group app n ≡ true

@@ -4,19 +4,18 @@ use Rattle.std.specs.List.{AllByRecursion}
 use Rattle.std.specs.Option.{option_map, option_and_then, IfSome}
 use Rattle.std.specs.Str.{bytes_eq}
 use Rattle.model.proofs.Sorting.{by_test}
-use Rattle.script.specs.Grammar.{Word, Naming, NameSort, Form, Done, Number, Answer, Wait, Choice, Name, form_word, number_of, answer_of, wait_of, choice_of, read, read_by}
+use Rattle.script.specs.Grammar.{Word, Naming, NameSort, Form, Done, Number, NumberUnless, Choice, Name, number_of, number_unless, choice_of, read, read_by}
 
 module _ {O : Type 0} (Holds : O → Type 0) (At : NameSort → ℕ → Type 0) where
   -- It makes only such ops, of entries that are there.
   abbrev pub Makes : Form O → Type 0
   Makes (Done op) = Holds op
   Makes (Number next) = (n : ℕ) → Makes (next n)
-  Makes (Answer next) = (a : Option ℕ) → Makes (next a)
-  Makes (Wait next) = (ticks : Option ℕ) → Makes (next ticks)
+  Makes (NumberUnless other next) = (n : Option ℕ) → Makes (next n)
   Makes (Choice first second next) = (b : Bool) → Makes (next b)
   Makes (Name sort next) = (n : ℕ) → At sort n → Makes (next n)
 
-module _ {O : Type 0} (word : O → Word) (named : Naming) (Holds : O → Type 0) (At : NameSort → ℕ → Type 0)
+module _ {O : Type 0} (named : Naming) (Holds : O → Type 0) (At : NameSort → ℕ → Type 0)
     (found : (sort : NameSort) (w : Word) (n : ℕ) → named sort w ≡ Some n → At sort n) where
   abbrev Held : Option O → Type 0
   Held o = IfSome o Holds
@@ -32,12 +31,9 @@ module _ {O : Type 0} (word : O → Word) (named : Naming) (Holds : O → Type 0
   read_holds (Number next) [] makes = tt
   read_holds (Number next) (w ∷ ws) makes =
       taken_holds (number_of w) ws (λ r. read named (next r.0) r.1) (λ n e. read_holds (next n) ws (makes n))
-  read_holds (Answer next) [] makes = tt
-  read_holds (Answer next) (w ∷ ws) makes =
-      taken_holds (answer_of w) ws (λ r. read named (next r.0) r.1) (λ a e. read_holds (next a) ws (makes a))
-  read_holds (Wait next) [] makes = tt
-  read_holds (Wait next) (w ∷ ws) makes =
-      taken_holds (wait_of w) ws (λ r. read named (next r.0) r.1) (λ ticks e. read_holds (next ticks) ws (makes ticks))
+  read_holds (NumberUnless other next) [] makes = tt
+  read_holds (NumberUnless other next) (w ∷ ws) makes =
+      taken_holds (number_unless other w) ws (λ r. read named (next r.0) r.1) (λ ticks e. read_holds (next ticks) ws (makes ticks))
   read_holds (Choice first second next) [] makes = tt
   read_holds (Choice first second next) (w ∷ ws) makes =
       taken_holds (choice_of first second w) ws (λ r. read named (next r.0) r.1) (λ b e. read_holds (next b) ws (makes b))
@@ -45,9 +41,9 @@ module _ {O : Type 0} (word : O → Word) (named : Naming) (Holds : O → Type 0
   read_holds (Name sort next) (w ∷ ws) makes =
       taken_holds (named sort w) ws (λ r. read named (next r.0) r.1) (λ n e. read_holds (next n) ws (makes n (found sort w n e)))
 
-  pub read_by_holds : (fs : List (Form O)) (w : Word) (ws : List Word) → AllByRecursion (Makes Holds At) fs
-      → Held (read_by word named fs w ws)
+  pub read_by_holds : (fs : List (Word × Form O)) (w : Word) (ws : List Word)
+      → AllByRecursion (λ (form : Word × Form O). Makes Holds At form.1) fs → Held (read_by named fs w ws)
   read_by_holds [] w ws make = tt
-  read_by_holds (form ∷ others) w ws make = by_test (bytes_eq w (form_word word form))
-      (λ t. rw t (read_holds form ws make.0))
+  read_by_holds (form ∷ others) w ws make = by_test (bytes_eq w form.0)
+      (λ t. rw t (read_holds form.1 ws make.0))
       (λ t. rw t (read_by_holds others w ws make.1))

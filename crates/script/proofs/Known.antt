@@ -1,44 +1,71 @@
--- Every op of a script that is taken speaks of what there is.
-use Rattle.std.proofs.Common.{◌≡◌, ◌+◌, ℕ, Bool, true, false, List, [], ◌∷◌, ◌++◌, map, Option, Some, None, refl}
-use Rattle.std.specs.Prelude.{not, is_none}
-use Rattle.std.specs.List.{AllByRecursion}
-use Rattle.std.specs.Option.{option_and_then, option_to_list, IfSome}
-use Rattle.toml.specs.Data.{Items, no_items, item, as_str}
+-- Every op that is taken, of a script or of a handler, speaks of what there is.
+use Rattle.std.proofs.Common.{◌≡◌, ◌+◌, ◌≤◌, ℕ, true, List, [], ◌∷◌, length, map, Option, Some, None, refl}
+use Rattle.std.specs.List.{AllByRecursion, cons_option}
+use Rattle.std.specs.Option.{option_and_then, IfSome}
+use Rattle.toml.specs.Data.{Data, as_str}
 use Rattle.model.specs.declared.op.Access.TheVariants.{Send, SendFront, Overwrite, Receive, Peek, Take, Give, Lock}
 use Rattle.model.specs.declared.op.Op.{Op}
-use Rattle.model.specs.Application.{Application, word_of}
-use Rattle.model.specs.Scripts.{is_in_range, knows, KnowsAll}
+use Rattle.model.specs.declared.op.IsrOp.{IsrOp}
+use Rattle.model.specs.Application.{Application, Handler}
+use Rattle.model.specs.Scripts.{is_in_range, knows, knows_isr, KnowsAll, IsHandler, most_name_bytes, most_handler_ops}
 use Rattle.model.proofs.Sorting.{by_test}
-use Rattle.script.specs.declared.fault.LoadFault.TheVariants.{BadOp, OverwriteLength}
-use Rattle.script.specs.declared.place.Place.{Place}
-use Rattle.script.specs.declared.place.Section.TheVariants as section
-use Rattle.script.specs.declared.place.Key.TheVariants as key
 use Rattle.script.specs.declared.object_sort.ObjectSort.TheVariants.{Queue, Semaphore, Mutex}
-use Rattle.script.specs.Faults.{fails_if, at_field, at_element}
-use Rattle.script.specs.Grammar.{Word, forms, object_forms, semaphore_forms, group_forms, suspension_forms, read_by, if_in_range, op_of, words_of}
-use Rattle.script.specs.Entries.{Entries, HasEntries}
-use Rattle.script.specs.Finding.{any_name, among}
-use Rattle.script.specs.Ops.{op_spelled, op_named, is_allowed, entry_fault, spelling_fault, op_fault, nesting_with, ops_fault, ops_named, scripts_fault, with_ops}
-use Rattle.script.specs.Tasks.{Raw}
-use Rattle.script.proofs.Checks.{none_fails, passes}
+use Rattle.script.specs.declared.place.Place.{Place}
+use Rattle.script.specs.Arrays.{each_fault}
+use Rattle.script.specs.Grammar.{Word, Form, forms, object_forms, semaphore_forms, group_forms, suspension_forms, isr_forms, read_by, if_in_range, op_of, isr_op_of, words_of}
+use Rattle.script.specs.Entries.{RawIsr, Raw, Entries, HasEntries}
+use Rattle.script.specs.Finding.{among}
+use Rattle.script.specs.Ops.{Ops, task_ops, handler_ops, is_allowed, is_isr_allowed, op_in, nesting_with, op_elements, op_fault, script_fault, script_named, handler_scripts, task_scripts, scripts_fault, handler_ops_fault, with_ops, with_isr_ops}
+use Rattle.script.proofs.Checks.{none_fails}
 use Rattle.script.proofs.Forms.{Makes, read_by_holds}
 use Rattle.script.proofs.Fitting.{IsAt, found_at, at_fits, allowed_fits, at_group, at_task}
+use Rattle.script.proofs.Scripts.{taken_stands}
+
+-- ---- the ops of any kind, where those that its texts spell are known wherever their object allows them
+
+module _ {O : Type 0} (ops : Ops O) (entries : Entries) (Knows : O → Type 0) where
+  abbrev pub Known : Option O → Type 0
+  Known o = IfSome o (λ (op : O). ops.is_allowed entries.objects op ≡ true → Knows op)
+
+  module _ (known : (ws : List Word) → Known (ops.of_words (among entries) ws)) where
+    text_known : (text : Option (List ℕ)) → Known (option_and_then (λ text. ops.of_words (among entries) (words_of text)) text)
+    text_known None = tt
+    text_known (Some text) = known (words_of text)
+
+    one_more : (nesting : ℕ) (p : Place) (d : Data) (o : Option O) (others : List O) → op_in ops (among entries) d ≡ o
+        → op_fault ops entries nesting p d ≡ None → Known o → AllByRecursion Knows others → AllByRecursion Knows (cons_option o others)
+    one_more nesting p d None others is none spelt h = h
+    one_more nesting p d (Some op) others is none spelt h = (spelt (taken_stands ops entries nesting p d op none is).allowed, h)
+
+    each_known : (p : Place) (nesting i : ℕ) (ds : List Data) → each_fault (op_elements ops entries p) nesting i ds ≡ None
+        → AllByRecursion Knows (script_named ops entries ds)
+    each_known p nesting i [] none = tt
+    each_known p nesting i (d ∷ ds) none =
+        let elements = op_elements ops entries p in
+        let here = none_fails (op_fault ops entries nesting (elements.at i) d) _ none in
+        one_more nesting (elements.at i) d (op_in ops (among entries) d) (script_named ops entries ds) refl here.0 (text_known (as_str d))
+        (each_known p (nesting_with ops entries nesting d) (i + 1) ds (none_fails _ [] here.1).0)
+
+    pub script_known : (p : Place) (ds : List Data) → script_fault ops entries p ds ≡ None
+        → AllByRecursion Knows (script_named ops entries ds)
+    script_known p ds none = each_known p 0 0 ds (none_fails (each_fault (op_elements ops entries p) 0 0 ds) _ none).0
 
 module _ (app : Application) (entries : Entries) (has : HasEntries app entries) where
-  -- where its object allows it, the application knows it
+  -- ---- of tasks
+
   abbrev IsKnown : Op → Type 0
   IsKnown op = is_allowed entries.objects op ≡ true → knows app op ≡ true
 
-  abbrev Known : Option Op → Type 0
-  Known o = IfSome o IsKnown
+  abbrev AllKnown : List (Word × Form Op) → Type 0
+  AllKnown fs = AllByRecursion (λ (form : Word × Form Op). Makes IsKnown (IsAt entries) form.1) fs
 
-  suspension_forms_known : AllByRecursion (Makes IsKnown (IsAt entries)) suspension_forms
+  suspension_forms_known : AllKnown suspension_forms
   suspension_forms_known = (
     (λ t at a. at_task app entries has t at),
     ((λ t at a. at_task app entries has t at), ((λ a. refl), ((λ a. refl), tt))),
   )
 
-  group_forms_known : AllByRecursion (Makes IsKnown (IsAt entries)) group_forms
+  group_forms_known : AllKnown group_forms
   group_forms_known = (
     (λ g at mask a. at_group app entries has g at),
     (
@@ -50,7 +77,7 @@ module _ (app : Application) (entries : Entries) (has : HasEntries app entries) 
     ),
   )
 
-  semaphore_forms_known : AllByRecursion (Makes IsKnown (IsAt entries)) semaphore_forms
+  semaphore_forms_known : AllKnown semaphore_forms
   semaphore_forms_known = (
     (λ s at ticks a. rw (at_fits app entries has Semaphore Take refl s at) refl),
     (
@@ -62,7 +89,7 @@ module _ (app : Application) (entries : Entries) (has : HasEntries app entries) 
     ),
   )
 
-  object_forms_known : AllByRecursion (Makes IsKnown (IsAt entries)) object_forms
+  object_forms_known : AllKnown object_forms
   object_forms_known = (
     (λ q at n ticks a. rw (at_fits app entries has Queue (Send n) (λ size. refl) q at) refl),
     (
@@ -83,7 +110,7 @@ module _ (app : Application) (entries : Entries) (has : HasEntries app entries) 
     ),
   )
 
-  forms_known : AllByRecursion (Makes IsKnown (IsAt entries)) forms
+  forms_known : AllKnown forms
   forms_known = (
     (λ n a. refl),
     (
@@ -110,55 +137,81 @@ module _ (app : Application) (entries : Entries) (has : HasEntries app entries) 
     ),
   )
 
-  range_known : (o : Option Op) → Known o → Known (option_and_then if_in_range o)
+  range_known : (o : Option Op) → IfSome o IsKnown → IfSome (option_and_then if_in_range o) IsKnown
   range_known None known = tt
   range_known (Some op) known = by_test (is_in_range op) (λ t. rw t known) (λ t. rw t tt)
 
-  op_known : (ws : List Word) → Known (op_of (among entries) ws)
+  op_known : (ws : List Word) → IfSome (op_of (among entries) ws) IsKnown
   op_known [] = tt
   op_known (w ∷ ws) =
-      let holds = read_by_holds word_of (among entries) IsKnown (IsAt entries) (found_at entries) forms w ws forms_known in
-      range_known (read_by word_of (among entries) forms w ws) holds
+      let holds = read_by_holds (among entries) IsKnown (IsAt entries) (found_at entries) forms w ws forms_known in
+      range_known (read_by (among entries) forms w ws) holds
 
-  text_known : (text : Option (List ℕ)) → Known (option_and_then (op_spelled (among entries)) text)
-  text_known None = tt
-  text_known (Some text) = op_known (words_of text)
-
-  -- ---- what is taken
-
-  -- an op whose object allows it
-  taken_op : (p : Place) (o : Option Op) → Known o → entry_fault entries.objects p o ≡ None → IfSome o (λ op. knows app op ≡ true)
-  taken_op p None known none = tt
-  taken_op p (Some op) known none =
-      known (not_false (is_allowed entries.objects op) (passes (not (is_allowed entries.objects op)) (OverwriteLength p) none)) where
-        not_false : (b : Bool) → not b ≡ false → b ≡ true
-        not_false true e = refl
-        not_false false e = cc
-
-  one_more : (o : Option Op) (ops : List Op) → IfSome o (λ op. knows app op ≡ true)
-      → AllByRecursion (λ op. knows app op ≡ true) ops → AllByRecursion (λ op. knows app op ≡ true) (option_to_list o ++ ops)
-  one_more None ops known others = others
-  one_more (Some op) ops known others = (known, others)
-
-  known_ops : (p : Place) (n nesting : ℕ) (ds : Items) → ops_fault entries p n nesting ds ≡ None
-      → AllByRecursion (λ op. knows app op ≡ true) (ops_named entries ds)
-  known_ops p n nesting no_items none = tt
-  known_ops p n nesting (item d ds) none =
-      let o = op_named (among entries) d in
-      let here = none_fails (op_fault entries (at_element p n) nesting d) _ none in
-      let spelt = (none_fails (spelling_fault entries (at_element p n) d) _ here.0).0 in
-      let object = (none_fails (fails_if (is_none (op_named any_name d)) (BadOp (at_element p n))) _ spelt).1 in
-      let allowed = (none_fails (entry_fault entries.objects (at_element p n) o) [] object).0 in
-      let others = (none_fails (ops_fault entries p (n + 1) (nesting_with nesting o) ds) [] here.1).0 in
-      one_more o (ops_named entries ds) (taken_op (at_element p n) o (text_known (as_str d)) allowed)
-      (known_ops p (n + 1) (nesting_with nesting o) ds others)
-
-  -- every task speaks of what there is
-  pub known_tasks : (i : ℕ) (ts : List Raw) → scripts_fault entries i ts ≡ None
+  tasks_known : (i : ℕ) (ts : List Raw) → each_fault (task_scripts entries) tt i (map (λ (t : Raw). t.script) ts) ≡ None
       → AllByRecursion (KnowsAll app) (map (with_ops entries) ts)
-  known_tasks i [] none = tt
-  known_tasks i (t ∷ ts) none =
-      let p = at_field section.Task i key.Script in
-      let here = none_fails (ops_fault entries p 0 0 t.script) _ none in
-      let others = (none_fails (scripts_fault entries (i + 1) ts) [] here.1).0 in
-      (known_ops p 0 0 t.script here.0, known_tasks (i + 1) ts others)
+  tasks_known i [] none = tt
+  tasks_known i (t ∷ ts) none =
+      let elements = task_scripts entries in
+      let here = none_fails (script_fault task_ops entries (elements.at i) t.script) _ none in (
+        script_known task_ops entries (λ (op : Op). knows app op ≡ true) op_known (elements.at i) t.script here.0,
+        tasks_known (i + 1) ts (none_fails _ [] here.1).0,
+      )
+
+  pub known_tasks : scripts_fault entries ≡ None → AllByRecursion (KnowsAll app) (map (with_ops entries) entries.tasks)
+  unfolding scripts_fault
+  known_tasks none = tasks_known 0 entries.tasks none
+
+  -- ---- of handlers
+
+  abbrev IsIsrKnown : IsrOp → Type 0
+  IsIsrKnown op = is_isr_allowed entries.objects op ≡ true → knows_isr app op ≡ true
+
+  isr_forms_known : AllByRecursion (λ (form : Word × Form IsrOp). Makes IsIsrKnown (IsAt entries) form.1) isr_forms
+  isr_forms_known = (
+    (λ q at n a. rw (at_fits app entries has Queue (Send n) (λ size. refl) q at) refl),
+    (
+      (λ q at n a. rw (at_fits app entries has Queue (SendFront n) (λ size. refl) q at) refl),
+      (
+        (λ q at n allowed. rw (allowed_fits app entries has (Overwrite n) q allowed) refl),
+        (
+          (λ q at a. rw (at_fits app entries has Queue Receive (λ size. refl) q at) refl),
+          (
+            (λ q at a. rw (at_fits app entries has Queue Peek (λ size. refl) q at) refl),
+            (
+              (λ s at a. rw (at_fits app entries has Semaphore Give refl s at) refl),
+              (
+                (λ t at a. at_task app entries has t at),
+                ((λ g at a. at_group app entries has g at), ((λ n a. refl), tt)),
+              ),
+            ),
+          ),
+        ),
+      ),
+    ),
+  )
+
+  isr_op_known : (ws : List Word) → IfSome (isr_op_of (among entries) ws) IsIsrKnown
+  isr_op_known [] = tt
+  isr_op_known (w ∷ ws) = read_by_holds (among entries) IsIsrKnown (IsAt entries) (found_at entries) isr_forms w ws isr_forms_known
+
+  handlers_known : (i : ℕ) (hs : List RawIsr) → each_fault (handler_scripts entries) tt i (map (λ (h : RawIsr). h.ops) hs) ≡ None
+      → AllByRecursion (λ (h : Handler). (length h.name ≤ most_name_bytes) × (length h.ops ≤ most_handler_ops)) (map (with_isr_ops entries) hs)
+      → AllByRecursion (IsHandler app) (map (with_isr_ops entries) hs)
+  handlers_known i [] none formed = tt
+  handlers_known i (h ∷ hs) none formed =
+      let elements = handler_scripts entries in
+      let here = none_fails (script_fault handler_ops entries (elements.at i) h.ops) _ none in (
+        record {
+          name = formed.0.0;
+          few = formed.0.1;
+          known = script_known handler_ops entries (λ (op : IsrOp). knows_isr app op ≡ true) isr_op_known (elements.at i) h.ops here.0;
+        },
+        handlers_known (i + 1) hs (none_fails _ [] here.1).0 formed.1,
+      )
+
+  pub known_handlers : handler_ops_fault entries ≡ None
+      → AllByRecursion (λ (h : Handler). (length h.name ≤ most_name_bytes) × (length h.ops ≤ most_handler_ops))
+      (map (with_isr_ops entries) entries.handlers)
+      → AllByRecursion (IsHandler app) (map (with_isr_ops entries) entries.handlers)
+  unfolding handler_ops_fault
+  known_handlers none formed = handlers_known 0 entries.handlers none formed

@@ -1,50 +1,76 @@
 -- The objects, event groups, handlers and tasks of a document that is taken have names of their own.
-use Rattle.std.proofs.Common.{◌≡◌, ◌≢◌, ℕ, ◌<◌, ◌+◌, false, List, [], ◌∷◌, ◌++◌, length, map, get_or, Option, Some, None, refl, sym, ap, subst, ◌∙◌, append_assoc, append-nil, arith}
-use Rattle.std.specs.Prelude.{◌==◌, nat_lt, not, unwrap_or, codes}
-use Rattle.std.specs.List.{list_any}
+use Rattle.std.proofs.Common.{◌≡◌, ◌≢◌, ◌<◌, ◌+◌, ◌-◌, ◌++◌, ℕ, false, not, List, [], ◌∷◌, length, map, get_or, Option, Some, None, nat_lt, refl, sym, ap, subst, ◌∙◌, append_assoc, append-nil, arith}
+use Rattle.std.specs.Prelude.{◌||◌, unwrap_or, codes}
+use Rattle.std.specs.List.{list_any, fold}
 use Rattle.std.specs.Str.{bytes_eq}
 use Rattle.std.proofs.lemmas.Bool.{true≢false}
-use Rattle.std.proofs.lemmas.Slice.Eq.{bytes_eq-Decides}
 use Rattle.std.proofs.lemmas.List.{map-append}
-use Rattle.std.proofs.lemmas.List.Folds.{list_any_at}
 use Rattle.std.proofs.lemmas.List.Quantifiers.{all_pairs_push}
-use Rattle.toml.specs.Data.{Data, Items, no_items, item, Members, as_str, as_table, as_array, get_member}
+use Rattle.std.proofs.lemmas.List.Folds.{list_any_at, list_any-append}
+use Rattle.std.proofs.lemmas.Slice.Eq.{bytes_eq-Decides}
+use Rattle.toml.specs.Data.{Data, Members, as_str, as_table, get_member}
 use Rattle.model.specs.Application.{Handler, Definition}
-use Rattle.model.specs.Scripts.{most_tasks, most_objects, most_groups, most_handlers}
-use Rattle.script.specs.declared.fault.LoadFault.TheVariants.{Missing, OutOfRange, DoubleName, TooMany}
+use Rattle.model.specs.Scripts.{most_objects, most_groups, most_handlers, most_tasks}
+use Rattle.script.specs.declared.fault.FaultKind.TheVariants.{Missing, WrongKind, OutOfRange, DoubleName, TooMany}
+use Rattle.script.specs.declared.fault.Fault.{Fault}
 use Rattle.script.specs.declared.place.Place.{Place}
+use Rattle.script.specs.declared.place.Section.{Section}
 use Rattle.script.specs.declared.place.Section.TheVariants as section
 use Rattle.script.specs.declared.place.Key.TheVariants as key
-use Rattle.script.specs.Faults.{fails_if, at_section, at_field}
-use Rattle.script.specs.Values.{items_len, optional_fault, text_fault, name_fault, name_named}
-use Rattle.script.specs.Names.{is_name, task_names, AreDistinct}
 use Rattle.script.specs.declared.object_section.ObjectSection.{ObjectSection}
-use Rattle.script.specs.Objects.{Named, names_of, section_of, section_data, object_table_fault, object_named, object_entry_fault, object_entries_fault, object_entries_named, object_array_fault, object_section_fault, object_section_named, object_sections, with_section, objects_fault, objects_named}
-use Rattle.script.specs.Groups.{group_table_fault, group_fault, group_named, groups_fault, groups_named, group_array_fault, group_section_fault, group_section_named}
-use Rattle.script.specs.Entries.{Entries}
-use Rattle.script.specs.Tasks.{Raw, raw_names, task_table_fault, task_fault, task_named, tasks_fault, tasks_named, entries_fault, section_array_fault, section_fault, section_named}
-use Rattle.script.specs.Handlers.{RawIsr, isr_names, handler_table_fault, handler_fault, handler_named, handlers_fault, handlers_named, handler_array_fault, handler_section_fault, handler_section_named}
-use Rattle.script.specs.Ops.{with_ops}
-use Rattle.script.specs.IsrOps.{with_isr_ops}
-use Rattle.script.specs.Load.{limits_fault, objects_of, handlers_of, tasks_of, entries_of, names_before_handlers, names_before_tasks, load_fault, app_named, document_names}
+use Rattle.script.specs.Faults.{at_section, at_entry, at_key, fault_at, fails_if, first_fault, need, required}
+use Rattle.script.specs.Names.{is_name, task_names, AreDistinct}
+use Rattle.script.specs.Values.{name_fault, name_named, text_named}
+use Rattle.script.specs.Arrays.{array_of, tables, each_fault, section_fault, section_named}
+use Rattle.script.specs.Entries.{Object, Group, RawIsr, Raw, Entries, names_of}
+use Rattle.script.specs.Sections.{data_at, no_entries, section_of, object_keys, object_named, object_sections, with_objects, more_objects_fault, each_objects_fault, objects_fault, objects_named, group_keys, group_named, groups_fault, groups_named, handler_keys, handler_named, handlers_fault, handlers_named, task_keys, task_named, tasks_fault, tasks_named}
+use Rattle.script.specs.Ops.{with_ops, with_isr_ops}
+use Rattle.script.specs.Load.{with_no_groups, with_no_handlers, with_no_tasks, entries_of, entries_fault, load_fault, app_named, document_names}
 use Rattle.script.proofs.Checks.{none_fails, passes}
+use Rattle.script.proofs.Passing.{passed}
+
+-- one of them has the name, section by section
+pub any_named : (name : List ℕ) (entries : Entries) → list_any (bytes_eq name) (names_of entries)
+    ≡ (list_any (bytes_eq name) (map (λ (o : Object). o.name) entries.objects)
+    || (list_any (bytes_eq name) (map (λ (g : Group). g.name) entries.groups)
+    || (list_any (bytes_eq name) (map (λ (h : RawIsr). h.name) entries.handlers)
+    || list_any (bytes_eq name) (map (λ (t : Raw). t.name) entries.tasks))))
+any_named name entries = simp list_any-append
+
+-- where no object, no event group and no handler has it
+pub not_named : (name : List ℕ) (entries : Entries)
+    → list_any (bytes_eq name) (map (λ (o : Object). o.name) entries.objects) ≡ false
+    → list_any (bytes_eq name) (map (λ (g : Group). g.name) entries.groups) ≡ false
+    → list_any (bytes_eq name) (map (λ (h : RawIsr). h.name) entries.handlers) ≡ false
+    → list_any (bytes_eq name) (names_of entries) ≡ list_any (bytes_eq name) (map (λ (t : Raw). t.name) entries.tasks)
+not_named name entries objects groups handlers = rw (any_named name entries, objects, groups, handlers) refl
 
 -- ---- a name that is taken is none of those before it
 
 abbrev IsNew : List (List ℕ) → List ℕ → Type 0
 IsNew names name = list_any (bytes_eq name) names ≡ false
 
-text_is_new : (p : Place) (names : List (List ℕ)) (text : Option (List ℕ))
-    → text_fault p names text ≡ None → IsNew names (unwrap_or text [])
-text_is_new p names None none = cc
-text_is_new p names (Some name) none =
-    let later = (none_fails (fails_if (not (is_name name)) (OutOfRange p)) _ none).1 in
-    passes (list_any (bytes_eq name) names) (DoubleName p) (none_fails _ [] later).0
+text_is_new : (p : Place) (names : List (List ℕ)) (name : List ℕ)
+    → first_fault (fails_if (not (is_name name)) (fault_at OutOfRange p) ∷ fails_if (list_any (bytes_eq name) names) (fault_at DoubleName p) ∷ []) ≡ None
+    → IsNew names name
+text_is_new p names name none =
+    let later = (none_fails (fails_if (not (is_name name)) (fault_at OutOfRange p)) _ none).1 in
+    passes (list_any (bytes_eq name) names) (fault_at DoubleName p) (none_fails _ [] later).0
 
-name_is_new : (p : Place) (names : List (List ℕ)) (value : Option Data)
-    → name_fault p names value ≡ None → IsNew names (name_named value)
-name_is_new p names None none = cc
-name_is_new p names (Some d) none = text_is_new p names (as_str d) none
+data_is_new : (p : Place) (names : List (List ℕ)) (text : Option (List ℕ))
+    → need (fault_at WrongKind p) text (λ name. first_fault (fails_if (not (is_name name)) (fault_at OutOfRange p)
+    ∷ fails_if (list_any (bytes_eq name) names) (fault_at DoubleName p) ∷ [])) ≡ None → IsNew names (unwrap_or text [])
+data_is_new p names None none = cc
+data_is_new p names (Some name) none = text_is_new p names name none
+
+value_is_new : (p : Place) (names : List (List ℕ)) (value : Option Data)
+    → need (fault_at Missing p) value (name_fault names p) ≡ None → IsNew names (text_named value)
+value_is_new p names None none = cc
+value_is_new p names (Some d) none = data_is_new p names (as_str d) none
+
+name_is_new : (p : Place) (names : List (List ℕ)) (ms : Members)
+    → required p key.Name (name_fault names) ms ≡ None → IsNew names (name_named (Some ms))
+name_is_new p names ms none = value_is_new (at_key p key.Name) names (get_member (codes "name") ms) none
 
 differs : (name : List ℕ) (names : List (List ℕ)) → IsNew names name
     → (k : ℕ) (d : List ℕ) → k < length names → get_or names k d ≢ name
@@ -60,179 +86,131 @@ longer names name distinct new =
 none_distinct : AreDistinct []
 none_distinct i j d lt within = absurd (omega arith)
 
--- ---- the objects of a section, one after another
+-- ---- the entries of a section, one after another, after those of earlier sections
 
-object_is_new : (s : ObjectSection) (names : List (List ℕ)) (i : ℕ) (d : Data) (table : Option Members)
-    → as_table d ≡ table → object_table_fault s names i table ≡ None → IsNew names (object_named s d).name
-object_is_new s names i d None is none = cc
-object_is_new s names i d (Some ms) is none =
-    let p = at_field (section_of s) i key.Name in
-    let name = get_member (codes "name") ms in
-    rw is (name_is_new p names name (none_fails (name_fault p names name) _ none).0)
+module _ {X : Type 0} (name : X → List ℕ) (value : Option Members → X) (keys : List X → Place → Members → Option Fault)
+    (earlier : List (List ℕ))
+    (is_new : (before : List X) (p : Place) (ms : Members) → keys before p ms ≡ None
+    → IsNew (earlier ++ map name before) (name (value (Some ms)))) where
+  abbrev Distinct : List X → Type 0
+  Distinct xs = AreDistinct (earlier ++ map name xs)
 
-objects_differ : (s : ObjectSection) (names : List (List ℕ)) (i : ℕ) (ds : Items)
-    → object_entries_fault s names i ds ≡ None → AreDistinct names → AreDistinct (names ++ names_of (object_entries_named s ds))
-objects_differ s names i no_items none distinct = rw (append-nil names) distinct
-objects_differ s names i (item d ds) none distinct =
-    let name = (object_named s d).name in
-    let here = none_fails (object_entry_fault s names i d) (object_entries_fault s (names ++ name ∷ []) (i + 1) ds ∷ []) none in
-    let new = object_is_new s names i d (as_table d) refl here.0 in
-    subst AreDistinct (append_assoc names (name ∷ []) (names_of (object_entries_named s ds)))
-    (objects_differ s (names ++ name ∷ []) (i + 1) ds (none_fails _ [] here.1).0 (longer names name distinct new))
+  table_is_new : (before : List X) (p : Place) (table : Option Members) → need (fault_at WrongKind p) table (keys before p) ≡ None
+      → IsNew (earlier ++ map name before) (name (value table))
+  table_is_new before p None none = cc
+  table_is_new before p (Some ms) none = is_new before p ms none
 
-object_array_differs : (s : ObjectSection) (names : List (List ℕ)) (array : Option Items) → object_array_fault s names array ≡ None
-    → AreDistinct names → AreDistinct (names ++ names_of (object_entries_named s (unwrap_or array no_items)))
-object_array_differs s names None none distinct = cc
-object_array_differs s names (Some ds) none distinct =
-    let many = fails_if (nat_lt most_objects (length names + items_len ds)) (TooMany (at_section (section_of s))) in
-    let few = (none_fails many _ none).1 in
-    objects_differ s names 0 ds (none_fails _ [] few).0 distinct
+  one_more : (before : List X) (x : X) → Distinct before → IsNew (earlier ++ map name before) (name x) → Distinct (before ++ x ∷ [])
+  one_more before x distinct new =
+      let both : (earlier ++ map name before) ++ name x ∷ [] ≡ earlier ++ map name (before ++ x ∷ []) =
+      append_assoc earlier (map name before) (name x ∷ []) ∙ ap (λ names. earlier ++ names) (sym (map-append name before (x ∷ []))) in
+      subst AreDistinct both (longer (earlier ++ map name before) (name x) distinct new)
 
-object_section_differs : (s : ObjectSection) (names : List (List ℕ)) (value : Option Data)
-    → object_section_fault s names value ≡ None → AreDistinct names → AreDistinct (names ++ names_of (object_section_named s value))
-object_section_differs s names None none distinct = rw (append-nil names) distinct
-object_section_differs s names (Some d) none distinct = object_array_differs s names (as_array d) none distinct
+  each_differs : (s : Section) (before : List X) (i : ℕ) (ds : List Data) → each_fault (tables s value keys) before i ds ≡ None
+      → Distinct before → Distinct (before ++ map (λ d. value (as_table d)) ds)
+  each_differs s before i [] none distinct = subst Distinct (sym (append-nil before)) distinct
+  each_differs s before i (d ∷ ds) none distinct =
+      let p = at_entry s i in
+      let x = value (as_table d) in
+      let here = none_fails (need (fault_at WrongKind p) (as_table d) (keys before p)) _ none in
+      let new = table_is_new before p (as_table d) here.0 in
+      subst Distinct (append_assoc before (x ∷ []) (map (λ d. value (as_table d)) ds))
+      (each_differs s (before ++ x ∷ []) (i + 1) ds (none_fails _ [] here.1).0 (one_more before x distinct new))
 
--- ---- the sections of objects, one after another
+  array_differs : (most : ℕ) (s : Section) (before : List X) (array : Option (List Data))
+      → need (fault_at WrongKind (at_section s)) array (λ ds. first_fault (
+      fails_if (nat_lt most (length ds)) (fault_at TooMany (at_section s)) ∷ each_fault (tables s value keys) before 0 ds ∷ [])) ≡ None
+      → Distinct before → Distinct (before ++ map (λ d. value (as_table d)) (unwrap_or array []))
+  array_differs most s before None none distinct = cc
+  array_differs most s before (Some ds) none distinct =
+      let few = none_fails (fails_if (nat_lt most (length ds)) (fault_at TooMany (at_section s))) _ none in
+      each_differs s before 0 ds (none_fails _ [] few.1).0 distinct
 
-sections_differ : (ss : List ObjectSection) (objects : List Named) (document : Members)
-    → objects_fault ss objects document ≡ None → AreDistinct (names_of objects) → AreDistinct (names_of (objects_named ss objects document))
-sections_differ [] objects document none distinct = distinct
-sections_differ (s ∷ ss) objects document none distinct =
-    let value = section_data s document in
-    let here = none_fails (object_section_fault s (names_of objects) value) _ none in
-    let more = object_section_differs s (names_of objects) value here.0 distinct in
-    let both = map-append (λ (o : Named). o.name) objects (object_section_named s value) in
-    sections_differ ss (with_section objects s document) document (none_fails _ [] here.1).0 (subst AreDistinct (sym both) more)
+  pub section_differs : (most : ℕ) (s : Section) (before : List X) (d : Option Data)
+      → section_fault most s value keys before d ≡ None → Distinct before → Distinct (before ++ section_named value d)
+  section_differs most s before None none distinct = subst Distinct (sym (append-nil before)) distinct
+  section_differs most s before (Some d) none distinct = array_differs (most - length before) s before (array_of d) none distinct
 
--- ---- the event groups, one after another
+-- ---- the sections
 
-group_is_new : (names : List (List ℕ)) (i : ℕ) (d : Data) (table : Option Members)
-    → as_table d ≡ table → group_table_fault names i table ≡ None → IsNew names (group_named d)
-group_is_new names i d None is none = cc
-group_is_new names i d (Some ms) is none = rw is (name_is_new (at_field section.Group i key.Name) names (get_member (codes "name") ms) none)
+objects_differ : (ss : List ObjectSection) (before : List Object) (document : Members)
+    → each_objects_fault ss before document ≡ None → AreDistinct (map (λ (o : Object). o.name) before)
+    → AreDistinct (map (λ (o : Object). o.name) (fold (λ before s. with_objects before s document) before ss))
+unfolding more_objects_fault with_objects
+objects_differ [] before document none distinct = distinct
+objects_differ (s ∷ ss) before document none distinct =
+    let d = data_at (section_of s) document in
+    let here = none_fails (more_objects_fault before s document) _ none in
+    let more = section_differs (λ (o : Object). o.name) (object_named s) (object_keys s no_entries) []
+    (λ before p ms none. name_is_new p _ ms (none_fails (required p key.Name (name_fault _) ms) _ none).0)
+    most_objects (section_of s) before d here.0 distinct in
+    objects_differ ss (with_objects before s document) document (none_fails _ [] here.1).0 more
 
-groups_differ : (names : List (List ℕ)) (i : ℕ) (ds : Items)
-    → groups_fault names i ds ≡ None → AreDistinct names → AreDistinct (names ++ groups_named ds)
-groups_differ names i no_items none distinct = rw (append-nil names) distinct
-groups_differ names i (item d ds) none distinct =
-    let name = group_named d in
-    let here = none_fails (group_fault names i d) (groups_fault (names ++ name ∷ []) (i + 1) ds ∷ []) none in
-    let new = group_is_new names i d (as_table d) refl here.0 in
-    subst AreDistinct (append_assoc names (name ∷ []) (groups_named ds))
-    (groups_differ (names ++ name ∷ []) (i + 1) ds (none_fails _ [] here.1).0 (longer names name distinct new))
+all_objects_differ : (document : Members) → objects_fault document ≡ None
+    → AreDistinct (map (λ (o : Object). o.name) (objects_named document))
+unfolding objects_fault objects_named
+all_objects_differ document none = objects_differ object_sections [] document none none_distinct
 
-group_array_differs : (names : List (List ℕ)) (array : Option Items) → group_array_fault names array ≡ None
-    → AreDistinct names → AreDistinct (names ++ groups_named (unwrap_or array no_items))
-group_array_differs names None none distinct = cc
-group_array_differs names (Some ds) none distinct =
-    let few = (none_fails (fails_if (nat_lt most_groups (items_len ds)) (TooMany (at_section section.Group))) _ none).1 in
-    groups_differ names 0 ds (none_fails _ [] few).0 distinct
+groups_differ : (earlier : Entries) (document : Members) → groups_fault earlier document ≡ None → AreDistinct (names_of earlier)
+    → AreDistinct (names_of earlier ++ map (λ (g : Group). g.name) (groups_named document))
+unfolding groups_fault groups_named
+groups_differ earlier document none distinct =
+    section_differs (λ (g : Group). g.name) group_named (group_keys earlier) (names_of earlier)
+    (λ before p ms none. name_is_new p _ ms none)
+    most_groups section.Group [] (data_at section.Group document) none (subst AreDistinct (sym (append-nil (names_of earlier))) distinct)
 
-group_section_differs : (names : List (List ℕ)) (value : Option Data) → group_section_fault names value ≡ None
-    → AreDistinct names → AreDistinct (names ++ group_section_named value)
-group_section_differs names None none distinct = rw (append-nil names) distinct
-group_section_differs names (Some d) none distinct = group_array_differs names (as_array d) none distinct
+handlers_differ : (earlier : Entries) (document : Members) → handlers_fault earlier document ≡ None → AreDistinct (names_of earlier)
+    → AreDistinct (names_of earlier ++ map (λ (h : RawIsr). h.name) (handlers_named document))
+unfolding handlers_fault handlers_named
+handlers_differ earlier document none distinct =
+    section_differs (λ (h : RawIsr). h.name) handler_named (handler_keys earlier) (names_of earlier)
+    (λ before p ms none. name_is_new p _ ms (none_fails (required p key.Name (name_fault _) ms) _ none).0)
+    most_handlers section.Handler [] (data_at section.Handler document) none (subst AreDistinct (sym (append-nil (names_of earlier))) distinct)
 
--- ---- the handlers, one after another
-
-handler_is_new : (names : List (List ℕ)) (i : ℕ) (d : Data) (table : Option Members)
-    → as_table d ≡ table → handler_table_fault names i table ≡ None → IsNew names (handler_named d).name
-handler_is_new names i d None is none = cc
-handler_is_new names i d (Some ms) is none =
-    let p = at_field section.Handler i key.Name in
-    let name = get_member (codes "name") ms in
-    rw is (name_is_new p names name (none_fails (name_fault p names name) _ none).0)
-
-handlers_differ : (names : List (List ℕ)) (i : ℕ) (ds : Items)
-    → handlers_fault names i ds ≡ None → AreDistinct names → AreDistinct (names ++ isr_names (handlers_named ds))
-handlers_differ names i no_items none distinct = rw (append-nil names) distinct
-handlers_differ names i (item d ds) none distinct =
-    let name = (handler_named d).name in
-    let here = none_fails (handler_fault names i d) (handlers_fault (names ++ name ∷ []) (i + 1) ds ∷ []) none in
-    let new = handler_is_new names i d (as_table d) refl here.0 in
-    subst AreDistinct (append_assoc names (name ∷ []) (isr_names (handlers_named ds)))
-    (handlers_differ (names ++ name ∷ []) (i + 1) ds (none_fails _ [] here.1).0 (longer names name distinct new))
-
-handler_array_differs : (names : List (List ℕ)) (array : Option Items) → handler_array_fault names array ≡ None
-    → AreDistinct names → AreDistinct (names ++ isr_names (handlers_named (unwrap_or array no_items)))
-handler_array_differs names None none distinct = cc
-handler_array_differs names (Some ds) none distinct =
-    let few = (none_fails (fails_if (nat_lt most_handlers (items_len ds)) (TooMany (at_section section.Handler))) _ none).1 in
-    handlers_differ names 0 ds (none_fails _ [] few).0 distinct
-
-handler_section_differs : (names : List (List ℕ)) (value : Option Data) → handler_section_fault names value ≡ None
-    → AreDistinct names → AreDistinct (names ++ isr_names (handler_section_named value))
-handler_section_differs names None none distinct = rw (append-nil names) distinct
-handler_section_differs names (Some d) none distinct = handler_array_differs names (as_array d) none distinct
-
--- ---- the tasks, one after another
-
-task_is_new : (names : List (List ℕ)) (i : ℕ) (d : Data) (table : Option Members)
-    → as_table d ≡ table → task_table_fault names i table ≡ None → IsNew names (task_named d).name
-task_is_new names i d None is none = cc
-task_is_new names i d (Some ms) is none =
-    let p = at_field section.Task i key.Name in
-    let name = get_member (codes "name") ms in
-    rw is (name_is_new p names name (none_fails (name_fault p names name) _ none).0)
-
-tasks_differ : (names : List (List ℕ)) (i : ℕ) (ds : Items)
-    → tasks_fault names i ds ≡ None → AreDistinct names → AreDistinct (names ++ raw_names (tasks_named ds))
-tasks_differ names i no_items none distinct = rw (append-nil names) distinct
-tasks_differ names i (item d ds) none distinct =
-    let name = (task_named d).name in
-    let here = none_fails (task_fault names i d) (tasks_fault (names ++ name ∷ []) (i + 1) ds ∷ []) none in
-    let new = task_is_new names i d (as_table d) refl here.0 in
-    subst AreDistinct (append_assoc names (name ∷ []) (raw_names (tasks_named ds)))
-    (tasks_differ (names ++ name ∷ []) (i + 1) ds (none_fails _ [] here.1).0 (longer names name distinct new))
-
-entries_differ : (names : List (List ℕ)) (ds : Items) → entries_fault names ds ≡ None → AreDistinct names
-    → AreDistinct (names ++ raw_names (tasks_named ds))
-entries_differ names ds none distinct =
-    let some = (none_fails (fails_if (items_len ds == 0) (Missing (at_section section.Task))) _ none).1 in
-    let few = (none_fails (fails_if (nat_lt most_tasks (items_len ds)) (TooMany (at_section section.Task))) _ some).1 in
-    tasks_differ names 0 ds (none_fails _ [] few).0 distinct
-
-array_differs : (names : List (List ℕ)) (array : Option Items) → section_array_fault names array ≡ None
-    → AreDistinct names → AreDistinct (names ++ raw_names (tasks_named (unwrap_or array no_items)))
-array_differs names None none distinct = cc
-array_differs names (Some ds) none distinct = entries_differ names ds none distinct
-
-section_differs : (names : List (List ℕ)) (value : Option Data) → section_fault names value ≡ None
-    → AreDistinct names → AreDistinct (names ++ raw_names (section_named value))
-section_differs names None none distinct = cc
-section_differs names (Some d) none distinct = array_differs names (as_array d) none distinct
+tasks_differ : (earlier : Entries) (document : Members) → tasks_fault earlier document ≡ None → AreDistinct (names_of earlier)
+    → AreDistinct (names_of earlier ++ map (λ (t : Raw). t.name) (tasks_named document))
+unfolding tasks_fault tasks_named
+tasks_differ earlier document none distinct =
+    section_differs (λ (t : Raw). t.name) task_named (task_keys earlier) (names_of earlier)
+    (λ before p ms none. name_is_new p _ ms (none_fails (required p key.Name (name_fault _) ms) _ none).0)
+    most_tasks section.Task [] (data_at section.Task document) none (subst AreDistinct (sym (append-nil (names_of earlier))) distinct)
 
 -- ---- the document
 
 with_ops_names : (entries : Entries) (tasks : List Raw)
-    → map (λ (d : Definition). d.name) (map (with_ops entries) tasks) ≡ raw_names tasks
+    → map (λ (d : Definition). d.name) (map (with_ops entries) tasks) ≡ map (λ (t : Raw). t.name) tasks
 with_ops_names entries [] = refl
 with_ops_names entries (t ∷ ts) = ap (λ names. t.name ∷ names) (with_ops_names entries ts)
 
 with_isr_ops_names : (entries : Entries) (handlers : List RawIsr)
-    → map (λ (h : Handler). h.name) (map (with_isr_ops entries) handlers) ≡ isr_names handlers
+    → map (λ (h : Handler). h.name) (map (with_isr_ops entries) handlers) ≡ map (λ (h : RawIsr). h.name) handlers
 with_isr_ops_names entries [] = refl
 with_isr_ops_names entries (h ∷ hs) = ap (λ names. h.name ∷ names) (with_isr_ops_names entries hs)
 
+entries_differ : (document : Members) → entries_fault document ≡ None
+    → AreDistinct ((names_of (with_no_handlers document) ++ map (λ (h : RawIsr). h.name) (handlers_named document))
+    ++ map (λ (t : Raw). t.name) (tasks_named document))
+unfolding entries_fault
+entries_differ document none =
+    let objects = none_fails (objects_fault document) _ none in
+    let groups = none_fails (groups_fault (with_no_groups document) document) _ objects.1 in
+    let handlers = none_fails (handlers_fault (with_no_handlers document) document) _ groups.1 in
+    let tasks = none_fails (tasks_fault (with_no_tasks document) document) _ handlers.1 in
+    let first = subst AreDistinct (sym (append-nil _)) (all_objects_differ document objects.0) in
+    let second = groups_differ (with_no_groups document) document groups.0 first in
+    let grouped : names_of (with_no_groups document) ++ map (λ (g : Group). g.name) (groups_named document) ≡ names_of (with_no_handlers document) =
+    simp append-nil in
+    let third = handlers_differ (with_no_handlers document) document handlers.0 (subst AreDistinct grouped second) in
+    let handled : names_of (with_no_handlers document) ++ map (λ (h : RawIsr). h.name) (handlers_named document) ≡ names_of (with_no_tasks document) =
+    simp (append_assoc, append-nil) in
+    subst (λ names. AreDistinct (names ++ map (λ (t : Raw). t.name) (tasks_named document))) (sym handled)
+    (tasks_differ (with_no_tasks document) document tasks.0 (subst AreDistinct handled third))
+
 pub names_differ : (document : Members) → load_fault document ≡ None → AreDistinct (document_names document)
+unfolding entries_of
 names_differ document none =
-    let start = optional_fault (at_section section.Start) 0 4294967295 (get_member (codes "start") document) in
-    let limits = limits_fault (get_member (codes "limits") document) in
-    let groups = get_member (codes "group") document in
-    let isrs = get_member (codes "handler") document in
-    let tasks = get_member (codes "task") document in
-    let names = names_of (objects_of document) in
-    let grouped_names = names_before_handlers document in
-    let limited = (none_fails limits _ (none_fails start _ none).1).1 in
-    let named = none_fails (objects_fault object_sections [] document) _ limited in
-    let grouped = none_fails (group_section_fault names groups) _ named.1 in
-    let handled = none_fails (handler_section_fault grouped_names isrs) _ grouped.1 in
-    let tasked = none_fails (section_fault (names_before_tasks document) tasks) _ handled.1 in
-    let objects_distinct = sections_differ object_sections [] document named.0 none_distinct in
-    let groups_distinct = group_section_differs names groups grouped.0 objects_distinct in
-    let handlers_distinct = handler_section_differs grouped_names isrs handled.0 groups_distinct in
-    let distinct = section_differs (names_before_tasks document) tasks tasked.0 handlers_distinct in
-    subst (λ isr_names. AreDistinct ((grouped_names ++ isr_names) ++ task_names (app_named document)))
-    (sym (with_isr_ops_names (entries_of document) (handlers_of document)))
-    (subst (λ others. AreDistinct (names_before_tasks document ++ others)) (sym (with_ops_names (entries_of document) (tasks_of document))) distinct)
+    let entries = (passed document none).entries in
+    subst (λ isr_names. AreDistinct ((names_of (with_no_handlers document) ++ isr_names) ++ task_names (app_named document)))
+    (sym (with_isr_ops_names (entries_of document) (handlers_named document)))
+    (subst (λ others. AreDistinct ((names_of (with_no_handlers document) ++ map (λ (h : RawIsr). h.name) (handlers_named document)) ++ others))
+    (sym (with_ops_names (entries_of document) (tasks_named document))) (entries_differ document entries))

@@ -9,8 +9,7 @@ use Rattle.model.specs.declared.plan.PointEntry.TheVariants.{One, Every}
 use Rattle.model.specs.Scripts.{last_point}
 use Rattle.model.proofs.Sorting.{by_test}
 use Rattle.script.specs.Grammar.{Word, number_of}
-use Rattle.script.specs.Names.{is_name}
-use Rattle.script.specs.Finding.{index_from}
+use Rattle.script.specs.Names.{is_name, index_of}
 use Rattle.script.specs.Points.{SpellsEntry, RawEntry, if_step, step_of, raw_at, raw_of, entry_at, entry_from, entry_of}
 use Rattle.script.proofs.Reading.{chosen}
 
@@ -91,7 +90,7 @@ found None step entry e = cc
 found (Some handler) step entry e = (handler, refl, cc)
 
 spelled : (names : List Word) (w name : Word) (step : Option ℕ) (handler : ℕ) → Says w step → is_name name ≡ true
-    → index_from 0 name names ≡ Some handler → SpellsEntry names (entry_at step handler) (w ∷ name ∷ [])
+    → index_of name names ≡ Some handler → SpellsEntry names (entry_at step handler) (w ∷ name ∷ [])
 spelled names w name None handler says t index = (says, t, index)
 spelled names w name (Some step) handler says t index = (says.0, says.1, t, index)
 
@@ -100,8 +99,8 @@ read_sound : (names : List Word) (w name : Word) (o : Option RawEntry) (entry : 
 read_sound names w name None entry raw e = cc
 read_sound names w name (Some raw) entry read e =
     let r = raw_sound w name raw read in
-    let f = found (index_from 0 raw.handler names) raw.step entry e in
-    let index = subst (λ n. index_from 0 n names ≡ Some f.0) r.2 f.1 in
+    let f = found (index_of raw.handler names) raw.step entry e in
+    let index = subst (λ n. index_of n names ≡ Some f.0) r.2 f.1 in
     subst (λ x. SpellsEntry names x (w ∷ name ∷ [])) f.2 (spelled names w name raw.step f.0 r.0 r.1 index)
 
 pub sound : (names ws : List Word) (entry : PointEntry) → entry_of names ws ≡ Some entry → SpellsEntry names entry ws
@@ -111,7 +110,7 @@ sound names (w ∷ name ∷ []) entry e = read_sound names w name (raw_of (w ∷
 sound names (w ∷ name ∷ v ∷ vs) entry e = cc
 
 read_complete : (names : List Word) (w name : Word) (step : Option ℕ) (handler : ℕ) → Says w step → is_name name ≡ true
-    → index_from 0 name names ≡ Some handler → entry_of names (w ∷ name ∷ []) ≡ Some (entry_at step handler)
+    → index_of name names ≡ Some handler → entry_of names (w ∷ name ∷ []) ≡ Some (entry_at step handler)
 read_complete names w name step handler says t index =
     ap (option_and_then (entry_from names)) (raw_complete w name step says t) ∙ ap (option_map (entry_at step)) index
 

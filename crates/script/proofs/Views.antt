@@ -1,15 +1,13 @@
 -- The values of `toml` beside what the checks speak of.
-use Rattle.std.proofs.Common.{◌≡◌, suc, List, [], ◌∷◌, length, map, refl, ap}
-use Rattle.toml.specs.View.{items_view}
+use Rattle.std.proofs.Common.{◌≡◌, List, [], ◌∷◌, map, refl, ap}
+use Rattle.toml.specs.Data.{Data}
+use Rattle.toml.specs.View.{view, items_of, items_view}
 use Rattle.toml.specs.declared.value.Value.{Value}
-use Rattle.script.specs.declared.named_object.NamedObject.{NamedObject}
-use Rattle.script.specs.Values.{items_len}
-use Rattle.script.specs.Objects.{named_view, names_of}
+use Rattle.script.specs.Arrays.{list_of}
 
-pub items_len_view : (vs : List Value) → items_len (items_view vs) ≡ length vs
-items_len_view [] = refl
-items_len_view (v ∷ vs) = ap suc (items_len_view vs)
+pub list_of_items : (ds : List Data) → list_of (items_of ds) ≡ ds
+list_of_items [] = refl
+list_of_items (d ∷ ds) = ap (λ es. d ∷ es) (list_of_items ds)
 
-pub names_len_view : (objects : List NamedObject) → length (names_of (map named_view objects)) ≡ length objects
-names_len_view [] = refl
-names_len_view (o ∷ os) = ap suc (names_len_view os)
+pub list_of_view : (vs : List Value) → list_of (items_view vs) ≡ map view vs
+list_of_view vs = list_of_items (map view vs)

@@ -1,8 +1,12 @@
--- The checks of a file: where one looks, and which of them fails first.
-use Rattle.std.specs.Prelude.{◌≡◌, ℕ, Bool, List, [], ◌∷◌, Option, Some, None, Result, Ok, Err, codes, ◌++◌, option_map, option_to_list, if◌then◌else◌}
+-- Where one looks in a file, the checks of what stands there, and which of them fails first.
+use Rattle.std.specs.Prelude.{◌≡◌, ℕ, Bool, List, [], ◌∷◌, Option, Some, None, Result, Ok, Err, codes, ◌++◌, option_map, option_and_then, option_to_list, if◌then◌else◌}
 use Rattle.std.specs.Fmt.{decimal}
-use Rattle.script.specs.declared.fault.LoadFault.{LoadFault}
-use Rattle.script.specs.declared.fault.LoadFault.TheVariants.{Missing, WrongKind, OutOfRange, BadOp, UnknownName, DoubleName, BadNesting, OverwriteLength, TooMany, Memory}
+use Rattle.toml.specs.Data.{Data, Members, get_member}
+use Rattle.script.specs.declared.fault.FaultKind.{FaultKind}
+use Rattle.script.specs.declared.fault.FaultKind.TheVariants.{Missing, WrongKind, OutOfRange, BadOp, UnknownName, DoubleName, BadNesting, OverwriteLength, TooMany}
+use Rattle.script.specs.declared.fault.Fault.{Fault}
+use Rattle.script.specs.declared.fault.LoadError.{LoadError}
+use Rattle.script.specs.declared.fault.LoadError.TheVariants as error
 use Rattle.script.specs.declared.place.Place.{Place}
 use Rattle.script.specs.declared.place.PlaceWord.{PlaceWord}
 use Rattle.script.specs.declared.place.PlaceWord.TheVariants.{Name, Index}
@@ -17,17 +21,13 @@ use Rattle.script.specs.declared.place.Key.TheVariants as key
 abbrev pub at_section : Section → Place
 at_section s = record { section = s; entry = None; key = None; index = None }
 
--- a key of a section that is no array
-abbrev pub at_key : Section → Key → Place
-at_key s k = record { section = s; entry = None; key = Some k; index = None }
-
 -- the entry i of a section
 abbrev pub at_entry : Section → ℕ → Place
 at_entry s i = record { section = s; entry = Some i; key = None; index = None }
 
--- a key of the entry i
-abbrev pub at_field : Section → ℕ → Key → Place
-at_field s i k = record { section = s; entry = Some i; key = Some k; index = None }
+-- a key of what stands at a place
+abbrev pub at_key : Place → Key → Place
+at_key p k = record p { key = Some k }
 
 -- the element n of the array at a place
 abbrev pub at_element : Place → ℕ → Place
@@ -68,14 +68,11 @@ key_word key.Points = codes "points"
 abbrev pub index_words : Option ℕ → List (List ℕ)
 index_words index = option_to_list (option_map decimal index)
 
--- the word of a key that applies
-abbrev pub key_words : Option Key → List (List ℕ)
-key_words k = option_to_list (option_map key_word k)
-
 -- the section, the index of the entry, the key, and the index inside the key's array, as far as they apply
 abbrev pub place_words : Place → List (List ℕ)
 place_words p =
-    section_word p.section ∷ (index_words p.entry ++ (key_words p.key ++ index_words p.index))
+    section_word p.section
+    ∷ (index_words p.entry ++ (option_to_list (option_map key_word p.key) ++ index_words p.index))
 
 -- the text of one of these words
 abbrev pub word_text : PlaceWord → List ℕ
@@ -84,81 +81,72 @@ word_text (Index index) = decimal index
 
 -- ---- the names and numbers of faults
 
--- the number of a fault, as its line has it (profile)
-abbrev pub fault_code : LoadFault → ℕ
-fault_code (Missing p) = 1
-fault_code (WrongKind p) = 2
-fault_code (OutOfRange p) = 3
-fault_code (BadOp p) = 4
-fault_code (UnknownName p) = 5
-fault_code (DoubleName p) = 6
-fault_code (BadNesting p) = 7
-fault_code (OverwriteLength p) = 8
-fault_code (TooMany p) = 9
-fault_code Memory = 10
+-- the number of a fault of this kind, as its line has it (profile)
+abbrev pub fault_code : FaultKind → ℕ
+fault_code Missing = 1
+fault_code WrongKind = 2
+fault_code OutOfRange = 3
+fault_code BadOp = 4
+fault_code UnknownName = 5
+fault_code DoubleName = 6
+fault_code BadNesting = 7
+fault_code OverwriteLength = 8
+fault_code TooMany = 9
 
--- the name of a fault, as its line has it (profile)
-abbrev pub fault_name : LoadFault → List ℕ
-fault_name (Missing p) = codes "Missing"
-fault_name (WrongKind p) = codes "WrongKind"
-fault_name (OutOfRange p) = codes "OutOfRange"
-fault_name (BadOp p) = codes "BadOp"
-fault_name (UnknownName p) = codes "UnknownName"
-fault_name (DoubleName p) = codes "DoubleName"
-fault_name (BadNesting p) = codes "BadNesting"
-fault_name (OverwriteLength p) = codes "OverwriteLength"
-fault_name (TooMany p) = codes "TooMany"
-fault_name Memory = codes "Memory"
+-- the name of a fault of this kind, as its line has it (profile)
+abbrev pub fault_name : FaultKind → List ℕ
+fault_name Missing = codes "Missing"
+fault_name WrongKind = codes "WrongKind"
+fault_name OutOfRange = codes "OutOfRange"
+fault_name BadOp = codes "BadOp"
+fault_name UnknownName = codes "UnknownName"
+fault_name DoubleName = codes "DoubleName"
+fault_name BadNesting = codes "BadNesting"
+fault_name OverwriteLength = codes "OverwriteLength"
+fault_name TooMany = codes "TooMany"
 
--- where the check failed; want of memory has no place
-abbrev pub fault_place : LoadFault → Option Place
-fault_place (Missing p) = Some p
-fault_place (WrongKind p) = Some p
-fault_place (OutOfRange p) = Some p
-fault_place (BadOp p) = Some p
-fault_place (UnknownName p) = Some p
-fault_place (DoubleName p) = Some p
-fault_place (BadNesting p) = Some p
-fault_place (OverwriteLength p) = Some p
-fault_place (TooMany p) = Some p
-fault_place Memory = None
+-- a fault of this kind at a place
+abbrev pub fault_at : FaultKind → Place → Fault
+fault_at k p = record { kind = k; place = p }
 
 -- ---- checks
 
 -- A check is the fault that it finds, or nothing. The fault of the first of some checks that finds one:
-abbrev pub first_fault : List (Option LoadFault) → Option LoadFault
+abbrev pub first_fault : List (Option Fault) → Option Fault
 first_fault [] = None
 first_fault (None ∷ checks) = first_fault checks
 first_fault ((Some fault) ∷ checks) = Some fault
 
 -- the check that finds this fault where the test is true
-abbrev pub fails_if : Bool → LoadFault → Option LoadFault
+abbrev pub fails_if : Bool → Fault → Option Fault
 fails_if b fault = if b then Some fault else None
 
--- The fault is the one that the check finds; it is never want of memory.
-abbrev pub Refuses : LoadFault → Option LoadFault → Type 0
-Refuses Memory check = ⊥
-Refuses fault check = check ≡ Some fault
+-- the check that finds this fault where there is nothing, and else checks what there is
+abbrev pub need : {X : Type 0} → Fault → Option X → (X → Option Fault) → Option Fault
+need fault None check = Some fault
+need fault (Some x) check = check x
+
+-- what stands at a key, which must be there, is checked so at its place
+abbrev pub required : Place → Key → (Place → Data → Option Fault) → Members → Option Fault
+required p k check ms = need (fault_at Missing (at_key p k)) (get_member (key_word k) ms) (check (at_key p k))
+
+-- the same at a key that may be left out
+abbrev pub optional : Place → Key → (Place → Data → Option Fault) → Members → Option Fault
+optional p k check ms = option_and_then (check (at_key p k)) (get_member (key_word k) ms)
 
 -- What was read is this value where the check finds nothing, and else the fault that it finds.
-abbrev pub Judges : {X : Type 0} → Result X LoadFault → Option LoadFault → X → Type 0
+abbrev pub Judges : {X : Type 0} → Result X Fault → Option Fault → X → Type 0
 Judges (Ok x) check value = (check ≡ None) × (x ≡ value)
-Judges (Err fault) check value = Refuses fault check
-
--- the same of what a view shows of it
-abbrev pub JudgesBy : {X Y : Type 0} → (X → Y) → Result X LoadFault → Option LoadFault → Y → Type 0
-JudgesBy view (Ok x) check value = (check ≡ None) × (view x ≡ value)
-JudgesBy view (Err fault) check value = Refuses fault check
+Judges (Err fault) check value = check ≡ Some fault
 
 -- What a call that takes memory made is this value where the check finds nothing, unless memory is refused, and else the
 -- fault that the check finds, whatever memory is left.
-abbrev pub Loads : {X : Type 0} → Result X LoadFault → Option LoadFault → X → Type 0
+abbrev pub Loads : {X : Type 0} → Result X LoadError → Option Fault → X → Type 0
 Loads (Ok x) check value = (check ≡ None) × (x ≡ value)
-Loads (Err Memory) check value = check ≡ None
-Loads (Err fault) check value = check ≡ Some fault
+Loads (Err error.Memory) check value = check ≡ None
+Loads (Err (error.Fault fault)) check value = check ≡ Some fault
 
--- the same of what a view shows of it
-abbrev pub LoadsBy : {X Y : Type 0} → (X → Y) → Result X LoadFault → Option LoadFault → Y → Type 0
-LoadsBy view (Ok x) check value = (check ≡ None) × (view x ≡ value)
-LoadsBy view (Err Memory) check value = check ≡ None
-LoadsBy view (Err fault) check value = check ≡ Some fault
+-- What was read, as a view shows it.
+abbrev pub seen : {X Y E : Type 0} → (X → Y) → Result X E → Result Y E
+seen view (Ok x) = Ok (view x)
+seen view (Err e) = Err e

@@ -41,13 +41,9 @@ abbrev pub number_of : Word → Option ℕ
 number_of w =
     if is_number w && nat_le (digits_value 10 w) 4294967295 then Some (digits_value 10 w) else None
 
--- the answer that a word writes: a number, or that there is none
-abbrev pub answer_of : Word → Option (Option ℕ)
-answer_of w = if bytes_eq w (codes "none") then Some None else option_map Some (number_of w)
-
--- how long a word has a call wait: so many ticks, or for ever
-abbrev pub wait_of : Word → Option (Option ℕ)
-wait_of w = if bytes_eq w (codes "forever") then Some None else option_map Some (number_of w)
+-- the number that a word writes, or none where it is this other word
+abbrev pub number_unless : (other : Word) → Word → Option (Option ℕ)
+number_unless other w = if bytes_eq w other then Some None else option_map Some (number_of w)
 
 -- which of two words it is: whether it is the second
 abbrev pub choice_of : (first second : Word) → Word → Option Bool
@@ -65,15 +61,22 @@ Naming = NameSort → Word → Option ℕ
 
 -- ---- the grammar
 
--- How an op's text goes on after its own word (profile): it is over, or a word writes a number, an answer or a wait, is one
--- of two, or names an entry of a sort, and with this it goes on. The op is a task's, or a handler's.
+-- How an op's text goes on after its own word (profile): it is over, or a word writes a number, which may be left out for
+-- another word, is one of two, or names an entry of a sort, and with this it goes on. The op is a task's, or a handler's.
 pub data Form (O : Type 0) : Type 0 where
   Done : (op : O) → Form O
   Number : (next : ℕ → Form O) → Form O
-  Answer : (next : Option ℕ → Form O) → Form O
-  Wait : (next : Option ℕ → Form O) → Form O
+  NumberUnless : (other : Word) → (next : Option ℕ → Form O) → Form O
   Choice : (first second : Word) → (next : Bool → Form O) → Form O
   Name : (sort : NameSort) → (next : ℕ → Form O) → Form O
+
+-- an answer, which may be none
+abbrev pub Answer : {O : Type 0} → (Option ℕ → Form O) → Form O
+Answer next = NumberUnless (codes "none") next
+
+-- how many ticks a call waits, which may be for ever
+abbrev pub Wait : {O : Type 0} → (Option ℕ → Form O) → Form O
+Wait next = NumberUnless (codes "forever") next
 
 -- the name of an object of a sort
 abbrev pub Object : {O : Type 0} → ObjectSort → (ℕ → Form O) → Form O
@@ -87,13 +90,13 @@ Group next = Name OfGroup next
 abbrev pub Task : {O : Type 0} → (ℕ → Form O) → Form O
 Task next = Name OfTask next
 
--- the arguments of each op that suspends or resumes
-abbrev pub suspension_forms : List (Form Op)
+-- the word and the arguments of each op that suspends or resumes
+abbrev pub suspension_forms : List (Word × Form Op)
 suspension_forms =
-    Task (λ task. Done (Suspend task))
-    ∷ Task (λ task. Done (Resume task))
-    ∷ Done SuspendAll
-    ∷ Done ResumeAll
+    (codes "suspend", Task (λ task. Done (Suspend task)))
+    ∷ (codes "resume", Task (λ task. Done (Resume task)))
+    ∷ (codes "suspend_all", Done SuspendAll)
+    ∷ (codes "resume_all", Done ResumeAll)
     ∷ []
 
 -- the arguments of a condition: its bits, whether any of them or all, and whether they are kept or cleared
@@ -103,78 +106,77 @@ Bits next =
     Choice (codes "any") (codes "all") (λ all.
     Choice (codes "keep") (codes "clear") (λ clear. next (record { mask = mask; all = all; clear = clear }))))
 
--- the arguments of each op on an event group
-abbrev pub group_forms : List (Form Op)
+-- those of each op on an event group
+abbrev pub group_forms : List (Word × Form Op)
 group_forms =
-    Group (λ group. Number (λ mask. Done (SetBits group mask)))
-    ∷ Group (λ group. Number (λ mask. Done (ClearBits group mask)))
-    ∷ Group (λ group. Done (GetBits group))
-    ∷ Group (λ group. Bits (λ condition. Wait (λ ticks. Done (WaitBits group condition ticks))))
+    (codes "set", Group (λ group. Number (λ mask. Done (SetBits group mask))))
+    ∷ (codes "clear", Group (λ group. Number (λ mask. Done (ClearBits group mask))))
+    ∷ (codes "bits", Group (λ group. Done (GetBits group)))
+    ∷ (codes "wait", Group (λ group. Bits (λ condition. Wait (λ ticks. Done (WaitBits group condition ticks)))))
     ∷ suspension_forms
 
--- the arguments of each op on a semaphore or a mutex
-abbrev pub semaphore_forms : List (Form Op)
+-- those of each op on a semaphore or a mutex
+abbrev pub semaphore_forms : List (Word × Form Op)
 semaphore_forms =
-    Object Semaphore (λ semaphore. Wait (λ ticks. Done (Await semaphore Take ticks)))
-    ∷ Object Semaphore (λ semaphore. Done (Do semaphore Give))
-    ∷ Object Mutex (λ mutex. Wait (λ ticks. Done (Await mutex Lock ticks)))
-    ∷ Object Mutex (λ mutex. Done (GiveMutex mutex))
+    (codes "take", Object Semaphore (λ semaphore. Wait (λ ticks. Done (Await semaphore Take ticks))))
+    ∷ (codes "give", Object Semaphore (λ semaphore. Done (Do semaphore Give)))
+    ∷ (codes "lock", Object Mutex (λ mutex. Wait (λ ticks. Done (Await mutex Lock ticks))))
+    ∷ (codes "unlock", Object Mutex (λ mutex. Done (GiveMutex mutex)))
     ∷ group_forms
 
--- the arguments of each op on an object
-abbrev pub object_forms : List (Form Op)
+-- those of each op on an object
+abbrev pub object_forms : List (Word × Form Op)
 object_forms =
-    Object Queue (λ queue. Number (λ n. Wait (λ ticks. Done (Await queue (Send n) ticks))))
-    ∷ Object Queue (λ queue. Number (λ n. Wait (λ ticks. Done (Await queue (SendFront n) ticks))))
-    ∷ Object Queue (λ queue. Number (λ n. Done (Do queue (Overwrite n))))
-    ∷ Object Queue (λ queue. Wait (λ ticks. Done (Await queue Receive ticks)))
-    ∷ Object Queue (λ queue. Wait (λ ticks. Done (Await queue Peek ticks)))
-    ∷ Object Queue (λ queue. Done (MessagesWaiting queue))
-    ∷ Object Queue (λ queue. Done (SpacesAvailable queue))
+    (codes "send", Object Queue (λ queue. Number (λ n. Wait (λ ticks. Done (Await queue (Send n) ticks)))))
+    ∷ (codes "send_front", Object Queue (λ queue. Number (λ n. Wait (λ ticks. Done (Await queue (SendFront n) ticks)))))
+    ∷ (codes "overwrite", Object Queue (λ queue. Number (λ n. Done (Do queue (Overwrite n)))))
+    ∷ (codes "receive", Object Queue (λ queue. Wait (λ ticks. Done (Await queue Receive ticks))))
+    ∷ (codes "peek", Object Queue (λ queue. Wait (λ ticks. Done (Await queue Peek ticks))))
+    ∷ (codes "waiting", Object Queue (λ queue. Done (MessagesWaiting queue)))
+    ∷ (codes "spaces", Object Queue (λ queue. Done (SpacesAvailable queue)))
     ∷ semaphore_forms
 
--- the arguments of each op
-abbrev pub forms : List (Form Op)
+-- those of each op
+abbrev pub forms : List (Word × Form Op)
 forms =
-    Number (λ n. Done (Work n))
-    ∷ Number (λ n. Done (Delay n))
-    ∷ Number (λ n. Done (DelayUntil n))
-    ∷ Done Yield
-    ∷ Done Time
-    ∷ Number (λ n. Done (Mark n))
-    ∷ Answer (λ a. Done (Expect a))
-    ∷ Number (λ n. Done (Repeat n))
-    ∷ Done End
+    (codes "work", Number (λ n. Done (Work n)))
+    ∷ (codes "delay", Number (λ n. Done (Delay n)))
+    ∷ (codes "delay_until", Number (λ n. Done (DelayUntil n)))
+    ∷ (codes "yield", Done Yield)
+    ∷ (codes "time", Done Time)
+    ∷ (codes "mark", Number (λ n. Done (Mark n)))
+    ∷ (codes "expect", Answer (λ a. Done (Expect a)))
+    ∷ (codes "repeat", Number (λ n. Done (Repeat n)))
+    ∷ (codes "end", Done End)
     ∷ object_forms
 
--- the arguments of each op of a handler, which never waits
-abbrev pub isr_forms : List (Form IsrOp)
+-- those of each op of a handler, which never waits
+abbrev pub isr_forms : List (Word × Form IsrOp)
 isr_forms =
-    Object Queue (λ queue. Number (λ n. Done (isr.Do queue (Send n))))
-    ∷ Object Queue (λ queue. Number (λ n. Done (isr.Do queue (SendFront n))))
-    ∷ Object Queue (λ queue. Number (λ n. Done (isr.Do queue (Overwrite n))))
-    ∷ Object Queue (λ queue. Done (isr.Do queue Receive))
-    ∷ Object Queue (λ queue. Done (isr.Do queue Peek))
-    ∷ Object Semaphore (λ semaphore. Done (isr.Do semaphore Give))
-    ∷ Task (λ task. Done (isr.Resume task))
-    ∷ Group (λ group. Done (isr.GetBits group))
-    ∷ Number (λ n. Done (isr.Mark n))
+    (codes "send", Object Queue (λ queue. Number (λ n. Done (isr.Do queue (Send n)))))
+    ∷ (codes "send_front", Object Queue (λ queue. Number (λ n. Done (isr.Do queue (SendFront n)))))
+    ∷ (codes "overwrite", Object Queue (λ queue. Number (λ n. Done (isr.Do queue (Overwrite n)))))
+    ∷ (codes "receive", Object Queue (λ queue. Done (isr.Do queue Receive)))
+    ∷ (codes "peek", Object Queue (λ queue. Done (isr.Do queue Peek)))
+    ∷ (codes "give", Object Semaphore (λ semaphore. Done (isr.Do semaphore Give)))
+    ∷ (codes "resume", Task (λ task. Done (isr.Resume task)))
+    ∷ (codes "bits", Group (λ group. Done (isr.GetBits group)))
+    ∷ (codes "mark", Number (λ n. Done (isr.Mark n)))
     ∷ []
 
 -- The words write the arguments of the op, by this form, where names are read so.
 abbrev pub Writes : {O : Type 0} → Naming → Form O → List Word → O → Type 0
 Writes named (Done made) [] op = made ≡ op
 Writes named (Number next) (w ∷ ws) op = (n : ℕ) × (number_of w ≡ Some n) × Writes named (next n) ws op
-Writes named (Answer next) (w ∷ ws) op = (a : Option ℕ) × (answer_of w ≡ Some a) × Writes named (next a) ws op
-Writes named (Wait next) (w ∷ ws) op = (ticks : Option ℕ) × (wait_of w ≡ Some ticks) × Writes named (next ticks) ws op
+Writes named (NumberUnless other next) (w ∷ ws) op = (n : Option ℕ) × (number_unless other w ≡ Some n) × Writes named (next n) ws op
 Writes named (Choice first second next) (w ∷ ws) op = (b : Bool) × (choice_of first second w ≡ Some b) × Writes named (next b) ws op
 Writes named (Name sort next) (w ∷ ws) op = (entry : ℕ) × (named sort w ≡ Some entry) × Writes named (next entry) ws op
 Writes named _ _ op = ⊥
 
 -- the same, by one of these forms
-abbrev pub WritesBy : {O : Type 0} → Naming → List (Form O) → List Word → O → Type 0
+abbrev pub WritesBy : {O : Type 0} → Naming → List (Word × Form O) → List Word → O → Type 0
 WritesBy named [] ws op = ⊥
-WritesBy named (form ∷ others) ws op = Writes named form ws op ⊎ WritesBy named others ws op
+WritesBy named (form ∷ others) ws op = Writes named form.1 ws op ⊎ WritesBy named others ws op
 
 -- Words spell an op, where names are read so: its own word, and then its arguments; its numbers are in their ranges.
 abbrev pub Spells : Naming → Op → List Word → Type 0
@@ -198,25 +200,14 @@ abbrev pub read : {O : Type 0} → Naming → Form O → List Word → Option O
 read named (Done op) [] = Some op
 read named (Done op) (w ∷ ws) = None
 read named (Number next) ws = option_and_then (λ r. read named (next r.0) r.1) (take_by number_of ws)
-read named (Answer next) ws = option_and_then (λ r. read named (next r.0) r.1) (take_by answer_of ws)
-read named (Wait next) ws = option_and_then (λ r. read named (next r.0) r.1) (take_by wait_of ws)
+read named (NumberUnless other next) ws = option_and_then (λ r. read named (next r.0) r.1) (take_by (number_unless other) ws)
 read named (Choice first second next) ws = option_and_then (λ r. read named (next r.0) r.1) (take_by (choice_of first second) ws)
 read named (Name sort next) ws = option_and_then (λ r. read named (next r.0) r.1) (take_by (named sort) ws)
 
--- the word of the op, whatever its arguments, where ops have these words
-abbrev pub form_word : {O : Type 0} → (O → Word) → Form O → Word
-form_word word (Done op) = word op
-form_word word (Number next) = form_word word (next 0)
-form_word word (Answer next) = form_word word (next None)
-form_word word (Wait next) = form_word word (next None)
-form_word word (Choice first second next) = form_word word (next false)
-form_word word (Name sort next) = form_word word (next 0)
-
--- the same by the first of these forms whose word it is
-abbrev pub read_by : {O : Type 0} → (O → Word) → Naming → List (Form O) → Word → List Word → Option O
-read_by word named [] w ws = None
-read_by word named (form ∷ others) w ws =
-    if bytes_eq w (form_word word form) then read named form ws else read_by word named others w ws
+-- the same by the first of these forms that has this word
+abbrev pub read_by : {O : Type 0} → Naming → List (Word × Form O) → Word → List Word → Option O
+read_by named [] w ws = None
+read_by named (form ∷ others) w ws = if bytes_eq w form.0 then read named form.1 ws else read_by named others w ws
 
 -- the op, where its numbers are in their ranges
 abbrev pub if_in_range : Op → Option Op
@@ -225,9 +216,9 @@ if_in_range op = if is_in_range op then Some op else None
 -- the op that words spell, where names are read so
 abbrev pub op_of : Naming → List Word → Option Op
 op_of named [] = None
-op_of named (w ∷ ws) = option_and_then if_in_range (read_by word_of named forms w ws)
+op_of named (w ∷ ws) = option_and_then if_in_range (read_by named forms w ws)
 
 -- the same of a handler's op
 abbrev pub isr_op_of : Naming → List Word → Option IsrOp
 isr_op_of named [] = None
-isr_op_of named (w ∷ ws) = read_by word_of_isr named isr_forms w ws
+isr_op_of named (w ∷ ws) = read_by named isr_forms w ws

@@ -1,90 +1,119 @@
--- Pass two: the ops of the scripts.
-use Rattle.std.specs.Prelude.{ℕ, Bool, true, false, not, nat_lt, ◌+◌, List, [], ◌∷◌, ◌++◌, Option, Some, None, is_none, slice_get, option_map, option_and_then, unwrap_or, option_to_list}
-use Rattle.toml.specs.Data.{Data, Items, no_items, item, as_str}
+-- Pass two: the ops of handlers and of tasks.
+use Rattle.std.specs.Prelude.{ℕ, Bool, true, false, not, nat_lt, List, [], ◌∷◌, length, map, fold, filter_map, Option, is_none, slice_get, option_and_then}
+use Rattle.std.specs.Option.{option_map_or}
+use Rattle.toml.specs.Data.{Data, as_str}
+use Rattle.model.specs.declared.op.Access.{Access}
 use Rattle.model.specs.declared.op.Op.{Op}
 use Rattle.model.specs.declared.op.Op.TheVariants.{Do}
-use Rattle.model.specs.Application.{Definition}
+use Rattle.model.specs.declared.op.IsrOp.{IsrOp}
+use Rattle.model.specs.declared.op.IsrOp.TheVariants as isr
+use Rattle.model.specs.Application.{Definition, Handler}
 use Rattle.model.specs.Scripts.{fits, may_stand, nesting_past}
-use Rattle.script.specs.declared.fault.LoadFault.{LoadFault}
-use Rattle.script.specs.declared.fault.LoadFault.TheVariants.{BadOp, UnknownName, OverwriteLength, BadNesting}
+use Rattle.script.specs.declared.fault.Fault.{Fault}
+use Rattle.script.specs.declared.fault.FaultKind.TheVariants.{BadOp, UnknownName, OverwriteLength, BadNesting}
 use Rattle.script.specs.declared.place.Place.{Place}
 use Rattle.script.specs.declared.place.Section.TheVariants as section
 use Rattle.script.specs.declared.place.Key.TheVariants as key
-use Rattle.script.specs.Faults.{first_fault, fails_if, at_field, at_element}
-use Rattle.script.specs.Grammar.{Naming, words_of, op_of}
-use Rattle.script.specs.Objects.{Named}
-use Rattle.script.specs.Entries.{Entries}
+use Rattle.script.specs.Faults.{at_entry, at_key, at_element, fault_at, first_fault, fails_if, need}
+use Rattle.script.specs.Arrays.{Elements, each_fault, alike}
+use Rattle.script.specs.Grammar.{Word, Naming, words_of, op_of, isr_op_of}
+use Rattle.script.specs.Entries.{Object, RawIsr, Raw, Entries}
 use Rattle.script.specs.Finding.{any_name, among}
-use Rattle.script.specs.Tasks.{Raw}
 
--- the op of a text, where names are read so
-abbrev pub op_spelled : Naming → List ℕ → Option Op
-op_spelled named text = op_of named (words_of text)
+-- The object of this number allows the call: `overwrite` is for queues of length 1.
+abbrev pub allows : List Object → ℕ → Access → Bool
+allows objects object access = option_map_or (λ (o : Object). fits o.kind access) (slice_get objects object) false
 
--- the op of a value that is a text
-abbrev pub op_named : Naming → Data → Option Op
-op_named named d = option_and_then (op_spelled named) (as_str d)
+-- What tells the ops of tasks from those of handlers: which words spell which, whether an object allows it, and where it
+-- may stand and how many loops are open after it, where so many are open before it.
+pub record Ops (O : Type 0) : Type 0 where
+  pub of_words : Naming → List Word → Option O
+  pub is_allowed : List Object → O → Bool
+  pub may_stand : ℕ → O → Bool
+  pub nesting_past : ℕ → O → ℕ
+
+-- A call that waits is allowed by each object that its text may name.
+abbrev pub is_allowed : List Object → Op → Bool
+is_allowed objects (Do object access) = allows objects object access
+is_allowed objects _ = true
+
+abbrev pub is_isr_allowed : List Object → IsrOp → Bool
+is_isr_allowed objects (isr.Do object access) = allows objects object access
+is_isr_allowed objects _ = true
+
+abbrev pub task_ops : Ops Op
+task_ops = record { of_words = op_of; is_allowed = is_allowed; may_stand = may_stand; nesting_past = nesting_past }
+
+-- Handlers have no loops.
+abbrev pub handler_ops : Ops IsrOp
+handler_ops = record {
+  of_words = isr_op_of;
+  is_allowed = is_isr_allowed;
+  may_stand = λ nesting op. true;
+  nesting_past = λ nesting op. nesting;
+}
 
 -- ---- one op
 
--- Where the op is a call that doesn't wait, its object allows it: `overwrite` is for queues of length 1.
-abbrev pub is_allowed : List Named → Op → Bool
-is_allowed objects (Do object access) =
-    unwrap_or (option_map (λ (o : Named). fits o.kind access) (slice_get objects object)) false
-is_allowed objects _ = true
+-- the op of a value that is a text, where names are read so
+abbrev pub op_in : {O : Type 0} → Ops O → Naming → Data → Option O
+op_in ops named d = option_and_then (λ text. ops.of_words named (words_of text)) (as_str d)
 
--- The names of an op are those of entries, and its object allows it.
-abbrev pub entry_fault : List Named → Place → Option Op → Option LoadFault
-entry_fault objects p None = Some (UnknownName p)
-entry_fault objects p (Some op) = fails_if (not (is_allowed objects op)) (OverwriteLength p)
-
--- It is an op, whatever its names are, and they are those of entries, which allow it.
-abbrev pub spelling_fault : Entries → Place → Data → Option LoadFault
-spelling_fault entries p d = first_fault (
-    fails_if (is_none (op_named any_name d)) (BadOp p)
-    ∷ entry_fault entries.objects p (op_named (among entries) d)
+-- Its object allows it, and it may stand where so many loops are open.
+abbrev pub standing_fault : {O : Type 0} → Ops O → Entries → ℕ → Place → O → Option Fault
+standing_fault ops entries nesting p op = first_fault (
+    fails_if (not (ops.is_allowed entries.objects op)) (fault_at OverwriteLength p)
+    ∷ fails_if (not (ops.may_stand nesting op)) (fault_at BadNesting p)
     ∷ [])
 
--- It may stand where so many loops are open.
-abbrev pub nesting_fault : Place → ℕ → Option Op → Option LoadFault
-nesting_fault p nesting None = None
-nesting_fault p nesting (Some op) = fails_if (not (may_stand nesting op)) (BadNesting p)
-
--- all checks of an op
-abbrev pub op_fault : Entries → Place → ℕ → Data → Option LoadFault
-op_fault entries p nesting d = first_fault (
-    spelling_fault entries p d
-    ∷ nesting_fault p nesting (op_named (among entries) d)
+-- It is an op, whatever its names are, they are those of entries, and it may stand there.
+abbrev pub op_fault : {O : Type 0} → Ops O → Entries → ℕ → Place → Data → Option Fault
+op_fault ops entries nesting p d = first_fault (
+    fails_if (is_none (op_in ops any_name d)) (fault_at BadOp p)
+    ∷ need (fault_at UnknownName p) (op_in ops (among entries) d) (standing_fault ops entries nesting p)
     ∷ [])
 
 -- how many loops are open after it
-abbrev pub nesting_with : ℕ → Option Op → ℕ
-nesting_with nesting None = nesting
-nesting_with nesting (Some op) = nesting_past nesting op
+abbrev pub nesting_with : {O : Type 0} → Ops O → Entries → ℕ → Data → ℕ
+nesting_with ops entries nesting d = option_map_or (ops.nesting_past nesting) (op_in ops (among entries) d) nesting
 
--- ---- scripts
+-- ---- all ops
 
--- Each op from this index on, where so many loops are open; at the end none is.
-abbrev pub ops_fault : Entries → Place → ℕ → ℕ → Items → Option LoadFault
-ops_fault entries p n nesting no_items = fails_if (nat_lt 0 nesting) (BadNesting (at_element p n))
-ops_fault entries p n nesting (item d ds) = first_fault (
-    op_fault entries (at_element p n) nesting d
-    ∷ ops_fault entries p (n + 1) (nesting_with nesting (op_named (among entries) d)) ds
+-- the ops of a script, each where so many loops are open
+abbrev pub op_elements : {O : Type 0} → Ops O → Entries → Place → Elements ℕ Data
+op_elements ops entries p =
+    record { at = at_element p; fault = op_fault ops entries; next = nesting_with ops entries }
+
+-- Each op of a script; at its end no loop is open.
+abbrev pub script_fault : {O : Type 0} → Ops O → Entries → Place → List Data → Option Fault
+script_fault ops entries p ds = first_fault (
+    each_fault (op_elements ops entries p) 0 0 ds
+    ∷ fails_if (nat_lt 0 (fold (nesting_with ops entries) 0 ds)) (fault_at BadNesting (at_element p (length ds)))
     ∷ [])
 
 -- the ops that they name
-abbrev pub ops_named : Entries → Items → List Op
-ops_named entries no_items = []
-ops_named entries (item d ds) = option_to_list (op_named (among entries) d) ++ ops_named entries ds
+abbrev pub script_named : {O : Type 0} → Ops O → Entries → List Data → List O
+script_named ops entries ds = filter_map (op_in ops (among entries)) ds
 
--- the scripts of the tasks from this index on
-abbrev pub scripts_fault : Entries → ℕ → List Raw → Option LoadFault
-scripts_fault entries i [] = None
-scripts_fault entries i (t ∷ ts) = first_fault (
-    ops_fault entries (at_field section.Task i key.Script) 0 0 t.script
-    ∷ scripts_fault entries (i + 1) ts
-    ∷ [])
+abbrev pub handler_scripts : Entries → Elements (Unit {0}) (List Data)
+handler_scripts entries =
+    alike (λ i. at_key (at_entry section.Handler i) key.Ops) (script_fault handler_ops entries)
+
+unfoldable pub handler_ops_fault : Entries → Option Fault
+handler_ops_fault entries =
+    each_fault (handler_scripts entries) tt 0 (map (λ (h : RawIsr). h.ops) entries.handlers)
+
+abbrev pub task_scripts : Entries → Elements (Unit {0}) (List Data)
+task_scripts entries =
+    alike (λ i. at_key (at_entry section.Task i) key.Script) (script_fault task_ops entries)
+
+unfoldable pub scripts_fault : Entries → Option Fault
+scripts_fault entries = each_fault (task_scripts entries) tt 0 (map (λ (t : Raw). t.script) entries.tasks)
+
+-- a handler with its ops
+abbrev pub with_isr_ops : Entries → RawIsr → Handler
+with_isr_ops entries h = record { name = h.name; ops = script_named handler_ops entries h.ops }
 
 -- a task with its ops
 abbrev pub with_ops : Entries → Raw → Definition
-with_ops entries t = record { name = t.name; priority = t.priority; script = ops_named entries t.script }
+with_ops entries t = record { name = t.name; priority = t.priority; script = script_named task_ops entries t.script }

@@ -1,22 +1,22 @@
 -- The points of a document's campaign.
-use Rattle.std.specs.Prelude.{◌≡◌, ℕ, true, ◌<◌, ◌≤◌, nat_lt, nat_le, ◌+◌, List, [], ◌∷◌, ◌++◌, length, codes, Option, Some, None, is_none, option_map, option_and_then, option_to_list, if◌then◌else◌}
-use Rattle.std.specs.List.{AllByRecursion}
+use Rattle.std.specs.Prelude.{◌≡◌, ℕ, true, ◌≤◌, nat_le, List, [], ◌∷◌, codes, filter_map, Option, Some, None, is_none, option_map, option_and_then, if◌then◌else◌}
 use Rattle.std.specs.Str.{bytes_eq}
-use Rattle.toml.specs.Data.{Data, Items, no_items, item, Members, as_str, as_table, as_array, get_member}
+use Rattle.toml.specs.Data.{Data, Members, as_str, as_table}
 use Rattle.model.specs.declared.plan.PointEntry.{PointEntry}
 use Rattle.model.specs.declared.plan.PointEntry.TheVariants.{One, Every}
 use Rattle.model.specs.Scripts.{most_points, last_point}
-use Rattle.script.specs.declared.fault.LoadFault.{LoadFault}
-use Rattle.script.specs.declared.fault.LoadFault.TheVariants.{Missing, WrongKind, BadOp, UnknownName, TooMany}
+use Rattle.script.specs.declared.fault.Fault.{Fault}
+use Rattle.script.specs.declared.fault.FaultKind.TheVariants.{WrongKind, BadOp, UnknownName}
 use Rattle.script.specs.declared.place.Place.{Place}
 use Rattle.script.specs.declared.place.Section.TheVariants as section
 use Rattle.script.specs.declared.place.Key.TheVariants as key
 use Rattle.script.specs.declared.raw_point.RawPoint.{RawPoint}
-use Rattle.script.specs.Faults.{first_fault, fails_if, at_section, at_key, at_element}
+use Rattle.script.specs.Faults.{at_section, at_element, fault_at, fails_if, need, required}
 use Rattle.script.specs.Grammar.{Word, words_of, number_of}
-use Rattle.script.specs.Names.{is_name}
-use Rattle.script.specs.Values.{items_len, items_named, member_of}
-use Rattle.script.specs.Finding.{index_from}
+use Rattle.script.specs.Names.{is_name, index_of}
+use Rattle.script.specs.Arrays.{Elements, alike, array_fault, elements_of}
+use Rattle.script.specs.Values.{member_of}
+use Rattle.script.specs.Sections.{data_at}
 
 -- ---- the grammar
 
@@ -24,9 +24,9 @@ use Rattle.script.specs.Finding.{index_from}
 -- name of a handler; or `all`, and the name of a handler (profile).
 abbrev pub SpellsEntry : List Word → PointEntry → List Word → Type 0
 SpellsEntry names (One point) (w ∷ name ∷ []) =
-    (number_of w ≡ Some point.step) × (point.step ≤ last_point) × (is_name name ≡ true) × (index_from 0 name names ≡ Some point.handler)
+    (number_of w ≡ Some point.step) × (point.step ≤ last_point) × (is_name name ≡ true) × (index_of name names ≡ Some point.handler)
 SpellsEntry names (Every handler) (w ∷ name ∷ []) =
-    (w ≡ codes "all") × (is_name name ≡ true) × (index_from 0 name names ≡ Some handler)
+    (w ≡ codes "all") × (is_name name ≡ true) × (index_of name names ≡ Some handler)
 SpellsEntry names entry ws = ⊥
 
 -- ---- the same as a reading
@@ -65,94 +65,38 @@ entry_at (Some step) handler = One (record { step = step; handler = handler })
 
 -- the entry whose handler this is, where the handlers have these names
 abbrev pub entry_from : List Word → RawEntry → Option PointEntry
-entry_from names raw = option_map (entry_at raw.step) (index_from 0 raw.handler names)
+entry_from names raw = option_map (entry_at raw.step) (index_of raw.handler names)
 
 -- the entry that words spell, where the handlers have these names
 abbrev pub entry_of : List Word → List Word → Option PointEntry
 entry_of names ws = option_and_then (entry_from names) (raw_of ws)
 
--- ---- an entry
+-- ---- the section, where the handlers have these names
 
--- It is an entry, and its handler one of these names.
-abbrev pub raw_fault : Place → List Word → Option RawEntry → Option LoadFault
-raw_fault p names None = Some (BadOp p)
-raw_fault p names (Some raw) = fails_if (is_none (index_from 0 raw.handler names)) (UnknownName p)
-
--- It is a text, which spells an entry.
-abbrev pub entry_text_fault : Place → List Word → Option (List ℕ) → Option LoadFault
-entry_text_fault p names None = Some (WrongKind p)
-entry_text_fault p names (Some text) = raw_fault p names (raw_of (words_of text))
-
--- the same of what stands there
-abbrev pub entry_fault : Place → List Word → Data → Option LoadFault
-entry_fault p names d = entry_text_fault p names (as_str d)
-
--- the entry that a text spells
-abbrev pub entry_spelled : List Word → List ℕ → Option PointEntry
-entry_spelled names text = entry_of names (words_of text)
+-- It is a text, which spells an entry whose handler is one of these.
+abbrev pub entry_fault : List Word → Place → Data → Option Fault
+entry_fault names p d = need (fault_at WrongKind p) (as_str d) (λ text.
+    need (fault_at BadOp p) (raw_of (words_of text)) (λ raw.
+    fails_if (is_none (index_of raw.handler names)) (fault_at UnknownName p)))
 
 -- the entry that it names
 abbrev pub entry_named : List Word → Data → Option PointEntry
-entry_named names d = option_and_then (entry_spelled names) (as_str d)
+entry_named names d = option_and_then (λ text. entry_of names (words_of text)) (as_str d)
 
--- ---- the section
+abbrev pub point_elements : List Word → Place → Elements (Unit {0}) Data
+point_elements names p = alike (at_element p) (entry_fault names)
 
--- where the points stand
-abbrev pub points_place : Place
-points_place = at_key section.Campaign key.Points
+abbrev pub points_fault : List Word → Place → Data → Option Fault
+points_fault names p d = array_fault most_points (point_elements names p) tt p d
 
--- each entry from this index on. The handlers have these names.
-abbrev pub points_fault : List Word → ℕ → Items → Option LoadFault
-points_fault names i no_items = None
-points_fault names i (item d ds) = first_fault (
-    entry_fault (at_element points_place i) names d
-    ∷ points_fault names (i + 1) ds
-    ∷ [])
+-- It is a table with points, and may be left out.
+unfoldable pub campaign_fault : List Word → Members → Option Fault
+campaign_fault names document =
+    let p = at_section section.Campaign in
+    option_and_then (λ d. need (fault_at WrongKind p) (as_table d) (required p key.Points (points_fault names)))
+    (data_at section.Campaign document)
 
--- the entries that they name
-abbrev pub points_named : List Word → Items → List PointEntry
-points_named names no_items = []
-points_named names (item d ds) = option_to_list (entry_named names d) ++ points_named names ds
-
--- no more than there may be
-abbrev pub few_points_fault : List Word → Items → Option LoadFault
-few_points_fault names ds = first_fault (
-    fails_if (nat_lt most_points (items_len ds)) (TooMany points_place)
-    ∷ points_fault names 0 ds
-    ∷ [])
-
--- They are an array.
-abbrev pub points_array_fault : List Word → Option Items → Option LoadFault
-points_array_fault names None = Some (WrongKind points_place)
-points_array_fault names (Some ds) = few_points_fault names ds
-
--- They must be there.
-abbrev pub points_key_fault : List Word → Option Data → Option LoadFault
-points_key_fault names None = Some (Missing points_place)
-points_key_fault names (Some d) = points_array_fault names (as_array d)
-
--- It is a table with points.
-abbrev pub campaign_table_fault : List Word → Option Members → Option LoadFault
-campaign_table_fault names None = Some (WrongKind (at_section section.Campaign))
-campaign_table_fault names (Some ms) = points_key_fault names (get_member (codes "points") ms)
-
--- The campaign may be left out. The handlers have these names.
-abbrev pub campaign_section_fault : List Word → Option Data → Option LoadFault
-campaign_section_fault names None = None
-campaign_section_fault names (Some d) = campaign_table_fault names (as_table d)
-
--- the points of the section
-abbrev pub campaign_section_named : List Word → Option Data → List PointEntry
-campaign_section_named names d = points_named names (items_named (member_of (codes "points") (option_and_then as_table d)))
-
--- ---- what they are
-
--- an entry of an application of so many handlers
-abbrev pub IsEntry : (handlers : ℕ) → PointEntry → Type 0
-IsEntry handlers (One point) = (point.step ≤ last_point) × (point.handler < handlers)
-IsEntry handlers (Every handler) = handler < handlers
-
--- the entries of an application of so many handlers
-pub record ArePoints (handlers : ℕ) (points : List PointEntry) : Type 0 where
-  pub entries : AllByRecursion (IsEntry handlers) points
-  pub few : length points ≤ most_points
+unfoldable pub campaign_named : List Word → Members → List PointEntry
+campaign_named names document =
+    let table = option_and_then as_table (data_at section.Campaign document) in
+    filter_map (entry_named names) (elements_of (member_of key.Points table))

@@ -1,93 +1,84 @@
--- What stands at the keys of a document: arrays, numbers and names, the last two with their checks and the value that
--- they name.
+-- What stands at the keys of a document, with its checks: numbers, names and texts.
 -- Where a check fails the value is a default, which no one sees.
-use Rattle.std.specs.Prelude.{ℕ, suc, ℤ, pos, negsuc, not, ◌||◌, nat_lt, List, [], ◌∷◌, Option, Some, None, option_map, option_and_then, unwrap_or}
+use Rattle.std.specs.Prelude.{ℕ, ℤ, pos, negsuc, not, ◌||◌, nat_lt, List, [], ◌∷◌, Option, Some, None, is_none, option_map, option_and_then, unwrap_or}
 use Rattle.std.specs.List.{list_any}
 use Rattle.std.specs.Str.{bytes_eq}
 use Rattle.std.specs.Borrow.{Bor}
-use Rattle.toml.specs.Data.{Data, Items, no_items, item, Members, as_integer, as_str, as_array, get_member}
+use Rattle.toml.specs.Data.{Data, Members, as_integer, as_str, get_member}
 use Rattle.toml.specs.View.{view}
 use Rattle.toml.specs.declared.value.Value.{Value}
-use Rattle.script.specs.declared.fault.LoadFault.{LoadFault}
-use Rattle.script.specs.declared.fault.LoadFault.TheVariants.{Missing, WrongKind, OutOfRange, DoubleName}
+use Rattle.script.specs.declared.fault.Fault.{Fault}
+use Rattle.script.specs.declared.fault.FaultKind.TheVariants.{WrongKind, OutOfRange, UnknownName, DoubleName}
 use Rattle.script.specs.declared.place.Place.{Place}
-use Rattle.script.specs.Faults.{first_fault, fails_if}
-use Rattle.script.specs.Names.{is_name}
+use Rattle.script.specs.declared.place.Key.{Key}
+use Rattle.script.specs.declared.place.Key.TheVariants as key
+use Rattle.script.specs.Faults.{at_element, key_word, fault_at, first_fault, fails_if, need}
+use Rattle.script.specs.Names.{is_name, index_of}
+use Rattle.script.specs.Arrays.{Elements, alike, array_fault, elements_of}
 
 -- what the code found at a key
 abbrev pub data_of : Option (Bor Value) → Option Data
 data_of value = option_map (λ v. view v.now) value
 
 -- what stands at a key of a table, where it is one
-abbrev pub member_of : List ℕ → Option Members → Option Data
-member_of k members = option_and_then (get_member k) members
-
--- ---- arrays
-
--- what stands in an array
-abbrev pub items_named : Option Data → Items
-items_named d = unwrap_or (option_and_then as_array d) no_items
-
--- how many they are
-abbrev pub items_len : Items → ℕ
-items_len no_items = 0
-items_len (item d ds) = suc (items_len ds)
+abbrev pub member_of : Key → Option Members → Option Data
+member_of k members = option_and_then (get_member (key_word k)) members
 
 -- ---- numbers
 
--- It is an integer, and from the least to the most.
-abbrev pub integer_fault : Place → ℕ → ℕ → Option ℤ → Option LoadFault
-integer_fault p low high None = Some (WrongKind p)
-integer_fault p low high (Some (pos n)) = fails_if (nat_lt n low || nat_lt high n) (OutOfRange p)
-integer_fault p low high (Some (negsuc n)) = Some (OutOfRange p)
+-- an integer from the least to the most
+abbrev pub integer_fault : (least most : ℕ) → Place → ℤ → Option Fault
+integer_fault least most p (pos n) = fails_if (nat_lt n least || nat_lt most n) (fault_at OutOfRange p)
+integer_fault least most p (negsuc n) = Some (fault_at OutOfRange p)
 
--- the integer
+abbrev pub number_fault : (least most : ℕ) → Place → Data → Option Fault
+number_fault least most p d = need (fault_at WrongKind p) (as_integer d) (integer_fault least most p)
+
 abbrev pub integer_named : Option ℤ → ℕ
 integer_named (Some (pos n)) = n
 integer_named _ = 0
 
--- The value is an integer of this range.
-abbrev pub number_fault : Place → ℕ → ℕ → Data → Option LoadFault
-number_fault p low high d = integer_fault p low high (as_integer d)
-
--- the number that it is
-abbrev pub number_named : Data → ℕ
-number_named d = integer_named (as_integer d)
-
--- A number may be left out; else it is of this range.
-abbrev pub optional_fault : Place → ℕ → ℕ → Option Data → Option LoadFault
-optional_fault p low high None = None
-optional_fault p low high (Some d) = number_fault p low high d
-
 -- the number, or the default where it is left out
-abbrev pub optional_named : ℕ → Option Data → ℕ
-optional_named default None = default
-optional_named default (Some d) = number_named d
+abbrev pub number_or : ℕ → Option Data → ℕ
+number_or default None = default
+number_or default (Some d) = integer_named (as_integer d)
 
--- A number must be there, of this range.
-abbrev pub required_fault : Place → ℕ → ℕ → Option Data → Option LoadFault
-required_fault p low high None = Some (Missing p)
-required_fault p low high (Some d) = number_fault p low high d
-
--- the number that is there
-abbrev pub required_named : Option Data → ℕ
-required_named d = optional_named 0 d
+abbrev pub number_named : Key → Option Members → ℕ
+number_named k ms = number_or 0 (member_of k ms)
 
 -- ---- names
 
+-- the text that stands there
+abbrev pub text_named : Option Data → List ℕ
+text_named d = unwrap_or (option_and_then as_str d) []
+
 -- It is a text, a name, and none of these names.
-abbrev pub text_fault : Place → List (List ℕ) → Option (List ℕ) → Option LoadFault
-text_fault p names None = Some (WrongKind p)
-text_fault p names (Some name) = first_fault (
-    fails_if (not (is_name name)) (OutOfRange p)
-    ∷ fails_if (list_any (bytes_eq name) names) (DoubleName p)
-    ∷ [])
+abbrev pub name_fault : List (List ℕ) → Place → Data → Option Fault
+name_fault names p d = need (fault_at WrongKind p) (as_str d) (λ name. first_fault (
+    fails_if (not (is_name name)) (fault_at OutOfRange p)
+    ∷ fails_if (list_any (bytes_eq name) names) (fault_at DoubleName p)
+    ∷ []))
 
--- A name must be there, and none of these.
-abbrev pub name_fault : Place → List (List ℕ) → Option Data → Option LoadFault
-name_fault p names None = Some (Missing p)
-name_fault p names (Some d) = text_fault p names (as_str d)
+abbrev pub name_named : Option Members → List ℕ
+name_named ms = text_named (member_of key.Name ms)
 
--- the name that is there
-abbrev pub name_named : Option Data → List ℕ
-name_named d = unwrap_or (option_and_then as_str d) []
+-- It is a text, and one of these names.
+abbrev pub known_fault : List (List ℕ) → Place → Data → Option Fault
+known_fault names p d = need (fault_at WrongKind p) (as_str d) (λ name.
+    fails_if (is_none (index_of name names)) (fault_at UnknownName p))
+
+-- which of these it is
+abbrev pub known_named : List (List ℕ) → Option Data → ℕ
+known_named names d = unwrap_or (option_and_then (λ name. index_of name names) (option_and_then as_str d)) 0
+
+-- ---- texts
+
+abbrev pub text_elements : Place → Elements (Unit {0}) Data
+text_elements p = alike (at_element p) (λ q d. fails_if (is_none (as_str d)) (fault_at WrongKind q))
+
+-- an array of so many texts at most
+abbrev pub texts_fault : (most : ℕ) → Place → Data → Option Fault
+texts_fault most p d = array_fault most (text_elements p) tt p d
+
+abbrev pub texts_named : Key → Option Members → List Data
+texts_named k ms = elements_of (member_of k ms)

@@ -1,40 +1,117 @@
-//! What the ops of a file may name.
-ghost use Rattle.std.specs.Prelude.{◌≡◌, ◌≤◌, length};
+//! The entries of a document that have names.
+ghost use Rattle.std.specs.Prelude.{◌≡◌, ◌≤◌, [], length};
+ghost use Rattle.std.specs.List.{list_any};
+ghost use Rattle.std.specs.Str.{bytes_eq};
 ghost use Rattle.model.specs.Scripts.{most_groups};
+ghost use Rattle.script.specs.Entries.{entries_view, names_of};
 
-use crate::groups::Groups;
-use crate::named_object::Objects;
-use crate::tasks::RawTasks;
-use std::marker::Model;
+use crate::named::{Named, has_name};
+use crate::named_group::{Groups, NamedGroup};
+use crate::named_object::{NamedObject, Objects};
+use crate::raw_handler::{RawHandler, RawHandlers};
+use crate::raw_task::{RawTask, RawTasks};
+use arrayvec::ArrayVec;
 
-/// The objects, event groups and tasks of a file.
+/// The entries of a document that have names, as far as they have been read. The ops of handlers and tasks are still texts.
 #[derive(Drop)]
 pub(crate) struct NamedEntries<'a> {
-    pub(crate) objects: &'a Objects<'a>,
-    pub(crate) groups: &'a Groups<'a>,
-    pub(crate) tasks: &'a RawTasks<'a>,
+    pub(crate) objects: Objects<'a>,
+    pub(crate) groups: Groups<'a>,
+    pub(crate) handlers: RawHandlers<'a>,
+    pub(crate) tasks: RawTasks<'a>,
 }
 
-// Clauses see them with their names.
-impl<'a> Model for NamedEntries<'a> {
-    ghost use Rattle.std.specs.Prelude.{map};
-    ghost use Rattle.script.specs.Objects.{named_view};
-    ghost use Rattle.script.specs.Tasks.{raw_view, raw_names};
-    ghost use Rattle.script.specs.Entries.{Entries};
+impl Named for NamedObject<'_> {
+    ghost use Rattle.script.specs.Entries.{Object, object_view};
 
-    ghost Value = { Entries };
+    ghost Shown = { Object };
 
-    ghost view = { λ e. record {
-      objects = map named_view e.objects.now.items;
-      groups = map (λ name. name.now) e.groups.now.items;
-      tasks = raw_names (map raw_view e.tasks.now.items);
-    } };
+    ghost shown = { object_view };
+
+    ghost name_of = { λ o. o.name };
+
+    fn name(&self) -> &str {
+        self.name
+    }
+}
+
+impl Named for NamedGroup<'_> {
+    ghost use Rattle.script.specs.Entries.{Group, group_view};
+
+    ghost Shown = { Group };
+
+    ghost shown = { group_view };
+
+    ghost name_of = { λ g. g.name };
+
+    fn name(&self) -> &str {
+        self.name
+    }
+}
+
+impl Named for RawHandler<'_> {
+    ghost use Rattle.script.specs.Entries.{RawIsr, isr_view};
+
+    ghost Shown = { RawIsr };
+
+    ghost shown = { isr_view };
+
+    ghost name_of = { λ h. h.name };
+
+    fn name(&self) -> &str {
+        self.name
+    }
+}
+
+impl Named for RawTask<'_> {
+    ghost use Rattle.script.specs.Entries.{Raw, raw_view};
+
+    ghost Shown = { Raw };
+
+    ghost shown = { raw_view };
+
+    ghost name_of = { λ t. t.name };
+
+    fn name(&self) -> &str {
+        self.name
+    }
 }
 
 impl NamedEntries<'_> {
+    /// No entries.
+    pub(crate) fn none() -> Self
+        ensures objects { result.objects.items ≡ [] }
+        ensures groups { result.groups.items ≡ [] }
+        ensures handlers { result.handlers.items ≡ [] }
+        ensures tasks { result.tasks.items ≡ [] }
+    {
+        NamedEntries {
+            objects: ArrayVec::new(),
+            groups: ArrayVec::new(),
+            handlers: ArrayVec::new(),
+            tasks: ArrayVec::new(),
+        }
+    }
+
+    /// Whether one of them has this name.
+    pub(crate) fn has_name(&self, name: &str) -> bool
+        ensures { result ≡ list_any (bytes_eq name.now) (names_of (entries_view self.now)) }
+    {
+        if has_name(self.objects.as_slice(), name) {
+            return true;
+        }
+        if has_name(self.groups.as_slice(), name) {
+            return true;
+        }
+        if has_name(self.handlers.as_slice(), name) {
+            return true;
+        }
+        has_name(self.tasks.as_slice(), name)
+    }
+
     /// How many event groups they are.
     pub(crate) fn group_count(&self) -> u8
-        ensures count { result ≡ length self.now.groups }
+        ensures count { result ≡ length (entries_view self.now).groups }
         ensures few { result ≤ most_groups }
     {
         self.groups.as_slice().len() as u8

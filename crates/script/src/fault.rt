@@ -1,88 +1,90 @@
 //! Why a file was refused.
 ghost use Rattle.std.specs.Prelude.{◌≡◌};
-ghost use Rattle.script.specs.declared.fault.LoadFault.TheVariants.{Memory};
+ghost use Rattle.script.specs.declared.fault.LoadError.TheVariants as error;
 
 use crate::place::Place;
-use std::alloc::{AllocError, AllocFailed};
+use std::alloc::AllocError;
 
-/// The first check that failed, and where.
+/// What a check finds.
 #[derive(Clone, Copy, Debug, PartialEq, Eq)]
-pub enum LoadFault {
+pub enum FaultKind {
     /// What has to stand there does not.
-    Missing(Place),
+    Missing,
     /// A value of another kind: a text for a number, say.
-    WrongKind(Place),
+    WrongKind,
     /// A number outside its range, or a text that is no name.
-    OutOfRange(Place),
+    OutOfRange,
     /// A text that spells no op, or no point.
-    BadOp(Place),
+    BadOp,
     /// An op, a base interrupt or a point names what no entry is.
-    UnknownName(Place),
+    UnknownName,
     /// A name that an earlier entry has.
-    DoubleName(Place),
+    DoubleName,
     /// An `end` without a `repeat`, a fifth open `repeat`, or one that is never closed.
-    BadNesting(Place),
+    BadNesting,
     /// An `overwrite` of a queue whose length isn't 1.
-    OverwriteLength(Place),
+    OverwriteLength,
     /// More entries than there may be.
-    TooMany(Place),
-    /// There was no memory.
-    Memory,
+    TooMany,
 }
 
-impl LoadFault {
+impl FaultKind {
     ghost use Rattle.std.specs.Prelude.{◌≡◌};
-    ghost use Rattle.script.specs.Faults.{fault_code, fault_place};
+    ghost use Rattle.script.specs.Faults.{fault_code, fault_at};
 
-    /// The number of the fault, 1 to 10.
+    /// The number of the fault, 1 to 9.
     pub fn code(self) -> u8
         ensures { result ≡ fault_code self }
     {
         match self {
-            LoadFault::Missing(_) => 1,
-            LoadFault::WrongKind(_) => 2,
-            LoadFault::OutOfRange(_) => 3,
-            LoadFault::BadOp(_) => 4,
-            LoadFault::UnknownName(_) => 5,
-            LoadFault::DoubleName(_) => 6,
-            LoadFault::BadNesting(_) => 7,
-            LoadFault::OverwriteLength(_) => 8,
-            LoadFault::TooMany(_) => 9,
-            LoadFault::Memory => 10,
+            FaultKind::Missing => 1,
+            FaultKind::WrongKind => 2,
+            FaultKind::OutOfRange => 3,
+            FaultKind::BadOp => 4,
+            FaultKind::UnknownName => 5,
+            FaultKind::DoubleName => 6,
+            FaultKind::BadNesting => 7,
+            FaultKind::OverwriteLength => 8,
+            FaultKind::TooMany => 9,
         }
     }
 
-    /// Where the check failed; `None` for memory, which has no place.
-    pub fn place(self) -> Option<Place>
-        ensures { result ≡ fault_place self }
+    // The fault of this kind at a place.
+    pub(crate) fn at(self, place: Place) -> Fault
+        ensures { result ≡ fault_at self place }
     {
-        match self {
-            LoadFault::Missing(place)
-            | LoadFault::WrongKind(place)
-            | LoadFault::OutOfRange(place)
-            | LoadFault::BadOp(place)
-            | LoadFault::UnknownName(place)
-            | LoadFault::DoubleName(place)
-            | LoadFault::BadNesting(place)
-            | LoadFault::OverwriteLength(place)
-            | LoadFault::TooMany(place) => Some(place),
-            LoadFault::Memory => None,
-        }
+        Fault { kind: self, place }
     }
 }
 
-impl From<AllocError> for LoadFault {
-    ghost from_gives = { λ _ fault. fault ≡ Memory };
+/// The first check that failed, and where.
+#[derive(Clone, Copy, Debug, PartialEq, Eq)]
+pub struct Fault {
+    pub kind: FaultKind,
+    pub place: Place,
+}
 
-    fn from(_error: AllocError) -> LoadFault {
-        LoadFault::Memory
+/// Why a document was not loaded.
+#[derive(Clone, Copy, Debug, PartialEq, Eq)]
+pub enum LoadError {
+    /// The fault of the first of its checks that fails.
+    Fault(Fault),
+    /// No check fails, and there was no memory.
+    Memory,
+}
+
+impl From<Fault> for LoadError {
+    ghost from_gives = { λ fault e. e ≡ error.Fault fault };
+
+    fn from(fault: Fault) -> LoadError {
+        LoadError::Fault(fault)
     }
 }
 
-impl<T: Drop> From<AllocFailed<T>> for LoadFault {
-    ghost from_gives = { λ _ fault. fault ≡ Memory };
+impl From<AllocError> for LoadError {
+    ghost from_gives = { λ _ e. e ≡ error.Memory };
 
-    fn from(_error: AllocFailed<T>) -> LoadFault {
-        LoadFault::Memory
+    fn from(_error: AllocError) -> LoadError {
+        LoadError::Memory
     }
 }

@@ -1,6 +1,6 @@
 //! The sections of objects.
 ghost use Rattle.std.specs.Prelude.{◌≡◌};
-ghost use Rattle.script.specs.Objects.{section_of};
+ghost use Rattle.script.specs.Sections.{section_of};
 
 use crate::place::Section;
 

@@ -3,7 +3,6 @@ ghost use Rattle.std.specs.Prelude.{◌≡◌, List, ℕ, drop, None, Some, IfSo
 ghost use Rattle.std.specs.Str.{bytes_eq};
 ghost use Rattle.model.specs.declared.op.Op.{Op};
 ghost use Rattle.model.specs.declared.op.IsrOp.{IsrOp};
-ghost use Rattle.model.specs.Application.{word_of, word_of_isr};
 ghost use Rattle.model.specs.Scripts.{InRange};
 ghost use Rattle.script.specs.Finding.{found_by};
 ghost use Rattle.script.specs.Grammar.{Naming, words_of, Done, forms, object_forms, semaphore_forms, group_forms, suspension_forms, isr_forms, read, read_by, if_in_range, op_of, isr_op_of, Spells, SpellsIsr};
@@ -23,8 +22,8 @@ fn is(word: &[u8], name: &str) -> bool
 fn suspension_op_after(word: &[u8], words: &mut Words<'_>, finding: Finding<'_>) -> Option<Op>
     // What is still to be read is whether the text ends here.
     ensures { MatchOption result
-        (read_by word_of (found_by finding.entry) suspension_forms word.now words.old ≡ None)
-        (λ op. read_by word_of (found_by finding.entry) suspension_forms word.now words.old
+        (read_by (found_by finding.entry) suspension_forms word.now words.old ≡ None)
+        (λ op. read_by (found_by finding.entry) suspension_forms word.now words.old
         ≡ read (found_by finding.entry) (Done op) words.new) }
 {
     if is(word, "suspend") {
@@ -44,8 +43,8 @@ fn suspension_op_after(word: &[u8], words: &mut Words<'_>, finding: Finding<'_>)
 fn group_op_after(word: &[u8], words: &mut Words<'_>, finding: Finding<'_>) -> Option<Op>
     // What is still to be read is whether the text ends here.
     ensures { MatchOption result
-        (read_by word_of (found_by finding.entry) group_forms word.now words.old ≡ None)
-        (λ op. read_by word_of (found_by finding.entry) group_forms word.now words.old
+        (read_by (found_by finding.entry) group_forms word.now words.old ≡ None)
+        (λ op. read_by (found_by finding.entry) group_forms word.now words.old
         ≡ read (found_by finding.entry) (Done op) words.new) }
 {
     if is(word, "set") {
@@ -62,7 +61,7 @@ fn group_op_after(word: &[u8], words: &mut Words<'_>, finding: Finding<'_>) -> O
         let all = words.choice("any", "all")?;
         let clear = words.choice("keep", "clear")?;
         let condition = Condition { mask, all, clear };
-        Some(Op::WaitBits(group, condition, words.wait()?))
+        Some(Op::WaitBits(group, condition, words.number_unless("forever")?))
     } else {
         suspension_op_after(word, words, finding)
     }
@@ -72,19 +71,19 @@ fn group_op_after(word: &[u8], words: &mut Words<'_>, finding: Finding<'_>) -> O
 fn semaphore_op_after(word: &[u8], words: &mut Words<'_>, finding: Finding<'_>) -> Option<Op>
     // What is still to be read is whether the text ends here.
     ensures { MatchOption result
-        (read_by word_of (found_by finding.entry) semaphore_forms word.now words.old ≡ None)
-        (λ op. read_by word_of (found_by finding.entry) semaphore_forms word.now words.old
+        (read_by (found_by finding.entry) semaphore_forms word.now words.old ≡ None)
+        (λ op. read_by (found_by finding.entry) semaphore_forms word.now words.old
         ≡ read (found_by finding.entry) (Done op) words.new) }
 {
     if is(word, "take") {
         let semaphore = words.object(ObjectSort::Semaphore, finding)?;
-        Some(Op::Await(semaphore, Access::Take, words.wait()?))
+        Some(Op::Await(semaphore, Access::Take, words.number_unless("forever")?))
     } else if is(word, "give") {
         let semaphore = words.object(ObjectSort::Semaphore, finding)?;
         Some(Op::Do(semaphore, Access::Give))
     } else if is(word, "lock") {
         let mutex = words.object(ObjectSort::Mutex, finding)?;
-        Some(Op::Await(mutex, Access::Lock, words.wait()?))
+        Some(Op::Await(mutex, Access::Lock, words.number_unless("forever")?))
     } else if is(word, "unlock") {
         let mutex = words.object(ObjectSort::Mutex, finding)?;
         Some(Op::GiveMutex(mutex))
@@ -97,16 +96,16 @@ fn semaphore_op_after(word: &[u8], words: &mut Words<'_>, finding: Finding<'_>) 
 fn reading_op_after(word: &[u8], words: &mut Words<'_>, finding: Finding<'_>) -> Option<Op>
     // What is still to be read is whether the text ends here.
     ensures { MatchOption result
-        (read_by word_of (found_by finding.entry) (drop 3 object_forms) word.now words.old ≡ None)
-        (λ op. read_by word_of (found_by finding.entry) (drop 3 object_forms) word.now words.old
+        (read_by (found_by finding.entry) (drop 3 object_forms) word.now words.old ≡ None)
+        (λ op. read_by (found_by finding.entry) (drop 3 object_forms) word.now words.old
         ≡ read (found_by finding.entry) (Done op) words.new) }
 {
     if is(word, "receive") {
         let queue = words.object(ObjectSort::Queue, finding)?;
-        Some(Op::Await(queue, Access::Receive, words.wait()?))
+        Some(Op::Await(queue, Access::Receive, words.number_unless("forever")?))
     } else if is(word, "peek") {
         let queue = words.object(ObjectSort::Queue, finding)?;
-        Some(Op::Await(queue, Access::Peek, words.wait()?))
+        Some(Op::Await(queue, Access::Peek, words.number_unless("forever")?))
     } else if is(word, "waiting") {
         Some(Op::MessagesWaiting(words.object(ObjectSort::Queue, finding)?))
     } else if is(word, "spaces") {
@@ -120,18 +119,18 @@ fn reading_op_after(word: &[u8], words: &mut Words<'_>, finding: Finding<'_>) ->
 fn object_op_after(word: &[u8], words: &mut Words<'_>, finding: Finding<'_>) -> Option<Op>
     // What is still to be read is whether the text ends here.
     ensures { MatchOption result
-        (read_by word_of (found_by finding.entry) object_forms word.now words.old ≡ None)
-        (λ op. read_by word_of (found_by finding.entry) object_forms word.now words.old
+        (read_by (found_by finding.entry) object_forms word.now words.old ≡ None)
+        (λ op. read_by (found_by finding.entry) object_forms word.now words.old
         ≡ read (found_by finding.entry) (Done op) words.new) }
 {
     if is(word, "send") {
         let queue = words.object(ObjectSort::Queue, finding)?;
         let access = Access::Send(words.number()?);
-        Some(Op::Await(queue, access, words.wait()?))
+        Some(Op::Await(queue, access, words.number_unless("forever")?))
     } else if is(word, "send_front") {
         let queue = words.object(ObjectSort::Queue, finding)?;
         let access = Access::SendFront(words.number()?);
-        Some(Op::Await(queue, access, words.wait()?))
+        Some(Op::Await(queue, access, words.number_unless("forever")?))
     } else if is(word, "overwrite") {
         let queue = words.object(ObjectSort::Queue, finding)?;
         Some(Op::Do(queue, Access::Overwrite(words.number()?)))
@@ -144,8 +143,8 @@ fn object_op_after(word: &[u8], words: &mut Words<'_>, finding: Finding<'_>) -> 
 fn later_op_after(word: &[u8], words: &mut Words<'_>, finding: Finding<'_>) -> Option<Op>
     // What is still to be read is whether the text ends here; a number past what the code can hold is out of range.
     ensures { MatchOption result
-        (option_and_then if_in_range (read_by word_of (found_by finding.entry) (drop 4 forms) word.now words.old) ≡ None)
-        (λ op. read_by word_of (found_by finding.entry) (drop 4 forms) word.now words.old
+        (option_and_then if_in_range (read_by (found_by finding.entry) (drop 4 forms) word.now words.old) ≡ None)
+        (λ op. read_by (found_by finding.entry) (drop 4 forms) word.now words.old
         ≡ read (found_by finding.entry) (Done op) words.new) }
 {
     if is(word, "time") {
@@ -153,7 +152,7 @@ fn later_op_after(word: &[u8], words: &mut Words<'_>, finding: Finding<'_>) -> O
     } else if is(word, "mark") {
         Some(Op::Mark(words.number()?))
     } else if is(word, "expect") {
-        Some(Op::Expect(words.answer()?))
+        Some(Op::Expect(words.number_unless("none")?))
     } else if is(word, "repeat") {
         Some(Op::Repeat(u16::try_from(words.number()?).ok()?))
     } else if is(word, "end") {
@@ -167,8 +166,8 @@ fn later_op_after(word: &[u8], words: &mut Words<'_>, finding: Finding<'_>) -> O
 fn op_after(word: &[u8], words: &mut Words<'_>, finding: Finding<'_>) -> Option<Op>
     // What is still to be read is whether the text ends here; a number past what the code can hold is out of range.
     ensures { MatchOption result
-        (option_and_then if_in_range (read_by word_of (found_by finding.entry) forms word.now words.old) ≡ None)
-        (λ op. read_by word_of (found_by finding.entry) forms word.now words.old
+        (option_and_then if_in_range (read_by (found_by finding.entry) forms word.now words.old) ≡ None)
+        (λ op. read_by (found_by finding.entry) forms word.now words.old
         ≡ read (found_by finding.entry) (Done op) words.new) }
 {
     if is(word, "work") {
@@ -203,8 +202,8 @@ pub(crate) fn op_of(text: &[u8], finding: Finding<'_>) -> Option<Op>
 fn other_isr_op_after(word: &[u8], words: &mut Words<'_>, finding: Finding<'_>) -> Option<IsrOp>
     // What is still to be read is whether the text ends here.
     ensures { MatchOption result
-        (read_by word_of_isr (found_by finding.entry) (drop 5 isr_forms) word.now words.old ≡ None)
-        (λ op. read_by word_of_isr (found_by finding.entry) (drop 5 isr_forms) word.now words.old
+        (read_by (found_by finding.entry) (drop 5 isr_forms) word.now words.old ≡ None)
+        (λ op. read_by (found_by finding.entry) (drop 5 isr_forms) word.now words.old
         ≡ read (found_by finding.entry) (Done op) words.new) }
 {
     if is(word, "give") {
@@ -225,8 +224,8 @@ fn other_isr_op_after(word: &[u8], words: &mut Words<'_>, finding: Finding<'_>) 
 fn isr_op_after(word: &[u8], words: &mut Words<'_>, finding: Finding<'_>) -> Option<IsrOp>
     // What is still to be read is whether the text ends here.
     ensures { MatchOption result
-        (read_by word_of_isr (found_by finding.entry) isr_forms word.now words.old ≡ None)
-        (λ op. read_by word_of_isr (found_by finding.entry) isr_forms word.now words.old
+        (read_by (found_by finding.entry) isr_forms word.now words.old ≡ None)
+        (λ op. read_by (found_by finding.entry) isr_forms word.now words.old
         ≡ read (found_by finding.entry) (Done op) words.new) }
 {
     if is(word, "send") {

@@ -1,191 +1,299 @@
-//! Pass two: the ops of the scripts.
-ghost use Rattle.std.specs.Prelude.{◌≡◌, ◌≤◌, ◌<◌, ◌+◌, ◌++◌, map, length, None, Some, IfOk, IfSome, OnOk, option_to_list};
+//! Pass two: the ops of handlers and of tasks.
+ghost use Rattle.std.specs.Prelude.{◌≡◌, ◌≤◌, ◌<◌, ◌++◌, ◌∷◌, [], true, map, length, IfOk, IfSome, OnOk};
 ghost use Rattle.std.specs.List.{AllByRecursion};
-ghost use Rattle.toml.specs.View.{view, items_view};
-ghost use Rattle.model.specs.Application.{Application};
-ghost use Rattle.model.specs.Scripts.{InRange, IsScript, IsDefinition, KnowsAll, nesting_after, most_ops};
-ghost use Rattle.script.specs.Faults.{Judges, JudgesBy, Loads, LoadsBy, at_field};
+ghost use Rattle.toml.specs.View.{view};
+ghost use Rattle.model.specs.Application.{Handler, Definition};
+ghost use Rattle.model.specs.Scripts.{InRange, IsScript, IsDefinition, Nests, may_stand, nesting_after, most_tasks, most_ops, most_handlers, most_handler_ops, most_name_bytes};
 ghost use Rattle.script.specs.declared.place.Section.TheVariants as section;
 ghost use Rattle.script.specs.declared.place.Key.TheVariants as key;
+ghost use Rattle.script.specs.Faults.{Judges, at_entry, at_key};
 ghost use Rattle.script.specs.Finding.{found_by, among};
-ghost use Rattle.script.specs.Objects.{named_view};
-ghost use Rattle.script.specs.Entries.{HasEntries};
-ghost use Rattle.script.specs.Tasks.{raw_view};
-ghost use Rattle.script.specs.Ops.{op_named, is_allowed, spelling_fault, op_fault, ops_fault, ops_named, scripts_fault, with_ops, nesting_with};
+ghost use Rattle.script.specs.Entries.{object_view, entries_view};
+ghost use Rattle.script.specs.Ops.{allows, task_ops, handler_ops, op_in, op_fault, nesting_with, script_fault, script_named, handler_ops_fault, scripts_fault, with_isr_ops, with_ops};
 
 use crate::entries::NamedEntries;
-use crate::fault::LoadFault;
+use crate::fault::{Fault, FaultKind};
 use crate::finding::Finding;
-use crate::named_object::Objects;
-use crate::op_text::op_of;
+use crate::named_object::NamedObject;
+use crate::op_text::{isr_op_of, op_of};
 use crate::place::{Key, Place, Section};
-use crate::raw_task::RawTask;
-use model::{NestingFault, Op, Script, ScriptBuilder, TaskDefinition};
-use std::alloc::Global;
+use model::{
+    Access, HandlerDefinition, IsrOp, NestingFault, ObjectId, Op, Script, ScriptBuilder,
+    TaskDefinition,
+};
+use std::alloc::{AllocError, Global};
 use toml::Value;
 
-// The op that a value spells, where names are read so.
-fn op_in(value: &Value, finding: Finding<'_>) -> Option<Op>
-    ensures op { result ≡ op_named (found_by finding.entry) (view value.now) }
-    ensures range { IfSome result InRange }
+/// An op of a text: a task's, or a handler's.
+pub(crate) trait TextOp: Copy {
+    ghost use Rattle.std.specs.Prelude.{◌≡◌, map, true, false, MatchOption};
+    ghost use Rattle.script.specs.Grammar.{words_of};
+    ghost use Rattle.script.specs.Finding.{found_by};
+    ghost use Rattle.script.specs.Entries.{object_view};
+    ghost use Rattle.script.specs.Ops.{Ops};
+
+    // What tells it from the other kind.
+    ghost ops: { Ops Self };
+
+    /// The op that a text spells, where names are read so.
+    fn of_text(text: &[u8], finding: Finding<'_>) -> Option<Self>
+        ensures { result ≡ ops.of_words (found_by finding.entry) (words_of text.now) };
+
+    /// Whether the object of which it speaks allows it.
+    fn is_allowed(&self, objects: &[NamedObject<'_>]) -> bool
+        ensures { result ≡ ops.is_allowed (map object_view objects.now) self.now };
+
+    /// How many loops are open after it, where so many are open before it; `None` where it may not stand there.
+    fn nesting_after(&self, nesting: u8) -> Option<u8>
+        ensures { MatchOption result (ops.may_stand nesting self.now ≡ false)
+            (λ past. (ops.may_stand nesting self.now ≡ true) × (past ≡ ops.nesting_past nesting self.now)) };
+}
+
+// Whether the object of this number allows a call.
+fn allows(objects: &[NamedObject<'_>], object: ObjectId, access: Access) -> bool
+    ensures { result ≡ allows (map object_view objects.now) object access }
 {
-    op_of(value.as_str()?.as_bytes(), finding)
+    match objects.get(object.number as usize) {
+        Some(named) => named.kind.fits(access),
+        None => false,
+    }
+}
+
+impl TextOp for Op {
+    ghost use Rattle.script.specs.Ops.{task_ops};
+
+    ghost ops = { task_ops };
+
+    fn of_text(text: &[u8], finding: Finding<'_>) -> Option<Op> {
+        op_of(text, finding)
+    }
+
+    fn is_allowed(&self, objects: &[NamedObject<'_>]) -> bool {
+        match *self {
+            Op::Do(object, access) => allows(objects, object, access),
+            _ => true,
+        }
+    }
+
+    fn nesting_after(&self, nesting: u8) -> Option<u8> {
+        self.nesting_past(nesting)
+    }
+}
+
+impl TextOp for IsrOp {
+    ghost use Rattle.script.specs.Ops.{handler_ops};
+
+    ghost ops = { handler_ops };
+
+    fn of_text(text: &[u8], finding: Finding<'_>) -> Option<IsrOp> {
+        isr_op_of(text, finding)
+    }
+
+    fn is_allowed(&self, objects: &[NamedObject<'_>]) -> bool {
+        match *self {
+            IsrOp::Do(object, access) => allows(objects, object, access),
+            _ => true,
+        }
+    }
+
+    fn nesting_after(&self, nesting: u8) -> Option<u8> {
+        Some(nesting)
+    }
 }
 
 // ---- the checks, which take no memory
 
-// Whether the object of a call that doesn't wait allows it.
-fn is_allowed(objects: &Objects<'_>, op: &Op) -> bool
-    ensures { result ≡ is_allowed (map named_view objects.now.items) op.now }
+// The op that a value spells, where names are read so.
+fn op_in<O: TextOp>(value: &Value, finding: Finding<'_>) -> Option<O>
+    ensures { result ≡ op_in O.ops (found_by finding.entry) (view value.now) }
 {
-    match *op {
-        Op::Do(object, access) => match objects.as_slice().get(object.number as usize) {
-            Some(named) => named.kind.fits(access),
-            None => false,
-        },
-        _ => true,
-    }
+    O::of_text(value.as_str()?.as_bytes(), finding)
 }
 
-// The op that a value spells, whose names are those of entries that allow it.
-fn checked_op(entries: &NamedEntries<'_>, value: &Value, place: Place) -> Result<Op, LoadFault>
-    ensures checks { JudgesBy Some result
-        (spelling_fault entries.now place (view value.now))
-        (op_named (among entries.now) (view value.now)) }
-    ensures range { IfOk result InRange }
-{
-    if op_in(value, Finding::Any).is_none() {
-        return Err(LoadFault::BadOp(place));
-    }
-    let Some(op) = op_in(value, Finding::Among(entries)) else {
-        return Err(LoadFault::UnknownName(place));
-    };
-    if !is_allowed(entries.objects, &op) {
-        return Err(LoadFault::OverwriteLength(place));
-    }
-    Ok(op)
-}
-
-// How many loops are open after the op that a value spells, where so many are open before it.
-fn nesting_with(
+// How many loops are open after the op that a value spells, where so many are open before it. Its names are those of
+// entries, which allow it.
+fn nesting_with<O: TextOp>(
     entries: &NamedEntries<'_>,
     nesting: u8,
     value: &Value,
     place: Place,
-) -> Result<u8, LoadFault>
+) -> Result<u8, Fault>
     ensures { Judges result
-        (op_fault entries.now place nesting (view value.now))
-        (nesting_with nesting
-        (op_named (among entries.now) (view value.now))) }
+        (op_fault O.ops (entries_view entries.now) nesting place (view value.now))
+        (nesting_with O.ops (entries_view entries.now) nesting (view value.now)) }
 {
-    let op = checked_op(entries, value, place)?;
-    op.nesting_past(nesting).ok_or(LoadFault::BadNesting(place))
+    if op_in::<O>(value, Finding::Any).is_none() {
+        return Err(FaultKind::BadOp.at(place));
+    }
+    let Some(op) = op_in::<O>(value, Finding::Among(entries)) else {
+        return Err(FaultKind::UnknownName.at(place));
+    };
+    if !op.is_allowed(entries.objects.as_slice()) {
+        return Err(FaultKind::OverwriteLength.at(place));
+    }
+    op.nesting_after(nesting)
+        .ok_or(FaultKind::BadNesting.at(place))
 }
 
 // Checks the ops that these texts spell.
-fn check_script(entries: &NamedEntries<'_>, texts: &[Value], place: Place) -> Result<(), LoadFault>
+fn check_script<O: TextOp>(
+    entries: &NamedEntries<'_>,
+    texts: &[Value],
+    place: Place,
+) -> Result<(), Fault>
     ensures { Judges result
-        (ops_fault entries.now place 0 0 (items_view texts.now)) tt }
+        (script_fault O.ops (entries_view entries.now) place (map view texts.now)) tt }
 {
     let mut nesting = 0;
     for (index, text) in texts.iter().enumerate() {
-        nesting = nesting_with(entries, nesting, text, place.element(index))?;
+        nesting = nesting_with::<O>(entries, nesting, text, place.element(index))?;
     }
     if nesting > 0 {
-        return Err(LoadFault::BadNesting(place.element(texts.len())));
+        return Err(FaultKind::BadNesting.at(place.element(texts.len())));
     }
     Ok(())
+}
+
+// Where the ops of the handler of this index stand.
+fn ops_place(entry: usize) -> Place
+    ensures { result ≡ at_key (at_entry section.Handler entry) key.Ops }
+{
+    Place::entry(Section::Handler, entry).key(Key::Ops)
 }
 
 // Where the script of the task of this index stands.
 fn script_place(entry: usize) -> Place
-    ensures { result ≡ at_field section.Task entry key.Script }
+    ensures { result ≡ at_key (at_entry section.Task entry) key.Script }
 {
-    Place::field(Section::Task, entry, Key::Script)
+    Place::entry(Section::Task, entry).key(Key::Script)
 }
 
-/// Checks the scripts of the tasks.
-pub(crate) fn check_scripts(
-    entries: &NamedEntries<'_>,
-    tasks: &[RawTask<'_>],
-) -> Result<(), LoadFault>
-    ensures { Judges result
-        (scripts_fault entries.now 0 (map raw_view tasks.now)) tt }
+/// Checks the ops of the handlers.
+#[tactic(auto, unfolding(crate::specs::Ops::handler_ops_fault))]
+pub(crate) fn check_handlers(entries: &NamedEntries<'_>) -> Result<(), Fault>
+    ensures { Judges result (handler_ops_fault (entries_view entries.now)) tt }
 {
-    for (entry, task) in tasks.iter().enumerate() {
-        check_script(entries, task.script, script_place(entry))?;
+    for (entry, handler) in entries.handlers.as_slice().iter().enumerate() {
+        check_script::<IsrOp>(entries, handler.ops, ops_place(entry))?;
     }
     Ok(())
 }
 
-// ---- the scripts, once they are checked
-
-// Appends the op that a value spells.
-fn push_op(
-    entries: &NamedEntries<'_>,
-    builder: &mut ScriptBuilder,
-    value: &Value,
-    place: Place,
-) -> Result<(), LoadFault>
-    requires { length builder.old < most_ops }
-    ensures checks { Loads result
-        (op_fault entries.now place (nesting_after 0 builder.old) (view value.now)) tt }
-    ensures pushed { OnOk result (builder.new ≡ builder.old
-        ++ option_to_list (op_named (among entries.now) (view value.now))) }
-    ensures nesting { OnOk result (nesting_after 0 builder.new ≡ nesting_with (nesting_after 0 builder.old)
-        (op_named (among entries.now) (view value.now))) }
-    ensures count { OnOk result (length builder.new ≡ length builder.old + 1) }
+/// Checks the scripts of the tasks.
+#[tactic(auto, unfolding(crate::specs::Ops::scripts_fault))]
+pub(crate) fn check_scripts(entries: &NamedEntries<'_>) -> Result<(), Fault>
+    ensures { Judges result (scripts_fault (entries_view entries.now)) tt }
 {
-    let op = checked_op(entries, value, place)?;
+    for (entry, task) in entries.tasks.as_slice().iter().enumerate() {
+        check_script::<Op>(entries, task.script, script_place(entry))?;
+    }
+    Ok(())
+}
+
+// ---- the ops, once they are checked, so that only memory may be wanting
+
+// The ops of a handler that these texts spell.
+fn ops_of(
+    alloc: Global,
+    entries: &NamedEntries<'_>,
+    texts: &[Value],
+) -> Result<Vec<IsrOp>, AllocError>
+    requires { length texts.now ≤ most_handler_ops }
+    ensures ops { IfOk result (λ v. v.items
+        ≡ script_named handler_ops (entries_view entries.now) (map view texts.now)) }
+    ensures few { IfOk result (λ v. length v.items ≤ most_handler_ops) }
+{
+    let finding = Finding::Among(entries);
+    let mut ops = Vec::new(alloc);
+    for text in texts {
+        if let Some(op) = op_in::<IsrOp>(text, finding) {
+            ops.push(op)?;
+        }
+    }
+    Ok(ops)
+}
+
+/// The handlers with their ops.
+pub(crate) fn handlers_of(
+    alloc: Global,
+    entries: &NamedEntries<'_>,
+) -> Result<Vec<HandlerDefinition>, AllocError>
+    ensures handlers { IfOk result (λ v. v.items
+        ≡ map (with_isr_ops (entries_view entries.now)) (entries_view entries.now).handlers) }
+    ensures formed { IfOk result (λ v. AllByRecursion (λ (h : Handler).
+        (length h.name ≤ most_name_bytes) × (length h.ops ≤ most_handler_ops)) v.items) }
+    ensures few { IfOk result (λ v. length v.items ≤ most_handlers) }
+{
+    let mut definitions = Vec::new(alloc);
+    for handler in entries.handlers.as_slice() {
+        let ops = ops_of(alloc, entries, handler.ops)?;
+        let name = String::from_str(alloc, handler.name)?;
+        definitions.push(HandlerDefinition::new(name, ops))?;
+    }
+    Ok(definitions)
+}
+
+// The op of a task that a value spells, where its names are those of these entries.
+fn op_among(value: &Value, entries: &NamedEntries<'_>) -> Option<Op>
+    ensures op { result ≡ op_in task_ops (among (entries_view entries.now)) (view value.now) }
+    ensures range { IfSome result InRange }
+{
+    op_of(value.as_str()?.as_bytes(), Finding::Among(entries))
+}
+
+// Appends an op, which may stand there.
+fn push(builder: &mut ScriptBuilder, op: Op) -> Result<(), AllocError>
+    requires range { InRange op }
+    requires room { length builder.old < most_ops }
+    requires stands { may_stand (nesting_after 0 builder.old) op ≡ true }
+    ensures { OnOk result (builder.new ≡ builder.old ++ op ∷ []) }
+{
     match builder.push(op) {
         Ok(()) => Ok(()),
-        Err(NestingFault::BadNesting) => Err(LoadFault::BadNesting(place)),
-        Err(NestingFault::Memory) => Err(LoadFault::Memory),
+        Err(NestingFault::Memory) => Err(AllocError),
+        Err(NestingFault::BadNesting) => unreachable!(),
     }
 }
 
-// The script of the ops that these texts spell.
+// The script that these texts spell, whose loops are closed.
 fn script_of(
     alloc: Global,
     entries: &NamedEntries<'_>,
     texts: &[Value],
-    place: Place,
-) -> Result<Script, LoadFault>
+) -> Result<Script, AllocError>
     requires few { length texts.now ≤ most_ops }
-    requires checked { ops_fault entries.now place 0 0 (items_view texts.now) ≡ None }
-    ensures checks { Loads result
-        (ops_fault entries.now place 0 0 (items_view texts.now))
-        (ops_named entries.now (items_view texts.now)) }
-    ensures script { IfOk result IsScript }
+    requires nests { Nests 0 (script_named task_ops (entries_view entries.now) (map view texts.now)) }
+    ensures script { IfOk result (λ script. script
+        ≡ script_named task_ops (entries_view entries.now) (map view texts.now)) }
+    ensures formed { IfOk result IsScript }
 {
     let mut builder = ScriptBuilder::new(alloc);
-    for (index, text) in texts.iter().enumerate() {
-        push_op(entries, &mut builder, text, place.element(index))?;
+    for text in texts {
+        if let Some(op) = op_among(text, entries) {
+            push(&mut builder, op)?;
+        }
     }
     match builder.finish() {
         Some(script) => Ok(script),
-        None => Err(LoadFault::BadNesting(place.element(texts.len()))),
+        None => unreachable!(),
     }
 }
 
-/// The tasks with their scripts, which have been checked, so that only memory may be wanting.
-pub(crate) fn with_scripts(
+/// The tasks with their scripts, whose loops are closed.
+pub(crate) fn tasks_of(
     alloc: Global,
     entries: &NamedEntries<'_>,
-    tasks: &[RawTask<'_>],
-) -> Result<Vec<TaskDefinition>, LoadFault>
-    requires { scripts_fault entries.now 0 (map raw_view tasks.now) ≡ None }
-    ensures checks { LoadsBy (λ v. v.items) result
-        (scripts_fault entries.now 0 (map raw_view tasks.now))
-        (map (with_ops entries.now) (map raw_view tasks.now)) }
+) -> Result<Vec<TaskDefinition>, AllocError>
+    requires { AllByRecursion (λ (t : Definition). Nests 0 t.script)
+        (map (with_ops (entries_view entries.now)) (entries_view entries.now).tasks) }
+    ensures tasks { IfOk result (λ v. v.items
+        ≡ map (with_ops (entries_view entries.now)) (entries_view entries.now).tasks) }
     ensures formed { IfOk result (λ v. AllByRecursion IsDefinition v.items) }
-    ensures known { IfOk result (λ v. (app : Application)
-        → HasEntries app entries.now → AllByRecursion (KnowsAll app) v.items) }
-    ensures count { IfOk result (λ v. length v.items ≡ length tasks.now) }
+    ensures few { IfOk result (λ v. length v.items ≤ most_tasks) }
 {
     let mut definitions = Vec::new(alloc);
-    for (entry, task) in tasks.iter().enumerate() {
-        let script = script_of(alloc, entries, task.script, script_place(entry))?;
+    for task in entries.tasks.as_slice() {
+        let script = script_of(alloc, entries, task.script)?;
         let name = String::from_str(alloc, task.name)?;
         definitions.push(TaskDefinition::new(name, task.priority, script))?;
     }

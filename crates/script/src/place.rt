@@ -102,7 +102,7 @@ pub struct Place {
 impl Place {
     ghost use Rattle.std.specs.Prelude.{◌≡◌, option_map};
     ghost use Rattle.std.specs.List.{filter_map};
-    ghost use Rattle.script.specs.Faults.{word_text, place_words, at_section, at_key, at_entry, at_field, at_element};
+    ghost use Rattle.script.specs.Faults.{word_text, place_words, at_section, at_entry, at_key, at_element};
 
     /// The words that name it, in order; `None` stands for a part that does not apply.
     pub fn words(self) -> [Option<PlaceWord>; 4]
@@ -128,39 +128,23 @@ impl Place {
         }
     }
 
-    // A key of a section that is no array.
-    pub(crate) fn key(section: Section, key: Key) -> Self
-        ensures { result ≡ at_key section key }
-    {
-        Place {
-            section,
-            entry: None,
-            key: Some(key),
-            index: None,
-        }
-    }
-
     // An entry of a section.
     pub(crate) fn entry(section: Section, entry: usize) -> Self
         ensures { result ≡ at_entry section entry }
     {
         Place {
-            section,
             entry: Some(entry),
-            key: None,
-            index: None,
+            ..Place::section(section)
         }
     }
 
-    // A key of an entry.
-    pub(crate) fn field(section: Section, entry: usize, key: Key) -> Self
-        ensures { result ≡ at_field section entry key }
+    // A key of what stands at this place.
+    pub(crate) fn key(self, key: Key) -> Self
+        ensures { result ≡ at_key self key }
     {
         Place {
-            section,
-            entry: Some(entry),
             key: Some(key),
-            index: None,
+            ..self
         }
     }
 

@@ -1,26 +1,25 @@
 //! The points of a document's campaign.
-ghost use Rattle.std.specs.Prelude.{◌≡◌, ◌<◌, ◌≤◌, [], ◌∷◌, List, ℕ, map, length, option_map, vec_capacity, None, Some, IfOk, IfSome};
-ghost use Rattle.std.specs.List.{AllByRecursion};
-ghost use Rattle.toml.specs.View.{view, items_view};
+ghost use Rattle.std.specs.Prelude.{◌≡◌, ◌≤◌, [], ◌∷◌, List, ℕ, map, filter_map, length, option_map, vec_capacity, None, Some, IfOk, IfSome};
+ghost use Rattle.toml.specs.View.{view, table_view};
 ghost use Rattle.model.specs.declared.plan.PointEntry.{PointEntry};
-ghost use Rattle.model.specs.Scripts.{most_handlers, most_points, last_point};
-ghost use Rattle.script.specs.Faults.{Judges, JudgesBy, LoadsBy};
-ghost use Rattle.script.specs.Values.{data_of};
+ghost use Rattle.model.specs.Scripts.{last_point};
+ghost use Rattle.script.specs.Faults.{Judges, Loads, seen};
+ghost use Rattle.script.specs.Arrays.{each_fault, elements_of};
 ghost use Rattle.script.specs.Grammar.{words_of};
-ghost use Rattle.script.specs.Handlers.{isr_view, isr_names};
-ghost use Rattle.script.specs.Points.{SpellsEntry, RawEntry, step_of, raw_view, raw_of, entry_at, entry_of, entry_fault, entry_named, points_place, points_fault, points_named, few_points_fault, campaign_section_fault, campaign_section_named, IsEntry, ArePoints};
+ghost use Rattle.script.specs.Entries.{isr_names, entries_view};
+ghost use Rattle.script.specs.Points.{SpellsEntry, RawEntry, step_of, raw_view, raw_of, entry_at, entry_of, entry_fault, entry_named, point_elements, points_fault, campaign_fault, campaign_named};
 
-use crate::fault::LoadFault;
-use crate::finding::handler_among;
+use crate::entries::NamedEntries;
+use crate::fault::{Fault, FaultKind, LoadError};
+use crate::interrupts::handler_among;
 use crate::name::is_name;
 use crate::place::{Key, Place, Section};
-use crate::raw_handler::RawHandler;
 use crate::raw_point::RawPoint;
-use crate::values::member;
+use crate::values::{array, at_key, at_section};
 use crate::words::{Words, number_of};
 use model::{App, HandlerId, Point, PointEntry};
 use std::alloc::Global;
-use toml::Value;
+use toml::{Table, Value};
 
 // ---- an entry
 
@@ -72,63 +71,51 @@ fn entry_at(step: Option<u32>, handler: HandlerId) -> PointEntry
 }
 
 // The entry that a value spells.
-fn entry(value: &Value, place: Place, handlers: &[RawHandler<'_>]) -> Result<PointEntry, LoadFault>
-    requires { length handlers.now ≤ most_handlers }
-    ensures checks { JudgesBy Some result
-        (entry_fault place (isr_names (map isr_view handlers.now)) (view value.now))
-        (entry_named (isr_names (map isr_view handlers.now)) (view value.now)) }
-    ensures formed { IfOk result (IsEntry (length handlers.now)) }
+fn entry(value: &Value, place: Place, entries: &NamedEntries<'_>) -> Result<PointEntry, Fault>
+    ensures { Judges (seen Some result)
+        (entry_fault (isr_names (entries_view entries.now)) place (view value.now))
+        (entry_named (isr_names (entries_view entries.now)) (view value.now)) }
 {
     let Some(text) = value.as_str() else {
-        return Err(LoadFault::WrongKind(place));
+        return Err(FaultKind::WrongKind.at(place));
     };
     let Some(raw) = raw_point(text.as_bytes()) else {
-        return Err(LoadFault::BadOp(place));
+        return Err(FaultKind::BadOp.at(place));
     };
-    let Some(handler) = handler_among(handlers, raw.handler) else {
-        return Err(LoadFault::UnknownName(place));
+    let Some(handler) = handler_among(entries, raw.handler) else {
+        return Err(FaultKind::UnknownName.at(place));
     };
     Ok(entry_at(raw.step, handler))
 }
 
 // ---- the section
 
-// Where the points stand.
-fn points_place() -> Place
-    ensures { result ≡ points_place }
-{
-    Place::key(Section::Campaign, Key::Points)
-}
-
 // Each of these entries in order, for which there is room.
 fn push_all(
     mut points: Vec<PointEntry>,
     values: &[Value],
-    handlers: &[RawHandler<'_>],
-) -> Result<Vec<PointEntry>, LoadFault>
+    place: Place,
+    entries: &NamedEntries<'_>,
+) -> Result<Vec<PointEntry>, Fault>
     requires none { points.items ≡ [] }
     requires room { length values.now ≤ vec_capacity points }
-    requires handlers { length handlers.now ≤ most_handlers }
-    ensures checks { JudgesBy (λ v. v.items) result
-        (points_fault (isr_names (map isr_view handlers.now)) 0 (items_view values.now))
-        (points_named (isr_names (map isr_view handlers.now)) (items_view values.now)) }
-    ensures entries { IfOk result (λ v. AllByRecursion (IsEntry (length handlers.now)) v.items) }
-    ensures count { IfOk result (λ v. length v.items ≡ length values.now) }
+    ensures { Judges (seen (λ v. v.items) result)
+        (each_fault (point_elements (isr_names (entries_view entries.now)) place) tt 0 (map view values.now))
+        (filter_map (entry_named (isr_names (entries_view entries.now))) (map view values.now)) }
 {
     for (index, value) in values.iter().enumerate() {
-        points.push_reserved(entry(value, points_place().element(index), handlers)?);
+        points.push_reserved(entry(value, place.element(index), entries)?);
     }
     Ok(points)
 }
 
 // Checks each of these entries in order, without room for any.
-fn check_all(values: &[Value], handlers: &[RawHandler<'_>]) -> Result<(), LoadFault>
-    requires { length handlers.now ≤ most_handlers }
+fn check_all(values: &[Value], place: Place, entries: &NamedEntries<'_>) -> Result<(), Fault>
     ensures { Judges result
-        (points_fault (isr_names (map isr_view handlers.now)) 0 (items_view values.now)) tt }
+        (each_fault (point_elements (isr_names (entries_view entries.now)) place) tt 0 (map view values.now)) tt }
 {
     for (index, value) in values.iter().enumerate() {
-        let _ = entry(value, points_place().element(index), handlers)?;
+        let _ = entry(value, place.element(index), entries)?;
     }
     Ok(())
 }
@@ -137,67 +124,63 @@ fn check_all(values: &[Value], handlers: &[RawHandler<'_>]) -> Result<(), LoadFa
 fn points_of(
     alloc: Global,
     values: &[Value],
-    handlers: &[RawHandler<'_>],
-) -> Result<Vec<PointEntry>, LoadFault>
-    requires values { length values.now ≤ most_points }
-    requires handlers { length handlers.now ≤ most_handlers }
-    ensures checks { LoadsBy (λ v. v.items) result
-        (points_fault (isr_names (map isr_view handlers.now)) 0 (items_view values.now))
-        (points_named (isr_names (map isr_view handlers.now)) (items_view values.now)) }
-    ensures formed { IfOk result (λ v. ArePoints (length handlers.now) v.items) }
+    place: Place,
+    entries: &NamedEntries<'_>,
+) -> Result<Vec<PointEntry>, LoadError>
+    ensures { Loads (seen (λ v. v.items) result)
+        (each_fault (point_elements (isr_names (entries_view entries.now)) place) tt 0 (map view values.now))
+        (filter_map (entry_named (isr_names (entries_view entries.now))) (map view values.now)) }
 {
     let Ok(points) = Vec::with_capacity(alloc, values.len()) else {
-        check_all(values, handlers)?;
-        return Err(LoadFault::Memory);
+        check_all(values, place, entries)?;
+        return Err(LoadError::Memory);
     };
-    push_all(points, values, handlers)
+    Ok(push_all(points, values, place, entries)?)
 }
 
-// No more entries than there may be.
-#[tactic(auto, using(crate::proofs::Views::items_len_view))]
+// The entries that stand in an array, 1,000,000 at most.
 fn few_points(
     alloc: Global,
-    values: &[Value],
-    handlers: &[RawHandler<'_>],
-) -> Result<Vec<PointEntry>, LoadFault>
-    requires { length handlers.now ≤ most_handlers }
-    ensures checks { LoadsBy (λ v. v.items) result
-        (few_points_fault (isr_names (map isr_view handlers.now)) (items_view values.now))
-        (points_named (isr_names (map isr_view handlers.now)) (items_view values.now)) }
-    ensures formed { IfOk result (λ v. ArePoints (length handlers.now) v.items) }
+    value: &Value,
+    place: Place,
+    entries: &NamedEntries<'_>,
+) -> Result<Vec<PointEntry>, LoadError>
+    ensures { Loads (seen (λ v. v.items) result)
+        (points_fault (isr_names (entries_view entries.now)) place (view value.now))
+        (filter_map (entry_named (isr_names (entries_view entries.now))) (elements_of (Some (view value.now)))) }
 {
+    let Some(values) = array(value) else {
+        return Err(FaultKind::WrongKind.at(place).into());
+    };
     if values.len() > App::MOST_POINTS {
-        return Err(LoadFault::TooMany(points_place()));
+        return Err(FaultKind::TooMany.at(place).into());
     }
-    points_of(alloc, values, handlers)
+    points_of(alloc, values, place, entries)
 }
 
-/// The points of the section, 1,000,000 entries at most, in the order of the file. Each text is read once. Where memory is
-/// refused, they are still checked.
+/// The points of a document, in its order. Each text is read once. Where memory is refused, they are still checked.
+#[tactic(auto, unfolding(crate::specs::Points::campaign_fault, crate::specs::Points::campaign_named))]
 pub(crate) fn points(
     alloc: Global,
-    value: Option<&Value>,
-    handlers: &[RawHandler<'_>],
-) -> Result<Vec<PointEntry>, LoadFault>
-    requires { length handlers.now ≤ most_handlers }
-    ensures checks { LoadsBy (λ v. v.items) result
-        (campaign_section_fault (isr_names (map isr_view handlers.now)) (data_of value.entry))
-        (campaign_section_named (isr_names (map isr_view handlers.now)) (data_of value.entry)) }
-    ensures formed { IfOk result (λ v. ArePoints (length handlers.now) v.items) }
+    document: &Table,
+    entries: &NamedEntries<'_>,
+) -> Result<Vec<PointEntry>, LoadError>
+    ensures { Loads (seen (λ v. v.items) result)
+        (campaign_fault (isr_names (entries_view entries.now)) (table_view document.now))
+        (campaign_named (isr_names (entries_view entries.now)) (table_view document.now)) }
 {
-    let Some(value) = value else {
+    let Some(value) = at_section(document, Section::Campaign) else {
         return Ok(Vec::new(alloc));
     };
+    let place = Place::section(Section::Campaign);
     let Some(table) = value.as_table() else {
-        return Err(LoadFault::WrongKind(Place::section(Section::Campaign)));
+        return Err(FaultKind::WrongKind.at(place).into());
     };
-    let Some(points) = member(table, "points") else {
-        return Err(LoadFault::Missing(points_place()));
+    let place = place.key(Key::Points);
+    let Some(points) = at_key(table, Key::Points) else {
+        return Err(FaultKind::Missing.at(place).into());
     };
-    let Some(values) = points.as_array() else {
-        return Err(LoadFault::WrongKind(points_place()));
-    };
-    few_points(alloc, values.as_slice(), handlers)
+    few_points(alloc, points, place, entries)
 }
 
 /// What the reader of points takes is what the grammar spells, and `BadOp` is for words that spell no entry, whatever

@@ -2,6 +2,7 @@
 ghost use Rattle.std.specs.Prelude.{◌≤◌, ◌<◌, length};
 ghost use Rattle.model.specs.Scripts.{most_name_bytes, priorities, most_ops};
 
+use arrayvec::ArrayVec;
 use toml::Value;
 
 // A task whose ops are still texts.
@@ -25,3 +26,9 @@ impl Default for RawTask<'_> {
         }
     }
 }
+
+// The most tasks (profile).
+const MOST_TASKS: usize = 32;
+
+/// The tasks of a document, whose ops are still texts.
+pub(crate) type RawTasks<'a> = ArrayVec<RawTask<'a>, MOST_TASKS>;

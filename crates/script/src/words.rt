@@ -4,7 +4,7 @@ ghost use Rattle.std.specs.Char.{is_ascii_digit};
 ghost use Rattle.std.specs.List.{list_all, position_or_len};
 ghost use Rattle.std.specs.Str.Parse.{digits_value};
 ghost use Rattle.script.specs.Finding.{found_by};
-ghost use Rattle.script.specs.Grammar.{words_of, is_number, number_of, answer_of, wait_of, choice_of, OfObject, OfGroup, OfTask, take_by};
+ghost use Rattle.script.specs.Grammar.{words_of, is_number, number_of, number_unless, choice_of, OfObject, OfGroup, OfTask, take_by};
 
 use crate::finding::Finding;
 use crate::object_sort::ObjectSort;
@@ -73,22 +73,11 @@ pub(crate) fn number_of(word: &[u8]) -> Option<u32>
     }
 }
 
-// The answer that a word writes.
-fn answer_of(word: &[u8]) -> Option<Option<u32>>
-    ensures { result ≡ answer_of word.now }
+// The number that a word writes, or none where it is this other word.
+fn number_unless(word: &[u8], other: &str) -> Option<Option<u32>>
+    ensures { result ≡ number_unless other.now word.now }
 {
-    if word == b"none".as_slice() {
-        Some(None)
-    } else {
-        number_of(word).map(Some)
-    }
-}
-
-// How long a word has a call wait: so many ticks, or for ever.
-fn wait_of(word: &[u8]) -> Option<Option<u32>>
-    ensures { result ≡ wait_of word.now }
-{
-    if word == b"forever".as_slice() {
+    if word == other.as_bytes() {
         Some(None)
     } else {
         number_of(word).map(Some)
@@ -153,20 +142,12 @@ impl<'a> Words<'a> {
         number_of(self.next()?)
     }
 
-    /// The answer that the next word writes.
-    pub(crate) fn answer(&mut self) -> Option<Option<u32>>
-        ensures { MatchOption result (take_by answer_of self.old ≡ None)
-            (λ a. take_by answer_of self.old ≡ Some (a, self.new)) }
+    /// The number that the next word writes, or none where it is this other word.
+    pub(crate) fn number_unless(&mut self, other: &str) -> Option<Option<u32>>
+        ensures { MatchOption result (take_by (number_unless other.now) self.old ≡ None)
+            (λ n. take_by (number_unless other.now) self.old ≡ Some (n, self.new)) }
     {
-        answer_of(self.next()?)
-    }
-
-    /// How long the next word has a call wait.
-    pub(crate) fn wait(&mut self) -> Option<Option<u32>>
-        ensures { MatchOption result (take_by wait_of self.old ≡ None)
-            (λ ticks. take_by wait_of self.old ≡ Some (ticks, self.new)) }
-    {
-        wait_of(self.next()?)
+        number_unless(self.next()?, other)
     }
 
     /// The object of this sort that the next word names.

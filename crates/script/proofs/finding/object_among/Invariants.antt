@@ -1,9 +1,10 @@
-use Rattle.std.proofs.Common.{◌≡◌, drop, map}
-use Rattle.script.specs.Objects.{named_view}
-use Rattle.script.specs.Finding.{object_from}
+use Rattle.std.proofs.Common.{◌≡◌, map, drop}
+use Rattle.std.specs.List.{position_from}
+use Rattle.script.specs.Entries.{object_view}
+use Rattle.script.specs.Finding.{is_called}
 use Rattle.script.proofs.finding.object_among.Given as goal
 
 abbrev pub invariant-loop-index : goal.invariant-loop-index
 invariant-loop-index l =
-    object_from 0 l.sort l.word (map named_view l.objects)
-    ≡ object_from l.index l.sort l.word (map named_view (drop l.index l.objects))
+    position_from (is_called l.sort l.word) 0 (map object_view l.objects)
+    ≡ position_from (is_called l.sort l.word) l.index (map object_view (drop l.index l.objects))

@@ -1,9 +1,16 @@
-use Rattle.std.proofs.Common.{◌≡◌, drop}
-use Rattle.toml.specs.View.{items_view}
-use Rattle.script.specs.Ops.{ops_fault}
+use Rattle.std.proofs.Common.{◌≡◌, map, drop}
+use Rattle.std.specs.List.{fold}
+use Rattle.toml.specs.View.{view}
+use Rattle.script.specs.Arrays.{each_fault}
+use Rattle.script.specs.Entries.{entries_view}
+use Rattle.script.specs.Ops.{op_elements, nesting_with}
 use Rattle.script.proofs.ops.check_script.Given as goal
 
 abbrev pub invariant-loop-index : goal.invariant-loop-index
-invariant-loop-index l =
-    ops_fault l.entries l.place 0 0 (items_view l.texts)
-    ≡ ops_fault l.entries l.place l.index l.nesting (items_view (drop l.index l.texts))
+invariant-loop-index g l =
+    let elements = op_elements g.O.TextOp.ops (entries_view l.entries) l.place in
+    let next = nesting_with g.O.TextOp.ops (entries_view l.entries) in
+    record {
+      checks : each_fault elements 0 0 (map view l.texts) ≡ each_fault elements l.nesting l.index (map view (drop l.index l.texts));
+      nesting : fold next 0 (map view l.texts) ≡ fold next l.nesting (map view (drop l.index l.texts));
+    }

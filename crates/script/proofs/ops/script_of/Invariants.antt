@@ -1,14 +1,15 @@
-use Rattle.std.proofs.Common.{◌≡◌, ◌++◌, drop, length}
-use Rattle.toml.specs.View.{items_view}
-use Rattle.model.specs.Scripts.{nesting_after}
-use Rattle.script.specs.Ops.{ops_fault, ops_named}
+use Rattle.std.proofs.Common.{◌≡◌, ◌≤◌, ◌++◌, length, map, drop}
+use Rattle.toml.specs.View.{view}
+use Rattle.model.specs.Scripts.{Nests, nesting_after}
+use Rattle.script.specs.Entries.{entries_view}
+use Rattle.script.specs.Ops.{task_ops, script_named}
 use Rattle.script.proofs.ops.script_of.Given as goal
 
-abbrev pub invariant-loop-index : goal.invariant-loop-index
-invariant-loop-index l = record {
-  checks : ops_fault l.entries l.place 0 0 (items_view l.texts)
-      ≡ ops_fault l.entries l.place l.index (nesting_after 0 l.builder) (items_view (drop l.index l.texts));
-  named : ops_named l.entries (items_view l.texts)
-      ≡ l.builder ++ ops_named l.entries (items_view (drop l.index l.texts));
-  count : length l.builder ≡ l.index;
-}
+abbrev pub invariant-loop-text : goal.invariant-loop-text
+invariant-loop-text l =
+    let left = script_named task_ops (entries_view l.entries) (map view (drop l.text-index l.texts)) in
+    record {
+      nests : Nests (nesting_after 0 l.builder) left;
+      named : script_named task_ops (entries_view l.entries) (map view l.texts) ≡ l.builder ++ left;
+      few : length l.builder ≤ l.text-index;
+    }

@@ -6,7 +6,6 @@ pub loop-index-preserved : goal.loop-index-preserved
 loop-index-preserved c = record {
   checks = grind (arith, common_steps);
   named = grind (arith, common_steps);
-  entries = grind (arith, common_steps);
   count = grind (arith, common_steps);
   room = grind (arith, common_steps);
 }

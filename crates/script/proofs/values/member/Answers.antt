@@ -2,4 +2,4 @@ use Rattle.toml.proofs.Views.{table_get}
 use Rattle.script.proofs.values.member.Goals as goal
 
 pub returns : goal.returns
-returns c = table_get c.get.result c.args.key.now c.args.table.now.entries c.get.ensures.value
+returns c = table_get c.get.result c.args.word.now c.args.table.now.entries c.get.ensures.value

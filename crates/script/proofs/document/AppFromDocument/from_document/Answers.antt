@@ -1,0 +1,92 @@
+use Rattle.std.proofs.Common.{◌≡◌, ◌≤◌, List, length, map, ap, subst, sym, arith, ◌∙◌}
+use Rattle.std.specs.List.{AllByRecursion}
+use Rattle.std.proofs.lemmas.Grind.{common_steps}
+use Rattle.std.proofs.lemmas.List.{length-map}
+use Rattle.model.specs.Application.{Application, Handler}
+use Rattle.model.specs.Scripts.{IsHandler, KnowsAll, most_name_bytes, most_handler_ops}
+use Rattle.toml.specs.View.{table_view}
+use Rattle.script.specs.declared.named_object.NamedObject.{NamedObject}
+use Rattle.script.specs.Entries.{Object, RawIsr, Entries, HasEntries, isr_names, object_view, raw_view, entries_view}
+use Rattle.script.specs.Ops.{with_ops, with_isr_ops}
+use Rattle.script.specs.Interrupts.{interrupts_named, in_order}
+use Rattle.script.specs.Points.{campaign_named}
+use Rattle.script.proofs.Known.{known_tasks, known_handlers}
+use Rattle.script.proofs.Scripts.{tasks_nest}
+use Rattle.script.proofs.Coming.{AreInterrupts}
+use Rattle.script.proofs.Formed.{ArePoints, taken_interrupts, are_interrupts, few_come, taken_points, are_entries}
+use Rattle.script.proofs.document.AppFromDocument.from_document.Goals as goal
+
+abbrev HasFewOps : Handler → Type 0
+HasFewOps h = (length h.name ≤ most_name_bytes) × (length h.ops ≤ most_handler_ops)
+
+pub tasks_of-requires : goal.tasks_of-requires
+tasks_of-requires c = tasks_nest (entries_view c.in_ok-entries.entries) c.in_ok-check_scripts.ensures.0
+
+pub new-requires : goal.new-requires
+new-requires c =
+    let entries : Entries = entries_view c.in_ok-entries.entries in
+    let app : Application = record {
+      start = c.in_ok-start.start;
+      limits = c.in_ok-limits.limits;
+      objects = c.in_ok-kinds.kinds.items;
+      group_count = c.group_count.result;
+      handlers = c.in_ok-handlers.handlers.items;
+      interrupts = c.in_ok-coming.coming.items;
+      tasks = c.in_ok-tasks.tasks.items;
+      points = c.in_ok-points.points.items;
+    } in
+    let document = table_view c.args.document.now in
+    let names = isr_names entries in
+    let kinds = λ (xs : List NamedObject). map (λ (o : Object). o.kind) (map object_view xs) in
+    let of_kinds : app.objects ≡ kinds c.in_ok-entries.entries.objects.items =
+    c.in_ok-kinds.ensures.kinds ∙ ap kinds c.as_slice.ensures.value in
+    let of_handlers : app.handlers ≡ map (with_isr_ops entries) entries.handlers = c.in_ok-handlers.ensures.handlers in
+    let of_tasks : app.tasks ≡ map (with_ops entries) entries.tasks = c.in_ok-tasks.ensures.tasks in
+    let of_interrupts : app.interrupts ≡ in_order (interrupts_named names document) =
+    c.in_ok-coming.ensures ∙ ap in_order (c.as_slice-2.ensures.value ∙ c.in_ok-interrupts.ensures.1) in
+    let of_points : app.points ≡ campaign_named names document = c.in_ok-points.ensures.1 in
+    let count : length names ≡ length app.handlers =
+    length-map entries.handlers (λ (h : RawIsr). h.name)
+    ∙ sym (ap length of_handlers ∙ length-map entries.handlers (with_isr_ops entries)) in
+    let has : HasEntries app entries = record {
+      objects = of_kinds;
+      groups = c.group_count.ensures.count;
+      tasks = ap length of_tasks ∙ length-map entries.tasks (with_ops entries);
+    } in
+    let coming : AreInterrupts (length app.handlers) app.interrupts =
+    subst (λ n. AreInterrupts n app.interrupts) count
+    (subst (AreInterrupts (length names)) (sym of_interrupts) (taken_interrupts names document c.in_ok-interrupts.ensures.0)) in
+    let points : ArePoints (length app.handlers) app.points =
+    subst (λ n. ArePoints n app.points) count
+    (subst (ArePoints (length names)) (sym of_points) (taken_points names document c.in_ok-points.ensures.0)) in
+    let few : AllByRecursion HasFewOps (map (with_isr_ops entries) entries.handlers) =
+    subst (AllByRecursion HasFewOps) of_handlers c.in_ok-handlers.ensures.formed in
+    let objects = c.in_ok-entries.entries.objects.items in
+    let few_objects : length objects ≤ 32 = subst (λ (xs : List NamedObject). length xs ≤ 32) c.as_slice.ensures.value c.as_slice.ensures.fits in
+    let object_count : length app.objects ≡ length objects =
+    ap length of_kinds ∙ (length-map (map object_view objects) (λ (o : Object). o.kind) ∙ length-map objects object_view) in
+    let task_count : length app.tasks ≡ length c.in_ok-entries.entries.tasks.items =
+    ap length of_tasks ∙ (length-map entries.tasks (with_ops entries) ∙ length-map c.in_ok-entries.entries.tasks.items raw_view) in
+    let some = c.in_ok-entries.ensures.some in
+    record {
+      some = omega (arith, task_count, some);
+      few = c.in_ok-tasks.ensures.few;
+      tasks = c.in_ok-tasks.ensures.formed;
+      objects = c.in_ok-kinds.ensures.formed;
+      few_objects = omega (arith, object_count, few_objects);
+      few_groups = c.group_count.ensures.few;
+      handlers =
+          subst (AllByRecursion (IsHandler app)) (sym of_handlers)
+          (known_handlers app entries has c.in_ok-check_handlers.ensures.0 few);
+      few_handlers = c.in_ok-handlers.ensures.few;
+      interrupts = are_interrupts app app.interrupts coming.first coming.last coming.known;
+      few_interrupts = coming.few;
+      few_at_once = λ tick. few_come app tick (coming.few_at_once tick);
+      in_order = coming.in_order;
+      known =
+          subst (AllByRecursion (KnowsAll app)) (sym of_tasks)
+          (known_tasks app entries has c.in_ok-check_scripts.ensures.0);
+      points = are_entries app app.points points.entries;
+      few_points = points.few;
+      start = grind (arith, common_steps);
+    }

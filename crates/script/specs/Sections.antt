@@ -1,0 +1,138 @@
+-- The sections of a document whose entries have names.
+use Rattle.std.specs.Prelude.{◌-◌, List, [], ◌∷◌, ◌++◌, map, fold, Option, Some, None}
+use Rattle.toml.specs.Data.{Data, Members, get_member}
+use Rattle.model.specs.declared.object.ObjectKind.{ObjectKind}
+use Rattle.model.specs.declared.object.ObjectKind.TheVariants as kind
+use Rattle.model.specs.Scripts.{most_objects, most_groups, most_handlers, most_tasks, most_items, most_count, most_handler_ops, most_ops, priorities}
+use Rattle.script.specs.declared.fault.Fault.{Fault}
+use Rattle.script.specs.declared.place.Place.{Place}
+use Rattle.script.specs.declared.place.Section.{Section}
+use Rattle.script.specs.declared.place.Section.TheVariants as section
+use Rattle.script.specs.declared.place.Key.TheVariants as key
+use Rattle.script.specs.declared.object_section.ObjectSection.{ObjectSection}
+use Rattle.script.specs.declared.object_section.ObjectSection.TheVariants.{Queue, Binary, Counting, Mutex}
+use Rattle.script.specs.Faults.{section_word, first_fault, required, optional}
+use Rattle.script.specs.Values.{number_fault, number_named, name_fault, name_named, texts_fault, texts_named}
+use Rattle.script.specs.Arrays.{section_fault, section_named}
+use Rattle.script.specs.Entries.{Object, Group, RawIsr, Raw, Entries, names_of}
+
+-- what stands at a section
+abbrev pub data_at : Section → Members → Option Data
+data_at s document = get_member (section_word s) document
+
+abbrev pub no_entries : Entries
+no_entries = record { objects = []; groups = []; handlers = []; tasks = [] }
+
+-- ---- objects
+
+-- as a section of the file
+abbrev pub section_of : ObjectSection → Section
+section_of Queue = section.Queue
+section_of Binary = section.Binary
+section_of Counting = section.Counting
+section_of Mutex = section.Mutex
+
+-- the keys of an object beside its name; a semaphore starts with no more than its greatest count
+abbrev pub kind_fault : ObjectSection → Place → Members → Option Fault
+kind_fault Queue p ms = required p key.Length (number_fault 1 most_items) ms
+kind_fault Counting p ms = first_fault (
+    required p key.Max (number_fault 1 most_count) ms
+    ∷ optional p key.Initial (number_fault 0 (number_named key.Max (Some ms))) ms
+    ∷ [])
+kind_fault _ p ms = None
+
+-- the object that they name; a binary semaphore counts to 1 and starts empty
+abbrev pub kind_named : ObjectSection → Option Members → ObjectKind
+kind_named Queue ms = kind.Queue (number_named key.Length ms)
+kind_named Binary ms = kind.Semaphore 1 0
+kind_named Counting ms = kind.Semaphore (number_named key.Max ms) (number_named key.Initial ms)
+kind_named Mutex ms = kind.Mutex
+
+abbrev pub object_keys : ObjectSection → Entries → List Object → Place → Members → Option Fault
+object_keys s earlier before p ms = first_fault (
+    required p key.Name (name_fault (names_of earlier ++ map (λ (o : Object). o.name) before)) ms
+    ∷ kind_fault s p ms
+    ∷ [])
+
+abbrev pub object_named : ObjectSection → Option Members → Object
+object_named s ms = record { name = name_named ms; kind = kind_named s ms }
+
+-- the sections of objects, in the order in which their objects are numbered
+abbrev pub object_sections : List ObjectSection
+object_sections = Queue ∷ Binary ∷ Counting ∷ Mutex ∷ []
+
+-- these objects, and those of a section
+unfoldable pub with_objects : List Object → ObjectSection → Members → List Object
+with_objects before s document = before ++ section_named (object_named s) (data_at (section_of s) document)
+
+-- the checks of a section, after these objects, with which there are no more than there may be
+unfoldable pub more_objects_fault : List Object → ObjectSection → Members → Option Fault
+more_objects_fault before s document =
+    section_fault most_objects (section_of s) (object_named s) (object_keys s no_entries) before (data_at (section_of s) document)
+
+-- each of these sections in order, after these objects
+abbrev pub each_objects_fault : List ObjectSection → List Object → Members → Option Fault
+each_objects_fault [] before document = None
+each_objects_fault (s ∷ ss) before document = first_fault (
+    more_objects_fault before s document
+    ∷ each_objects_fault ss (with_objects before s document) document
+    ∷ [])
+
+unfoldable pub objects_fault : Members → Option Fault
+objects_fault document = each_objects_fault object_sections [] document
+
+unfoldable pub objects_named : Members → List Object
+objects_named document = fold (λ before s. with_objects before s document) [] object_sections
+
+-- ---- event groups, handlers and tasks, each after the entries of earlier sections
+
+abbrev pub group_keys : Entries → List Group → Place → Members → Option Fault
+group_keys earlier before p ms =
+    required p key.Name (name_fault (names_of earlier ++ map (λ (g : Group). g.name) before)) ms
+
+abbrev pub group_named : Option Members → Group
+group_named ms = record { name = name_named ms }
+
+unfoldable pub groups_fault : Entries → Members → Option Fault
+groups_fault earlier document =
+    section_fault most_groups section.Group group_named (group_keys earlier) [] (data_at section.Group document)
+
+unfoldable pub groups_named : Members → List Group
+groups_named document = section_named group_named (data_at section.Group document)
+
+abbrev pub handler_keys : Entries → List RawIsr → Place → Members → Option Fault
+handler_keys earlier before p ms = first_fault (
+    required p key.Name (name_fault (names_of earlier ++ map (λ (h : RawIsr). h.name) before)) ms
+    ∷ required p key.Ops (texts_fault most_handler_ops) ms
+    ∷ [])
+
+abbrev pub handler_named : Option Members → RawIsr
+handler_named ms = record { name = name_named ms; ops = texts_named key.Ops ms }
+
+unfoldable pub handlers_fault : Entries → Members → Option Fault
+handlers_fault earlier document =
+    section_fault most_handlers section.Handler handler_named (handler_keys earlier) [] (data_at section.Handler document)
+
+unfoldable pub handlers_named : Members → List RawIsr
+handlers_named document = section_named handler_named (data_at section.Handler document)
+
+abbrev pub task_keys : Entries → List Raw → Place → Members → Option Fault
+task_keys earlier before p ms = first_fault (
+    required p key.Name (name_fault (names_of earlier ++ map (λ (t : Raw). t.name) before)) ms
+    ∷ required p key.Priority (number_fault 0 (priorities - 1)) ms
+    ∷ required p key.Script (texts_fault most_ops) ms
+    ∷ [])
+
+abbrev pub task_named : Option Members → Raw
+task_named ms = record {
+  name = name_named ms;
+  priority = number_named key.Priority ms;
+  script = texts_named key.Script ms;
+}
+
+unfoldable pub tasks_fault : Entries → Members → Option Fault
+tasks_fault earlier document =
+    section_fault most_tasks section.Task task_named (task_keys earlier) [] (data_at section.Task document)
+
+unfoldable pub tasks_named : Members → List Raw
+tasks_named document = section_named task_named (data_at section.Task document)

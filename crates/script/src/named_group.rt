@@ -1,0 +1,19 @@
+//! Event groups as the file has them.
+use arrayvec::ArrayVec;
+use model::App;
+
+/// An event group, of which the file has only the name.
+#[derive(Drop)]
+pub(crate) struct NamedGroup<'a> {
+    pub(crate) name: &'a str,
+}
+
+// What stands in an array of event groups where none has been put yet.
+impl Default for NamedGroup<'_> {
+    fn default() -> Self {
+        NamedGroup { name: "" }
+    }
+}
+
+/// The event groups of a document, in their order.
+pub(crate) type Groups<'a> = ArrayVec<NamedGroup<'a>, { App::MOST_GROUPS }>;
