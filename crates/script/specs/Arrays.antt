@@ -27,14 +27,16 @@ alike at fault = record { at = at; fault = λ s p x. fault p x; next = λ s x. s
 
 -- ---- arrays
 
+-- items as a list
 abbrev pub list_of : Items → List Data
 list_of no_items = []
 list_of (item d ds) = d ∷ list_of ds
 
+-- the elements, where it is an array
 abbrev pub array_of : Data → Option (List Data)
 array_of d = option_map list_of (as_array d)
 
--- what stands in an array, where there is one
+-- the same, or none
 abbrev pub elements_of : Option Data → List Data
 elements_of d = unwrap_or (option_and_then array_of d) []
 

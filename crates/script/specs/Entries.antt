@@ -1,4 +1,4 @@
--- The entries of a document that have names, with the ops of handlers and tasks as they stand in it.
+-- The entries of a document that have names, as the file has them: the ops of handlers and tasks are still its texts.
 use Rattle.std.specs.Prelude.{◌≡◌, ℕ, List, ◌++◌, length, map}
 use Rattle.toml.specs.Data.{Data}
 use Rattle.toml.specs.View.{view}
@@ -56,10 +56,11 @@ entries_view e = record {
 
 -- ---- what is asked of them
 
+-- the names of the handlers
 abbrev pub isr_names : Entries → List (List ℕ)
 isr_names entries = map (λ (h : RawIsr). h.name) entries.handlers
 
--- all names, in their order
+-- all names, section by section
 abbrev pub names_of : Entries → List (List ℕ)
 names_of entries =
     map (λ (o : Object). o.name) entries.objects

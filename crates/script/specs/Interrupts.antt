@@ -32,11 +32,13 @@ interrupt_keys names before p ms = first_fault (
     ∷ fails_if (nat_le most_at_once (count_at (interrupt_named names (Some ms)).tick before)) (fault_at TooMany p)
     ∷ [])
 
+-- all checks of the section
 unfoldable pub interrupts_fault : List (List ℕ) → Members → Option Fault
 interrupts_fault names document =
     section_fault most_interrupts section.Interrupt (interrupt_named names) (interrupt_keys names) []
     (data_at section.Interrupt document)
 
+-- its interrupts, in the order of the file
 unfoldable pub interrupts_named : List (List ℕ) → Members → List Interrupt
 interrupts_named names document = section_named (interrupt_named names) (data_at section.Interrupt document)
 

@@ -35,7 +35,7 @@ limits_named d = record {
   steps = number_or most_limit (member_of key.Steps (option_and_then as_table d));
 }
 
--- ---- the entries with names, section by section
+-- ---- the entries with names, as far as they are read before each section
 
 abbrev pub with_no_groups : Members → Entries
 with_no_groups document = record no_entries { objects = objects_named document }

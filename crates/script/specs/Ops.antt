@@ -37,14 +37,16 @@ abbrev pub is_allowed : List Object → Op → Bool
 is_allowed objects (Do object access) = allows objects object access
 is_allowed objects _ = true
 
+-- the same of a handler's op
 abbrev pub is_isr_allowed : List Object → IsrOp → Bool
 is_isr_allowed objects (isr.Do object access) = allows objects object access
 is_isr_allowed objects _ = true
 
+-- the ops of tasks
 abbrev pub task_ops : Ops Op
 task_ops = record { of_words = op_of; is_allowed = is_allowed; may_stand = may_stand; nesting_past = nesting_past }
 
--- Handlers have no loops.
+-- the ops of handlers, which have no loops
 abbrev pub handler_ops : Ops IsrOp
 handler_ops = record {
   of_words = isr_op_of;
@@ -95,6 +97,7 @@ script_fault ops entries p ds = first_fault (
 abbrev pub script_named : {O : Type 0} → Ops O → Entries → List Data → List O
 script_named ops entries ds = filter_map (op_in ops (among entries)) ds
 
+-- the ops of each handler
 abbrev pub handler_scripts : Entries → Elements (Unit {0}) (List Data)
 handler_scripts entries =
     alike (λ i. at_key (at_entry section.Handler i) key.Ops) (script_fault handler_ops entries)
@@ -103,6 +106,7 @@ unfoldable pub handler_ops_fault : Entries → Option Fault
 handler_ops_fault entries =
     each_fault (handler_scripts entries) tt 0 (map (λ (h : RawIsr). h.ops) entries.handlers)
 
+-- the script of each task
 abbrev pub task_scripts : Entries → Elements (Unit {0}) (List Data)
 task_scripts entries =
     alike (λ i. at_key (at_entry section.Task i) key.Script) (script_fault task_ops entries)

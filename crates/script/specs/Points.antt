@@ -83,6 +83,7 @@ entry_fault names p d = need (fault_at WrongKind p) (as_str d) (λ text.
 abbrev pub entry_named : List Word → Data → Option PointEntry
 entry_named names d = option_and_then (λ text. entry_of names (words_of text)) (as_str d)
 
+-- the entries of the array at a place
 abbrev pub point_elements : List Word → Place → Elements (Unit {0}) Data
 point_elements names p = alike (at_element p) (entry_fault names)
 
@@ -96,6 +97,7 @@ campaign_fault names document =
     option_and_then (λ d. need (fault_at WrongKind p) (as_table d) (required p key.Points (points_fault names)))
     (data_at section.Campaign document)
 
+-- the points of the section
 unfoldable pub campaign_named : List Word → Members → List PointEntry
 campaign_named names document =
     let table = option_and_then as_table (data_at section.Campaign document) in

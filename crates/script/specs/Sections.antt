@@ -1,4 +1,5 @@
--- The sections of a document whose entries have names.
+-- The sections of a document whose entries have names. `.._keys` are the checks of an entry's keys in their order, `.._named`
+-- is what it names, or what all of them name, and `.._fault` are all checks of the section.
 use Rattle.std.specs.Prelude.{◌-◌, List, [], ◌∷◌, ◌++◌, map, fold, Option, Some, None}
 use Rattle.toml.specs.Data.{Data, Members, get_member}
 use Rattle.model.specs.declared.object.ObjectKind.{ObjectKind}

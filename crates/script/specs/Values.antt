@@ -31,6 +31,7 @@ abbrev pub integer_fault : (least most : ℕ) → Place → ℤ → Option Fault
 integer_fault least most p (pos n) = fails_if (nat_lt n least || nat_lt most n) (fault_at OutOfRange p)
 integer_fault least most p (negsuc n) = Some (fault_at OutOfRange p)
 
+-- the same of what has to be one
 abbrev pub number_fault : (least most : ℕ) → Place → Data → Option Fault
 number_fault least most p d = need (fault_at WrongKind p) (as_integer d) (integer_fault least most p)
 
@@ -43,6 +44,7 @@ abbrev pub number_or : ℕ → Option Data → ℕ
 number_or default None = default
 number_or default (Some d) = integer_named (as_integer d)
 
+-- the number at a key of a table
 abbrev pub number_named : Key → Option Members → ℕ
 number_named k ms = number_or 0 (member_of k ms)
 
@@ -73,6 +75,7 @@ known_named names d = unwrap_or (option_and_then (λ name. index_of name names) 
 
 -- ---- texts
 
+-- Each element of the array at a place is a text.
 abbrev pub text_elements : Place → Elements (Unit {0}) Data
 text_elements p = alike (at_element p) (λ q d. fails_if (is_none (as_str d)) (fault_at WrongKind q))
 

@@ -3,8 +3,6 @@ ghost use Rattle.std.specs.Prelude.{◌≡◌, map, Some, IfOk, OnOk};
 ghost use Rattle.std.specs.List.{AllByRecursion};
 ghost use Rattle.toml.specs.View.{table_view};
 ghost use Rattle.model.specs.Scripts.{IsObjectKind};
-ghost use Rattle.script.specs.declared.object_section.ObjectSection.TheVariants as section;
-ghost use Rattle.script.specs.declared.place.Key.TheVariants as key;
 ghost use Rattle.script.specs.Faults.{Judges, seen};
 ghost use Rattle.script.specs.Entries.{Object, object_view};
 ghost use Rattle.script.specs.Sections.{kind_fault, kind_named, more_objects_fault, with_objects, objects_fault, objects_named};
@@ -29,30 +27,6 @@ const MOST_ITEMS: u32 = ObjectKind::MOST_ITEMS as u32;
 // The most that a semaphore counts to (profile).
 const MOST_COUNT: u32 = u16::MAX as u32;
 
-// The queue that stands here.
-fn queue(table: &Table, place: Place) -> Result<ObjectKind, Fault>
-    ensures checks { Judges result
-        (kind_fault section.Queue place (table_view table.now))
-        (kind_named section.Queue (Some (table_view table.now))) }
-    ensures formed { IfOk result IsObjectKind }
-{
-    let length = required_number(table, place, Key::Length, 1, MOST_ITEMS)?;
-    Ok(ObjectKind::Queue(length as u16))
-}
-
-// The counting semaphore that stands here.
-fn counting(table: &Table, place: Place) -> Result<ObjectKind, Fault>
-    ensures checks { Judges result
-        (kind_fault section.Counting place (table_view table.now))
-        (kind_named section.Counting (Some (table_view table.now))) }
-    ensures formed { IfOk result IsObjectKind }
-{
-    let max = required_number(table, place, Key::Max, 1, MOST_COUNT)?;
-    let value = at_key(table, Key::Initial);
-    let initial = optional_number(value, place.key(Key::Initial), 0, max, 0)?;
-    Ok(ObjectKind::Semaphore(max as u16, initial as u16))
-}
-
 // The object that stands here. A binary semaphore counts to 1 and starts empty.
 fn kind(section: ObjectSection, table: &Table, place: Place) -> Result<ObjectKind, Fault>
     ensures checks { Judges result
@@ -61,9 +35,17 @@ fn kind(section: ObjectSection, table: &Table, place: Place) -> Result<ObjectKin
     ensures formed { IfOk result IsObjectKind }
 {
     match section {
-        ObjectSection::Queue => queue(table, place),
+        ObjectSection::Queue => {
+            let length = required_number(table, place, Key::Length, 1, MOST_ITEMS)?;
+            Ok(ObjectKind::Queue(length as u16))
+        }
         ObjectSection::Binary => Ok(ObjectKind::Semaphore(1, 0)),
-        ObjectSection::Counting => counting(table, place),
+        ObjectSection::Counting => {
+            let max = required_number(table, place, Key::Max, 1, MOST_COUNT)?;
+            let value = at_key(table, Key::Initial);
+            let initial = optional_number(value, place.key(Key::Initial), 0, max, 0)?;
+            Ok(ObjectKind::Semaphore(max as u16, initial as u16))
+        }
         ObjectSection::Mutex => Ok(ObjectKind::Mutex),
     }
 }

@@ -4,9 +4,7 @@ ghost use Rattle.std.specs.List.{AllByRecursion};
 ghost use Rattle.toml.specs.View.{view};
 ghost use Rattle.model.specs.Application.{Handler, Definition};
 ghost use Rattle.model.specs.Scripts.{InRange, IsScript, IsDefinition, Nests, may_stand, nesting_after, most_tasks, most_ops, most_handlers, most_handler_ops, most_name_bytes};
-ghost use Rattle.script.specs.declared.place.Section.TheVariants as section;
-ghost use Rattle.script.specs.declared.place.Key.TheVariants as key;
-ghost use Rattle.script.specs.Faults.{Judges, at_entry, at_key};
+ghost use Rattle.script.specs.Faults.{Judges};
 ghost use Rattle.script.specs.Finding.{found_by, among};
 ghost use Rattle.script.specs.Entries.{object_view, entries_view};
 ghost use Rattle.script.specs.Ops.{allows, task_ops, handler_ops, op_in, op_fault, nesting_with, script_fault, script_named, handler_ops_fault, scripts_fault, with_isr_ops, with_ops};
@@ -154,27 +152,14 @@ fn check_script<O: TextOp>(
     Ok(())
 }
 
-// Where the ops of the handler of this index stand.
-fn ops_place(entry: usize) -> Place
-    ensures { result ≡ at_key (at_entry section.Handler entry) key.Ops }
-{
-    Place::entry(Section::Handler, entry).key(Key::Ops)
-}
-
-// Where the script of the task of this index stands.
-fn script_place(entry: usize) -> Place
-    ensures { result ≡ at_key (at_entry section.Task entry) key.Script }
-{
-    Place::entry(Section::Task, entry).key(Key::Script)
-}
-
 /// Checks the ops of the handlers.
 #[tactic(auto, unfolding(crate::specs::Ops::handler_ops_fault))]
 pub(crate) fn check_handlers(entries: &NamedEntries<'_>) -> Result<(), Fault>
     ensures { Judges result (handler_ops_fault (entries_view entries.now)) tt }
 {
     for (entry, handler) in entries.handlers.as_slice().iter().enumerate() {
-        check_script::<IsrOp>(entries, handler.ops, ops_place(entry))?;
+        let place = Place::entry(Section::Handler, entry).key(Key::Ops);
+        check_script::<IsrOp>(entries, handler.ops, place)?;
     }
     Ok(())
 }
@@ -185,7 +170,8 @@ pub(crate) fn check_scripts(entries: &NamedEntries<'_>) -> Result<(), Fault>
     ensures { Judges result (scripts_fault (entries_view entries.now)) tt }
 {
     for (entry, task) in entries.tasks.as_slice().iter().enumerate() {
-        check_script::<Op>(entries, task.script, script_place(entry))?;
+        let place = Place::entry(Section::Task, entry).key(Key::Script);
+        check_script::<Op>(entries, task.script, place)?;
     }
     Ok(())
 }
