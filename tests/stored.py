@@ -15,7 +15,7 @@ import re
 import shlex
 
 from cases import case, case_named, equal
-from running import ROOT, is_refused, run, stored, write
+from running import ROOT, run, stored, write
 
 ENDINGS = (".out", ".report", ".session", ".faults")
 OPTIONS = ([], ["--quiet"], ["--workers", "64"], ["--stride=65536"], ["--block", "1000000", "--stride", "1"])
@@ -31,6 +31,14 @@ def files():
 FILES = sorted(files())
 
 
+def answers(what, found, wanted):
+    """The program's answer to what was asked is the one that is wanted."""
+    try:
+        equal(found, wanted)
+    except AssertionError as why:
+        raise AssertionError(f"{what}: {why}") from None
+
+
 def runs_as_stored(path):
     wanted = stored(path)
     passes = b": pass in " in wanted.partition(b"\n")[0]
@@ -41,7 +49,8 @@ def reports_as_stored(path):
     wanted = stored(path)
     rows = re.match(rb"total (\d+): pass (\d+),", wanted.splitlines()[-1])
     for words in OPTIONS:
-        equal(run("campaign", f"{ROOT}/{path[:-7]}.toml", *words), (0 if rows[1] == rows[2] else 1, wanted, b""))
+        found = run("campaign", f"{ROOT}/{path[:-7]}.toml", *words)
+        answers(f"with {words}", found, (0 if rows[1] == rows[2] else 1, wanted, b""))
 
 
 def answers_as_stored(path):
@@ -50,7 +59,8 @@ def answers_as_stored(path):
     for command in commands:
         words, lines, status = re.fullmatch(r"(.*)\n((?:.*\n)*?)(?:\[(\d+)\]\n)?", command).groups("0")
         wanted = (lines.encode(), b"") if int(status) < 2 else (b"", lines.encode())
-        equal((words, *run(*shlex.split(words), cwd=os.path.dirname(f"{ROOT}/{path}"))), (words, int(status), *wanted))
+        found = run(*shlex.split(words), cwd=os.path.dirname(f"{ROOT}/{path}"))
+        answers(f"rtosim{words}", found, (int(status), *wanted))
 
 
 def refused_texts(path):
@@ -67,7 +77,7 @@ def refuses_as_stored(path):
     for text, fault in refused_texts(path):
         write("refused.toml", text)
         for command in ("run", "campaign"):
-            is_refused(run(command, "refused.toml"), 3, fault)
+            answers(f"{command} of {text[-80:]!r}", run(command, "refused.toml"), (3, b"", f"rtosim: {fault}\n".encode()))
 
 
 CHECKS = dict(zip(ENDINGS, (runs_as_stored, reports_as_stored, answers_as_stored, refuses_as_stored)))
