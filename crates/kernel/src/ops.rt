@@ -102,14 +102,14 @@ impl Kernel {
 
     /// What the running task's op does, where no `suspend_all` is in force; a misuse ends the run, and does nothing else.
     #[inline(always)]
-    pub(crate) fn act<L: Log>(&mut self, app: &App, task: TaskId, op: Op, log: &mut L)
+    pub(crate) fn act<L: Log>(&mut self, app: &App, task: TaskId, op: &Op, log: &mut L)
         requires room { 65 ≤ (L.logged log.old).room }
-        requires can { CanOp app.now self.old task op }
+        requires can { CanOp app.now self.old task op.now }
         requires awake { self.old.suspensions ≡ 0 }
         ensures { DoesAny 65 self.old (L.logged log.old) self.new (L.logged log.new)
-            (λ s. act_unless app.now task (misuse s task op) op s) }
+            (λ s. act_unless app.now task (misuse s task op.now) op.now s) }
     {
-        match op {
+        match *op {
             Op::Work(ticks) => self.work(app, task, ticks, log),
             Op::Delay(ticks) => self.delay(app, task, ticks, log),
             Op::DelayUntil(ticks) => self.delay_until(app, task, ticks, log),

@@ -49,9 +49,11 @@ fn advance(
     limits.well_formed();
     let mut count = 0;
     'steps: while kernel.steps < step {
+        let tick = kernel.clock.tick();
         kernel.step(app, &[], meter, log);
         count += log.len();
-        pass_on(kernel, app, &[], step, log.is_empty(), limits, meter);
+        let quiet = kernel.clock.tick() != tick && log.is_empty();
+        pass_on(kernel, app, &[], step, quiet, limits, meter);
     }
     count
 }

@@ -1,7 +1,8 @@
 //! Steps, and whole runs.
-ghost use Rattle.std.specs.Prelude.{◌≡◌, ◌<◌, ◌≤◌, ◌+◌, ◌^◌, ◌++◌, [], Some, None, ◌||◌, IfOk, OnOk, OnErr, drop, length, slice_get};
+ghost use Rattle.std.specs.Prelude.{◌≡◌, ◌<◌, ◌≤◌, ◌+◌, ◌^◌, ◌++◌, [], Some, None, ◌||◌, IfSome, IsNone, IfOk, OnOk, OnErr, drop, length, slice_get};
 ghost use Rattle.std.specs.List.{AllByRecursion};
 ghost use Rattle.std.specs.List.{list_any};
+ghost use Rattle.model.specs.Application.{op_at};
 ghost use Rattle.model.specs.State.{State};
 ghost use Rattle.model.specs.Step.{act_current, step};
 ghost use Rattle.model.specs.Run as definition;
@@ -20,14 +21,26 @@ use crate::log::{Log, StepLog};
 use crate::quiet::{next_point, pass_on};
 use crate::trail::Trail;
 use arrayvec::ArrayVec;
-use model::{App, End, HandlerId, Limits, Memory, Meter, Plan, Point, Run};
+use model::{App, End, HandlerId, Limits, Memory, Meter, Op, Plan, Point, Run, TaskId};
 use std::alloc::Global;
 
 /// The handlers that come before a step: three at most (profile).
 type Injected = ArrayVec<HandlerId, 3>;
 
+/// The op of this index in a task's script; `None` past its end.
+// By a reference, so that of an op no more is read than what it does needs.
+#[inline(always)]
+fn op_of(app: &App, task: TaskId, op_index: u16) -> Option<&Op>
+    ensures some { IfSome result (λ op. op_at app.now task op_index ≡ Some op.now) }
+    ensures none { IsNone result → op_at app.now task op_index ≡ None }
+{
+    let definition = app.tasks().get(task.number as usize)?;
+    definition.ops().get(op_index as usize)
+}
+
 impl Kernel {
     /// What a step does: the running task's op, or for idle a tick.
+    #[inline(always)]
     fn act_current<L: Log>(&mut self, app: &App, log: &mut L)
         requires room { 65 ≤ (L.logged log.old).room }
         requires can { CanAct app.now self.old }
@@ -43,12 +56,13 @@ impl Kernel {
             return;
         }
         let op_index = self.progress(task).op_index;
-        if let Some(op) = app.op(task, op_index) {
+        if let Some(op) = op_of(app, task, op_index) {
             self.act(app, task, op, log);
         }
     }
 
     /// One step of the run, before which these handlers come, whose events go to a log that has none of this step yet.
+    #[inline(always)]
     fn step_onto<L: Log>(
         &mut self,
         app: &App,
@@ -95,6 +109,9 @@ impl Kernel {
     }
 
     /// Whether any task waits, for an object or for bits, or is suspended.
+    // It is asked only where nobody is Ready and nobody sleeps.
+    #[cold]
+    #[inline(never)]
     fn has_waiter(&self) -> bool
         ensures { (s : State) → StandsFor self.now s → result ≡ list_any is_blocked s.tasks }
     {
@@ -102,6 +119,7 @@ impl Kernel {
     }
 
     /// Whether every task is Ended: nobody is Ready, sleeps, waits or is suspended.
+    #[inline(always)]
     fn are_all_ended(&self) -> bool
         ensures { (s : State) → Stands self.now s → result ≡ are_all_ended s }
     {
@@ -123,6 +141,7 @@ impl Kernel {
 
     /// The end of the run before its next step, under these limits: the first that holds of a failed `expect`, every task
     /// Ended, the ticks, the steps, stuck (profile). `None` where the run goes on.
+    #[inline(always)]
     pub fn ended(&self, app: &App, limits: &Limits) -> Option<End>
         ensures { (s : State) → Stands self.now s → result ≡ end_of app.now limits.now s }
     {
@@ -178,6 +197,7 @@ fn step_apart(
 
 /// One step of the run, without handlers before it, whose events go to the end of the trail. At `Err(Memory)`, answered only
 /// where a growth was refused, so never where the step tells nothing, it is done all the same.
+#[inline(always)]
 fn step_along(
     kernel: &mut Kernel,
     app: &App,
@@ -255,17 +275,17 @@ fn step_after(
 }
 
 /// One step of the run, after the handlers of those points that are at it: these points are those from this step on. It
-/// answers the points after them.
+/// answers how many are at it.
 #[cold]
 #[inline(never)]
-fn step_after_points<'a>(
+fn step_after_points(
     kernel: &mut Kernel,
     app: &App,
-    points: &'a [Point],
+    points: &[Point],
     meter: &mut Meter,
     log: &mut StepLog,
     trail: &mut Trail,
-) -> Result<&'a [Point], Memory>
+) -> Result<usize, Memory>
     requires order { Rises (λ (p : definitions.Point). p.step) points.now }
     requires left { AllByRecursion (λ (p : definitions.Point). kernel.old.steps ≤ p.step) points.now }
     requires few { length (injected points.now kernel.old.steps) ≤ 3 }
@@ -275,20 +295,20 @@ fn step_after_points<'a>(
         → Stands kernel.new (step app.now (injected points.now kernel.old.steps) s) }
     ensures told { OnOk result ((s : State) → Stands kernel.old s
         → all_of trail.new ≡ all_of trail.old ++ (step app.now (injected points.now kernel.old.steps) s).log) }
-    ensures later { IfOk result (λ later. later.now
-        ≡ drop (length (injected points.now kernel.old.steps)) points.now) }
+    ensures many { IfOk result (λ many. many ≡ length (injected points.now kernel.old.steps)) }
     ensures meter { meter.new ≡ meter.old + 1 }
     ensures kept { OnErr result (all_of trail.new ≡ all_of trail.old) }
     ensures memory { OnErr result ((s : State) → Stands kernel.old s
         → 0 < length (step app.now (injected points.now kernel.old.steps) s).log) }
 {
     let handlers = handlers_at(points, kernel.steps);
-    let (_, later) = points.split_at(handlers.len());
+    let many = handlers.len();
     step_after(kernel, app, handlers.as_slice(), meter, log, trail)?;
-    Ok(later)
+    Ok(many)
 }
 
-/// The same, where mostly no point is at the step.
+/// The same, where mostly no point is at the step. It answers the points after those that are.
+#[inline(always)]
 fn step_by_plan<'a>(
     kernel: &mut Kernel,
     app: &App,
@@ -314,7 +334,9 @@ fn step_by_plan<'a>(
         → 0 < length (step app.now (injected points.now kernel.old.steps) s).log) }
 {
     if is_due(points, kernel.steps) {
-        return step_after_points(kernel, app, points, meter, log, trail);
+        let many = step_after_points(kernel, app, points, meter, log, trail)?;
+        let (_, later) = points.split_at(many);
+        return Ok(later);
     }
     step_along(kernel, app, meter, log, trail)?;
     Ok(points)
@@ -353,9 +375,11 @@ pub(crate) fn finish(
         if let Some(end) = kernel.ended(app, limits) {
             return Ok(end);
         }
+        let tick = kernel.clock.tick();
         left = step_by_plan(kernel, app, left, meter, log, trail)?;
         let until = next_point(left);
-        pass_on(kernel, app, points, until, trail.is_silent(), limits, meter);
+        let quiet = kernel.clock.tick() != tick && trail.is_silent();
+        pass_on(kernel, app, points, until, quiet, limits, meter);
     }
 }
 
@@ -395,8 +419,10 @@ pub fn follow(
         if kernel.steps == step {
             return Ok(None);
         }
+        let tick = kernel.clock.tick();
         step_along(kernel, app, meter, log, trail)?;
-        pass_on(kernel, app, &[], step, trail.is_silent(), limits, meter);
+        let quiet = kernel.clock.tick() != tick && trail.is_silent();
+        pass_on(kernel, app, &[], step, quiet, limits, meter);
     }
 }
 

@@ -21,6 +21,7 @@ use Rattle.objects.specs.WaitersStand.{AtLocked, Decider, FirstAwake, StandLocke
 use Rattle.objects.specs.Queues.{Counts, Exchange, StandsFor, counted, counted_by, locked_by}
 use Rattle.objects.proofs.Keys.{waiters_all}
 use Rattle.objects.proofs.Counting.{stands_received, stands_sent}
+use Rattle.objects.proofs.Unlocking.{stands_opened, unlocks}
 
 -- it is locked
 
@@ -161,3 +162,17 @@ best_priority_is v s list h at none =
     let shut : is_locked s.locked list ≡ false = ap (λ (o : Option ℕ). is_locked o list) none ∙ none_locked list in
     ap first_priority (h.lists list) ∙ first_with (standing s list)
     ∙ ap (λ (es : List Entry). unwrap_or (option_map (λ (e : Entry). e.key.priority) (first es)) 0) (sym (waiters_all s list shut at.awake))
+
+-- nobody was woken since
+
+module _ (v : Exchange) (s : State) (l : Lock) (h : StandsFor v None s) (e : v.lock ≡ Some l) (no_receivers : l.receivers ≡ 0) (no_senders : l.senders ≡ 0) where
+  none_woken : StandLocked v.waiting None l.object 0 0 s
+  none_woken =
+      let S : ℕ → ℕ → Type 0 = λ receivers senders. StandLocked v.waiting None l.object receivers senders s in
+      subst (λ (n : ℕ). S n 0) no_receivers (subst (λ (n : ℕ). S l.receivers n) no_senders (standing_locked v None s l h e))
+
+  pub unlock_opens : unlock s ≡ opened s
+  unlock_opens = unlocks v.waiting s l.object 0 0 [] [] none_woken refl refl
+
+  pub stands_released : StandsFor (record { objects = v.objects; waiting = v.waiting; lock = None }) None (unlock s)
+  stands_released = stands_unlocked v v.waiting s l h e (subst (λ (t : State). WaitersStand v.waiting None t) (sym unlock_opens) (stands_opened v.waiting s h.waiters))

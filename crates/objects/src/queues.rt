@@ -1,5 +1,5 @@
 //! The objects that tasks share: queues, semaphores and mutexes, who waits at them, and which one is locked.
-ghost use Rattle.std.specs.Prelude.{◌≡◌, ◌==◌, ◌&&◌, not, ℕ, ◌-◌, ◌<◌, ◌≤◌, [], length, replicate, slice_index_or, slice_set, map, ◌++◌, ◌↔◌, if◌then◌else◌, true, Some, None, Option, IsSome, IfSome, IfOk, IsOk, OnOk, OnErr};
+ghost use Rattle.std.specs.Prelude.{◌≡◌, ◌==◌, ◌&&◌, not, ℕ, ◌-◌, ◌<◌, ◌≤◌, [], length, replicate, slice_index_or, slice_set, map, ◌++◌, ◌↔◌, if◌then◌else◌, true, false, Some, None, Option, IsSome, IfSome, IfOk, IsOk, OnOk, OnErr};
 ghost use Rattle.std.specs.List.{AllByRecursion, list_any};
 ghost use Rattle.std.specs.Option.{is_some};
 ghost use Rattle.lists.specs.Lists.{place_of, without};
@@ -188,6 +188,7 @@ impl Queues {
 
     /// Does a possible call (`possible` tells) of a task, or of a handler (`None`). It answers what the call answers:
     /// `receive` and `peek` the first item, and any other 1. Nobody is woken.
+    #[inline(always)]
     pub fn carry_out(
         &mut self,
         caller: Option<TaskId>,
@@ -406,6 +407,22 @@ impl Queues {
             self.waiting
                 .unlock(lock.object, lock.receivers, lock.senders),
         )
+    }
+
+    /// Unlocks the locked object where nobody was woken since, and answers whether that is so; else nothing changes.
+    pub fn unlock_if_none_woken(&mut self) -> bool
+        ensures kept { result ≡ false → self.new ≡ self.old }
+        ensures free { result ≡ true → self.new.lock ≡ None }
+        ensures objects { self.new.objects ≡ self.old.objects }
+        ensures stands { (s : State) → result ≡ true → StandsFor self.old None s
+            → StandsFor self.new None (waiting.unlock s) }
+        // In the definitions nobody becomes Ready then.
+        ensures woken { (s : State) → result ≡ true → StandsFor self.old None s → waiting.unlock s ≡ opened s }
+    {
+        match self.lock {
+            Some(lock) if lock.receivers == 0 && lock.senders == 0 => self.lock.take().is_some(),
+            _ => false,
+        }
     }
 
     /// Puts a task that has begun to wait, and is in no list (`is_waiting` tells), into its list, with its priority of 0 to

@@ -16,7 +16,7 @@ ghost use Rattle.clock.specs.Timeline.{is_asleep};
 ghost use Rattle.clock.specs.StandsFor.{StandsFor as ClockStandsFor, StandsBefore as ClockStandsBefore};
 ghost use Rattle.objects.specs.Queues.{StandsFor as QueuesStandFor};
 ghost use Rattle.kernel.specs.StandsFor.{StandsFor, At, AtAny, Does, DoesAny, Moves, progress_in, with_progress};
-ghost use Rattle.kernel.specs.Can.{CanTry, CanDecide, CanPlace, CanLeave, CanGoOn, IsAhead, IsInCall, IsShort};
+ghost use Rattle.kernel.specs.Can.{Agrees, CanTry, CanDecide, CanPlace, CanLeave, CanGoOn, IsAhead, IsInCall, IsShort};
 
 use super::queues::refusal;
 use crate::kernel::Kernel;
@@ -178,10 +178,12 @@ impl Kernel {
         self.set_phase(task, Phase::Unlock);
     }
 
-    /// The queue is unlocked, and who was woken meanwhile becomes Ready.
-    fn unlock(&mut self, task: TaskId)
-        requires { IsInCall self.old task }
-        ensures { Moves self.old self.new (λ s. go_on task phase.Leave (unlock s)) }
+    /// Who was woken while the queue was locked becomes Ready, and the queue is unlocked.
+    // Inlined, the lists of those who were woken would be zeroed at every unlock.
+    #[inline(never)]
+    fn unlock_and_wake(&mut self)
+        requires { Agrees self.old }
+        ensures { Moves self.old self.new unlock }
     {
         if let Some(unlocked) = self.queues.unlock() {
             wake_all(
@@ -194,6 +196,16 @@ impl Kernel {
                 &mut self.clock,
                 unlocked.to_send.as_slice(),
             );
+        }
+    }
+
+    /// The queue is unlocked, and who was woken meanwhile, if anyone was, becomes Ready.
+    fn unlock(&mut self, task: TaskId)
+        requires { IsInCall self.old task }
+        ensures { Moves self.old self.new (λ s. go_on task phase.Leave (unlock s)) }
+    {
+        if !self.queues.unlock_if_none_woken() {
+            self.unlock_and_wake();
         }
         self.set_phase(task, Phase::Leave);
     }
@@ -215,6 +227,7 @@ impl Kernel {
     }
 
     /// The next phase of a call that may wait for so many ticks, or for ever.
+    #[inline(always)]
     pub(crate) fn go_on_waiting<L: Log>(
         &mut self,
         app: &App,

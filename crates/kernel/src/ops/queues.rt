@@ -44,6 +44,7 @@ fn list_woken(caller: Option<TaskId>, object: ObjectId, access: Access) -> Optio
 
 impl Kernel {
     /// The best waiter of a list is woken, if anyone waits there.
+    #[inline(always)]
     pub(crate) fn wake_best(&mut self, list: WaitList)
         requires { StandsForSome self.old }
         ensures does { Moves self.old self.new (wake_best list) }

@@ -34,6 +34,7 @@ impl Kernel {
     }
 
     /// `work`: a tick of it is used up, and the tick passes.
+    #[inline(always)]
     pub(crate) fn work<L: Log>(&mut self, app: &App, task: TaskId, ticks: u32, log: &mut L)
         requires room { 65 ≤ (L.logged log.old).room }
         requires can { Can app.now self.old task (op.Work ticks) }

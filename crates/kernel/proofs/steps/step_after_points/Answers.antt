@@ -2,11 +2,8 @@ use Rattle.std.proofs.Common.{◌≡◌, ◌<◌, ◌++◌, ℕ, List, length, s
 use Rattle.std.proofs.lemmas.Result.{err_from_is_err_and}
 use Rattle.model.specs.Step.{step}
 use Rattle.kernel.specs.Logged.{all_of}
-use Rattle.kernel.proofs.Planned.{no_more, stands_as}
+use Rattle.kernel.proofs.Planned.{stands_as}
 use Rattle.kernel.proofs.steps.step_after_points.Goals as goal
-
-pub split_at-requires : goal.split_at-requires
-split_at-requires c = rw (c.len.ensures.value, c.handlers_at-handlers.ensures) (no_more c.args.points.now c.args.kernel.now.steps)
 
 pub returns-in_err-step_after-clause-stands : goal.returns-in_err-step_after-clause-stands
 returns-in_err-step_after-clause-stands c = stands_as c.args.app.now c.args.kernel.now c.step_after.new.kernel c.as_slice.result.now _ (c.as_slice.ensures.value ∙ c.handlers_at-handlers.ensures) c.in_err-step_after.ensures.stands

@@ -1,4 +1,4 @@
-use Rattle.std.proofs.Common.{◌≡◌, Some, None, sym, subst, ◌∙◌, arith}
+use Rattle.std.proofs.Common.{◌≡◌, Some, None, refl, sym, subst, ◌∙◌, arith}
 use Rattle.model.specs.State.{Progress}
 use Rattle.model.specs.Application.{op_at}
 use Rattle.kernel.proofs.Running.{acts, rests}
@@ -8,10 +8,10 @@ pub act_while_suspended-requires-clause-can : goal.act_while_suspended-requires-
 act_while_suspended-requires-clause-can g c = λ op at. (c.requires.can.op c.in-Some.task op (sym c.current.ensures.current ∙ c.in-Some.is) at).1 c.if-self-gt0.true
 
 pub act-requires-clause-can : goal.act-requires-clause-can
-act-requires-clause-can g c = let l = c.if-self-gt0.false in (c.requires.can.op c.in-Some.task c.in-Some-op.op (sym c.current.ensures.current ∙ c.in-Some.is) (let P : Progress → Type 0 = λ p. op_at c.args.app.now c.in-Some.task p.op_index ≡ Some c.in-Some-op.op in subst P (c.behind-self.view_is ∙ c.progress.ensures) (sym c.op.ensures ∙ c.in-Some-op.is))).0 (omega arith)
+act-requires-clause-can g c = let l = c.if-self-gt0.false in (c.requires.can.op c.in-Some.task c.in-Some-op_of.op.now (sym c.current.ensures.current ∙ c.in-Some.is) (let P : Progress → Type 0 = λ p. op_at c.args.app.now c.in-Some.task p.op_index ≡ Some c.in-Some-op_of.op.now in subst P (c.behind-self.view_is ∙ c.progress.ensures) c.in-Some-op_of.ensures.some)).0 (omega arith)
 
-pub returns-in-Some-op : goal.returns-in-Some-op
-returns-in-Some-op g c = acts c.args.app.now c.args.self.now c.in-Some.task (sym c.current.ensures.current ∙ c.in-Some.is) c.in-Some-op.op (let P : Progress → Type 0 = λ p. op_at c.args.app.now c.in-Some.task p.op_index ≡ Some c.in-Some-op.op in subst P (c.behind-self.view_is ∙ c.progress.ensures) (sym c.op.ensures ∙ c.in-Some-op.is)) c.act.new.self _ _ c.act.ensures
+pub returns-in-Some-op_of : goal.returns-in-Some-op_of
+returns-in-Some-op_of g c = acts c.args.app.now c.args.self.now c.in-Some.task (sym c.current.ensures.current ∙ c.in-Some.is) c.in-Some-op_of.op.now (let P : Progress → Type 0 = λ p. op_at c.args.app.now c.in-Some.task p.op_index ≡ Some c.in-Some-op_of.op.now in subst P (c.behind-self.view_is ∙ c.progress.ensures) c.in-Some-op_of.ensures.some) c.act.new.self _ _ c.act.ensures
 
-pub returns-in_default-op : goal.returns-in_default-op
-returns-in_default-op g c = rests c.args.app.now c.args.self.now c.in-Some.task (sym c.current.ensures.current ∙ c.in-Some.is) (let P : Progress → Type 0 = λ p. op_at c.args.app.now c.in-Some.task p.op_index ≡ None in subst P (c.behind-self.view_is ∙ c.progress.ensures) (sym c.op.ensures ∙ c.in_default-op.is)) _
+pub returns-in_default-op_of : goal.returns-in_default-op_of
+returns-in_default-op_of g c = rests c.args.app.now c.args.self.now c.in-Some.task (sym c.current.ensures.current ∙ c.in-Some.is) (let P : Progress → Type 0 = λ p. op_at c.args.app.now c.in-Some.task p.op_index ≡ None in subst P (c.behind-self.view_is ∙ c.progress.ensures) (c.in_default-op_of.ensures.none refl)) _
