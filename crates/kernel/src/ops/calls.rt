@@ -96,6 +96,7 @@ impl Kernel {
     }
 
     /// The call is done where it is possible; it fails where its deadline has come; else it decides next.
+    #[inline(always)]
     fn try_call<L: Log>(
         &mut self,
         app: &App,
@@ -131,6 +132,7 @@ impl Kernel {
 
     /// The scheduler is held and the object locked, and the task begins to wait, where its call still isn't possible and its
     /// deadline hasn't come: then the holder of a mutex inherits from it first.
+    #[inline(always)]
     fn decide(&mut self, task: TaskId, object: ObjectId, access: Access)
         requires { CanDecide self.old task }
         ensures { (log : List Event) (s : State) → At self.old log s
@@ -166,6 +168,7 @@ impl Kernel {
     }
 
     /// The task is put into its waiting list and, if it waits until a deadline, among those who wake by themselves.
+    #[inline(always)]
     fn place(&mut self, task: TaskId)
         requires { CanPlace self.old task }
         ensures { (log : List Event) (s : State) → AtAny self.old log s
@@ -211,6 +214,7 @@ impl Kernel {
     }
 
     /// The hold ends, and the call will try again: after a wait has begun the choice runs, else a higher task may run.
+    #[inline(always)]
     fn leave_call<L: Log>(&mut self, task: TaskId, log: &mut L)
         requires room { 1 ≤ (L.logged log.old).room }
         requires can { CanLeave self.old task }
