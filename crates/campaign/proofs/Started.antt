@@ -1,4 +1,4 @@
--- The campaign of an application, from its start.
+-- The campaign of an application, from its shelf.
 use Rattle.std.proofs.Common.{◌≡◌, List, [], sym, subst}
 use Rattle.model.specs.declared.plan.Point.{Point}
 use Rattle.model.specs.Application.{Application, Limits}
@@ -10,15 +10,15 @@ use Rattle.campaign.specs.Campaigns.{AreRowsOf, IsCampaignFault, of_expanding}
 use Rattle.campaign.specs.Points.{IsExpandFault}
 use Rattle.shelf.specs.Shelves.{Shelved, IsShelf}
 
-module _ (app : Application) (start : Shelved) (base : Run) (is : IsShelf app start) (own : start.limits ≡ app.limits) (same : base ≡ start.base) where
+module _ (app : Application) (shelf : Shelved) (base : Run) (is : IsShelf app shelf) (own : shelf.limits ≡ app.limits) (same : base ≡ shelf.base) where
   its_run : IsRun app [] app.limits base
-  its_run = subst (λ r. IsRun app [] app.limits r) (sym same) (subst (λ (limits : Limits). IsRun app [] limits start.base) own is.is_base)
+  its_run = subst (λ r. IsRun app [] app.limits r) (sym same) (subst (λ (limits : Limits). IsRun app [] limits shelf.base) own is.is_base)
 
   pub expand_fault : (fault : ExpandFault) → IsExpandFault app base.steps fault → IsCampaignFault app (of_expanding fault)
   expand_fault TooManyPoints many = record { base = base; is_base = its_run; many = many }
   expand_fault Memory few = tt
 
-  pub app_rows : (points : List Point) (rows : List Row) → points ≡ points_in app base.steps → AreRows app start.limits points rows → AreRowsOf app rows
+  pub app_rows : (points : List Point) (rows : List Row) → points ≡ points_in app base.steps → AreRows app shelf.limits points rows → AreRowsOf app rows
   app_rows points rows its are = record {
     base = base;
     is_base = its_run;

@@ -7,8 +7,8 @@ use Rattle.campaign.specs.Working.{Work}
 abbrev pub work_of : Setup → List ℕ → Work
 work_of setup lens = record {
   app = setup.app.now;
-  limits = setup.start.now.limits;
-  base = setup.start.now.base;
+  limits = setup.shelf.now.limits;
+  base = setup.shelf.now.base;
   points = setup.points.now;
   lengths = lens;
 }

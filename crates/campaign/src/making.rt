@@ -50,7 +50,7 @@ fn run_all<R: Threads + Wait + Sync, G: Gate + Sync>(
     gate: &G,
     jobs: Vec<Job>,
 ) -> Result<Vec<Done>, Memory>
-    requires start { IsShelf setup.now.app.now setup.now.start.now }
+    requires shelf { IsShelf setup.now.app.now setup.now.shelf.now }
     requires points { All (λ (job : declared.Job). sum job.lane.game.lengths ≡ length setup.now.points.now) jobs.items }
     requires jobs { All (λ (job : declared.Job). IsJob job.lane.game setup.now.tally.now (length setup.now.points.now) job) jobs.items }
     ensures { IfOk result (λ dones. (deal : Game) → AreJobs deal setup.now.tally.now (length setup.now.points.now) jobs.items
@@ -59,7 +59,7 @@ fn run_all<R: Threads + Wait + Sync, G: Gate + Sync>(
     let stop = AtomicU64::new(0);
     let shared = &stop;
     let each = |job: Job| -> Done
-        requires start { IsShelf setup.now.app.now setup.now.start.now }
+        requires shelf { IsShelf setup.now.app.now setup.now.shelf.now }
         requires points { sum job.lane.game.lengths ≡ length setup.now.points.now }
         requires job { IsJob job.lane.game setup.now.tally.now (length setup.now.points.now) job }
         ensures { IsDone (work_of setup.entry.now job.lane.game.lengths) job result }
@@ -80,7 +80,7 @@ fn bring_all<R: Threads + Wait + Sync, G: Gate + Sync>(
     division: Division,
     seats: Vec<TallySeat>,
 ) -> Result<Brought, Memory>
-    requires start { IsShelf setup.now.app.now setup.now.start.now }
+    requires shelf { IsShelf setup.now.app.now setup.now.shelf.now }
     requires workers { (0 < workers) × (workers ≤ 64) }
     requires division { sum division ≡ length setup.now.points.now }
     requires seats { (vec_len seats ≡ workers)
@@ -134,12 +134,12 @@ pub struct Finished {
     pub seats: Vec<TallySeat>,
 }
 
-/// The report of the rows of these points, each run from this start.
+/// The report of the rows of these points, each run from this shelf.
 pub(crate) fn campaign_from<R: Threads + Wait + Sync, G: Gate + Sync>(
     rt: &R,
     alloc: Global,
     app: &App,
-    start: Shelf,
+    shelf: Shelf,
     points: &[Point],
     workers: usize,
     division: Division,
@@ -147,19 +147,19 @@ pub(crate) fn campaign_from<R: Threads + Wait + Sync, G: Gate + Sync>(
     tally: &Tally,
     seats: Vec<TallySeat>,
 ) -> Result<Finished, Memory>
-    requires start { IsShelf app.now start }
+    requires shelf { IsShelf app.now shelf }
     requires few { length points.now ≤ most_points }
     requires workers { (0 < workers) × (workers ≤ 64) }
     requires division { sum division ≡ length points.now }
     requires seats { (vec_len seats ≡ workers) × AreReady tally.now (length points.now) seats.items }
-    ensures rows { IfOk result (λ finished. AreRows app.now start.limits points.now finished.report) }
+    ensures rows { IfOk result (λ finished. AreRows app.now shelf.limits points.now finished.report) }
     ensures back { IfOk result (λ finished. ComeBack tally.now seats.items finished.seats.items) }
     ensures rise { IfOk result (λ finished. RiseBy (totals_of finished.report) seats.items finished.seats.items) }
 {
     let blocks = division.count();
     let setup = Setup {
         app,
-        start: &start,
+        shelf: &shelf,
         points,
         tally,
     };
@@ -171,9 +171,9 @@ pub(crate) fn campaign_from<R: Threads + Wait + Sync, G: Gate + Sync>(
         places,
         totals,
         seats,
-    } = gather_rows(alloc, start.base(), brought?, blocks)?;
+    } = gather_rows(alloc, shelf.base(), brought?, blocks)?;
     let rows = Rows {
-        base: start.into_base(),
+        base: shelf.into_base(),
         parts,
         places,
         totals,
@@ -213,12 +213,12 @@ pub fn campaign<R: Threads + Wait + Sync, G: Gate + Sync>(
     ensures back { IfOk result (λ finished. ComeBack tally.now seats.items finished.seats.items) }
     ensures rise { IfOk result (λ finished. RiseBy (totals_of finished.report) seats.items finished.seats.items) }
 {
-    let start = Shelf::make(alloc, app, limits, stride)?;
+    let shelf = Shelf::make(alloc, app, limits, stride)?;
     campaign_from(
         rt,
         alloc,
         app,
-        start,
+        shelf,
         points.as_slice(),
         workers,
         division,

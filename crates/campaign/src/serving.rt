@@ -38,14 +38,14 @@ fn report_from<R: Threads + Wait + Sync, G: Gate + Sync>(
     rt: &R,
     alloc: Global,
     app: &App,
-    start: Shelf,
+    shelf: Shelf,
     points: &[Point],
     options: Options,
     gate: &G,
 ) -> Result<Report, Memory>
-    requires start { IsShelf app.now start }
+    requires shelf { IsShelf app.now shelf }
     requires few { length points.now ≤ most_points }
-    ensures { IfOk result (λ report. AreRows app.now start.limits points.now report) }
+    ensures { IfOk result (λ report. AreRows app.now shelf.limits points.now report) }
 {
     let workers = options.workers.clamp(1, Options::MOST_WORKERS) as usize;
     let block = options.block.clamp(1, Options::MOST_BLOCK) as usize;
@@ -56,7 +56,7 @@ fn report_from<R: Threads + Wait + Sync, G: Gate + Sync>(
         return Err(Memory);
     };
     let finished = campaign_from(
-        rt, alloc, app, start, points, workers, division, gate, &tally, seats,
+        rt, alloc, app, shelf, points, workers, division, gate, &tally, seats,
     )?;
     Ok(finished.report)
 }
@@ -72,9 +72,9 @@ fn report_of<R: Threads + Wait + Sync, G: Gate + Sync>(
     ensures { MatchResult result (AreRowsOf app.now) (IsCampaignFault app.now) }
 {
     let stride = options.stride.clamp(1, Options::MOST_STRIDE);
-    let start = Shelf::make(alloc, app, app.limits(), stride)?;
-    let points = expand(alloc, app, start.base())?;
-    let report = report_from(rt, alloc, app, start, points.as_slice(), options, gate)?;
+    let shelf = Shelf::make(alloc, app, app.limits(), stride)?;
+    let points = expand(alloc, app, shelf.base())?;
+    let report = report_from(rt, alloc, app, shelf, points.as_slice(), options, gate)?;
     Ok(report)
 }
 

@@ -21,7 +21,7 @@ use std::sync::atomic::{AtomicU64, Ordering};
 #[derive(Clone, Copy)]
 pub(crate) struct Setup<'a> {
     pub(crate) app: &'a App,
-    pub(crate) start: &'a Shelf,
+    pub(crate) shelf: &'a Shelf,
     pub(crate) points: &'a [Point],
     pub(crate) tally: &'a Tally,
 }
@@ -71,12 +71,12 @@ impl Worker {
     }
 
     // The row of a point that the base run doesn't reach: it is the base run.
-    fn missed(&self, app: &App, start: &Shelf, point: Point) -> KeptRow
-        requires start { IsShelf app.now start.now }
-        requires missed { start.now.base.steps ≤ point.step }
-        ensures { GainsRow app.now start.now.limits start.now.base point (all_of self.now.trail) (all_of self.now.trail) result }
+    fn missed(&self, app: &App, shelf: &Shelf, point: Point) -> KeptRow
+        requires shelf { IsShelf app.now shelf.now }
+        requires missed { shelf.now.base.steps ≤ point.step }
+        ensures { GainsRow app.now shelf.now.limits shelf.now.base point (all_of self.now.trail) (all_of self.now.trail) result }
     {
-        let base = start.base();
+        let base = shelf.base();
         let end = self.trail.len();
         KeptRow {
             point,
@@ -90,17 +90,17 @@ impl Worker {
     }
 
     // The row of a point that the base run reaches.
-    fn reached(&mut self, app: &App, start: &Shelf, point: &Point) -> Result<KeptRow, Memory>
-        requires start { IsShelf app.now start.now }
-        requires reached { point.now.step < start.now.base.steps }
+    fn reached(&mut self, app: &App, shelf: &Shelf, point: &Point) -> Result<KeptRow, Memory>
+        requires shelf { IsShelf app.now shelf.now }
+        requires reached { point.now.step < shelf.now.base.steps }
         ensures kept { self.new.kept ≡ self.old.kept }
         ensures blocks { self.new.blocks ≡ self.old.blocks }
-        ensures row { IfOk result (GainsRow app.now start.now.limits start.now.base point.now
+        ensures row { IfOk result (GainsRow app.now shelf.now.limits shelf.now.base point.now
             (all_of self.old.trail) (all_of self.new.trail)) }
     {
         let own_from = self.trail.len();
         let mut meter = Meter::new();
-        let row = start.run_reached(
+        let row = shelf.run_reached(
             app,
             *point,
             &mut self.kernel,
@@ -121,17 +121,17 @@ impl Worker {
     }
 
     // The row of a point, whose own events go to the trail.
-    fn made(&mut self, app: &App, start: &Shelf, point: &Point) -> Result<KeptRow, Memory>
-        requires { IsShelf app.now start.now }
+    fn made(&mut self, app: &App, shelf: &Shelf, point: &Point) -> Result<KeptRow, Memory>
+        requires { IsShelf app.now shelf.now }
         ensures kept { self.new.kept ≡ self.old.kept }
         ensures blocks { self.new.blocks ≡ self.old.blocks }
-        ensures row { IfOk result (GainsRow app.now start.now.limits start.now.base point.now
+        ensures row { IfOk result (GainsRow app.now shelf.now.limits shelf.now.base point.now
             (all_of self.old.trail) (all_of self.new.trail)) }
     {
-        if start.reaches(point) {
-            self.reached(app, start, point)
+        if shelf.reaches(point) {
+            self.reached(app, shelf, point)
         } else {
-            Ok(self.missed(app, start, *point))
+            Ok(self.missed(app, shelf, *point))
         }
     }
 
@@ -148,17 +148,17 @@ impl Worker {
     }
 
     // The row of a point: that of the same point before, where it is found, or else it is made.
-    fn row_of(&mut self, app: &App, start: &Shelf, point: &Point) -> Result<KeptRow, Memory>
-        requires start { IsShelf app.now start.now }
-        requires known { AreKnown app.now start.now.limits start.now.base self.old.kept.items (all_of self.old.trail) }
+    fn row_of(&mut self, app: &App, shelf: &Shelf, point: &Point) -> Result<KeptRow, Memory>
+        requires shelf { IsShelf app.now shelf.now }
+        requires known { AreKnown app.now shelf.now.limits shelf.now.base self.old.kept.items (all_of self.old.trail) }
         ensures kept { self.new.kept ≡ self.old.kept }
         ensures blocks { self.new.blocks ≡ self.old.blocks }
-        ensures row { IfOk result (GainsRow app.now start.now.limits start.now.base point.now
+        ensures row { IfOk result (GainsRow app.now shelf.now.limits shelf.now.base point.now
             (all_of self.old.trail) (all_of self.new.trail)) }
     {
         match self.again(point) {
             Some(row) => Ok(row),
-            None => self.made(app, start, point),
+            None => self.made(app, shelf, point),
         }
     }
 
@@ -169,18 +169,18 @@ impl Worker {
         seat: &mut TallySeat,
         point: &Point,
     ) -> Result<(), Memory>
-        requires start { IsShelf setup.now.app.now setup.now.start.now }
-        requires known { AreKnown setup.now.app.now setup.now.start.now.limits setup.now.start.now.base self.old.kept.items (all_of self.old.trail) }
+        requires shelf { IsShelf setup.now.app.now setup.now.shelf.now }
+        requires known { AreKnown setup.now.app.now setup.now.shelf.now.limits setup.now.shelf.now.base self.old.kept.items (all_of self.old.trail) }
         requires seat { seat.old.sheet ≡ setup.now.tally.now }
         requires room { HasRoom 1 seat.old }
-        ensures known { OnOk result (AreKnown setup.now.app.now setup.now.start.now.limits setup.now.start.now.base self.new.kept.items (all_of self.new.trail)) }
+        ensures known { OnOk result (AreKnown setup.now.app.now setup.now.shelf.now.limits setup.now.shelf.now.base self.new.kept.items (all_of self.new.trail)) }
         ensures blocks { self.new.blocks ≡ self.old.blocks }
-        ensures row { OnOk result (GainsRows setup.now.app.now setup.now.start.now.limits setup.now.start.now.base (point.now ∷ [])
+        ensures row { OnOk result (GainsRows setup.now.app.now setup.now.shelf.now.limits setup.now.shelf.now.base (point.now ∷ [])
             self.old.kept.items self.new.kept.items (all_of self.old.trail) (all_of self.new.trail) seat.old seat.new) }
     {
-        let start = setup.start;
-        let is_reached = start.reaches(point);
-        let row = self.row_of(setup.app, start, point)?;
+        let shelf = setup.shelf;
+        let is_reached = shelf.reaches(point);
+        let row = self.row_of(setup.app, shelf, point)?;
         let end = row.end;
         self.recent.set(point, self.kept.len());
         push(&mut self.kept, row)?;
@@ -195,13 +195,13 @@ impl Worker {
         seat: &mut TallySeat,
         points: &[Point],
     ) -> Result<(), Memory>
-        requires start { IsShelf setup.now.app.now setup.now.start.now }
-        requires known { AreKnown setup.now.app.now setup.now.start.now.limits setup.now.start.now.base self.old.kept.items (all_of self.old.trail) }
+        requires shelf { IsShelf setup.now.app.now setup.now.shelf.now }
+        requires known { AreKnown setup.now.app.now setup.now.shelf.now.limits setup.now.shelf.now.base self.old.kept.items (all_of self.old.trail) }
         requires seat { seat.old.sheet ≡ setup.now.tally.now }
         requires room { HasRoom (length points.now) seat.old }
-        ensures known { OnOk result (AreKnown setup.now.app.now setup.now.start.now.limits setup.now.start.now.base self.new.kept.items (all_of self.new.trail)) }
+        ensures known { OnOk result (AreKnown setup.now.app.now setup.now.shelf.now.limits setup.now.shelf.now.base self.new.kept.items (all_of self.new.trail)) }
         ensures blocks { self.new.blocks ≡ self.old.blocks }
-        ensures rows { OnOk result (GainsRows setup.now.app.now setup.now.start.now.limits setup.now.start.now.base points.now
+        ensures rows { OnOk result (GainsRows setup.now.app.now setup.now.shelf.now.limits setup.now.shelf.now.base points.now
             self.old.kept.items self.new.kept.items (all_of self.old.trail) (all_of self.new.trail) seat.old seat.new) }
     {
         for point in points {
@@ -219,15 +219,15 @@ impl Worker {
         first: usize,
         count: usize,
     ) -> Result<(), Memory>
-        requires start { IsShelf setup.now.app.now setup.now.start.now }
-        requires known { AreKnown setup.now.app.now setup.now.start.now.limits setup.now.start.now.base self.old.kept.items (all_of self.old.trail) }
+        requires shelf { IsShelf setup.now.app.now setup.now.shelf.now }
+        requires known { AreKnown setup.now.app.now setup.now.shelf.now.limits setup.now.shelf.now.base self.old.kept.items (all_of self.old.trail) }
         requires seat { seat.old.sheet ≡ setup.now.tally.now }
         requires points { first + count ≤ length setup.now.points.now }
         requires room { HasRoom count seat.old }
-        ensures known { OnOk result (AreKnown setup.now.app.now setup.now.start.now.limits setup.now.start.now.base self.new.kept.items (all_of self.new.trail)) }
+        ensures known { OnOk result (AreKnown setup.now.app.now setup.now.shelf.now.limits setup.now.shelf.now.base self.new.kept.items (all_of self.new.trail)) }
         ensures block { OnOk result (self.new.blocks.items ≡ self.old.blocks.items
             ++ record { number = number; first = length self.old.kept.items; count = count } ∷ []) }
-        ensures rows { OnOk result (GainsRows setup.now.app.now setup.now.start.now.limits setup.now.start.now.base
+        ensures rows { OnOk result (GainsRows setup.now.app.now setup.now.shelf.now.limits setup.now.shelf.now.base
             (take count (drop first setup.now.points.now))
             self.old.kept.items self.new.kept.items (all_of self.old.trail) (all_of self.new.trail) seat.old seat.new) }
     {
@@ -255,7 +255,7 @@ pub(crate) fn work<R: Wait, G: Gate>(
     stop: &AtomicU64,
     job: Job,
 ) -> Done
-    requires start { IsShelf setup.now.app.now setup.now.start.now }
+    requires shelf { IsShelf setup.now.app.now setup.now.shelf.now }
     requires points { sum job.lane.game.lengths ≡ length setup.now.points.now }
     requires job { IsJob job.lane.game setup.now.tally.now (length setup.now.points.now) job }
     ensures { IsDone (work_of setup.now job.lane.game.lengths) job result }

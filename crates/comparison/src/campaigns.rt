@@ -1,25 +1,72 @@
 //! Campaigns beside runs one by one, of many random applications.
-ghost use Rattle.std.specs.Prelude.{◌≡◌, ◌<◌, ◌≤◌, false};
+ghost use Rattle.std.specs.Prelude.{◌≡◌, ◌<◌, ◌≤◌, length, sum};
+ghost use Rattle.model.specs.Scripts.{most_points};
 
 use crate::dice::Dice;
 use crate::file::{file_of, points_text};
+use crate::random::loaded;
+use crate::working::{Manner, campaign_in, divided, points_at};
 use byte_io::ToWriter;
-use campaign::{NoGate, Report, campaign, write_report};
-use deal::{Division, Tally};
-use model::{App, HandlerId, Memory, Meter, Plan, Point, Run, Totals};
+use campaign::{NoGate, write_report};
+use deal::Division;
+use model::{App, End, HandlerId, Memory, Meter, Plan, Point, Run};
 use report::{Title, write_run};
 use std::alloc::Global;
 use std::process::Abort;
 use std::sync::Wait;
 use std::thread::Threads;
 
-/// How many of the rows there are of each kind.
-#[derive(Debug, Default, Drop)]
+/// How many rows there are of each kind.
+#[derive(Clone, Copy, Debug, Default)]
 struct Seen {
-    rows: usize,
-    missed: usize,
-    stuck: usize,
-    passed: usize,
+    rows: u32,
+    pass: u32,
+    check: u32,
+    misuse: u32,
+    ticks: u32,
+    steps: u32,
+    stuck: u32,
+    missed: u32,
+}
+
+impl Seen {
+    fn count(&mut self, reached: bool, end: End) {
+        let count = match end {
+            End::Pass => &mut self.pass,
+            End::Check(_, _) => &mut self.check,
+            End::Misuse(_, _, _) => &mut self.misuse,
+            End::Ticks => &mut self.ticks,
+            End::Steps => &mut self.steps,
+            End::Stuck => &mut self.stuck,
+        };
+        *count = count.saturating_add(1);
+        self.rows = self.rows.saturating_add(1);
+        self.missed = self.missed.saturating_add(!reached as u32);
+    }
+
+    // What another has seen too. Only what the test asks for in the end.
+    fn add(&mut self, other: &Seen) {
+        self.rows = self.rows.saturating_add(other.rows);
+        self.pass = self.pass.saturating_add(other.pass);
+        self.stuck = self.stuck.saturating_add(other.stuck);
+        self.missed = self.missed.saturating_add(other.missed);
+    }
+
+    /// The line of totals.
+    fn line(&self, alloc: Global) -> Option<String> {
+        format!(in alloc;
+            "total {}: pass {}, check {}, misuse {}, ticks {}, steps {}, stuck {}, not reached {}\n",
+            self.rows,
+            self.pass,
+            self.check,
+            self.misuse,
+            self.ticks,
+            self.steps,
+            self.stuck,
+            self.missed
+        )
+        .ok()
+    }
 }
 
 /// Twelve points of the three handlers, a few of them past the end of a run of so many steps, in no order.
@@ -64,19 +111,8 @@ fn row_of(
     write_run(&mut ToWriter::new(&mut text), app, title, &run)
         .ok()
         .expect(rt, "memory");
-    seen.count(reached, &run);
+    seen.count(reached, run.end);
     text
-}
-
-impl Seen {
-    fn count(&mut self, reached: bool, run: &Run) {
-        self.rows = self.rows.saturating_add(1);
-        self.missed = self.missed.saturating_add(!reached as usize);
-        let is_stuck = matches!(run.end, model::End::Stuck);
-        self.stuck = self.stuck.saturating_add(is_stuck as usize);
-        let is_pass = matches!(run.end, model::End::Pass);
-        self.passed = self.passed.saturating_add(is_pass as usize);
-    }
 }
 
 /// How many steps lie between two states of the base run that are kept.
@@ -93,39 +129,76 @@ fn stride_of(dice: &mut Dice) -> u32
     }
 }
 
-/// The report of the campaign over these points, whose rows two workers make.
+/// How many workers, as often one as several.
+fn workers_of(dice: &mut Dice) -> usize
+    ensures some { 0 < result }
+    ensures few { result ≤ 64 }
+{
+    match dice.roll(8) {
+        0 => 64,
+        1 => 5,
+        2 => 4,
+        3 => 3,
+        4 | 5 => 2,
+        _ => 1,
+    }
+}
+
+/// The report of the campaign over these points, made in this manner.
 fn report_of<R: Abort + Threads + Wait + Sync>(
     rt: &R,
     alloc: Global,
     app: &App,
-    points: Vec<Point>,
-    stride: u32,
-    block: usize,
-) -> Report
-    requires stride { (0 < stride) × (stride ≤ 65536) }
-    requires block { 0 < block }
+    points: &[Point],
+    manner: Manner,
+    division: Division,
+) -> Vec<u8>
+    requires few { length points.now ≤ most_points }
+    requires division { sum division ≡ length points.now }
 {
-    assert!(rt; points.len() <= 1_000_000, "few points");
-    let Ok(division) = Division::even(alloc, points.len(), block) else {
-        panic!(rt; "memory");
-    };
-    let Ok((tally, seats)) = Tally::make(alloc, 2) else {
-        panic!(rt; "memory");
-    };
-    let limits = app.limits();
-    let finished = campaign(
-        rt, alloc, app, points, limits, stride, 2, division, &NoGate, &tally, seats,
-    );
-    finished.ok().expect(rt, "memory").report
+    let points = Vec::from_slice(alloc, points).ok().expect(rt, "memory");
+    let finished = campaign_in(rt, alloc, app, points, manner, division, &NoGate);
+    let mut text = Vec::new(alloc);
+    write_report(app, &finished.report, &mut ToWriter::new(&mut text))
+        .ok()
+        .expect(rt, "memory");
+    text
 }
 
-/// The line of totals.
-fn total_line(alloc: Global, t: Totals) -> Option<String> {
-    format!(in alloc;
-        "total {}: pass {}, check {}, misuse {}, ticks {}, steps {}, stuck {}, not reached {}\n",
-        t.rows, t.pass, t.check, t.misuse, t.ticks, t.steps, t.stuck, t.not_reached
-    )
-    .ok()
+/// The points in blocks of this length.
+fn even(rt: &impl Abort, alloc: Global, points: &[Point], block: usize) -> Division
+    requires { 0 < block }
+    ensures { sum result ≡ length points.now }
+{
+    match Division::even(alloc, points.len(), block) {
+        Ok(division) => division,
+        Err(_) => panic!(rt; "memory"),
+    }
+}
+
+/// The report over these points, each of whose rows is run alone, where the base run has so many steps.
+fn rows_alone(
+    rt: &impl Abort,
+    alloc: Global,
+    app: &App,
+    points: &[Point],
+    steps: u32,
+    all: &mut Seen,
+) -> Vec<u8> {
+    let mut seen = Seen::default();
+    let mut text = Vec::new(alloc);
+    for (number, point) in points.iter().enumerate() {
+        let row = row_of(rt, alloc, app, steps, number, point, &mut seen);
+        text.extend_from_slice(row.as_slice())
+            .ok()
+            .expect(rt, "memory");
+    }
+    all.add(&seen);
+    let line = seen.line(alloc).expect(rt, "memory");
+    text.extend_from_slice(line.as_bytes())
+        .ok()
+        .expect(rt, "memory");
+    text
 }
 
 #[test]
@@ -137,34 +210,77 @@ fn a_campaign_is_its_rows_one_by_one(rt: HostRuntime) {
         let app = dice.app(alloc).expect(&rt, "memory");
         let base = alone(&rt, alloc, &app, Vec::new(alloc));
         let points = points_of(&mut dice, alloc, base.steps).expect(&rt, "memory");
-        let mut wanted = Vec::new(alloc);
-        for (number, point) in points.iter().enumerate() {
-            let row = row_of(&rt, alloc, &app, base.steps, number, point, &mut seen);
-            wanted
-                .extend_from_slice(row.as_slice())
-                .ok()
-                .expect(&rt, "memory");
-        }
-        let told = points_text(alloc, &app, points.as_slice()).expect(&rt, "memory");
+        assert!(rt; points.len() <= 1_000_000, "few points");
+        let wanted = rows_alone(&rt, alloc, &app, &points, base.steps, &mut seen);
         let stride = stride_of(&mut dice);
+        let workers = workers_of(&mut dice);
+        let manner = Manner { workers, stride };
         let block = 1 + seed as usize % 5;
-        let report = report_of(&rt, alloc, &app, points, stride, block);
-        let line = total_line(alloc, report.totals()).expect(&rt, "memory");
-        wanted
-            .extend_from_slice(line.as_bytes())
-            .ok()
-            .expect(&rt, "memory");
-        let mut written = Vec::new(alloc);
-        write_report(&app, &report, &mut ToWriter::new(&mut written))
-            .ok()
-            .expect(&rt, "memory");
+        let division = even(&rt, alloc, &points, block);
+        let written = report_of(&rt, alloc, &app, &points, manner, division);
         if written.as_slice() != wanted.as_slice() {
             let file = file_of(alloc, &app).expect(&rt, "memory");
+            let told = points_text(alloc, &app, points.as_slice()).expect(&rt, "memory");
             panic!(rt;
-                "seed {seed}, stride {stride}: another report, of points{told} on this file\n{file}"
+                "seed {seed}, {manner:?}: another report, of points{told} on this file\n{file}"
             );
         }
     }
     assert!(rt; seen.rows == 24_000 && seen.missed > 1_000, "{seen:?}");
-    assert!(rt; seen.stuck > 500 && seen.passed > 500, "{seen:?}");
+    assert!(rt; seen.stuck > 500 && seen.pass > 500, "{seen:?}");
+}
+
+// A task that waits at an empty queue for a tick, and a handler that sends to the queue and receives what it sent.
+const ONE_RECEIVE: &str = "
+queue = [{ name = 'q', length = 1 }]
+handler = [{ name = 'h', ops = ['send q 7', 'receive q'] }]
+task = [{ name = 'a', priority = 1, script = ['receive q 1'] }]
+";
+
+const MANNERS: [Manner; 6] = [
+    Manner {
+        workers: 1,
+        stride: 1,
+    },
+    Manner {
+        workers: 1,
+        stride: 1_000,
+    },
+    Manner {
+        workers: 2,
+        stride: 1,
+    },
+    Manner {
+        workers: 2,
+        stride: 1_000,
+    },
+    Manner {
+        workers: 64,
+        stride: 1,
+    },
+    Manner {
+        workers: 64,
+        stride: 1_000,
+    },
+];
+
+#[test]
+fn a_report_is_the_same_however_it_is_made(rt: HostRuntime) {
+    let alloc = rt.alloc();
+    let app = loaded(&rt, alloc, ONE_RECEIVE);
+    let points = points_at(&rt, alloc, &[0, 2, 2, 3, 5, 6, 7]);
+    let base = alone(&rt, alloc, &app, Vec::new(alloc));
+    let wanted = rows_alone(&rt, alloc, &app, &points, base.steps, &mut Seen::default());
+    let divisions: [&[usize]; 3] = [&[7], &[1, 1, 1, 1, 1, 1, 1], &[3, 4]];
+    for lengths in divisions {
+        for manner in MANNERS {
+            let division = divided(&rt, alloc, &points, lengths);
+            let written = report_of(&rt, alloc, &app, &points, manner, division);
+            assert_eq!(rt;
+                written.as_slice(),
+                wanted.as_slice(),
+                "{lengths:?} {manner:?}"
+            );
+        }
+    }
 }

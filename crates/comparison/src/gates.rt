@@ -1,20 +1,24 @@
 //! What the gate of a campaign is told, and when.
-ghost use Rattle.std.specs.Prelude.{◌≡◌, ◌<◌, ◌≤◌, false};
+ghost use Rattle.std.specs.Prelude.{◌≡◌, ◌≤◌};
 
 use crate::dice::Dice;
+use crate::working::{Manner, campaign_in, divided, points_at};
 use campaign::{Finished, Gate, campaign};
-use deal::{Counts, Division, Tally};
-use model::{App, HandlerId, Point};
+use deal::{Counts, Division, Tally, TallySeat};
+use model::{App, Totals};
 use std::alloc::Global;
 use std::process::Abort;
-use std::sync::Wait;
 use std::sync::atomic::{AtomicU64, Ordering};
+use std::sync::{Mutex, Wait};
 use std::thread::Threads;
 
 // How often a gate looks at most whether another block has entered.
 const TURNS: u64 = 100_000_000;
 
-/// Keeps block 0 until another block has entered, and notes what the blocks are handed.
+// How many of the kinds are ends.
+const ENDS: usize = 6;
+
+/// Keeps block 0 until another block has entered, and notes what the last block was handed.
 #[derive(Drop)]
 struct Meeting {
     other: usize,
@@ -44,13 +48,18 @@ impl Meeting {
     }
 }
 
+// How many rows are counted.
+fn rows_in(seen: &Counts) -> u64 {
+    let mut rows = 0u64;
+    for count in &seen.kinds[..ENDS] {
+        rows = rows.saturating_add(*count);
+    }
+    rows
+}
+
 impl Gate for Meeting {
     fn entered(&self, _worker: usize, block: usize, seen: &Counts) {
-        let mut rows = 0u64;
-        for count in &seen.kinds[..6] {
-            rows = rows.saturating_add(*count);
-        }
-        self.last_seen.store(rows, Ordering::SeqCst);
+        self.last_seen.store(rows_in(seen), Ordering::SeqCst);
         if block == self.other {
             self.entered.store(1, Ordering::SeqCst);
         }
@@ -60,48 +69,74 @@ impl Gate for Meeting {
     }
 }
 
-// Seven points of a handler.
-fn points(rt: &impl Abort, alloc: Global) -> Vec<Point> {
-    let handler = HandlerId::new(0).expect(rt, "a handler");
-    let mut points = Vec::new(alloc);
-    for step in [0, 2, 2, 3, 5, 6, 7] {
-        points
-            .push(Point { step, handler })
-            .ok()
-            .expect(rt, "memory");
-    }
-    points
+/// Reads a tally by a seat that adds nothing, and notes whether a count has ever fallen.
+#[derive(Drop)]
+struct Reader<'a> {
+    tally: &'a Tally,
+    seat: TallySeat,
+    last: Counts,
+    looks: u64,
+    has_fallen: bool,
+
+    ghost of_tally: { seat.sheet ≡ tally.now },
 }
 
-// The campaign of an application over seven points, cut into blocks of these lengths, whose rows two workers make.
+impl Reader<'_> {
+    fn look(&mut self) {
+        let seen = self.tally.read(&mut self.seat);
+        for (before, now) in self.last.kinds.iter().zip(&seen.kinds) {
+            self.has_fallen |= now < before;
+        }
+        self.last = seen;
+        self.looks = self.looks.saturating_add(1);
+    }
+}
+
+/// Looks at the tally before each block, whoever comes to it.
+#[derive(Drop)]
+struct Watching<'a, R> {
+    rt: &'a R,
+    reader: Mutex<Reader<'a>>,
+}
+
+impl<R: Wait + Sync> Gate for Watching<'_, R> {
+    fn entered(&self, _worker: usize, _block: usize, _seen: &Counts) {
+        self.reader.lock(self.rt).look();
+    }
+}
+
+// The campaign of an application over seven points, cut into blocks of these lengths, whose rows so many workers make.
 fn run<R: Abort + Threads + Wait + Sync, G: Gate + Sync>(
     rt: &R,
     alloc: Global,
     app: &App,
     lengths: &[usize],
+    manner: Manner,
     gate: &G,
 ) -> Finished {
-    let points = points(rt, alloc);
-    assert!(rt; points.len() <= 1_000_000);
-    let lengths = Vec::from_slice(alloc, lengths).ok().expect(rt, "memory");
-    let Ok(division) = Division::new(points.len(), lengths) else {
-        panic!(rt; "a division");
-    };
-    let Ok((tally, seats)) = Tally::make(alloc, 2) else {
-        panic!(rt; "memory");
-    };
-    let limits = app.limits();
-    let finished = campaign(
-        rt, alloc, app, points, limits, 64, 2, division, gate, &tally, seats,
-    );
-    finished.ok().expect(rt, "memory")
+    let points = points_at(rt, alloc, &STEPS);
+    let division = divided(rt, alloc, &points, lengths);
+    campaign_in(rt, alloc, app, points, manner, division, gate)
 }
+
+// The steps of the points.
+const STEPS: [u32; 7] = [0, 2, 2, 3, 5, 6, 7];
+
+const TWO_WORKERS: Manner = Manner {
+    workers: 2,
+    stride: 64,
+};
+
+const ONE_WORKER: Manner = Manner {
+    workers: 1,
+    stride: 64,
+};
 
 #[test]
 fn two_workers_are_in_two_blocks_at_once(rt: HostRuntime) {
     let app = Dice::crowding(1).app(rt.alloc()).expect(&rt, "memory");
     let gate = Meeting::new(1);
-    let finished = run(&rt, rt.alloc(), &app, &[3, 4], &gate);
+    let finished = run(&rt, rt.alloc(), &app, &[3, 4], TWO_WORKERS, &gate);
     assert_eq!(rt; gate.met.load(Ordering::SeqCst), 1);
     assert_eq!(rt; finished.report.totals().rows, 7);
 }
@@ -110,7 +145,74 @@ fn two_workers_are_in_two_blocks_at_once(rt: HostRuntime) {
 fn a_block_of_a_lane_that_is_kept_goes_to_another(rt: HostRuntime) {
     let app = Dice::crowding(1).app(rt.alloc()).expect(&rt, "memory");
     let gate = Meeting::new(2);
-    let finished = run(&rt, rt.alloc(), &app, &[1, 1, 1, 1, 1, 1, 1], &gate);
+    let lengths = [1, 1, 1, 1, 1, 1, 1];
+    let finished = run(&rt, rt.alloc(), &app, &lengths, TWO_WORKERS, &gate);
     assert_eq!(rt; gate.met.load(Ordering::SeqCst), 1);
     assert_eq!(rt; finished.report.totals().rows, 7);
+}
+
+#[test]
+fn rows_are_counted_when_they_are_made(rt: HostRuntime) {
+    let app = Dice::crowding(1).app(rt.alloc()).expect(&rt, "memory");
+    let gate = Meeting::new(0);
+    let finished = run(&rt, rt.alloc(), &app, &[3, 4], ONE_WORKER, &gate);
+    assert_eq!(rt; gate.last_seen.load(Ordering::SeqCst), 3);
+    assert_eq!(rt; finished.seats.len(), 1);
+}
+
+// The totals by their kinds.
+fn kinds_of(totals: Totals) -> [u64; 7] {
+    [
+        totals.pass as u64,
+        totals.check as u64,
+        totals.misuse as u64,
+        totals.ticks as u64,
+        totals.steps as u64,
+        totals.stuck as u64,
+        totals.not_reached as u64,
+    ]
+}
+
+#[test]
+fn counts_that_a_third_seat_reads_never_fall(rt: HostRuntime) {
+    let alloc = rt.alloc();
+    let app = Dice::crowding(1).app(alloc).expect(&rt, "memory");
+    let points = points_at(&rt, alloc, &STEPS);
+    let division = divided(&rt, alloc, &points, &[1, 1, 1, 1, 1, 1, 1]);
+    let Ok((tally, mut seats)) = Tally::make(alloc, 3) else {
+        panic!(rt; "memory");
+    };
+    let Some(seat) = seats.pop() else {
+        panic!(rt; "a third seat");
+    };
+    let reader = Reader {
+        tally: &tally,
+        seat,
+        last: Counts { kinds: [0; 7] },
+        looks: 0,
+        has_fallen: false,
+    };
+    let gate = Watching {
+        rt: &rt,
+        reader: Mutex::new(reader),
+    };
+    let finished = campaign(
+        &rt,
+        alloc,
+        &app,
+        points,
+        app.limits(),
+        64,
+        2,
+        division,
+        &gate,
+        &tally,
+        seats,
+    );
+    let totals = finished.ok().expect(&rt, "memory").report.totals();
+    let mut reader = gate.reader.into_inner();
+    reader.look();
+    assert!(rt; !reader.has_fallen);
+    assert_eq!(rt; reader.looks, 8);
+    assert_eq!(rt; reader.last.kinds, kinds_of(totals));
 }

@@ -16,3 +16,5 @@ mod planner;
 mod random;
 #[cfg(test)]
 mod slow;
+#[cfg(test)]
+mod working;

@@ -275,7 +275,7 @@ fn the_slow_program_agrees_where_tasks_are_suspended(rt: HostRuntime) {
 }
 
 /// The application that a file describes.
-fn loaded(rt: &impl Abort, alloc: Global, file: &str) -> App {
+pub(crate) fn loaded(rt: &impl Abort, alloc: Global, file: &str) -> App {
     let document = toml::table_from_str(alloc, file)
         .ok()
         .expect(rt, "a document");

@@ -3,7 +3,7 @@ ghost use Rattle.std.specs.Prelude.{◌≡◌, ◌≢◌, ◌+◌, ◌/◌, ◌%
 ghost use Rattle.deal.specs.Divisions.{ArePositive, AreStarts, MatchBad, even_lengths};
 ghost use Rattle.deal.specs.declared.division.BadDivision.TheVariants.{ZeroLength};
 
-use crate::memory::Memory;
+use model::Memory;
 use std::alloc::{AllocError, Global};
 use std::marker::Model;
 

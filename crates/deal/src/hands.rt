@@ -11,9 +11,9 @@ ghost use Rattle.deal.specs.Dealing.{AreDealt, AreHands, HasHands, KeepsHands};
 use crate::count::{Count, Deals, Share, Ticket};
 use crate::dealt::{Own, Puts};
 use crate::hand::Hand;
-use crate::memory::Memory;
 use crate::reach::way_to;
 use crossbeam_deque::Worker;
+use model::Memory;
 use std::alloc::Global;
 
 // An empty deque for each lane, with room for its blocks.

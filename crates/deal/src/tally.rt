@@ -3,9 +3,9 @@ ghost use Rattle.std.specs.Prelude.{◌≡◌, ◌+◌, ◌<◌, ◌≤◌, ◌^
 ghost use Rattle.deal.specs.Parts.{IsSeatOf, both_parts, part, zeros};
 ghost use Rattle.deal.specs.Tallies.{Adds, AreCounts, AreEachOf, AreSeatsOf, AtMost, HasAll, HasTaken, IsRest, Reads, fresh_seat, sheet};
 
-use crate::memory::Memory;
 use crate::words::{PartSeat, Parts, Words, add_to, merge, see};
 use atomic_table::Table;
+use model::Memory;
 use std::alloc::Global;
 use std::marker::Model;
 

@@ -2,7 +2,8 @@
 ghost use Rattle.std.specs.Prelude.{◌≡◌, ◌<◌, ◌≤◌, IfOk};
 ghost use Rattle.deal.specs.Sharing.{AreLanesOf, Game, HasSeenAll};
 
-use deal::{Closed, Deal, Division, Lane, Memory, Next};
+use deal::{Closed, Deal, Division, Lane, Next};
+use model::Memory;
 use std::alloc::{AllocError, Global};
 use std::sync::Wait;
 use std::test::Fail;

@@ -10,7 +10,7 @@ use Rattle.deal.proofs.Crossing.{tally_sync}
 use Rattle.campaign.specs.declared.worker.Job.{Job}
 use Rattle.campaign.specs.Setup.{work_of}
 use Rattle.campaign.specs.Working.{IsDone}
-use Rattle.shelf.proofs.shelf.Shelf.TheSendSync as start
+use Rattle.shelf.proofs.shelf.Shelf.TheSendSync as shelf
 use Rattle.campaign.proofs.Whole.{done_each}
 use Rattle.campaign.proofs.making.run_all.Goals as goal
 
@@ -31,7 +31,7 @@ map_vec-requires-sync-F g c κs within = record {
                   (
                     ((λ q. tt), app.the_sync.shared s.app.now s.app.ref_ptr.0 s.app.ref_ptr.1 there),
                     (
-                      ((λ q. tt), start.the_sync.shared s.start.now s.start.ref_ptr.0 s.start.ref_ptr.1 there),
+                      ((λ q. tt), shelf.the_sync.shared s.shelf.now s.shelf.ref_ptr.0 s.shelf.ref_ptr.1 there),
                       (
                         ((λ q. (tt, (tt, tt))), ((shr_slice_sync (of_param 0) there points.the_row point.the_sync).shared s.points b o there).1),
                         (((λ q. tt), tally_sync.shared s.tally.now s.tally.ref_ptr.0 s.tally.ref_ptr.1 there), tt),

@@ -8,7 +8,7 @@ pub loop-point-init : goal.loop-point-init
 loop-point-init c = record {
   blocks = refl;
   known = c.requires.known;
-  rows = gains_none c.args.setup.now.app.now c.args.setup.now.start.now.limits c.args.setup.now.start.now.base c.args.self.now.kept.items (all_of c.args.self.now.trail) c.args.seat.now;
+  rows = gains_none c.args.setup.now.app.now c.args.setup.now.shelf.now.limits c.args.setup.now.shelf.now.base c.args.self.now.kept.items (all_of c.args.self.now.trail) c.args.seat.now;
 }
 
 pub add_row-requires-clause-seat : goal.add_row-requires-clause-seat
@@ -16,8 +16,8 @@ add_row-requires-clause-seat c = c.loop-point.invariant.rows.gained.same ∙ c.r
 
 pub add_row-requires-clause-room : goal.add_row-requires-clause-room
 add_row-requires-clause-room c kind l =
-    let start = c.args.setup.now.start.now in
-    let few = gained_few c.args.setup.now.app.now start.limits start.base _ _ _ _ _ _ _ c.loop-point.invariant.rows kind l in
+    let shelf = c.args.setup.now.shelf.now in
+    let few = gained_few c.args.setup.now.app.now shelf.limits shelf.base _ _ _ _ _ _ _ c.loop-point.invariant.rows kind l in
     let on = c.loop-point-test.true in
     let room = c.requires.room kind l in
     let count = length-take-le c.loop-point.point-index c.args.points.now (omega arith) in
@@ -25,12 +25,12 @@ add_row-requires-clause-room c kind l =
 
 pub loop-point-preserved : goal.loop-point-preserved
 loop-point-preserved c =
-    let start = c.args.setup.now.start.now in
+    let shelf = c.args.setup.now.shelf.now in
     record {
       blocks = c.in_ok-add_row.ensures.blocks ∙ c.loop-point.invariant.blocks;
       known = c.in_ok-add_row.ensures.known;
       rows = rw (next_point c.args.points.now c.loop-point.point-index c.point-item.result c.loop-point-test.true c.point-item.is)
-          (gains_both c.args.setup.now.app.now start.limits start.base (take c.loop-point.point-index c.args.points.now) (c.point-item.result ∷ []) _ _ _ _ _ _ _ _ _ c.loop-point.invariant.rows c.in_ok-add_row.ensures.row);
+          (gains_both c.args.setup.now.app.now shelf.limits shelf.base (take c.loop-point.point-index c.args.points.now) (c.point-item.result ∷ []) _ _ _ _ _ _ _ _ _ c.loop-point.invariant.rows c.in_ok-add_row.ensures.row);
     }
 
 pub returns-clause-rows : goal.returns-clause-rows
