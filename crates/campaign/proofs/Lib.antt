@@ -1,5 +1,5 @@
 mod Blocks
-mod Counters
+pub mod Counters
 mod Determined
 mod Ends
 pub mod Faulty

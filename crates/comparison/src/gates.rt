@@ -1,15 +1,13 @@
 //! What the gate of a campaign is told, and when.
-ghost use Rattle.std.specs.Prelude.{◌≡◌, ◌≤◌};
-
 use crate::dice::Dice;
 use crate::working::{Manner, campaign_in, divided, points_at};
-use campaign::{Finished, Gate, campaign};
-use deal::{Counts, Division, Tally, TallySeat};
-use model::{App, Totals};
+use campaign::{Finished, Gate};
+use deal::Counts;
+use model::App;
 use std::alloc::Global;
 use std::process::Abort;
+use std::sync::Wait;
 use std::sync::atomic::{AtomicU64, Ordering};
-use std::sync::{Mutex, Wait};
 use std::thread::Threads;
 
 // How often a gate looks at most whether another block has entered.
@@ -69,42 +67,6 @@ impl Gate for Meeting {
     }
 }
 
-/// Reads a tally by a seat that adds nothing, and notes whether a count has ever fallen.
-#[derive(Drop)]
-struct Reader<'a> {
-    tally: &'a Tally,
-    seat: TallySeat,
-    last: Counts,
-    looks: u64,
-    has_fallen: bool,
-
-    ghost of_tally: { seat.sheet ≡ tally.now },
-}
-
-impl Reader<'_> {
-    fn look(&mut self) {
-        let seen = self.tally.read(&mut self.seat);
-        for (before, now) in self.last.kinds.iter().zip(&seen.kinds) {
-            self.has_fallen |= now < before;
-        }
-        self.last = seen;
-        self.looks = self.looks.saturating_add(1);
-    }
-}
-
-/// Looks at the tally before each block, whoever comes to it.
-#[derive(Drop)]
-struct Watching<'a, R> {
-    rt: &'a R,
-    reader: Mutex<Reader<'a>>,
-}
-
-impl<R: Wait + Sync> Gate for Watching<'_, R> {
-    fn entered(&self, _worker: usize, _block: usize, _seen: &Counts) {
-        self.reader.lock(self.rt).look();
-    }
-}
-
 // The campaign of an application over seven points, cut into blocks of these lengths, whose rows so many workers make.
 fn run<R: Abort + Threads + Wait + Sync, G: Gate + Sync>(
     rt: &R,
@@ -158,61 +120,4 @@ fn rows_are_counted_when_they_are_made(rt: HostRuntime) {
     let finished = run(&rt, rt.alloc(), &app, &[3, 4], ONE_WORKER, &gate);
     assert_eq!(rt; gate.last_seen.load(Ordering::SeqCst), 3);
     assert_eq!(rt; finished.seats.len(), 1);
-}
-
-// The totals by their kinds.
-fn kinds_of(totals: Totals) -> [u64; 7] {
-    [
-        totals.pass as u64,
-        totals.check as u64,
-        totals.misuse as u64,
-        totals.ticks as u64,
-        totals.steps as u64,
-        totals.stuck as u64,
-        totals.not_reached as u64,
-    ]
-}
-
-#[test]
-fn counts_that_a_third_seat_reads_never_fall(rt: HostRuntime) {
-    let alloc = rt.alloc();
-    let app = Dice::crowding(1).app(alloc).expect(&rt, "memory");
-    let points = points_at(&rt, alloc, &STEPS);
-    let division = divided(&rt, alloc, &points, &[1, 1, 1, 1, 1, 1, 1]);
-    let Ok((tally, mut seats)) = Tally::make(alloc, 3) else {
-        panic!(rt; "memory");
-    };
-    let Some(seat) = seats.pop() else {
-        panic!(rt; "a third seat");
-    };
-    let reader = Reader {
-        tally: &tally,
-        seat,
-        last: Counts { kinds: [0; 7] },
-        looks: 0,
-        has_fallen: false,
-    };
-    let gate = Watching {
-        rt: &rt,
-        reader: Mutex::new(reader),
-    };
-    let finished = campaign(
-        &rt,
-        alloc,
-        &app,
-        points,
-        app.limits(),
-        64,
-        2,
-        division,
-        &gate,
-        &tally,
-        seats,
-    );
-    let totals = finished.ok().expect(&rt, "memory").report.totals();
-    let mut reader = gate.reader.into_inner();
-    reader.look();
-    assert!(rt; !reader.has_fallen);
-    assert_eq!(rt; reader.looks, 8);
-    assert_eq!(rt; reader.last.kinds, kinds_of(totals));
 }
