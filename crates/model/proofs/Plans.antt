@@ -1,12 +1,23 @@
--- Points that don't fall, and among which none is at the step of the third after it, are a plan.
-use Rattle.std.proofs.Common.{◌≡◌, ◌≤◌, ◌+◌, ℕ, suc, false, List, [], ◌∷◌, length, refl, eqb, ltb, subst, arith}
+-- Points that don't fall, and among which none is at the step of the third after it, are a plan; others aren't.
+use Rattle.std.proofs.Common.{◌≡◌, ◌<◌, ◌≤◌, ◌+◌, ◌||◌, ℕ, suc, Bool, true, false, List, [], ◌∷◌, length, nat_lt, refl, eqb, ltb, subst, arith}
 use Rattle.std.specs.List.{filter, AllByRecursion, slice_get}
-use Rattle.std.proofs.lemmas.Bool.{ltb-false, eqb-false, ne_eqb, or_parts, eqb-true}
+use Rattle.std.proofs.lemmas.Bool.{ltb-false, le-ltb, eqb-false, eq-eqb, ne_eqb, or_parts, eqb-true}
 use Rattle.std.proofs.lemmas.List.{length-map}
 use Rattle.model.specs.declared.plan.Point.{Point}
 use Rattle.model.specs.Scripts.{Rises}
-use Rattle.model.specs.Plans.{IsPlan, falls_from, is_at, is_crowded}
+use Rattle.model.specs.Plans.{AreInOrder, IsCrowded, most_injected, is_at}
+use Rattle.model.specs.Run.{injected}
 use Rattle.model.proofs.Sorting.{by_test}
+
+-- Some step is less than the one before it, the first than this one.
+abbrev pub falls_from : ℕ → List Point → Bool
+falls_from last [] = false
+falls_from last (p ∷ ps) = nat_lt p.step last || falls_from p.step ps
+
+-- Some point is at the step of the third after it.
+abbrev pub fourth_found : List Point → Bool
+fourth_found [] = false
+fourth_found (p ∷ ps) = is_at p.step (slice_get ps 2) || fourth_found ps
 
 abbrev step_of : Point → ℕ
 step_of p = p.step
@@ -57,10 +68,10 @@ two n (a ∷ b ∷ c ∷ ps) from rising isnt =
     let count : length (at n (c ∷ ps)) ≡ 0 = rw none refl in
     omega arith
 
-few : (n : ℕ) (ps : List Point) → Rises step_of ps → is_crowded ps ≡ false → length (at n ps) ≤ 3
+few : (n : ℕ) (ps : List Point) → Rises step_of ps → fourth_found ps ≡ false → length (at n ps) ≤ 3
 few n [] rising isnt = omega arith
 few n (p ∷ ps) rising isnt =
-    let parts = or_parts (is_at p.step (slice_get ps 2)) (is_crowded ps) isnt in
+    let parts = or_parts (is_at p.step (slice_get ps 2)) (fourth_found ps) isnt in
     by_test (eqb p.step n)
     (λ t.
     let same : p.step ≡ n = eqb-true p.step n t in
@@ -70,10 +81,64 @@ few n (p ∷ ps) rising isnt =
     omega arith)
     (λ t. rw t (few n ps rising.1 parts.1))
 
-pub is_plan : (ps : List Point) → falls_from 0 ps ≡ false → is_crowded ps ≡ false → IsPlan ps
-is_plan ps risen spread =
-    let rising = (rises 0 ps risen).1 in
-    record {
-      in_order = rising;
-      few_at_once = λ n. let most = few n ps rising spread in omega (arith, length-map (at n ps) (λ (p : Point). p.handler));
-    }
+-- Points in order don't fall.
+rises_back : (last : ℕ) (ps : List Point) → From last ps → Rises step_of ps → falls_from last ps ≡ false
+rises_back last [] from rising = refl
+rises_back last (p ∷ ps) from rising =
+    let above = from.0 in
+    rw (le-ltb p.step last above) (rises_back p.step ps rising.0 rising.1)
+
+from_0 : (ps : List Point) → From 0 ps
+from_0 [] = tt
+from_0 (p ∷ ps) = (omega arith, from_0 ps)
+
+pub in_order : (ps : List Point) → falls_from 0 ps ≡ false → AreInOrder ps
+in_order ps risen = (rises 0 ps risen).1
+
+pub falls_not : (ps : List Point) → AreInOrder ps → falls_from 0 ps ≡ false
+falls_not ps rising = rises_back 0 ps (from_0 ps) rising
+
+-- Few points of points in order are at one step, where none is at the step of the third after it.
+pub few_at_once : (ps : List Point) → AreInOrder ps → fourth_found ps ≡ false → (n : ℕ) → length (injected ps n) ≤ most_injected
+few_at_once ps rising spread n =
+    let most = few n ps rising spread in
+    omega (arith, length-map (at n ps) (λ (p : Point). p.handler))
+
+-- Where some point is at the step of the third after it, both that are between are too.
+at_first : (n : ℕ) (p : Point) (ps : List Point) → p.step ≡ n → length (at n (p ∷ ps)) ≡ suc (length (at n ps))
+at_first n p ps same = rw (eq-eqb p.step n same) refl
+
+four : (p : Point) (ps : List Point) → From p.step ps → Rises step_of ps → is_at p.step (slice_get ps 2) ≡ true → 3 < length (at p.step (p ∷ ps))
+four p [] from rising found = absurd (cc)
+four p (a ∷ []) from rising found = absurd (cc)
+four p (a ∷ b ∷ []) from rising found = absurd (cc)
+four p (a ∷ b ∷ c ∷ ps) from rising found =
+    let third : c.step ≡ p.step = eqb-true c.step p.step found in
+    let first = from.0 in
+    let second = rising.0.0 in
+    let last = rising.1.0.0 in
+    let here = at_first p.step p (a ∷ b ∷ c ∷ ps) refl in
+    let one = at_first p.step a (b ∷ c ∷ ps) (omega arith) in
+    let two = at_first p.step b (c ∷ ps) (omega arith) in
+    let three = at_first p.step c ps third in
+    omega arith
+
+more : (n : ℕ) (p : Point) (ps : List Point) → length (at n ps) ≤ length (at n (p ∷ ps))
+more n p ps = by_test (eqb p.step n) (λ t. rw t (omega arith)) (λ t. rw t (omega arith))
+
+other_holds : (x y : Bool) → x || y ≡ true → x ≡ false → y ≡ true
+other_holds false y h isnt = h
+other_holds true y h isnt = absurd (cc)
+
+pub crowded_at : (ps : List Point) → AreInOrder ps → fourth_found ps ≡ true → IsCrowded ps
+crowded_at [] rising found = absurd (cc)
+crowded_at (p ∷ ps) rising found =
+    by_test (is_at p.step (slice_get ps 2))
+    (λ t.
+    let count = four p ps rising.0 rising.1 t in
+    record { step = p.step; many = omega (arith, length-map (at p.step (p ∷ ps)) (λ (q : Point). q.handler)) })
+    (λ t.
+    let later : IsCrowded ps = crowded_at ps rising.1 (other_holds (is_at p.step (slice_get ps 2)) (fourth_found ps) found t) in
+    let count = later.many in
+    let grows = more later.step p ps in
+    record { step = later.step; many = omega (arith, length-map (at later.step ps) (λ (q : Point). q.handler), length-map (at later.step (p ∷ ps)) (λ (q : Point). q.handler)) })

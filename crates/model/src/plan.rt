@@ -1,6 +1,7 @@
 //! Which handlers are injected before which steps.
-ghost use Rattle.std.specs.Prelude.{◌≡◌, ◌↔◌, [], ◌∷◌, true, false, Err, IfOk};
-ghost use Rattle.model.specs.Plans.{IsPlan, falls, is_crowded};
+ghost use Rattle.std.specs.Prelude.{◌≡◌, ◌↔◌, ◌≤◌, ℕ, [], ◌∷◌, true, false, length, Err, IfOk};
+ghost use Rattle.model.specs.Plans.{AreInOrder, IsCrowded, IsPlan, most_injected};
+ghost use Rattle.model.specs.Run.{injected};
 
 use crate::ids::HandlerId;
 use crate::run::Memory;
@@ -52,7 +53,7 @@ impl Model for Plan {
 
 // Whether some step is less than the one before it.
 fn falls(points: &[Point]) -> bool
-    ensures { result ≡ falls points.now }
+    ensures { (result ≡ false) ↔ AreInOrder points.now }
 {
     let mut last = 0;
     for point in points {
@@ -64,9 +65,11 @@ fn falls(points: &[Point]) -> bool
     false
 }
 
-// Whether some point is at the step of the third after it.
+// Whether at some step there are more than three: then some point is at the step of the third after it.
 fn is_crowded(points: &[Point]) -> bool
-    ensures { result ≡ is_crowded points.now }
+    requires { AreInOrder points.now }
+    ensures crowded { result ≡ true → IsCrowded points.now }
+    ensures few { result ≡ false → (n : ℕ) → length (injected points.now n) ≤ most_injected }
 {
     let mut left = points;
     while let [point, after @ ..] = left {
@@ -84,9 +87,8 @@ impl Plan {
     /// The plan of these points; `Falling` comes before `Crowded`.
     pub fn new(points: Vec<Point>) -> Result<Self, BadPlan>
         ensures value { IfOk result (λ plan. plan ≡ points.items) }
-        ensures falling { (result ≡ Err BadPlan.Falling) ↔ (falls points.items ≡ true) }
-        ensures crowded { (result ≡ Err BadPlan.Crowded)
-            ↔ ((falls points.items ≡ false) × (is_crowded points.items ≡ true)) }
+        ensures falling { (result ≡ Err BadPlan.Falling) ↔ (AreInOrder points.items → ⊥) }
+        ensures crowded { (result ≡ Err BadPlan.Crowded) ↔ (AreInOrder points.items × IsCrowded points.items) }
     {
         if falls(points.as_slice()) {
             return Err(BadPlan::Falling);
