@@ -3,6 +3,7 @@ ghost use Rattle.std.specs.List.{AllByRecursion};
 ghost use Rattle.laws.specs.Examples.{examples, Runs};
 ghost use Rattle.laws.specs.MutexExamples.{mutex_examples};
 ghost use Rattle.laws.specs.HandlerExamples.{injected_examples, RunsWith, rows, RowIs};
+ghost use Rattle.laws.specs.HoldExamples.{hold_examples};
 
 /// Each application of the table of worked examples runs as the table says: round robin, `delay 0` that yields, `delay 1`
 /// that sleeps, sleepers of one time past the wrap of the tick; a receive that times out, a peek that passes a wake on, a send
@@ -24,6 +25,14 @@ pub fn examples_with_mutexes_run()
 /// finds nothing, and one for which a run goes on; what the ops of a handler answer.
 pub fn examples_with_handlers_run()
     ensures { AllByRecursion RunsWith injected_examples }
+{}
+
+/// Each application of the table of examples with event groups, suspended tasks and a held scheduler runs as the table says:
+/// one set that meets two waiters; a sleep that is cut off, and a `delay_until` after one; a receive that is resumed and keeps
+/// its deadline; an interrupt at work while the scheduler is held; a call that may wait while it is held, a release of what
+/// isn't held, and a script that ends while it is held, each of which is a misuse.
+pub fn examples_with_holds_run()
+    ensures { AllByRecursion RunsWith hold_examples }
 {}
 
 /// One handler at each phase of one receive, and after them: the rows of these points.
