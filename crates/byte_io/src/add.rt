@@ -41,12 +41,8 @@ pub fn make_room<W: Sink>(writer: &mut W, page: &mut Page, count: usize) -> Resu
     flush(writer, page)
 }
 
-// Adds a text of any length.
-pub(crate) fn add_text<W: Sink>(
-    writer: &mut W,
-    page: &mut Page,
-    text: &[u8],
-) -> Result<(), WriteFault>
+/// Adds a text of any length. One that is longer than a page goes to the sink as it stands.
+pub fn add_text<W: Sink>(writer: &mut W, page: &mut Page, text: &[u8]) -> Result<(), WriteFault>
     requires { W.has_failed writer.old ≡ false }
     ensures text { Adds (W.held writer.old) (W.held writer.new) page.old page.new result text.now }
     ensures failed { W.has_failed writer.new ≡ is_err result }

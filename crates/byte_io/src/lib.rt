@@ -11,7 +11,7 @@ mod shown;
 mod std_io;
 mod stream;
 
-pub use add::{flush, make_room};
+pub use add::{add_text, flush, make_room};
 pub use line::{Piece, write_line};
 pub use numeral::Numeral;
 pub use page::Page;

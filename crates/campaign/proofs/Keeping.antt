@@ -17,7 +17,7 @@ use Rattle.deal.specs.Tallies.{Tallied}
 use Rattle.campaign.specs.declared.rows.KeptRow.{KeptRow}
 use Rattle.campaign.specs.Kinds.{kind_in}
 use Rattle.campaign.specs.Report.{row_of, rows_of, IsKept}
-use Rattle.campaign.specs.Working.{AreKnown, IsAmong, IsKeptRow, GainsRow, Gained, GainsRows, HasRoom}
+use Rattle.campaign.specs.Working.{AreKnown, IsAmong, IsKeptRow, GainsRow, Gained, GainsRows}
 use Rattle.campaign.proofs.Ends.{kind_in-append, kind_in-few}
 
 less : (a b : ℕ) → a < b → nat_lt a b ≡ true

@@ -11,7 +11,7 @@ use crate::gate::{Gate, NoGate};
 use crate::making::campaign_from;
 use crate::options::Options;
 use crate::points::{ExpandFault, expand};
-use crate::writing::write_report;
+use crate::writing::write_report_in;
 use byte_io::{Sink, Source};
 use deal::{Division, Tally};
 use model::{App, Memory, Point, Totals};
@@ -100,7 +100,7 @@ pub fn serve_watched<T: Threads + Wait + Sync, R: Source, W: Sink, G: Gate + Syn
 {
     let app = app_of(alloc, reader)?;
     let report = report_of(rt, alloc, &app, options, gate)?;
-    write_report(&app, &report, writer)?;
+    write_report_in(alloc, &app, &report, writer)?;
     Ok(report.totals())
 }
 

@@ -4,3 +4,4 @@ pub mod Lanes
 pub mod Numbers
 pub mod Rows
 pub mod Short
+pub mod Spelling

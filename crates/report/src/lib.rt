@@ -1,6 +1,7 @@
 //! The text of a run, and of a campaign.
 #![tactic(auto)]
 
+mod base_events;
 mod label;
 mod labels;
 mod laws;
@@ -11,6 +12,7 @@ mod text;
 mod title;
 mod writer;
 
+pub use base_events::BaseEvents;
 pub use laws::{
     heads_of_rows, lines_of_totals, report_of_delay_one, report_of_each_form, report_of_each_hold,
     report_of_two_unlocks, reports_of_campaigns, verdicts_of_misuses,

@@ -133,6 +133,7 @@ impl<'a> Lines<'a> {
         requires { length page.old + length events.now * MAX_LINE ≤ Page.SIZE }
         ensures app { self.new ≡ self.old }
         ensures text { page.new ≡ page.old ++ flat_map (event_text self.old) events.now }
+        ensures size { length page.new ≤ length page.old + length events.now * MAX_LINE }
     {
         for event in events {
             self.push(page, event);

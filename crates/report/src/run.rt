@@ -29,6 +29,6 @@ pub fn write_run<W: Sink>(
         end: run.end,
     };
     let mut report = ReportWriter::new(app);
-    report.add_run(writer, title, ending, &[], run.events.as_slice())?;
+    report.add_run(writer, title, ending, run.events.as_slice())?;
     report.finish(writer)
 }

@@ -1,14 +1,15 @@
 //! The text of one run after another, to a sink.
-ghost use Rattle.std.specs.Prelude.{◌≡◌, ◌++◌, [], false, OnOk};
+ghost use Rattle.std.specs.Prelude.{◌≡◌, ◌≤◌, ◌++◌, [], length, take, false, OnOk};
 ghost use Rattle.std.specs.List.{flat_map};
 ghost use Rattle.std.specs.Result.{is_err};
 ghost use Rattle.byte_io.specs.Bytes.{Writes, Adds};
 ghost use Rattle.report.specs.Text.{event_text, head_text, run_text, total_text};
 
+use crate::base_events::BaseEvents;
 use crate::lines::Lines;
 use crate::text::{MAX_HEAD, MAX_LINE, MAX_TOTALS, push_head, push_totals};
 use crate::title::Title;
-use byte_io::{Page, Sink, WriteFault, flush, make_room};
+use byte_io::{Page, Sink, WriteFault, add_text, flush, make_room};
 use model::{App, Ending, Event, Totals};
 use std::marker::Model;
 
@@ -73,22 +74,46 @@ fn add_events<W: Sink>(
     Ok(())
 }
 
-// Adds the lines of two lists of events, one after the other.
-fn add_both<W: Sink>(
+// Adds the lines of the first so many events of a base run, of which those that are spelled are sent as they stand.
+fn add_shared<W: Sink>(
     writer: &mut W,
     page: &mut Page,
     lines: &mut Lines<'_>,
-    first: &[Event],
-    events: &[Event],
+    base: &BaseEvents<'_>,
+    shared: usize,
 ) -> Result<(), WriteFault>
-    requires { W.has_failed writer.old ≡ false }
+    requires working { W.has_failed writer.old ≡ false }
+    requires app { base.now.app ≡ lines.old }
+    requires within { shared ≤ length base.now.events }
     ensures app { lines.new ≡ lines.old }
     ensures text { Adds (W.held writer.old) (W.held writer.new) page.old page.new result
-        (flat_map (event_text lines.old) (first.now ++ events.now)) }
+        (flat_map (event_text lines.old) (take shared base.now.events)) }
     ensures failed { W.has_failed writer.new ≡ is_err result }
 {
-    add_events(writer, page, lines, first)?;
-    add_events(writer, page, lines, events)
+    let (text, count) = base.front(shared);
+    add_text(writer, page, text)?;
+    add_events(writer, page, lines, &base.events()[count..shared])
+}
+
+// Adds the lines of the first so many events of a base run, and of a row's own.
+fn add_after<W: Sink>(
+    writer: &mut W,
+    page: &mut Page,
+    lines: &mut Lines<'_>,
+    base: &BaseEvents<'_>,
+    shared: usize,
+    own: &[Event],
+) -> Result<(), WriteFault>
+    requires working { W.has_failed writer.old ≡ false }
+    requires app { base.now.app ≡ lines.old }
+    requires within { shared ≤ length base.now.events }
+    ensures app { lines.new ≡ lines.old }
+    ensures text { Adds (W.held writer.old) (W.held writer.new) page.old page.new result
+        (flat_map (event_text lines.old) (take shared base.now.events ++ own.now)) }
+    ensures failed { W.has_failed writer.new ≡ is_err result }
+{
+    add_shared(writer, page, lines, base, shared)?;
+    add_events(writer, page, lines, own)
 }
 
 fn add_total_line<W: Sink>(
@@ -117,25 +142,48 @@ impl<'a> ReportWriter<'a> {
         }
     }
 
-    /// Adds the report of a run, whose events are these two lists, one after the other: its head line, which begins with the
-    /// title, and a line for each event. The run is of this application, and so is the handler of a row's point.
+    /// Adds the report of a run: its head line, which begins with the title, and a line for each event. The run is of this
+    /// application, and so is the handler of a row's point.
     pub fn add_run<W: Sink>(
         &mut self,
         writer: &mut W,
         title: Title,
         ending: Ending,
-        first: &[Event],
         events: &[Event],
     ) -> Result<(), WriteFault>
         requires { W.has_failed writer.old ≡ false }
         ensures app { self.new.app ≡ self.old.app }
         ensures text { Adds (W.held writer.old) (W.held writer.new) self.old.page self.new.page result
             (run_text self.old.app title
-            (record { events = first.now ++ events.now; steps = ending.steps; ticks = ending.ticks; end = ending.end })) }
+            (record { events = events.now; steps = ending.steps; ticks = ending.ticks; end = ending.end })) }
         ensures failed { W.has_failed writer.new ≡ is_err result }
     {
         add_head(writer, &mut self.page, self.lines.app(), title, ending)?;
-        add_both(writer, &mut self.page, &mut self.lines, first, events)
+        add_events(writer, &mut self.page, &mut self.lines, events)
+    }
+
+    /// Adds the report of a run as `add_run` does. Its events are the first so many of this base run, which is of the same
+    /// application, and then these of its own.
+    pub fn add_run_after<W: Sink>(
+        &mut self,
+        writer: &mut W,
+        title: Title,
+        ending: Ending,
+        base: &BaseEvents<'_>,
+        shared: usize,
+        own: &[Event],
+    ) -> Result<(), WriteFault>
+        requires working { W.has_failed writer.old ≡ false }
+        requires app { base.now.app ≡ self.old.app }
+        requires within { shared ≤ length base.now.events }
+        ensures app { self.new.app ≡ self.old.app }
+        ensures text { Adds (W.held writer.old) (W.held writer.new) self.old.page self.new.page result
+            (run_text self.old.app title
+            (record { events = take shared base.now.events ++ own.now; steps = ending.steps; ticks = ending.ticks; end = ending.end })) }
+        ensures failed { W.has_failed writer.new ≡ is_err result }
+    {
+        add_head(writer, &mut self.page, self.lines.app(), title, ending)?;
+        add_after(writer, &mut self.page, &mut self.lines, base, shared, own)
     }
 
     /// Adds the line that ends the report of a campaign.

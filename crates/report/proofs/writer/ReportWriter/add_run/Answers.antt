@@ -14,4 +14,4 @@ returns-clause-text g c =
     let ending = c.args.ending in
     rw (← c.self.view_is)
     (Adds_two _ _ _ _ (head_text c.self.inside.lines c.args.title ending.steps ending.ticks ending.end) _ _ _ _
-    (rw c.app.ensures at c.in_ok-add_head.ensures.text) c.add_both.ensures.text)
+    (rw c.app.ensures at c.in_ok-add_head.ensures.text) c.add_events.ensures.text)
