@@ -1,4 +1,5 @@
 """Files, devices and streams that fail or never end, little memory, and signals: what the program still answers."""
+import contextlib
 import itertools
 import json
 import os
@@ -443,6 +444,36 @@ def a_campaign_shows_on_a_terminal_how_far_it_is_unless_it_is_quiet():
     shown = shown_on_a_terminal(PATIENCE)
     assert re.fullmatch(rb"\rrtosim: [1-9]\d* of 901001 rows", shown), shown
     equal(shown_on_a_terminal(1.5, "--quiet"), b"")
+
+
+def quota():
+    """How many processors the container may use, if it has a limit."""
+    with contextlib.suppress(OSError, ValueError):
+        with open("/sys/fs/cgroup/cpu.max") as it:
+            limit, period = map(int, it.read().split())
+            return max(limit // period, 1)
+    return 64
+
+
+def most_threads(processors, *words):
+    """How many threads the program has at most in the first second of a long campaign on these processors."""
+    write("application.toml", LONG_CAMPAIGN)
+    with subprocess.Popen([PROGRAM, "campaign", "application.toml", *words], stdout=subprocess.DEVNULL,
+                          preexec_fn=lambda: os.sched_setaffinity(0, processors)) as started:
+        seen, end = [], time.monotonic() + 1
+        while time.monotonic() < end:
+            seen.append(len(os.listdir(f"/proc/{started.pid}/task")))
+            time.sleep(0.01)
+        started.kill()
+    return max(seen)
+
+
+@case
+def auto_stands_for_a_worker_a_processor():
+    processors = sorted(os.sched_getaffinity(0))
+    for some in (processors[:1], processors[:2]):
+        for words in (["--workers", "auto"], ["--workers=auto"]):
+            equal(most_threads(some, *words), min(len(some), quota()))
 
 
 def controls(text):

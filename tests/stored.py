@@ -18,7 +18,14 @@ from cases import case, case_named, equal
 from running import ROOT, run, stored, write
 
 ENDINGS = (".out", ".report", ".session", ".faults")
-OPTIONS = ([], ["--quiet"], ["--workers", "64"], ["--stride=65536"], ["--block", "1000000", "--stride", "1"])
+OPTIONS = (
+    [],
+    ["--quiet"],
+    ["--workers", "64"],
+    ["--workers", "auto"],
+    ["--workers=auto", "--stride=65536"],
+    ["--block", "1000000", "--stride", "1"],
+)
 
 
 def files():

@@ -3,3 +3,4 @@ pub mod Commands
 pub mod Matches
 mod Putting
 mod Serving
+pub mod Meaning

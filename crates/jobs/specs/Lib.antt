@@ -1,4 +1,5 @@
 pub mod Acting
 pub mod Limited
 pub mod Obeying
+pub mod Processors
 pub mod Words

@@ -1,18 +1,21 @@
 //! What is done for the words of the command line.
-ghost use Rattle.std.specs.Prelude.{◌≡◌, false};
+ghost use Rattle.std.specs.Prelude.{◌≡◌, false, map, option_map, string_bytes};
+ghost use Rattle.std.specs.Int.NonZero.{non_zero_usize_get};
 ghost use Rattle.byte_io.specs.Shown.{shown_lines};
 ghost use Rattle.clap.specs.Words.{kind_of};
 ghost use Rattle.jobs.specs.Acting.{Tells};
 ghost use Rattle.jobs.specs.Obeying.{Concludes, Obeys, ShownTells, shown_status};
-ghost use Rattle.jobs.specs.Words.{texts_of};
+ghost use Rattle.jobs.specs.Processors.{meant};
 
 use crate::acting::{open_and_act, refuse};
+use crate::processors::meant;
 use crate::words::job_named;
 use byte_io::{Sink, WriteFault, put_all, put_lines};
 use campaign::{Gate, ServeFault};
 use clap::Error;
 use clap::error::ErrorKind;
-use std::alloc::Global;
+use std::alloc::{AllocError, Global};
+use std::num::NonZeroUsize;
 use std::rt::Files;
 use std::sync::Wait;
 use std::thread::Threads;
@@ -72,25 +75,48 @@ pub fn conclude_error<W: Sink, F: Sink>(
     }
 }
 
-/// Does what the words ask for: a job over the two sinks, or to show help or the version, or to say why they are refused.
-/// The gate is told how far a campaign has come, unless the words ask for quiet. It waits for the workers of a campaign, whose threads
-/// are this runtime's, as the files are.
-pub fn obey<T: Threads + Wait + Files + Sync, W: Sink, F: Sink, G: Gate + Sync>(
+// Does what these words ask for, in which `auto` stands for nothing.
+fn obey_meant<T: Threads + Wait + Files + Sync, W: Sink, F: Sink, G: Gate + Sync>(
     rt: &T,
     alloc: Global,
-    words: &[&str],
+    words: &[String],
     writer: &mut W,
     faults: &mut F,
     gate: &G,
 ) -> u8
     requires writes { W.has_failed writer.old ≡ false }
     requires tells { F.has_failed faults.old ≡ false }
-    ensures { Obeys (texts_of words.entry.now)
+    ensures { Obeys (map string_bytes words.entry.now)
         (W.held writer.old) (W.held writer.new) (W.has_failed writer.new)
         (F.held faults.old) (F.held faults.new) (F.has_failed faults.new) result }
 {
     match job_named(alloc, words) {
         Ok(job) => open_and_act(rt, alloc, &job, writer, faults, gate),
         Err(error) => conclude_error(alloc, &error, writer, faults),
+    }
+}
+
+/// Does what the words ask for: a job over the two sinks, or to show help or the version, or to say why they are refused. The first of
+/// them is the name of the program. `auto` as the value of `--workers` stands for as many workers as there are processors that the
+/// program may use, 64 at most, and for 1 where the system doesn't tell how many. The gate is told how far a campaign has come, unless
+/// the words ask for quiet. It waits for the workers of a campaign, whose threads are this runtime's, as the files are.
+pub fn obey<T: Threads + Wait + Files + Sync, W: Sink, F: Sink, G: Gate + Sync>(
+    rt: &T,
+    alloc: Global,
+    words: &[String],
+    processors: Option<NonZeroUsize>,
+    writer: &mut W,
+    faults: &mut F,
+    gate: &G,
+) -> u8
+    requires writes { W.has_failed writer.old ≡ false }
+    requires tells { F.has_failed faults.old ≡ false }
+    ensures { Obeys (meant (option_map non_zero_usize_get processors) (map string_bytes words.entry.now))
+        (W.held writer.old) (W.held writer.new) (W.has_failed writer.new)
+        (F.held faults.old) (F.held faults.new) (F.has_failed faults.new) result }
+{
+    match meant(alloc, processors, words) {
+        Ok(meant) => obey_meant(rt, alloc, &meant, writer, faults, gate),
+        Err(AllocError) => refuse(faults, ServeFault::Memory),
     }
 }

@@ -8,6 +8,7 @@ use crate::acting::Job;
 use campaign::Options;
 use clap::{Arg, ArgAction, ArgMatches, Command, Error, value_parser};
 use std::alloc::{AllocError, Global};
+use std::convert::AsStr;
 use std::num::ParseIntError;
 
 const STATUSES: &str = "Exit status:
@@ -67,7 +68,7 @@ fn workers_argument<'a>(alloc: Global) -> Arg<'a>
         .action(ArgAction::Set)
         .value_parser(value_parser!(u32).range(1..=64))
         .default_value("1")
-        .help("Threads that work on the campaign, 1 to 64")
+        .help("Threads that work on the campaign, 1 to 64, or auto: one a processor")
 }
 
 fn stride_argument<'a>(alloc: Global) -> Arg<'a>
@@ -222,13 +223,13 @@ fn job_of<'a>(matches: &ArgMatches<'a>) -> Option<Job<'a>>
 /// The job that the words name; the first of them is the name of the program. At `Err` help or the version was asked
 /// for, the words are refused, or no memory is left, as the kind of the error says. Words that the command takes are
 /// refused only for want of memory.
-pub fn job_named<'a>(alloc: Global, words: &'a [&'a str]) -> Result<Job<'a>, Error>
-    ensures job { IfOk result (IsJobOf (subcommand_of rtosim_app (texts_of words.entry.now))) }
+pub fn job_named<'a, S: AsStr>(alloc: Global, words: &'a [S]) -> Result<Job<'a>, Error>
+    ensures job { IfOk result (IsJobOf (subcommand_of rtosim_app (map S.text words.entry.now))) }
     ensures memory { IfErr result (λ e.
-        takes rtosim_app (texts_of words.entry.now) ≡ true → kind_of e ≡ OutOfMemory) }
+        takes rtosim_app (map S.text words.entry.now) ≡ true → kind_of e ≡ OutOfMemory) }
 
     // `Ok` comes only where the command takes the words, and an error is of a kind that they have, or memory.
-    ensures kinds { FailsBy (fault_of rtosim_app (texts_of words.entry.now)) result }
+    ensures kinds { FailsBy (fault_of rtosim_app (map S.text words.entry.now)) result }
 {
     let command = command(alloc)?;
     let matches = match command.try_get_matches_from(words) {

@@ -7,9 +7,9 @@ use crate::counter::Counter;
 use byte_io::ToWriter;
 use campaign::ServeFault;
 use jobs::{obey, refuse};
-use std::alloc::Global;
 use std::io;
 use std::process::ExitCode;
+use std::thread::available_parallelism;
 
 // So many bytes of stack a job takes at most, and some more.
 const STACK: usize = 393_216;
@@ -25,14 +25,6 @@ fn take_stack(place: usize) -> u8 {
 
 fn arguments(rt: &HostRuntime) -> io::Result<Vec<String>> {
     Ok(std::env::args(rt)?.collect(rt.alloc())?)
-}
-
-fn words_in(alloc: Global, arguments: &[String]) -> io::Result<Vec<&str>> {
-    let mut words = Vec::new(alloc);
-    for argument in arguments {
-        words.push(argument.as_str())?;
-    }
-    Ok(words)
 }
 
 // Tells that the words can't be read, and answers the status.
@@ -54,14 +46,11 @@ fn main(rt: HostRuntime) -> ExitCode {
         // This never comes, but the stack is not left out for it.
         return ExitCode::from(4);
     }
-    let words = match words_in(rt.alloc(), &arguments) {
-        Ok(words) => words,
-        Err(error) => return ExitCode::from(refuse_words(&rt, &error)),
-    };
     let status = obey(
         &rt,
         rt.alloc(),
-        words.as_slice(),
+        arguments.as_slice(),
+        available_parallelism(&rt).ok(),
         &mut ToWriter::new(rt.stdout()),
         &mut ToWriter::new(rt.stderr()),
         &Counter::new(&rt),

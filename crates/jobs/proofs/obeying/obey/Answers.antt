@@ -1,23 +1,16 @@
-use Rattle.std.proofs.Common.{inl, inr}
-use Rattle.clap.specs.Words.{kind_of}
+use Rattle.std.proofs.Common.{inl, inr, refl}
+use Rattle.std.proofs.KnownBytes.{Keeps-refl}
+use Rattle.clap.specs.declared.error.kind.ErrorKind.TheVariants.{OutOfMemory}
 use Rattle.jobs.proofs.obeying.obey.Goals as goal
-
-pub returns-in-Ok : goal.returns-in-Ok
-returns-in-Ok g c =
-    let done = c.open_and_act.ensures in
-    inl record {
-      job = c.in-Ok.job;
-      named = c.in-Ok.ensures.job;
-      taken = c.in-Ok.ensures.kinds;
-      outcome = done.0;
-      does = done.1;
-      tells = done.2;
-      ends = done.3;
-    }
 
 pub returns-in-Err : goal.returns-in-Err
 returns-in-Err g c = inr record {
-  kind = kind_of c.in-Err.error;
-  due = c.in-Err.ensures.kinds;
-  concludes = c.conclude_error.ensures;
+  kind = OutOfMemory;
+  due = inl refl;
+  concludes = inr (inr record {
+    tells = c.refuse.ensures.told;
+    keeps = Keeps-refl _;
+    working = c.requires.writes;
+    ends = c.refuse.ensures.status;
+  });
 }

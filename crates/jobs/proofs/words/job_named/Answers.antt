@@ -4,13 +4,13 @@ use Rattle.jobs.proofs.Matches.{taken_as, job_as, kinds_as}
 use Rattle.jobs.proofs.words.job_named.Goals as goal
 
 pub returns-in-Err-clause-memory : goal.returns-in-Err-clause-memory
-returns-in-Err-clause-memory c = taken_as _ _ _ _ c.in_ok-command.ensures.reads c.in-Err.ensures.passes
+returns-in-Err-clause-memory g c = taken_as _ _ _ _ c.in_ok-command.ensures.reads c.in-Err.ensures.passes
 
 pub returns-in-Some-clause-job : goal.returns-in-Some-clause-job
-returns-in-Some-clause-job c = job_as _ _ c.in-Ok.matches _ c.in_ok-command.ensures.reads c.in-Ok.ensures.matches c.in-Some.ensures.job
+returns-in-Some-clause-job g c = job_as _ _ c.in-Ok.matches _ c.in_ok-command.ensures.reads c.in-Ok.ensures.matches c.in-Some.ensures.job
 
 pub returns-in-Err-clause-kinds : goal.returns-in-Err-clause-kinds
-returns-in-Err-clause-kinds c = kinds_as _ _ (λ (k : Kinds). HasKind k c.in-Err.error) c.in_ok-command.ensures.reads c.in-Err.ensures.kinds
+returns-in-Err-clause-kinds g c = kinds_as _ _ (λ (k : Kinds). HasKind k c.in-Err.error) c.in_ok-command.ensures.reads c.in-Err.ensures.kinds
 
 pub returns-in-Some-clause-kinds : goal.returns-in-Some-clause-kinds
-returns-in-Some-clause-kinds c = kinds_as _ _ (λ (k : Kinds). k ≡ []) c.in_ok-command.ensures.reads c.in-Ok.ensures.kinds
+returns-in-Some-clause-kinds g c = kinds_as _ _ (λ (k : Kinds). k ≡ []) c.in_ok-command.ensures.reads c.in-Ok.ensures.kinds
