@@ -16,5 +16,5 @@ pub use runs::{late_points_do_nothing, row_is_one, run_is_one};
 pub use states::{
     choice_in_words, idle_runs_alone, no_one_outranks_after_a_tick, no_switch_while_held,
     priorities_are_at_least_those_of_the_file, running_task_is_ready, sleepers_wake_later,
-    states_are_sound, tickets_differ, time_is_start_and_elapsed,
+    states_are_sound, steps_keep_states_sound, tickets_differ, time_is_start_and_elapsed,
 };

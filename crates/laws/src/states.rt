@@ -6,6 +6,7 @@ ghost use Rattle.model.specs.Scripts.{IsWellFormed};
 ghost use Rattle.model.specs.State.{State, status_at, task_at, ticket_of, wake_time_of};
 ghost use Rattle.model.specs.Switching.{choice, is_held, is_ready, is_outranked};
 ghost use Rattle.model.specs.Handlers.{inject, tick_interrupt};
+ghost use Rattle.model.specs.Step.{step};
 ghost use Rattle.model.specs.Run.{state_after};
 ghost use Rattle.model.specs.Invariant.{IsState};
 ghost use Rattle.laws.specs.Choice.{IsChoice};
@@ -20,6 +21,15 @@ pub fn choice_in_words()
 /// numbers need.
 pub fn states_are_sound()
     ensures { (app : Application) → IsWellFormed app → (plan : List Point) (n : ℕ) → IsState app (state_after app plan n) }
+{}
+
+/// A step keeps to that from any such state, whatever handlers come before it: also where they are chosen as a run goes. It
+/// brings one `suspend_all` at most into force.
+pub fn steps_keep_states_sound()
+    ensures sound { (app : Application) → IsWellFormed app → (handlers : List ℕ) (s : State)
+        → IsState app s → IsState app (step app handlers s) }
+    ensures suspended { (app : Application) (handlers : List ℕ) (s : State)
+        → s.suspensions ≤ s.steps → (step app handlers s).suspensions ≤ (step app handlers s).steps }
 {}
 
 /// Between two steps the running task is Ready, where the scheduler isn't held.

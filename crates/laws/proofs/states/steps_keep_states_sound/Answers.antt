@@ -1,0 +1,17 @@
+use Rattle.std.proofs.Common.{◌≤◌, ℕ, suc, List, arith}
+use Rattle.model.specs.Application.{Application}
+use Rattle.model.specs.State.{State}
+use Rattle.model.specs.Step.{step}
+use Rattle.model.proofs.Passing.{suspensions-step}
+use Rattle.model.proofs.Reached.{reached_step}
+use Rattle.laws.proofs.states.steps_keep_states_sound.Goals as goal
+
+pub returns-clause-sound : goal.returns-clause-sound
+returns-clause-sound c = reached_step
+
+in_step : (app : Application) (handlers : List ℕ) (s : State) → s.suspensions ≤ s.steps → (step app handlers s).suspensions ≤ (step app handlers s).steps
+unfolding step
+in_step app handlers s few = let one = suspensions-step app handlers s in omega arith
+
+pub returns-clause-suspended : goal.returns-clause-suspended
+returns-clause-suspended c = in_step
