@@ -1,16 +1,17 @@
 -- What a clock's timeline stands for: the time and the sleepers of a state of the definitions, whose tickets it does not
 -- have.
-use Rattle.std.specs.Prelude.{◌≡◌, ℕ, ◌+◌, ◌-◌, ◌==◌, false, List, [], ◌∷◌, ◌++◌, Option, Some, None, map, filter}
+use Rattle.std.specs.Prelude.{◌≡◌, ℕ, ◌+◌, ◌-◌, ◌==◌, false, List, [], ◌∷◌, ◌++◌, Option, Some, None, filter}
 use Rattle.model.specs.State.{State}
 use Rattle.model.specs.Order.{tasks_of}
 use Rattle.model.specs.Time.{due}
 use Rattle.model.specs.Invariant.{IsTable}
 use Rattle.lists.specs.Lists.{EachOnce, IsSorted}
 use Rattle.clock.specs.Timeline.{Timeline, is_asleep}
+use Rattle.task_lists.specs.Tasks.{tasks_in}
 
 -- the tasks that sleep until this time, in order
 abbrev pub tasks_at : ℕ → List (ℕ × ℕ) → List ℕ
-tasks_at time delayed_list = map (λ e. e.0) (filter (λ e. e.1 == time) delayed_list)
+tasks_at time delayed_list = tasks_in (filter (λ e. e.1 == time) delayed_list)
 
 -- the state at another time
 abbrev pub at_time : State → ℕ → State

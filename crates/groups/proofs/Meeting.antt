@@ -10,7 +10,8 @@ use Rattle.model.specs.Groups.{bits_after_set, bits_left, bits_set, is_met, is_m
 use Rattle.model.proofs.Sorting.{by_test}
 use Rattle.lists.specs.Lists.{Each, has_node, without}
 use Rattle.lists.proofs.Entries.{has_node-same}
-use Rattle.groups.specs.EventGroups.{EventGroups, bits_in, left_by, meets, met_of, tasks_in, waiting_in, wanted_by}
+use Rattle.groups.specs.EventGroups.{EventGroups, bits_in, left_by, meets, met_of, waiting_in, wanted_by}
+use Rattle.task_lists.specs.Tasks.{tasks_in}
 use Rattle.groups.specs.StandsFor.{StandsFor}
 use Rattle.groups.proofs.Standing.{stands_readied, stands_same}
 use Rattle.groups.proofs.Kept.{same_progress, table-progress}

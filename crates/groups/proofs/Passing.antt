@@ -15,7 +15,8 @@ use Rattle.model.proofs.Sorting.{by_test}
 use Rattle.lists.specs.Lists.{Apart, EachOnce, IsSound, entries_of, first_of, has_node, next_of, without}
 use Rattle.lists.proofs.Entries.{apart_from_test, distinct-left, distinct-right, has_node-append, has_node-same, has_or_not, no_first, none-some, without-apart, without-split}
 use Rattle.lists.proofs.Laws.{entries_of-set_other, entries_of-set_same, entries_of-without}
-use Rattle.groups.specs.EventGroups.{EventGroups, left_by, meets, met_of, tasks_in, unmet_of, wanted_by}
+use Rattle.groups.specs.EventGroups.{EventGroups, left_by, meets, met_of, unmet_of, wanted_by}
+use Rattle.task_lists.specs.Tasks.{tasks_in}
 use Rattle.groups.specs.StandsFor.{StandsFor}
 use Rattle.groups.proofs.Meeting.{each_more, stands_woken}
 use Rattle.groups.proofs.Standing.{waiter}

@@ -17,7 +17,8 @@ use Rattle.model.proofs.Tables.{table-taken}
 use Rattle.lists.specs.Lists.{IsSound, has_node, place_of}
 use Rattle.lists.proofs.Entries.{has_node-other}
 use Rattle.lists.proofs.Laws.{entries_of-set_other, entries_of-set_same}
-use Rattle.groups.specs.EventGroups.{EventGroups, no_condition, tasks_in, waiting_in, wanted_by}
+use Rattle.groups.specs.EventGroups.{EventGroups, no_condition, waiting_in, wanted_by}
+use Rattle.task_lists.specs.Tasks.{tasks_in}
 use Rattle.groups.specs.StandsFor.{StandsFor, bits_wait}
 use Rattle.model.specs.Groups.{bits_key}
 use Rattle.groups.proofs.Keys.{key_none, keys_below, other_key, own_key}

@@ -15,7 +15,8 @@ use Rattle.model.proofs.Tables.{table-make_ready, table-set}
 use Rattle.lists.specs.Lists.{IsSound, entries_of, has_node, place_of, without}
 use Rattle.lists.proofs.Entries.{apart_from_test, has_node-without_it, has_node-without_other}
 use Rattle.lists.proofs.Laws.{entries_of-without, place_of-None}
-use Rattle.groups.specs.EventGroups.{EventGroups, tasks_in, waiting_in}
+use Rattle.groups.specs.EventGroups.{EventGroups, waiting_in}
+use Rattle.task_lists.specs.Tasks.{tasks_in}
 use Rattle.groups.specs.StandsFor.{SameBitWaits, StandsFor, bits_wait}
 use Rattle.model.specs.Groups.{waiters_for_bits, bits_key}
 use Rattle.groups.proofs.Keys.{key_none, key_same, waits_at}

@@ -8,7 +8,7 @@ use Rattle.model.proofs.Lists.{HasKey, eqb-same, list_has, other}
 use Rattle.model.proofs.Members.{has_task}
 use Rattle.model.proofs.Sorting.{IsAfterEntry, by_test, put_last}
 use Rattle.lists.specs.Lists.{has_node, without}
-use Rattle.groups.specs.EventGroups.{tasks_in}
+use Rattle.task_lists.specs.Tasks.{tasks_in}
 
 -- tasks but this one
 abbrev pub but : ℕ → List ℕ → List ℕ

@@ -3,6 +3,7 @@ use Rattle.std.specs.Prelude.{◌≡◌, ℕ, Bool, false, not, List, map, fold,
 use Rattle.model.specs.declared.call.Condition.{Condition}
 use Rattle.model.specs.Groups.{bits_left, is_met}
 use Rattle.lists.specs.Lists.{IsSound, entries_of}
+use Rattle.task_lists.specs.Tasks.{tasks_in}
 
 pub record EventGroups : Type 0 where
   -- the bits of each group
@@ -19,10 +20,6 @@ bits_in v group = slice_index_or v.bits group 0
 -- those who wait for bits of a group
 abbrev pub waiting_in : EventGroups → ℕ → List (ℕ × ℕ)
 waiting_in v group = entries_of v.waiting group
-
--- the tasks, without what comes with them
-abbrev pub tasks_in : List (ℕ × ℕ) → List ℕ
-tasks_in entries = map (λ (e : ℕ × ℕ). e.0) entries
 
 -- what stands where there is no task
 abbrev pub no_condition : Condition

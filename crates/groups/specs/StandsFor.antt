@@ -5,7 +5,8 @@ use Rattle.model.specs.Order.{tasks_of}
 use Rattle.model.specs.Groups.{waiters_for_bits}
 use Rattle.model.specs.Invariant.{IsTable}
 use Rattle.lists.specs.Lists.{has_node}
-use Rattle.groups.specs.EventGroups.{EventGroups, tasks_in, waiting_in, wanted_by}
+use Rattle.groups.specs.EventGroups.{EventGroups, waiting_in, wanted_by}
+use Rattle.task_lists.specs.Tasks.{tasks_in}
 
 -- a wait for bits: of which group, and what orders the task there
 pub record BitsWait : Type 0 where

@@ -7,7 +7,7 @@ ghost use Rattle.model.specs.State.{State, Suspended, Task, bits_at, status_at, 
 ghost use Rattle.model.specs.Switching.{make_ready};
 ghost use Rattle.model.specs.Invariant.{IsTable};
 ghost use Rattle.model.specs.Groups as definitions;
-ghost use Rattle.groups.specs.EventGroups.{bits_in, after_set, left_by, met_of, waiting_in};
+ghost use Rattle.groups.specs.EventGroups.{bits_in, after_set, left_by, met_of, no_condition, waiting_in};
 ghost use Rattle.groups.specs.StandsFor.{StandsFor, bits_wait};
 
 use crate::bits::{bits_left, is_met, without};
@@ -62,6 +62,7 @@ impl Groups {
     pub fn new() -> Self
         ensures clear { result.bits ≡ replicate 16 0 }
         ensures nobody { result.waiting ≡ replicate 16 [] }
+        ensures nothing { result.wants ≡ replicate 32 no_condition }
         ensures stands { (s : State) → IsTable s → s.group_bits ≡ replicate 16 0
             → ((task : ℕ) → bits_wait (status_at s task) ≡ None) → StandsFor result s }
     {

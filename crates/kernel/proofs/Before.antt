@@ -24,7 +24,8 @@ use Rattle.sched.proofs.Standing as on_sched
 use Rattle.clock.specs.StandsFor as clock
 use Rattle.clock.specs.Timeline.{Timeline}
 use Rattle.clock.proofs.Standing as on_clock
-use Rattle.objects.specs.WaitingLists.{insert_by_priority, waiting_in}
+use Rattle.objects.specs.WaitingLists.{waiting_in}
+use Rattle.task_lists.specs.Tasks.{insert_by_priority}
 use Rattle.objects.specs.WaitersStand.{AtLocked, Decider, standing}
 use Rattle.objects.specs.Queues as queues
 use Rattle.objects.specs.Queues.{Exchange}

@@ -28,7 +28,8 @@ use Rattle.sched.proofs.LinedUp.{ready_if_listed}
 use Rattle.clock.specs.StandsFor as clock
 use Rattle.clock.specs.StandsFor.{tasks_at}
 use Rattle.clock.specs.Timeline.{Timeline}
-use Rattle.objects.specs.WaitingLists.{insert_by_priority, waiting_in}
+use Rattle.objects.specs.WaitingLists.{waiting_in}
+use Rattle.task_lists.specs.Tasks.{insert_by_priority}
 use Rattle.objects.specs.WaitersStand.{joined_by, standing}
 use Rattle.objects.proofs.Keys.{same_list-refl}
 use Rattle.groups.specs.StandsFor.{bits_wait}

@@ -16,7 +16,8 @@ use Rattle.model.proofs.Lists.{HasKey, eqb-refl, eqb-same, list_has, list_withou
 use Rattle.model.proofs.Members.{has_task-key}
 use Rattle.task_lists.specs.Priorities.{with_priorities}
 use Rattle.task_lists.proofs.Priorities.{has_node-with_priorities}
-use Rattle.objects.specs.WaitingLists.{insert_by_priority, number_of, waiting_in}
+use Rattle.objects.specs.WaitingLists.{number_of, waiting_in}
+use Rattle.task_lists.specs.Tasks.{insert_by_priority}
 use Rattle.objects.specs.WaitersStand.{Decider, standing}
 use Rattle.objects.specs.Queues.{Exchange, StandsFor}
 use Rattle.objects.proofs.Keys.{same_list-refl, same_list-true, standing_key}

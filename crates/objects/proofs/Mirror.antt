@@ -7,7 +7,8 @@ use Rattle.std.proofs.lemmas.List.{length-map, get_or-map, get_or_past}
 use Rattle.lists.specs.Lists.{Each, EachOnce, IsSound, entries_of, first_of, has_node, insert_sorted, place_of, without}
 use Rattle.lists.proofs.Entries.{Each-insert_sorted, Each-without, insert_sorted-after, insert_sorted-before, without-other, without-same}
 use Rattle.lists.proofs.Laws.{entries_of-set_other, entries_of-set_same, entries_of-without}
-use Rattle.objects.specs.WaitingLists.{AreWaitingLists, insert_by_priority, mirror, mirrored}
+use Rattle.objects.specs.WaitingLists.{AreWaitingLists, mirror, mirrored}
+use Rattle.task_lists.specs.Tasks.{insert_by_priority}
 
 -- entries
 

@@ -8,7 +8,7 @@ use Rattle.model.specs.Order.{Key, Entry, entry, in_order, keyed, list_by, tasks
 use Rattle.model.specs.Waiting.{awakened, wait_key, waiters}
 use Rattle.model.proofs.Sorting.{Falls-in_order, by_test, filter-put}
 use Rattle.task_lists.specs.Priorities.{with_priorities}
-use Rattle.objects.specs.WaitingLists.{tasks_in}
+use Rattle.task_lists.specs.Tasks.{tasks_in}
 use Rattle.objects.specs.WaitersStand.{FirstAwake, is_awake, standing}
 use Rattle.objects.proofs.Keys.{standing_key, waiting_key}
 

@@ -13,7 +13,8 @@ use Rattle.model.specs.Waiting.{same_list, wait_in}
 use Rattle.model.proofs.Sorting.{by_test}
 use Rattle.model.proofs.Tables.{table-taken, ticket_at}
 use Rattle.task_lists.specs.Priorities.{with_priorities}
-use Rattle.objects.specs.WaitingLists.{insert_by_priority, number_of, waiting_in}
+use Rattle.objects.specs.WaitingLists.{number_of, waiting_in}
+use Rattle.task_lists.specs.Tasks.{insert_by_priority}
 use Rattle.objects.specs.WaitersStand.{Decider, WaitersStand, joined_by, standing}
 use Rattle.objects.proofs.Keys.{other_number, same_list-refl, same_list-true}
 use Rattle.objects.proofs.Standing.{stands_kept, standing-joined, standing-left}

@@ -17,7 +17,8 @@ use Rattle.model.proofs.Sorting.{All-filtered, before_false, before_true, by_tes
 use Rattle.model.proofs.Lists.{HasKey, list-entered, list-gone, list-kept, list_below, list_has, other}
 use Rattle.model.proofs.Tables.{table-set, table-taken, ticket_at}
 use Rattle.task_lists.specs.Priorities.{with_priorities}
-use Rattle.objects.specs.WaitingLists.{insert_by_priority, number_of, waiting_in}
+use Rattle.objects.specs.WaitingLists.{number_of, waiting_in}
+use Rattle.task_lists.specs.Tasks.{insert_by_priority}
 use Rattle.objects.specs.WaitersStand.{Decider, WaitersStand, standing}
 use Rattle.objects.proofs.Keys.{AwakeAtLocked, below_standing, standing_key, ticket_of-awake, wait_of-awake, waiters_all}
 

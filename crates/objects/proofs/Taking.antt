@@ -9,7 +9,8 @@ use Rattle.lists.proofs.Laws.{without-first, without-others, entries_of-set_same
 use Rattle.model.specs.declared.call.WaitList.{WaitList}
 use Rattle.model.specs.State.{State, for_each}
 use Rattle.model.specs.Switching.{make_ready}
-use Rattle.objects.specs.WaitingLists.{number_of, tasks_in, waiting_in}
+use Rattle.objects.specs.WaitingLists.{number_of, waiting_in}
+use Rattle.task_lists.specs.Tasks.{tasks_in}
 use Rattle.objects.specs.WaitersStand.{WaitersStand}
 use Rattle.objects.proofs.Standing.{each_more}
 

@@ -6,7 +6,8 @@ use Rattle.model.specs.State.{State, for_each, for_one}
 use Rattle.model.specs.Order.{tasks_of}
 use Rattle.model.specs.Switching.{make_ready}
 use Rattle.model.specs.Waiting.{awakened, unlock, unlock_object}
-use Rattle.objects.specs.WaitingLists.{best_of, number_of, tasks_in, waiting_in, without_best}
+use Rattle.objects.specs.WaitingLists.{best_of, number_of, waiting_in, without_best}
+use Rattle.task_lists.specs.Tasks.{tasks_in}
 use Rattle.objects.specs.WaitersStand.{AreAwakened, StandLocked, WaitersStand, opened}
 use Rattle.objects.proofs.Parts.{awakened_tasks}
 

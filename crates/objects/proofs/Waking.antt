@@ -16,7 +16,8 @@ use Rattle.model.specs.Waiting.{is_locked, same_list, waiters, wake_best, wake_o
 use Rattle.model.proofs.Sorting.{by_test}
 use Rattle.model.proofs.Lists.{eqb-refl, filter-without, list-gone, list_without}
 use Rattle.task_lists.specs.Priorities.{with_priorities}
-use Rattle.objects.specs.WaitingLists.{insert_by_priority, waiting_in}
+use Rattle.objects.specs.WaitingLists.{waiting_in}
+use Rattle.task_lists.specs.Tasks.{insert_by_priority}
 use Rattle.objects.specs.WaitersStand.{AtLocked, Decider, FirstAwake, StandLocked, WaitersStand, joined_by, standing}
 use Rattle.objects.proofs.Keys.{same_list-refl, same_list-true, standing_key}
 use Rattle.objects.proofs.Standing.{best_is, head_key, head_within, stands_readied}

@@ -7,7 +7,8 @@ use Rattle.model.specs.Order.{Entry, list_by, tasks_of}
 use Rattle.model.specs.Waiting.{awakened, is_locked, same_list, wait_key}
 use Rattle.model.specs.Invariant.{IsTable}
 use Rattle.task_lists.specs.Priorities.{with_priorities}
-use Rattle.objects.specs.WaitingLists.{insert_by_priority, waiting_in}
+use Rattle.objects.specs.WaitingLists.{waiting_in}
+use Rattle.task_lists.specs.Tasks.{insert_by_priority}
 
 -- those who wait in a list, or waited there until the locked object woke them
 abbrev pub standing : State → WaitList → List Entry

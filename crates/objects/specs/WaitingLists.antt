@@ -1,8 +1,9 @@
 -- What callers see of the waiting lists: for each list its tasks in order, each with its priority.
-use Rattle.std.specs.Prelude.{ℕ, ◌+◌, ◌-◌, ◌*◌, ◌≤◌, nat_lt, if◌then◌else◌, List, [], ◌∷◌, map, take, drop, slice_set}
+use Rattle.std.specs.Prelude.{ℕ, ◌+◌, ◌-◌, ◌*◌, ◌≤◌, List, [], ◌∷◌, map, take, drop, slice_set}
 use Rattle.model.specs.declared.call.WaitList.{WaitList}
 use Rattle.model.specs.declared.call.WaitList.TheVariants.{ToReceive, ToSend}
 use Rattle.lists.specs.Lists.{Each, IsSound, entries_of}
+use Rattle.task_lists.specs.Tasks.{tasks_in}
 
 -- the number of a list: there are two for each object
 abbrev pub number_of : WaitList → ℕ
@@ -12,10 +13,6 @@ number_of (ToSend object) = 2 * object + 1
 -- the tasks of a list, each with its priority
 abbrev pub waiting_in : List (List (ℕ × ℕ)) → WaitList → List (ℕ × ℕ)
 waiting_in lists list = entries_of lists (number_of list)
-
--- the tasks, without their priorities
-abbrev pub tasks_in : List (ℕ × ℕ) → List ℕ
-tasks_in entries = map (λ (e : ℕ × ℕ). e.0) entries
 
 -- the priority of the first; 0 where there is none
 abbrev pub first_priority : List (ℕ × ℕ) → ℕ
@@ -34,11 +31,6 @@ without_best list count lists = slice_set lists (number_of list) (drop count (wa
 abbrev pub without_woken : ℕ → ℕ → ℕ → List (List (ℕ × ℕ)) → List (List (ℕ × ℕ))
 without_woken object receivers senders lists =
     without_best (ToSend object) senders (without_best (ToReceive object) receivers lists)
-
--- a task with its priority put behind all that are not of lower priority (`vListInsert`)
-abbrev pub insert_by_priority : ℕ × ℕ → List (ℕ × ℕ) → List (ℕ × ℕ)
-insert_by_priority e [] = e ∷ []
-insert_by_priority e (f ∷ fs) = if nat_lt f.1 e.1 then e ∷ f ∷ fs else f ∷ insert_by_priority e fs
 
 -- a task with its priority, where a list's entry has the value 31 - priority; and back
 abbrev pub mirror : ℕ × ℕ → ℕ × ℕ

@@ -18,7 +18,8 @@ ghost use Rattle.model.specs.Objects.{allows, object_after, reply};
 ghost use Rattle.model.specs.Mutexes as mutexes;
 ghost use Rattle.objects.specs.Items.{object_in};
 ghost use Rattle.objects.specs.Objects.{held_of};
-ghost use Rattle.objects.specs.WaitingLists.{first_priority, insert_by_priority, number_of, waiting_in};
+ghost use Rattle.objects.specs.WaitingLists.{first_priority, number_of, waiting_in};
+ghost use Rattle.task_lists.specs.Tasks.{insert_by_priority};
 ghost use Rattle.objects.specs.WaitersStand.{AreAwakened, AtLocked, Decider, opened};
 ghost use Rattle.objects.specs.Queues.{AreCounted, HasRoom, StandsFor, after_unlock, after_wake, counted_by, readied_by};
 

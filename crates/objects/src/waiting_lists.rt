@@ -10,7 +10,8 @@ ghost use Rattle.model.specs.Switching.{make_ready};
 ghost use Rattle.model.specs.Waiting as waiting;
 ghost use Rattle.model.specs.Waiting.{is_locked, waiters, wait_in, wake_best};
 ghost use Rattle.model.specs.Invariant.{IsTable};
-ghost use Rattle.objects.specs.WaitingLists.{best_of, first_priority, insert_by_priority, number_of, tasks_in, waiting_in, without_woken};
+ghost use Rattle.objects.specs.WaitingLists.{best_of, first_priority, number_of, waiting_in, without_woken};
+ghost use Rattle.task_lists.specs.Tasks.{insert_by_priority, tasks_in};
 ghost use Rattle.objects.specs.WaitersStand.{AreAwakened, AtLocked, Decider, StandLocked, WaitersStand, opened, standing};
 
 use arrayvec::ArrayVec;

@@ -3,7 +3,8 @@ use Rattle.std.proofs.Common.{◌≡◌, ◌≢◌, ℕ, ◌<◌, inl, inr, Bool
 use Rattle.std.proofs.lemmas.Bool.{cases_eq}
 use Rattle.lists.specs.Lists.{IsSound, entries_of, has_node, without}
 use Rattle.lists.proofs.Entries.{has_node-without_it, has_node-without_other}
-use Rattle.sched.specs.Schedule.{Schedule, add_to_ready_list, block, is_among, make_ready, priority_in, to_back, without_task}
+use Rattle.sched.specs.Schedule.{Schedule, block, make_ready, priority_in, to_back}
+use Rattle.task_lists.specs.Tasks.{insert_by_priority, is_among, without_task}
 use Rattle.sched.specs.ReadyLists.{AreByPriority, IsSched, ready_list_of, schedule_of}
 use Rattle.sched.proofs.ReadyList.{AtHome-push, AtHome-without, ready_list_of-push, ready_list_of-without}
 use Rattle.sched.proofs.LinedUp.{among-more, among-without, has_node-added}
@@ -42,10 +43,10 @@ push task p lists = set lists p (entries_of lists p ++ (task, p) ∷ [])
 pub listed_push : {lists : List (List (ℕ × ℕ))} {priorities : List ℕ} → AreByPriority lists priorities → (task p : ℕ) → IsSound 32 32 (push task p lists) → AreByPriority (push task p lists) priorities
 listed_push {lists} {priorities} h task p sound = record { sound = sound; at_home = AtHome-push task p 0 p lists h.at_home (omega arith); known = h.known }
 
-pub ready_push : {lists : List (List (ℕ × ℕ))} {priorities : List ℕ} → AreByPriority lists priorities → (task p : ℕ) → p ≡ priority_in priorities task → p < length lists → ready_list_of (push task p lists) ≡ add_to_ready_list (task, priority_in priorities task) (ready_list_of lists)
+pub ready_push : {lists : List (List (ℕ × ℕ))} {priorities : List ℕ} → AreByPriority lists priorities → (task p : ℕ) → p ≡ priority_in priorities task → p < length lists → ready_list_of (push task p lists) ≡ insert_by_priority (task, priority_in priorities task) (ready_list_of lists)
 ready_push {lists} {priorities} h task p is below =
     ready_list_of-push task p 0 p lists h.at_home (omega arith) below
-    ∙ ap (λ (k : ℕ). add_to_ready_list (task, k) (ready_list_of lists)) is
+    ∙ ap (λ (k : ℕ). insert_by_priority (task, k) (ready_list_of lists)) is
 
 pub sched_push : {lists : List (List (ℕ × ℕ))} {pending priorities base : List ℕ} {depth : ℕ} → IsSched lists pending priorities base depth → (task p : ℕ) → p ≡ priority_in priorities task → p < length lists → is_among task pending ≡ false → IsSound 32 32 (push task p lists) → IsSched (push task p lists) pending priorities base depth
 sched_push {lists} {pending} {priorities} {base} {depth} h task p is below free sound = record {
@@ -74,7 +75,7 @@ sched_pend {lists} {pending} {priorities} {base} {depth} h task free held = reco
 -- a task of a ready list goes to the back of it
 
 -- who wasn't in a ready list still isn't
-pub still_apart : (lists new : List (List (ℕ × ℕ))) (task k : ℕ) → ready_list_of new ≡ add_to_ready_list (task, k) (without task (ready_list_of lists)) → has_node task (ready_list_of lists) ≡ true → (i : ℕ) → has_node i (ready_list_of lists) ≡ false → has_node i (ready_list_of new) ≡ false
+pub still_apart : (lists new : List (List (ℕ × ℕ))) (task k : ℕ) → ready_list_of new ≡ insert_by_priority (task, k) (without task (ready_list_of lists)) → has_node task (ready_list_of lists) ≡ true → (i : ℕ) → has_node i (ready_list_of lists) ≡ false → has_node i (ready_list_of new) ≡ false
 still_apart lists new task k moved listed i out =
     let ne : i ≢ task = λ same. let there : has_node task (ready_list_of lists) ≡ false = ap (λ (j : ℕ). has_node j (ready_list_of lists)) (sym same) ∙ out in cc in
     ap (has_node i) moved ∙ has_node-added i (task, k) (without task (ready_list_of lists)) (λ same. ne (sym same))
@@ -87,8 +88,8 @@ module _ {lists : List (List (ℕ × ℕ))} {priorities : List ℕ} (h : AreByPr
   below : p < length (map (without task) lists)
   below = let many = sound.as_many in omega (arith, many, known)
 
-  ready_moved : ready_list_of (push task p (map (without task) lists)) ≡ add_to_ready_list (task, priority_in priorities task) (without task (ready_list_of lists))
-  ready_moved = ready_push left task p is below ∙ ap (add_to_ready_list (task, priority_in priorities task)) (ready_list_of-without task lists)
+  ready_moved : ready_list_of (push task p (map (without task) lists)) ≡ insert_by_priority (task, priority_in priorities task) (without task (ready_list_of lists))
+  ready_moved = ready_push left task p is below ∙ ap (insert_by_priority (task, priority_in priorities task)) (ready_list_of-without task lists)
 
   pub schedule_moved : (pending : List ℕ) (current : Option ℕ) (base : List ℕ) (depth : ℕ) (suspended : List Bool) → schedule_of (push task p (map (without task) lists)) pending current priorities base depth suspended ≡ to_back task (schedule_of lists pending current priorities base depth suspended)
   schedule_moved pending current base depth suspended = rw listed (ap (with_ready (schedule_of lists pending current priorities base depth suspended)) ready_moved)

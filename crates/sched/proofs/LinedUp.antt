@@ -8,7 +8,8 @@ use Rattle.model.proofs.Lists.{eqb-same}
 use Rattle.model.proofs.Sorting.{by_test}
 use Rattle.lists.specs.Lists.{Each, first_of, has_node, without}
 use Rattle.lists.proofs.Entries.{Each-append, Each-imp, Each-without, has_node-same, has_node-other, has_node-without_other, without-same, without-other}
-use Rattle.sched.specs.Schedule.{Schedule, add_to_ready_list, block, is_among, is_ready, line_up, lined_up, make_ready, pend_ready, priority_in, set_priority, to_back, wake, without_task}
+use Rattle.sched.specs.Schedule.{Schedule, block, is_ready, line_up, lined_up, make_ready, pend_ready, priority_in, set_priority, to_back, wake}
+use Rattle.task_lists.specs.Tasks.{insert_by_priority, is_among, without_task}
 use Rattle.sched.specs.ReadyLists.{AtHome, ready_list_of}
 use Rattle.sched.proofs.ReadyList.{add-after, add-before, none_lower, or-false}
 
@@ -38,52 +39,52 @@ falling_at_home k (l ∷ ls) h =
 -- ---- a task that is added
 
 -- what is true of it and of each other
-Each-added : (P : ℕ × ℕ → Type 0) (e : ℕ × ℕ) (fs : List (ℕ × ℕ)) → P e → Each P fs → Each P (add_to_ready_list e fs)
+Each-added : (P : ℕ × ℕ → Type 0) (e : ℕ × ℕ) (fs : List (ℕ × ℕ)) → P e → Each P fs → Each P (insert_by_priority e fs)
 Each-added P e [] p h = (p, tt)
 Each-added P e (f ∷ fs) p h = elim (cases_lt f.1 e.1) [
   | inl less ↦ subst (Each P) (sym (add-before e f fs less)) (p, h)
   | inr more ↦ subst (Each P) (sym (add-after e f fs more)) (h.0, Each-added P e fs p h.1)
 ]
 
-Each-under : (P : ℕ × ℕ → Type 0) (e : ℕ × ℕ) (fs : List (ℕ × ℕ)) → Each P (add_to_ready_list e fs) → Each P fs
+Each-under : (P : ℕ × ℕ → Type 0) (e : ℕ × ℕ) (fs : List (ℕ × ℕ)) → Each P (insert_by_priority e fs) → Each P fs
 Each-under P e [] h = tt
 Each-under P e (f ∷ fs) h = elim (cases_lt f.1 e.1) [
   | inl less ↦ let k : Each P (e ∷ f ∷ fs) = subst (Each P) (add-before e f fs less) h in k.1
-  | inr more ↦ let k : Each P (f ∷ add_to_ready_list e fs) = subst (Each P) (add-after e f fs more) h in (k.0, Each-under P e fs k.1)
+  | inr more ↦ let k : Each P (f ∷ insert_by_priority e fs) = subst (Each P) (add-after e f fs more) h in (k.0, Each-under P e fs k.1)
 ]
 
-falling-added : (e : ℕ × ℕ) (fs : List (ℕ × ℕ)) → IsFalling fs → IsFalling (add_to_ready_list e fs)
+falling-added : (e : ℕ × ℕ) (fs : List (ℕ × ℕ)) → IsFalling fs → IsFalling (insert_by_priority e fs)
 falling-added e [] h = (tt, tt)
 falling-added e (f ∷ fs) h = elim (cases_lt f.1 e.1) [
   | inl less ↦ subst IsFalling (sym (add-before e f fs less)) ((omega (arith, less), Each-imp (λ g. g.1 ≤ f.1) (λ g. g.1 ≤ e.1) fs (λ g le. omega (arith, le, less)) h.0), h)
   | inr more ↦ subst IsFalling (sym (add-after e f fs more)) (Each-added (λ g. g.1 ≤ f.1) e fs more h.0, falling-added e fs h.1)
 ]
 
-falling-under : (e : ℕ × ℕ) (fs : List (ℕ × ℕ)) → IsFalling (add_to_ready_list e fs) → IsFalling fs
+falling-under : (e : ℕ × ℕ) (fs : List (ℕ × ℕ)) → IsFalling (insert_by_priority e fs) → IsFalling fs
 falling-under e [] h = tt
 falling-under e (f ∷ fs) h = elim (cases_lt f.1 e.1) [
   | inl less ↦ let k : IsFalling (e ∷ f ∷ fs) = subst IsFalling (add-before e f fs less) h in k.1
-  | inr more ↦ let k : IsFalling (f ∷ add_to_ready_list e fs) = subst IsFalling (add-after e f fs more) h in (Each-under (λ g. g.1 ≤ f.1) e fs k.0, falling-under e fs k.1)
+  | inr more ↦ let k : IsFalling (f ∷ insert_by_priority e fs) = subst IsFalling (add-after e f fs more) h in (Each-under (λ g. g.1 ≤ f.1) e fs k.0, falling-under e fs k.1)
 ]
 
 -- before those of lower priority
-add-first : (e : ℕ × ℕ) (fs : List (ℕ × ℕ)) → Each (λ f. f.1 < e.1) fs → add_to_ready_list e fs ≡ e ∷ fs
+add-first : (e : ℕ × ℕ) (fs : List (ℕ × ℕ)) → Each (λ f. f.1 < e.1) fs → insert_by_priority e fs ≡ e ∷ fs
 add-first e [] h = refl
 add-first e (f ∷ fs) h = add-before e f fs h.0
 
-pub without-added_it : (i p : ℕ) (fs : List (ℕ × ℕ)) → without i (add_to_ready_list (i, p) fs) ≡ without i fs
+pub without-added_it : (i p : ℕ) (fs : List (ℕ × ℕ)) → without i (insert_by_priority (i, p) fs) ≡ without i fs
 without-added_it i p [] = without-same i (i, p) [] refl
 without-added_it i p (f ∷ fs) = elim (cases_lt f.1 p) [
   | inl less ↦ ap (without i) (add-before (i, p) f fs less) ∙ without-same i (i, p) (f ∷ fs) refl
   | inr more ↦ ap (without i) (add-after (i, p) f fs more) ∙ elim (cases_eq f.0 i) [
-    | inl same ↦ without-same i f (add_to_ready_list (i, p) fs) same ∙ without-added_it i p fs ∙ sym (without-same i f fs same)
+    | inl same ↦ without-same i f (insert_by_priority (i, p) fs) same ∙ without-added_it i p fs ∙ sym (without-same i f fs same)
     | inr other ↦
-        without-other i f (add_to_ready_list (i, p) fs) other ∙ ap (λ (gs : List (ℕ × ℕ)). f ∷ gs) (without-added_it i p fs)
+        without-other i f (insert_by_priority (i, p) fs) other ∙ ap (λ (gs : List (ℕ × ℕ)). f ∷ gs) (without-added_it i p fs)
         ∙ sym (without-other i f fs other)
   ]
 ]
 
-pub without-added : (i : ℕ) (e : ℕ × ℕ) (fs : List (ℕ × ℕ)) → e.0 ≢ i → IsFalling fs → without i (add_to_ready_list e fs) ≡ add_to_ready_list e (without i fs)
+pub without-added : (i : ℕ) (e : ℕ × ℕ) (fs : List (ℕ × ℕ)) → e.0 ≢ i → IsFalling fs → without i (insert_by_priority e fs) ≡ insert_by_priority e (without i fs)
 without-added i e [] ne h = without-other i e [] ne
 without-added i e (f ∷ fs) ne h = elim (cases_lt f.1 e.1) [
   | inl less ↦
@@ -92,33 +93,33 @@ without-added i e (f ∷ fs) ne h = elim (cases_lt f.1 e.1) [
       ∙ sym (add-first e (without i (f ∷ fs)) (Each-without (λ g. g.1 < e.1) i (f ∷ fs) lower))
   | inr more ↦ ap (without i) (add-after e f fs more) ∙ elim (cases_eq f.0 i) [
     | inl same ↦
-        without-same i f (add_to_ready_list e fs) same ∙ without-added i e fs ne h.1
-        ∙ ap (add_to_ready_list e) (sym (without-same i f fs same))
+        without-same i f (insert_by_priority e fs) same ∙ without-added i e fs ne h.1
+        ∙ ap (insert_by_priority e) (sym (without-same i f fs same))
     | inr other ↦
-        without-other i f (add_to_ready_list e fs) other ∙ ap (λ (gs : List (ℕ × ℕ)). f ∷ gs) (without-added i e fs ne h.1)
+        without-other i f (insert_by_priority e fs) other ∙ ap (λ (gs : List (ℕ × ℕ)). f ∷ gs) (without-added i e fs ne h.1)
         ∙ sym (add-after e f (without i fs) more)
-        ∙ ap (add_to_ready_list e) (sym (without-other i f fs other))
+        ∙ ap (insert_by_priority e) (sym (without-other i f fs other))
   ]
 ]
 
-pub has_node-added_it : (i p : ℕ) (fs : List (ℕ × ℕ)) → has_node i (add_to_ready_list (i, p) fs) ≡ true
+pub has_node-added_it : (i p : ℕ) (fs : List (ℕ × ℕ)) → has_node i (insert_by_priority (i, p) fs) ≡ true
 has_node-added_it i p [] = has_node-same i (i, p) [] refl
 has_node-added_it i p (f ∷ fs) = elim (cases_lt f.1 p) [
   | inl less ↦ ap (has_node i) (add-before (i, p) f fs less) ∙ has_node-same i (i, p) (f ∷ fs) refl
   | inr more ↦ ap (has_node i) (add-after (i, p) f fs more) ∙ elim (cases_eq f.0 i) [
-    | inl same ↦ has_node-same i f (add_to_ready_list (i, p) fs) same
-    | inr other ↦ has_node-other i f (add_to_ready_list (i, p) fs) other ∙ has_node-added_it i p fs
+    | inl same ↦ has_node-same i f (insert_by_priority (i, p) fs) same
+    | inr other ↦ has_node-other i f (insert_by_priority (i, p) fs) other ∙ has_node-added_it i p fs
   ]
 ]
 
-pub has_node-added : (i : ℕ) (e : ℕ × ℕ) (fs : List (ℕ × ℕ)) → e.0 ≢ i → has_node i (add_to_ready_list e fs) ≡ has_node i fs
+pub has_node-added : (i : ℕ) (e : ℕ × ℕ) (fs : List (ℕ × ℕ)) → e.0 ≢ i → has_node i (insert_by_priority e fs) ≡ has_node i fs
 has_node-added i e [] ne = has_node-other i e [] ne
 has_node-added i e (f ∷ fs) ne = elim (cases_lt f.1 e.1) [
   | inl less ↦ ap (has_node i) (add-before e f fs less) ∙ has_node-other i e (f ∷ fs) ne
   | inr more ↦ ap (has_node i) (add-after e f fs more) ∙ elim (cases_eq f.0 i) [
-    | inl same ↦ has_node-same i f (add_to_ready_list e fs) same ∙ sym (has_node-same i f fs same)
+    | inl same ↦ has_node-same i f (insert_by_priority e fs) same ∙ sym (has_node-same i f fs same)
     | inr other ↦
-        has_node-other i f (add_to_ready_list e fs) other ∙ has_node-added i e fs ne ∙ sym (has_node-other i f fs other)
+        has_node-other i f (insert_by_priority e fs) other ∙ has_node-added i e fs ne ∙ sym (has_node-other i f fs other)
   ]
 ]
 
@@ -164,26 +165,26 @@ among-more i t (u ∷ us) h f g = elim (cases_eq u i) [
 
 -- ---- the tasks lined up
 
-pub line_up-append : (ts : List ℕ) (t : ℕ) (ps : List ℕ) (es : List (ℕ × ℕ)) → line_up (ts ++ t ∷ []) ps es ≡ add_to_ready_list (t, priority_in ps t) (line_up ts ps es)
+pub line_up-append : (ts : List ℕ) (t : ℕ) (ps : List ℕ) (es : List (ℕ × ℕ)) → line_up (ts ++ t ∷ []) ps es ≡ insert_by_priority (t, priority_in ps t) (line_up ts ps es)
 line_up-append [] t ps es = refl
-line_up-append (u ∷ us) t ps es = line_up-append us t ps (add_to_ready_list (u, priority_in ps u) es)
+line_up-append (u ∷ us) t ps es = line_up-append us t ps (insert_by_priority (u, priority_in ps u) es)
 
 pub line_up-falling : (ts ps : List ℕ) (es : List (ℕ × ℕ)) → IsFalling es → IsFalling (line_up ts ps es)
 line_up-falling [] ps es h = h
-line_up-falling (t ∷ ts) ps es h = line_up-falling ts ps (add_to_ready_list (t, priority_in ps t) es) (falling-added (t, priority_in ps t) es h)
+line_up-falling (t ∷ ts) ps es h = line_up-falling ts ps (insert_by_priority (t, priority_in ps t) es) (falling-added (t, priority_in ps t) es h)
 
 pub line_up-under : (ts ps : List ℕ) (es : List (ℕ × ℕ)) → IsFalling (line_up ts ps es) → IsFalling es
 line_up-under [] ps es h = h
-line_up-under (t ∷ ts) ps es h = falling-under (t, priority_in ps t) es (line_up-under ts ps (add_to_ready_list (t, priority_in ps t) es) h)
+line_up-under (t ∷ ts) ps es h = falling-under (t, priority_in ps t) es (line_up-under ts ps (insert_by_priority (t, priority_in ps t) es) h)
 
 pub line_up-without : (i : ℕ) (ts ps : List ℕ) (es : List (ℕ × ℕ)) → IsFalling es → line_up (without_task i ts) ps (without i es) ≡ without i (line_up ts ps es)
 line_up-without i [] ps es h = refl
 line_up-without i (t ∷ ts) ps es h =
     let e : ℕ × ℕ = (t, priority_in ps t) in
-    let rest = line_up-without i ts ps (add_to_ready_list e es) (falling-added e es h) in
+    let rest = line_up-without i ts ps (insert_by_priority e es) (falling-added e es h) in
     elim (cases_eq t i) [
       | inl same ↦
-          let gone : without i (add_to_ready_list e es) ≡ without i es = subst (λ (j : ℕ). without j (add_to_ready_list e es) ≡ without j es) same (without-added_it t (priority_in ps t) es) in
+          let gone : without i (insert_by_priority e es) ≡ without i es = subst (λ (j : ℕ). without j (insert_by_priority e es) ≡ without j es) same (without-added_it t (priority_in ps t) es) in
           ap (λ (us : List ℕ). line_up us ps (without i es)) (without_task-same i t ts same)
           ∙ ap (line_up (without_task i ts) ps) (sym gone) ∙ rest
       | inr other ↦
@@ -198,8 +199,8 @@ lined_up-block i v h = line_up-without i v.pending v.priorities v.ready h
 
 pub listed_ready : (i : ℕ) (ts ps : List ℕ) (es : List (ℕ × ℕ)) → has_node i es ≡ true → has_node i (line_up ts ps es) ≡ true
 listed_ready i [] ps es h = h
-listed_ready i (t ∷ ts) ps es h = listed_ready i ts ps (add_to_ready_list (t, priority_in ps t) es) (elim (cases_eq t i) [
-  | inl same ↦ ap (λ (j : ℕ). has_node j (add_to_ready_list (t, priority_in ps t) es)) (sym same) ∙ has_node-added_it t (priority_in ps t) es
+listed_ready i (t ∷ ts) ps es h = listed_ready i ts ps (insert_by_priority (t, priority_in ps t) es) (elim (cases_eq t i) [
+  | inl same ↦ ap (λ (j : ℕ). has_node j (insert_by_priority (t, priority_in ps t) es)) (sym same) ∙ has_node-added_it t (priority_in ps t) es
   | inr other ↦ has_node-added i (t, priority_in ps t) es other ∙ h
 ])
 
@@ -211,9 +212,9 @@ pub has_node-line_up : (i : ℕ) (ts ps : List ℕ) (es : List (ℕ × ℕ)) →
 has_node-line_up i [] ps es = sym (or-false (has_node i es))
 has_node-line_up i (t ∷ ts) ps es =
     let e : ℕ × ℕ = (t, priority_in ps t) in
-    has_node-line_up i ts ps (add_to_ready_list e es) ∙ elim (cases_eq t i) [
+    has_node-line_up i ts ps (insert_by_priority e es) ∙ elim (cases_eq t i) [
       | inl same ↦
-          let here : has_node i (add_to_ready_list e es) ≡ true = ap (λ (j : ℕ). has_node j (add_to_ready_list e es)) (sym same) ∙ has_node-added_it t (priority_in ps t) es in
+          let here : has_node i (insert_by_priority e es) ≡ true = ap (λ (j : ℕ). has_node j (insert_by_priority e es)) (sym same) ∙ has_node-added_it t (priority_in ps t) es in
           ap (λ (b : Bool). b || is_among i ts) here ∙ sym (ap (λ (b : Bool). has_node i es || b) (among-same i t ts same) ∙ or-true (has_node i es))
       | inr other ↦
           ap (λ (b : Bool). b || is_among i ts) (has_node-added i e es other)
@@ -238,7 +239,7 @@ ready_if_listed i v h = listed_ready i v.pending v.priorities v.ready h
 module _ {A : Type 0} (part : Schedule → A) where
   back_keeps : ((v : Schedule) (ready : List (ℕ × ℕ)) → part (record v { ready = ready }) ≡ part v) → (v : Schedule) (i : ℕ) → part (to_back i v) ≡ part v
   back_keeps same v i = by_test (has_node i v.ready)
-      (λ t. rw t (same v (add_to_ready_list (i, priority_in v.priorities i) (without i v.ready))))
+      (λ t. rw t (same v (insert_by_priority (i, priority_in v.priorities i) (without i v.ready))))
       (λ t. rw t refl)
 
 -- who is Ready after another is made so, or no more so
@@ -291,13 +292,13 @@ lined_up_calm v none = ap (λ (ts : List ℕ). line_up ts v.priorities v.ready) 
 
 -- ---- whether any task is Ready
 
-pub added_some : (e : ℕ × ℕ) (es : List (ℕ × ℕ)) → is_some (first_of (add_to_ready_list e es)) ≡ true
+pub added_some : (e : ℕ × ℕ) (es : List (ℕ × ℕ)) → is_some (first_of (insert_by_priority e es)) ≡ true
 added_some e [] = refl
 added_some e (f ∷ fs) = by_test (ltb f.1 e.1) (λ t. rw t refl) (λ t. rw t refl)
 
 still_some : (ts ps : List ℕ) (es : List (ℕ × ℕ)) → is_some (first_of es) ≡ true → is_some (first_of (line_up ts ps es)) ≡ true
 still_some [] ps es h = h
-still_some (t ∷ ts) ps es h = still_some ts ps (add_to_ready_list (t, priority_in ps t) es) (added_some (t, priority_in ps t) es)
+still_some (t ∷ ts) ps es h = still_some ts ps (insert_by_priority (t, priority_in ps t) es) (added_some (t, priority_in ps t) es)
 
 pub some_ready : (v : Schedule) → is_some (first_of v.ready) ≡ true → true ≡ is_some (first_of (lined_up v))
 some_ready v h = sym (still_some v.pending v.priorities v.ready h)
@@ -306,4 +307,4 @@ pub some_pending : (v : Schedule) → (v.pending ≡ [] → ⊥) → true ≡ is
 some_pending v h = by_pending v.pending refl where
   by_pending : (ts : List ℕ) → v.pending ≡ ts → true ≡ is_some (first_of (lined_up v))
   by_pending [] e = absurd (h e)
-  by_pending (t ∷ ts) e = rw e (sym (still_some ts v.priorities (add_to_ready_list (t, priority_in v.priorities t) v.ready) (added_some (t, priority_in v.priorities t) v.ready)))
+  by_pending (t ∷ ts) e = rw e (sym (still_some ts v.priorities (insert_by_priority (t, priority_in v.priorities t) v.ready) (added_some (t, priority_in v.priorities t) v.ready)))

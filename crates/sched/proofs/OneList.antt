@@ -6,8 +6,7 @@ use Rattle.std.proofs.lemmas.Bool.{cases_eq}
 use Rattle.lists.specs.Lists.{IsSound, entries_of, first_of, has_node, place_of, without}
 use Rattle.lists.proofs.Entries.{apart_from_test, first_split, has_node-without_it, has_or_not, without-other, without-same}
 use Rattle.lists.proofs.Laws.{entries_of-set_same, entries_of-without, place_of-None, without-first}
-use Rattle.sched.specs.Schedule.{is_among, without_task}
-use Rattle.sched.specs.ReadyLists.{tasks_in}
+use Rattle.task_lists.specs.Tasks.{is_among, without_task, tasks_in}
 use Rattle.sched.proofs.LinedUp.{without_task-other, without_task-same}
 
 tasks_in-append : (es fs : List (ℕ × ℕ)) → tasks_in (es ++ fs) ≡ tasks_in es ++ tasks_in fs

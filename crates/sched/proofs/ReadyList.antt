@@ -8,7 +8,8 @@ use Rattle.std.proofs.lemmas.List.Folds.{list_any-append}
 use Rattle.lists.specs.Lists.{Each, IsSound, entries_of, first_of, has_node, place_of, without}
 use Rattle.lists.proofs.Entries.{Each-append, Each-imp, Each-without, apart_from_test, has_node-append, has_node-left, has_or_not, without-append}
 use Rattle.lists.proofs.Laws.{place_of-None}
-use Rattle.sched.specs.Schedule.{is_above, is_beside, add_to_ready_list, priority_in}
+use Rattle.sched.specs.Schedule.{is_above, is_beside, priority_in}
+use Rattle.task_lists.specs.Tasks.{insert_by_priority}
 use Rattle.lists.specs.declared.ids.ListId.{ListId}
 use Rattle.sched.specs.ReadyLists.{AtHome, IsHighest, ready_list_of}
 
@@ -22,19 +23,19 @@ none_lower k (l ∷ ls) h =
 
 -- a task that is added
 
-pub add-before : (e f : ℕ × ℕ) (fs : List (ℕ × ℕ)) → f.1 < e.1 → add_to_ready_list e (f ∷ fs) ≡ e ∷ f ∷ fs
+pub add-before : (e f : ℕ × ℕ) (fs : List (ℕ × ℕ)) → f.1 < e.1 → insert_by_priority e (f ∷ fs) ≡ e ∷ f ∷ fs
 add-before e f fs less = let b : nat_lt f.1 e.1 ≡ true = lt-ltb f.1 e.1 less in rw b refl
 
-pub add-after : (e f : ℕ × ℕ) (fs : List (ℕ × ℕ)) → e.1 ≤ f.1 → add_to_ready_list e (f ∷ fs) ≡ f ∷ add_to_ready_list e fs
+pub add-after : (e f : ℕ × ℕ) (fs : List (ℕ × ℕ)) → e.1 ≤ f.1 → insert_by_priority e (f ∷ fs) ≡ f ∷ insert_by_priority e fs
 add-after e f fs le = let b : nat_lt f.1 e.1 ≡ false = le-ltb f.1 e.1 le in rw b refl
 
 -- behind entries that are not of lower priority
-add-last : (e : ℕ × ℕ) (fs : List (ℕ × ℕ)) → Each (λ f. e.1 ≤ f.1) fs → add_to_ready_list e fs ≡ fs ++ e ∷ []
+add-last : (e : ℕ × ℕ) (fs : List (ℕ × ℕ)) → Each (λ f. e.1 ≤ f.1) fs → insert_by_priority e fs ≡ fs ++ e ∷ []
 add-last e [] h = refl
 add-last e (f ∷ fs) h = add-after e f fs h.0 ∙ ap (λ (gs : List (ℕ × ℕ)). f ∷ gs) (add-last e fs h.1)
 
 -- and before those of lower priority
-add-left : (e : ℕ × ℕ) (fs gs : List (ℕ × ℕ)) → Each (λ g. g.1 < e.1) gs → add_to_ready_list e (fs ++ gs) ≡ add_to_ready_list e fs ++ gs
+add-left : (e : ℕ × ℕ) (fs gs : List (ℕ × ℕ)) → Each (λ g. g.1 < e.1) gs → insert_by_priority e (fs ++ gs) ≡ insert_by_priority e fs ++ gs
 add-left e [] [] h = refl
 add-left e [] (g ∷ gs) h = add-before e g gs h.0
 add-left e (f ∷ fs) gs h = elim (cases_lt f.1 e.1) [
@@ -45,7 +46,7 @@ add-left e (f ∷ fs) gs h = elim (cases_lt f.1 e.1) [
 ]
 
 -- after a task was put last into the list of its priority
-pub ready_list_of-push : (task p k i : ℕ) (ls : List (List (ℕ × ℕ))) → AtHome k ls → p ≡ k + i → i < length ls → ready_list_of (set ls i (get_or ls i [] ++ (task, p) ∷ [])) ≡ add_to_ready_list (task, p) (ready_list_of ls)
+pub ready_list_of-push : (task p k i : ℕ) (ls : List (List (ℕ × ℕ))) → AtHome k ls → p ≡ k + i → i < length ls → ready_list_of (set ls i (get_or ls i [] ++ (task, p) ∷ [])) ≡ insert_by_priority (task, p) (ready_list_of ls)
 ready_list_of-push task p k i [] h is below = absurd (omega (arith, below))
 ready_list_of-push task p k zero (l ∷ ls) h is below =
     sym (append_assoc (ready_list_of ls) l ((task, p) ∷ []))

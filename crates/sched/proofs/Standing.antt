@@ -28,7 +28,8 @@ use Rattle.lists.proofs.Entries.{apart_from_test, has_node-without_other, withou
 use Rattle.task_lists.specs.Priorities.{with_priorities}
 use Rattle.task_lists.proofs.Priorities.{has_node-with_priorities}
 use Rattle.sched.specs.Schedule as mine
-use Rattle.sched.specs.Schedule.{IsCalm, Schedule, add_to_ready_list, is_suspended, lined_up, priority_in}
+use Rattle.sched.specs.Schedule.{IsCalm, Schedule, is_suspended, lined_up, priority_in}
+use Rattle.task_lists.specs.Tasks.{insert_by_priority}
 use Rattle.sched.specs.StandsFor.{DoesFree, StandsFor, StandsBefore, depth_of}
 use Rattle.sched.proofs.ReadyList.{none_of}
 use Rattle.sched.proofs.LinedUp.{IsFalling, has_node-added, line_up-append, line_up-falling, line_up-under, lined_up-block, lined_up_calm, without-added}
@@ -36,7 +37,7 @@ use Rattle.sched.proofs.LinedUp.{IsFalling, has_node-added, line_up-append, line
 -- the ready list, as tasks with their priorities
 
 -- an entry whose ticket is above all goes behind its equals
-with_priorities-put : (e : Entry) (xs : List Entry) → AllByRecursion (λ (x : Entry). x.key.ticket < e.key.ticket) xs → with_priorities (put e xs) ≡ add_to_ready_list (e.task, e.key.priority) (with_priorities xs)
+with_priorities-put : (e : Entry) (xs : List Entry) → AllByRecursion (λ (x : Entry). x.key.ticket < e.key.ticket) xs → with_priorities (put e xs) ≡ insert_by_priority (e.task, e.key.priority) (with_priorities xs)
 with_priorities-put e [] h = refl
 with_priorities-put e (x ∷ xs) h =
     let n = h.0 in
@@ -49,16 +50,16 @@ with_priorities-filter i [] = refl
 with_priorities-filter i (x ∷ xs) = by_test (eqb x.task i) (λ t. rw t (with_priorities-filter i xs)) (λ t. rw t (ap (λ (l : List (ℕ × ℕ)). (x.task, x.key.priority) ∷ l) (with_priorities-filter i xs)))
 
 -- a task that becomes Ready with the next ticket goes behind its equals
-ready_list-entered : (s new : State) (i p : ℕ) (t : Task) → IsTable s → i < length s.tasks → new.tasks ≡ set s.tasks i t → ready_key t ≡ Some (key p s.next_ticket) → with_priorities (ready_list new) ≡ add_to_ready_list (i, p) (without i (with_priorities (ready_list s)))
+ready_list-entered : (s new : State) (i p : ℕ) (t : Task) → IsTable s → i < length s.tasks → new.tasks ≡ set s.tasks i t → ready_key t ≡ Some (key p s.next_ticket) → with_priorities (ready_list new) ≡ insert_by_priority (i, p) (without i (with_priorities (ready_list s)))
 ready_list-entered s new i p t h l is ready =
     let b = below_ready s.next_ticket s.tasks h.tickets in
     let k = key p s.next_ticket in
     ap (λ ts. with_priorities (list_by ready_key ts)) is
     ∙ ap with_priorities (list-entered ready_key k i t s.tasks l ready b)
     ∙ with_priorities-put (entry i k) (filter (other i) (ready_list s)) (All-filtered (λ (x : Entry). x.key.ticket < s.next_ticket) (other i) (ready_list s) (list_below ready_key s.next_ticket s.tasks b))
-    ∙ ap (add_to_ready_list (i, p)) (with_priorities-filter i (ready_list s))
+    ∙ ap (insert_by_priority (i, p)) (with_priorities-filter i (ready_list s))
 
-ready_list-make_ready : (s : State) (i : ℕ) → IsTable s → i < length s.tasks → with_priorities (ready_list (make_ready i s)) ≡ add_to_ready_list (i, (task_at s i).priority) (without i (with_priorities (ready_list s)))
+ready_list-make_ready : (s : State) (i : ℕ) → IsTable s → i < length s.tasks → with_priorities (ready_list (make_ready i s)) ≡ insert_by_priority (i, (task_at s i).priority) (without i (with_priorities (ready_list s)))
 ready_list-make_ready s i h l = ready_list-entered s (make_ready i s) i (task_at s i).priority (record (task_at s i) { status = Ready s.next_ticket }) h l refl refl
 
 -- these are each task's numbers still, where the task that changes keeps its own
@@ -103,8 +104,8 @@ stands_back : (v : Schedule) (s : State) (i : ℕ) → v.pending ≡ [] → Stan
 stands_back v s i none h l awake = record {
   ready =
       lined_up_calm (mine.make_ready i (record v { ready = without i v.ready })) none
-      ∙ ap (λ (p : ℕ). add_to_ready_list (i, p) (without i v.ready)) (h.priorities i)
-      ∙ ap (λ (r : List (ℕ × ℕ)). add_to_ready_list (i, (task_at s i).priority) (without i r)) (sym (lined_up_calm v none) ∙ h.ready)
+      ∙ ap (λ (p : ℕ). insert_by_priority (i, p) (without i v.ready)) (h.priorities i)
+      ∙ ap (λ (r : List (ℕ × ℕ)). insert_by_priority (i, (task_at s i).priority) (without i r)) (sym (lined_up_calm v none) ∙ h.ready)
       ∙ sym (ready_list-make_ready s i h.table l);
   current = h.current;
   priorities = numbers_readied (λ (t : Task). t.priority) v.priorities s i h.priorities refl;
@@ -118,7 +119,7 @@ stands_back v s i none h l awake = record {
 
 -- in the schedule w, which is v but for its lists, and for the task, which isn't suspended
 pub record Adds (i : ℕ) (v w : Schedule) : Type 0 where
-  pub ready : lined_up w ≡ add_to_ready_list (i, priority_in v.priorities i) (lined_up v)
+  pub ready : lined_up w ≡ insert_by_priority (i, priority_in v.priorities i) (lined_up v)
   pub current : w.current ≡ v.current
   pub priorities : w.priorities ≡ v.priorities
   pub base_priorities : w.base_priorities ≡ v.base_priorities
@@ -128,7 +129,7 @@ pub record Adds (i : ℕ) (v w : Schedule) : Type 0 where
 
 pub adds_made_ready : (v : Schedule) (i : ℕ) → v.pending ≡ [] → is_suspended v i ≡ false → Adds i v (mine.make_ready i v)
 adds_made_ready v i none awake = record {
-  ready = lined_up_calm (mine.make_ready i v) none ∙ ap (add_to_ready_list (i, priority_in v.priorities i)) (sym (lined_up_calm v none));
+  ready = lined_up_calm (mine.make_ready i v) none ∙ ap (insert_by_priority (i, priority_in v.priorities i)) (sym (lined_up_calm v none));
   current = refl;
   priorities = refl;
   base_priorities = refl;
@@ -152,8 +153,8 @@ pub stands_added : (v w : Schedule) (s : State) (i : ℕ) → Adds i v w → Sta
 stands_added v w s i adds h l free = record {
   ready =
       adds.ready
-      ∙ ap (λ (p : ℕ). add_to_ready_list (i, p) (lined_up v)) (h.priorities i)
-      ∙ ap (add_to_ready_list (i, (task_at s i).priority)) (sym (without-apart i (lined_up v) (apart_from_test i (lined_up v) free)) ∙ ap (without i) h.ready)
+      ∙ ap (λ (p : ℕ). insert_by_priority (i, p) (lined_up v)) (h.priorities i)
+      ∙ ap (insert_by_priority (i, (task_at s i).priority)) (sym (without-apart i (lined_up v) (apart_from_test i (lined_up v) free)) ∙ ap (without i) h.ready)
       ∙ sym (ready_list-make_ready s i h.table l);
   current = adds.current ∙ h.current;
   priorities = λ j. ap (λ (ps : List ℕ). priority_in ps j) adds.priorities ∙ numbers_readied (λ (t : Task). t.priority) v.priorities s i h.priorities refl j;
@@ -172,8 +173,8 @@ placing_added v w s decider i adds still falling h ne l free =
       ready =
           ap (without decider) adds.ready
           ∙ without-added decider (i, priority_in v.priorities i) (lined_up v) (λ same. ne (sym same)) (line_up-falling v.pending v.priorities v.ready falling)
-          ∙ ap (λ (p : ℕ). add_to_ready_list (i, p) left) (h.priorities i)
-          ∙ ap (add_to_ready_list (i, (task_at s i).priority)) (sym (without-apart i left (apart_from_test i left out)) ∙ ap (without i) h.ready)
+          ∙ ap (λ (p : ℕ). insert_by_priority (i, p) left) (h.priorities i)
+          ∙ ap (insert_by_priority (i, (task_at s i).priority)) (sym (without-apart i left (apart_from_test i left out)) ∙ ap (without i) h.ready)
           ∙ sym (ready_list-make_ready s i h.table l);
       still = still;
       current = adds.current ∙ h.current;
@@ -401,8 +402,8 @@ stands_moved v s i p none h l known on =
     record {
       ready =
           lined_up_calm (mine.make_ready i (record v { ready = without i v.ready; priorities = set v.priorities i p })) none
-          ∙ ap (λ (q : ℕ). add_to_ready_list (i, q) (without i v.ready)) (get_or-set_same v.priorities i p 0 known)
-          ∙ ap (λ (r : List (ℕ × ℕ)). add_to_ready_list (i, p) (without i r)) (sym (lined_up_calm v none) ∙ h.ready)
+          ∙ ap (λ (q : ℕ). insert_by_priority (i, q) (without i v.ready)) (get_or-set_same v.priorities i p 0 known)
+          ∙ ap (λ (r : List (ℕ × ℕ)). insert_by_priority (i, p) (without i r)) (sym (lined_up_calm v none) ∙ h.ready)
           ∙ sym (ready_list-entered s new i p w h.table l is (ap (λ (x : Task). Some (key x.priority s.next_ticket)) at));
       current = h.current;
       priorities = priority_changed v.priorities s new i p w h.priorities known l is (ap (λ (x : Task). x.priority) at);

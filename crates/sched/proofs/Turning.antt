@@ -10,7 +10,8 @@ use Rattle.model.proofs.Settled.{same_eq}
 use Rattle.lists.specs.Lists.{Apart, Each, EachOnce, IsSound, entries_of, first_of, has_node, rotated, second_of, without}
 use Rattle.lists.proofs.Entries.{first_split, no_first}
 use Rattle.lists.proofs.Laws.{entries_of-set_other, entries_of-set_same, has_first, without-first, without-others}
-use Rattle.sched.specs.Schedule.{Schedule, add_to_ready_list, choose, is_outranked, is_sharing, priority_in, slice, to_back, yield_now}
+use Rattle.sched.specs.Schedule.{Schedule, choose, is_outranked, is_sharing, priority_in, slice, to_back, yield_now}
+use Rattle.task_lists.specs.Tasks.{insert_by_priority}
 use Rattle.sched.specs.ReadyLists.{AreByPriority, AtHome, IsHighest, IsSched, ready_list_of, schedule_of}
 use Rattle.sched.proofs.Deeds.{push, still_apart, with_ready}
 use Rattle.sched.proofs.ReadyList.{AtHome-push, AtHome-without, any_above, any_beside, any_in_ready_list, first_of_highest, home_at, ready_list_of-push, ready_list_of-without}
@@ -85,12 +86,12 @@ module _ {lists : List (List (ℕ × ℕ))} {priorities : List ℕ} (h : AreByPr
     known = h.known;
   }
 
-  ready_turned : ready_list_of (turn p lists) ≡ add_to_ready_list (task, priority_in priorities task) (without task (ready_list_of lists))
+  ready_turned : ready_list_of (turn p lists) ≡ insert_by_priority (task, priority_in priorities task) (without task (ready_list_of lists))
   ready_turned =
       ap ready_list_of turned
       ∙ ready_list_of-push task p 0 p (map (without task) lists) (AtHome-without task 0 lists h.at_home) (omega arith) below_gone
-      ∙ ap (add_to_ready_list (task, p)) (ready_list_of-without task lists)
-      ∙ ap (λ (k : ℕ). add_to_ready_list (task, k) (without task (ready_list_of lists))) is.home
+      ∙ ap (insert_by_priority (task, p)) (ready_list_of-without task lists)
+      ∙ ap (λ (k : ℕ). insert_by_priority (task, k) (without task (ready_list_of lists))) is.home
 
   is_in : has_node task (ready_list_of lists) ≡ true
   is_in = sym (any_in_ready_list h.sound task) ∙ ap is_some (h.sound.one_place task p (has_first h.sound task split.0 p split.1 split.2))

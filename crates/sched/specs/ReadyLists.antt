@@ -1,8 +1,9 @@
 -- How lists of tasks, one for each priority (`pxReadyTasksLists`), spell the Ready tasks in order.
-use Rattle.std.specs.Prelude.{◌≡◌, ◌≢◌, ℕ, suc, ◌<◌, Bool, true, false, List, [], ◌∷◌, ◌++◌, Option, Some, None, map}
+use Rattle.std.specs.Prelude.{◌≡◌, ◌≢◌, ℕ, suc, ◌<◌, Bool, true, false, List, [], ◌∷◌, ◌++◌, Option, Some, None}
 use Rattle.std.specs.Int.{bit_at}
 use Rattle.lists.specs.Lists.{Each, IsSound, entries_of, has_node}
-use Rattle.sched.specs.Schedule.{Schedule, is_among, priority_in}
+use Rattle.sched.specs.Schedule.{Schedule, priority_in}
+use Rattle.task_lists.specs.Tasks.{is_among}
 
 -- the tasks of all lists, those of the last list first
 abbrev pub ready_list_of : List (List (ℕ × ℕ)) → List (ℕ × ℕ)
@@ -53,7 +54,3 @@ schedule_of lists pending current priorities base_priorities depth suspended = r
   depth = depth;
   suspended = suspended;
 }
-
--- the tasks of a list, without their values
-abbrev pub tasks_in : List (ℕ × ℕ) → List ℕ
-tasks_in entries = map (λ e. e.0) entries

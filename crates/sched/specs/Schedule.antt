@@ -1,7 +1,8 @@
 -- What callers see of the scheduler, and what each call makes of it: the definitions' words for who runs, without tickets.
-use Rattle.std.specs.Prelude.{◌≡◌, ℕ, ◌+◌, ◌-◌, ◌==◌, ◌&&◌, ◌||◌, Bool, true, false, not, nat_lt, if◌then◌else◌, List, [], ◌∷◌, ◌++◌, Option, Some, None, slice_index_or, slice_set, filter, fold}
+use Rattle.std.specs.Prelude.{◌≡◌, ℕ, ◌+◌, ◌-◌, ◌==◌, ◌&&◌, ◌||◌, Bool, true, false, not, nat_lt, if◌then◌else◌, List, [], ◌∷◌, ◌++◌, Option, Some, None, slice_index_or, slice_set, fold}
 use Rattle.std.specs.List.{list_any}
 use Rattle.lists.specs.Lists.{first_of, has_node, without}
+use Rattle.task_lists.specs.Tasks.{insert_by_priority, without_task}
 
 pub record Schedule : Type 0 where
   -- the tasks in the ready lists, each with its priority and before those that it would run before
@@ -27,14 +28,9 @@ priority_in priorities task = slice_index_or priorities task 0
 abbrev pub is_suspended : Schedule → ℕ → Bool
 is_suspended s task = slice_index_or s.suspended task false
 
--- a task with its priority put behind all that are not of lower priority (`prvAddTaskToReadyList`)
-abbrev pub add_to_ready_list : ℕ × ℕ → List (ℕ × ℕ) → List (ℕ × ℕ)
-add_to_ready_list e [] = e ∷ []
-add_to_ready_list e (f ∷ fs) = if nat_lt f.1 e.1 then e ∷ f ∷ fs else f ∷ add_to_ready_list e fs
-
 -- these tasks put in turn behind the others of their priority
 abbrev pub line_up : List ℕ → List ℕ → List (ℕ × ℕ) → List (ℕ × ℕ)
-line_up tasks priorities ready = fold (λ entries task. add_to_ready_list (task, priority_in priorities task) entries) ready tasks
+line_up tasks priorities ready = fold (λ entries task. insert_by_priority (task, priority_in priorities task) entries) ready tasks
 
 -- the Ready tasks in order, once the pending ones are put in turn behind the others of their priority
 abbrev pub lined_up : Schedule → List (ℕ × ℕ)
@@ -50,7 +46,7 @@ IsCalm s = s.depth ≡ 0 → s.pending ≡ []
 
 -- The task, which isn't Ready, becomes so, behind the others of its priority.
 abbrev pub make_ready : ℕ → Schedule → Schedule
-make_ready task s = record s { ready = add_to_ready_list (task, priority_in s.priorities task) s.ready }
+make_ready task s = record s { ready = insert_by_priority (task, priority_in s.priorities task) s.ready }
 
 -- The task, which isn't Ready, becomes so, and goes to its ready list when the last hold ends.
 abbrev pub pend_ready : ℕ → Schedule → Schedule
@@ -59,14 +55,6 @@ pend_ready task s = record s { pending = s.pending ++ task ∷ [] }
 -- The task, which isn't Ready, is woken: it becomes so, in its ready list or pending where the scheduler is held.
 abbrev pub wake : ℕ → Schedule → Schedule
 wake task s = if s.depth == 0 then make_ready task s else pend_ready task s
-
--- whether a task is among these
-abbrev pub is_among : ℕ → List ℕ → Bool
-is_among task tasks = list_any (λ other. other == task) tasks
-
--- these tasks without this one
-abbrev pub without_task : ℕ → List ℕ → List ℕ
-without_task task tasks = filter (λ other. not (other == task)) tasks
 
 -- The task is Ready no more.
 abbrev pub block : ℕ → Schedule → Schedule

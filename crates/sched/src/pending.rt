@@ -1,6 +1,6 @@
 //! The tasks that are woken while the scheduler is held.
 ghost use Rattle.std.specs.Prelude.{◌≡◌, ◌↔◌, false, [], ◌∷◌, ◌++◌, drop, slice_get, IfSome, IsTrue};
-ghost use Rattle.sched.specs.Schedule.{is_among, without_task};
+ghost use Rattle.task_lists.specs.Tasks.{is_among, without_task};
 
 use lists::ListId;
 use model::TaskId;
@@ -17,7 +17,7 @@ pub(crate) struct PendingReadyList {
 impl Model for PendingReadyList {
     ghost use Rattle.std.specs.Prelude.{ℕ, List};
     ghost use Rattle.lists.specs.Lists.{entries_of, IsSound};
-    ghost use Rattle.sched.specs.ReadyLists.{tasks_in};
+    ghost use Rattle.task_lists.specs.Tasks.{tasks_in};
 
     ghost Value = { List ℕ };
 

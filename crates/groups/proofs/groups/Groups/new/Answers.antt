@@ -1,6 +1,6 @@
 use Rattle.std.proofs.Common.{◌≡◌, ℕ, zero, suc, false, List, [], replicate, refl, sym, ◌∙◌, ap}
 use Rattle.lists.specs.Lists.{entries_of, has_node}
-use Rattle.groups.specs.EventGroups.{tasks_in}
+use Rattle.task_lists.specs.Tasks.{tasks_in}
 use Rattle.groups.proofs.Standing.{nobody_listed}
 use Rattle.groups.proofs.groups.Groups.new.Goals as goal
 

@@ -1,7 +1,8 @@
 use Rattle.std.proofs.Common.{◌≡◌, ℕ, ◌<◌, rules, List, None, set, sym, ◌∙◌, ap, subst, arith}
 use Rattle.lists.specs.Lists.{IsSound, entries_of, place_of}
 use Rattle.model.specs.Waiting.{wait_in}
-use Rattle.objects.specs.WaitingLists.{AreWaitingLists, insert_by_priority, mirrored, number_of}
+use Rattle.objects.specs.WaitingLists.{AreWaitingLists, mirrored, number_of}
+use Rattle.task_lists.specs.Tasks.{insert_by_priority}
 use Rattle.objects.specs.WaitersStand.{WaitersStand}
 use Rattle.objects.proofs.Mirror.{are_waiting_put, mirrored-put, place_of-mirrored, sound-mirrored}
 use Rattle.objects.proofs.Placing.{stands_begun, stands_placed}

@@ -1,5 +1,5 @@
 use Rattle.std.proofs.Common.{◌∙◌, ap}
-use Rattle.sched.specs.Schedule.{is_among}
+use Rattle.task_lists.specs.Tasks.{is_among}
 use Rattle.sched.proofs.OneList.{placed}
 use Rattle.sched.proofs.pending.PendingReadyList.contains.Goals as goal
 

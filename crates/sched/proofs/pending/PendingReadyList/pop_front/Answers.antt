@@ -1,7 +1,6 @@
 use Rattle.std.proofs.Common.{ℕ, List, drop, ◌∙◌, ap}
 use Rattle.lists.specs.Lists.{entries_of}
-use Rattle.sched.specs.Schedule.{is_among}
-use Rattle.sched.specs.ReadyLists.{tasks_in}
+use Rattle.task_lists.specs.Tasks.{is_among, tasks_in}
 use Rattle.sched.proofs.OneList.{gone, rest}
 use Rattle.sched.proofs.pending.PendingReadyList.pop_front.Goals as goal
 

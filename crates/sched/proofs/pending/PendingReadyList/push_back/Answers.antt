@@ -1,7 +1,6 @@
 use Rattle.std.proofs.Common.{ℕ, List, [], ◌∷◌, ◌++◌, ◌∙◌, ap, rules, ◌≡◌, None}
 use Rattle.lists.specs.Lists.{entries_of, place_of}
-use Rattle.sched.specs.Schedule.{is_among}
-use Rattle.sched.specs.ReadyLists.{tasks_in}
+use Rattle.task_lists.specs.Tasks.{is_among, tasks_in}
 use Rattle.sched.proofs.OneList.{in_no_list, tasks_pushed}
 use Rattle.sched.proofs.pending.PendingReadyList.push_back.Goals as goal
 

@@ -1,7 +1,6 @@
 use Rattle.std.proofs.Common.{ℕ, List, ◌∙◌, ap}
 use Rattle.lists.specs.Lists.{entries_of}
-use Rattle.sched.specs.Schedule.{without_task}
-use Rattle.sched.specs.ReadyLists.{tasks_in}
+use Rattle.task_lists.specs.Tasks.{without_task, tasks_in}
 use Rattle.sched.proofs.OneList.{tasks_without}
 use Rattle.sched.proofs.pending.PendingReadyList.remove.Goals as goal
 

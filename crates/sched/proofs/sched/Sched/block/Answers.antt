@@ -7,14 +7,15 @@ use Rattle.sched.specs.StandsFor.{StandsFor}
 use Rattle.sched.proofs.Deeds.{sched_block, schedule_block}
 use Rattle.sched.proofs.LinedUp.{IsFalling, falling_at_home}
 use Rattle.sched.proofs.Standing.{stands_placed}
+use Rattle.task_lists.specs.Tasks.{without_task}
 use Rattle.sched.proofs.sched.Sched.block.Goals as goal
 
 pub invariant_of-self : goal.invariant_of-self
 invariant_of-self c =
     let q = c.self.inside in
     let removed = c.remove.ensures.removed in
-    let left : IsSched c.remove.new.self (mine.without_task c.args.task q.pending) q.priorities q.base_priorities q.depth =
-    subst (λ (ls : List (List (ℕ × ℕ))). IsSched ls (mine.without_task c.args.task q.pending) q.priorities q.base_priorities q.depth) (sym removed)
+    let left : IsSched c.remove.new.self (without_task c.args.task q.pending) q.priorities q.base_priorities q.depth =
+    subst (λ (ls : List (List (ℕ × ℕ))). IsSched ls (without_task c.args.task q.pending) q.priorities q.base_priorities q.depth) (sym removed)
     (sched_block c.self.invariant c.args.task (subst (IsSound 32 32) removed c.remove.ensures.sound)) in
     subst (λ (ts : List ℕ). IsSched c.remove.new.self ts q.priorities q.base_priorities q.depth) (sym c.remove-2.ensures.removed) left
 

@@ -1,6 +1,7 @@
 use Rattle.std.proofs.Common.{◌≡◌, ◌||◌, true, false, sym, ◌∙◌, ap}
 use Rattle.lists.specs.Lists.{has_node}
-use Rattle.sched.specs.Schedule.{Schedule, is_ready, is_among}
+use Rattle.sched.specs.Schedule.{Schedule, is_ready}
+use Rattle.task_lists.specs.Tasks.{is_among}
 use Rattle.sched.specs.ReadyLists.{ready_list_of}
 use Rattle.sched.proofs.ReadyList.{any_in_ready_list}
 use Rattle.sched.proofs.LinedUp.{has_node-line_up, listed_ready}
