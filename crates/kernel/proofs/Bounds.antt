@@ -1,5 +1,5 @@
 -- A kernel whose run goes on keeps within the numbers of the code.
-use Rattle.std.proofs.Common.{◌≡◌, ◌≢◌, ◌<◌, ◌≤◌, ◌+◌, ◌||◌, inl, inr, ltb-false, ℕ, zero, suc, Bool, true, false, cond, leb, List, length, Option, Some, None, refl, ap, sym, subst, ◌∙◌, arith}
+use Rattle.std.proofs.Common.{◌≡◌, ◌≢◌, ◌<◌, ◌≤◌, ◌+◌, ◌||◌, inl, inr, ltb-false, ℕ, Bool, true, false, cond, leb, List, length, Option, Some, None, refl, ap, sym, subst, ◌∙◌, arith}
 use Rattle.std.specs.Prelude.{if◌then◌else◌}
 use Rattle.std.proofs.lemmas.Bool.{ltb-true, lt-ltb}
 use Rattle.model.specs.Switching.{is_ready, is_held, is_scheduler_suspended}
@@ -13,19 +13,18 @@ use Rattle.model.specs.declared.event.End.{End}
 use Rattle.model.specs.declared.event.End.TheVariants as ending
 use Rattle.model.specs.declared.call.Condition.{Condition}
 use Rattle.model.specs.declared.op.Access.{Access}
-use Rattle.model.specs.declared.plan.Point.{Point}
 use Rattle.model.specs.declared.op.Op.{Op}
 use Rattle.model.specs.declared.op.Op.TheVariants.{Work, Delay, DelayUntil, Yield, Time, Mark, Expect, Repeat, End as EndLoop, Await, Do, GiveMutex, MessagesWaiting, SpacesAvailable, SetBits, ClearBits, GetBits, WaitBits, Suspend, Resume, SuspendAll, ResumeAll}
 use Rattle.model.specs.Application.{Application, Limits, script_of, op_at}
 use Rattle.model.specs.Scripts.{may_stand, fits_object, is_in_range, is_wait, knows, IsWellFormed}
 use Rattle.model.specs.State.{State, Progress, Wait, wait_of, task_at, progress_at, call_at, status_at}
-use Rattle.model.specs.Run.{end_of, or_else, are_all_ended, is_stuck, state_after}
+use Rattle.model.specs.Run.{end_of, or_else, are_all_ended, is_stuck}
 use Rattle.model.specs.Invariant.{IsState, IsUsedBy, IsRunning, IsPlacing, IsWaitOf, RunsIn, InOne, ToSetBits, course, IsPhaseOf, hold_of, holds, Suspension}
 use Rattle.model.proofs.InScripts.{script_formed, stands_at, known_at, range_at}
 use Rattle.model.proofs.Sound.{ready_reckoned}
 use Rattle.model.proofs.Frames.{keeps-all_ready, keeps-before_step}
-use Rattle.model.proofs.Reached.{reached_after, reached_before_step, start_only, suspensions_after}
-use Rattle.model.specs.Step.{before_step, nobody_ready, ready_at_reset, reset, step, with_ops}
+use Rattle.model.proofs.Reached.{reached_before_step, start_only}
+use Rattle.model.specs.Step.{before_step, nobody_ready, ready_at_reset, reset, with_ops}
 use Rattle.sched.proofs.Standing as on_sched
 use Rattle.objects.specs.declared.lock.Lock.{Lock}
 use Rattle.objects.specs.Queues.{locked_by}
@@ -405,19 +404,11 @@ pub steps-reset : (app : Application) → (reset app).steps ≡ 0
 unfolding reset ready_at_reset nobody_ready
 steps-reset app = (keeps-all_ready (with_ops 0 app.tasks) (nobody_ready app)).steps
 
-steps_after : (app : Application) (plan : List Point) (n : ℕ) → (state_after app plan n).steps ≡ n
-unfolding step
-steps_after app plan zero = steps-reset app
-steps_after app plan (suc n) = let e = steps_after app plan n in omega arith
-
 -- ---- before a step, and after the handlers that come before it
 
 module _ (app : Application) (formed : IsWellFormed app) (k : Kernel) (c : CanStep app k) where
   abbrev now : State
-  now = state_after app c.plan c.steps
-
-  reached_now : IsState app now
-  reached_now = reached_after app formed c.plan c.steps
+  now = c.state
 
   early_now : now.elapsed < 1000000
   early_now = let l = (below_limits app c.limits now c.goes_on).0 in let m = c.tick_limit in omega arith
@@ -426,11 +417,11 @@ module _ (app : Application) (formed : IsWellFormed app) (k : Kernel) (c : CanSt
   stood = (now, c.stands)
 
   pub has_objects : HasObjects app k
-  has_objects = rooms app formed k now reached_now c.stands early_now
+  has_objects = rooms app formed k now c.sound c.stands early_now
 
   pub can_act_after : (handlers : List ℕ) (new : Kernel) → Stands new (before_step app handlers now) → CanAct app new
   can_act_after handlers new h =
       let age : (before_step app handlers now).elapsed ≡ now.elapsed = (keeps-before_step app handlers now).elapsed in
       let low : (before_step app handlers now).elapsed < 1000000 = (let l = early_now in omega arith) in
-      let few : (before_step app handlers now).suspensions < 1000000 = (let e = ap (λ (x : Suspension). x.suspensions) (keeps-before_step app handlers now).suspension in let n = suspensions_after app formed c.plan c.steps in let m = steps_after app c.plan c.steps in let l = (below_limits app c.limits now c.goes_on).1 in let o = c.step_limit in omega arith) in
-      can_act app formed new (before_step app handlers now) (reached_before_step app formed handlers now reached_now) h low few
+      let few : (before_step app handlers now).suspensions < 1000000 = (let e = ap (λ (x : Suspension). x.suspensions) (keeps-before_step app handlers now).suspension in let n = c.suspended in let l = (below_limits app c.limits now c.goes_on).1 in let o = c.step_limit in omega arith) in
+      can_act app formed new (before_step app handlers now) (reached_before_step app formed handlers now c.sound) h low few

@@ -20,6 +20,7 @@ use Rattle.kernel.specs.StandsFor.{Stands, AtAny, DoesAny, progress_in}
 use Rattle.kernel.specs.Can.{CanStep, IsUnderWay}
 use Rattle.kernel.specs.Rows.{events_from}
 use Rattle.kernel.proofs.Either.{steps_are, elapsed_is, current_is, progress_is}
+use Rattle.model.proofs.Reached.{reached_after, suspensions_after}
 use Rattle.kernel.proofs.Bounds.{below_limits, steps-reset}
 
 leb-le : (a b : ℕ) → leb a b ≡ true → a ≤ b
@@ -58,6 +59,12 @@ told_after log before told e f = rw (e, f) refl
 
 -- ---- from step to step
 
+-- the steps that are done
+steps_after : (app : Application) (plan : List Point) (n : ℕ) → (state_after app plan n).steps ≡ n
+unfolding step
+steps_after app plan zero = steps-reset app
+steps_after app plan (suc n) = let e = steps_after app plan n in omega arith
+
 -- the kernel at reset
 pub steps_begin : (app : Application) (k : Kernel) → Stands k (reset app) → k.steps ≡ 0
 steps_begin app k h = steps_are k (reset app) h ∙ steps-reset app
@@ -74,7 +81,16 @@ events_from_reset app plan first next z log before told = rw (before, told, z) r
 
 module _ (app : Application) (formed : IsWellFormed app) (plan : List Point) (limits : Limits) (are : AreLimits limits.ticks limits.steps) (k : Kernel) (h : IsUnderWay app plan limits k) (on : end_of app limits (state_after app plan k.steps) ≡ None) where
   pub can_step : CanStep app k
-  can_step = record { plan = plan; steps = k.steps; stands = h.stands; limits = limits; tick_limit = are.1; step_limit = are.3; goes_on = on }
+  can_step = record {
+    state = state_after app plan k.steps;
+    stands = h.stands;
+    sound = reached_after app formed plan k.steps;
+    suspended = (let few = suspensions_after app formed plan k.steps in let e = steps_after app plan k.steps in omega arith);
+    limits = limits;
+    tick_limit = are.1;
+    step_limit = are.3;
+    goes_on = on;
+  }
 
   pub steps_below : k.steps < limits.steps
   steps_below = let e = steps_are k (state_after app plan k.steps) h.stands in let l = (below_limits app limits (state_after app plan k.steps) on).1 in omega arith

@@ -16,7 +16,7 @@ use Rattle.model.specs.Scripts.{fits_object}
 use Rattle.model.specs.State.{State, status_at}
 use Rattle.model.specs.Suspension.{can_resume}
 use Rattle.model.specs.Run.{end_of, state_after}
-use Rattle.model.specs.Invariant.{IsUsedBy}
+use Rattle.model.specs.Invariant.{IsState, IsUsedBy}
 use Rattle.sched.specs.Schedule.{Schedule, is_ready}
 use Rattle.objects.specs.Items.{object_in}
 use Rattle.objects.specs.Queues as objects
@@ -184,15 +184,17 @@ pub record CanAct (app : Application) (k : Kernel) : Type 0 where
   pub tick : k.sched.current ≡ None → CanTick app k
   pub op : (task : TaskId) (op : Op) → k.sched.current ≡ Some task → op_at app task (progress_in k.progress task).op_index ≡ Some op → (k.suspensions ≡ 0 → CanOp app k task op) × (0 < k.suspensions → CanHold app k task op)
 
--- The kernel stands for the state of a run after some steps, and the run goes on under some limits.
+-- The kernel stands for a sound state, whichever handlers have led to it, which isn't at an end under some limits.
 pub record CanStep (app : Application) (k : Kernel) : Type 0 where
-  pub plan : List Point
-  pub steps : ℕ
-  pub stands : Stands k (state_after app plan steps)
+  pub state : State
+  pub stands : Stands k state
+  pub sound : IsState app state
+  -- each step has brought one `suspend_all` at most into force
+  pub suspended : state.suspensions ≤ state.steps
   pub limits : Limits
   pub tick_limit : limits.ticks ≤ 1000000
   pub step_limit : limits.steps ≤ 1000000
-  pub goes_on : end_of app limits (state_after app plan steps) ≡ None
+  pub goes_on : end_of app limits state ≡ None
 
 -- A run of which so many steps are done is under way: the kernel stands for the state after them, and none of them came
 -- after the end.

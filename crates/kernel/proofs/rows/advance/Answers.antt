@@ -1,8 +1,14 @@
 use Rattle.std.proofs.Common.{◌≡◌, ◌<◌, List, None, [], ap, length, arith}
 use Rattle.model.specs.declared.event.Event.{Event}
 use Rattle.model.specs.Run.{end_of, events_after, state_after}
-use Rattle.kernel.proofs.Running.{steps_more, goes_on, more_counted, same_events}
+use Rattle.kernel.proofs.Running.{can_step, steps_more, goes_on, more_counted, same_events}
 use Rattle.kernel.proofs.rows.advance.Goals as goal
+
+pub step-requires-clause-going : goal.step-requires-clause-going
+step-requires-clause-going c =
+    let lt : c.steps.kernel.steps < c.args.step = omega (arith, c.steps-test.true) in
+    let on : end_of c.args.app.now c.args.limits.now (state_after c.args.app.now [] c.steps.kernel.steps) ≡ None = c.requires.reached c.steps.kernel.steps lt in
+    can_step c.args.app.now c.well_formed-2.ensures [] c.args.limits.now c.well_formed-3.ensures c.steps.kernel c.steps.invariant.way on
 
 pub steps-smaller : goal.steps-smaller
 steps-smaller c =
