@@ -6,8 +6,8 @@ use Rattle.model.proofs.Sorting.{by_test}
 use Rattle.model.proofs.Lists.{eqb-refl, eqb-same}
 use Rattle.model.specs.declared.event.Event.{Event}
 use Rattle.model.specs.declared.op.Op.{Op}
-use Rattle.model.specs.Application.{Application, Limits, AreLimits, op_at}
-use Rattle.model.specs.Scripts.{IsWellFormed}
+use Rattle.model.specs.Application.{Application, Limits, op_at}
+use Rattle.model.specs.Scripts.{AreLimits, IsWellFormed}
 use Rattle.model.specs.State.{State, Progress, progress_at}
 use Rattle.model.specs.Step.{act_unless, misuse, act_if, act_current, step, reset}
 use Rattle.model.specs.declared.plan.Point.{Point}

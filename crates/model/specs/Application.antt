@@ -1,13 +1,10 @@
 -- An application, as its file has it.
-use Rattle.std.specs.Prelude.{ℕ, ◌≤◌, ◌+◌, ◌==◌, List, [], ◌∷◌, length, map, filter, Option, Some, None, slice_get, option_map, unwrap_or, codes, if◌then◌else◌}
+use Rattle.std.specs.Prelude.{ℕ, ◌==◌, List, [], length, map, filter, Option, slice_get, option_map, unwrap_or}
+use Rattle.std.specs.List.{position_from}
 use Rattle.std.specs.Str.{bytes_eq}
 use Rattle.model.specs.declared.object.ObjectKind.{ObjectKind}
-use Rattle.model.specs.declared.op.Access.{Access}
-use Rattle.model.specs.declared.op.Access.TheVariants.{Send, SendFront, Overwrite, Receive, Peek, Take, Give, Lock}
 use Rattle.model.specs.declared.op.Op.{Op}
-use Rattle.model.specs.declared.op.Op.TheVariants.{Work, Delay, DelayUntil, Yield, Time, Mark, Expect, Repeat, End, Await, Do, GiveMutex, MessagesWaiting, SpacesAvailable, SetBits, ClearBits, GetBits, WaitBits, Suspend, Resume, SuspendAll, ResumeAll}
 use Rattle.model.specs.declared.op.IsrOp.{IsrOp}
-use Rattle.model.specs.declared.op.IsrOp.TheVariants as isr
 use Rattle.model.specs.declared.plan.PointEntry.{PointEntry}
 
 -- a task of the file
@@ -30,10 +27,6 @@ pub record Interrupt : Type 0 where
 pub record Limits : Type 0 where
   pub ticks : ℕ
   pub steps : ℕ
-
--- These may be limits: each is 1 to 1,000,000 (profile).
-abbrev pub AreLimits : ℕ → ℕ → Type 0
-AreLimits ticks steps = (1 ≤ ticks) × (ticks ≤ 1000000) × (1 ≤ steps) × (steps ≤ 1000000)
 
 -- what a run starts from, and the points of a campaign
 pub record Application : Type 0 where
@@ -86,58 +79,10 @@ isr_op_at app handler op_index = slice_get (ops_of app handler) op_index
 abbrev pub handler_name_of : Application → ℕ → List ℕ
 handler_name_of app handler = unwrap_or (option_map (λ (h : Handler). h.name) (handler_of app handler)) []
 
--- the number of the first of these handlers that has this name, where the first of them has this number
-abbrev pub handler_from : ℕ → List ℕ → List Handler → Option ℕ
-handler_from i name [] = None
-handler_from i name (h ∷ hs) = if bytes_eq h.name name then Some i else handler_from (i + 1) name hs
-
--- the number of the handler of this name
+-- the number of the first handler of this name
 abbrev pub handler_named : Application → List ℕ → Option ℕ
-handler_named app name = handler_from 0 name app.handlers
+handler_named app name = position_from (λ (h : Handler). bytes_eq h.name name) 0 app.handlers
 
 -- the handlers of the base interrupts at an elapsed tick, in the order of the file
 abbrev pub interrupts_at : Application → ℕ → List ℕ
 interrupts_at app tick = map (λ (i : Interrupt). i.handler) (filter (λ (i : Interrupt). i.tick == tick) app.interrupts)
-
--- the first word of a call's text
-abbrev pub word_of_access : Access → List ℕ
-word_of_access (Send item) = codes "send"
-word_of_access (SendFront item) = codes "send_front"
-word_of_access (Overwrite item) = codes "overwrite"
-word_of_access Receive = codes "receive"
-word_of_access Peek = codes "peek"
-word_of_access Take = codes "take"
-word_of_access Give = codes "give"
-word_of_access Lock = codes "lock"
-
--- the first word of an op's text
-abbrev pub word_of : Op → List ℕ
-word_of (Work n) = codes "work"
-word_of (Delay n) = codes "delay"
-word_of (DelayUntil n) = codes "delay_until"
-word_of Yield = codes "yield"
-word_of Time = codes "time"
-word_of (Mark n) = codes "mark"
-word_of (Expect a) = codes "expect"
-word_of (Repeat n) = codes "repeat"
-word_of End = codes "end"
-word_of (Await object access ticks) = word_of_access access
-word_of (Do object access) = word_of_access access
-word_of (GiveMutex object) = codes "unlock"
-word_of (MessagesWaiting object) = codes "waiting"
-word_of (SpacesAvailable object) = codes "spaces"
-word_of (SetBits group mask) = codes "set"
-word_of (ClearBits group mask) = codes "clear"
-word_of (GetBits group) = codes "bits"
-word_of (WaitBits group condition ticks) = codes "wait"
-word_of (Suspend other) = codes "suspend"
-word_of (Resume other) = codes "resume"
-word_of SuspendAll = codes "suspend_all"
-word_of ResumeAll = codes "resume_all"
-
--- the first word of the text of a handler's op
-abbrev pub word_of_isr : IsrOp → List ℕ
-word_of_isr (isr.Do object access) = word_of_access access
-word_of_isr (isr.Resume task) = codes "resume"
-word_of_isr (isr.GetBits group) = codes "bits"
-word_of_isr (isr.Mark n) = codes "mark"

@@ -1,4 +1,5 @@
 pub mod Application
+pub mod Words
 pub mod Scripts
 pub mod State
 pub mod Order

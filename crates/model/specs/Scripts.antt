@@ -110,6 +110,10 @@ is_in_range _ = true
 abbrev pub InRange : Op → Type 0
 InRange op = is_in_range op ≡ true
 
+-- These may be limits: each is 1 to 1,000,000 (profile).
+abbrev pub AreLimits : ℕ → ℕ → Type 0
+AreLimits ticks steps = (1 ≤ ticks) × (ticks ≤ 1000000) × (1 ≤ steps) × (steps ≤ 1000000)
+
 -- ---- loops
 
 -- how many loops are open after an op, where so many are open before it (profile)

@@ -1,6 +1,6 @@
 //! Where a run ends at the latest, and how many steps were run.
 ghost use Rattle.std.specs.Prelude.{◌≡◌, ◌<◌, ◌+◌, ◌^◌, ◌↔◌, ℕ, IsSome, IfSome};
-ghost use Rattle.model.specs.Application.{AreLimits};
+ghost use Rattle.model.specs.Scripts.{AreLimits};
 
 use std::marker::Model;
 
@@ -14,12 +14,13 @@ pub struct Limits {
 // Clauses see the two numbers.
 impl Model for Limits {
     ghost use Rattle.model.specs.Application as application;
+    ghost use Rattle.model.specs.Scripts.{AreLimits};
 
     ghost Value = { application.Limits };
 
     ghost view = { λ limits. record { ticks = limits.ticks; steps = limits.steps } };
 
-    ghost invariant = { λ limits. application.AreLimits limits.ticks limits.steps };
+    ghost invariant = { λ limits. AreLimits limits.ticks limits.steps };
 
     ghost inverse = { λ limits. record { ticks = limits.ticks; steps = limits.steps } };
 }

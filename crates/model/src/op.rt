@@ -25,7 +25,7 @@ pub enum Access {
 
 impl Access {
     ghost use Rattle.std.specs.Prelude.{◌≡◌};
-    ghost use Rattle.model.specs.Application.{word_of_access};
+    ghost use Rattle.model.specs.Words.{word_of_access};
     ghost use Rattle.model.specs.Scripts.{is_of_mutex, is_of_queue, is_of_semaphore};
 
     /// The first word of the call's text.
@@ -127,7 +127,7 @@ pub enum Op {
 
 impl Op {
     ghost use Rattle.std.specs.Prelude.{◌≡◌};
-    ghost use Rattle.model.specs.Application.{word_of};
+    ghost use Rattle.model.specs.Words.{word_of};
 
     /// The first word of the op's text.
     pub fn word(&self) -> &'static str
@@ -175,7 +175,7 @@ pub enum IsrOp {
 
 impl IsrOp {
     ghost use Rattle.std.specs.Prelude.{◌≡◌};
-    ghost use Rattle.model.specs.Application.{word_of_isr};
+    ghost use Rattle.model.specs.Words.{word_of_isr};
 
     /// The first word of the op's text.
     pub fn word(&self) -> &'static str

@@ -6,7 +6,7 @@ use Rattle.model.specs.declared.op.Access.{Access}
 use Rattle.model.specs.declared.op.Access.TheVariants.{Send, SendFront, Overwrite, Receive, Peek, Take, Give, Lock}
 use Rattle.model.specs.declared.op.IsrOp.{IsrOp}
 use Rattle.model.specs.declared.op.IsrOp.TheVariants as isr_op
-use Rattle.model.specs.Application.{word_of, word_of_access, word_of_isr}
+use Rattle.model.specs.Words.{word_of, word_of_access, word_of_isr}
 
 access_short : (a : Access) → length (word_of_access a) ≤ 11
 access_short (Send v) = lit≤ tt

@@ -7,7 +7,7 @@ use Rattle.std.proofs.lemmas.Slice.Eq.{bytes_eq-Decides}
 use Rattle.std.proofs.lemmas.Bool.{and_parts, not-true}
 use Rattle.model.specs.declared.op.Op.{Op}
 use Rattle.model.specs.declared.op.IsrOp.{IsrOp}
-use Rattle.model.specs.Application.{word_of, word_of_isr}
+use Rattle.model.specs.Words.{word_of, word_of_isr}
 use Rattle.model.specs.Scripts.{is_in_range, InRange}
 use Rattle.script.specs.Grammar.{Word, Naming, Form, Done, Number, NumberUnless, Choice, Name, forms, isr_forms, number_of, number_unless, choice_of, Writes, WritesBy, Spells, SpellsIsr, read, read_by, if_in_range, op_of, isr_op_of}
 

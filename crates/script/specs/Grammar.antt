@@ -10,7 +10,7 @@ use Rattle.model.specs.declared.op.Op.{Op}
 use Rattle.model.specs.declared.op.Op.TheVariants.{Work, Delay, DelayUntil, Yield, Time, Mark, Expect, Repeat, End, Await, Do, GiveMutex, MessagesWaiting, SpacesAvailable, SetBits, ClearBits, GetBits, WaitBits, Suspend, Resume, SuspendAll, ResumeAll}
 use Rattle.model.specs.declared.op.IsrOp.{IsrOp}
 use Rattle.model.specs.declared.op.IsrOp.TheVariants as isr
-use Rattle.model.specs.Application.{word_of, word_of_isr}
+use Rattle.model.specs.Words.{word_of, word_of_isr}
 use Rattle.model.specs.Scripts.{is_in_range, InRange}
 use Rattle.script.specs.declared.object_sort.ObjectSort.{ObjectSort}
 use Rattle.script.specs.declared.object_sort.ObjectSort.TheVariants.{Queue, Semaphore, Mutex}

@@ -1,0 +1,51 @@
+-- The words of ops: with them their texts in a file begin, and by them reports name them.
+use Rattle.std.specs.Prelude.{ℕ, List, codes}
+use Rattle.model.specs.declared.op.Access.{Access}
+use Rattle.model.specs.declared.op.Access.TheVariants.{Send, SendFront, Overwrite, Receive, Peek, Take, Give, Lock}
+use Rattle.model.specs.declared.op.Op.{Op}
+use Rattle.model.specs.declared.op.Op.TheVariants.{Work, Delay, DelayUntil, Yield, Time, Mark, Expect, Repeat, End, Await, Do, GiveMutex, MessagesWaiting, SpacesAvailable, SetBits, ClearBits, GetBits, WaitBits, Suspend, Resume, SuspendAll, ResumeAll}
+use Rattle.model.specs.declared.op.IsrOp.{IsrOp}
+use Rattle.model.specs.declared.op.IsrOp.TheVariants as isr
+
+-- the first word of a call's text
+abbrev pub word_of_access : Access → List ℕ
+word_of_access (Send item) = codes "send"
+word_of_access (SendFront item) = codes "send_front"
+word_of_access (Overwrite item) = codes "overwrite"
+word_of_access Receive = codes "receive"
+word_of_access Peek = codes "peek"
+word_of_access Take = codes "take"
+word_of_access Give = codes "give"
+word_of_access Lock = codes "lock"
+
+-- the first word of an op's text
+abbrev pub word_of : Op → List ℕ
+word_of (Work n) = codes "work"
+word_of (Delay n) = codes "delay"
+word_of (DelayUntil n) = codes "delay_until"
+word_of Yield = codes "yield"
+word_of Time = codes "time"
+word_of (Mark n) = codes "mark"
+word_of (Expect a) = codes "expect"
+word_of (Repeat n) = codes "repeat"
+word_of End = codes "end"
+word_of (Await object access ticks) = word_of_access access
+word_of (Do object access) = word_of_access access
+word_of (GiveMutex object) = codes "unlock"
+word_of (MessagesWaiting object) = codes "waiting"
+word_of (SpacesAvailable object) = codes "spaces"
+word_of (SetBits group mask) = codes "set"
+word_of (ClearBits group mask) = codes "clear"
+word_of (GetBits group) = codes "bits"
+word_of (WaitBits group condition ticks) = codes "wait"
+word_of (Suspend other) = codes "suspend"
+word_of (Resume other) = codes "resume"
+word_of SuspendAll = codes "suspend_all"
+word_of ResumeAll = codes "resume_all"
+
+-- the first word of the text of a handler's op
+abbrev pub word_of_isr : IsrOp → List ℕ
+word_of_isr (isr.Do object access) = word_of_access access
+word_of_isr (isr.Resume task) = codes "resume"
+word_of_isr (isr.GetBits group) = codes "bits"
+word_of_isr (isr.Mark n) = codes "mark"
