@@ -32,6 +32,15 @@ none_first : (xs : List (ℕ × ℕ)) → None ≡ first_of xs → xs ≡ []
 none_first [] e = refl
 none_first (x ∷ xs) e = absurd (none-some x.0 e)
 
+-- no longer than the first one sleeps
+until_first : (base tick n o v : ℕ) (xs ys : List (ℕ × ℕ)) → Some o ≡ first_of xs → (IsTrue (has_node o xs) → v ≡ value_of o xs) → Each (λ e. base + tick + n < e.1) (count_from base xs ++ ys) → n ≤ v - tick - 1
+until_first base tick n o v [] ys e value asleep = absurd (none-some o (sym e))
+until_first base tick n o v (x ∷ xs) ys e value asleep =
+    let t : (x.0 == o) ≡ true = eq-eqb x.0 o (sym (same_Some o x.0 e)) in
+    let is : v ≡ x.1 = (rw t at value) refl in
+    let first = asleep.0 in
+    omega (arith, is, first)
+
 module _ {ls : List (List (ℕ × ℕ))} {age base tick current overflow : ℕ} (h : IsClock ls age base tick current overflow) where
   asleep_by : (n : ℕ) → tick + n < 2 ^ 32 → Each (λ e. tick + n < e.1) (entries_of ls current) → Each (λ e. base + tick + n < e.1) (delayed_list_of ls base current overflow)
   asleep_by n fits here =
@@ -52,6 +61,9 @@ module _ {ls : List (List (ℕ × ℕ))} {age base tick current overflow : ℕ} 
       let ahead = f.ahead in
       let fits = f.fits in
       asleep_by (v - tick - 1) (omega (arith, ahead, fits)) (Each-imp (λ e. v ≤ e.1) (λ e. tick + (v - tick - 1) < e.1) (entries_of ls current) (λ e l. omega (arith, ahead, l)) f.all)
+
+pub most_to_first : (ls : List (List (ℕ × ℕ))) (base tick current overflow n o v : ℕ) → Some o ≡ first_of (entries_of ls current) → (IsTrue (has_node o (entries_of ls current)) → v ≡ value_of o (entries_of ls current)) → Each (λ e. base + tick + n < e.1) (delayed_list_of ls base current overflow) → n ≤ v - tick - 1
+most_to_first ls base tick current overflow n o v e value asleep = until_first base tick n o v (entries_of ls current) (count_from (base + 2 ^ 32) (entries_of ls overflow)) e value asleep
 
 -- one tick
 

@@ -299,10 +299,13 @@ impl Clock {
         true
     }
 
-    /// How many ticks can pass, one after another, with which nobody's sleep ends and the tick that is shown doesn't become 0.
+    /// How many ticks can pass, one after another, with which nobody's sleep ends and the tick that is shown doesn't become 0:
+    /// the most of which that is true.
     pub fn quiet_ticks(&self) -> u32
         ensures asleep { Each (λ e. self.now.now + result < e.1) self.now.delayed_list }
         ensures turn { self.now.now % 2 ^ 32 + result < 2 ^ 32 }
+        ensures most { (n : ℕ) → Each (λ e. self.now.now + n < e.1) self.now.delayed_list
+            → self.now.now % 2 ^ 32 + n < 2 ^ 32 → n ≤ result }
     {
         match self.lists.first(self.current) {
             None => u32::MAX - self.tick,

@@ -1,5 +1,5 @@
 //! The objects that tasks share: queues, semaphores and mutexes, who waits at them, and which one is locked.
-ghost use Rattle.std.specs.Prelude.{◌≡◌, ◌==◌, ◌&&◌, not, ℕ, ◌-◌, ◌<◌, ◌≤◌, [], length, replicate, slice_index_or, slice_set, map, ◌++◌, ◌↔◌, if◌then◌else◌, true, false, Some, None, Option, IsSome, IfSome, IfOk, IsOk, OnOk, OnErr};
+ghost use Rattle.std.specs.Prelude.{◌≡◌, ◌==◌, ◌&&◌, not, ℕ, ◌-◌, ◌<◌, ◌≤◌, [], length, replicate, slice_index_or, slice_set, map, ◌++◌, ◌↔◌, if◌then◌else◌, true, false, Some, None, Option, IsSome, IfSome, IsTrue, IfOk, IsOk, OnOk, OnErr};
 ghost use Rattle.std.specs.List.{AllByRecursion, list_any};
 ghost use Rattle.std.specs.Option.{is_some};
 ghost use Rattle.lists.specs.Lists.{place_of, without};
@@ -21,7 +21,7 @@ ghost use Rattle.objects.specs.Objects.{held_of};
 ghost use Rattle.objects.specs.WaitingLists.{first_priority, number_of, waiting_in};
 ghost use Rattle.task_lists.specs.Tasks.{insert_by_priority};
 ghost use Rattle.objects.specs.WaitersStand.{AreAwakened, AtLocked, Decider, opened};
-ghost use Rattle.objects.specs.Queues.{AreCounted, HasRoom, StandsFor, after_unlock, after_wake, counted_by, readied_by};
+ghost use Rattle.objects.specs.Queues.{AreCounted, CountsNobody, HasRoom, StandsFor, after_unlock, after_wake, counted_by, readied_by};
 
 use crate::items::{Items, ItemsSnapshot};
 use crate::lock::Lock;
@@ -412,6 +412,7 @@ impl Queues {
 
     /// Unlocks the locked object where nobody was woken since, and answers whether that is so; else nothing changes.
     pub fn unlock_if_none_woken(&mut self) -> bool
+        ensures answers { IsTrue result ↔ (IsSome self.old.lock × CountsNobody self.old) }
         ensures kept { result ≡ false → self.new ≡ self.old }
         ensures free { result ≡ true → self.new.lock ≡ None }
         ensures objects { self.new.objects ≡ self.old.objects }
