@@ -17,7 +17,7 @@ use Rattle.model.specs.Waiting.{same_list, wait_key}
 use Rattle.model.specs.Time.{delayed_key}
 use Rattle.model.specs.Handlers.{inject}
 use Rattle.model.specs.Step.{is_ended, act_current, before_step, step}
-use Rattle.model.specs.Run.{are_all_ended, is_interrupt_to_come, is_stuck, end_of}
+use Rattle.model.specs.Run.{are_all_ended, is_interrupt_to_come, is_stuck, end_of, or_else}
 use Rattle.model.specs.Invariant.{IsTable}
 use Rattle.model.proofs.Sorting.{length-in_order, by_test}
 use Rattle.model.proofs.Lists.{eqb-apart, eqb-refl, HasKey, list_has}
@@ -34,6 +34,7 @@ use Rattle.objects.specs.WaitersStand.{joined_by, standing}
 use Rattle.objects.proofs.Keys.{same_list-refl}
 use Rattle.groups.specs.StandsFor.{bits_wait}
 use Rattle.kernel.specs.Blocked.{is_blocked}
+use Rattle.kernel.specs.Over.{is_over}
 use Rattle.model.specs.Suspension.{can_resume}
 use Rattle.groups.proofs.Standing as on_groups
 use Rattle.groups.proofs.Kept as bits_kept
@@ -155,8 +156,8 @@ module _ (k : Kernel) (s : State) (h : StandsFor k s) where
   stuck_is : (app : Application) → is_none k.sched.current && is_quiet s && not (is_interrupt_to_come app s) ≡ is_stuck app s
   stuck_is app = rw (h.sched.current, asleep 0 s.tasks) refl
 
-  is_over : (ready q w : Bool) → ready ≡ is_some (first_of (lined_up k.sched)) → (IsTrue q ↔ (k.clock.delayed_list ≡ [])) → w ≡ list_any is_blocked s.tasks → not ready && q && not w ≡ are_all_ended s
-  is_over ready q w r is waiting = rw (r, quiet k.clock s h.rest.clock q is, waiting) over_is
+  ended_if : (ready q w : Bool) → ready ≡ is_some (first_of (lined_up k.sched)) → (IsTrue q ↔ (k.clock.delayed_list ≡ [])) → w ≡ list_any is_blocked s.tasks → not ready && q && not w ≡ are_all_ended s
+  ended_if ready q w r is waiting = rw (r, quiet k.clock s h.rest.clock q is, waiting) over_is
 
   not_over : is_some (first_of (lined_up k.sched)) ≡ true → false ≡ are_all_ended s
   not_over some = rw some at over_is
@@ -202,11 +203,11 @@ runs_before app k s task list b = rw b.current refl
 -- Whether or not a task is still to be placed.
 module _ (k : Kernel) (s : State) (ready q : Bool) (r : ready ≡ is_some (first_of (lined_up k.sched))) (is : IsTrue q ↔ (k.clock.delayed_list ≡ [])) where
   pub over_by : Stands k s → ready ≡ false → q ≡ true → (w : Bool) → (StandsFor k s → w ≡ list_any is_blocked s.tasks) → not w ≡ are_all_ended s
-  over_by (Placed h) none still w waiting = let e = is_over k s h ready q w r is (waiting h) in rw (none, still) at e
+  over_by (Placed h) none still w waiting = let e = ended_if k s h ready q w r is (waiting h) in rw (none, still) at e
   over_by (Placing task list b) none still w waiting = let some : ready ≡ true = r ∙ ready_before k s task list b in absurd (cc)
 
   pub on_by : Stands k s → not ready && q ≡ false → are_all_ended s ≡ false
-  on_by (Placed h) on = let e = is_over k s h ready q (list_any is_blocked s.tasks) r is refl in sym (rw on at e)
+  on_by (Placed h) on = let e = ended_if k s h ready q (list_any is_blocked s.tasks) r is refl in sym (rw on at e)
   on_by (Placing task list b) on = sym (waits_before k s task list b)
 
 pub not_over_by : (k : Kernel) (s : State) (ready : Bool) → ready ≡ is_some (first_of (lined_up k.sched)) → Stands k s → ready ≡ true → are_all_ended s ≡ false
@@ -244,6 +245,35 @@ module _ (app : Application) (limits : Limits) (s : State) (none : s.stopped ≡
 
         pub ends_not : is_stuck app s ≡ false → None ≡ end_of app limits s
         ends_not moves = rw (none, on, leb-no limits.ticks s.elapsed early, leb-no limits.steps s.steps few, moves) refl
+
+-- Whether it is over whatever its limits.
+
+over_not : (stopped : Option End) (all ticks steps stuck : Bool) → or_else stopped (if all then Some Pass else if ticks then Some Ticks else if steps then Some Steps else if stuck then Some Stuck else None) ≡ None → is_some stopped || all || stuck ≡ false
+over_not (Some end) all ticks steps stuck e = absurd (cc)
+over_not None true ticks steps stuck e = absurd (cc)
+over_not None false true steps stuck e = absurd (cc)
+over_not None false false true stuck e = absurd (cc)
+over_not None false false false true e = absurd (cc)
+over_not None false false false false e = refl
+
+module _ (app : Application) (limits : Limits) (s : State) where
+  -- where neither limit is reached, the run goes on if it isn't over
+  pub goes_if_not_over : is_over app s ≡ false → s.elapsed < limits.ticks → s.steps < limits.steps → end_of app limits s ≡ None
+  goes_if_not_over on early few =
+      let both : is_some s.stopped || are_all_ended s ≡ false = first_false (is_some s.stopped || are_all_ended s) (is_stuck app s) on in
+      let none : s.stopped ≡ None = not_stopped s.stopped (first_false (is_some s.stopped) (are_all_ended s) both) in
+      sym (ends_not app limits s none (second_false (is_some s.stopped) (are_all_ended s) both) early few (second_false (is_some s.stopped || are_all_ended s) (is_stuck app s) on)) where
+        first_false : (a b : Bool) → a || b ≡ false → a ≡ false
+        first_false true b e = absurd (cc)
+        first_false false b e = refl
+
+        second_false : (a b : Bool) → a || b ≡ false → b ≡ false
+        second_false true b e = absurd (cc)
+        second_false false b e = e
+
+  -- and it doesn't go on if it is
+  pub not_over_if_going : end_of app limits s ≡ None → is_over app s ≡ false
+  not_over_if_going on = over_not s.stopped (are_all_ended s) (leb limits.ticks s.elapsed) (leb limits.steps s.steps) (is_stuck app s) on
 
 -- A step begins with no event told, and ends with one step more.
 

@@ -1,6 +1,6 @@
 -- A run, step by step.
 use Rattle.std.proofs.Common.{◌+◌, ◌≡◌, ◌≢◌, ◌<◌, ◌≤◌, ℕ, zero, suc, true, false, eqb, leb, List, [], ◌++◌, Option, Some, None, refl, ap, sym, subst, ◌∙◌, arith, drop, length, length-append, append-nil}
-use Rattle.std.proofs.lemmas.List.{append_assoc}
+use Rattle.std.proofs.lemmas.List.{append_assoc, drop-append-le}
 use Rattle.std.proofs.lemmas.Bool.Decides.{nat_tests}
 use Rattle.model.proofs.Sorting.{by_test}
 use Rattle.model.proofs.Lists.{eqb-refl, eqb-same}
@@ -12,16 +12,18 @@ use Rattle.model.specs.State.{State, Progress, progress_at}
 use Rattle.model.specs.Step.{act_unless, misuse, act_if, act_current, step, reset}
 use Rattle.model.specs.declared.plan.Point.{Point}
 use Rattle.model.specs.Run.{Run, IsRun, end_of, injected, state_after, events_after}
-use Rattle.model.proofs.Injected.{from_one_more, goes_on_with}
+use Rattle.model.proofs.Injected.{from_one_more, goes_on_with, no_fewer}
 use Rattle.model.proofs.Passing.{elapsed-reset, elapsed-step}
 use Rattle.kernel.specs.declared.kernel.Kernel.{Kernel}
 use Rattle.kernel.specs.Logged.{Logged, all_of}
 use Rattle.kernel.specs.StandsFor.{Stands, AtAny, DoesAny, progress_in}
 use Rattle.kernel.specs.Can.{CanStep, IsUnderWay}
-use Rattle.kernel.specs.Rows.{events_from}
+use Rattle.kernel.specs.Rows.{Extends, events_from}
+use Rattle.kernel.specs.Over.{is_over}
 use Rattle.kernel.proofs.Either.{steps_are, elapsed_is, current_is, progress_is}
 use Rattle.model.proofs.Reached.{reached_after, suspensions_after}
 use Rattle.kernel.proofs.Bounds.{below_limits, steps-reset}
+use Rattle.kernel.proofs.Ending.{goes_if_not_over, not_over_if_going}
 
 leb-le : (a b : ℕ) → leb a b ≡ true → a ≤ b
 leb-le a b e = grind (arith, nat_tests)
@@ -151,6 +153,56 @@ ticks_by app plan limits are (suc n) g =
 
 pub ticks_low : (app : Application) (plan : List Point) (limits : Limits) → AreLimits limits.ticks limits.steps → (k : Kernel) → IsUnderWay app plan limits k → k.clock.age + k.clock.held ≤ 1000000
 ticks_low app plan limits are k h = rw (elapsed_is k (state_after app plan k.steps) h.stands) (ticks_by app plan limits are k.steps h.goes_on)
+
+-- ---- some steps, and then others
+
+more_from_first : (app : Application) (plan : List Point) (first n m : ℕ) → first ≤ n → n ≤ m → events_from app plan first m ≡ events_from app plan first n ++ events_from app plan n m
+more_from_first app plan first n m l le =
+    ap (λ (es : List Event). drop (length (events_after app plan first)) es) (sym (goes_on_with app plan n m le))
+    ∙ drop-append-le (length (events_after app plan first)) (events_after app plan n) (events_from app plan n m) (no_fewer app plan first n l)
+
+pub more_from : (app : Application) (plan : List Point) (first n m : ℕ) → first ≤ n → n ≤ m → (begin events all : List Event) → events ≡ begin ++ events_from app plan first n → all ≡ events ++ events_from app plan n m → all ≡ begin ++ events_from app plan first m
+more_from app plan first n m l le begin events all e g =
+    g
+    ∙ ap (λ (es : List Event). es ++ events_from app plan n m) e
+    ∙ append_assoc begin (events_from app plan first n) (events_from app plan n m)
+    ∙ ap (λ (es : List Event). begin ++ es) (sym (more_from_first app plan first n m l le))
+
+pub extends_on : (begin events all more : List Event) → events ≡ begin ++ more → Extends events all → Extends begin all
+extends_on begin events all more e x = (more ++ x.0, x.1 ∙ ap (λ (es : List Event). es ++ x.0) e ∙ append_assoc begin more x.0)
+
+-- In so many steps no more ticks pass.
+pub ticks_between : (app : Application) (plan : List Point) (n m : ℕ) → n ≤ m → (state_after app plan m).elapsed + n ≤ (state_after app plan n).elapsed + m
+ticks_between app plan n zero le = let z : n ≡ 0 = omega arith in rw z (omega arith)
+ticks_between app plan n (suc m) le = by_test (eqb n (suc m))
+    (λ t. let same : n ≡ suc m = eqb-same n (suc m) t in rw same (omega arith))
+    (λ t.
+    let apart : n ≢ suc m = (λ q. let w : eqb n (suc m) ≡ true = rw q (eqb-refl (suc m)) in absurd (cc)) in
+    let before = ticks_between app plan n m (omega arith) in
+    let one = elapsed-step app (injected plan m) (state_after app plan m) in
+    omega arith)
+
+-- Before a step up to which no limit is reached, the run goes on where it isn't over.
+pub goes_on_until : (app : Application) (plan : List Point) (limits : Limits) (first k : Kernel) (until : ℕ) → IsUnderWay app plan limits first → IsUnderWay app plan limits k → first.steps ≤ k.steps → k.steps < until
+    → (first.steps < until → first.clock.age + first.clock.held + until ≤ limits.ticks + first.steps) → (first.steps < until → until ≤ limits.steps) → is_over app (state_after app plan k.steps) ≡ false → end_of app limits (state_after app plan k.steps) ≡ None
+goes_on_until app plan limits first k until begin way on short ticks steps going =
+    let before = elapsed_is first (state_after app plan first.steps) begin.stands in
+    let between = ticks_between app plan first.steps k.steps on in
+    let done = steps_are k (state_after app plan k.steps) way.stands in
+    let early = ticks (omega arith) in
+    let few = steps (omega arith) in
+    goes_if_not_over app limits (state_after app plan k.steps) going (omega arith) (omega arith)
+
+-- It comes a step further where it went on.
+pub moves_on : (app : Application) (plan : List Point) (limits : Limits) (k new : Kernel) (until : ℕ) → k.steps ≤ new.steps → k.steps < until → end_of app limits (state_after app plan k.steps) ≡ None
+    → (new.steps < until → is_over app (state_after app plan new.steps) ≡ true) → k.steps < new.steps
+moves_on app plan limits k new until on short going there = by_test (eqb new.steps k.steps)
+    (λ t.
+    let same : new.steps ≡ k.steps = eqb-same new.steps k.steps t in
+    let over : is_over app (state_after app plan k.steps) ≡ true = subst (λ (n : ℕ). is_over app (state_after app plan n) ≡ true) same (there (omega arith)) in
+    let none : is_over app (state_after app plan k.steps) ≡ false = not_over_if_going app limits (state_after app plan k.steps) going in
+    absurd (cc))
+    (λ t. let apart : new.steps ≢ k.steps = (λ e. let u : eqb new.steps k.steps ≡ true = rw e (eqb-refl k.steps) in absurd (cc)) in omega arith)
 
 -- ---- a run that is broken off has come no further than the run
 

@@ -7,3 +7,4 @@ pub mod Boot
 pub mod Keeping
 pub mod Rows
 pub mod Quiet
+pub mod Over

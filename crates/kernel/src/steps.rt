@@ -1,5 +1,5 @@
 //! Steps, and whole runs.
-ghost use Rattle.std.specs.Prelude.{◌≡◌, ◌<◌, ◌≤◌, ◌+◌, ◌^◌, ◌++◌, [], Some, None, ◌||◌, IfSome, IsNone, IfOk, OnOk, OnErr, drop, length, slice_get};
+ghost use Rattle.std.specs.Prelude.{◌≡◌, true, ℕ, ◌<◌, ◌≤◌, ◌+◌, ◌^◌, ◌++◌, [], Some, None, ◌||◌, IfSome, IsNone, IfOk, OnOk, OnErr, drop, length, slice_get};
 ghost use Rattle.std.specs.List.{AllByRecursion};
 ghost use Rattle.std.specs.List.{list_any};
 ghost use Rattle.model.specs.Application.{op_at};
@@ -13,6 +13,7 @@ ghost use Rattle.model.specs.Run.{end_of, injected, IsRun, state_after, events_a
 ghost use Rattle.kernel.specs.Logged.{all_of};
 ghost use Rattle.kernel.specs.StandsFor.{Stands, StandsFor, DoesAny};
 ghost use Rattle.kernel.specs.Blocked.{is_blocked};
+ghost use Rattle.kernel.specs.Over.{is_over};
 ghost use Rattle.kernel.specs.Can.{CanAct, CanStep, IsUnderWay};
 ghost use Rattle.kernel.specs.Rows.{events_from, Extends};
 
@@ -137,6 +138,21 @@ impl Kernel {
             return false;
         }
         !app.has_interrupt_after(self.clock.elapsed())
+    }
+
+    /// Whether the run is over before its next step, whatever its limits: an `expect` failed or a misuse came, every task is
+    /// Ended, or it is stuck.
+    #[inline(always)]
+    fn is_over(&self, app: &App) -> bool
+        ensures { (s : State) → Stands self.now s → result ≡ is_over app.now s }
+    {
+        if self.stopped.is_some() {
+            return true;
+        }
+        if self.are_all_ended() {
+            return true;
+        }
+        self.is_stuck(app)
     }
 
     /// The end of the run before its next step, under these limits: the first that holds of a failed `expect`, every task
@@ -342,6 +358,51 @@ fn step_by_plan<'a>(
     Ok(points)
 }
 
+/// Goes on along a run that is under way, up to this step or to an end before it, and keeps the events from there on. The plan
+/// has no points before that step, and neither limit is reached before it, so none of this is looked at on the way.
+#[inline(never)]
+fn go_on(
+    kernel: &mut Kernel,
+    app: &App,
+    points: &[Point],
+    until: u32,
+    limits: &Limits,
+    meter: &mut Meter,
+    log: &mut StepLog,
+    trail: &mut Trail,
+) -> Result<(), Memory>
+    requires way { IsUnderWay app.now points.now limits.now kernel.old }
+    requires alone { (n : ℕ) → kernel.old.steps ≤ n → n < until → injected points.now n ≡ [] }
+    requires ahead { kernel.old.steps ≤ until }
+    requires ticks { kernel.old.steps < until
+        → kernel.old.clock.age + kernel.old.clock.held + until ≤ limits.now.ticks + kernel.old.steps }
+    requires steps { kernel.old.steps < until → until ≤ limits.now.steps }
+    requires meter { meter.old < 2 ^ 62 + kernel.old.steps }
+    ensures way { IsUnderWay app.now points.now limits.now kernel.new }
+    ensures on { kernel.old.steps ≤ kernel.new.steps }
+    ensures far { kernel.new.steps ≤ until }
+    ensures there { OnOk result (kernel.new.steps < until
+        → is_over app.now (state_after app.now points.now kernel.new.steps) ≡ true) }
+    ensures events { OnOk result
+        (all_of trail.new ≡ all_of trail.old ++ events_from app.now points.now kernel.old.steps kernel.new.steps) }
+    ensures meter { meter.new + kernel.old.steps ≡ meter.old + kernel.new.steps }
+    ensures kept { OnErr result (Extends (all_of trail.old) (all_of trail.new)) }
+    ensures memory { OnErr result (0 < length (events_after app.now points.now kernel.new.steps)) }
+{
+    app.well_formed();
+    limits.well_formed();
+    'steps: while kernel.steps < until {
+        if kernel.is_over(app) {
+            return Ok(());
+        }
+        let tick = kernel.clock.tick();
+        step_along(kernel, app, meter, log, trail)?;
+        let quiet = kernel.clock.tick() != tick && trail.is_silent();
+        pass_on(kernel, app, points, until, quiet, limits, meter);
+    }
+    Ok(())
+}
+
 /// Goes on to the end of a run that is under way, and keeps the events from there on. These points are its plan, all of
 /// them still to come.
 pub(crate) fn finish(
@@ -375,11 +436,9 @@ pub(crate) fn finish(
         if let Some(end) = kernel.ended(app, limits) {
             return Ok(end);
         }
-        let tick = kernel.clock.tick();
         left = step_by_plan(kernel, app, left, meter, log, trail)?;
-        let until = next_point(left);
-        let quiet = kernel.clock.tick() != tick && trail.is_silent();
-        pass_on(kernel, app, points, until, quiet, limits, meter);
+        let until = kernel.free_until(next_point(left), limits);
+        go_on(kernel, app, points, until, limits, meter, log, trail)?;
     }
 }
 
@@ -419,10 +478,8 @@ pub fn follow(
         if kernel.steps == step {
             return Ok(None);
         }
-        let tick = kernel.clock.tick();
-        step_along(kernel, app, meter, log, trail)?;
-        let quiet = kernel.clock.tick() != tick && trail.is_silent();
-        pass_on(kernel, app, &[], step, quiet, limits, meter);
+        let until = kernel.free_until(step, limits);
+        go_on(kernel, app, &[], until, limits, meter, log, trail)?;
     }
 }
 

@@ -1,10 +1,9 @@
 use Rattle.std.proofs.Common.{◌^◌, ◌≡◌, ◌<◌, ◌++◌, ℕ, List, None, length, ap, sym, subst, refl, ◌∙◌, append-nil, arith}
 use Rattle.std.proofs.lemmas.Result.{err_from_is_err_and}
 use Rattle.model.specs.Run.{end_of, state_after}
-use Rattle.model.specs.declared.event.Event.{Event}
 use Rattle.kernel.specs.Logged.{all_of}
 use Rattle.kernel.specs.Rows.{events_from}
-use Rattle.kernel.proofs.Running.{can_step, steps_below, steps_more, goes_on, more_events, told_more, silent_from}
+use Rattle.kernel.proofs.Running.{can_step, steps_below, steps_more, goes_on, more_events, more_from, extends_on, told_more}
 use Rattle.model.specs.Step.{step}
 use Rattle.model.proofs.Injected.{from_here}
 use Rattle.kernel.proofs.Planned.{few_left, handlers_are, left_first, left_next, left_on, IsLeft, stands_as}
@@ -22,64 +21,13 @@ steps-init c = record {
 pub step_by_plan-requires-clause-going : goal.step_by_plan-requires-clause-going
 step_by_plan-requires-clause-going c = can_step c.args.app.now c.well_formed-2.ensures c.args.points.now c.args.limits.now c.well_formed-3.ensures c.steps.kernel c.steps.invariant.way (sym (c.in_default.ensures _ c.steps.invariant.way.stands))
 
-pub steps-smaller : goal.steps-smaller
-steps-smaller c =
-    let on : end_of c.args.app.now c.args.limits.now (state_after c.args.app.now c.args.points.now c.steps.kernel.steps) ≡ None = sym (c.in_default.ensures _ c.steps.invariant.way.stands) in
-    let l = steps_below c.args.app.now c.well_formed-2.ensures c.args.points.now c.args.limits.now c.well_formed-3.ensures c.steps.kernel c.steps.invariant.way on in
-    let m = steps_more c.args.app.now c.well_formed-2.ensures c.args.points.now c.args.limits.now c.well_formed-3.ensures c.steps.kernel c.steps.invariant.way on c.step_by_plan.new.kernel (stands_as c.args.app.now c.steps.kernel c.step_by_plan.new.kernel _ _ (handlers_are c.args.points.now c.steps.left.now c.steps.kernel.steps _ refl c.steps.invariant.left) c.in_ok-left.ensures.stands) in
-    let p = c.pass_on.ensures.on in
-    omega arith
-
 -- where the next point is, once the step is done
-pub next_point-until-requires : goal.next_point-until-requires
-next_point-until-requires c =
+pub next_point-requires : goal.next_point-requires
+next_point-requires c =
     let on : end_of c.args.app.now c.args.limits.now (state_after c.args.app.now c.args.points.now c.steps.kernel.steps) ≡ None = sym (c.in_default.ensures _ c.steps.invariant.way.stands) in
     let m = steps_more c.args.app.now c.well_formed-2.ensures c.args.points.now c.args.limits.now c.well_formed-3.ensures c.steps.kernel c.steps.invariant.way on c.step_by_plan.new.kernel (stands_as c.args.app.now c.steps.kernel c.step_by_plan.new.kernel _ _ (handlers_are c.args.points.now c.steps.left.now c.steps.kernel.steps _ refl c.steps.invariant.left) c.in_ok-left.ensures.stands) in
     let left : IsLeft c.args.points.now c.in_ok-left.left.now c.step_by_plan.new.kernel.steps = rw (c.in_ok-left.ensures.later, m) (left_next c.args.points.now c.steps.left.now c.steps.kernel.steps c.steps.invariant.left) in
     record { order = left.order }
-
-pub pass_on-requires-clause-way : goal.pass_on-requires-clause-way
-pass_on-requires-clause-way c =
-    let on : end_of c.args.app.now c.args.limits.now (state_after c.args.app.now c.args.points.now c.steps.kernel.steps) ≡ None = sym (c.in_default.ensures _ c.steps.invariant.way.stands) in
-    goes_on c.args.app.now c.well_formed-2.ensures c.args.points.now c.args.limits.now c.well_formed-3.ensures c.steps.kernel c.steps.invariant.way on c.step_by_plan.new.kernel (stands_as c.args.app.now c.steps.kernel c.step_by_plan.new.kernel _ _ (handlers_are c.args.points.now c.steps.left.now c.steps.kernel.steps _ refl c.steps.invariant.left) c.in_ok-left.ensures.stands)
-
-pub pass_on-requires-clause-alone : goal.pass_on-requires-clause-alone
-pass_on-requires-clause-alone c =
-    let on : end_of c.args.app.now c.args.limits.now (state_after c.args.app.now c.args.points.now c.steps.kernel.steps) ≡ None = sym (c.in_default.ensures _ c.steps.invariant.way.stands) in
-    let m = steps_more c.args.app.now c.well_formed-2.ensures c.args.points.now c.args.limits.now c.well_formed-3.ensures c.steps.kernel c.steps.invariant.way on c.step_by_plan.new.kernel (stands_as c.args.app.now c.steps.kernel c.step_by_plan.new.kernel _ _ (handlers_are c.args.points.now c.steps.left.now c.steps.kernel.steps _ refl c.steps.invariant.left) c.in_ok-left.ensures.stands) in
-    let left : IsLeft c.args.points.now c.in_ok-left.left.now c.step_by_plan.new.kernel.steps = rw (c.in_ok-left.ensures.later, m) (left_next c.args.points.now c.steps.left.now c.steps.kernel.steps c.steps.invariant.left) in
-    λ n from below. sym (left.same n from) ∙ c.next_point-until.ensures.alone n below
-
-pub pass_on-requires-clause-meter : goal.pass_on-requires-clause-meter
-pass_on-requires-clause-meter c =
-    let on : end_of c.args.app.now c.args.limits.now (state_after c.args.app.now c.args.points.now c.steps.kernel.steps) ≡ None = sym (c.in_default.ensures _ c.steps.invariant.way.stands) in
-    let m = steps_more c.args.app.now c.well_formed-2.ensures c.args.points.now c.args.limits.now c.well_formed-3.ensures c.steps.kernel c.steps.invariant.way on c.step_by_plan.new.kernel (stands_as c.args.app.now c.steps.kernel c.step_by_plan.new.kernel _ _ (handlers_are c.args.points.now c.steps.left.now c.steps.kernel.steps _ refl c.steps.invariant.left) c.in_ok-left.ensures.stands) in
-    let e = c.in_ok-left.ensures.meter in
-    let f = c.steps.invariant.meter in
-    let low = c.requires.meter in
-    omega arith
-
-pub steps-preserved : goal.steps-preserved
-steps-preserved c =
-    let on : end_of c.args.app.now c.args.limits.now (state_after c.args.app.now c.args.points.now c.steps.kernel.steps) ≡ None = sym (c.in_default.ensures _ c.steps.invariant.way.stands) in
-    let m = steps_more c.args.app.now c.well_formed-2.ensures c.args.points.now c.args.limits.now c.well_formed-3.ensures c.steps.kernel c.steps.invariant.way on c.step_by_plan.new.kernel (stands_as c.args.app.now c.steps.kernel c.step_by_plan.new.kernel _ _ (handlers_are c.args.points.now c.steps.left.now c.steps.kernel.steps _ refl c.steps.invariant.left) c.in_ok-left.ensures.stands) in
-    let left : IsLeft c.args.points.now c.in_ok-left.left.now c.step_by_plan.new.kernel.steps = rw (c.in_ok-left.ensures.later, m) (left_next c.args.points.now c.steps.left.now c.steps.kernel.steps c.steps.invariant.left) in
-    let e = c.in_ok-left.ensures.meter in
-    let f = c.steps.invariant.meter in
-    let o = c.steps.invariant.on in
-    let passed = c.pass_on.ensures.on in
-    let g = c.pass_on.ensures.meter in
-    let low = steps_below c.args.app.now c.well_formed-2.ensures c.args.points.now c.args.limits.now c.well_formed-3.ensures c.steps.kernel c.steps.invariant.way on in
-    let most = c.well_formed-3.ensures.3 in
-    let small : c.step_by_plan.new.kernel.steps < 2 ^ 32 = omega arith in
-    let whole : all_of c.step_by_plan.new.trail ≡ all_of c.args.trail.now ++ events_from c.args.app.now c.args.points.now c.args.kernel.now.steps c.step_by_plan.new.kernel.steps = more_events c.args.app.now c.well_formed-2.ensures c.args.points.now c.args.limits.now c.well_formed-3.ensures c.steps.kernel c.steps.invariant.way on c.step_by_plan.new.kernel (stands_as c.args.app.now c.steps.kernel c.step_by_plan.new.kernel _ _ (handlers_are c.args.points.now c.steps.left.now c.steps.kernel.steps _ refl c.steps.invariant.left) c.in_ok-left.ensures.stands) c.args.kernel.now.steps c.steps.invariant.on (all_of c.args.trail.now) (all_of c.steps.trail) (all_of c.step_by_plan.new.trail) c.steps.invariant.events (subst (λ (hs : List ℕ). all_of c.step_by_plan.new.trail ≡ all_of c.steps.trail ++ (step c.args.app.now hs (state_after c.args.app.now c.args.points.now c.steps.kernel.steps)).log) (handlers_are c.args.points.now c.steps.left.now c.steps.kernel.steps _ refl c.steps.invariant.left) (c.in_ok-left.ensures.told _ c.steps.invariant.way.stands)) in
-    record {
-      way = c.pass_on.ensures.way;
-      on = omega arith;
-      events = whole ∙ ap (λ (es : List Event). all_of c.args.trail.now ++ es) (sym (silent_from c.args.app.now c.args.points.now c.step_by_plan.new.kernel.steps c.pass_on.new.kernel.steps passed c.pass_on.ensures.silent c.args.kernel.now.steps));
-      left = left_on c.args.points.now c.in_ok-left.left.now c.step_by_plan.new.kernel.steps c.pass_on.new.kernel.steps passed (c.next_point-until.ensures.ahead c.pass_on.new.kernel.steps (c.pass_on.ensures.far (c.next_point-until.ensures.least c.step_by_plan.new.kernel.steps small left.ahead))) left;
-      meter = omega arith;
-    }
 
 pub returns-in_err-left-clause-way : goal.returns-in_err-left-clause-way
 returns-in_err-left-clause-way c =
@@ -122,3 +70,97 @@ step_by_plan-requires-clause-left c = c.steps.invariant.left.ahead
 
 pub step_by_plan-requires-clause-few : goal.step_by_plan-requires-clause-few
 step_by_plan-requires-clause-few c = few_left c.args.points.now c.steps.left.now c.steps.kernel.steps c.requires.plan c.steps.invariant.left
+
+pub steps-smaller : goal.steps-smaller
+steps-smaller c =
+    let on : end_of c.args.app.now c.args.limits.now (state_after c.args.app.now c.args.points.now c.steps.kernel.steps) ≡ None = sym (c.in_default.ensures _ c.steps.invariant.way.stands) in
+    let stands = stands_as c.args.app.now c.steps.kernel c.step_by_plan.new.kernel _ _ (handlers_are c.args.points.now c.steps.left.now c.steps.kernel.steps _ refl c.steps.invariant.left) c.in_ok-left.ensures.stands in
+    let low = steps_below c.args.app.now c.well_formed-2.ensures c.args.points.now c.args.limits.now c.well_formed-3.ensures c.steps.kernel c.steps.invariant.way on in
+    let m = steps_more c.args.app.now c.well_formed-2.ensures c.args.points.now c.args.limits.now c.well_formed-3.ensures c.steps.kernel c.steps.invariant.way on c.step_by_plan.new.kernel stands in
+    let p = c.go_on.ensures.on in
+    omega arith
+
+pub free_until-until-requires : goal.free_until-until-requires
+free_until-until-requires c =
+    let on : end_of c.args.app.now c.args.limits.now (state_after c.args.app.now c.args.points.now c.steps.kernel.steps) ≡ None = sym (c.in_default.ensures _ c.steps.invariant.way.stands) in
+    let stands = stands_as c.args.app.now c.steps.kernel c.step_by_plan.new.kernel _ _ (handlers_are c.args.points.now c.steps.left.now c.steps.kernel.steps _ refl c.steps.invariant.left) c.in_ok-left.ensures.stands in
+    let m = steps_more c.args.app.now c.well_formed-2.ensures c.args.points.now c.args.limits.now c.well_formed-3.ensures c.steps.kernel c.steps.invariant.way on c.step_by_plan.new.kernel stands in
+    let left : IsLeft c.args.points.now c.in_ok-left.left.now c.step_by_plan.new.kernel.steps = rw (c.in_ok-left.ensures.later, m) (left_next c.args.points.now c.steps.left.now c.steps.kernel.steps c.steps.invariant.left) in
+    let low = steps_below c.args.app.now c.well_formed-2.ensures c.args.points.now c.args.limits.now c.well_formed-3.ensures c.steps.kernel c.steps.invariant.way on in
+    let most = c.well_formed-3.ensures.3 in
+    let small : c.step_by_plan.new.kernel.steps < 2 ^ 32 = omega arith in
+    c.next_point.ensures.least c.step_by_plan.new.kernel.steps small left.ahead
+
+pub go_on-requires-clause-way : goal.go_on-requires-clause-way
+go_on-requires-clause-way c =
+    let on : end_of c.args.app.now c.args.limits.now (state_after c.args.app.now c.args.points.now c.steps.kernel.steps) ≡ None = sym (c.in_default.ensures _ c.steps.invariant.way.stands) in
+    let stands = stands_as c.args.app.now c.steps.kernel c.step_by_plan.new.kernel _ _ (handlers_are c.args.points.now c.steps.left.now c.steps.kernel.steps _ refl c.steps.invariant.left) c.in_ok-left.ensures.stands in
+    goes_on c.args.app.now c.well_formed-2.ensures c.args.points.now c.args.limits.now c.well_formed-3.ensures c.steps.kernel c.steps.invariant.way on c.step_by_plan.new.kernel stands
+
+pub go_on-requires-clause-alone : goal.go_on-requires-clause-alone
+go_on-requires-clause-alone c =
+    let on : end_of c.args.app.now c.args.limits.now (state_after c.args.app.now c.args.points.now c.steps.kernel.steps) ≡ None = sym (c.in_default.ensures _ c.steps.invariant.way.stands) in
+    let stands = stands_as c.args.app.now c.steps.kernel c.step_by_plan.new.kernel _ _ (handlers_are c.args.points.now c.steps.left.now c.steps.kernel.steps _ refl c.steps.invariant.left) c.in_ok-left.ensures.stands in
+    let m = steps_more c.args.app.now c.well_formed-2.ensures c.args.points.now c.args.limits.now c.well_formed-3.ensures c.steps.kernel c.steps.invariant.way on c.step_by_plan.new.kernel stands in
+    let left : IsLeft c.args.points.now c.in_ok-left.left.now c.step_by_plan.new.kernel.steps = rw (c.in_ok-left.ensures.later, m) (left_next c.args.points.now c.steps.left.now c.steps.kernel.steps c.steps.invariant.left) in
+    let far = c.free_until-until.ensures.far in
+    λ n from below. sym (left.same n from) ∙ c.next_point.ensures.alone n (omega arith)
+
+pub go_on-requires-clause-meter : goal.go_on-requires-clause-meter
+go_on-requires-clause-meter c =
+    let on : end_of c.args.app.now c.args.limits.now (state_after c.args.app.now c.args.points.now c.steps.kernel.steps) ≡ None = sym (c.in_default.ensures _ c.steps.invariant.way.stands) in
+    let stands = stands_as c.args.app.now c.steps.kernel c.step_by_plan.new.kernel _ _ (handlers_are c.args.points.now c.steps.left.now c.steps.kernel.steps _ refl c.steps.invariant.left) c.in_ok-left.ensures.stands in
+    let m = steps_more c.args.app.now c.well_formed-2.ensures c.args.points.now c.args.limits.now c.well_formed-3.ensures c.steps.kernel c.steps.invariant.way on c.step_by_plan.new.kernel stands in
+    let e = c.in_ok-left.ensures.meter in
+    let f = c.steps.invariant.meter in
+    let low = c.requires.meter in
+    omega arith
+
+pub steps-preserved : goal.steps-preserved
+steps-preserved c =
+    let on : end_of c.args.app.now c.args.limits.now (state_after c.args.app.now c.args.points.now c.steps.kernel.steps) ≡ None = sym (c.in_default.ensures _ c.steps.invariant.way.stands) in
+    let stands = stands_as c.args.app.now c.steps.kernel c.step_by_plan.new.kernel _ _ (handlers_are c.args.points.now c.steps.left.now c.steps.kernel.steps _ refl c.steps.invariant.left) c.in_ok-left.ensures.stands in
+    let m = steps_more c.args.app.now c.well_formed-2.ensures c.args.points.now c.args.limits.now c.well_formed-3.ensures c.steps.kernel c.steps.invariant.way on c.step_by_plan.new.kernel stands in
+    let left : IsLeft c.args.points.now c.in_ok-left.left.now c.step_by_plan.new.kernel.steps = rw (c.in_ok-left.ensures.later, m) (left_next c.args.points.now c.steps.left.now c.steps.kernel.steps c.steps.invariant.left) in
+    let e = c.in_ok-left.ensures.meter in
+    let f = c.steps.invariant.meter in
+    let o = c.steps.invariant.on in
+    let passed = c.go_on.ensures.on in
+    let g = c.go_on.ensures.meter in
+    let far = c.go_on.ensures.far in
+    let until = c.free_until-until.ensures.far in
+    let whole : all_of c.step_by_plan.new.trail ≡ all_of c.args.trail.now ++ events_from c.args.app.now c.args.points.now c.args.kernel.now.steps c.step_by_plan.new.kernel.steps = more_events c.args.app.now c.well_formed-2.ensures c.args.points.now c.args.limits.now c.well_formed-3.ensures c.steps.kernel c.steps.invariant.way on c.step_by_plan.new.kernel stands c.args.kernel.now.steps c.steps.invariant.on (all_of c.args.trail.now) (all_of c.steps.trail) (all_of c.step_by_plan.new.trail) c.steps.invariant.events (subst (λ (hs : List ℕ). all_of c.step_by_plan.new.trail ≡ all_of c.steps.trail ++ (step c.args.app.now hs (state_after c.args.app.now c.args.points.now c.steps.kernel.steps)).log) (handlers_are c.args.points.now c.steps.left.now c.steps.kernel.steps _ refl c.steps.invariant.left) (c.in_ok-left.ensures.told _ c.steps.invariant.way.stands)) in
+    record {
+      way = c.go_on.ensures.way;
+      on = omega arith;
+      events = more_from c.args.app.now c.args.points.now c.args.kernel.now.steps c.step_by_plan.new.kernel.steps c.go_on.new.kernel.steps (omega arith) passed (all_of c.args.trail.now) (all_of c.step_by_plan.new.trail) (all_of c.go_on.new.trail) whole c.in_ok-go_on.ensures.events;
+      left = left_on c.args.points.now c.in_ok-left.left.now c.step_by_plan.new.kernel.steps c.go_on.new.kernel.steps passed (c.next_point.ensures.ahead c.go_on.new.kernel.steps (omega arith)) left;
+      meter = omega arith;
+    }
+
+pub returns-in_err-go_on-clause-on : goal.returns-in_err-go_on-clause-on
+returns-in_err-go_on-clause-on c =
+    let on : end_of c.args.app.now c.args.limits.now (state_after c.args.app.now c.args.points.now c.steps.kernel.steps) ≡ None = sym (c.in_default.ensures _ c.steps.invariant.way.stands) in
+    let stands = stands_as c.args.app.now c.steps.kernel c.step_by_plan.new.kernel _ _ (handlers_are c.args.points.now c.steps.left.now c.steps.kernel.steps _ refl c.steps.invariant.left) c.in_ok-left.ensures.stands in
+    let m = steps_more c.args.app.now c.well_formed-2.ensures c.args.points.now c.args.limits.now c.well_formed-3.ensures c.steps.kernel c.steps.invariant.way on c.step_by_plan.new.kernel stands in
+    let o = c.steps.invariant.on in
+    let passed = c.go_on.ensures.on in
+    omega arith
+
+pub returns-in_err-go_on-clause-meter : goal.returns-in_err-go_on-clause-meter
+returns-in_err-go_on-clause-meter c =
+    let on : end_of c.args.app.now c.args.limits.now (state_after c.args.app.now c.args.points.now c.steps.kernel.steps) ≡ None = sym (c.in_default.ensures _ c.steps.invariant.way.stands) in
+    let stands = stands_as c.args.app.now c.steps.kernel c.step_by_plan.new.kernel _ _ (handlers_are c.args.points.now c.steps.left.now c.steps.kernel.steps _ refl c.steps.invariant.left) c.in_ok-left.ensures.stands in
+    let m = steps_more c.args.app.now c.well_formed-2.ensures c.args.points.now c.args.limits.now c.well_formed-3.ensures c.steps.kernel c.steps.invariant.way on c.step_by_plan.new.kernel stands in
+    let e = c.in_ok-left.ensures.meter in
+    let f = c.steps.invariant.meter in
+    let g = c.go_on.ensures.meter in
+    omega arith
+
+pub returns-in_err-go_on-clause-kept : goal.returns-in_err-go_on-clause-kept
+returns-in_err-go_on-clause-kept c =
+    let on : end_of c.args.app.now c.args.limits.now (state_after c.args.app.now c.args.points.now c.steps.kernel.steps) ≡ None = sym (c.in_default.ensures _ c.steps.invariant.way.stands) in
+    let stands = stands_as c.args.app.now c.steps.kernel c.step_by_plan.new.kernel _ _ (handlers_are c.args.points.now c.steps.left.now c.steps.kernel.steps _ refl c.steps.invariant.left) c.in_ok-left.ensures.stands in
+    let whole : all_of c.step_by_plan.new.trail ≡ all_of c.args.trail.now ++ events_from c.args.app.now c.args.points.now c.args.kernel.now.steps c.step_by_plan.new.kernel.steps = more_events c.args.app.now c.well_formed-2.ensures c.args.points.now c.args.limits.now c.well_formed-3.ensures c.steps.kernel c.steps.invariant.way on c.step_by_plan.new.kernel stands c.args.kernel.now.steps c.steps.invariant.on (all_of c.args.trail.now) (all_of c.steps.trail) (all_of c.step_by_plan.new.trail) c.steps.invariant.events (subst (λ (hs : List ℕ). all_of c.step_by_plan.new.trail ≡ all_of c.steps.trail ++ (step c.args.app.now hs (state_after c.args.app.now c.args.points.now c.steps.kernel.steps)).log) (handlers_are c.args.points.now c.steps.left.now c.steps.kernel.steps _ refl c.steps.invariant.left) (c.in_ok-left.ensures.told _ c.steps.invariant.way.stands)) in
+    let p = err_from_is_err_and c.from_residual-in_err-go_on.result c.from_residual-in_err-go_on.ensures.1 in
+    rw p.1 (extends_on (all_of c.args.trail.now) (all_of c.step_by_plan.new.trail) (all_of c.go_on.new.trail) _ whole c.in_err-go_on.ensures.kept)

@@ -1,81 +1,64 @@
-use Rattle.std.proofs.Common.{◌≡◌, ◌≢◌, ◌++◌, List, None, [], ap, sym, ◌∙◌, arith}
-use Rattle.std.proofs.lemmas.Result.{err_from_is_err_and}
+use Rattle.std.proofs.Common.{◌≡◌, ◌≢◌, ◌≤◌, suc, None, [], sym, arith}
 use Rattle.model.specs.Run.{end_of, state_after}
-use Rattle.model.specs.declared.event.Event.{Event}
 use Rattle.kernel.specs.Logged.{all_of}
-use Rattle.kernel.specs.Rows.{events_from}
-use Rattle.kernel.proofs.Running.{can_step, steps_more, goes_on, more_events, told_more, silent_from}
+use Rattle.kernel.proofs.Bounds.{below_limits}
+use Rattle.kernel.proofs.Either.{elapsed_is, steps_are}
+use Rattle.kernel.proofs.Running.{moves_on, more_from}
 use Rattle.kernel.proofs.steps.follow.Goals as goal
-
-pub step_along-requires-clause-going : goal.step_along-requires-clause-going
-step_along-requires-clause-going c = can_step c.args.app.now c.well_formed-2.ensures [] c.args.limits.now c.well_formed-3.ensures c.steps.kernel c.steps.invariant.way (sym (c.in_default.ensures _ c.steps.invariant.way.stands))
 
 pub steps-smaller : goal.steps-smaller
 steps-smaller c =
     let on : end_of c.args.app.now c.args.limits.now (state_after c.args.app.now [] c.steps.kernel.steps) ≡ None = sym (c.in_default.ensures _ c.steps.invariant.way.stands) in
-    let m = steps_more c.args.app.now c.well_formed-2.ensures [] c.args.limits.now c.well_formed-3.ensures c.steps.kernel c.steps.invariant.way on c.step_along.new.kernel c.step_along.ensures.stands in
     let far = c.steps.invariant.far in
     let short : c.steps.kernel.steps ≢ c.args.step = c.if-kernel-step.false in
-    let passed = c.pass_on.ensures.on in
+    let limits = below_limits c.args.app.now c.args.limits.now (state_after c.args.app.now [] c.steps.kernel.steps) on in
+    let early = limits.0 in
+    let few = limits.1 in
+    let elapsed = elapsed_is c.steps.kernel (state_after c.args.app.now [] c.steps.kernel.steps) c.steps.invariant.way.stands in
+    let done = steps_are c.steps.kernel (state_after c.args.app.now [] c.steps.kernel.steps) c.steps.invariant.way.stands in
+    let more : suc c.steps.kernel.steps ≤ c.free_until-until.result = c.free_until-until.ensures.most (suc c.steps.kernel.steps) (omega arith) (omega arith) (omega arith) (omega arith) in
+    let passed = c.go_on.ensures.on in
+    let moved = moves_on c.args.app.now [] c.args.limits.now c.steps.kernel c.go_on.new.kernel c.free_until-until.result c.go_on.ensures.on (omega arith) on c.in_ok-go_on.ensures.there in
+    let stop = c.go_on.ensures.far in
+    let until = c.free_until-until.ensures.far in
     omega arith
 
-pub pass_on-requires-clause-way : goal.pass_on-requires-clause-way
-pass_on-requires-clause-way c =
-    let on : end_of c.args.app.now c.args.limits.now (state_after c.args.app.now [] c.steps.kernel.steps) ≡ None = sym (c.in_default.ensures _ c.steps.invariant.way.stands) in
-    goes_on c.args.app.now c.well_formed-2.ensures [] c.args.limits.now c.well_formed-3.ensures c.steps.kernel c.steps.invariant.way on c.step_along.new.kernel c.step_along.ensures.stands
-
-pub pass_on-requires-clause-meter : goal.pass_on-requires-clause-meter
-pass_on-requires-clause-meter c =
-    let on : end_of c.args.app.now c.args.limits.now (state_after c.args.app.now [] c.steps.kernel.steps) ≡ None = sym (c.in_default.ensures _ c.steps.invariant.way.stands) in
-    let m = steps_more c.args.app.now c.well_formed-2.ensures [] c.args.limits.now c.well_formed-3.ensures c.steps.kernel c.steps.invariant.way on c.step_along.new.kernel c.step_along.ensures.stands in
-    let e = c.step_along.ensures.meter in
-    let f = c.steps.invariant.meter in
+pub go_on-requires-clause-meter : goal.go_on-requires-clause-meter
+go_on-requires-clause-meter c =
+    let e = c.steps.invariant.meter in
     let low = c.requires.meter in
     omega arith
 
 pub steps-preserved : goal.steps-preserved
 steps-preserved c =
-    let on : end_of c.args.app.now c.args.limits.now (state_after c.args.app.now [] c.steps.kernel.steps) ≡ None = sym (c.in_default.ensures _ c.steps.invariant.way.stands) in
-    let m = steps_more c.args.app.now c.well_formed-2.ensures [] c.args.limits.now c.well_formed-3.ensures c.steps.kernel c.steps.invariant.way on c.step_along.new.kernel c.step_along.ensures.stands in
-    let e = c.step_along.ensures.meter in
-    let f = c.steps.invariant.meter in
+    let e = c.steps.invariant.meter in
     let o = c.steps.invariant.on in
-    let far = c.steps.invariant.far in
-    let short : c.steps.kernel.steps ≢ c.args.step = c.if-kernel-step.false in
-    let passed = c.pass_on.ensures.on in
-    let g = c.pass_on.ensures.meter in
-    let whole : all_of c.step_along.new.trail ≡ all_of c.args.trail.now ++ events_from c.args.app.now [] c.args.kernel.now.steps c.step_along.new.kernel.steps = more_events c.args.app.now c.well_formed-2.ensures [] c.args.limits.now c.well_formed-3.ensures c.steps.kernel c.steps.invariant.way on c.step_along.new.kernel c.step_along.ensures.stands c.args.kernel.now.steps c.steps.invariant.on (all_of c.args.trail.now) (all_of c.steps.trail) (all_of c.step_along.new.trail) c.steps.invariant.events (c.in_ok-step_along.ensures.told _ c.steps.invariant.way.stands) in
+    let passed = c.go_on.ensures.on in
+    let g = c.go_on.ensures.meter in
+    let far = c.go_on.ensures.far in
+    let until = c.free_until-until.ensures.far in
     record {
-      way = c.pass_on.ensures.way;
+      way = c.go_on.ensures.way;
       on = omega arith;
-      far = c.pass_on.ensures.far (omega arith);
-      events = whole ∙ ap (λ (es : List Event). all_of c.args.trail.now ++ es) (sym (silent_from c.args.app.now [] c.step_along.new.kernel.steps c.pass_on.new.kernel.steps passed c.pass_on.ensures.silent c.args.kernel.now.steps));
+      far = omega arith;
+      events = more_from c.args.app.now [] c.args.kernel.now.steps c.steps.kernel.steps c.go_on.new.kernel.steps o passed (all_of c.args.trail.now) (all_of c.steps.trail) (all_of c.go_on.new.trail) c.steps.invariant.events c.in_ok-go_on.ensures.events;
       meter = omega arith;
     }
 
-pub returns-in_err-step_along-clause-way : goal.returns-in_err-step_along-clause-way
-returns-in_err-step_along-clause-way c = goes_on c.args.app.now c.well_formed-2.ensures [] c.args.limits.now c.well_formed-3.ensures c.steps.kernel c.steps.invariant.way (sym (c.in_default.ensures _ c.steps.invariant.way.stands)) c.step_along.new.kernel c.in_err-step_along.ensures.stands
-
-pub returns-in_err-step_along-clause-on : goal.returns-in_err-step_along-clause-on
-returns-in_err-step_along-clause-on c =
-    let m = steps_more c.args.app.now c.well_formed-2.ensures [] c.args.limits.now c.well_formed-3.ensures c.steps.kernel c.steps.invariant.way (sym (c.in_default.ensures _ c.steps.invariant.way.stands)) c.step_along.new.kernel c.in_err-step_along.ensures.stands in
+pub returns-in_err-go_on-clause-on : goal.returns-in_err-go_on-clause-on
+returns-in_err-go_on-clause-on c =
     let o = c.steps.invariant.on in
+    let passed = c.go_on.ensures.on in
     omega arith
 
-pub returns-in_err-step_along-clause-far : goal.returns-in_err-step_along-clause-far
-returns-in_err-step_along-clause-far c =
-    let m = steps_more c.args.app.now c.well_formed-2.ensures [] c.args.limits.now c.well_formed-3.ensures c.steps.kernel c.steps.invariant.way (sym (c.in_default.ensures _ c.steps.invariant.way.stands)) c.step_along.new.kernel c.in_err-step_along.ensures.stands in
-    let far = c.steps.invariant.far in
-    let short : c.steps.kernel.steps ≢ c.args.step = c.if-kernel-step.false in
+pub returns-in_err-go_on-clause-far : goal.returns-in_err-go_on-clause-far
+returns-in_err-go_on-clause-far c =
+    let far = c.go_on.ensures.far in
+    let until = c.free_until-until.ensures.far in
     omega arith
 
-pub returns-in_err-step_along-clause-meter : goal.returns-in_err-step_along-clause-meter
-returns-in_err-step_along-clause-meter c =
-    let m = steps_more c.args.app.now c.well_formed-2.ensures [] c.args.limits.now c.well_formed-3.ensures c.steps.kernel c.steps.invariant.way (sym (c.in_default.ensures _ c.steps.invariant.way.stands)) c.step_along.new.kernel c.in_err-step_along.ensures.stands in
-    let e = c.in_err-step_along.ensures.meter in
-    let f = c.steps.invariant.meter in
+pub returns-in_err-go_on-clause-meter : goal.returns-in_err-go_on-clause-meter
+returns-in_err-go_on-clause-meter c =
+    let e = c.steps.invariant.meter in
+    let g = c.go_on.ensures.meter in
     omega arith
-
-pub returns-in_err-step_along-clause-memory : goal.returns-in_err-step_along-clause-memory
-returns-in_err-step_along-clause-memory c =
-    let p = err_from_is_err_and c.from_residual.result c.from_residual.ensures.1 in rw p.1 (told_more c.args.app.now c.well_formed-2.ensures [] c.args.limits.now c.well_formed-3.ensures c.steps.kernel c.steps.invariant.way (sym (c.in_default.ensures _ c.steps.invariant.way.stands)) c.step_along.new.kernel c.in_err-step_along.ensures.stands (c.in_err-step_along.ensures.memory _ c.steps.invariant.way.stands))
