@@ -1,13 +1,16 @@
 -- Steps in which nothing happens but that a tick passes.
-use Rattle.std.proofs.Common.{◌≡◌, ◌<◌, ◌≤◌, ◌+◌, ◌^◌, ◌%◌, ℕ, suc, Bool, true, false, not, ◌&&◌, ◌||◌, ltb, List, [], ◌∷◌, length, map, Option, Some, None, refl, ap, sym, subst, ◌∙◌, arith, get_or-set_same}
-use Rattle.std.specs.Prelude.{◌==◌, nat_lt, if◌then◌else◌}
-use Rattle.std.specs.List.{list_any, filter}
+use Rattle.std.proofs.Common.{◌≡◌, ◌≢◌, ◌<◌, ◌≤◌, ◌+◌, ◌^◌, ◌%◌, ℕ, zero, suc, Bool, true, false, not, ◌&&◌, eqb, leb, ltb, List, [], ◌∷◌, length, get_or, Option, Some, None, refl, ap, sym, subst, ◌∙◌, arith, get_or-set_same}
+use Rattle.std.specs.Prelude.{if◌then◌else◌}
+use Rattle.std.specs.List.{filter}
 use Rattle.std.specs.Option.{is_none, is_some}
-use Rattle.std.proofs.lemmas.Bool.{le-ltb, ltb-false, ne_eqb}
+use Rattle.std.proofs.lemmas.Bool.{eq-eqb, ne_eqb}
+use Rattle.std.specs.List.Sorted.{IsNonDecreasingBy}
+use Rattle.std.proofs.lemmas.Bool.Decides.{nat_tests}
+use Rattle.std.proofs.lemmas.List.{get_or_default}
 use Rattle.model.specs.declared.event.Event.{Event}
 use Rattle.model.specs.declared.op.Op.{Op}
 use Rattle.model.specs.declared.op.Op.TheVariants.{Work}
-use Rattle.model.specs.Application.{Application, Interrupt, Limits, op_at, interrupts_at}
+use Rattle.model.specs.Application.{Application, Limits, op_at, interrupts_at}
 use Rattle.model.specs.State.{State, Progress, no_progress, progress_at}
 use Rattle.model.specs.Switching.{is_ready, slice, settle, unless_held}
 use Rattle.model.specs.Time.{increment_tick}
@@ -16,6 +19,8 @@ use Rattle.model.specs.Handlers.{interrupt, tick_interrupt}
 use Rattle.model.specs.Step.{act_if, act_current, before_step, step}
 use Rattle.model.specs.Run.{are_all_ended, end_of, is_interrupt_to_come, is_stuck}
 use Rattle.model.proofs.Settled.{when_free}
+use Rattle.model.proofs.Sorting.{by_test}
+use Rattle.model.proofs.Ticks.{filter-taken}
 use Rattle.model.proofs.Passing.{acts_calm}
 use Rattle.lists.specs.Lists.{Each, first_of, has_node}
 use Rattle.lists.proofs.Entries.{Each-imp}
@@ -49,36 +54,49 @@ none_suspended k s z h = zero_left s.suspensions (if s.call_hold then 1 else 0) 
 
 -- ---- no base interrupt comes
 
-none_at_next : (n : ℕ) (is : List Interrupt) → list_any (λ (i : Interrupt). nat_lt n i.tick) is ≡ false → filter (λ (i : Interrupt). i.tick == n + 1) is ≡ []
-none_at_next n [] none = refl
-none_at_next n (i ∷ is) none =
-    let here : ltb n i.tick ≡ false = first_false (ltb n i.tick) (list_any (λ (j : Interrupt). nat_lt n j.tick) is) none in
-    let le = ltb-false n i.tick here in
-    rw (ne_eqb i.tick (n + 1) (λ e. absurd (omega arith))) (none_at_next n is (second_false (ltb n i.tick) (list_any (λ (j : Interrupt). nat_lt n j.tick) is) none)) where
-      first_false : (a b : Bool) → a || b ≡ false → a ≡ false
-      first_false true b e = absurd (cc)
-      first_false false b e = refl
+-- Among numbers in order, none is this one, which comes after those up to an index and before all others.
+pub none_between : {X : Type 0} (n : X → ℕ) (xs : List X) (index e last t : ℕ) → ((k : ℕ) (d : X) → 0 ≤ k → k < index → leb (n (get_or xs k d)) e ≡ true) → ((k : ℕ) (d : X) → index ≤ k → k < length xs → last < n (get_or xs k d)) → e < t → t ≤ last → filter (λ x. eqb (n x) t) xs ≡ []
+none_between n xs index e last t before after more less =
+    filter-taken (λ x. eqb (n x) t) xs 0 (λ k d l m. absurd (omega arith))
+    (λ k d l m. by_test (ltb k index)
+    (λ b.
+    let low : leb (n (get_or xs k d)) e ≡ true = before k d (omega arith) (grind (arith, nat_tests)) in
+    let below : n (get_or xs k d) ≤ e = grind (arith, nat_tests) in
+    ne_eqb (n (get_or xs k d)) t (λ same. absurd (omega arith)))
+    (λ b.
+    let from : index ≤ k = grind (arith, nat_tests) in
+    let above = after k d from m in
+    ne_eqb (n (get_or xs k d)) t (λ same. absurd (omega arith))))
 
-      second_false : (a b : Bool) → a || b ≡ false → b ≡ false
-      second_false true b e = absurd (cc)
-      second_false false b e = e
+-- One is this one.
+pub some_at : {X : Type 0} (n : X → ℕ) (xs : List X) (k t : ℕ) (d : X) → k < length xs → n (get_or xs k d) ≡ t → filter (λ x. eqb (n x) t) xs ≢ []
+some_at n [] k t d l e none = absurd (omega arith)
+some_at n (x ∷ xs) zero t d l e none = let w : x ∷ filter (λ x. eqb (n x) t) xs ≡ [] = (rw (eq-eqb (n x) t e) at none) in absurd (cc)
+some_at n (x ∷ xs) (suc k) t d l e none = by_test (eqb (n x) t)
+    (λ b. let w : x ∷ filter (λ x. eqb (n x) t) xs ≡ [] = (rw b at none) in absurd (cc))
+    (λ b. some_at n xs k t d (omega arith) e (rw b at none))
 
-none_later : (n : ℕ) (is : List Interrupt) → list_any (λ (i : Interrupt). nat_lt n i.tick) is ≡ false → list_any (λ (i : Interrupt). nat_lt (n + 1) i.tick) is ≡ false
-none_later n [] none = refl
-none_later n (i ∷ is) none =
-    let here : ltb n i.tick ≡ false = first_false (ltb n i.tick) (list_any (λ (j : Interrupt). nat_lt n j.tick) is) none in
-    let le = ltb-false n i.tick here in
-    rw (later_false n i.tick le) (none_later n is (second_false (ltb n i.tick) (list_any (λ (j : Interrupt). nat_lt n j.tick) is) none)) where
-      first_false : (a b : Bool) → a || b ≡ false → a ≡ false
-      first_false true b e = absurd (cc)
-      first_false false b e = refl
+-- The first of them after a number e.
+module _ {X : Type 0} (n : X → ℕ) (xs : List X) (index e : ℕ) (x : X) (l : index < length xs) (is : x ≡ get_or xs index x) (rises : IsNonDecreasingBy n xs)
+    (before : (k : ℕ) (d : X) → 0 ≤ k → k < index → leb (n (get_or xs k d)) e ≡ true) (after : (k : ℕ) (d : X) → index ≤ k → k < length xs → leb (n (get_or xs k d)) e ≡ false) where
+  pub next_is_later : e < n x
+  next_is_later =
+      let high : leb (n (get_or xs index x)) e ≡ false = after index x (omega arith) l in
+      let above : e < n (get_or xs index x) = grind (arith, nat_tests) in
+      let same : n x ≡ n (get_or xs index x) = ap n is in
+      omega arith
 
-      second_false : (a b : Bool) → a || b ≡ false → b ≡ false
-      second_false true b e = absurd (cc)
-      second_false false b e = e
+  pub none_before_next : (t : ℕ) → e < t → t < n x → filter (λ y. eqb (n y) t) xs ≡ []
+  none_before_next t more less =
+      none_between n xs index e t t before
+      (λ k d from m.
+      let same : n x ≡ n (get_or xs index x) = ap n is in
+      let other : n (get_or xs index x) ≡ n (get_or xs index d) = ap n (get_or_default xs index x d l) in
+      let up = rises index k d from m in
+      omega arith) more (omega arith)
 
-      later_false : (n t : ℕ) → t ≤ n → ltb (n + 1) t ≡ false
-      later_false n t le = le-ltb (n + 1) t (omega arith)
+  pub some_at_next : (t : ℕ) → t ≡ n x → filter (λ y. eqb (n y) t) xs ≢ []
+  some_at_next t e none = some_at n xs index t x l (sym (ap n is) ∙ sym e) none
 
 uninterrupted : (app : Application) (s : State) → interrupts_at app s.elapsed ≡ [] → interrupt app s ≡ s
 unfolding interrupt
@@ -86,7 +104,7 @@ uninterrupted app s none = rw none refl
 
 -- ---- a tick
 
-module _ (app : Application) (k : Kernel) (z : k.sched.depth ≡ 0) (calm : k.sched.pending ≡ []) (steady : is_steady k.sched ≡ true) (none : list_any (λ (i : Interrupt). nat_lt (k.clock.age + k.clock.held) i.tick) app.interrupts ≡ false) (clock : Timeline) (a : Advances k.clock clock []) where
+module _ (app : Application) (k : Kernel) (z : k.sched.depth ≡ 0) (calm : k.sched.pending ≡ []) (steady : is_steady k.sched ≡ true) (none : interrupts_at app (k.clock.age + k.clock.held + 1) ≡ []) (clock : Timeline) (a : Advances k.clock clock []) where
   module _ (log : List Event) (s : State) (h : At k log s) where
     free : s.suspensions ≡ 0
     free = none_suspended k s z h.stands
@@ -99,7 +117,7 @@ module _ (app : Application) (k : Kernel) (z : k.sched.depth ≡ 0) (calm : k.sc
     elapsed_next = let e = come.stands.rest.clock.age in let f = a.age in let g = a.held in omega arith
 
     alone : interrupts_at app (increment_tick s).elapsed ≡ []
-    alone = rw elapsed_next (ap (map (λ (i : Interrupt). i.handler)) (none_at_next (k.clock.age + k.clock.held) app.interrupts none))
+    alone = rw elapsed_next none
 
     ticked_is : tick_interrupt app s ≡ increment_tick s
     unfolding tick_interrupt
@@ -133,7 +151,7 @@ module _ (app : Application) (limits : Limits) (count : ℕ) (k : Kernel) (q : I
   acted r h None e w =
       let idle : r.current ≡ None = sym h.stands.sched.current ∙ e in
       let t : State = tick_interrupt app r in
-      let at : At (record k { clock = clock }) [] t = tick_passed app k q.depth q.pending q.steady q.interrupts clock a [] r h in
+      let at : At (record k { clock = clock }) [] t = tick_passed app k q.depth q.pending q.steady (q.interrupts (k.clock.age + k.clock.held + 1) (omega arith) (omega arith)) clock a [] r h in
       let still : t.current ≡ None = sym at.stands.sched.current ∙ e in
       let end : At (record k { clock = clock }) [] (unless_held settle t) = settled_either (record k { clock = clock }) [] t at (settled_idle (record k { clock = clock }) [] t at still) in
       subst (λ (c : Option ℕ). At (record k { clock = clock }) [] (unless_held settle (act_current app c r))) (sym idle) end
@@ -145,7 +163,7 @@ module _ (app : Application) (limits : Limits) (count : ℕ) (k : Kernel) (q : I
       let same : p ≡ progress_at r task = h.stands.rest.progress task in
       let on : At mid [] (use_up app task n r) = used_more app k mid [] r h task e p refl n (λ f. absurd (omega arith)) refl in
       let t : State = tick_interrupt app (use_up app task n r) in
-      let at : At (record mid { clock = clock }) [] t = tick_passed app mid q.depth q.pending q.steady q.interrupts clock a [] (use_up app task n r) on in
+      let at : At (record mid { clock = clock }) [] t = tick_passed app mid q.depth q.pending q.steady (q.interrupts (k.clock.age + k.clock.held + 1) (omega arith) (omega arith)) clock a [] (use_up app task n r) on in
       let still : t.current ≡ Some task = sym at.stands.sched.current ∙ e in
       let ready : is_ready t task ≡ true = sym (on_sched.ready_same k.sched t task at.stands.sched) ∙ w.0 in
       let end : At (record mid { clock = clock }) [] (unless_held settle t) = settled_either (record mid { clock = clock }) [] t at (settled_on (record mid { clock = clock }) [] t at task still ready) in
@@ -178,12 +196,11 @@ module _ (app : Application) (limits : Limits) (count : ℕ) (k : Kernel) (q : I
   turn_on : clock.now % 2 ^ 32 + count < 2 ^ 32
   turn_on = let now = a.now in let t = q.turn in rw now (omega arith)
 
-  interrupts_on : list_any (λ (i : Interrupt). nat_lt (clock.age + clock.held) i.tick) app.interrupts ≡ false
-  interrupts_on =
+  interrupts_on : (tick : ℕ) → clock.age + clock.held < tick → tick ≤ clock.age + clock.held + count → interrupts_at app tick ≡ []
+  interrupts_on tick from upto =
       let age = a.age in
       let held = a.held in
-      let more : clock.age + clock.held ≡ k.clock.age + k.clock.held + 1 = omega arith in
-      rw more (none_later (k.clock.age + k.clock.held) app.interrupts q.interrupts)
+      q.interrupts tick (omega arith) (omega arith)
 
   still_works : (s : State) → StandsFor k s → (o : Option ℕ) → k.sched.current ≡ o → WorksOn app (suc count) k o → WorksOn app count (record k { clock = clock; progress = used_by o k.progress; steps = k.steps + 1 }) o
   still_works s h None e w = λ none. w (a.delayed ∙ none)
@@ -283,7 +300,7 @@ quiet_fewer app limits count few k le q =
       steady = q.steady;
       asleep = Each-imp (λ e. k.clock.now + count < e.1) (λ e. k.clock.now + few < e.1) k.clock.delayed_list (λ e l. omega (arith, l)) q.asleep;
       turn = omega arith;
-      interrupts = q.interrupts;
+      interrupts = λ tick from upto. q.interrupts tick from (omega arith);
       ticks = omega arith;
       steps = omega arith;
       works = by_current k.sched.current q.works;

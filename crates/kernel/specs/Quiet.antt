@@ -1,8 +1,7 @@
 -- Steps in which nothing happens but that a tick passes.
-use Rattle.std.specs.Prelude.{◌≡◌, ◌≢◌, ◌<◌, ◌≤◌, ℕ, ◌+◌, ◌^◌, ◌%◌, true, false, List, [], Option, Some, None, nat_lt, slice_set}
-use Rattle.std.specs.List.{list_any}
+use Rattle.std.specs.Prelude.{◌≡◌, ◌≢◌, ◌<◌, ◌≤◌, ℕ, ◌+◌, ◌^◌, ◌%◌, true, List, [], Option, Some, None, slice_set}
 use Rattle.model.specs.declared.op.Op.TheVariants.{Work}
-use Rattle.model.specs.Application.{Application, Interrupt, Limits, op_at}
+use Rattle.model.specs.Application.{Application, Limits, interrupts_at, op_at}
 use Rattle.model.specs.State.{Progress}
 use Rattle.lists.specs.Lists.{Each}
 use Rattle.sched.specs.Schedule.{is_ready, is_steady}
@@ -26,7 +25,7 @@ pub record IsQuiet (app : Application) (limits : Limits) (count : ℕ) (k : Kern
   pub steady : is_steady k.sched ≡ true
   pub asleep : Each (λ e. k.clock.now + count < e.1) k.clock.delayed_list
   pub turn : k.clock.now % 2 ^ 32 + count < 2 ^ 32
-  pub interrupts : list_any (λ (i : Interrupt). nat_lt (k.clock.age + k.clock.held) i.tick) app.interrupts ≡ false
+  pub interrupts : (tick : ℕ) → k.clock.age + k.clock.held < tick → tick ≤ k.clock.age + k.clock.held + count → interrupts_at app tick ≡ []
   pub ticks : k.clock.age + k.clock.held + count ≤ limits.ticks
   pub steps : k.steps + count ≤ limits.steps
   pub works : WorksOn app count k k.sched.current
