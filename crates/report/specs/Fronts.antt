@@ -1,9 +1,9 @@
 -- The front of a line: all of what it tells but its number.
 use Rattle.std.specs.Prelude.{◌≡◌, ℕ, ◌≤◌, ◌<◌, List, ◌++◌, take, codes, slice_index_or, replicate}
 use Rattle.model.specs.Application.{Application, name_of, handler_name_of}
-use Rattle.report.specs.Text.{call_front}
+use Rattle.report.specs.Text.{call_front, isr_front}
 use Rattle.report.specs.declared.label.Label.{Label}
-use Rattle.report.specs.declared.label.CallLabel.{CallLabel}
+use Rattle.report.specs.declared.label.OpLabel.{OpLabel}
 
 -- what the line of a mark says before its number
 abbrev pub mark_front : Application → ℕ → List ℕ
@@ -23,17 +23,22 @@ pub record IsLabel (label : Label) (front : List ℕ) : Type 0 where
   pub text : 0 < label.len → take label.len label.text ≡ front
 
 -- The label of a call has the front of the call that it names.
-abbrev pub IsCallLabel : Application → CallLabel → Type 0
-IsCallLabel app call = IsLabel call.label (call_front app call.task call.op_index)
+abbrev pub IsCallLabel : Application → OpLabel → Type 0
+IsCallLabel app call = IsLabel call.label (call_front app call.owner call.op_index)
+
+-- The label of a handler's op has the front of the op that it names.
+abbrev pub IsIsrLabel : Application → OpLabel → Type 0
+IsIsrLabel app isr = IsLabel isr.label (isr_front app isr.owner isr.op_index)
 
 abbrev pub blank : Label
 blank = record { text = replicate 48 0; len = 0 }
 
-abbrev pub blank_call : CallLabel
-blank_call = record { task = 0; op_index = 0; label = blank }
+abbrev pub blank_op : OpLabel
+blank_op = record { owner = 0; op_index = 0; label = blank }
 
 -- Each label is right for what it stands for.
-pub record AreLabels (app : Application) (runs marks : List Label) (calls : List CallLabel) : Type 0 where
+pub record AreLabels (app : Application) (runs marks : List Label) (calls isrs : List OpLabel) : Type 0 where
   pub of_runs : (task : ℕ) → IsLabel (slice_index_or runs task blank) (run_front app task)
   pub of_marks : (task : ℕ) → IsLabel (slice_index_or marks task blank) (mark_front app task)
-  pub of_calls : (place : ℕ) → IsCallLabel app (slice_index_or calls place blank_call)
+  pub of_calls : (place : ℕ) → IsCallLabel app (slice_index_or calls place blank_op)
+  pub of_isrs : (place : ℕ) → IsIsrLabel app (slice_index_or isrs place blank_op)

@@ -36,21 +36,21 @@ impl Label {
     }
 }
 
-/// The front of a call's line: of the call of this op by this task.
+/// The front of the line of an op: of the op of this index, of the task or the handler of this number.
 #[derive(Clone, Copy)]
-pub(crate) struct CallLabel {
-    pub(crate) task: u8,
+pub(crate) struct OpLabel {
+    pub(crate) owner: u8,
     pub(crate) op_index: u16,
     pub(crate) label: Label,
 }
 
-impl CallLabel {
+impl OpLabel {
     /// No label yet.
-    pub(crate) fn none() -> CallLabel
+    pub(crate) fn none() -> OpLabel
         ensures { result.label.len ≡ 0 }
     {
-        CallLabel {
-            task: 0,
+        OpLabel {
+            owner: 0,
             op_index: 0,
             label: Label::none(),
         }

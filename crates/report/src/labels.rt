@@ -3,7 +3,7 @@ ghost use Rattle.std.specs.Prelude.{◌≡◌, ◌<◌, ◌≤◌, ◌+◌, ◌+
 ghost use Rattle.report.specs.Text.{call_front, isr_front};
 ghost use Rattle.report.specs.Fronts.{mark_front, isr_mark_front, run_front};
 
-use crate::label::{CallLabel, Label};
+use crate::label::{Label, OpLabel};
 use crate::text::{
     push_call_front, push_isr_front, push_isr_mark_front, push_mark_front, push_run_front,
 };
@@ -11,11 +11,13 @@ use byte_io::Page;
 use model::{App, HandlerId, TaskId};
 use std::marker::Model;
 
-// How many calls are kept at once.
-const CALLS: usize = 256;
+// How many calls are kept at once, and how many ops of handlers.
+const CALLS: usize = 1024;
+
+const ISRS: usize = 128;
 
 /// The fronts of lines of an application: that of a task that runs and of a task's marks at the task's number, and that of
-/// a call at a place that several calls share, so it says which call it is of.
+/// a call, or of a handler's op, at a place that several share, so it says which op it is of.
 ///
 /// Each is right at all times. One that isn't there is spelled into the page, and kept. They stand where this value stands,
 /// and take no memory.
@@ -24,7 +26,8 @@ pub(crate) struct Labels<'a> {
     app: &'a App,
     runs: [Label; 32],
     marks: [Label; 32],
-    calls: [CallLabel; CALLS],
+    calls: [OpLabel; CALLS],
+    isrs: [OpLabel; ISRS],
 }
 
 // Clauses see the application.
@@ -36,15 +39,23 @@ impl<'a> Model for Labels<'a> {
 
     ghost view = { λ l. l.app.now };
 
-    ghost invariant = { λ l. AreLabels l.app.now l.runs l.marks l.calls };
+    ghost invariant = { λ l. AreLabels l.app.now l.runs l.marks l.calls l.isrs };
 }
 
-// The place of a call's label.
+// The place of a call's label. Calls of two tasks share none, where no script is longer than 32 ops.
 #[inline]
-fn place_of(task: TaskId, op_index: u16) -> usize
+fn call_place(task: TaskId, op_index: u16) -> usize
     ensures { result < CALLS }
 {
-    (task.number as usize * 8 + op_index as usize) % CALLS
+    (task.number as usize * 32 + op_index as usize) % CALLS
+}
+
+// The place of the label of a handler's op.
+#[inline]
+fn isr_place(handler: HandlerId, op_index: u16) -> usize
+    ensures { result < ISRS }
+{
+    (handler.number as usize * 8 + op_index as usize) % ISRS
 }
 
 impl<'a> Labels<'a> {
@@ -56,7 +67,8 @@ impl<'a> Labels<'a> {
             app,
             runs: [Label::none(); 32],
             marks: [Label::none(); 32],
-            calls: [CallLabel::none(); CALLS],
+            calls: [OpLabel::none(); CALLS],
+            isrs: [OpLabel::none(); ISRS],
         }
     }
 
@@ -107,21 +119,28 @@ impl<'a> Labels<'a> {
         ensures text { page.new ≡ page.old ++ call_front self.old task op_index }
         ensures size { length page.new ≤ length page.old + 48 }
     {
-        let call = &self.calls[place_of(task, op_index)];
-        if call.label.len == 0 || call.task != task.number || call.op_index != op_index {
+        let call = &self.calls[call_place(task, op_index)];
+        if call.label.len == 0 || call.owner != task.number || call.op_index != op_index {
             self.spell_call(page, task, op_index);
         } else {
             page.push_front(&call.label.text, call.label.len as usize);
         }
     }
 
-    /// Adds what the line of a handler's op says before its answer. It isn't kept.
-    pub(crate) fn push_isr(&self, page: &mut Page, handler: HandlerId, op_index: u16)
+    /// Adds what the line of a handler's op says before its answer.
+    #[inline]
+    pub(crate) fn push_isr(&mut self, page: &mut Page, handler: HandlerId, op_index: u16)
         requires { length page.old + 48 ≤ Page.SIZE }
-        ensures text { page.new ≡ page.old ++ isr_front self.now handler op_index }
+        ensures app { self.new ≡ self.old }
+        ensures text { page.new ≡ page.old ++ isr_front self.old handler op_index }
         ensures size { length page.new ≤ length page.old + 48 }
     {
-        push_isr_front(page, self.app, handler, op_index);
+        let isr = &self.isrs[isr_place(handler, op_index)];
+        if isr.label.len == 0 || isr.owner != handler.number || isr.op_index != op_index {
+            self.spell_isr(page, handler, op_index);
+        } else {
+            page.push_front(&isr.label.text, isr.label.len as usize);
+        }
     }
 
     /// Adds what the line of a handler's mark says before its number. It isn't kept.
@@ -170,8 +189,26 @@ impl<'a> Labels<'a> {
         let start = page.bytes().len();
         push_call_front(page, self.app, task, op_index);
         let label = Label::of(page.bytes(), start);
-        self.calls[place_of(task, op_index)] = CallLabel {
-            task: task.number,
+        self.calls[call_place(task, op_index)] = OpLabel {
+            owner: task.number,
+            op_index,
+            label,
+        };
+    }
+
+    // Spells and keeps the front of a handler's op.
+    #[inline(never)]
+    fn spell_isr(&mut self, page: &mut Page, handler: HandlerId, op_index: u16)
+        requires { length page.old + 48 ≤ Page.SIZE }
+        ensures app { self.new ≡ self.old }
+        ensures text { page.new ≡ page.old ++ isr_front self.old handler op_index }
+        ensures size { length page.new ≤ length page.old + 48 }
+    {
+        let start = page.bytes().len();
+        push_isr_front(page, self.app, handler, op_index);
+        let label = Label::of(page.bytes(), start);
+        self.isrs[isr_place(handler, op_index)] = OpLabel {
+            owner: handler.number,
             op_index,
             label,
         };

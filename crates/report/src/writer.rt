@@ -15,7 +15,7 @@ use std::marker::Model;
 
 /// The report of a campaign or of one run, as it is being written: what is still to go out, and what lines have in common.
 ///
-/// It takes no memory, and stands in about 25 kB: make it once for a report. Each call on a writer requires that this has not
+/// It takes no memory, and stands in about 75 kB: make it once for a report. Each call on a writer requires that this has not
 /// failed. At `Err` the writer failed or took none of some bytes, it has taken a beginning of what was still to go out and of
 /// what was added, and the report is of no more use.
 #[derive(Drop)]
@@ -195,6 +195,14 @@ impl<'a> ReportWriter<'a> {
         ensures failed { W.has_failed writer.new ≡ is_err result }
     {
         add_total_line(writer, &mut self.page, totals)
+    }
+
+    /// Forgets what is still to go out. A report that is of no more use begins anew by it.
+    pub fn clear(&mut self)
+        ensures app { self.new.app ≡ self.old.app }
+        ensures empty { self.new.page ≡ [] }
+    {
+        self.page.clear();
     }
 
     /// Sends out what is left.
