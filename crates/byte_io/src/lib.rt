@@ -2,6 +2,7 @@
 #![tactic(auto)]
 
 mod add;
+mod buffer;
 mod line;
 mod numeral;
 mod page;
@@ -12,6 +13,7 @@ mod std_io;
 mod stream;
 
 pub use add::{add_text, flush, make_room};
+pub use buffer::Buffer;
 pub use line::{Piece, write_line};
 pub use numeral::Numeral;
 pub use page::Page;

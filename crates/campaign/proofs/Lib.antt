@@ -1,11 +1,13 @@
 mod Blocks
 pub mod Counters
+mod Cursors
 mod Determined
 mod Ends
 pub mod Faulty
 mod Jobs
 mod Keeping
 mod Multiplicity
+mod Pieces
 mod Placed
 mod Sending
 mod Started

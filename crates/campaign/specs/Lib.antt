@@ -3,6 +3,7 @@ pub mod Kinds
 pub mod Made
 pub mod OneRun
 pub mod Options
+pub mod Pieces
 pub mod Placing
 pub mod Points
 pub mod Report

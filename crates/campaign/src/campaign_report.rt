@@ -21,6 +21,19 @@ pub struct Report {
     rows: Rows,
 }
 
+impl Rows {
+    ghost use Rattle.std.specs.Prelude.{length};
+    ghost use Rattle.campaign.specs.Report.{whole, IsSound};
+
+    /// How many rows there are.
+    pub(crate) fn count(&self) -> usize
+        requires { IsSound self.now }
+        ensures { result ≡ length (whole self.now) }
+    {
+        self.totals.rows as usize
+    }
+}
+
 // Clauses see the rows as a whole.
 impl Model for Report {
     ghost use Rattle.std.specs.Prelude.{List};

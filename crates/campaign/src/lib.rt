@@ -4,17 +4,21 @@
 
 mod at;
 mod campaign_report;
+mod cursor;
 mod file;
 mod gate;
 mod gathering;
 mod making;
 mod one_run;
 mod options;
+mod piece;
 mod placing;
 mod points;
 mod recent;
 mod rows;
 mod serving;
+mod side_by_side;
+mod speller;
 mod tallying;
 mod worker;
 mod writing;

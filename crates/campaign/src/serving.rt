@@ -1,5 +1,5 @@
 //! From the bytes of a file to the report of its campaign.
-ghost use Rattle.std.specs.Prelude.{◌≡◌, ◌≤◌, false, length, IfOk, MatchResult};
+ghost use Rattle.std.specs.Prelude.{◌≡◌, ◌<◌, ◌≤◌, false, length, IfOk, MatchResult};
 ghost use Rattle.model.specs.Campaign.{AreRows};
 ghost use Rattle.model.specs.Scripts.{most_points};
 ghost use Rattle.campaign.specs.Campaigns.{AreRowsOf, IsCampaignFault, ServesCampaign};
@@ -33,6 +33,14 @@ impl From<ExpandFault> for ServeFault {
     }
 }
 
+// How many workers there are.
+fn workers_of(options: &Options) -> usize
+    ensures some { 0 < result }
+    ensures few { result ≤ 64 }
+{
+    options.workers.clamp(1, Options::MOST_WORKERS) as usize
+}
+
 // The report of these points, whose rows are counted by a tally of its own.
 fn report_from<R: Threads + Wait + Sync, G: Gate + Sync>(
     rt: &R,
@@ -47,7 +55,7 @@ fn report_from<R: Threads + Wait + Sync, G: Gate + Sync>(
     requires few { length points.now ≤ most_points }
     ensures { IfOk result (λ report. AreRows app.now shelf.limits points.now report) }
 {
-    let workers = options.workers.clamp(1, Options::MOST_WORKERS) as usize;
+    let workers = workers_of(&options);
     let block = options.block.clamp(1, Options::MOST_BLOCK) as usize;
     let Ok(division) = Division::even(alloc, points.len(), block) else {
         return Err(Memory);
@@ -100,7 +108,7 @@ pub fn serve_watched<T: Threads + Wait + Sync, R: Source, W: Sink, G: Gate + Syn
 {
     let app = app_of(alloc, reader)?;
     let report = report_of(rt, alloc, &app, options, gate)?;
-    write_report_in(alloc, &app, &report, writer)?;
+    write_report_in(rt, alloc, &app, &report, workers_of(&options), writer)?;
     Ok(report.totals())
 }
 

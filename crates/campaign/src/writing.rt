@@ -1,18 +1,32 @@
 //! The text of a campaign's report, to a sink.
-ghost use Rattle.std.specs.Prelude.{◌≡◌, ◌≤◌, ◌+◌, false, [], length, MatchResult};
+ghost use Rattle.std.specs.Prelude.{◌≡◌, ◌≤◌, ◌<◌, ◌+◌, false, [], length, OnOk};
 ghost use Rattle.std.specs.Result.{is_err};
-ghost use Rattle.byte_io.specs.Bytes.{Adds, Sent, SentFront, Writes};
+ghost use Rattle.byte_io.specs.Bytes.{Adds, Writes};
 ghost use Rattle.kernel.specs.Logged.{all_of};
 ghost use Rattle.model.specs.Scripts.{most_points};
-ghost use Rattle.report.specs.Text.{row_text, rows_text, campaign_text};
+ghost use Rattle.model.specs.Campaign.{totals_of};
+ghost use Rattle.report.specs.Text.{row_text, rows_text, total_text, campaign_text};
 ghost use Rattle.campaign.specs.Report.{row_of, rows_in, whole, AreKept, IsKept, IsSound};
+ghost use Rattle.campaign.specs.Pieces.{piece_text, AreOf, IsPiece};
 
 use crate::campaign_report::{Report, Rows};
+use crate::piece::Piece;
 use crate::rows::{KeptRow, Part};
+use crate::side_by_side::{spellers_of, write_in_rounds};
+use crate::speller::Speller;
 use byte_io::{Sink, WriteFault};
 use model::{App, Ending, Event, Run};
 use report::{BaseEvents, ReportWriter, Title};
 use std::alloc::Global;
+use std::thread::Threads;
+
+// How long the texts of pieces are that threads spell, in bytes.
+const LEAST_PIECE: usize = 1 << 16;
+
+const MOST_PIECE: usize = 1 << 20;
+
+// No text that is longer than this is kept in memory, in bytes.
+const MOST_TEXT: usize = 1 << 24;
 
 // Adds a row of this number to a report: its events are the first so many of the base run's, and then its own.
 fn add_row<W: Sink>(
@@ -79,30 +93,30 @@ fn add_place<W: Sink>(
     Ok(())
 }
 
-// Adds the rows to a report of which nothing is added yet, numbered from 0.
-fn add_rows<W: Sink>(
+// Adds the rows of a piece.
+fn add_piece<W: Sink>(
     writer: &mut W,
     text: &mut ReportWriter<'_>,
     rows: &Rows,
     events: &BaseEvents<'_>,
+    piece: Piece,
 ) -> Result<(), WriteFault>
     requires working { W.has_failed writer.old ≡ false }
     requires app { events.now.app ≡ text.old.app }
     requires base { events.now.events ≡ rows.now.base.events }
     requires sound { IsSound rows.now }
-    requires empty { text.old.page ≡ [] }
+    requires piece { IsPiece rows.now piece }
     ensures app { text.new.app ≡ text.old.app }
-    ensures text { MatchResult result
-        (λ _. Sent (W.held writer.old) (W.held writer.new)
-        (rows_text text.old.app 0 (whole rows.now)) text.new.page)
-        (λ _. SentFront (W.held writer.old) (W.held writer.new)
-        (rows_text text.old.app 0 (whole rows.now))) }
+    ensures text { Adds (W.held writer.old) (W.held writer.new) text.old.page text.new.page result
+        (piece_text text.old.app rows.now piece) }
     ensures failed { W.has_failed writer.new ≡ is_err result }
 {
-    let mut number = 0;
-    let parts = rows.parts.as_slice();
-    for place in &rows.places {
-        let part = &parts[place.part];
+    let mut cursor = piece.from;
+    let end = cursor.number + piece.count;
+    while cursor.number < end {
+        let number = cursor.number;
+        let place = cursor.take(rows, end - number);
+        let part = &rows.parts[place.part];
         add_place(
             writer,
             text,
@@ -113,9 +127,47 @@ fn add_rows<W: Sink>(
             place.first,
             place.count,
         )?;
-        number += place.count;
     }
     Ok(())
+}
+
+/// Writes the rows of a piece by way of this report, of which nothing is still to go out, neither before nor afterwards.
+pub(crate) fn write_piece<W: Sink>(
+    writer: &mut W,
+    text: &mut ReportWriter<'_>,
+    rows: &Rows,
+    events: &BaseEvents<'_>,
+    piece: Piece,
+) -> Result<(), WriteFault>
+    requires working { W.has_failed writer.old ≡ false }
+    requires app { events.now.app ≡ text.old.app }
+    requires base { events.now.events ≡ rows.now.base.events }
+    requires sound { IsSound rows.now }
+    requires piece { IsPiece rows.now piece }
+    requires empty { text.old.page ≡ [] }
+    ensures app { text.new.app ≡ text.old.app }
+    ensures text { Writes (W.held writer.old) (W.held writer.new) result (piece_text text.old.app rows.now piece) }
+    ensures empty { OnOk result (text.new.page ≡ []) }
+    ensures failed { W.has_failed writer.new ≡ is_err result }
+{
+    add_piece(writer, text, rows, events, piece)?;
+    text.finish(writer)
+}
+
+// Writes the line of the totals of these rows, which ends the report.
+fn write_totals<W: Sink>(
+    writer: &mut W,
+    text: &mut ReportWriter<'_>,
+    rows: &Rows,
+) -> Result<(), WriteFault>
+    requires working { W.has_failed writer.old ≡ false }
+    requires sound { IsSound rows.now }
+    requires empty { text.old.page ≡ [] }
+    ensures text { Writes (W.held writer.old) (W.held writer.new) result (total_text (totals_of (whole rows.now))) }
+    ensures failed { W.has_failed writer.new ≡ is_err result }
+{
+    text.add_totals(writer, &rows.totals)?;
+    text.finish(writer)
 }
 
 // Writes the rows and the line of their totals. These are the events of the base run.
@@ -134,9 +186,34 @@ fn write_rows<W: Sink>(
     ensures failed { W.has_failed writer.new ≡ is_err result }
 {
     let mut text = ReportWriter::new(app);
-    add_rows(writer, &mut text, rows, events)?;
-    text.add_totals(writer, &rows.totals)?;
-    text.finish(writer)
+    write_piece(writer, &mut text, rows, events, Piece::all(rows))?;
+    write_totals(writer, &mut text, rows)
+}
+
+// The same, with pieces of some so many bytes that these spellers spell.
+fn write_rows_in_rounds<R: Threads + Sync, W: Sink>(
+    rt: &R,
+    app: &App,
+    rows: &Rows,
+    events: &BaseEvents<'_>,
+    spellers: &mut [Speller<'_>],
+    bytes: usize,
+    writer: &mut W,
+) -> Result<(), WriteFault>
+    requires some { 0 < length spellers.old }
+    requires bytes { 0 < bytes }
+    requires working { W.has_failed writer.old ≡ false }
+    requires app { events.now.app ≡ app.now }
+    requires its { AreOf app.now spellers.old }
+    requires base { events.now.events ≡ rows.now.base.events }
+    requires sound { IsSound rows.now }
+    ensures text { Writes (W.held writer.old) (W.held writer.new) result
+        (campaign_text app.now (whole rows.now)) }
+    ensures failed { W.has_failed writer.new ≡ is_err result }
+{
+    let mut text = ReportWriter::new(app);
+    write_in_rounds(rt, spellers, bytes, writer, &mut text, rows, events)?;
+    write_totals(writer, &mut text, rows)
 }
 
 /// Writes the report of a campaign: its rows, numbered from 0, and the line of their totals. The report is of this application.
@@ -152,12 +229,28 @@ pub fn write_report<W: Sink>(app: &App, report: &Report, writer: &mut W) -> Resu
     write_rows(app, rows, &events, writer)
 }
 
+// How many bytes of text a speller spells in a round, where there are so many: some 64 kB, and where the rows' own events take
+// much memory, more, but with all spellers together not a thirtieth of it.
+fn length_of_pieces(rows: &Rows, spellers: usize) -> usize
+    requires { 0 < spellers }
+    ensures { 0 < result }
+{
+    let mut events: usize = 0;
+    for part in &rows.parts {
+        events = events.saturating_add(part.trail.len());
+    }
+    (events / spellers).clamp(LEAST_PIECE, MOST_PIECE)
+}
+
 /// Writes the report of a campaign as `write_report` does, and faster: it takes memory for the text of the base run's events,
-/// with which rows begin, and spells for each row what it gets no memory for.
-pub(crate) fn write_report_in<W: Sink>(
+/// with which rows begin, and has so many threads spell rows, where that are several. What it gets no memory for is spelled for
+/// each row, and on this thread.
+pub(crate) fn write_report_in<R: Threads + Sync, W: Sink>(
+    rt: &R,
     alloc: Global,
     app: &App,
     report: &Report,
+    threads: usize,
     writer: &mut W,
 ) -> Result<(), WriteFault>
     requires { W.has_failed writer.old ≡ false }
@@ -167,5 +260,12 @@ pub(crate) fn write_report_in<W: Sink>(
 {
     let rows = report.rows();
     let events = BaseEvents::spelled(alloc, app, rows.base.events.as_slice());
-    write_rows(app, rows, &events, writer)
+    if threads < 2 {
+        return write_rows(app, rows, &events, writer);
+    }
+    let bytes = length_of_pieces(rows, threads);
+    let Ok(mut spellers) = spellers_of(alloc, app, threads, MOST_TEXT) else {
+        return write_rows(app, rows, &events, writer);
+    };
+    write_rows_in_rounds(rt, app, rows, &events, &mut spellers, bytes, writer)
 }

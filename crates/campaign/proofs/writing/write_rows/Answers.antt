@@ -1,23 +1,20 @@
-use Rattle.std.proofs.Common.{refl}
+use Rattle.std.proofs.Common.{ap₂, refl, subst}
 use Rattle.std.proofs.lemmas.Result.{MatchResult-from_err}
-use Rattle.campaign.proofs.Sending.{rows_of_report, totals_of_report, whole_report}
+use Rattle.std.specs.Io.KnownBytes.{Appends}
+use Rattle.byte_io.specs.Bytes.{SentFront}
+use Rattle.report.specs.Text.{rows_text}
+use Rattle.campaign.proofs.Sending.{rows_and_totals, rows_of_report}
 use Rattle.campaign.proofs.writing.write_rows.Goals as goal
 
-pub returns-in_err-add_rows-clause-text : goal.returns-in_err-add_rows-clause-text
-returns-in_err-add_rows-clause-text g c =
-    let sent = rw c.new-text.ensures.app at c.in_err-add_rows.ensures.text in
+pub returns-in_err-write_piece-clause-text : goal.returns-in_err-write_piece-clause-text
+returns-in_err-write_piece-clause-text g c =
+    let app = c.args.app.now in
+    let text = ap₂ (rows_text app) c.all.ensures.from c.all.ensures.rows in
     MatchResult-from_err c.from_residual.result _ _ c.from_residual.ensures.0
-    (λ y. rows_of_report c.args.app.now _ _ _ _ refl sent)
-
-pub returns-in_err-add_totals-clause-text : goal.returns-in_err-add_totals-clause-text
-returns-in_err-add_totals-clause-text g c =
-    let rows = rw c.new-text.ensures.app at c.in_ok-add_rows.ensures.text in
-    let totals = rw c.requires.sound.counted at c.in_err-add_totals.ensures.text in
-    MatchResult-from_err c.from_residual-in_err-add_totals.result _ _ c.from_residual-in_err-add_totals.ensures.0
-    (λ y. totals_of_report c.args.app.now _ _ _ _ _ _ refl rows totals)
+    (λ y. rows_of_report app _ _ _ _ refl (subst (SentFront _ _) text (rw c.new-text.ensures.app at c.in_err-write_piece.ensures.text)))
 
 pub returns-clause-text : goal.returns-clause-text
 returns-clause-text g c =
-    let rows = rw c.new-text.ensures.app at c.in_ok-add_rows.ensures.text in
-    let totals = rw c.requires.sound.counted at c.in_ok-add_totals.ensures.text in
-    whole_report c.args.app.now _ _ _ _ _ _ _ _ _ refl rows totals c.finish.ensures.text
+    let app = c.args.app.now in
+    let text = ap₂ (rows_text app) c.all.ensures.from c.all.ensures.rows in
+    rows_and_totals app _ _ _ _ _ (subst (Appends _ _) text (rw c.new-text.ensures.app at c.in_ok-write_piece.ensures.text)) c.write_totals.ensures.text

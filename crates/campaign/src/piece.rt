@@ -1,0 +1,81 @@
+//! A piece of a report's rows.
+ghost use Rattle.std.specs.Prelude.{◌≡◌, ◌≤◌, ◌<◌, ◌+◌, length};
+ghost use Rattle.campaign.specs.Report.{whole, IsPlace, IsSound};
+ghost use Rattle.campaign.specs.Pieces.{piece_rows, IsAt, IsPiece};
+
+use crate::campaign_report::Rows;
+use crate::cursor::Cursor;
+use crate::rows::Place;
+
+// At most so many rows are taken for as long as the first of them, where the text of a piece is guessed.
+const MOST_ALIKE: usize = 16;
+
+/// So many rows of a report, from the cursor on.
+#[derive(Clone, Copy, Debug, PartialEq, Eq)]
+pub(crate) struct Piece {
+    pub(crate) from: Cursor,
+    pub(crate) count: usize,
+}
+
+// A guess at how many bytes the text of the first row of a place takes: 32 for each line.
+fn guess(rows: &Rows, place: &Place) -> usize
+    requires place { IsPlace rows.now.parts.items place.now }
+    requires some { 0 < place.now.count }
+    ensures { 0 < result }
+{
+    let row = &rows.parts[place.part].kept[place.first];
+    let own = row.own_to.saturating_sub(row.own_from);
+    let lines = row.shared.saturating_add(own).saturating_add(1);
+    lines.saturating_mul(32)
+}
+
+impl Piece {
+    /// No row.
+    pub(crate) fn none() -> Piece {
+        Piece {
+            from: Cursor::start(),
+            count: 0,
+        }
+    }
+
+    /// All rows.
+    pub(crate) fn all(rows: &Rows) -> Piece
+        requires { IsSound rows.now }
+        ensures piece { IsPiece rows.now result }
+        ensures from { result.from.number ≡ 0 }
+        ensures rows { piece_rows rows.now result ≡ whole rows.now }
+    {
+        Piece {
+            from: Cursor::start(),
+            count: rows.count(),
+        }
+    }
+
+    /// The rows behind the cursor whose text takes some so many bytes, or all that are left. The cursor goes over them. How long
+    /// a text is, is a guess.
+    pub(crate) fn next(cursor: &mut Cursor, rows: &Rows, bytes: usize) -> Piece
+        requires sound { IsSound rows.now }
+        requires at { IsAt rows.now cursor.old }
+        requires some { 0 < bytes }
+        ensures at { IsAt rows.now cursor.new }
+        ensures piece { IsPiece rows.now result }
+        ensures from { result.from ≡ cursor.old }
+        ensures number { cursor.new.number ≡ cursor.old.number + result.count }
+        ensures more { cursor.old.number < length (whole rows.now) → 0 < result.count }
+    {
+        let from = *cursor;
+        let total = rows.count();
+        let mut most = 1;
+        let mut left = bytes;
+        while left > 0 && cursor.number < total {
+            let place = cursor.take(rows, most);
+            let each = guess(rows, &place);
+            left = left.saturating_sub(each.saturating_mul(place.count));
+            most = (left / each).clamp(1, MOST_ALIKE);
+        }
+        Piece {
+            from,
+            count: cursor.number - from.number,
+        }
+    }
+}
