@@ -1,5 +1,6 @@
 """Named cases, each in a folder of its own: a line for each, and then 'N passed, M failed'."""
 import os
+import signal
 import tempfile
 
 CASES, LONG, AWAITED = [], [], []
@@ -50,6 +51,9 @@ def holds(text, part):
 
 def run_cases(start, is_long=False):
     """Starts each case by a call with its function and a new folder, and returns the status for all."""
+    # a shell that starts the tests in the background has these ignored, and so would be what they start
+    signal.signal(signal.SIGINT, signal.default_int_handler)
+    signal.signal(signal.SIGHUP, signal.SIG_DFL)
     passed = failed = 0
     for function in LONG if is_long else CASES:
         name = getattr(function, "told_as", function.__name__.replace("_", " "))
