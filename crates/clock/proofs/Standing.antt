@@ -19,7 +19,7 @@ use Rattle.model.specs.declared.call.CallProgress.{CallProgress}
 use Rattle.model.specs.declared.call.WaitList.{WaitList}
 use Rattle.model.specs.Waiting.{wait_in}
 use Rattle.model.specs.Groups.{wait_for_bits}
-use Rattle.model.proofs.Sound.{ready_awake}
+use Rattle.model.proofs.Statuses.{ready_awake}
 use Rattle.model.proofs.Tables.{below_delayed, table-make_ready, table-set, table-taken, ticket_at}
 use Rattle.lists.specs.Lists.{Each, EachOnce, IsSorted, has_node, insert_sorted, without}
 use Rattle.lists.proofs.Entries.{EachOnce-insert_sorted, EachOnce-without, IsSorted-insert_sorted, IsSorted-without, Each-imp, apart_from_test, has_node-other, has_node-same, has_node-without_other, has_or_not, insert_sorted-after, insert_sorted-before, without-apart, without-same}

@@ -8,7 +8,7 @@ use Rattle.model.specs.Switching.{is_ready, make_ready, to_back}
 use Rattle.model.specs.Mutexes.{set_priority}
 use Rattle.model.specs.Invariant.{HasTicketBelow}
 use Rattle.model.proofs.Sorting.{by_test}
-use Rattle.model.proofs.Sound.{ready_awake}
+use Rattle.model.proofs.Statuses.{ready_awake}
 use Rattle.model.proofs.Tables.{table-make_ready, table-set, ticket_at}
 use Rattle.clock.specs.Timeline.{Timeline}
 use Rattle.clock.specs.StandsFor.{StandsFor}

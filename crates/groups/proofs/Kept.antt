@@ -10,8 +10,7 @@ use Rattle.model.specs.Mutexes.{set_priority}
 use Rattle.model.specs.Suspension.{can_resume, resume, resumed}
 use Rattle.model.specs.Invariant.{IsTable}
 use Rattle.model.proofs.Sorting.{by_test}
-use Rattle.model.proofs.Sound.{each-set}
-use Rattle.model.proofs.Tables.{table-set, ticket_at}
+use Rattle.model.proofs.Tables.{each-set, table-set, ticket_at}
 use Rattle.groups.specs.EventGroups.{EventGroups}
 use Rattle.groups.specs.StandsFor.{SameBitWaits, StandsFor, bits_wait}
 use Rattle.groups.proofs.Keys.{ready_free_of_bits}

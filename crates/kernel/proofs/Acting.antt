@@ -16,7 +16,7 @@ use Rattle.model.specs.Switching.{write, yield_now, is_ready}
 use Rattle.model.specs.Time.{sleep, set_previous_wake}
 use Rattle.model.specs.Ops.{go_to, moved_to, complete, called, answer, use_up, delay, delay_until, expect, open_loop, turn, close_turn}
 use Rattle.model.proofs.Sorting.{by_test}
-use Rattle.model.proofs.Frames.{keeps-answer, keeps-sleep}
+use Rattle.soundness.proofs.Frames.{keeps-answer, keeps-sleep}
 use Rattle.kernel.specs.Loops.{after_turn, next_turn}
 use Rattle.kernel.specs.declared.kernel.Kernel.{Kernel}
 use Rattle.sched.specs.Schedule.{Schedule, block}

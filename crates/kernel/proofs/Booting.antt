@@ -15,9 +15,9 @@ use Rattle.model.specs.Time.{delayed_key, due}
 use Rattle.model.specs.Step.{task_at_reset, with_ops, is_empty, reset, nobody_ready, ready_at_reset}
 use Rattle.model.proofs.Sorting.{by_test}
 use Rattle.model.proofs.Lists.{eqb-refl, eqb-same, eqb-apart}
-use Rattle.model.proofs.Chosen.{choice_within, each-end}
-use Rattle.model.proofs.Frames.{keeps-all_ready}
-use Rattle.model.proofs.Settled.{same_eq, held_by_none}
+use Rattle.model.proofs.Chosen.{choice_within, each-end, same_eq}
+use Rattle.soundness.proofs.Frames.{keeps-all_ready}
+use Rattle.soundness.proofs.Settled.{held_by_none}
 use Rattle.task_lists.specs.Priorities.{with_priorities}
 use Rattle.sched.specs.StandsFor as sched
 use Rattle.sched.specs.Schedule as schedule
@@ -29,7 +29,7 @@ use Rattle.clock.proofs.Standing as on_clock
 use Rattle.std.proofs.Math.ListN.{length-set}
 use Rattle.std.specs.Prelude.{None}
 use Rattle.model.proofs.Tables.{table-make_ready}
-use Rattle.model.proofs.Reached.{with_ops_within}
+use Rattle.soundness.proofs.Reached.{with_ops_within}
 use Rattle.kernel.specs.declared.kernel.Kernel.{Kernel}
 use Rattle.kernel.specs.StandsFor.{progress_in, StandsFor}
 use Rattle.kernel.specs.Boot.{priorities_in, HasNoneFrom}
@@ -41,8 +41,8 @@ use Rattle.groups.specs.StandsFor.{bits_wait, SameBitWaits}
 use Rattle.groups.proofs.Standing as on_groups
 use Rattle.groups.proofs.Kept as bits_kept
 use Rattle.model.specs.Invariant.{Hold, Suspension, IsTable}
-use Rattle.model.proofs.Reached.{call-reset}
-use Rattle.model.proofs.Sound.{free_unwoken}
+use Rattle.model.proofs.Resets.{call-reset}
+use Rattle.model.proofs.Statuses.{free_unwoken}
 use Rattle.objects.specs.Queues as queues
 use Rattle.objects.specs.Queues.{Exchange, SameWaits}
 use Rattle.objects.specs.WaitersStand.{AtLocked}

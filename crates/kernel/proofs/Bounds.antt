@@ -20,15 +20,15 @@ use Rattle.model.specs.Scripts.{may_stand, fits_object, is_in_range, is_wait, kn
 use Rattle.model.specs.State.{State, Progress, Wait, wait_of, task_at, progress_at, call_at, status_at}
 use Rattle.model.specs.Run.{end_of, or_else, are_all_ended, is_stuck}
 use Rattle.model.specs.Invariant.{IsState, IsUsedBy, IsRunning, IsPlacing, IsWaitOf, RunsIn, InOne, ToSetBits, course, IsPhaseOf, hold_of, holds, Suspension}
-use Rattle.model.proofs.InScripts.{script_formed, stands_at, known_at, range_at}
-use Rattle.model.proofs.Sound.{ready_reckoned}
-use Rattle.model.proofs.Frames.{keeps-all_ready, keeps-before_step}
-use Rattle.model.proofs.Reached.{reached_before_step, start_only}
+use Rattle.soundness.proofs.InScripts.{script_formed, stands_at, known_at, range_at}
+use Rattle.soundness.proofs.Sound.{ready_reckoned}
+use Rattle.soundness.proofs.Frames.{keeps-all_ready, keeps-before_step}
+use Rattle.soundness.proofs.Reached.{reached_before_step, start_only}
 use Rattle.model.specs.Step.{before_step, nobody_ready, ready_at_reset, reset, with_ops}
 use Rattle.sched.proofs.Standing as on_sched
 use Rattle.objects.specs.declared.lock.Lock.{Lock}
 use Rattle.objects.specs.Queues.{locked_by}
-use Rattle.model.proofs.Handled.{and_left, and_right}
+use Rattle.soundness.proofs.Handled.{and_left, and_right}
 use Rattle.objects.proofs.Sizes.{has_room}
 use Rattle.kernel.specs.declared.kernel.Kernel.{Kernel}
 use Rattle.kernel.specs.StandsFor.{StandsFor, StandsBefore, Stands, decider, progress_in}

@@ -19,7 +19,7 @@ use Rattle.model.specs.Invariant.{IsTable}
 use Rattle.model.proofs.Sorting.{by_test}
 use Rattle.model.proofs.Lists.{eqb-refl, eqb-same}
 use Rattle.model.proofs.Tables.{ticket_at, table-set}
-use Rattle.model.proofs.Sound.{ready_free}
+use Rattle.model.proofs.Statuses.{ready_free}
 use Rattle.sched.specs.StandsFor as sched
 use Rattle.sched.specs.Schedule.{Schedule, IsCalm}
 use Rattle.sched.proofs.Standing as on_sched

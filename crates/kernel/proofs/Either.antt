@@ -8,7 +8,7 @@ use Rattle.model.specs.declared.op.Op.TheVariants.{Await, SuspendAll}
 use Rattle.model.specs.Application.{Application}
 use Rattle.model.specs.Calls.{await}
 use Rattle.model.specs.Step.{act, act_unless, own_misuse, misuse}
-use Rattle.model.proofs.Passing.{acts_calm}
+use Rattle.soundness.proofs.Passing.{acts_calm}
 use Rattle.model.specs.declared.event.Event.{Event}
 use Rattle.model.specs.State.{State, Progress, progress_at, call_at}
 use Rattle.kernel.specs.declared.kernel.Kernel.{Kernel}

@@ -24,8 +24,8 @@ use Rattle.model.specs.Step.{act}
 use Rattle.model.specs.Invariant.{Suspension}
 use Rattle.model.proofs.Sorting.{by_test}
 use Rattle.model.proofs.Lists.{HasKey, list_has}
-use Rattle.model.proofs.Sound.{ready_free}
-use Rattle.model.proofs.Frames.{keeps-all_ready}
+use Rattle.model.proofs.Statuses.{ready_free}
+use Rattle.soundness.proofs.Frames.{keeps-all_ready}
 use Rattle.lists.specs.Lists.{place_of}
 use Rattle.sched.specs.StandsFor as sched
 use Rattle.sched.specs.Schedule.{Schedule, IsCalm}

@@ -13,15 +13,15 @@ use Rattle.model.specs.Scripts.{fits_object, IsHandler, IsWellFormed, knows_isr}
 use Rattle.model.specs.State.{State, for_each}
 use Rattle.model.specs.declared.event.Event.{Event}
 use Rattle.model.specs.Switching.{is_held, preempt, write}
-use Rattle.model.proofs.Settled.{when_free, when_held, held_by_call}
+use Rattle.soundness.proofs.Settled.{when_free, when_held, held_by_call}
 use Rattle.model.specs.Objects.{answer_to, attempt}
 use Rattle.model.specs.Handlers.{isr_told, isr, isr_each, handle, inject}
 use Rattle.model.proofs.Chosen.{each-end}
-use Rattle.model.proofs.InScripts.{isr_known}
+use Rattle.soundness.proofs.InScripts.{isr_known}
 use Rattle.kernel.specs.declared.kernel.Kernel.{Kernel}
 use Rattle.kernel.specs.StandsFor.{Stands, At, AtAny}
 use Rattle.kernel.proofs.Either.{any, either}
-use Rattle.model.proofs.Handled.{and_left}
+use Rattle.soundness.proofs.Handled.{and_left}
 use Rattle.kernel.specs.Can.{HasIsrObject, HasObjects, Leaves}
 
 -- ---- an op

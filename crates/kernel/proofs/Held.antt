@@ -17,10 +17,10 @@ use Rattle.model.specs.Handlers.{interrupt, tick_interrupt}
 use Rattle.model.specs.Step.{act, act_unless, is_ended, judge, may_switch, misuse, misused}
 use Rattle.model.specs.Invariant.{Hold, Suspension}
 use Rattle.model.proofs.Sorting.{by_test}
-use Rattle.model.proofs.Frames.{keeps-answer}
-use Rattle.model.proofs.Settled.{when_free, when_held}
-use Rattle.model.proofs.Passing.{applies}
-use Rattle.model.proofs.Going.{current-resumed, resumed_apart, suspended_held}
+use Rattle.soundness.proofs.Frames.{keeps-answer}
+use Rattle.soundness.proofs.Settled.{when_free, when_held}
+use Rattle.soundness.proofs.Passing.{applies}
+use Rattle.soundness.proofs.Going.{current-resumed, resumed_apart, suspended_held}
 use Rattle.sched.specs.StandsFor as sched
 use Rattle.sched.specs.StandsFor.{depth_of}
 use Rattle.sched.specs.Schedule.{Schedule}

@@ -14,8 +14,8 @@ use Rattle.model.specs.Ops.{moved_to}
 use Rattle.model.specs.Invariant.{IsTable}
 use Rattle.model.proofs.Sorting.{by_test}
 use Rattle.model.proofs.Lists.{eqb-refl, eqb-same}
-use Rattle.model.proofs.Tables.{ticket_at, table-set, table-taken, table-make_ready}
-use Rattle.model.proofs.Sound.{ready_awake, ready_free, each-set}
+use Rattle.model.proofs.Tables.{ticket_at, table-set, table-taken, table-make_ready, each-set}
+use Rattle.model.proofs.Statuses.{ready_awake, ready_free}
 use Rattle.sched.specs.Schedule.{Schedule, block}
 use Rattle.sched.specs.Schedule as schedule
 use Rattle.sched.proofs.Standing as on_sched

@@ -7,15 +7,15 @@ use Rattle.model.specs.Switching.{is_ready, to_back}
 use Rattle.model.specs.Mutexes.{set_priority, mutexes_held, lend, inherit_from, inherit, best_priority, fall_back, after_timeout, disinherit}
 use Rattle.model.specs.Invariant.{Suspension}
 use Rattle.model.proofs.Sorting.{by_test}
-use Rattle.model.proofs.Sound.{each-set}
-use Rattle.model.proofs.Frames.{keeps-set_priority}
+use Rattle.model.proofs.Tables.{each-set}
+use Rattle.soundness.proofs.Frames.{keeps-set_priority}
 use Rattle.model.specs.declared.call.WaitList.TheVariants.{ToReceive}
 use Rattle.model.specs.declared.op.Op.TheVariants.{GiveMutex}
 use Rattle.model.specs.Application.{Application}
 use Rattle.model.specs.Mutexes.{give_mutex}
 use Rattle.model.specs.Ops.{answer}
 use Rattle.model.specs.Step.{act_unless, misuse, misused, own_misuse}
-use Rattle.model.proofs.Passing.{acts_calm}
+use Rattle.soundness.proofs.Passing.{acts_calm}
 use Rattle.model.specs.Switching.{preempt}
 use Rattle.model.specs.Waiting.{wake_best}
 use Rattle.model.specs.State.{with_object}

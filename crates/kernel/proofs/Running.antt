@@ -13,7 +13,7 @@ use Rattle.model.specs.Step.{act_unless, misuse, act_if, act_current, step, rese
 use Rattle.model.specs.declared.plan.Point.{Point}
 use Rattle.model.specs.Run.{Run, IsRun, end_of, injected, state_after, events_after}
 use Rattle.model.proofs.Injected.{from_one_more, goes_on_with, no_fewer}
-use Rattle.model.proofs.Passing.{elapsed-reset, elapsed-step}
+use Rattle.soundness.proofs.Passing.{elapsed-reset, elapsed-step}
 use Rattle.kernel.specs.declared.kernel.Kernel.{Kernel}
 use Rattle.kernel.specs.Logged.{Logged, all_of}
 use Rattle.kernel.specs.StandsFor.{Stands, AtAny, DoesAny, progress_in}
@@ -21,7 +21,7 @@ use Rattle.kernel.specs.Can.{CanStep, IsUnderWay}
 use Rattle.kernel.specs.Rows.{Extends, events_from}
 use Rattle.kernel.specs.Over.{is_over}
 use Rattle.kernel.proofs.Either.{steps_are, elapsed_is, current_is, progress_is}
-use Rattle.model.proofs.Reached.{reached_after, suspensions_after}
+use Rattle.soundness.proofs.Reached.{reached_after, suspensions_after}
 use Rattle.kernel.proofs.Bounds.{below_limits, steps-reset}
 use Rattle.kernel.proofs.Ending.{goes_if_not_over, not_over_if_going}
 

@@ -21,7 +21,7 @@ use Rattle.model.specs.Waiting.{is_locked, wait_key}
 use Rattle.model.specs.Invariant.{IsTable}
 use Rattle.model.proofs.Sorting.{by_test}
 use Rattle.model.proofs.Lists.{eqb-refl, eqb-same}
-use Rattle.model.proofs.Sound.{each-set}
+use Rattle.model.proofs.Tables.{each-set}
 use Rattle.lists.specs.Lists.{without}
 use Rattle.lists.proofs.Entries.{has_node-without_other}
 use Rattle.sched.specs.StandsFor as sched

@@ -10,8 +10,8 @@ use Rattle.model.specs.State.{State, printed, for_one}
 use Rattle.model.specs.Switching.{choice, dispatch, choose, yield_now, to_back, make_ready, is_ready, is_outranked, is_sharing, is_same, preempt, slice, settle, is_off, is_held, unless_held, write}
 use Rattle.model.specs.Invariant.{IsTable}
 use Rattle.model.proofs.Sorting.{by_test}
-use Rattle.model.proofs.Settled.{when_held, when_free, held_by_call}
 use Rattle.model.proofs.Lists.{eqb-refl}
+use Rattle.soundness.proofs.Settled.{when_held, when_free, held_by_call}
 use Rattle.sched.specs.StandsFor as sched
 use Rattle.sched.specs.Schedule as schedule
 use Rattle.sched.specs.Schedule.{Schedule}

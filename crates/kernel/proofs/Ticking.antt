@@ -18,10 +18,10 @@ use Rattle.model.specs.Ops.{use_up}
 use Rattle.model.specs.Handlers.{interrupt, tick_interrupt}
 use Rattle.model.specs.Step.{act_if, act_current, before_step, step}
 use Rattle.model.specs.Run.{are_all_ended, end_of, is_interrupt_to_come, is_stuck}
-use Rattle.model.proofs.Settled.{when_free}
 use Rattle.model.proofs.Sorting.{by_test}
 use Rattle.model.proofs.Ticks.{filter-taken}
-use Rattle.model.proofs.Passing.{acts_calm}
+use Rattle.soundness.proofs.Settled.{when_free}
+use Rattle.soundness.proofs.Passing.{acts_calm}
 use Rattle.lists.specs.Lists.{Each, first_of, has_node}
 use Rattle.lists.proofs.Entries.{Each-imp}
 use Rattle.sched.specs.Schedule.{is_steady, lined_up}

@@ -11,8 +11,8 @@ use Rattle.model.specs.Switching.{is_ready, make_ready}
 use Rattle.model.specs.Waiting.{awakened, wait_key, unlock, unlock_object}
 use Rattle.model.specs.Invariant.{Suspension}
 use Rattle.model.proofs.Lists.{HasKey, list_has}
-use Rattle.model.proofs.Frames.{keeps-all_ready}
 use Rattle.model.proofs.Unlocking.{current-all_ready}
+use Rattle.soundness.proofs.Frames.{keeps-all_ready}
 use Rattle.sched.specs.StandsFor as sched
 use Rattle.sched.specs.Schedule as schedule
 use Rattle.sched.specs.Schedule.{Schedule}

@@ -12,8 +12,8 @@ use Rattle.model.specs.Time.{delayed_key, delayed_list, is_due, due, wake_due, a
 use Rattle.model.proofs.Sorting.{by_test}
 use Rattle.model.proofs.Lists.{eqb-refl}
 use Rattle.model.proofs.Chosen.{each-end, list_within}
-use Rattle.model.proofs.Sound.{each-set}
-use Rattle.model.proofs.Frames.{keeps-all_ready}
+use Rattle.model.proofs.Tables.{each-set}
+use Rattle.soundness.proofs.Frames.{keeps-all_ready}
 use Rattle.lists.specs.Lists.{Each}
 use Rattle.sched.specs.StandsFor as sched
 use Rattle.sched.specs.Schedule as schedule

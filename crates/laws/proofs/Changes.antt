@@ -39,9 +39,9 @@ use Rattle.model.specs.Step.{is_ended, judge, act, misuse, act_unless, act_if, a
 use Rattle.model.specs.Run.{injected, state_after}
 use Rattle.model.proofs.Sorting.{by_test}
 use Rattle.model.proofs.Lists.{eqb-refl, eqb-same}
-use Rattle.model.proofs.Settled.{when_held, when_free}
-use Rattle.model.proofs.Frames.{keeps-answer, keeps-all_ready, keeps-inherit}
-use Rattle.model.proofs.Inheriting.{reranks-inherit}
+use Rattle.soundness.proofs.Settled.{when_held, when_free}
+use Rattle.soundness.proofs.Frames.{keeps-answer, keeps-all_ready, keeps-inherit}
+use Rattle.soundness.proofs.Inheriting.{reranks-inherit}
 use Rattle.laws.proofs.Choice.{at_index, All-from_in_order}
 
 -- ---- what every step keeps, if four kinds of change keep it

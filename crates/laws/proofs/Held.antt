@@ -5,8 +5,8 @@ use Rattle.model.specs.State.{State}
 use Rattle.model.specs.Switching.{is_held, preempt}
 use Rattle.model.specs.Handlers.{handle, inject}
 use Rattle.model.specs.Invariant.{Hold, Suspension}
-use Rattle.model.proofs.Settled.{when_held}
-use Rattle.model.proofs.Handled.{spares-handle}
+use Rattle.soundness.proofs.Settled.{when_held}
+use Rattle.soundness.proofs.Handled.{spares-handle}
 
 pub same_runs : (app : Application) (handler : ℕ) (s : State) → is_held s ≡ true → (inject app handler s).current ≡ s.current
 unfolding inject

@@ -29,16 +29,17 @@ use Rattle.model.specs.Step.{is_ended, judge, act, misuse, act_unless, act_if, a
 use Rattle.model.specs.Run.{injected, state_after}
 use Rattle.model.proofs.Sorting.{by_test, Falls, Falls-in_order, IsAfter}
 use Rattle.model.proofs.Lists.{HasKey, list_has}
-use Rattle.model.proofs.Settled.{same_eq, when_held, when_free}
-use Rattle.model.proofs.Passing.{held-told}
-use Rattle.model.proofs.Bits.{stays-set}
-use Rattle.model.proofs.Handled.{spares-handle}
-use Rattle.model.proofs.Reached.{reached_after, reached_before_step}
+use Rattle.model.proofs.Chosen.{same_eq}
+use Rattle.soundness.proofs.Settled.{when_held, when_free}
+use Rattle.soundness.proofs.Passing.{held-told}
+use Rattle.soundness.proofs.Bits.{stays-set}
+use Rattle.soundness.proofs.Handled.{spares-handle}
+use Rattle.soundness.proofs.Reached.{reached_after, reached_before_step}
 use Rattle.model.specs.Invariant.{IsState, RunsIn}
 use Rattle.model.specs.Scripts.{IsWellFormed}
-use Rattle.model.proofs.Inheriting.{reranks-after_timeout, reranks-inherit}
 use Rattle.model.proofs.Unlocking.{opened_by, current-all_ready}
-use Rattle.model.proofs.Going.{current-resumed}
+use Rattle.soundness.proofs.Inheriting.{reranks-after_timeout, reranks-inherit}
+use Rattle.soundness.proofs.Going.{current-resumed}
 use Rattle.model.specs.Order.{keyed}
 use Rattle.laws.specs.Choice.{IsChoice}
 use Rattle.laws.proofs.Choice.{choice_is, key_is, none_ready}

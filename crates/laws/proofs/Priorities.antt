@@ -11,8 +11,8 @@ use Rattle.model.specs.Switching.{make_ready}
 use Rattle.model.specs.Time.{due, wake_due}
 use Rattle.model.specs.Step.{nobody_ready, task_at_reset}
 use Rattle.model.specs.Run.{state_after}
-use Rattle.model.proofs.Reached.{reached_after}
-use Rattle.model.proofs.Sound.{each-set}
+use Rattle.model.proofs.Tables.{each-set}
+use Rattle.soundness.proofs.Reached.{reached_after}
 use Rattle.laws.proofs.Changes.{Stays, kept_after}
 
 -- ---- base priorities are those at reset

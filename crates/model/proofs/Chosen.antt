@@ -1,13 +1,13 @@
 -- The entries of a list are tasks, and so are the choice and those who are due.
-use Rattle.std.proofs.Common.{◌≡◌, ◌<◌, ℕ, Bool, List, [], ◌∷◌, ◌++◌, length, Option, refl}
+use Rattle.std.proofs.Common.{◌≡◌, ◌<◌, ℕ, Bool, List, [], ◌∷◌, ◌++◌, length, Option, refl, true, Some, None, ap}
 use Rattle.std.specs.List.{filter, AllByRecursion}
 use Rattle.std.specs.Option.{IfSome}
 use Rattle.model.specs.State.{State, Task, for_each}
 use Rattle.model.specs.Order.{Key, Entry, list_by, first, task_of, tasks_of}
-use Rattle.model.specs.Switching.{ready_list, ready_key, choice}
+use Rattle.model.specs.Switching.{ready_list, ready_key, choice, is_same}
 use Rattle.model.specs.Time.{delayed_list, delayed_key, due, is_due}
 use Rattle.model.proofs.Sorting.{by_test}
-use Rattle.model.proofs.Lists.{HasKey, list_has}
+use Rattle.model.proofs.Lists.{HasKey, list_has, eqb-same}
 
 within_list : (f : Task → Option Key) (ts : List Task) (es : List Entry) → AllByRecursion (HasKey f ts) es → AllByRecursion (λ (e : Entry). e.task < length ts) es
 within_list f ts [] h = tt
@@ -34,3 +34,9 @@ due_within s = due_within_list (length s.tasks) (is_due s) (delayed_list s) (lis
 pub each-end : {A : Type 0} (deed : A → State → State) (s : State) (xs : List A) (x : A) → for_each deed (xs ++ x ∷ []) s ≡ deed x (for_each deed xs s)
 each-end deed s [] x = refl
 each-end deed s (y ∷ xs) x = each-end deed (deed y s) xs x
+
+pub same_eq : (a b : Option ℕ) → is_same a b ≡ true → a ≡ b
+same_eq None None t = refl
+same_eq None (Some j) t = absurd (cc)
+same_eq (Some i) None t = absurd (cc)
+same_eq (Some i) (Some j) t = ap Some (eqb-same i j t)

@@ -1,14 +1,17 @@
 -- The table stays in order: tickets are below the next one, and so on.
-use Rattle.std.proofs.Common.{◌<◌, ◌+◌, ℕ, zero, suc, List, [], ◌∷◌, Option, Some, None, arith, get_or, set}
+use Rattle.std.proofs.Common.{◌<◌, ◌+◌, ℕ, zero, suc, List, [], ◌∷◌, Option, Some, None, arith, get_or, set, ◌≢◌, length}
 use Rattle.std.specs.List.{AllByRecursion, cons_option}
 use Rattle.std.specs.Option.{IfSome, is_some}
 use Rattle.std.specs.Prelude.{if◌then◌else◌}
 use Rattle.std.proofs.Math.ListN.{length-set}
-use Rattle.model.specs.State.{State, Task, Status, Ready, Awake, Waiting, Asleep, WaitingForBits, Suspended, Ended, ticket_of, task_at, with_task, take_ticket, no_task}
+use Rattle.model.specs.State.{State, Task, Status, Ready, Awake, Waiting, Asleep, WaitingForBits, Suspended, Ended, ticket_of, task_at, with_task, take_ticket, no_task, Object}
 use Rattle.model.specs.Order.{Key, key}
 use Rattle.model.specs.Switching.{ready_key, make_ready}
 use Rattle.model.specs.Time.{delayed_key}
 use Rattle.model.specs.Invariant.{HasTicketBelow, AllTicketsBelow, IsTable}
+use Rattle.model.specs.declared.op.Access.{Access}
+use Rattle.model.specs.declared.op.Access.TheVariants.{Send, SendFront, Overwrite, Receive, Peek, Take, Give, Lock}
+use Rattle.model.specs.Objects.{object_after}
 use Rattle.model.proofs.Lists.{Below}
 
 abbrev KeyBelow : ℕ → Option Key → Type 0
@@ -77,3 +80,30 @@ table-taken s i f h b = record {
 
 pub table-make_ready : (s : State) (i : ℕ) → IsTable s → IsTable (make_ready i s)
 table-make_ready s i h = table-taken s i Ready h (omega arith)
+
+-- what holds of every other place holds of each where one was changed
+pub each-set_but : {A : Type 0} (none : A) (P : ℕ → A → Type 0) (xs : List A) (i : ℕ) (x : A) → i < length xs → P i x → ((j : ℕ) → j ≢ i → P j (get_or xs j none)) → (j : ℕ) → P j (get_or (set xs i x) j none)
+each-set_but none P [] i x l p h j = absurd (omega arith)
+each-set_but none P (y ∷ ys) zero x l p h zero = p
+each-set_but none P (y ∷ ys) zero x l p h (suc j) = h (suc j) (λ e. omega arith)
+each-set_but none P (y ∷ ys) (suc i) x l p h zero = h zero (λ e. omega arith)
+each-set_but none P (y ∷ ys) (suc i) x l p h (suc j) = each-set_but none (λ k. P (suc k)) ys i x (omega arith) p (λ k ne. h (suc k) (λ e. ne (omega arith))) j
+
+-- what holds of each place still holds where one was changed
+pub each-set : {A : Type 0} (none : A) (P : ℕ → A → Type 0) (xs : List A) (i : ℕ) (x : A) → P i x → ((j : ℕ) → P j (get_or xs j none)) → (j : ℕ) → P j (get_or (set xs i x) j none)
+each-set none P [] i x p h j = h j
+each-set none P (y ∷ ys) zero x p h zero = p
+each-set none P (y ∷ ys) zero x p h (suc j) = h (suc j)
+each-set none P (y ∷ ys) (suc i) x p h zero = h zero
+each-set none P (y ∷ ys) (suc i) x p h (suc j) = each-set none (λ k. P (suc k)) ys i x p (λ k. h (suc k)) j
+
+-- who holds the object after a call is the caller, or who held it
+pub held_after : (caller : Option ℕ) (a : Access) (o : Object) (tasks : ℕ) → IfSome caller (λ i. i < tasks) → IfSome o.holder (λ i. i < tasks) → IfSome (object_after caller a o).holder (λ i. i < tasks)
+held_after caller (Send v) o tasks l h = h
+held_after caller (SendFront v) o tasks l h = h
+held_after caller (Overwrite v) o tasks l h = h
+held_after caller Receive o tasks l h = h
+held_after caller Peek o tasks l h = h
+held_after caller Take o tasks l h = h
+held_after caller Give o tasks l h = h
+held_after caller Lock o tasks l h = l

@@ -1,20 +1,22 @@
 -- Who was Awake is Ready after an unlock.
-use Rattle.std.proofs.Common.{◌≡◌, ◌<◌, ◌≤◌, ◌||◌, ℕ, zero, suc, true, false, eqb, arith, List, [], ◌∷◌, ◌++◌, length, get_or, Option, Some, None, refl, ap, sym, subst, ◌∙◌, get_or-set_same}
+use Rattle.std.proofs.Common.{◌≡◌, ◌<◌, ◌||◌, ℕ, zero, suc, true, false, eqb, arith, List, [], ◌∷◌, ◌++◌, length, get_or, Option, Some, None, refl, ap, sym, subst, ◌∙◌, get_or-set_same}
 use Rattle.std.specs.Prelude.{Bool}
-use Rattle.std.specs.List.{AllByRecursion}
 use Rattle.std.specs.Option.{IfSome, option_and_then, is_some}
 use Rattle.std.proofs.Math.ListN.{length-set}
 use Rattle.model.specs.declared.call.WaitList.{WaitList}
 use Rattle.model.specs.declared.call.WaitList.TheVariants.{ToReceive, ToSend}
-use Rattle.model.specs.State.{State, Task, Status, Wait, Ready, Awake, Waiting, Asleep, WaitingForBits, Suspended, Ended, ticket_if_ready, wait_if_awake, task_at, status_at, progress_at, for_each, no_task}
+use Rattle.model.specs.State.{State, Task, Wait, Ready, ticket_if_ready, wait_if_awake, task_at, status_at, progress_at, for_each, no_task}
 use Rattle.model.specs.Order.{Key, Entry, key, tasks_of}
 use Rattle.model.specs.Switching.{is_ready, make_ready}
-use Rattle.model.specs.Waiting.{same_list, wait_key, awakened, is_locked, unlock_object}
-use Rattle.model.specs.Invariant.{IsReckoned}
+use Rattle.model.specs.Waiting.{same_list, wait_key, awakened, is_locked}
+use Rattle.model.specs.declared.op.Access.{Access}
+use Rattle.model.specs.declared.op.Access.TheVariants.{Send, SendFront, Overwrite, Receive, Peek, Take, Give, Lock}
+use Rattle.model.specs.Objects.{list_for}
 use Rattle.model.proofs.Sorting.{by_test}
-use Rattle.model.proofs.Lists.{HasKey, eqb-refl, eqb-same, list_has}
+use Rattle.model.proofs.Lists.{eqb-refl, eqb-same}
 use Rattle.model.proofs.Members.{has_task, has_task-key}
-use Rattle.model.proofs.Sound.{CanBeReady, each-set}
+use Rattle.model.proofs.Tables.{each-set}
+use Rattle.model.proofs.Statuses.{ready_not_woken}
 
 same_list-refl : (list : WaitList) → same_list list list ≡ true
 same_list-refl (ToReceive o) = eqb-refl o
@@ -59,20 +61,11 @@ not_woken_still s (j ∷ js) i n =
     let P : ℕ → Task → Type 0 = λ k t. k ≡ i → wait_if_awake t.status ≡ None in
     not_woken_still (make_ready j s) js i (each-set no_task P s.tasks j (record (task_at s j) { status = Ready s.next_ticket }) (λ _. refl) (λ k e. subst (λ (m : ℕ). wait_if_awake (status_at s m) ≡ None) (sym e) n) i refl)
 
-ready_not_woken : (u : Status) → is_some (ticket_if_ready u) ≡ true → wait_if_awake u ≡ None
-ready_not_woken (Ready n) t = refl
-ready_not_woken (Awake w) t = absurd (cc)
-ready_not_woken (Waiting w) t = refl
-ready_not_woken (Asleep v n) t = refl
-ready_not_woken (WaitingForBits g m d) t = refl
-ready_not_woken Suspended t = refl
-ready_not_woken Ended t = refl
-
 -- those whom the unlock of an object makes Ready
 abbrev pub opened_by : State → ℕ → List ℕ
 opened_by s o = tasks_of (awakened s (ToReceive o)) ++ tasks_of (awakened s (ToSend o))
 
-awake_key : WaitList → Task → Option Key
+unfoldable pub awake_key : WaitList → Task → Option Key
 awake_key list t = option_and_then (wait_key list) (wait_if_awake t.status)
 
 awake_keyed : (s : State) (i : ℕ) (w : Wait) → wait_if_awake (status_at s i) ≡ Some w → awake_key w.list (task_at s i) ≡ Some (key w.priority w.ticket)
@@ -122,34 +115,29 @@ still_at s (j ∷ js) i =
     let own : j ≡ i → progress_at s j ≡ progress_at s i = ap (progress_at s) in
     still_at (make_ready j s) js i ∙ each-set no_task P s.tasks j (record (task_at s j) { status = Ready s.next_ticket }) own (λ k. ap (progress_at s)) i refl
 
-awake_reckoned : (list : WaitList) (now previous : ℕ) (u : Status) (k : Key) → option_and_then (wait_key list) (wait_if_awake u) ≡ Some k → IsReckoned now previous u → previous ≤ now
-awake_reckoned list now p (Ready n) k e h = absurd (cc)
-awake_reckoned list now p (Awake w) k e h = h
-awake_reckoned list now p (Waiting w) k e h = absurd (cc)
-awake_reckoned list now p (Asleep v n) k e h = absurd (cc)
-awake_reckoned list now p (WaitingForBits g m d) k e h = absurd (cc)
-awake_reckoned list now p Suspended k e h = absurd (cc)
-awake_reckoned list now p Ended k e h = absurd (cc)
-
--- those who are woken can be Ready
-can_all : (s : State) (list : WaitList) (es : List Entry) → ((i : ℕ) → IsReckoned s.time (progress_at s i).previous_wake (status_at s i)) → AllByRecursion (HasKey (awake_key list) s.tasks) es → AllByRecursion (CanBeReady s) (tasks_of es)
-unfolding awake_key
-can_all s list [] r has = tt
-can_all s list (e ∷ es) r has = ((has.0.within, awake_reckoned list s.time (progress_at s e.task).previous_wake (status_at s e.task) e.key has.0.key (r e.task)), can_all s list es r has.1)
-
-can_both : (s : State) (js ks : List ℕ) → AllByRecursion (CanBeReady s) js → AllByRecursion (CanBeReady s) ks → AllByRecursion (CanBeReady s) (js ++ ks)
-can_both s [] ks a b = b
-can_both s (j ∷ js) ks a b = (a.0, can_both s js ks a.1 b)
-
-pub opened_can : (s : State) (o : ℕ) → ((i : ℕ) → IsReckoned s.time (progress_at s i).previous_wake (status_at s i)) → AllByRecursion (CanBeReady s) (opened_by s o)
-unfolding awake_key
-opened_can s o r = can_both s (tasks_of (awakened s (ToReceive o))) (tasks_of (awakened s (ToSend o)))
-    (can_all s (ToReceive o) (awakened s (ToReceive o)) r (list_has (awake_key (ToReceive o)) s.tasks))
-    (can_all s (ToSend o) (awakened s (ToSend o)) r (list_has (awake_key (ToSend o)) s.tasks))
-
-pub unlocked_by : (s : State) (o : ℕ) → unlock_object o s ≡ for_each make_ready (opened_by s o) (record s { locked = None })
-unlocked_by s o = refl
+pub locked-all_ready : (s : State) (js : List ℕ) → (for_each make_ready js s).locked ≡ s.locked
+locked-all_ready s [] = refl
+locked-all_ready s (j ∷ js) = locked-all_ready (make_ready j s) js
 
 pub current-all_ready : (s : State) (js : List ℕ) → (for_each make_ready js s).current ≡ s.current
 current-all_ready s [] = refl
 current-all_ready s (j ∷ js) = current-all_ready (make_ready j s) js
+
+-- where nothing is locked nobody is Awake
+unlocked_none : (list : WaitList) → is_locked None list ≡ true → ⊥
+unlocked_none (ToReceive o) t = absurd (cc)
+unlocked_none (ToSend o) t = absurd (cc)
+
+pub none_awake : (locked : Option ℕ) (o : Option Wait) → locked ≡ None → IfSome o (λ w. is_locked locked w.list ≡ true) → o ≡ None
+none_awake locked None e h = refl
+none_awake locked (Some w) e h = absurd (unlocked_none w.list (subst (λ l. is_locked l w.list ≡ true) e h))
+
+pub is_locked-own : (o : ℕ) (a : Access) → is_locked (Some o) (list_for o a) ≡ true
+is_locked-own o (Send v) = eqb-refl o
+is_locked-own o (SendFront v) = eqb-refl o
+is_locked-own o (Overwrite v) = eqb-refl o
+is_locked-own o Receive = eqb-refl o
+is_locked-own o Peek = eqb-refl o
+is_locked-own o Take = eqb-refl o
+is_locked-own o Give = eqb-refl o
+is_locked-own o Lock = eqb-refl o

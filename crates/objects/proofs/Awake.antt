@@ -13,10 +13,8 @@ use Rattle.model.specs.Calls.{lock}
 use Rattle.model.specs.Waiting.{awaken, awake_status, is_locked, same_list, unlock, unlock_object, wait_in, wait_key, waiters, wake_best, wake_one}
 use Rattle.model.proofs.Sorting.{by_test}
 use Rattle.model.proofs.Lists.{HasKey, eqb-refl, eqb-same, list_has}
-use Rattle.model.proofs.Sound.{each-set}
-use Rattle.model.proofs.Called.{none_awake}
-use Rattle.model.proofs.Handled.{is_locked-own}
-use Rattle.model.proofs.Unlocking.{none_left}
+use Rattle.model.proofs.Tables.{each-set}
+use Rattle.model.proofs.Unlocking.{none_awake, is_locked-own, none_left}
 use Rattle.objects.specs.WaitersStand.{AtLocked, Decider}
 use Rattle.objects.specs.Queues.{SameWaits}
 use Rattle.objects.proofs.Deciding.{others_as_before, waits_now}

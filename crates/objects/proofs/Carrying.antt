@@ -8,8 +8,7 @@ use Rattle.model.specs.declared.op.Access.{Access}
 use Rattle.model.specs.declared.op.Access.TheVariants.{Send, SendFront, Overwrite, Receive, Peek, Take, Give, Lock}
 use Rattle.model.specs.State.{State, Object, no_object, object_at, with_object}
 use Rattle.model.specs.Objects.{allows, object_after}
-use Rattle.model.proofs.Called.{held_after}
-use Rattle.model.proofs.Sound.{each-set}
+use Rattle.model.proofs.Tables.{held_after, each-set}
 use Rattle.objects.specs.Items.{object_in}
 use Rattle.objects.specs.WaitersStand.{Decider}
 use Rattle.objects.specs.Queues.{Exchange, HasRoom, StandsFor}

@@ -11,7 +11,8 @@ use Rattle.model.specs.Order.{Key, Entry, in_order, keyed}
 use Rattle.model.specs.Switching.{make_ready, to_back, is_ready}
 use Rattle.model.specs.Invariant.{IsTable}
 use Rattle.model.proofs.Sorting.{by_test}
-use Rattle.model.proofs.Sound.{each-set, free_unwoken, ready_free}
+use Rattle.model.proofs.Tables.{each-set}
+use Rattle.model.proofs.Statuses.{free_unwoken, ready_free}
 use Rattle.task_lists.specs.Priorities.{with_priorities}
 use Rattle.objects.specs.declared.lock.Lock.{Lock}
 use Rattle.objects.specs.WaitersStand.{Decider, FirstAwake, is_awake, standing}

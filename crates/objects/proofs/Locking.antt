@@ -9,10 +9,9 @@ use Rattle.model.specs.Order.{Entry, first, task_of, tasks_of}
 use Rattle.model.specs.Switching.{make_ready}
 use Rattle.model.specs.Mutexes.{best_priority}
 use Rattle.model.specs.Waiting.{awakened, is_locked, unlock, unlock_object, waiters, wake_best, wake_one}
-use Rattle.model.specs.Invariant.{Hold}
-use Rattle.model.proofs.Frames.{keeps-all_ready}
 use Rattle.model.proofs.Sorting.{by_test}
 use Rattle.model.proofs.Lists.{eqb-same}
+use Rattle.model.proofs.Unlocking.{locked-all_ready}
 use Rattle.objects.specs.declared.lock.Lock.{Lock}
 use Rattle.objects.specs.Items.{object_in}
 use Rattle.task_lists.specs.Priorities.{with_priorities}
@@ -65,7 +64,7 @@ stands_unlocked v w s l h e stand =
     let one : StandsFor (record { objects = v.objects; waiting = w; lock = None }) None (unlock_object l.object s) = record {
       objects = λ k. h.objects k ∙ sym (ap (λ (os : List Object). object_in os k) (objects-all_ready js (opened s)));
       waiters = own;
-      locked = sym (ap (λ (hold : Hold). hold.locked) (keeps-all_ready js (opened s)).hold);
+      locked = sym (locked-all_ready (opened s) js);
       counts = tt;
     } in
     subst (λ (x : Option ℕ). StandsFor (record { objects = v.objects; waiting = w; lock = None }) None (for_one unlock_object x s)) is one

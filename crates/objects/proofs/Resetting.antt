@@ -13,13 +13,12 @@ use Rattle.model.specs.Order.{Entry}
 use Rattle.model.specs.Switching.{make_ready}
 use Rattle.model.specs.Step.{nobody_ready, object_at_reset, ready_at_reset, reset, with_ops}
 use Rattle.model.specs.Waiting.{wait_key}
-use Rattle.model.specs.Invariant.{Hold, IsTable}
+use Rattle.model.specs.Invariant.{IsTable}
 use Rattle.model.proofs.Chosen.{choice_within}
-use Rattle.model.proofs.Frames.{keeps-all_ready}
 use Rattle.model.proofs.Lists.{HasKey, list_has}
-use Rattle.model.proofs.Reached.{call-reset, holders-reset, none_taken}
-use Rattle.model.proofs.Sound.{each-set}
-use Rattle.model.proofs.Tables.{table-make_ready}
+use Rattle.model.proofs.Resets.{call-reset, holders-reset, none_taken}
+use Rattle.model.proofs.Tables.{each-set, table-make_ready}
+use Rattle.model.proofs.Unlocking.{locked-all_ready}
 use Rattle.objects.specs.Items.{object_in}
 use Rattle.objects.specs.Semaphores.{Counts, count_in, max_count_in}
 use Rattle.objects.specs.Mutexes.{holder_in}
@@ -105,7 +104,7 @@ objects-reset app = objects-all_ready (with_ops 0 app.tasks) (nobody_ready app)
 
 locked-reset : (app : Application) → (reset app).locked ≡ None
 unfolding reset ready_at_reset nobody_ready
-locked-reset app = ap (λ (hold : Hold). hold.locked) (keeps-all_ready (with_ops 0 app.tasks) (nobody_ready app)).hold
+locked-reset app = locked-all_ready (nobody_ready app) (with_ops 0 app.tasks)
 
 -- ---- the whole
 

@@ -19,10 +19,8 @@ use Rattle.model.specs.Invariant.{HasTicketBelow, IsTable}
 use Rattle.model.proofs.Sorting.{All-filtered, Falls, Falls-in_order, IsAfter, before_false, before_true, by_test}
 use Rattle.model.proofs.Lists.{list-entered, list-gone, list-kept, list_below, other}
 use Rattle.model.proofs.Members.{has_task, has_task-key, has_task-none}
-use Rattle.model.proofs.Tables.{below_ready, table-make_ready, table-set, table-taken, ticket_at}
-use Rattle.model.proofs.Chosen.{choice_within}
-use Rattle.model.proofs.Settled.{same_eq}
-use Rattle.model.proofs.Sound.{each-set}
+use Rattle.model.proofs.Tables.{below_ready, table-make_ready, table-set, table-taken, ticket_at, each-set}
+use Rattle.model.proofs.Chosen.{choice_within, same_eq}
 use Rattle.lists.specs.Lists.{Each, first_of, has_node, without}
 use Rattle.lists.proofs.Entries.{apart_from_test, has_node-without_other, without-apart}
 use Rattle.task_lists.specs.Priorities.{with_priorities}

@@ -6,7 +6,7 @@ use Rattle.std.specs.Option.{is_some}
 use Rattle.std.proofs.lemmas.Bool.{cases_eq, le-ltb, eq-eqb, ne_eqb}
 use Rattle.std.proofs.lemmas.List.{get_or_default, get_or-set_other, get_or-set_same, length-map, length-set, same_lists, set-get_or}
 use Rattle.model.specs.Switching.{is_same}
-use Rattle.model.proofs.Settled.{same_eq}
+use Rattle.model.proofs.Chosen.{same_eq}
 use Rattle.lists.specs.Lists.{Apart, Each, EachOnce, IsSound, entries_of, first_of, has_node, rotated, second_of, without}
 use Rattle.lists.proofs.Entries.{first_split, no_first}
 use Rattle.lists.proofs.Laws.{entries_of-set_other, entries_of-set_same, has_first, without-first, without-others}

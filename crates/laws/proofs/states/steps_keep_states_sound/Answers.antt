@@ -2,8 +2,8 @@ use Rattle.std.proofs.Common.{◌≤◌, ℕ, suc, List, arith}
 use Rattle.model.specs.Application.{Application}
 use Rattle.model.specs.State.{State}
 use Rattle.model.specs.Step.{step}
-use Rattle.model.proofs.Passing.{suspensions-step}
-use Rattle.model.proofs.Reached.{reached_step}
+use Rattle.soundness.proofs.Passing.{suspensions-step}
+use Rattle.soundness.proofs.Reached.{reached_step}
 use Rattle.laws.proofs.states.steps_keep_states_sound.Goals as goal
 
 pub returns-clause-sound : goal.returns-clause-sound

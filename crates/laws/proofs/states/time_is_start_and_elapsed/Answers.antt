@@ -1,4 +1,4 @@
-use Rattle.model.proofs.Reached.{reached_after}
+use Rattle.soundness.proofs.Reached.{reached_after}
 use Rattle.laws.proofs.states.time_is_start_and_elapsed.Goals as goal
 
 pub returns : goal.returns

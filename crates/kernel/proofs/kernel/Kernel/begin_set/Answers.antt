@@ -3,7 +3,7 @@ use Rattle.model.specs.declared.call.Phase.TheVariants.{Leave}
 use Rattle.model.specs.State.{State}
 use Rattle.model.specs.Groups as definitions
 use Rattle.model.specs.Groups.{bits_set}
-use Rattle.model.proofs.Bits.{stays-set}
+use Rattle.soundness.proofs.Bits.{stays-set}
 use Rattle.kernel.specs.declared.kernel.Kernel.{Kernel}
 use Rattle.kernel.specs.StandsFor.{At}
 use Rattle.kernel.specs.Can.{AreToWake}

@@ -1,5 +1,5 @@
 use Rattle.std.proofs.Common.{arith, refl, subst, sym, ◌∙◌}
-use Rattle.model.proofs.Handled.{uninterrupted}
+use Rattle.soundness.proofs.Handled.{uninterrupted}
 use Rattle.kernel.specs.StandsFor.{At}
 use Rattle.kernel.proofs.Ending.{empty}
 use Rattle.kernel.proofs.kernel.Kernel.interrupt.Goals as goal

@@ -2,7 +2,7 @@ use Rattle.std.proofs.Common.{refl, ap, sym, ◌∙◌}
 use Rattle.sched.specs.Schedule.{Schedule, is_suspended, lined_up}
 use Rattle.clock.specs.StandsFor.{tasks_at}
 use Rattle.model.specs.Step.{nobody_ready}
-use Rattle.model.proofs.Reached.{reached_nobody}
+use Rattle.soundness.proofs.Reached.{reached_nobody}
 use Rattle.kernel.proofs.Booting.{none_ready, none_due, priority_at, base_priority_at, queues_at_reset, nobody_awake-reset, none_placing, ended_reset, nobody_suspended}
 use Rattle.model.specs.Suspension.{can_resume}
 use Rattle.groups.specs.StandsFor.{bits_wait}

@@ -2,7 +2,7 @@ use Rattle.std.proofs.Common.{◌≡◌, true, None, Some, ◌∙◌, ap, sym}
 use Rattle.std.specs.Prelude.{not}
 use Rattle.model.specs.State.{Object}
 use Rattle.model.specs.Switching.{is_same}
-use Rattle.model.proofs.Settled.{same_eq}
+use Rattle.model.proofs.Chosen.{same_eq}
 use Rattle.objects.proofs.Carrying.{stands_freed, turned}
 use Rattle.objects.proofs.Together.{holder_put, many_seen, seen}
 use Rattle.objects.proofs.queues.Queues.give_mutex.Goals as goal

@@ -1,6 +1,6 @@
 use Rattle.std.proofs.Common.{◌<◌, ℕ, refl, arith}
 use Rattle.model.specs.State.{Object}
-use Rattle.model.proofs.Sound.{each-set}
+use Rattle.model.proofs.Tables.{each-set}
 use Rattle.objects.proofs.Filling.{filled_all, filled_none, filled_one_more, nothing_small}
 use Rattle.objects.proofs.semaphores.Semaphores.new.Goals as goal
 

@@ -21,7 +21,7 @@ use Rattle.model.specs.declared.plan.Point.{Point}
 use Rattle.model.specs.declared.event.What.TheVariants as what
 use Rattle.model.specs.Application.{Application, Definition, script_of, op_at}
 use Rattle.model.specs.Scripts.{IsDefinition, IsObjectKind, IsWellFormed, fits_object, is_wait}
-use Rattle.model.specs.State.{State, wait_of, task_at, progress_at, status_at, call_at, bits_at, no_call, no_task, no_object, for_each}
+use Rattle.model.specs.State.{State, task_at, progress_at, status_at, call_at, bits_at, no_task, no_object, for_each}
 use Rattle.model.specs.Switching.{make_ready, choose, choice, is_ready, preempt, settle, is_scheduler_suspended, is_held, unless_held, write}
 use Rattle.model.specs.Waiting.{set_deadline, end_hold}
 use Rattle.model.specs.Ops.{answer, use_up}
@@ -31,22 +31,24 @@ use Rattle.model.specs.Suspension.{suspend_all, resume_all}
 use Rattle.model.specs.Handlers.{handle, inject}
 use Rattle.model.specs.Step.{is_ended, judge, misused, act, act_unless, may_switch, misuse, act_if, act_current, before_step, step, reset, nobody_ready, ready_at_reset, task_at_reset, object_at_reset, with_ops, is_empty}
 use Rattle.model.specs.Run.{injected, state_after}
-use Rattle.model.specs.Invariant.{AllTicketsBelow, IsAt, Hold, hold_of, InOne, ForBits, ToSetBits, course, IsPhaseOf, IsObject, HasPriority, IsSound, holds, IsStranded, IsRunning, RunsIn, Suspension, suspension_of, IsState}
+use Rattle.model.specs.Invariant.{IsAt, Hold, hold_of, InOne, ForBits, ToSetBits, course, IsPhaseOf, IsObject, HasPriority, IsSound, holds, IsStranded, IsRunning, RunsIn, Suspension, suspension_of, IsState}
 use Rattle.model.proofs.Sorting.{by_test}
 use Rattle.model.proofs.Lists.{eqb-same}
 use Rattle.model.proofs.Chosen.{choice_within}
-use Rattle.model.proofs.Settled.{IsSettled, settled-settle, settled-preempt, settled-reset, when_held, when_free, held_by_call, held_by_none}
-use Rattle.model.proofs.InScripts.{script_formed, used_none, range_at, known_at}
-use Rattle.model.proofs.Frames.{keeps-settle, keeps-choose, keeps-answer, keeps-answer_bits, keeps-try, keeps-set_deadline, keeps-all_ready, keeps-use_up, keeps-preempt}
-use Rattle.model.proofs.Passing.{is_instant, lasts-act, lasts-leave_call, lasts-end_set, lasts-final_bits, hold-tick, hold-act, suspension-tick, suspensions-tick, suspends-all, resumes-all, suspensions-step, suspension-reset}
-use Rattle.model.proofs.Sound.{CanBeReady, all_made_ready, runs, logged, settled, preempted, yielded, answered, used_up, expected, opened, closed, plain, delayed, delayed_until, ready_free, call_none}
-use Rattle.model.proofs.Handled.{and_left, and_right, ticked, handled_between}
-use Rattle.model.proofs.Trying.{tried, gave}
-use Rattle.model.proofs.Called.{done_now, dated, dated_at, phase_free, course_of_one}
-use Rattle.model.proofs.Phases.{free, unsuspended, suspended_not, calm_where, calm_held, decided, decided_held, placed, unlocked, unlocked_held, left, left_hold}
-use Rattle.model.proofs.Bits.{cleared, answered_bits, final_done, set_begun, begun_held, wait_begun, waits_held, set_ended, wait_left}
-use Rattle.model.proofs.Going.{GoesOn, Continues, suspended_held, suspended_on, acted_on, resumed_on}
-use Rattle.model.proofs.Obeyed.{call_suspended, call_resumed, all_suspended, all_resumed}
+use Rattle.model.proofs.Statuses.{ready_free}
+use Rattle.model.proofs.Resets.{none_taken, call-reset, holders-reset}
+use Rattle.soundness.proofs.Settled.{IsSettled, settled-settle, settled-preempt, settled-reset, when_held, when_free, held_by_call, held_by_none}
+use Rattle.soundness.proofs.InScripts.{script_formed, used_none, range_at, known_at}
+use Rattle.soundness.proofs.Frames.{keeps-settle, keeps-choose, keeps-answer, keeps-answer_bits, keeps-try, keeps-set_deadline, keeps-all_ready, keeps-use_up, keeps-preempt}
+use Rattle.soundness.proofs.Passing.{is_instant, lasts-act, lasts-leave_call, lasts-end_set, lasts-final_bits, hold-tick, hold-act, suspension-tick, suspensions-tick, suspends-all, resumes-all, suspensions-step, suspension-reset}
+use Rattle.soundness.proofs.Sound.{CanBeReady, all_made_ready, runs, logged, settled, preempted, yielded, answered, used_up, expected, opened, closed, plain, delayed, delayed_until, call_none}
+use Rattle.soundness.proofs.Handled.{and_left, and_right, ticked, handled_between}
+use Rattle.soundness.proofs.Trying.{tried, gave}
+use Rattle.soundness.proofs.Called.{done_now, dated, dated_at, phase_free, course_of_one}
+use Rattle.soundness.proofs.Phases.{free, unsuspended, suspended_not, calm_where, calm_held, decided, decided_held, placed, unlocked, unlocked_held, left, left_hold}
+use Rattle.soundness.proofs.Bits.{cleared, answered_bits, final_done, set_begun, begun_held, wait_begun, waits_held, set_ended, wait_left}
+use Rattle.soundness.proofs.Going.{GoesOn, Continues, suspended_held, suspended_on, acted_on, resumed_on}
+use Rattle.soundness.proofs.Obeyed.{call_suspended, call_resumed, all_suspended, all_resumed}
 
 -- ---- a step that holds nothing at its end
 
@@ -470,19 +472,10 @@ module _ (app : Application) (formed : IsWellFormed app) where
 
 -- ---- reset
 
-pub none_taken : (start : ℕ) (ds : List Definition) → AllTicketsBelow 0 (map (task_at_reset start) ds)
-none_taken start [] = tt
-none_taken start (d ∷ ds) = (tt, none_taken start ds)
-
 progress-reset : (start i : ℕ) (ds : List Definition) → AllByRecursion IsDefinition ds → IsAt start (unwrap_or (option_map (λ (d : Definition). d.script) (slice_get ds i)) []) (get_or (map (task_at_reset start) ds) i no_task).progress (get_or (map (task_at_reset start) ds) i no_task).status
 progress-reset start i [] h = record { nests = refl; loops = tt; used = tt; reckoned = tt }
 progress-reset start zero (d ∷ ds) h = record { nests = h.0.script.nests; loops = tt; used = used_none 0 d.script h.0.script.ranges; reckoned = tt }
 progress-reset start (suc i) (d ∷ ds) h = progress-reset start i ds h.1
-
-pub call-reset : (start i : ℕ) (ds : List Definition) → ((get_or (map (task_at_reset start) ds) i no_task).progress.call ≡ no_call) × (wait_of (get_or (map (task_at_reset start) ds) i no_task).status ≡ None)
-call-reset start i [] = (refl, refl)
-call-reset start zero (d ∷ ds) = (refl, refl)
-call-reset start (suc i) (d ∷ ds) = call-reset start i ds
 
 contents-reset : (o : ℕ) (kinds : List ObjectKind) → AllByRecursion IsObjectKind kinds → IsObject (slice_get kinds o) (get_or (map object_at_reset kinds) o no_object)
 contents-reset o [] h = tt
@@ -490,13 +483,6 @@ contents-reset zero ((Queue size) ∷ kinds) h = (refl, omega arith)
 contents-reset zero ((Semaphore most first) ∷ kinds) h = (refl, h.0.2)
 contents-reset zero (Mutex ∷ kinds) h = refl
 contents-reset (suc o) (kind ∷ kinds) h = contents-reset o kinds h.1
-
-pub holders-reset : (tasks o : ℕ) (kinds : List ObjectKind) → IfSome (get_or (map object_at_reset kinds) o no_object).holder (λ holder. holder < tasks)
-holders-reset tasks o [] = tt
-holders-reset tasks zero ((Queue size) ∷ kinds) = tt
-holders-reset tasks zero ((Semaphore most first) ∷ kinds) = tt
-holders-reset tasks zero (Mutex ∷ kinds) = tt
-holders-reset tasks (suc o) (kind ∷ kinds) = holders-reset tasks o kinds
 
 priority-reset : (start i : ℕ) (ds : List Definition) → AllByRecursion IsDefinition ds → HasPriority (get_or (map (task_at_reset start) ds) i no_task)
 priority-reset start i [] h = (omega arith, omega arith, tt)

@@ -16,9 +16,9 @@ use Rattle.model.specs.Mutexes.{set_priority, mutexes_held, lend, inherits, inhe
 use Rattle.model.specs.Invariant.{Hold, HasPriority, IsSound}
 use Rattle.model.proofs.Sorting.{by_test}
 use Rattle.model.proofs.Lists.{HasKey, list_has}
-use Rattle.model.proofs.Tables.{ticket_at}
-use Rattle.model.proofs.Sound.{each-set, changed, went_back}
-use Rattle.model.proofs.Called.{waits_key}
+use Rattle.model.proofs.Tables.{ticket_at, each-set}
+use Rattle.soundness.proofs.Sound.{changed, went_back}
+use Rattle.soundness.proofs.Called.{waits_key}
 use Rattle.std.proofs.Math.Nat.{le-max_left}
 
 -- ---- what another priority leaves as it is

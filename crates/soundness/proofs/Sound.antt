@@ -1,5 +1,5 @@
 -- What every deed keeps.
-use Rattle.std.proofs.Common.{◌≡◌, ◌≢◌, ◌<◌, ◌≤◌, ◌+◌, ◌-◌, ℕ, zero, suc, true, false, eqb, leb, ltb, ltb-false, ◌||◌, List, [], ◌∷◌, length, get_or, set, drop, Option, Some, None, refl, ap, sym, subst, ◌∙◌, arith, get_or-set_same, get_or-set_other}
+use Rattle.std.proofs.Common.{◌≡◌, ◌≢◌, ◌<◌, ◌≤◌, ◌+◌, ◌-◌, ℕ, suc, true, false, eqb, leb, ltb, ltb-false, ◌||◌, List, [], ◌∷◌, length, get_or, set, drop, Option, Some, None, refl, ap, sym, subst, ◌∙◌, arith, get_or-set_same, get_or-set_other}
 use Rattle.std.specs.List.{AllByRecursion, filter}
 use Rattle.std.specs.Prelude.{Bool}
 use Rattle.std.specs.Option.{IfSome, is_some, option_eq}
@@ -12,7 +12,7 @@ use Rattle.model.specs.declared.event.Event.{Event}
 use Rattle.model.specs.declared.event.End as ending
 use Rattle.model.specs.Application.{Application, script_of, op_at, op_count}
 use Rattle.model.specs.Scripts.{may_stand, nesting_past, Nests, IsWellFormed}
-use Rattle.model.specs.State.{State, Task, Progress, Status, Wait, Ready, Awake, Waiting, Asleep, WaitingForBits, Suspended, Ended, ticket_if_ready, ticket_of, wait_of, wait_if_awake, wake_time_of, no_call, task_at, progress_at, status_at, with_task, take_ticket, for_one, for_each, no_task}
+use Rattle.model.specs.State.{State, Task, Progress, Status, Wait, Ready, Awake, Waiting, Asleep, WaitingForBits, Suspended, Ended, ticket_if_ready, ticket_of, wait_of, wake_time_of, no_call, task_at, progress_at, status_at, with_task, take_ticket, for_one, for_each, no_task}
 use Rattle.model.specs.Order.{Entry, tasks_of}
 use Rattle.model.specs.Switching.{make_ready, to_back, dispatch, choose, choice, is_same, is_ready, yield_now, is_outranked, is_sharing, preempt, slice, settle, is_off, write}
 use Rattle.model.specs.Waiting.{is_locked}
@@ -21,10 +21,11 @@ use Rattle.model.specs.Ops.{go_to, moved_to, complete, called, answer, use_up, d
 use Rattle.model.specs.Invariant.{HasTicketBelow, IsUsedBy, LoopsNest, IsReckoned, HasPriority, IsAt, Hold, course, IsPhaseOf, IsWaitOf, IsCall, IsSound}
 use Rattle.model.proofs.Sorting.{by_test}
 use Rattle.model.proofs.Lists.{eqb-refl, eqb-same}
-use Rattle.model.proofs.Tables.{ticket_at, table-set, table-taken}
+use Rattle.model.proofs.Tables.{ticket_at, table-set, table-taken, each-set}
 use Rattle.model.proofs.Chosen.{choice_within, list_within}
-use Rattle.model.proofs.InScripts.{script_formed, stands_at, nests_past, used_none}
-use Rattle.model.proofs.Frames.{keeps-answer}
+use Rattle.model.proofs.Statuses.{ready_awake, ready_free, free_unwoken}
+use Rattle.soundness.proofs.InScripts.{script_formed, stands_at, nests_past, used_none}
+use Rattle.soundness.proofs.Frames.{keeps-answer}
 
 -- ---- who wakes when
 
@@ -74,33 +75,6 @@ ready_alone (WaitingForBits g m d) t = absurd (cc)
 ready_alone Suspended t = absurd (cc)
 ready_alone Ended t = absurd (cc)
 
-pub ready_awake : (u : Status) → is_some (ticket_if_ready u) ≡ true → wake_time_of u ≡ None
-ready_awake (Ready n) t = refl
-ready_awake (Awake w) t = absurd (cc)
-ready_awake (Waiting w) t = absurd (cc)
-ready_awake (Asleep w n) t = absurd (cc)
-ready_awake (WaitingForBits g m d) t = absurd (cc)
-ready_awake Suspended t = absurd (cc)
-ready_awake Ended t = absurd (cc)
-
-pub ready_free : (u : Status) → is_some (ticket_if_ready u) ≡ true → wait_of u ≡ None
-ready_free (Ready n) t = refl
-ready_free (Awake w) t = absurd (cc)
-ready_free (Waiting w) t = absurd (cc)
-ready_free (Asleep w n) t = absurd (cc)
-ready_free (WaitingForBits g m d) t = absurd (cc)
-ready_free Suspended t = absurd (cc)
-ready_free Ended t = absurd (cc)
-
-pub free_unwoken : (u : Status) → wait_of u ≡ None → wait_if_awake u ≡ None
-free_unwoken (Ready n) e = refl
-free_unwoken (Awake w) e = absurd (cc)
-free_unwoken (Waiting w) e = absurd (cc)
-free_unwoken (Asleep w n) e = refl
-free_unwoken (WaitingForBits g m d) e = refl
-free_unwoken Suspended e = refl
-free_unwoken Ended e = refl
-
 due_reckoned : (now previous : ℕ) (u : Status) → IsReckoned now previous u → option_eq eqb (wake_time_of u) (Some now) ≡ true → previous ≤ now
 due_reckoned now p (Ready n) h t = absurd (cc)
 due_reckoned now p (Awake w) h t = h
@@ -134,22 +108,6 @@ due_can s r (e ∷ es) a = by_test (is_due s e)
     (λ t. rw t (due_can s r es a.1))
 
 -- ---- changes of a list of what is kept
-
--- what holds of every other place holds of each where one was changed
-pub each-set_but : {A : Type 0} (none : A) (P : ℕ → A → Type 0) (xs : List A) (i : ℕ) (x : A) → i < length xs → P i x → ((j : ℕ) → j ≢ i → P j (get_or xs j none)) → (j : ℕ) → P j (get_or (set xs i x) j none)
-each-set_but none P [] i x l p h j = absurd (omega arith)
-each-set_but none P (y ∷ ys) zero x l p h zero = p
-each-set_but none P (y ∷ ys) zero x l p h (suc j) = h (suc j) (λ e. omega arith)
-each-set_but none P (y ∷ ys) (suc i) x l p h zero = h zero (λ e. omega arith)
-each-set_but none P (y ∷ ys) (suc i) x l p h (suc j) = each-set_but none (λ k. P (suc k)) ys i x (omega arith) p (λ k ne. h (suc k) (λ e. ne (omega arith))) j
-
--- what holds of each place still holds where one was changed
-pub each-set : {A : Type 0} (none : A) (P : ℕ → A → Type 0) (xs : List A) (i : ℕ) (x : A) → P i x → ((j : ℕ) → P j (get_or xs j none)) → (j : ℕ) → P j (get_or (set xs i x) j none)
-each-set none P [] i x p h j = h j
-each-set none P (y ∷ ys) zero x p h zero = p
-each-set none P (y ∷ ys) zero x p h (suc j) = h (suc j)
-each-set none P (y ∷ ys) (suc i) x p h zero = h zero
-each-set none P (y ∷ ys) (suc i) x p h (suc j) = each-set none (λ k. P (suc k)) ys i x p (λ k. h (suc k)) j
 
 -- ---- calls
 

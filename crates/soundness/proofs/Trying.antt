@@ -18,10 +18,10 @@ use Rattle.model.specs.Mutexes.{after_timeout, disinherit, give_mutex}
 use Rattle.model.specs.Calls.{try}
 use Rattle.model.specs.Invariant.{Hold, course, IsPhaseOf, IsObject, IsSound}
 use Rattle.model.proofs.Sorting.{by_test}
-use Rattle.model.proofs.Sound.{preempted}
-use Rattle.model.proofs.Frames.{keeps-disinherit}
-use Rattle.model.proofs.Called.{stored, woken_best, spared_best, spared_fulfil, fulfilled, replied, went_on}
-use Rattle.model.proofs.Inheriting.{reranks-after_timeout, reranks-disinherit, timed_out, disinherited}
+use Rattle.soundness.proofs.Sound.{preempted}
+use Rattle.soundness.proofs.Frames.{keeps-disinherit}
+use Rattle.soundness.proofs.Called.{stored, woken_best, spared_best, spared_fulfil, fulfilled, replied, went_on}
+use Rattle.soundness.proofs.Inheriting.{reranks-after_timeout, reranks-disinherit, timed_out, disinherited}
 
 -- a mutex without a holder is of its kind
 freed : (kind : Option ObjectKind) (o : Object) → IsObject kind o → IsObject kind (record o { holder = None })

@@ -19,12 +19,13 @@ use Rattle.model.specs.Calls.{lock, decide, leave_call}
 use Rattle.model.specs.Mutexes.{inherit}
 use Rattle.model.specs.Invariant.{Hold, hold_of, Course, OnObject, ToSetBits, course, IsPhaseOf, IsSound, holds, IsPlacing, IsRunning, RunsIn, Suspension, suspension_of, IsState}
 use Rattle.model.proofs.Sorting.{by_test}
-use Rattle.model.proofs.Tables.{ticket_at}
-use Rattle.model.proofs.Sound.{each-set_but, framed, all_made_ready, chosen, preempted}
-use Rattle.model.proofs.Frames.{Keeps, keeps-inherit, keeps-all_ready, keeps-choose, keeps-preempt}
-use Rattle.model.proofs.Unlocking.{opened_by, none_left, still_at, opened_can, unlocked_by, current-all_ready}
-use Rattle.model.proofs.Inheriting.{Reranks, reranks-inherit, inherited}
-use Rattle.model.proofs.Called.{went_on, began, phase_free, call_apart, none_awake, rehung, reheld}
+use Rattle.model.proofs.Tables.{ticket_at, each-set_but}
+use Rattle.model.proofs.Unlocking.{opened_by, none_left, still_at, current-all_ready, none_awake}
+use Rattle.soundness.proofs.Sound.{framed, all_made_ready, chosen, preempted}
+use Rattle.soundness.proofs.Frames.{Keeps, keeps-inherit, keeps-all_ready, keeps-choose, keeps-preempt}
+use Rattle.soundness.proofs.Unlocked.{opened_can, unlocked_by}
+use Rattle.soundness.proofs.Inheriting.{Reranks, reranks-inherit, inherited}
+use Rattle.soundness.proofs.Called.{went_on, began, phase_free, call_apart, rehung, reheld}
 
 -- ---- a call holds the scheduler
 

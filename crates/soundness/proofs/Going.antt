@@ -21,10 +21,10 @@ use Rattle.model.specs.Invariant.{Hold, Suspension}
 use Rattle.model.proofs.Unlocking.{current-all_ready}
 use Rattle.model.proofs.Sorting.{by_test}
 use Rattle.model.proofs.Lists.{eqb-same}
-use Rattle.model.proofs.Frames.{keeps-answer}
-use Rattle.model.proofs.Settled.{when_held}
-use Rattle.model.proofs.Passing.{held-told}
-use Rattle.model.proofs.Handled.{Spares, spares, spares_both, spares-handle}
+use Rattle.soundness.proofs.Frames.{keeps-answer}
+use Rattle.soundness.proofs.Settled.{when_held}
+use Rattle.soundness.proofs.Passing.{held-told}
+use Rattle.soundness.proofs.Handled.{Spares, spares, spares_both, spares-handle}
 
 pub suspended_held : (s : State) → is_scheduler_suspended s ≡ true → is_held s ≡ true
 suspended_held s on = either s.call_hold (is_scheduler_suspended s) on where

@@ -29,7 +29,7 @@ use Rattle.model.specs.Invariant.{hold_of, suspension_of}
 use Rattle.model.specs.Handlers.{isr_told, isr, isr_each, handle, inject, interrupt}
 use Rattle.model.specs.Step.{before_step}
 use Rattle.model.proofs.Sorting.{by_test}
-use Rattle.model.proofs.Settled.{when_held, when_free}
+use Rattle.soundness.proofs.Settled.{when_held, when_free}
 
 -- No time passes, no step is done, the run is not stopped, there are as many tasks, the same is held and locked, and as many
 -- `suspend_all` are in force.

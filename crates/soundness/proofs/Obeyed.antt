@@ -9,11 +9,13 @@ use Rattle.model.specs.Ops.{answer}
 use Rattle.model.specs.Suspension.{can_suspend, suspend, resume, call_suspend, call_resume, suspend_all, resume_scheduler, resume_all}
 use Rattle.model.specs.Invariant.{Hold, IsSound}
 use Rattle.model.proofs.Sorting.{by_test}
-use Rattle.model.proofs.Settled.{when_held, when_free}
-use Rattle.model.proofs.Sound.{each-set, preempted, answered, otherwise, ready_free}
-use Rattle.model.proofs.Suspending.{suspended_task, resumed_task, resumed_scheduler}
-use Rattle.model.proofs.Handled.{spares-resume}
-use Rattle.model.proofs.Going.{resumed_apart}
+use Rattle.model.proofs.Tables.{each-set}
+use Rattle.model.proofs.Statuses.{ready_free}
+use Rattle.soundness.proofs.Settled.{when_held, when_free}
+use Rattle.soundness.proofs.Sound.{preempted, answered, otherwise}
+use Rattle.soundness.proofs.Suspending.{suspended_task, resumed_task, resumed_scheduler}
+use Rattle.soundness.proofs.Handled.{spares-resume}
+use Rattle.soundness.proofs.Going.{resumed_apart}
 
 -- a suspend leaves each task at its op, and nobody begins to wait
 suspended_free : (s : State) (j i : ℕ) → wait_of (status_at s i) ≡ None → wait_of (status_at (suspend j s) i) ≡ None

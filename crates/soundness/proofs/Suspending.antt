@@ -11,10 +11,10 @@ use Rattle.model.specs.Time.{advance, apply_one, apply_held}
 use Rattle.model.specs.Suspension.{can_suspend, can_resume, suspend, resumed, resume, resume_scheduler}
 use Rattle.model.specs.Invariant.{IsReckoned, Hold, Suspension, IsSound}
 use Rattle.model.proofs.Sorting.{by_test}
-use Rattle.model.proofs.Tables.{ticket_at}
-use Rattle.model.proofs.Frames.{keeps-wake_due}
-use Rattle.model.proofs.Sound.{each-set, changed, made_ready, kept_free, held_no_more, otherwise, woken}
-use Rattle.model.proofs.Called.{phase_again}
+use Rattle.model.proofs.Tables.{ticket_at, each-set}
+use Rattle.soundness.proofs.Frames.{keeps-wake_due}
+use Rattle.soundness.proofs.Sound.{changed, made_ready, kept_free, held_no_more, otherwise, woken}
+use Rattle.soundness.proofs.Called.{phase_again}
 
 -- ---- a task that is resumed
 

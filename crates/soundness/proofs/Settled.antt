@@ -11,16 +11,11 @@ use Rattle.model.specs.declared.plan.Point.{Point}
 use Rattle.model.specs.Step.{act_current, before_step, step, ready_at_reset, reset}
 use Rattle.model.specs.Run.{injected, state_after}
 use Rattle.model.proofs.Sorting.{by_test}
-use Rattle.model.proofs.Lists.{HasKey, eqb-same, list_has}
+use Rattle.model.proofs.Lists.{HasKey, list_has}
+use Rattle.model.proofs.Chosen.{same_eq}
 
 abbrev pub IsSettled : State → Type 0
 IsSettled s = IfSome s.current (λ task. is_ready s task ≡ true)
-
-pub same_eq : (a b : Option ℕ) → is_same a b ≡ true → a ≡ b
-same_eq None None t = refl
-same_eq None (Some j) t = absurd (cc)
-same_eq (Some i) None t = absurd (cc)
-same_eq (Some i) (Some j) t = ap Some (eqb-same i j t)
 
 keyed_ready : (priority : ℕ) (u : Status) (k : Key) → option_map (key priority) (ticket_if_ready u) ≡ Some k → is_some (ticket_if_ready u) ≡ true
 keyed_ready priority (Ready n) k e = refl

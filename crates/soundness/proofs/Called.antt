@@ -28,8 +28,9 @@ use Rattle.model.specs.Suspension.{phase_resumed}
 use Rattle.model.specs.Invariant.{HasTicketBelow, IsReckoned, Hold, Course, InOne, OnObject, ForBits, ToSetBits, course, IsPhaseOf, list_of_op, IsWaitOf, IsCall, IsObject, IsSound, holds}
 use Rattle.model.proofs.Sorting.{by_test}
 use Rattle.model.proofs.Lists.{HasKey, eqb-same, list_has}
-use Rattle.model.proofs.Tables.{ticket_at, table-set}
-use Rattle.model.proofs.Sound.{IsKept, each-set, each-set_but, changed, taken, made_ready, answered, preempted, ready_free, ready_reckoned}
+use Rattle.model.proofs.Tables.{ticket_at, table-set, held_after, each-set, each-set_but}
+use Rattle.model.proofs.Statuses.{ready_free}
+use Rattle.soundness.proofs.Sound.{IsKept, changed, taken, made_ready, answered, preempted, ready_reckoned}
 
 -- ---- lists of those who wait
 
@@ -98,17 +99,6 @@ after (Some Mutex) caller Peek o f h t = absurd (cc)
 after (Some Mutex) caller Take o f h t = absurd (cc)
 after (Some Mutex) caller Give o f h t = absurd (cc)
 after (Some Mutex) caller Lock o f h t = h
-
--- who holds the object after a call is the caller, or who held it
-pub held_after : (caller : Option ℕ) (a : Access) (o : Object) (tasks : ℕ) → IfSome caller (λ i. i < tasks) → IfSome o.holder (λ i. i < tasks) → IfSome (object_after caller a o).holder (λ i. i < tasks)
-held_after caller (Send v) o tasks l h = h
-held_after caller (SendFront v) o tasks l h = h
-held_after caller (Overwrite v) o tasks l h = h
-held_after caller Receive o tasks l h = h
-held_after caller Peek o tasks l h = h
-held_after caller Take o tasks l h = h
-held_after caller Give o tasks l h = h
-held_after caller Lock o tasks l h = l
 
 module _ (app : Application) (formed : IsWellFormed app) (hold : Hold) where
   pub stored : (s : State) (o : ℕ) (x : Object) → IsSound app hold s → IsObject (slice_get app.objects o) x → IfSome x.holder (λ i. i < length s.tasks) → IsSound app hold (with_object o x s)
@@ -389,15 +379,6 @@ pub call_apart : (old new : Hold) (now : ℕ) (op : Option Op) (t : Task) → ho
 call_apart old new now op t free asleep c =
     let A : Option Wait → Type 0 = λ o. IfSome o (λ w. is_locked new.locked w.list ≡ true) in
     record { phase = phase_apart old new (course op) t.progress.call.phase free c.phase; wait = c.wait; awake = subst A (sym asleep) tt; near = c.near }
-
--- where nothing is locked nobody is Awake
-unlocked_none : (list : WaitList) → is_locked None list ≡ true → ⊥
-unlocked_none (ToReceive o) t = absurd (cc)
-unlocked_none (ToSend o) t = absurd (cc)
-
-pub none_awake : (locked : Option ℕ) (o : Option Wait) → locked ≡ None → IfSome o (λ w. is_locked locked w.list ≡ true) → o ≡ None
-none_awake locked None e h = refl
-none_awake locked (Some w) e h = absurd (unlocked_none w.list (subst (λ l. is_locked l w.list ≡ true) e h))
 
 module _ (app : Application) (formed : IsWellFormed app) (old new : Hold) where
   -- one task changes, and what is held

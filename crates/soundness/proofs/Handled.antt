@@ -7,7 +7,6 @@ use Rattle.model.specs.declared.op.Op.TheVariants.{Work, Delay, DelayUntil, Yiel
 use Rattle.model.specs.declared.op.IsrOp.{IsrOp}
 use Rattle.model.specs.declared.op.IsrOp.TheVariants as isr_op
 use Rattle.model.specs.declared.op.Access.{Access}
-use Rattle.model.specs.declared.op.Access.TheVariants.{Send, SendFront, Overwrite, Receive, Peek, Take, Give, Lock}
 use Rattle.model.specs.declared.call.Phase.{Phase}
 use Rattle.model.specs.declared.call.Phase.TheVariants.{Start, Try, Decide, Place, Unlock, Leave, Final}
 use Rattle.model.specs.declared.call.WaitList.{WaitList}
@@ -26,14 +25,16 @@ use Rattle.model.specs.Objects.{possible, answer_to, object_after, list_woken, l
 use Rattle.model.specs.Handlers.{isr_told, isr, isr_each, handle, interrupt, tick_interrupt}
 use Rattle.model.specs.Invariant.{Hold, hold_of, course, list_of_op, IsPhaseOf, IsWaitOf, IsSound, Suspension, holds, IsPlacing, IsStranded, RunsIn, IsState}
 use Rattle.model.proofs.Sorting.{by_test}
-use Rattle.model.proofs.Lists.{HasKey, eqb-refl, list_has}
-use Rattle.model.proofs.Settled.{when_held, when_free}
-use Rattle.model.proofs.InScripts.{isr_known}
-use Rattle.model.proofs.Frames.{Keeps, keeps, keeps_both, keeps-with_task, keeps-take_ticket, keeps-with_object, keeps-wake_one, keeps-isr, keeps-handle, keeps-write}
-use Rattle.model.proofs.Passing.{hold-increment}
-use Rattle.model.proofs.Suspending.{suspended_free, each_resumed, resumed_task}
-use Rattle.model.proofs.Sound.{each-set, logged, sliced, woken, later, held_up}
-use Rattle.model.proofs.Called.{WaitsIn, waits_in, waits_key, same_list_eq, attempted, spared_one}
+use Rattle.model.proofs.Lists.{HasKey, list_has}
+use Rattle.model.proofs.Tables.{each-set}
+use Rattle.model.proofs.Unlocking.{is_locked-own}
+use Rattle.soundness.proofs.Settled.{when_held, when_free}
+use Rattle.soundness.proofs.InScripts.{isr_known}
+use Rattle.soundness.proofs.Frames.{Keeps, keeps, keeps_both, keeps-with_task, keeps-take_ticket, keeps-with_object, keeps-wake_one, keeps-isr, keeps-handle, keeps-write}
+use Rattle.soundness.proofs.Passing.{hold-increment}
+use Rattle.soundness.proofs.Suspending.{suspended_free, each_resumed, resumed_task}
+use Rattle.soundness.proofs.Sound.{logged, sliced, woken, later, held_up}
+use Rattle.soundness.proofs.Called.{WaitsIn, waits_in, waits_key, same_list_eq, attempted, spared_one}
 
 pub and_left : (a b : Bool) → (a && b) ≡ true → a ≡ true
 and_left true b t = refl
@@ -299,16 +300,6 @@ unfolding handle
 spares-handle app handler s = spares-isr_each handler 0 (ops_of app handler) s
 
 -- ---- so every state stays one of a run
-
-pub is_locked-own : (o : ℕ) (a : Access) → is_locked (Some o) (list_for o a) ≡ true
-is_locked-own o (Send v) = eqb-refl o
-is_locked-own o (SendFront v) = eqb-refl o
-is_locked-own o (Overwrite v) = eqb-refl o
-is_locked-own o Receive = eqb-refl o
-is_locked-own o Peek = eqb-refl o
-is_locked-own o Take = eqb-refl o
-is_locked-own o Give = eqb-refl o
-is_locked-own o Lock = eqb-refl o
 
 -- who is to be placed waits for the locked object
 place_locked : (hold : Hold) (op : Option Op) (list : WaitList) → IsPhaseOf hold (course op) Place → list_of_op op ≡ Some list → is_locked hold.locked list ≡ true

@@ -19,11 +19,12 @@ use Rattle.model.specs.Groups.{is_met, without, bits_left, want, keep_answer, bi
 use Rattle.model.specs.Invariant.{IsReckoned, Hold, hold_of, ForBits, ToSetBits, course, IsPhaseOf, IsWaitOf, list_of_op, IsSound, holds, suspension_of, IsState}
 use Rattle.model.proofs.Sorting.{by_test}
 use Rattle.model.proofs.Lists.{HasKey, list_has}
-use Rattle.model.proofs.Tables.{ticket_at}
-use Rattle.model.proofs.Frames.{Keeps, keeps_both, keeps-set, keeps-with_call, keeps-take_ticket, keeps-set_deadline}
-use Rattle.model.proofs.Sound.{each-set, CanBeReady, can_still, framed, otherwise, changed, taken, kept_free, made_ready, answered, chosen, ready_free, ready_reckoned}
-use Rattle.model.proofs.Called.{went_on, dated}
-use Rattle.model.proofs.Phases.{free, unsuspended, in_hold, others_free, held_by_all, hold_ended}
+use Rattle.model.proofs.Tables.{ticket_at, each-set}
+use Rattle.model.proofs.Statuses.{ready_free}
+use Rattle.soundness.proofs.Frames.{Keeps, keeps_both, keeps-set, keeps-with_call, keeps-take_ticket, keeps-set_deadline}
+use Rattle.soundness.proofs.Sound.{CanBeReady, can_still, framed, otherwise, changed, taken, kept_free, made_ready, answered, chosen, ready_reckoned}
+use Rattle.soundness.proofs.Called.{went_on, dated}
+use Rattle.soundness.proofs.Phases.{free, unsuspended, in_hold, others_free, held_by_all, hold_ended}
 
 -- ---- who may be woken
 

@@ -1,0 +1,16 @@
+pub mod Frames
+pub mod Passing
+pub mod InScripts
+pub mod Settled
+pub mod Sound
+pub mod Called
+pub mod Suspending
+pub mod Inheriting
+pub mod Trying
+pub mod Handled
+pub mod Unlocked
+pub mod Phases
+pub mod Bits
+pub mod Going
+pub mod Obeyed
+pub mod Reached
