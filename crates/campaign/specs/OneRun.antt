@@ -1,6 +1,7 @@
 -- What one run of a file comes to: the report of the base run, or of row 0, where a handler is injected.
 use Rattle.std.specs.Prelude.{◌≡◌, ℕ, Bool, List, [], Option, Some, None, Result, option_map}
-use Rattle.model.specs.Application.{Application, handler_named}
+use Rattle.model.specs.Application.{Application}
+use Rattle.model.specs.Words.{handler_named}
 use Rattle.model.specs.Run.{Run, IsRun, IsRow}
 use Rattle.model.specs.declared.event.End.{End}
 use Rattle.model.specs.declared.plan.Point.{Point}

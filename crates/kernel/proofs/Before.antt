@@ -5,11 +5,11 @@ use Rattle.std.specs.List.{AllByRecursion}
 use Rattle.std.specs.Option.{option_map, option_and_then}
 use Rattle.model.specs.declared.call.Phase.TheVariants.{Place}
 use Rattle.model.specs.declared.call.WaitList.{WaitList}
-use Rattle.model.specs.State.{State, Task, Progress, Status, Object, Ready, Awake, Waiting, Asleep, WaitingForBits, Suspended, Ended, wait_of, wait_if_waiting, task_at, status_at, progress_at, call_at, with_object, for_one, no_task}
+use Rattle.model.specs.State.{State, Task, Progress, Status, Object, Ready, Awake, Waiting, Asleep, WaitingForBits, Suspended, Ended, wait_if_waiting, task_at, status_at, progress_at, call_at, with_object, for_one, no_task}
 use Rattle.model.specs.Order.{Key, Entry, first, task_of}
 use Rattle.model.specs.Switching.{make_ready}
 use Rattle.model.specs.Waiting.{wait_key, same_list, awake_status, awaken, is_locked, waiters, wake_one, wake_best}
-use Rattle.model.specs.Invariant.{IsTable}
+use Rattle.model.specs.Invariant.{IsTable, wait_of}
 use Rattle.model.proofs.Sorting.{by_test}
 use Rattle.model.proofs.Lists.{HasKey, eqb-refl, eqb-same, list_has}
 use Rattle.model.proofs.Members.{has_task}

@@ -12,7 +12,7 @@ use Rattle.model.specs.State.{State, Task, Progress, Object, no_object, no_call,
 use Rattle.model.specs.Order.{keyed, list_by, tasks_of}
 use Rattle.model.specs.Switching.{make_ready, ready_key, choice, choose, dispatch, is_held, is_same}
 use Rattle.model.specs.Time.{delayed_key, due}
-use Rattle.model.specs.Step.{task_at_reset, with_ops, is_empty, reset, nobody_ready, ready_at_reset}
+use Rattle.model.specs.Step.{task_at_reset, with_ops, reset, nobody_ready, ready_at_reset}
 use Rattle.model.proofs.Sorting.{by_test}
 use Rattle.model.proofs.Lists.{eqb-refl, eqb-same, eqb-apart}
 use Rattle.model.proofs.Chosen.{choice_within, each-end, same_eq}
@@ -152,22 +152,18 @@ module _ (ds : List Definition) (k : ℕ) (d : Definition) (few : length ds ≤ 
 
 -- ---- the tasks that have an op
 
-with_ops-append : (o : ℕ) (ds : List Definition) (d : Definition) → with_ops o (ds ++ d ∷ []) ≡ with_ops o ds ++ cond (is_empty d.script) [] ((o + length ds) ∷ [])
+with_ops-append : (o : ℕ) (ds : List Definition) (d : Definition) → with_ops o (ds ++ d ∷ []) ≡ with_ops o ds ++ cond (eqb (length d.script) 0) [] ((o + length ds) ∷ [])
 with_ops-append o [] d = let n : o + 0 ≡ o = omega arith in rw n refl
 with_ops-append o (x ∷ ds) d =
     let n : (o + 1) + length ds ≡ o + suc (length ds) = omega arith in
-    let later : with_ops (o + 1) (ds ++ d ∷ []) ≡ with_ops (o + 1) ds ++ cond (is_empty d.script) [] ((o + suc (length ds)) ∷ []) = rw n at (with_ops-append (o + 1) ds d) in
-    by_test (is_empty x.script) (λ t. rw t later) (λ t. rw t (ap (λ l. o ∷ l) later))
-
-empty_is : (ops : List Op) → eqb (length ops) 0 ≡ is_empty ops
-empty_is [] = refl
-empty_is (op ∷ ops) = eqb-apart (suc (length ops)) 0 (λ e. omega arith)
+    let later : with_ops (o + 1) (ds ++ d ∷ []) ≡ with_ops (o + 1) ds ++ cond (eqb (length d.script) 0) [] ((o + suc (length ds)) ∷ []) = rw n at (with_ops-append (o + 1) ds d) in
+    by_test (eqb (length x.script) 0) (λ t. rw t later) (λ t. rw t (ap (λ l. o ∷ l) later))
 
 pub empty_of : {ops script : List Op} {b : Bool} → ops ≡ script → eqb (length ops) 0 ≡ b → eqb (length script) 0 ≡ b
 empty_of {ops} {script} {b} e t = ap (λ (xs : List Op). eqb (length xs) 0) (sym e) ∙ t
 
 module _ (s : State) (ds : List Definition) (j : ℕ) (d : Definition) (l : j < length ds) (at : d ≡ get_or ds j d) where
-  with_more : with_ops 0 (take (j + 1) ds) ≡ with_ops 0 (take j ds) ++ cond (is_empty d.script) [] (j ∷ [])
+  with_more : with_ops 0 (take (j + 1) ds) ≡ with_ops 0 (take j ds) ++ cond (eqb (length d.script) 0) [] (j ∷ [])
   with_more =
       ap (with_ops 0) (take_more ds j d l ∙ ap (λ x. take j ds ++ x ∷ []) (sym at)) ∙ with_ops-append 0 (take j ds) d
       ∙ rw (length_taken ds j l) (let z : 0 + j ≡ j = omega arith in rw z refl)
@@ -177,14 +173,12 @@ module _ (s : State) (ds : List Definition) (j : ℕ) (d : Definition) (l : j < 
 
   pub ready_skipped : (v : Schedule) → eqb (length d.script) 0 ≡ true → sched.StandsFor v so → sched.StandsFor v (for_each make_ready (with_ops 0 (take (j + 1) ds)) s)
   ready_skipped v e h =
-      let t : is_empty d.script ≡ true = sym (empty_is d.script) ∙ e in
-      let same : with_ops 0 (take (j + 1) ds) ≡ with_ops 0 (take j ds) = with_more ∙ rw t (append-nil (with_ops 0 (take j ds))) in
+      let same : with_ops 0 (take (j + 1) ds) ≡ with_ops 0 (take j ds) = with_more ∙ rw e (append-nil (with_ops 0 (take j ds))) in
       rw same h
 
   pub ready_one_more : (new : Schedule) → eqb (length d.script) 0 ≡ false → length s.tasks ≡ length ds → ((i : ℕ) → can_resume (status_at s i) ≡ false) → (j < length so.tasks → can_resume (status_at so j) ≡ false → sched.StandsFor new (make_ready j so)) → sched.StandsFor new (for_each make_ready (with_ops 0 (take (j + 1) ds)) s)
   ready_one_more new e n awake goes =
-      let t : is_empty d.script ≡ false = sym (empty_is d.script) ∙ e in
-      let same : with_ops 0 (take (j + 1) ds) ≡ with_ops 0 (take j ds) ++ j ∷ [] = with_more ∙ rw t refl in
+      let same : with_ops 0 (take (j + 1) ds) ≡ with_ops 0 (take j ds) ++ j ∷ [] = with_more ∙ rw e refl in
       let low : j < length so.tasks = rw ((keeps-all_ready (with_ops 0 (take j ds)) s).tasks, n) l in
       rw (same, each-end make_ready s (with_ops 0 (take j ds)) j) (goes low (still_awake s (with_ops 0 (take j ds)) j (awake j)))
 

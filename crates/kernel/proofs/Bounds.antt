@@ -5,7 +5,7 @@ use Rattle.std.proofs.lemmas.Bool.{ltb-true, lt-ltb}
 use Rattle.model.specs.Switching.{is_ready, is_held, is_scheduler_suspended}
 use Rattle.std.proofs.lemmas.Bool.Decides.{nat_tests}
 use Rattle.std.proofs.lemmas.Option.{same_Some, slice_get_within}
-use Rattle.std.specs.Option.{IfSome}
+use Rattle.std.specs.Option.{IfSome, option_or}
 use Rattle.model.specs.declared.ids.TaskId.{TaskId}
 use Rattle.model.specs.declared.call.Phase.{Phase}
 use Rattle.model.specs.declared.call.Phase.TheVariants.{Start, Try, Decide, Place, Unlock, Leave, Final}
@@ -17,9 +17,9 @@ use Rattle.model.specs.declared.op.Op.{Op}
 use Rattle.model.specs.declared.op.Op.TheVariants.{Work, Delay, DelayUntil, Yield, Time, Mark, Expect, Repeat, End as EndLoop, Await, Do, GiveMutex, MessagesWaiting, SpacesAvailable, SetBits, ClearBits, GetBits, WaitBits, Suspend, Resume, SuspendAll, ResumeAll}
 use Rattle.model.specs.Application.{Application, Limits, script_of, op_at}
 use Rattle.model.specs.Scripts.{may_stand, fits_object, is_in_range, is_wait, knows, IsWellFormed}
-use Rattle.model.specs.State.{State, Progress, Wait, wait_of, task_at, progress_at, call_at, status_at}
-use Rattle.model.specs.Run.{end_of, or_else, are_all_ended, is_stuck}
-use Rattle.model.specs.Invariant.{IsState, IsUsedBy, IsRunning, IsPlacing, IsWaitOf, RunsIn, InOne, ToSetBits, course, IsPhaseOf, hold_of, holds, Suspension}
+use Rattle.model.specs.State.{State, Progress, Wait, task_at, progress_at, call_at, status_at}
+use Rattle.model.specs.Run.{end_of, are_all_ended, is_stuck}
+use Rattle.model.specs.Invariant.{IsState, IsUsedBy, IsRunning, IsPlacing, IsWaitOf, RunsIn, InOne, ToSetBits, course, IsPhaseOf, hold_of, holds, Suspension, wait_of}
 use Rattle.soundness.proofs.InScripts.{script_formed, stands_at, known_at, range_at}
 use Rattle.soundness.proofs.Sound.{ready_reckoned}
 use Rattle.soundness.proofs.Frames.{keeps-all_ready, keeps-before_step}
@@ -39,7 +39,7 @@ use Rattle.kernel.proofs.Either.{elapsed_is, now_is, current_is, progress_is, su
 leb-less : (a b : ℕ) → leb a b ≡ false → b < a
 leb-less a b e = grind (arith, nat_tests)
 
-unended : (o : Option End) (a t p k : Bool) → or_else o (cond a (Some ending.Pass) (cond t (Some ending.Ticks) (cond p (Some ending.Steps) (cond k (Some ending.Stuck) None)))) ≡ None → (t ≡ false) × (p ≡ false)
+unended : (o : Option End) (a t p k : Bool) → option_or o (cond a (Some ending.Pass) (cond t (Some ending.Ticks) (cond p (Some ending.Steps) (cond k (Some ending.Stuck) None)))) ≡ None → (t ≡ false) × (p ≡ false)
 unended (Some e) a t p k h = absurd (cc)
 unended None true t p k h = absurd (cc)
 unended None false true p k h = absurd (cc)

@@ -3,13 +3,13 @@ use Rattle.std.proofs.Common.{◌≡◌, ◌+◌, ◌<◌, ◌≤◌, ℕ, suc, 
 use Rattle.std.proofs.lemmas.Bool.Decides.{nat_tests}
 use Rattle.std.specs.List.{list_all, list_any, filter, AllByRecursion}
 use Rattle.std.specs.Prelude.{IsTrue, ◌↔◌, if◌then◌else◌}
-use Rattle.std.specs.Option.{option_eq, option_and_then, is_none, is_some}
+use Rattle.std.specs.Option.{option_eq, option_or, option_and_then, is_none, is_some}
 use Rattle.std.proofs.lemmas.List.{length-map}
 use Rattle.model.specs.declared.event.Event.{Event}
 use Rattle.model.specs.declared.event.End.{End}
 use Rattle.model.specs.declared.event.End.TheVariants.{Pass, Ticks, Steps, Stuck}
 use Rattle.model.specs.Application.{Application, Limits}
-use Rattle.model.specs.State.{State, Task, Status, Ready, Awake, Waiting, Asleep, WaitingForBits, Suspended, Ended, wait_of, wake_time_of, task_at, no_task, printed, for_each}
+use Rattle.model.specs.State.{State, Task, Status, Ready, Awake, Waiting, Asleep, WaitingForBits, Suspended, Ended, wake_time_of, task_at, no_task, printed, for_each}
 use Rattle.model.specs.Order.{Key, Entry, key, keyed, list_by, in_order, tasks_of}
 use Rattle.model.specs.Switching.{ready_key, settle, unless_held, write}
 use Rattle.model.specs.declared.call.WaitList.{WaitList}
@@ -17,8 +17,8 @@ use Rattle.model.specs.Waiting.{same_list, wait_key}
 use Rattle.model.specs.Time.{delayed_key}
 use Rattle.model.specs.Handlers.{inject}
 use Rattle.model.specs.Step.{is_ended, act_current, before_step, step}
-use Rattle.model.specs.Run.{are_all_ended, is_interrupt_to_come, is_stuck, end_of, or_else}
-use Rattle.model.specs.Invariant.{IsTable}
+use Rattle.model.specs.Run.{are_all_ended, is_interrupt_to_come, is_stuck, end_of}
+use Rattle.model.specs.Invariant.{IsTable, wait_of}
 use Rattle.model.proofs.Sorting.{length-in_order, by_test}
 use Rattle.model.proofs.Lists.{eqb-apart, eqb-refl, HasKey, list_has}
 use Rattle.lists.specs.Lists.{first_of, has_node}
@@ -248,7 +248,7 @@ module _ (app : Application) (limits : Limits) (s : State) (none : s.stopped ≡
 
 -- Whether it is over whatever its limits.
 
-over_not : (stopped : Option End) (all ticks steps stuck : Bool) → or_else stopped (if all then Some Pass else if ticks then Some Ticks else if steps then Some Steps else if stuck then Some Stuck else None) ≡ None → is_some stopped || all || stuck ≡ false
+over_not : (stopped : Option End) (all ticks steps stuck : Bool) → option_or stopped (if all then Some Pass else if ticks then Some Ticks else if steps then Some Steps else if stuck then Some Stuck else None) ≡ None → is_some stopped || all || stuck ≡ false
 over_not (Some end) all ticks steps stuck e = absurd (cc)
 over_not None true ticks steps stuck e = absurd (cc)
 over_not None false true steps stuck e = absurd (cc)

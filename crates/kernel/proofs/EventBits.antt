@@ -13,7 +13,7 @@ use Rattle.model.specs.declared.op.IsrOp.{IsrOp}
 use Rattle.model.specs.declared.op.IsrOp.TheVariants.{GetBits}
 use Rattle.model.specs.declared.op.Op.TheVariants.{SetBits}
 use Rattle.model.specs.Application.{Application}
-use Rattle.model.specs.State.{State, Task, Progress, Status, Ready, Awake, Waiting, WaitingForBits, Asleep, Suspended, Ended, no_task, ticket_if_ready, ticket_if_for_bits, wait_of, task_at, status_at, progress_at, call_at, bits_at, with_bits, for_each}
+use Rattle.model.specs.State.{State, Task, Progress, Status, Ready, Awake, Waiting, WaitingForBits, Asleep, Suspended, Ended, no_task, ticket_if_ready, ticket_if_for_bits, task_at, status_at, progress_at, call_at, bits_at, with_bits, for_each}
 use Rattle.model.specs.Order.{Key, Entry, key, tasks_of}
 use Rattle.model.specs.Switching.{is_ready, make_ready, write}
 use Rattle.model.specs.Suspension.{can_resume}
@@ -21,7 +21,7 @@ use Rattle.model.specs.Waiting.{set_deadline}
 use Rattle.model.specs.Groups.{is_met, is_met_for, bits_left, bits_key, bits_set, bits_after_set, waiters_for_bits, met_by, want, keep_answer, wake_with_bits, wait_for_bits, answer_bits, begin_bits_wait, check, set_bits, set as set_in_group}
 use Rattle.model.specs.Handlers.{isr_told, isr}
 use Rattle.model.specs.Step.{act}
-use Rattle.model.specs.Invariant.{Suspension}
+use Rattle.model.specs.Invariant.{Suspension, wait_of}
 use Rattle.model.proofs.Sorting.{by_test}
 use Rattle.model.proofs.Lists.{HasKey, list_has}
 use Rattle.model.proofs.Statuses.{ready_free}

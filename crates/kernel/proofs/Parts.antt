@@ -5,13 +5,13 @@ use Rattle.std.specs.Option.{option_eq, is_some}
 use Rattle.std.proofs.Math.ListN.{length-set}
 use Rattle.model.specs.declared.call.Phase.TheVariants.{Place}
 use Rattle.model.specs.declared.event.Event.{Event}
-use Rattle.model.specs.State.{State, Task, Progress, Status, Ready, Awake, Waiting, Asleep, WaitingForBits, Suspended, Ended, Object, ticket_if_ready, wait_of, wait_if_awake, wake_time_of, no_call, no_task, no_object, no_progress, task_at, status_at, call_at, with_task, printed}
+use Rattle.model.specs.State.{State, Task, Progress, Status, Ready, Awake, Waiting, Asleep, WaitingForBits, Suspended, Ended, Object, ticket_if_ready, wait_if_awake, wake_time_of, no_call, no_task, no_object, no_progress, task_at, status_at, call_at, with_task, printed}
 use Rattle.model.specs.State as state
 use Rattle.model.specs.Order.{Entry, list_by, tasks_of}
 use Rattle.model.specs.Switching.{is_ready, make_ready, write}
 use Rattle.model.specs.Time.{delayed_key, sleep}
 use Rattle.model.specs.Ops.{moved_to}
-use Rattle.model.specs.Invariant.{IsTable}
+use Rattle.model.specs.Invariant.{IsTable, wait_of}
 use Rattle.model.proofs.Sorting.{by_test}
 use Rattle.model.proofs.Lists.{eqb-refl, eqb-same}
 use Rattle.model.proofs.Tables.{ticket_at, table-set, table-taken, table-make_ready, each-set}

@@ -12,13 +12,13 @@ use Rattle.model.specs.declared.op.IsrOp.{IsrOp}
 use Rattle.model.specs.declared.op.IsrOp.TheVariants.{Resume}
 use Rattle.model.specs.Handlers.{isr_told, isr}
 use Rattle.model.specs.Application.{Application, op_count}
-use Rattle.model.specs.State.{State, Task, Progress, Status, Wait, Ready, Awake, Waiting, Asleep, WaitingForBits, Suspended, Ended, ticket_if_ready, wait_of, wait_if_awake, wake_time_of, task_at, status_at, progress_at, call_at, with_task, with_status, no_task}
+use Rattle.model.specs.State.{State, Task, Progress, Status, Wait, Ready, Awake, Waiting, Asleep, WaitingForBits, Suspended, Ended, ticket_if_ready, wait_if_awake, wake_time_of, task_at, status_at, progress_at, call_at, with_task, with_status, no_task}
 use Rattle.model.specs.State as state
 use Rattle.model.specs.Switching.{is_ready, preempt, write}
 use Rattle.model.specs.Ops.{moved_to, called, go_to, answer, one_if}
 use Rattle.model.specs.Suspension.{can_suspend, can_resume, suspend, phase_resumed, resumed, resume, call_suspend, call_resume}
 use Rattle.model.specs.Waiting.{is_locked, wait_key}
-use Rattle.model.specs.Invariant.{IsTable}
+use Rattle.model.specs.Invariant.{IsTable, wait_of}
 use Rattle.model.proofs.Sorting.{by_test}
 use Rattle.model.proofs.Lists.{eqb-refl, eqb-same}
 use Rattle.model.proofs.Tables.{each-set}

@@ -10,7 +10,7 @@ use Rattle.model.specs.declared.call.WaitList.{WaitList}
 use Rattle.model.specs.declared.op.Access.{Access}
 use Rattle.model.specs.declared.event.Event.{Event}
 use Rattle.model.specs.Application.{Application}
-use Rattle.model.specs.State.{State, Task, Progress, Object, Status, Wait, Ready, Awake, Waiting, Asleep, WaitingForBits, Suspended, Ended, ticket_if_ready, wait_if_waiting, wait_if_awake, wait_of, task_at, status_at, progress_at, call_at, with_call, with_object, go_on, for_one}
+use Rattle.model.specs.State.{State, Task, Progress, Object, Status, Wait, Ready, Awake, Waiting, Asleep, WaitingForBits, Suspended, Ended, ticket_if_ready, wait_if_waiting, wait_if_awake, task_at, status_at, progress_at, call_at, with_call, with_object, go_on, for_one}
 use Rattle.model.specs.State as state
 use Rattle.model.specs.Order.{Key, Entry, first, task_of}
 use Rattle.model.specs.Switching.{is_ready, make_ready, preempt, choose}
@@ -20,7 +20,7 @@ use Rattle.model.specs.Suspension.{can_resume}
 use Rattle.model.specs.Objects.{possible, answer_to, fulfil, attempt}
 use Rattle.model.specs.Mutexes.{after_timeout}
 use Rattle.model.specs.Calls.{try, do_now, leave_call}
-use Rattle.model.specs.Invariant.{IsTable}
+use Rattle.model.specs.Invariant.{IsTable, wait_of}
 use Rattle.model.proofs.Sorting.{by_test}
 use Rattle.model.proofs.Lists.{HasKey, list_has}
 use Rattle.sched.specs.StandsFor as sched

@@ -1,6 +1,7 @@
 -- Who is neither Ready, nor sleeps, nor is Ended.
 use Rattle.std.specs.Prelude.{◌||◌, Bool, is_some}
-use Rattle.model.specs.State.{Task, wait_of}
+use Rattle.model.specs.State.{Task}
+use Rattle.model.specs.Invariant.{wait_of}
 use Rattle.model.specs.Suspension.{can_resume}
 use Rattle.groups.specs.StandsFor.{bits_wait}
 

@@ -4,9 +4,9 @@ use Rattle.std.specs.Option.{IfSome}
 use Rattle.model.specs.declared.object.ObjectKind.{ObjectKind}
 use Rattle.model.specs.declared.object.ObjectKind.TheVariants.{Queue, Semaphore, Mutex}
 use Rattle.model.specs.Application.{Definition}
-use Rattle.model.specs.State.{wait_of, no_call, no_task, no_object}
+use Rattle.model.specs.State.{no_call, no_task, no_object}
 use Rattle.model.specs.Step.{task_at_reset, object_at_reset}
-use Rattle.model.specs.Invariant.{AllTicketsBelow}
+use Rattle.model.specs.Invariant.{AllTicketsBelow, wait_of}
 
 pub none_taken : (start : ℕ) (ds : List Definition) → AllTicketsBelow 0 (map (task_at_reset start) ds)
 none_taken start [] = tt

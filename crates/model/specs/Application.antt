@@ -1,7 +1,5 @@
 -- An application, as its file has it.
 use Rattle.std.specs.Prelude.{ℕ, ◌==◌, List, [], length, map, filter, Option, slice_get, option_map, unwrap_or}
-use Rattle.std.specs.List.{position_from}
-use Rattle.std.specs.Str.{bytes_eq}
 use Rattle.model.specs.declared.object.ObjectKind.{ObjectKind}
 use Rattle.model.specs.declared.op.Op.{Op}
 use Rattle.model.specs.declared.op.IsrOp.{IsrOp}
@@ -59,29 +57,9 @@ op_at app task op_index = slice_get (script_of app task) op_index
 abbrev pub op_count : Application → ℕ → ℕ
 op_count app task = length (script_of app task)
 
--- the name of a task
-abbrev pub name_of : Application → ℕ → List ℕ
-name_of app task = unwrap_or (option_map (λ (d : Definition). d.name) (definition_of app task)) []
-
--- the handler of this number, as the file has it
-abbrev pub handler_of : Application → ℕ → Option Handler
-handler_of app handler = slice_get app.handlers handler
-
 -- the ops of a handler
 abbrev pub ops_of : Application → ℕ → List IsrOp
-ops_of app handler = unwrap_or (option_map (λ (h : Handler). h.ops) (handler_of app handler)) []
-
--- the op of this index of a handler
-abbrev pub isr_op_at : Application → ℕ → ℕ → Option IsrOp
-isr_op_at app handler op_index = slice_get (ops_of app handler) op_index
-
--- the name of a handler
-abbrev pub handler_name_of : Application → ℕ → List ℕ
-handler_name_of app handler = unwrap_or (option_map (λ (h : Handler). h.name) (handler_of app handler)) []
-
--- the number of the first handler of this name
-abbrev pub handler_named : Application → List ℕ → Option ℕ
-handler_named app name = position_from (λ (h : Handler). bytes_eq h.name name) 0 app.handlers
+ops_of app handler = unwrap_or (option_map (λ (h : Handler). h.ops) (slice_get app.handlers handler)) []
 
 -- the handlers of the base interrupts at an elapsed tick, in the order of the file
 abbrev pub interrupts_at : Application → ℕ → List ℕ

@@ -11,10 +11,16 @@ use Rattle.model.specs.declared.call.WaitList.{WaitList}
 use Rattle.model.specs.declared.loops.Loop.{Loop}
 use Rattle.model.specs.Application.{Application, script_of, op_at}
 use Rattle.model.specs.Scripts.{Nests, priorities}
-use Rattle.model.specs.State.{State, Task, Progress, Object, Status, Wait, Asleep, Suspended, Ended, wait_of, wait_if_awake, ticket_of, task_at, status_at, progress_at, call_at, object_at}
+use Rattle.model.specs.State.{State, Task, Progress, Object, Status, Wait, Waiting, Awake, Asleep, Suspended, Ended, wait_if_awake, ticket_of, task_at, status_at, progress_at, call_at, object_at}
 use Rattle.model.specs.Switching.{is_ready, is_held, is_scheduler_suspended}
 use Rattle.model.specs.Waiting.{is_locked}
 use Rattle.model.specs.Objects.{list_for}
+
+-- the wait of a task that is Waiting or Awake
+abbrev pub wait_of : Status → Option Wait
+wait_of (Waiting wait) = Some wait
+wait_of (Awake wait) = Some wait
+wait_of _ = None
 
 -- The task's ticket, if it has one, is below the next.
 abbrev pub HasTicketBelow : ℕ → Status → Type 0

@@ -1,6 +1,7 @@
 -- A run of the kernel, from reset to its end, with handlers injected by a plan.
 use Rattle.std.specs.Prelude.{◌≡◌, ℕ, zero, suc, ◌<◌, ◌==◌, ◌&&◌, Bool, not, List, [], ◌∷◌, ◌++◌, map, filter, Option, Some, None, is_some, is_none, nat_lt, nat_le, if◌then◌else◌}
 use Rattle.std.specs.List.{list_any, list_all}
+use Rattle.std.specs.Option.{option_or}
 use Rattle.model.specs.declared.event.Event.{Event}
 use Rattle.model.specs.declared.event.End.{End}
 use Rattle.model.specs.declared.event.End.TheVariants.{Pass, Ticks, Steps, Stuck}
@@ -25,14 +26,9 @@ is_interrupt_to_come app s = list_any (λ (i : Interrupt). nat_lt s.elapsed i.ti
 abbrev pub is_stuck : Application → State → Bool
 is_stuck app s = is_none s.current && not (will_wake s) && not (is_interrupt_to_come app s)
 
--- the first end, if there is one, else the other
-abbrev pub or_else : Option End → Option End → Option End
-or_else None other = other
-or_else (Some end) other = Some end
-
 -- the end of a run before the next step: the first of these that holds (profile)
 abbrev pub end_of : Application → Limits → State → Option End
-end_of app limits s = or_else s.stopped (
+end_of app limits s = option_or s.stopped (
     if are_all_ended s then Some Pass
     else if nat_le limits.ticks s.elapsed then Some Ticks
     else if nat_le limits.steps s.steps then Some Steps

@@ -48,12 +48,6 @@ abbrev pub wait_if_awake : Status → Option Wait
 wait_if_awake (Awake wait) = Some wait
 wait_if_awake _ = None
 
--- the wait of a task that is Waiting or Awake
-abbrev pub wait_of : Status → Option Wait
-wait_of (Waiting wait) = Some wait
-wait_of (Awake wait) = Some wait
-wait_of _ = None
-
 -- the ticket of a task that waits for bits of this group
 abbrev pub ticket_if_for_bits : ℕ → Status → Option ℕ
 ticket_if_for_bits group (WaitingForBits other ticket deadline) = if other == group then Some ticket else None

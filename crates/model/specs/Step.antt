@@ -1,5 +1,5 @@
 -- One step of the kernel: what the running task's op does, or idle, after the handlers that are injected.
-use Rattle.std.specs.Prelude.{ℕ, ◌+◌, ◌-◌, ◌&&◌, Bool, true, false, List, [], ◌∷◌, Option, Some, None, if◌then◌else◌, map, length, replicate}
+use Rattle.std.specs.Prelude.{ℕ, ◌+◌, ◌-◌, ◌&&◌, ◌==◌, Bool, true, false, List, [], ◌∷◌, Option, Some, None, if◌then◌else◌, map, length, replicate}
 use Rattle.model.specs.declared.object.ObjectKind.{ObjectKind}
 use Rattle.model.specs.declared.object.ObjectKind.TheVariants.{Queue, Semaphore, Mutex}
 use Rattle.model.specs.declared.op.Op.{Op}
@@ -117,11 +117,6 @@ step app handlers s =
 
 -- ---- reset
 
--- The script has no op.
-abbrev pub is_empty : List Op → Bool
-is_empty [] = true
-is_empty (op ∷ ops) = false
-
 -- a task that has not been Ready yet, at this time
 abbrev pub task_at_reset : ℕ → Definition → Task
 task_at_reset start d = record {
@@ -159,7 +154,7 @@ nobody_ready app = record {
 -- the tasks that have an op, in the order of the file; the first given is the task of this number
 abbrev pub with_ops : ℕ → List Definition → List ℕ
 with_ops i [] = []
-with_ops i (d ∷ ds) = if is_empty d.script then with_ops (i + 1) ds else i ∷ with_ops (i + 1) ds
+with_ops i (d ∷ ds) = if length d.script == 0 then with_ops (i + 1) ds else i ∷ with_ops (i + 1) ds
 
 -- All are Ready, in the order of the file (profile). A task with an empty script is Ended.
 unfoldable pub ready_at_reset : Application → State

@@ -1,11 +1,14 @@
--- The words of ops: with them their texts in a file begin, and by them reports name them.
-use Rattle.std.specs.Prelude.{ℕ, List, codes}
+-- The words of ops, with which their texts in a file begin, and the names of tasks and handlers: by these reports name them.
+use Rattle.std.specs.Prelude.{ℕ, List, [], codes, Option, slice_get, option_map, unwrap_or}
+use Rattle.std.specs.List.{position_from}
+use Rattle.std.specs.Str.{bytes_eq}
 use Rattle.model.specs.declared.op.Access.{Access}
 use Rattle.model.specs.declared.op.Access.TheVariants.{Send, SendFront, Overwrite, Receive, Peek, Take, Give, Lock}
 use Rattle.model.specs.declared.op.Op.{Op}
 use Rattle.model.specs.declared.op.Op.TheVariants.{Work, Delay, DelayUntil, Yield, Time, Mark, Expect, Repeat, End, Await, Do, GiveMutex, MessagesWaiting, SpacesAvailable, SetBits, ClearBits, GetBits, WaitBits, Suspend, Resume, SuspendAll, ResumeAll}
 use Rattle.model.specs.declared.op.IsrOp.{IsrOp}
 use Rattle.model.specs.declared.op.IsrOp.TheVariants as isr
+use Rattle.model.specs.Application.{Application, Definition, Handler, definition_of, ops_of}
 
 -- the first word of a call's text
 abbrev pub word_of_access : Access → List ℕ
@@ -49,3 +52,21 @@ word_of_isr (isr.Do object access) = word_of_access access
 word_of_isr (isr.Resume task) = codes "resume"
 word_of_isr (isr.GetBits group) = codes "bits"
 word_of_isr (isr.Mark n) = codes "mark"
+
+-- ---- names
+
+-- the name of a task
+abbrev pub name_of : Application → ℕ → List ℕ
+name_of app task = unwrap_or (option_map (λ (d : Definition). d.name) (definition_of app task)) []
+
+-- the name of a handler
+abbrev pub handler_name_of : Application → ℕ → List ℕ
+handler_name_of app handler = unwrap_or (option_map (λ (h : Handler). h.name) (slice_get app.handlers handler)) []
+
+-- the number of the first handler of this name
+abbrev pub handler_named : Application → List ℕ → Option ℕ
+handler_named app name = position_from (λ (h : Handler). bytes_eq h.name name) 0 app.handlers
+
+-- the op of this index of a handler
+abbrev pub isr_op_at : Application → ℕ → ℕ → Option IsrOp
+isr_op_at app handler op_index = slice_get (ops_of app handler) op_index

@@ -3,7 +3,8 @@
 ghost use Rattle.std.specs.Prelude.{◌≡◌, ◌<◌, ◌≤◌, ◌==◌, filter, length, map, nat_lt, string_bytes};
 ghost use Rattle.std.specs.List.{list_any};
 ghost use Rattle.model.specs.Application as application;
-ghost use Rattle.model.specs.Application.{op_at, op_count, name_of, handler_name_of, handler_named, interrupts_at, isr_op_at, ops_of};
+ghost use Rattle.model.specs.Application.{op_at, op_count, interrupts_at, ops_of};
+ghost use Rattle.model.specs.Words.{name_of, handler_name_of, handler_named, isr_op_at};
 ghost use Rattle.model.specs.Scripts.{InOrder, IsScript, IsDefinition, IsWellFormed, most_handler_ops, most_name_bytes};
 
 use crate::ids::{HandlerId, TaskId};

@@ -6,7 +6,8 @@ use Rattle.std.proofs.lemmas.Bool.{ltb-false}
 use Rattle.std.proofs.lemmas.List.{get_or-set_same, get_or-set_other}
 use Rattle.model.specs.declared.call.WaitList.{WaitList}
 use Rattle.model.specs.declared.call.WaitList.TheVariants.{ToReceive, ToSend}
-use Rattle.model.specs.State.{State, Status, Ready, Awake, Waiting, Asleep, WaitingForBits, Suspended, Ended, Task, Wait, no_task, wait_of, wait_if_awake, wait_if_waiting, task_at, status_at, for_one}
+use Rattle.model.specs.State.{State, Status, Ready, Awake, Waiting, Asleep, WaitingForBits, Suspended, Ended, Task, Wait, no_task, wait_if_awake, wait_if_waiting, task_at, status_at, for_one}
+use Rattle.model.specs.Invariant.{wait_of}
 use Rattle.model.specs.Order.{Key, Entry, entry, first, in_order, keyed, list_by, put, before, task_of}
 use Rattle.model.specs.Switching.{is_same}
 use Rattle.model.specs.Waiting.{awaken, awake_status, is_locked, same_list, wait_key, waiters, wake_best, wake_one}

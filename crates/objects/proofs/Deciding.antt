@@ -11,7 +11,8 @@ use Rattle.model.specs.declared.call.WaitList.TheVariants.{ToReceive, ToSend}
 use Rattle.model.specs.declared.event.End.{End}
 use Rattle.model.specs.declared.event.Event.{Event}
 use Rattle.model.specs.declared.op.Access.{Access}
-use Rattle.model.specs.State.{State, Progress, Task, no_task, wait_if_awake, wait_of, call_at, go_on, progress_at, status_at, task_at, with_progress}
+use Rattle.model.specs.State.{State, Progress, Task, no_task, wait_if_awake, call_at, go_on, progress_at, status_at, task_at, with_progress}
+use Rattle.model.specs.Invariant.{wait_of}
 use Rattle.model.specs.Order.{Entry}
 use Rattle.model.specs.Objects.{list_for}
 use Rattle.model.specs.Calls.{lock}

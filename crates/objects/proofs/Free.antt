@@ -8,7 +8,8 @@ use Rattle.lists.proofs.Entries.{apart_from_test, has_node-apart, has_node-other
 use Rattle.lists.proofs.Laws.{place_of-None}
 use Rattle.model.specs.declared.call.WaitList.{WaitList}
 use Rattle.model.specs.declared.call.WaitList.TheVariants.{ToReceive, ToSend}
-use Rattle.model.specs.State.{State, Task, Wait, no_task, wait_of, task_at, status_at}
+use Rattle.model.specs.State.{State, Task, Wait, no_task, task_at, status_at}
+use Rattle.model.specs.Invariant.{wait_of}
 use Rattle.model.specs.Order.{Key, Entry, key}
 use Rattle.model.specs.Waiting.{same_list, wait_key}
 use Rattle.model.proofs.Sorting.{by_test}

@@ -6,10 +6,10 @@ use Rattle.model.specs.declared.call.CallProgress.{CallProgress}
 use Rattle.model.specs.declared.call.Phase.{Phase}
 use Rattle.model.specs.declared.call.WaitList.{WaitList}
 use Rattle.model.specs.declared.call.WaitList.TheVariants.{ToReceive, ToSend}
-use Rattle.model.specs.State.{State, Task, Progress, Status, Ready, no_task, wait_of, wait_if_awake, task_at, status_at, progress_at, call_at, with_task, with_call, with_progress, go_on, take_ticket}
+use Rattle.model.specs.State.{State, Task, Progress, Status, Ready, no_task, wait_if_awake, task_at, status_at, progress_at, call_at, with_task, with_call, with_progress, go_on, take_ticket}
 use Rattle.model.specs.Order.{Key, Entry, in_order, keyed}
 use Rattle.model.specs.Switching.{make_ready, to_back, is_ready}
-use Rattle.model.specs.Invariant.{IsTable}
+use Rattle.model.specs.Invariant.{IsTable, wait_of}
 use Rattle.model.proofs.Sorting.{by_test}
 use Rattle.model.proofs.Tables.{each-set}
 use Rattle.model.proofs.Statuses.{free_unwoken, ready_free}

@@ -4,10 +4,10 @@ use Rattle.std.specs.List.{AllByRecursion, cons_option}
 use Rattle.std.specs.Option.{IfSome, option_and_then, option_map}
 use Rattle.model.specs.declared.call.WaitList.{WaitList}
 use Rattle.model.specs.declared.call.WaitList.TheVariants.{ToReceive, ToSend}
-use Rattle.model.specs.State.{State, Status, Ready, Awake, Waiting, Asleep, WaitingForBits, Suspended, Ended, Task, Wait, no_task, wait_of, wait_if_waiting, wait_if_awake, ticket_of, status_at}
+use Rattle.model.specs.State.{State, Status, Ready, Awake, Waiting, Asleep, WaitingForBits, Suspended, Ended, Task, Wait, no_task, wait_if_waiting, wait_if_awake, ticket_of, status_at}
 use Rattle.model.specs.Order.{Key, Entry, entry, in_order, keyed}
 use Rattle.model.specs.Waiting.{same_list, wait_key, waiters, is_locked, awake_status}
-use Rattle.model.specs.Invariant.{AllTicketsBelow, HasTicketBelow}
+use Rattle.model.specs.Invariant.{AllTicketsBelow, HasTicketBelow, wait_of}
 use Rattle.model.proofs.Sorting.{by_test}
 use Rattle.model.proofs.Lists.{Below, eqb-refl, eqb-same}
 use Rattle.objects.specs.WaitingLists.{number_of}

@@ -3,7 +3,8 @@ use Rattle.std.proofs.Common.{◌≡◌, ℕ, ◌+◌, zero, suc, Bool, not, con
 use Rattle.std.specs.List.{cons_option, filter}
 use Rattle.std.specs.Option.{is_some, option_and_then, option_map}
 use Rattle.model.specs.declared.call.WaitList.{WaitList}
-use Rattle.model.specs.State.{State, Status, Ready, Awake, Waiting, Asleep, WaitingForBits, Suspended, Ended, Task, no_task, wait_of, wait_if_waiting, wait_if_awake}
+use Rattle.model.specs.State.{State, Status, Ready, Awake, Waiting, Asleep, WaitingForBits, Suspended, Ended, Task, no_task, wait_if_waiting, wait_if_awake}
+use Rattle.model.specs.Invariant.{wait_of}
 use Rattle.model.specs.Order.{Key, Entry, entry, in_order, keyed, list_by, tasks_of}
 use Rattle.model.specs.Waiting.{awakened, wait_key, waiters}
 use Rattle.model.proofs.Sorting.{Falls-in_order, by_test, filter-put}

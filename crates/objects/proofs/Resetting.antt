@@ -8,12 +8,12 @@ use Rattle.model.specs.declared.object.ObjectKind.{ObjectKind}
 use Rattle.model.specs.declared.object.ObjectKind.TheVariants.{Queue, Semaphore, Mutex}
 use Rattle.model.specs.declared.call.WaitList.{WaitList}
 use Rattle.model.specs.Application.{Application}
-use Rattle.model.specs.State.{State, Object, Task, Ready, no_object, no_task, wait_of, status_at, task_at, for_each}
+use Rattle.model.specs.State.{State, Object, Task, Ready, no_object, no_task, status_at, task_at, for_each}
 use Rattle.model.specs.Order.{Entry}
 use Rattle.model.specs.Switching.{make_ready}
 use Rattle.model.specs.Step.{nobody_ready, object_at_reset, ready_at_reset, reset, with_ops}
 use Rattle.model.specs.Waiting.{wait_key}
-use Rattle.model.specs.Invariant.{IsTable}
+use Rattle.model.specs.Invariant.{IsTable, wait_of}
 use Rattle.model.proofs.Chosen.{choice_within}
 use Rattle.model.proofs.Lists.{HasKey, list_has}
 use Rattle.model.proofs.Resets.{call-reset, holders-reset, none_taken}

@@ -5,7 +5,8 @@ use Rattle.model.specs.declared.op.Access.{Access}
 use Rattle.model.specs.declared.op.Access.TheVariants.{Overwrite}
 use Rattle.model.specs.declared.call.WaitList.{WaitList}
 use Rattle.model.specs.declared.call.WaitList.TheVariants.{ToReceive, ToSend}
-use Rattle.model.specs.State.{State, Object, object_at, wait_of, wait_if_awake, status_at}
+use Rattle.model.specs.State.{State, Object, object_at, wait_if_awake, status_at}
+use Rattle.model.specs.Invariant.{wait_of}
 use Rattle.objects.specs.declared.lock.Lock.{Lock}
 use Rattle.objects.specs.Items.{object_in}
 use Rattle.objects.specs.WaitingLists.{best_of, waiting_in, without_best, without_woken}

@@ -2,10 +2,10 @@
 use Rattle.std.specs.Prelude.{◌≡◌, ℕ, zero, suc, ◌+◌, Bool, true, false, is_some, List, [], ◌∷◌, Option, Some, None, nat_lt, if◌then◌else◌, option_and_then, IfSome}
 use Rattle.model.specs.declared.call.WaitList.{WaitList}
 use Rattle.model.specs.declared.call.WaitList.TheVariants.{ToReceive, ToSend}
-use Rattle.model.specs.State.{State, Task, wait_of, wait_if_awake, status_at}
+use Rattle.model.specs.State.{State, Task, wait_if_awake, status_at}
 use Rattle.model.specs.Order.{Entry, list_by, tasks_of}
 use Rattle.model.specs.Waiting.{awakened, is_locked, same_list, wait_key}
-use Rattle.model.specs.Invariant.{IsTable}
+use Rattle.model.specs.Invariant.{IsTable, wait_of}
 use Rattle.task_lists.specs.Priorities.{with_priorities}
 use Rattle.objects.specs.WaitingLists.{waiting_in}
 use Rattle.task_lists.specs.Tasks.{insert_by_priority}

@@ -7,7 +7,8 @@ ghost use Rattle.model.specs.declared.call.WaitList.TheVariants.{ToReceive, ToSe
 ghost use Rattle.model.specs.declared.event.End.{End};
 ghost use Rattle.model.specs.declared.event.Event.{Event};
 ghost use Rattle.model.specs.declared.op.Access.{Access};
-ghost use Rattle.model.specs.State.{Progress, State, status_at, task_at, wait_of, with_progress};
+ghost use Rattle.model.specs.State.{Progress, State, status_at, task_at, with_progress};
+ghost use Rattle.model.specs.Invariant.{wait_of};
 ghost use Rattle.model.specs.Objects.{list_for};
 ghost use Rattle.model.specs.Calls.{lock};
 ghost use Rattle.model.specs.Mutexes.{after_timeout, disinherit, inherit, set_priority};

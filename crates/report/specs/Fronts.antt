@@ -1,6 +1,7 @@
 -- The front of a line: all of what it tells but its number.
 use Rattle.std.specs.Prelude.{◌≡◌, ℕ, ◌≤◌, ◌<◌, List, ◌++◌, take, codes, slice_index_or, replicate}
-use Rattle.model.specs.Application.{Application, name_of, handler_name_of}
+use Rattle.model.specs.Application.{Application}
+use Rattle.model.specs.Words.{name_of, handler_name_of}
 use Rattle.report.specs.Text.{call_front, isr_front}
 use Rattle.report.specs.declared.label.Label.{Label}
 use Rattle.report.specs.declared.label.OpLabel.{OpLabel}

@@ -1,8 +1,8 @@
 -- The text of a run.
 use Rattle.std.specs.Prelude.{ℕ, ◌+◌, Bool, true, false, List, [], ◌∷◌, ◌++◌, codes, decimal, Option, Some, None, option_map, unwrap_or}
 use Rattle.std.specs.List.{flat_map}
-use Rattle.model.specs.Application.{Application, op_at, name_of, isr_op_at, handler_name_of}
-use Rattle.model.specs.Words.{word_of, word_of_isr}
+use Rattle.model.specs.Application.{Application, op_at}
+use Rattle.model.specs.Words.{name_of, isr_op_at, handler_name_of, word_of, word_of_isr}
 use Rattle.model.specs.Run.{Run}
 use Rattle.model.specs.Campaign.{totals_of}
 use Rattle.model.specs.Campaign as campaign

@@ -1,6 +1,6 @@
 //! The head line of a run, and the fronts of other lines, into a page that has room for them.
 ghost use Rattle.std.specs.Prelude.{◌≡◌, ◌≤◌, ◌+◌, ◌++◌, length, decimal};
-ghost use Rattle.model.specs.Application.{name_of, handler_name_of};
+ghost use Rattle.model.specs.Words.{name_of, handler_name_of};
 ghost use Rattle.report.specs.Text.{word_at, call_front, isr_word_at, isr_front, code_of, op_text, verdict_text, point_text, reached_text, title_text, head_text, total_text};
 ghost use Rattle.report.specs.Fronts.{mark_front, isr_mark_front, run_front};
 

@@ -11,13 +11,14 @@ use Rattle.model.specs.declared.object.ObjectKind.TheVariants as kind
 use Rattle.model.specs.declared.op.Access.{Access}
 use Rattle.model.specs.Application.{Application}
 use Rattle.model.specs.Scripts.{fits, fits_object, is_of_semaphore, is_of_mutex, has_group, has_task}
-use Rattle.script.specs.declared.object_sort.ObjectSort.{ObjectSort}
-use Rattle.script.specs.declared.object_sort.ObjectSort.TheVariants.{Queue, Semaphore, Mutex}
-use Rattle.script.specs.Grammar.{Word, NameSort, OfObject, OfGroup, OfTask}
+use Rattle.grammar.specs.declared.object_sort.ObjectSort.{ObjectSort}
+use Rattle.grammar.specs.declared.object_sort.ObjectSort.TheVariants.{Queue, Semaphore, Mutex}
+use Rattle.grammar.specs.Grammar.{Word, NameSort, OfObject, OfGroup, OfTask}
 use Rattle.script.specs.Entries.{Object, Group, Raw, Entries, HasEntries}
-use Rattle.script.specs.Finding.{is_of_sort, is_called, among}
+use Rattle.grammar.specs.Finding.{is_of_sort}
+use Rattle.script.specs.Finding.{is_called, among}
 use Rattle.script.specs.Ops.{allows}
-use Rattle.script.proofs.Reading.{chosen}
+use Rattle.grammar.proofs.Reading.{chosen}
 
 -- These objects have one of this index and this sort.
 abbrev is_at : List Object → ObjectSort → ℕ → Bool

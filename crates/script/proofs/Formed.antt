@@ -16,16 +16,17 @@ use Rattle.script.specs.declared.place.Key.{Key}
 use Rattle.script.specs.declared.place.Key.TheVariants as key
 use Rattle.script.specs.declared.place.Section.TheVariants as section
 use Rattle.script.specs.Faults.{at_section, at_entry, at_key, key_word, fault_at, fails_if, first_fault, need, required}
-use Rattle.script.specs.Names.{index_of}
+use Rattle.grammar.specs.Names.{index_of}
 use Rattle.script.specs.Values.{integer_fault, number_fault, integer_named, number_or, number_named, known_fault, known_named, member_of}
 use Rattle.script.specs.Arrays.{array_of, elements_of, tables, each_fault, section_fault}
 use Rattle.script.specs.Sections.{data_at}
-use Rattle.script.specs.Grammar.{Word, words_of}
-use Rattle.script.specs.Points.{SpellsEntry, entry_of, entry_named, point_elements, points_fault, campaign_fault, campaign_named}
+use Rattle.grammar.specs.Grammar.{Word, words_of}
+use Rattle.grammar.specs.Points.{SpellsEntry, entry_of}
+use Rattle.script.specs.Points.{entry_named, point_elements, points_fault, campaign_fault, campaign_named}
 use Rattle.script.specs.Interrupts.{count_at, interrupt_named, interrupt_keys, interrupts_fault, interrupts_named, put_in, in_order}
 use Rattle.script.proofs.Checks.{none_fails, passes}
 use Rattle.script.proofs.Fitting.{below_from}
-use Rattle.script.proofs.PointTexts.{sound}
+use Rattle.grammar.proofs.PointTexts.{sound}
 use Rattle.script.proofs.Coming.{AreInterrupts, one_more, none_yet, count_more, length_put}
 
 -- ---- what the checks of keys give

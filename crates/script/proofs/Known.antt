@@ -9,15 +9,15 @@ use Rattle.model.specs.declared.op.IsrOp.{IsrOp}
 use Rattle.model.specs.Application.{Application, Handler}
 use Rattle.model.specs.Scripts.{is_in_range, knows, knows_isr, KnowsAll, IsHandler, most_name_bytes, most_handler_ops}
 use Rattle.model.proofs.Sorting.{by_test}
-use Rattle.script.specs.declared.object_sort.ObjectSort.TheVariants.{Queue, Semaphore, Mutex}
+use Rattle.grammar.specs.declared.object_sort.ObjectSort.TheVariants.{Queue, Semaphore, Mutex}
 use Rattle.script.specs.declared.place.Place.{Place}
 use Rattle.script.specs.Arrays.{each_fault}
-use Rattle.script.specs.Grammar.{Word, Form, forms, object_forms, semaphore_forms, group_forms, suspension_forms, isr_forms, read_by, if_in_range, op_of, isr_op_of, words_of}
+use Rattle.grammar.specs.Grammar.{Word, Form, forms, object_forms, semaphore_forms, group_forms, suspension_forms, isr_forms, read_by, if_in_range, op_of, isr_op_of, words_of}
 use Rattle.script.specs.Entries.{RawIsr, Raw, Entries, HasEntries}
 use Rattle.script.specs.Finding.{among}
 use Rattle.script.specs.Ops.{Ops, task_ops, handler_ops, is_allowed, is_isr_allowed, op_in, nesting_with, op_elements, op_fault, script_fault, script_named, handler_scripts, task_scripts, scripts_fault, handler_ops_fault, with_ops, with_isr_ops}
 use Rattle.script.proofs.Checks.{none_fails}
-use Rattle.script.proofs.Forms.{Makes, read_by_holds}
+use Rattle.grammar.proofs.Forms.{Makes, read_by_holds}
 use Rattle.script.proofs.Fitting.{IsAt, found_at, at_fits, allowed_fits, at_group, at_task}
 use Rattle.script.proofs.Scripts.{taken_stands}
 

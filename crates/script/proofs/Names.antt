@@ -19,7 +19,8 @@ use Rattle.script.specs.declared.place.Section.TheVariants as section
 use Rattle.script.specs.declared.place.Key.TheVariants as key
 use Rattle.script.specs.declared.object_section.ObjectSection.{ObjectSection}
 use Rattle.script.specs.Faults.{at_section, at_entry, at_key, fault_at, fails_if, first_fault, need, required}
-use Rattle.script.specs.Names.{is_name, task_names, AreDistinct}
+use Rattle.grammar.specs.Names.{is_name}
+use Rattle.script.specs.Names.{task_names, AreDistinct}
 use Rattle.script.specs.Values.{name_fault, name_named, text_named}
 use Rattle.script.specs.Arrays.{array_of, tables, each_fault, section_fault, section_named}
 use Rattle.script.specs.Entries.{Object, Group, RawIsr, Raw, Entries, names_of}

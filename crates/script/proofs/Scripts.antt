@@ -13,7 +13,8 @@ use Rattle.script.specs.declared.fault.FaultKind.TheVariants.{BadOp, UnknownName
 use Rattle.script.specs.declared.place.Place.{Place}
 use Rattle.script.specs.Faults.{fault_at, fails_if, need}
 use Rattle.script.specs.Entries.{Raw, Entries}
-use Rattle.script.specs.Finding.{any_name, among}
+use Rattle.grammar.specs.Finding.{any_name}
+use Rattle.script.specs.Finding.{among}
 use Rattle.script.specs.Ops.{Ops, task_ops, op_in, standing_fault, op_fault, op_elements, nesting_with, script_fault, script_named, task_scripts, scripts_fault, with_ops}
 use Rattle.script.proofs.Checks.{none_fails, passes}
 

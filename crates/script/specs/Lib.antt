@@ -1,5 +1,4 @@
 pub mod Faults
-pub mod Grammar
 pub mod Names
 pub mod Arrays
 pub mod Values

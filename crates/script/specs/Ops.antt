@@ -16,9 +16,10 @@ use Rattle.script.specs.declared.place.Section.TheVariants as section
 use Rattle.script.specs.declared.place.Key.TheVariants as key
 use Rattle.script.specs.Faults.{at_entry, at_key, at_element, fault_at, first_fault, fails_if, need}
 use Rattle.script.specs.Arrays.{Elements, each_fault, alike}
-use Rattle.script.specs.Grammar.{Word, Naming, words_of, op_of, isr_op_of}
+use Rattle.grammar.specs.Grammar.{Word, Naming, words_of, op_of, isr_op_of}
 use Rattle.script.specs.Entries.{Object, RawIsr, Raw, Entries}
-use Rattle.script.specs.Finding.{any_name, among}
+use Rattle.grammar.specs.Finding.{any_name}
+use Rattle.script.specs.Finding.{among}
 
 -- The object of this number allows the call: `overwrite` is for queues of length 1.
 abbrev pub allows : List Object → ℕ → Access → Bool

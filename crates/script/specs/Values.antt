@@ -13,7 +13,7 @@ use Rattle.script.specs.declared.place.Place.{Place}
 use Rattle.script.specs.declared.place.Key.{Key}
 use Rattle.script.specs.declared.place.Key.TheVariants as key
 use Rattle.script.specs.Faults.{at_element, key_word, fault_at, first_fault, fails_if, need}
-use Rattle.script.specs.Names.{is_name, index_of}
+use Rattle.grammar.specs.Names.{is_name, index_of}
 use Rattle.script.specs.Arrays.{Elements, alike, array_fault, elements_of}
 
 -- what the code found at a key

@@ -2,25 +2,14 @@
 ghost use Rattle.std.specs.Prelude.{◌≡◌, ◌≤◌, map, length};
 ghost use Rattle.std.specs.List.{position_from};
 ghost use Rattle.model.specs.Scripts.{most_objects};
-ghost use Rattle.script.specs.Grammar.{OfObject, OfGroup, OfTask};
 ghost use Rattle.script.specs.Entries.{object_view};
-ghost use Rattle.script.specs.Finding.{is_called, found_by};
+ghost use Rattle.script.specs.Finding.{is_called};
 
 use crate::entries::NamedEntries;
-use crate::name::is_name;
 use crate::named::index_of;
 use crate::named_object::NamedObject;
-use crate::object_sort::ObjectSort;
+use grammar::{Finding, ObjectSort};
 use model::{GroupId, ObjectId, TaskId};
-
-/// How names in the text of an op are read.
-#[derive(Clone, Copy)]
-pub(crate) enum Finding<'a> {
-    /// Any name will do: the text is only looked at for what it spells.
-    Any,
-    /// A name is that of one of these entries, which has to be what the op asks for.
-    Among(&'a NamedEntries<'a>),
-}
 
 // Whether it is an object of this sort and this name.
 fn is_called(object: &NamedObject<'_>, sort: ObjectSort, word: &[u8]) -> bool
@@ -42,43 +31,24 @@ fn object_among(objects: &[NamedObject<'_>], sort: ObjectSort, word: &[u8]) -> O
     None
 }
 
-impl<'a> Finding<'a> {
-    /// The object of this sort that a word names.
-    pub(crate) fn object(self, sort: ObjectSort, word: &[u8]) -> Option<ObjectId>
-        ensures { result ≡ found_by self.entry (OfObject sort) word.now }
-    {
-        match self {
-            Finding::Any if is_name(word) => ObjectId::new(0),
-            Finding::Any => None,
-            Finding::Among(entries) => object_among(entries.objects.as_slice(), sort, word),
-        }
+// A name is that of one of these entries, which has to be what the op asks for.
+impl Finding for NamedEntries<'_> {
+    ghost use Rattle.script.specs.Entries.{entries_view};
+    ghost use Rattle.script.specs.Finding.{among};
+
+    ghost naming = { λ entries. among (entries_view entries) };
+
+    fn object(&self, sort: ObjectSort, word: &[u8]) -> Option<ObjectId> {
+        object_among(self.objects.as_slice(), sort, word)
     }
 
-    /// The event group that a word names.
-    pub(crate) fn group(self, word: &[u8]) -> Option<GroupId>
-        ensures { result ≡ found_by self.entry OfGroup word.now }
-    {
-        match self {
-            Finding::Any if is_name(word) => GroupId::new(0),
-            Finding::Any => None,
-            Finding::Among(entries) => {
-                let index = index_of(entries.groups.as_slice(), word)?;
-                GroupId::new(index as u8)
-            }
-        }
+    fn group(&self, word: &[u8]) -> Option<GroupId> {
+        let index = index_of(self.groups.as_slice(), word)?;
+        GroupId::new(index as u8)
     }
 
-    /// The task that a word names.
-    pub(crate) fn task(self, word: &[u8]) -> Option<TaskId>
-        ensures { result ≡ found_by self.entry OfTask word.now }
-    {
-        match self {
-            Finding::Any if is_name(word) => TaskId::new(0),
-            Finding::Any => None,
-            Finding::Among(entries) => {
-                let index = index_of(entries.tasks.as_slice(), word)?;
-                TaskId::new(index as u8)
-            }
-        }
+    fn task(&self, word: &[u8]) -> Option<TaskId> {
+        let index = index_of(self.tasks.as_slice(), word)?;
+        TaskId::new(index as u8)
     }
 }

@@ -2,7 +2,7 @@
 ghost use Rattle.std.specs.Prelude.{◌≡◌, ◌<◌, map, length, IfSome};
 ghost use Rattle.std.specs.List.{list_any};
 ghost use Rattle.std.specs.Str.{bytes_eq};
-ghost use Rattle.script.specs.Names.{index_of};
+ghost use Rattle.grammar.specs.Names.{index_of};
 
 /// An entry with a name.
 pub(crate) trait Named {

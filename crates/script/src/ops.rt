@@ -5,16 +5,15 @@ ghost use Rattle.toml.specs.View.{view};
 ghost use Rattle.model.specs.Application.{Handler, Definition};
 ghost use Rattle.model.specs.Scripts.{InRange, IsScript, IsDefinition, Nests, may_stand, nesting_after, most_tasks, most_ops, most_handlers, most_handler_ops, most_name_bytes};
 ghost use Rattle.script.specs.Faults.{Judges};
-ghost use Rattle.script.specs.Finding.{found_by, among};
+ghost use Rattle.script.specs.Finding.{among};
 ghost use Rattle.script.specs.Entries.{object_view, entries_view};
 ghost use Rattle.script.specs.Ops.{allows, task_ops, handler_ops, op_in, op_fault, nesting_with, script_fault, script_named, handler_ops_fault, scripts_fault, with_isr_ops, with_ops};
 
 use crate::entries::NamedEntries;
 use crate::fault::{Fault, FaultKind};
-use crate::finding::Finding;
 use crate::named_object::NamedObject;
-use crate::op_text::{isr_op_of, op_of};
 use crate::place::{Key, Place, Section};
+use grammar::{AnyName, Finding, isr_op_of, op_of};
 use model::{
     Access, HandlerDefinition, IsrOp, NestingFault, ObjectId, Op, Script, ScriptBuilder,
     TaskDefinition,
@@ -25,8 +24,7 @@ use toml::Value;
 /// An op of a text: a task's, or a handler's.
 pub(crate) trait TextOp: Copy {
     ghost use Rattle.std.specs.Prelude.{◌≡◌, map, true, false, MatchOption};
-    ghost use Rattle.script.specs.Grammar.{words_of};
-    ghost use Rattle.script.specs.Finding.{found_by};
+    ghost use Rattle.grammar.specs.Grammar.{words_of};
     ghost use Rattle.script.specs.Entries.{object_view};
     ghost use Rattle.script.specs.Ops.{Ops};
 
@@ -34,8 +32,8 @@ pub(crate) trait TextOp: Copy {
     ghost ops: { Ops Self };
 
     /// The op that a text spells, where names are read so.
-    fn of_text(text: &[u8], finding: Finding<'_>) -> Option<Self>
-        ensures { result ≡ ops.of_words (found_by finding.entry) (words_of text.now) };
+    fn of_text<F: Finding>(text: &[u8], finding: &F) -> Option<Self>
+        ensures { result ≡ ops.of_words (F.naming finding.now) (words_of text.now) };
 
     /// Whether the object of which it speaks allows it.
     fn is_allowed(&self, objects: &[NamedObject<'_>]) -> bool
@@ -62,7 +60,7 @@ impl TextOp for Op {
 
     ghost ops = { task_ops };
 
-    fn of_text(text: &[u8], finding: Finding<'_>) -> Option<Op> {
+    fn of_text<F: Finding>(text: &[u8], finding: &F) -> Option<Op> {
         op_of(text, finding)
     }
 
@@ -83,7 +81,7 @@ impl TextOp for IsrOp {
 
     ghost ops = { handler_ops };
 
-    fn of_text(text: &[u8], finding: Finding<'_>) -> Option<IsrOp> {
+    fn of_text<F: Finding>(text: &[u8], finding: &F) -> Option<IsrOp> {
         isr_op_of(text, finding)
     }
 
@@ -102,8 +100,8 @@ impl TextOp for IsrOp {
 // ---- the checks, which take no memory
 
 // The op that a value spells, where names are read so.
-fn op_in<O: TextOp>(value: &Value, finding: Finding<'_>) -> Option<O>
-    ensures { result ≡ op_in O.ops (found_by finding.entry) (view value.now) }
+fn op_in<O: TextOp, F: Finding>(value: &Value, finding: &F) -> Option<O>
+    ensures { result ≡ op_in O.ops (F.naming finding.now) (view value.now) }
 {
     O::of_text(value.as_str()?.as_bytes(), finding)
 }
@@ -120,10 +118,10 @@ fn nesting_with<O: TextOp>(
         (op_fault O.ops (entries_view entries.now) nesting place (view value.now))
         (nesting_with O.ops (entries_view entries.now) nesting (view value.now)) }
 {
-    if op_in::<O>(value, Finding::Any).is_none() {
+    if op_in::<O, AnyName>(value, &AnyName).is_none() {
         return Err(FaultKind::BadOp.at(place));
     }
-    let Some(op) = op_in::<O>(value, Finding::Among(entries)) else {
+    let Some(op) = op_in::<O, NamedEntries<'_>>(value, entries) else {
         return Err(FaultKind::UnknownName.at(place));
     };
     if !op.is_allowed(entries.objects.as_slice()) {
@@ -189,10 +187,9 @@ fn ops_of(
         ≡ script_named handler_ops (entries_view entries.now) (map view texts.now)) }
     ensures few { IfOk result (λ v. length v.items ≤ most_handler_ops) }
 {
-    let finding = Finding::Among(entries);
     let mut ops = Vec::new(alloc);
     for text in texts {
-        if let Some(op) = op_in::<IsrOp>(text, finding) {
+        if let Some(op) = op_in::<IsrOp, NamedEntries<'_>>(text, entries) {
             ops.push(op)?;
         }
     }
@@ -224,7 +221,7 @@ fn op_among(value: &Value, entries: &NamedEntries<'_>) -> Option<Op>
     ensures op { result ≡ op_in task_ops (among (entries_view entries.now)) (view value.now) }
     ensures range { IfSome result InRange }
 {
-    op_of(value.as_str()?.as_bytes(), Finding::Among(entries))
+    op_of(value.as_str()?.as_bytes(), entries)
 }
 
 // Appends an op, which may stand there.

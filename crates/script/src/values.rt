@@ -12,9 +12,9 @@ ghost use Rattle.script.specs.Sections.{data_at};
 
 use crate::entries::NamedEntries;
 use crate::fault::{Fault, FaultKind};
-use crate::name::is_name;
 use crate::named::{Named, has_name};
 use crate::place::{Key, Place, Section};
+use grammar::is_name;
 use toml::{Table, Value};
 
 // ---- what is there

@@ -10,13 +10,13 @@ use Rattle.model.specs.declared.call.Condition.{Condition}
 use Rattle.model.specs.declared.call.Phase.TheVariants.{Start, Leave, Final}
 use Rattle.model.specs.Application.{Application, op_at}
 use Rattle.model.specs.Scripts.{IsWellFormed, is_wait, nesting_past}
-use Rattle.model.specs.State.{State, Task, Status, Ready, Awake, Waiting, WaitingForBits, Asleep, Suspended, Ended, Wait, ticket_if_ready, ticket_if_for_bits, wait_of, task_at, status_at, progress_at, call_at, bits_at, with_task, with_bits, go_on, take_ticket, for_each, no_task}
+use Rattle.model.specs.State.{State, Task, Status, Ready, Awake, Waiting, WaitingForBits, Asleep, Suspended, Ended, Wait, ticket_if_ready, ticket_if_for_bits, task_at, status_at, progress_at, call_at, bits_at, with_task, with_bits, go_on, take_ticket, for_each, no_task}
 use Rattle.model.specs.Order.{Key, Entry, key, tasks_of}
 use Rattle.model.specs.Switching.{make_ready, is_ready, choose}
 use Rattle.model.specs.Waiting.{set_deadline, end_hold}
 use Rattle.model.specs.Ops.{answer}
 use Rattle.model.specs.Groups.{is_met, without, bits_left, want, keep_answer, bits_key, waiters_for_bits, is_met_for, met_by, wake_with_bits, bits_set, bits_after_set, set, begin_set, clear, answer_bits, wait_for_bits, begin_bits_wait, final_bits}
-use Rattle.model.specs.Invariant.{IsReckoned, Hold, hold_of, ForBits, ToSetBits, course, IsPhaseOf, IsWaitOf, list_of_op, IsSound, holds, suspension_of, IsState}
+use Rattle.model.specs.Invariant.{IsReckoned, Hold, hold_of, ForBits, ToSetBits, course, IsPhaseOf, IsWaitOf, list_of_op, IsSound, holds, suspension_of, IsState, wait_of}
 use Rattle.model.proofs.Sorting.{by_test}
 use Rattle.model.proofs.Lists.{HasKey, list_has}
 use Rattle.model.proofs.Tables.{ticket_at, each-set}

@@ -17,7 +17,7 @@ use Rattle.model.specs.declared.call.WaitList.{WaitList}
 use Rattle.model.specs.declared.call.WaitList.TheVariants.{ToReceive, ToSend}
 use Rattle.model.specs.Application.{Application, op_at}
 use Rattle.model.specs.Scripts.{IsWellFormed, fits, fits_object, is_wait, nesting_past}
-use Rattle.model.specs.State.{State, Task, Object, Status, Wait, Ready, Awake, Waiting, Asleep, WaitingForBits, Suspended, Ended, ticket_if_ready, wait_if_waiting, wait_if_awake, wait_of, task_at, status_at, progress_at, call_at, object_at, with_task, with_call, with_object, go_on, for_one, no_task, no_object}
+use Rattle.model.specs.State.{State, Task, Object, Status, Wait, Ready, Awake, Waiting, Asleep, WaitingForBits, Suspended, Ended, ticket_if_ready, wait_if_waiting, wait_if_awake, task_at, status_at, progress_at, call_at, object_at, with_task, with_call, with_object, go_on, for_one, no_task, no_object}
 use Rattle.model.specs.Order.{Key, Entry, first, task_of}
 use Rattle.model.specs.Switching.{is_ready}
 use Rattle.model.specs.Waiting.{same_list, wait_key, waiters, awake_status, awaken, is_locked, wake_one, wake_best, wait_in, set_deadline}
@@ -25,7 +25,7 @@ use Rattle.model.specs.Objects.{allows, object_after, list_woken, list_for, poss
 use Rattle.model.specs.Calls.{do_now}
 use Rattle.model.specs.Ops.{answer}
 use Rattle.model.specs.Suspension.{phase_resumed}
-use Rattle.model.specs.Invariant.{HasTicketBelow, IsReckoned, Hold, Course, InOne, OnObject, ForBits, ToSetBits, course, IsPhaseOf, list_of_op, IsWaitOf, IsCall, IsObject, IsSound, holds}
+use Rattle.model.specs.Invariant.{HasTicketBelow, IsReckoned, Hold, Course, InOne, OnObject, ForBits, ToSetBits, course, IsPhaseOf, list_of_op, IsWaitOf, IsCall, IsObject, IsSound, holds, wait_of}
 use Rattle.model.proofs.Sorting.{by_test}
 use Rattle.model.proofs.Lists.{HasKey, eqb-same, list_has}
 use Rattle.model.proofs.Tables.{ticket_at, table-set, held_after, each-set, each-set_but}

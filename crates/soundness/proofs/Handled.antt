@@ -14,7 +14,7 @@ use Rattle.model.specs.declared.event.What.{What}
 use Rattle.model.specs.declared.event.What.TheVariants as what
 use Rattle.model.specs.Application.{Application, op_at, ops_of, interrupts_at}
 use Rattle.model.specs.Scripts.{IsWellFormed, fits_object, knows_isr}
-use Rattle.model.specs.State.{State, Task, Progress, Object, Status, Wait, Ready, Awake, Waiting, Asleep, WaitingForBits, Suspended, Ended, ticket_if_ready, wait_of, task_at, status_at, progress_at, call_at, object_at, bits_at, with_object, with_progress, for_one, for_each, no_task}
+use Rattle.model.specs.State.{State, Task, Progress, Object, Status, Wait, Ready, Awake, Waiting, Asleep, WaitingForBits, Suspended, Ended, ticket_if_ready, task_at, status_at, progress_at, call_at, object_at, bits_at, with_object, with_progress, for_one, for_each, no_task}
 use Rattle.model.specs.Order.{Entry, first, task_of}
 use Rattle.model.specs.Ops.{one_if}
 use Rattle.model.specs.Suspension.{can_resume, phase_resumed, resumed, resume}
@@ -23,7 +23,7 @@ use Rattle.model.specs.Waiting.{waiters, awake_status, is_locked, wake_one, wake
 use Rattle.model.specs.Time.{advance, increment_tick}
 use Rattle.model.specs.Objects.{possible, answer_to, object_after, list_woken, list_for, fulfil, attempt}
 use Rattle.model.specs.Handlers.{isr_told, isr, isr_each, handle, interrupt, tick_interrupt}
-use Rattle.model.specs.Invariant.{Hold, hold_of, course, list_of_op, IsPhaseOf, IsWaitOf, IsSound, Suspension, holds, IsPlacing, IsStranded, RunsIn, IsState}
+use Rattle.model.specs.Invariant.{Hold, hold_of, course, list_of_op, IsPhaseOf, IsWaitOf, IsSound, Suspension, holds, IsPlacing, IsStranded, RunsIn, IsState, wait_of}
 use Rattle.model.proofs.Sorting.{by_test}
 use Rattle.model.proofs.Lists.{HasKey, list_has}
 use Rattle.model.proofs.Tables.{each-set}

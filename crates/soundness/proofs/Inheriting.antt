@@ -8,12 +8,12 @@ use Rattle.model.specs.declared.call.WaitList.{WaitList}
 use Rattle.model.specs.declared.call.WaitList.TheVariants.{ToReceive}
 use Rattle.model.specs.Application.{Application}
 use Rattle.model.specs.Scripts.{IsWellFormed}
-use Rattle.model.specs.State.{State, Task, Status, Ready, Awake, Waiting, Asleep, WaitingForBits, Suspended, Ended, ticket_if_ready, wait_of, wait_if_waiting, task_at, status_at, progress_at, call_at, object_at, with_task, for_one, no_task}
+use Rattle.model.specs.State.{State, Task, Status, Ready, Awake, Waiting, Asleep, WaitingForBits, Suspended, Ended, ticket_if_ready, wait_if_waiting, task_at, status_at, progress_at, call_at, object_at, with_task, for_one, no_task}
 use Rattle.model.specs.Order.{Key, Entry, key, first}
 use Rattle.model.specs.Switching.{is_ready, to_back}
 use Rattle.model.specs.Waiting.{waiters, wait_key, same_list}
 use Rattle.model.specs.Mutexes.{set_priority, mutexes_held, lend, inherits, inherit_from, inherit, best_priority, fall_back, after_timeout, disinherit}
-use Rattle.model.specs.Invariant.{Hold, HasPriority, IsSound}
+use Rattle.model.specs.Invariant.{Hold, HasPriority, IsSound, wait_of}
 use Rattle.model.proofs.Sorting.{by_test}
 use Rattle.model.proofs.Lists.{HasKey, list_has}
 use Rattle.model.proofs.Tables.{ticket_at, each-set}

@@ -3,11 +3,11 @@ use Rattle.std.proofs.Common.{◌≡◌, ◌<◌, ℕ, true, length, Some, None,
 use Rattle.model.specs.declared.op.Op.TheVariants.{Suspend, Resume, SuspendAll, ResumeAll}
 use Rattle.model.specs.Application.{Application, op_at}
 use Rattle.model.specs.Scripts.{IsWellFormed}
-use Rattle.model.specs.State.{State, Task, Suspended, wait_of, task_at, status_at, progress_at, no_task}
+use Rattle.model.specs.State.{State, Task, Suspended, task_at, status_at, progress_at, no_task}
 use Rattle.model.specs.Switching.{is_ready, preempt, is_held}
 use Rattle.model.specs.Ops.{answer}
 use Rattle.model.specs.Suspension.{can_suspend, suspend, resume, call_suspend, call_resume, suspend_all, resume_scheduler, resume_all}
-use Rattle.model.specs.Invariant.{Hold, IsSound}
+use Rattle.model.specs.Invariant.{Hold, IsSound, wait_of}
 use Rattle.model.proofs.Sorting.{by_test}
 use Rattle.model.proofs.Tables.{each-set}
 use Rattle.model.proofs.Statuses.{ready_free}

@@ -11,13 +11,13 @@ use Rattle.model.specs.declared.call.Phase.{Phase}
 use Rattle.model.specs.declared.call.Phase.TheVariants.{Try, Place, Unlock, Leave}
 use Rattle.model.specs.Application.{Application, op_at}
 use Rattle.model.specs.Scripts.{IsWellFormed}
-use Rattle.model.specs.State.{State, Task, Progress, Wait, Waiting, ticket_if_ready, wait_if_awake, wait_of, task_at, status_at, progress_at, call_at, with_task, go_on, for_each, for_one, no_task}
+use Rattle.model.specs.State.{State, Task, Progress, Wait, Waiting, ticket_if_ready, wait_if_awake, task_at, status_at, progress_at, call_at, with_task, go_on, for_each, for_one, no_task}
 use Rattle.model.specs.Switching.{is_ready, make_ready, is_scheduler_suspended}
 use Rattle.model.specs.Waiting.{is_locked, wait_in, is_expired, end_hold, unlock_object, unlock}
 use Rattle.model.specs.Objects.{list_for, possible}
 use Rattle.model.specs.Calls.{lock, decide, leave_call}
 use Rattle.model.specs.Mutexes.{inherit}
-use Rattle.model.specs.Invariant.{Hold, hold_of, Course, OnObject, ToSetBits, course, IsPhaseOf, IsSound, holds, IsPlacing, IsRunning, RunsIn, Suspension, suspension_of, IsState}
+use Rattle.model.specs.Invariant.{Hold, hold_of, Course, OnObject, ToSetBits, course, IsPhaseOf, IsSound, holds, IsPlacing, IsRunning, RunsIn, Suspension, suspension_of, IsState, wait_of}
 use Rattle.model.proofs.Sorting.{by_test}
 use Rattle.model.proofs.Tables.{ticket_at, each-set_but}
 use Rattle.model.proofs.Unlocking.{opened_by, none_left, still_at, current-all_ready, none_awake}

@@ -29,7 +29,7 @@ use Rattle.model.specs.Calls.{await}
 use Rattle.model.specs.Groups.{is_met, begin_set, set_bits, check, final_bits, wait_bits}
 use Rattle.model.specs.Suspension.{suspend_all, resume_all}
 use Rattle.model.specs.Handlers.{handle, inject}
-use Rattle.model.specs.Step.{is_ended, judge, misused, act, act_unless, may_switch, misuse, act_if, act_current, before_step, step, reset, nobody_ready, ready_at_reset, task_at_reset, object_at_reset, with_ops, is_empty}
+use Rattle.model.specs.Step.{is_ended, judge, misused, act, act_unless, may_switch, misuse, act_if, act_current, before_step, step, reset, nobody_ready, ready_at_reset, task_at_reset, object_at_reset, with_ops}
 use Rattle.model.specs.Run.{injected, state_after}
 use Rattle.model.specs.Invariant.{IsAt, Hold, hold_of, InOne, ForBits, ToSetBits, course, IsPhaseOf, IsObject, HasPriority, IsSound, holds, IsStranded, IsRunning, RunsIn, Suspension, suspension_of, IsState}
 use Rattle.model.proofs.Sorting.{by_test}
@@ -499,7 +499,7 @@ pub with_ops_within : (i n : ℕ) (ds : List Definition) → i + length ds ≤ n
 with_ops_within i n [] l = tt
 with_ops_within i n (d ∷ ds) l =
     let more = with_ops_within (i + 1) n ds (omega arith) in
-    by_test (is_empty d.script) (λ t. rw t more) (λ t. rw t (omega arith, more))
+    by_test (eqb (length d.script) 0) (λ t. rw t more) (λ t. rw t (omega arith, more))
 
 module _ (app : Application) (formed : IsWellFormed app) where
   pub reached_nobody : IsSound app free (nobody_ready app)

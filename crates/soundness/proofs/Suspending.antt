@@ -5,11 +5,11 @@ use Rattle.std.proofs.lemmas.Bool.{ltb-true}
 use Rattle.std.proofs.lemmas.List.{get_or_past}
 use Rattle.model.specs.Application.{Application}
 use Rattle.model.specs.Scripts.{IsWellFormed}
-use Rattle.model.specs.State.{State, Task, Progress, Status, Ready, Awake, Waiting, Asleep, WaitingForBits, Suspended, Ended, wait_of, task_at, status_at, progress_at, with_task, with_progress, no_task}
+use Rattle.model.specs.State.{State, Task, Progress, Status, Ready, Awake, Waiting, Asleep, WaitingForBits, Suspended, Ended, task_at, status_at, progress_at, with_task, with_progress, no_task}
 use Rattle.model.specs.Switching.{make_ready}
 use Rattle.model.specs.Time.{advance, apply_one, apply_held}
 use Rattle.model.specs.Suspension.{can_suspend, can_resume, suspend, resumed, resume, resume_scheduler}
-use Rattle.model.specs.Invariant.{IsReckoned, Hold, Suspension, IsSound}
+use Rattle.model.specs.Invariant.{IsReckoned, Hold, Suspension, IsSound, wait_of}
 use Rattle.model.proofs.Sorting.{by_test}
 use Rattle.model.proofs.Tables.{ticket_at, each-set}
 use Rattle.soundness.proofs.Frames.{keeps-wake_due}

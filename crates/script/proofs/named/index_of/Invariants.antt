@@ -1,7 +1,7 @@
 use Rattle.std.proofs.Common.{◌≡◌, map, drop}
 use Rattle.std.specs.List.{position_from}
 use Rattle.std.specs.Str.{bytes_eq}
-use Rattle.script.specs.Names.{index_of}
+use Rattle.grammar.specs.Names.{index_of}
 use Rattle.script.proofs.named.index_of.Given as goal
 
 abbrev pub invariant-loop-index : goal.invariant-loop-index

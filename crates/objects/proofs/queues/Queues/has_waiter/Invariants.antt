@@ -1,6 +1,7 @@
 use Rattle.std.proofs.Common.{◌≡◌, ◌<◌, ℕ, false, None}
 use Rattle.std.specs.Option.{is_some}
-use Rattle.model.specs.State.{State, status_at, wait_of}
+use Rattle.model.specs.State.{State, status_at}
+use Rattle.model.specs.Invariant.{wait_of}
 use Rattle.objects.specs.Queues.{StandsFor}
 use Rattle.objects.proofs.queues.Queues.has_waiter.Given as goal
 

@@ -1,0 +1,4 @@
+pub mod Cutting
+pub mod Reading
+pub mod PointTexts
+pub mod Forms

@@ -1,0 +1,172 @@
+-- What is read of an op's words is what the grammar spells.
+use Rattle.std.proofs.Common.{◌≡◌, ◌⊎◌, ℕ, Bool, true, false, cond, rules, List, [], ◌∷◌, Option, Some, None, refl, sym, ap, inl, inr, subst, ◌∙◌, option_map}
+use Rattle.std.specs.Prelude.{option_and_then, not, ◌&&◌}
+use Rattle.std.specs.List.{AllByRecursion, list_all}
+use Rattle.std.specs.Str.{bytes_eq}
+use Rattle.std.proofs.lemmas.Slice.Eq.{bytes_eq-Decides}
+use Rattle.std.proofs.lemmas.Bool.{and_parts, not-true}
+use Rattle.model.specs.declared.op.Op.{Op}
+use Rattle.model.specs.declared.op.IsrOp.{IsrOp}
+use Rattle.model.specs.Words.{word_of, word_of_isr}
+use Rattle.model.specs.Scripts.{is_in_range, InRange}
+use Rattle.grammar.specs.Grammar.{Word, Naming, Form, Done, Number, NumberUnless, Choice, Name, forms, isr_forms, number_of, number_unless, choice_of, Writes, WritesBy, Spells, SpellsIsr, read, read_by, if_in_range, op_of, isr_op_of}
+
+-- which branch of a test it was
+pub chosen : {X : Type 0} (b : Bool) (x y z : X) → cond b x y ≡ z
+    → ((b ≡ true) × (x ≡ z)) ⊎ ((b ≡ false) × (y ≡ z))
+chosen true x y z e = inl (refl, e)
+chosen false x y z e = inr (refl, e)
+
+module _ {O : Type 0} (word : O → Word) where
+  -- ---- a step of the reading
+
+  taken : {X : Type 0} (o : Option X) (ws : List Word) (next : X × List Word → Option O) (op : O)
+      → option_and_then next (option_map (λ x. (x, ws)) o) ≡ Some op
+      → (x : X) × (o ≡ Some x) × (next (x, ws) ≡ Some op)
+  taken None ws next op e = cc
+  taken (Some x) ws next op e = (x, refl, e)
+
+  -- ---- what is read by a form, its words write, and back
+
+  read_sound : (named : Naming) (form : Form O) (ws : List Word) (op : O) → read named form ws ≡ Some op → Writes named form ws op
+  read_sound named (Done made) [] op e = cc
+  read_sound named (Done made) (w ∷ ws) op e = cc
+  read_sound named (Number next) [] op e = cc
+  read_sound named (Number next) (w ∷ ws) op e =
+      let t = taken (number_of w) ws (λ r. read named (next r.0) r.1) op e in
+      (t.0, t.1, read_sound named (next t.0) ws op t.2)
+  read_sound named (NumberUnless other next) [] op e = cc
+  read_sound named (NumberUnless other next) (w ∷ ws) op e =
+      let t = taken (number_unless other w) ws (λ r. read named (next r.0) r.1) op e in
+      (t.0, t.1, read_sound named (next t.0) ws op t.2)
+  read_sound named (Choice first second next) [] op e = cc
+  read_sound named (Choice first second next) (w ∷ ws) op e =
+      let t = taken (choice_of first second w) ws (λ r. read named (next r.0) r.1) op e in
+      (t.0, t.1, read_sound named (next t.0) ws op t.2)
+  read_sound named (Name sort next) [] op e = cc
+  read_sound named (Name sort next) (w ∷ ws) op e =
+      let t = taken (named sort w) ws (λ r. read named (next r.0) r.1) op e in
+      (t.0, t.1, read_sound named (next t.0) ws op t.2)
+
+  read_complete : (named : Naming) (form : Form O) (ws : List Word) (op : O) → Writes named form ws op → read named form ws ≡ Some op
+  read_complete named (Done made) [] op h = ap Some h
+  read_complete named (Done made) (w ∷ ws) op h = absurd h
+  read_complete named (Number next) [] op h = absurd h
+  read_complete named (Number next) (w ∷ ws) op h = rw h.1 (read_complete named (next h.0) ws op h.2)
+  read_complete named (NumberUnless other next) [] op h = absurd h
+  read_complete named (NumberUnless other next) (w ∷ ws) op h = rw h.1 (read_complete named (next h.0) ws op h.2)
+  read_complete named (Choice first second next) [] op h = absurd h
+  read_complete named (Choice first second next) (w ∷ ws) op h = rw h.1 (read_complete named (next h.0) ws op h.2)
+  read_complete named (Name sort next) [] op h = absurd h
+  read_complete named (Name sort next) (w ∷ ws) op h = rw h.1 (read_complete named (next h.0) ws op h.2)
+
+  -- ---- each form comes to ops of its own word alone
+
+  abbrev HasWord : Word → Form O → Type 0
+  HasWord w (Done op) = word op ≡ w
+  HasWord w (Number next) = (n : ℕ) → HasWord w (next n)
+  HasWord w (NumberUnless other next) = (n : Option ℕ) → HasWord w (next n)
+  HasWord w (Choice first second next) = (b : Bool) → HasWord w (next b)
+  HasWord w (Name sort next) = (entry : ℕ) → HasWord w (next entry)
+
+  -- where it makes an op, this is of its word
+  word_written : (named : Naming) (w : Word) (form : Form O) (ws : List Word) (op : O)
+      → HasWord w form → Writes named form ws op → word op ≡ w
+  word_written named w (Done made) [] op has h = subst (λ (o : O). word o ≡ w) h has
+  word_written named w (Done made) (v ∷ ws) op has h = absurd h
+  word_written named w (Number next) [] op has h = absurd h
+  word_written named w (Number next) (v ∷ ws) op has h = word_written named w (next h.0) ws op (has h.0) h.2
+  word_written named w (NumberUnless other next) [] op has h = absurd h
+  word_written named w (NumberUnless other next) (v ∷ ws) op has h = word_written named w (next h.0) ws op (has h.0) h.2
+  word_written named w (Choice first second next) [] op has h = absurd h
+  word_written named w (Choice first second next) (v ∷ ws) op has h = word_written named w (next h.0) ws op (has h.0) h.2
+  word_written named w (Name sort next) [] op has h = absurd h
+  word_written named w (Name sort next) (v ∷ ws) op has h = word_written named w (next h.0) ws op (has h.0) h.2
+
+  abbrev HasOwnWord : Word × Form O → Type 0
+  HasOwnWord form = HasWord form.0 form.1
+
+  -- ---- no two forms have the same word
+
+  abbrev differs_from : Word → Word × Form O → Bool
+  differs_from w form = not (bytes_eq form.0 w)
+
+  abbrev are_distinct : List (Word × Form O) → Bool
+  are_distinct [] = true
+  are_distinct (form ∷ others) = list_all (differs_from form.0) others && are_distinct others
+
+  -- ---- the first form of a word, and the form by which words write an op
+
+  by_sound : (named : Naming) (fs : List (Word × Form O)) → AllByRecursion HasOwnWord fs → (w : Word) (ws : List Word) (op : O)
+      → read_by named fs w ws ≡ Some op → (w ≡ word op) × WritesBy named fs ws op
+  by_sound named [] own w ws op e = cc
+  by_sound named (form ∷ others) own w ws op e = elim (chosen (bytes_eq w form.0) _ _ _ e) [
+    | inl here ↦
+        let written : Writes named form.1 ws op = read_sound named form.1 ws op here.1 in
+        let own_word : w ≡ form.0 = (bytes_eq-Decides w form.0).0 here.0 in
+        (own_word ∙ sym (word_written named form.0 form.1 ws op own.0 written), inl written)
+    | inr later ↦ let l = by_sound named others own.1 w ws op later.1 in (l.0, inr l.1)
+  ]
+
+  other_word : (named : Naming) (fs : List (Word × Form O)) → AllByRecursion HasOwnWord fs → (v : Word) (ws : List Word) (op : O)
+      → list_all (differs_from v) fs ≡ true → WritesBy named fs ws op → bytes_eq (word op) v ≡ false
+  other_word named [] own v ws op differ h = absurd h
+  other_word named (form ∷ others) own v ws op differ (inl h) =
+      rw (word_written named form.0 form.1 ws op own.0 h) (not-true _ (and_parts (differs_from v form) _ differ).0)
+  other_word named (form ∷ others) own v ws op differ (inr h) =
+      other_word named others own.1 v ws op (and_parts (differs_from v form) _ differ).1 h
+
+  by_complete : (named : Naming) (fs : List (Word × Form O)) → AllByRecursion HasOwnWord fs → are_distinct fs ≡ true
+      → (ws : List Word) (op : O) → WritesBy named fs ws op → read_by named fs (word op) ws ≡ Some op
+  by_complete named [] own distinct ws op h = absurd h
+  by_complete named (form ∷ others) own distinct ws op (inl h) =
+      let own_word : bytes_eq (word op) form.0 ≡ true =
+      (bytes_eq-Decides (word op) form.0).1 (word_written named form.0 form.1 ws op own.0 h) in
+      rw own_word (read_complete named form.1 ws op h)
+  by_complete named (form ∷ others) own distinct ws op (inr h) =
+      let parts = and_parts (list_all (differs_from form.0) others) (are_distinct others) distinct in
+      let other = other_word named others own.1 form.0 ws op parts.0 h in
+      rw other (by_complete named others own.1 parts.1 ws op h)
+
+-- ---- the ops of tasks, and those of handlers
+
+own_words : AllByRecursion (HasOwnWord word_of) forms
+own_words = search rules
+
+forms_distinct : are_distinct word_of forms ≡ true
+forms_distinct = refl
+
+isr_own_words : AllByRecursion (HasOwnWord word_of_isr) isr_forms
+isr_own_words = search rules
+
+isr_forms_distinct : are_distinct word_of_isr isr_forms ≡ true
+isr_forms_distinct = refl
+
+-- ---- the ranges
+
+ranged : (o : Option Op) (op : Op) → option_and_then if_in_range o ≡ Some op → (o ≡ Some op) × InRange op
+ranged None op e = cc
+ranged (Some made) op e = elim (chosen (is_in_range made) _ _ _ e) [
+  | inl within ↦ (within.1, let same : made ≡ op = cc in subst InRange same within.0)
+  | inr out ↦ cc
+]
+
+pub sound : (named : Naming) (ws : List Word) (op : Op) → op_of named ws ≡ Some op → Spells named op ws
+sound named [] op e = cc
+sound named (w ∷ ws) op e =
+    let r = ranged (read_by named forms w ws) op e in
+    let b = by_sound word_of named forms own_words w ws op r.0 in
+    (b.0, b.1, r.1)
+
+pub complete : (named : Naming) (ws : List Word) (op : Op) → Spells named op ws → op_of named ws ≡ Some op
+complete named [] op h = absurd h
+complete named (w ∷ ws) op h = rw (h.0, by_complete word_of named forms own_words forms_distinct ws op h.1, h.2) refl
+
+pub isr_sound : (named : Naming) (ws : List Word) (op : IsrOp) → isr_op_of named ws ≡ Some op → SpellsIsr named op ws
+isr_sound named [] op e = cc
+isr_sound named (w ∷ ws) op e = by_sound word_of_isr named isr_forms isr_own_words w ws op e
+
+pub isr_complete : (named : Naming) (ws : List Word) (op : IsrOp) → SpellsIsr named op ws → isr_op_of named ws ≡ Some op
+isr_complete named [] op h = absurd h
+isr_complete named (w ∷ ws) op h =
+    rw (h.0, by_complete word_of_isr named isr_forms isr_own_words isr_forms_distinct ws op h.1) refl

@@ -1,0 +1,224 @@
+-- The texts of ops: which words spell which op (profile).
+use Rattle.std.specs.Prelude.{◌≡◌, ◌⊎◌, ℕ, Bool, true, false, ◌&&◌, ◌==◌, nat_lt, nat_le, List, [], ◌∷◌, length, filter, codes, Option, Some, None, option_map, option_and_then, if◌then◌else◌}
+use Rattle.std.specs.Char.{is_ascii_digit}
+use Rattle.std.specs.List.{list_all, slice_split}
+use Rattle.std.specs.Str.{bytes_eq}
+use Rattle.std.specs.Str.Parse.{digits_value}
+use Rattle.model.specs.declared.op.Access.TheVariants.{Send, SendFront, Overwrite, Receive, Peek, Take, Give, Lock}
+use Rattle.model.specs.declared.call.Condition.{Condition}
+use Rattle.model.specs.declared.op.Op.{Op}
+use Rattle.model.specs.declared.op.Op.TheVariants.{Work, Delay, DelayUntil, Yield, Time, Mark, Expect, Repeat, End, Await, Do, GiveMutex, MessagesWaiting, SpacesAvailable, SetBits, ClearBits, GetBits, WaitBits, Suspend, Resume, SuspendAll, ResumeAll}
+use Rattle.model.specs.declared.op.IsrOp.{IsrOp}
+use Rattle.model.specs.declared.op.IsrOp.TheVariants as isr
+use Rattle.model.specs.Words.{word_of, word_of_isr}
+use Rattle.model.specs.Scripts.{is_in_range, InRange}
+use Rattle.grammar.specs.declared.object_sort.ObjectSort.{ObjectSort}
+use Rattle.grammar.specs.declared.object_sort.ObjectSort.TheVariants.{Queue, Semaphore, Mutex}
+
+-- ---- words
+
+-- a word of a text, as its bytes
+abbrev pub Word : Type 0
+Word = List ℕ
+
+-- an empty piece is none
+abbrev pub is_word : Word → Bool
+is_word [] = false
+is_word (b ∷ bs) = true
+
+-- the words of a text, which stand between spaces (profile)
+abbrev pub words_of : List ℕ → List Word
+words_of text = filter is_word (slice_split (λ b. b == 32) text)
+
+-- ---- what a word says
+
+-- one to ten digits (profile)
+abbrev pub is_number : Word → Bool
+is_number w = nat_lt 0 (length w) && (nat_le (length w) 10 && list_all is_ascii_digit w)
+
+-- the number that a word writes, where it is one of 32 bits
+abbrev pub number_of : Word → Option ℕ
+number_of w =
+    if is_number w && nat_le (digits_value 10 w) 4294967295 then Some (digits_value 10 w) else None
+
+-- the number that a word writes, or none where it is this other word
+abbrev pub number_unless : (other : Word) → Word → Option (Option ℕ)
+number_unless other w = if bytes_eq w other then Some None else option_map Some (number_of w)
+
+-- which of two words it is: whether it is the second
+abbrev pub choice_of : (first second : Word) → Word → Option Bool
+choice_of first second w = if bytes_eq w first then Some false else if bytes_eq w second then Some true else None
+
+-- What a name in an op's text has to be that of: an object of a sort, an event group, or a task.
+pub data NameSort : Type 0 where
+  OfObject : (sort : ObjectSort) → NameSort
+  OfGroup : NameSort
+  OfTask : NameSort
+
+-- which entry of a sort a word names, where it names one
+abbrev pub Naming : Type 0
+Naming = NameSort → Word → Option ℕ
+
+-- ---- the grammar
+
+-- How an op's text goes on after its own word (profile): it is over, or a word writes a number, which may be left out for
+-- another word, is one of two, or names an entry of a sort, and with this it goes on. The op is a task's, or a handler's.
+pub data Form (O : Type 0) : Type 0 where
+  Done : (op : O) → Form O
+  Number : (next : ℕ → Form O) → Form O
+  NumberUnless : (other : Word) → (next : Option ℕ → Form O) → Form O
+  Choice : (first second : Word) → (next : Bool → Form O) → Form O
+  Name : (sort : NameSort) → (next : ℕ → Form O) → Form O
+
+-- an answer, which may be none
+abbrev pub Answer : {O : Type 0} → (Option ℕ → Form O) → Form O
+Answer next = NumberUnless (codes "none") next
+
+-- how many ticks a call waits, which may be for ever
+abbrev pub Wait : {O : Type 0} → (Option ℕ → Form O) → Form O
+Wait next = NumberUnless (codes "forever") next
+
+-- the name of an object of a sort
+abbrev pub Object : {O : Type 0} → ObjectSort → (ℕ → Form O) → Form O
+Object sort next = Name (OfObject sort) next
+
+-- the name of an event group
+abbrev pub Group : {O : Type 0} → (ℕ → Form O) → Form O
+Group next = Name OfGroup next
+
+-- the name of a task
+abbrev pub Task : {O : Type 0} → (ℕ → Form O) → Form O
+Task next = Name OfTask next
+
+-- the word and the arguments of each op that suspends or resumes
+abbrev pub suspension_forms : List (Word × Form Op)
+suspension_forms =
+    (codes "suspend", Task (λ task. Done (Suspend task)))
+    ∷ (codes "resume", Task (λ task. Done (Resume task)))
+    ∷ (codes "suspend_all", Done SuspendAll)
+    ∷ (codes "resume_all", Done ResumeAll)
+    ∷ []
+
+-- the arguments of a condition: its bits, whether any of them or all, and whether they are kept or cleared
+abbrev pub Bits : {O : Type 0} → (Condition → Form O) → Form O
+Bits next =
+    Number (λ mask.
+    Choice (codes "any") (codes "all") (λ all.
+    Choice (codes "keep") (codes "clear") (λ clear. next (record { mask = mask; all = all; clear = clear }))))
+
+-- those of each op on an event group
+abbrev pub group_forms : List (Word × Form Op)
+group_forms =
+    (codes "set", Group (λ group. Number (λ mask. Done (SetBits group mask))))
+    ∷ (codes "clear", Group (λ group. Number (λ mask. Done (ClearBits group mask))))
+    ∷ (codes "bits", Group (λ group. Done (GetBits group)))
+    ∷ (codes "wait", Group (λ group. Bits (λ condition. Wait (λ ticks. Done (WaitBits group condition ticks)))))
+    ∷ suspension_forms
+
+-- those of each op on a semaphore or a mutex
+abbrev pub semaphore_forms : List (Word × Form Op)
+semaphore_forms =
+    (codes "take", Object Semaphore (λ semaphore. Wait (λ ticks. Done (Await semaphore Take ticks))))
+    ∷ (codes "give", Object Semaphore (λ semaphore. Done (Do semaphore Give)))
+    ∷ (codes "lock", Object Mutex (λ mutex. Wait (λ ticks. Done (Await mutex Lock ticks))))
+    ∷ (codes "unlock", Object Mutex (λ mutex. Done (GiveMutex mutex)))
+    ∷ group_forms
+
+-- those of each op on an object
+abbrev pub object_forms : List (Word × Form Op)
+object_forms =
+    (codes "send", Object Queue (λ queue. Number (λ n. Wait (λ ticks. Done (Await queue (Send n) ticks)))))
+    ∷ (codes "send_front", Object Queue (λ queue. Number (λ n. Wait (λ ticks. Done (Await queue (SendFront n) ticks)))))
+    ∷ (codes "overwrite", Object Queue (λ queue. Number (λ n. Done (Do queue (Overwrite n)))))
+    ∷ (codes "receive", Object Queue (λ queue. Wait (λ ticks. Done (Await queue Receive ticks))))
+    ∷ (codes "peek", Object Queue (λ queue. Wait (λ ticks. Done (Await queue Peek ticks))))
+    ∷ (codes "waiting", Object Queue (λ queue. Done (MessagesWaiting queue)))
+    ∷ (codes "spaces", Object Queue (λ queue. Done (SpacesAvailable queue)))
+    ∷ semaphore_forms
+
+-- those of each op
+abbrev pub forms : List (Word × Form Op)
+forms =
+    (codes "work", Number (λ n. Done (Work n)))
+    ∷ (codes "delay", Number (λ n. Done (Delay n)))
+    ∷ (codes "delay_until", Number (λ n. Done (DelayUntil n)))
+    ∷ (codes "yield", Done Yield)
+    ∷ (codes "time", Done Time)
+    ∷ (codes "mark", Number (λ n. Done (Mark n)))
+    ∷ (codes "expect", Answer (λ a. Done (Expect a)))
+    ∷ (codes "repeat", Number (λ n. Done (Repeat n)))
+    ∷ (codes "end", Done End)
+    ∷ object_forms
+
+-- those of each op of a handler, which never waits
+abbrev pub isr_forms : List (Word × Form IsrOp)
+isr_forms =
+    (codes "send", Object Queue (λ queue. Number (λ n. Done (isr.Do queue (Send n)))))
+    ∷ (codes "send_front", Object Queue (λ queue. Number (λ n. Done (isr.Do queue (SendFront n)))))
+    ∷ (codes "overwrite", Object Queue (λ queue. Number (λ n. Done (isr.Do queue (Overwrite n)))))
+    ∷ (codes "receive", Object Queue (λ queue. Done (isr.Do queue Receive)))
+    ∷ (codes "peek", Object Queue (λ queue. Done (isr.Do queue Peek)))
+    ∷ (codes "give", Object Semaphore (λ semaphore. Done (isr.Do semaphore Give)))
+    ∷ (codes "resume", Task (λ task. Done (isr.Resume task)))
+    ∷ (codes "bits", Group (λ group. Done (isr.GetBits group)))
+    ∷ (codes "mark", Number (λ n. Done (isr.Mark n)))
+    ∷ []
+
+-- The words write the arguments of the op, by this form, where names are read so.
+abbrev pub Writes : {O : Type 0} → Naming → Form O → List Word → O → Type 0
+Writes named (Done made) [] op = made ≡ op
+Writes named (Number next) (w ∷ ws) op = (n : ℕ) × (number_of w ≡ Some n) × Writes named (next n) ws op
+Writes named (NumberUnless other next) (w ∷ ws) op = (n : Option ℕ) × (number_unless other w ≡ Some n) × Writes named (next n) ws op
+Writes named (Choice first second next) (w ∷ ws) op = (b : Bool) × (choice_of first second w ≡ Some b) × Writes named (next b) ws op
+Writes named (Name sort next) (w ∷ ws) op = (entry : ℕ) × (named sort w ≡ Some entry) × Writes named (next entry) ws op
+Writes named _ _ op = ⊥
+
+-- the same, by one of these forms
+abbrev pub WritesBy : {O : Type 0} → Naming → List (Word × Form O) → List Word → O → Type 0
+WritesBy named [] ws op = ⊥
+WritesBy named (form ∷ others) ws op = Writes named form.1 ws op ⊎ WritesBy named others ws op
+
+-- Words spell an op, where names are read so: its own word, and then its arguments; its numbers are in their ranges.
+abbrev pub Spells : Naming → Op → List Word → Type 0
+Spells named op [] = ⊥
+Spells named op (w ∷ ws) = (w ≡ word_of op) × WritesBy named forms ws op × InRange op
+
+-- the same of a handler's op, each of whose numbers is any of 32 bits
+abbrev pub SpellsIsr : Naming → IsrOp → List Word → Type 0
+SpellsIsr named op [] = ⊥
+SpellsIsr named op (w ∷ ws) = (w ≡ word_of_isr op) × WritesBy named isr_forms ws op
+
+-- ---- the same as a reading
+
+-- what the first of some words says, and the others
+abbrev pub take_by : {X : Type 0} → (Word → Option X) → List Word → Option (X × List Word)
+take_by says [] = None
+take_by says (w ∷ ws) = option_map (λ x. (x, ws)) (says w)
+
+-- the op whose arguments the words write, by this form
+abbrev pub read : {O : Type 0} → Naming → Form O → List Word → Option O
+read named (Done op) [] = Some op
+read named (Done op) (w ∷ ws) = None
+read named (Number next) ws = option_and_then (λ r. read named (next r.0) r.1) (take_by number_of ws)
+read named (NumberUnless other next) ws = option_and_then (λ r. read named (next r.0) r.1) (take_by (number_unless other) ws)
+read named (Choice first second next) ws = option_and_then (λ r. read named (next r.0) r.1) (take_by (choice_of first second) ws)
+read named (Name sort next) ws = option_and_then (λ r. read named (next r.0) r.1) (take_by (named sort) ws)
+
+-- the same by the first of these forms that has this word
+abbrev pub read_by : {O : Type 0} → Naming → List (Word × Form O) → Word → List Word → Option O
+read_by named [] w ws = None
+read_by named (form ∷ others) w ws = if bytes_eq w form.0 then read named form.1 ws else read_by named others w ws
+
+-- the op, where its numbers are in their ranges
+abbrev pub if_in_range : Op → Option Op
+if_in_range op = if is_in_range op then Some op else None
+
+-- the op that words spell, where names are read so
+abbrev pub op_of : Naming → List Word → Option Op
+op_of named [] = None
+op_of named (w ∷ ws) = option_and_then if_in_range (read_by named forms w ws)
+
+-- the same of a handler's op
+abbrev pub isr_op_of : Naming → List Word → Option IsrOp
+isr_op_of named [] = None
+isr_op_of named (w ∷ ws) = read_by named isr_forms w ws

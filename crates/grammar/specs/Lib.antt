@@ -1,0 +1,4 @@
+pub mod Names
+pub mod Grammar
+pub mod Finding
+pub mod Points

@@ -1,0 +1,51 @@
+//! How names in the text of an op are read.
+use crate::name::is_name;
+use crate::object_sort::ObjectSort;
+use model::{GroupId, ObjectId, TaskId};
+
+/// How names in the text of an op are read.
+pub trait Finding {
+    ghost use Rattle.std.specs.Prelude.{◌≡◌};
+    ghost use Rattle.grammar.specs.Grammar.{Naming, OfObject, OfGroup, OfTask};
+
+    // Which entry of a sort a word names.
+    ghost naming: { Self → Naming };
+
+    /// The object of this sort that a word names.
+    fn object(&self, sort: ObjectSort, word: &[u8]) -> Option<ObjectId>
+        ensures { result ≡ naming self.now (OfObject sort) word.now };
+
+    /// The event group that a word names.
+    fn group(&self, word: &[u8]) -> Option<GroupId>
+        ensures { result ≡ naming self.now OfGroup word.now };
+
+    /// The task that a word names.
+    fn task(&self, word: &[u8]) -> Option<TaskId>
+        ensures { result ≡ naming self.now OfTask word.now };
+}
+
+/// Any name will do: a text is only looked at for what it spells.
+#[derive(Clone, Copy)]
+pub struct AnyName;
+
+impl Finding for AnyName {
+    ghost use Rattle.grammar.specs.Finding.{any_name};
+
+    ghost naming = { λ finding. any_name };
+
+    fn object(&self, _sort: ObjectSort, word: &[u8]) -> Option<ObjectId> {
+        if is_name(word) {
+            ObjectId::new(0)
+        } else {
+            None
+        }
+    }
+
+    fn group(&self, word: &[u8]) -> Option<GroupId> {
+        if is_name(word) { GroupId::new(0) } else { None }
+    }
+
+    fn task(&self, word: &[u8]) -> Option<TaskId> {
+        if is_name(word) { TaskId::new(0) } else { None }
+    }
+}

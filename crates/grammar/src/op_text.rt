@@ -1,0 +1,268 @@
+//! Which text spells which op.
+ghost use Rattle.std.specs.Prelude.{◌≡◌, List, ℕ, drop, None, Some, IfSome, MatchOption, option_and_then};
+ghost use Rattle.std.specs.Str.{bytes_eq};
+ghost use Rattle.model.specs.declared.op.Op.{Op};
+ghost use Rattle.model.specs.declared.op.IsrOp.{IsrOp};
+ghost use Rattle.model.specs.Scripts.{InRange};
+ghost use Rattle.grammar.specs.Grammar.{Naming, words_of, Done, forms, object_forms, semaphore_forms, group_forms, suspension_forms, isr_forms, read, read_by, if_in_range, op_of, isr_op_of, Spells, SpellsIsr};
+
+use crate::finding::Finding;
+use crate::object_sort::ObjectSort;
+use crate::words::Words;
+use model::{Access, Condition, IsrOp, Op};
+
+fn is(word: &[u8], name: &str) -> bool
+    ensures { result ≡ bytes_eq word.now name.now }
+{
+    word == name.as_bytes()
+}
+
+// The op of this word that suspends or resumes, whose arguments are the next words.
+fn suspension_op_after<F: Finding>(word: &[u8], words: &mut Words<'_>, finding: &F) -> Option<Op>
+    // What is still to be read is whether the text ends here.
+    ensures { MatchOption result
+        (read_by (F.naming finding.now) suspension_forms word.now words.old ≡ None)
+        (λ op. read_by (F.naming finding.now) suspension_forms word.now words.old
+        ≡ read (F.naming finding.now) (Done op) words.new) }
+{
+    if is(word, "suspend") {
+        Some(Op::Suspend(words.task(finding)?))
+    } else if is(word, "resume") {
+        Some(Op::Resume(words.task(finding)?))
+    } else if is(word, "suspend_all") {
+        Some(Op::SuspendAll)
+    } else if is(word, "resume_all") {
+        Some(Op::ResumeAll)
+    } else {
+        None
+    }
+}
+
+// The op of this word on an event group, whose arguments are the next words.
+fn group_op_after<F: Finding>(word: &[u8], words: &mut Words<'_>, finding: &F) -> Option<Op>
+    // What is still to be read is whether the text ends here.
+    ensures { MatchOption result
+        (read_by (F.naming finding.now) group_forms word.now words.old ≡ None)
+        (λ op. read_by (F.naming finding.now) group_forms word.now words.old
+        ≡ read (F.naming finding.now) (Done op) words.new) }
+{
+    if is(word, "set") {
+        let group = words.group(finding)?;
+        Some(Op::SetBits(group, words.number()?))
+    } else if is(word, "clear") {
+        let group = words.group(finding)?;
+        Some(Op::ClearBits(group, words.number()?))
+    } else if is(word, "bits") {
+        Some(Op::GetBits(words.group(finding)?))
+    } else if is(word, "wait") {
+        let group = words.group(finding)?;
+        let mask = words.number()?;
+        let all = words.choice("any", "all")?;
+        let clear = words.choice("keep", "clear")?;
+        let condition = Condition { mask, all, clear };
+        Some(Op::WaitBits(group, condition, words.number_unless("forever")?))
+    } else {
+        suspension_op_after(word, words, finding)
+    }
+}
+
+// The op of this word on a semaphore or a mutex, whose arguments are the next words.
+fn semaphore_op_after<F: Finding>(word: &[u8], words: &mut Words<'_>, finding: &F) -> Option<Op>
+    // What is still to be read is whether the text ends here.
+    ensures { MatchOption result
+        (read_by (F.naming finding.now) semaphore_forms word.now words.old ≡ None)
+        (λ op. read_by (F.naming finding.now) semaphore_forms word.now words.old
+        ≡ read (F.naming finding.now) (Done op) words.new) }
+{
+    if is(word, "take") {
+        let semaphore = words.object(ObjectSort::Semaphore, finding)?;
+        Some(Op::Await(semaphore, Access::Take, words.number_unless("forever")?))
+    } else if is(word, "give") {
+        let semaphore = words.object(ObjectSort::Semaphore, finding)?;
+        Some(Op::Do(semaphore, Access::Give))
+    } else if is(word, "lock") {
+        let mutex = words.object(ObjectSort::Mutex, finding)?;
+        Some(Op::Await(mutex, Access::Lock, words.number_unless("forever")?))
+    } else if is(word, "unlock") {
+        let mutex = words.object(ObjectSort::Mutex, finding)?;
+        Some(Op::GiveMutex(mutex))
+    } else {
+        group_op_after(word, words, finding)
+    }
+}
+
+// The op of this word on an object that sends nothing, whose arguments are the next words.
+fn reading_op_after<F: Finding>(word: &[u8], words: &mut Words<'_>, finding: &F) -> Option<Op>
+    // What is still to be read is whether the text ends here.
+    ensures { MatchOption result
+        (read_by (F.naming finding.now) (drop 3 object_forms) word.now words.old ≡ None)
+        (λ op. read_by (F.naming finding.now) (drop 3 object_forms) word.now words.old
+        ≡ read (F.naming finding.now) (Done op) words.new) }
+{
+    if is(word, "receive") {
+        let queue = words.object(ObjectSort::Queue, finding)?;
+        Some(Op::Await(queue, Access::Receive, words.number_unless("forever")?))
+    } else if is(word, "peek") {
+        let queue = words.object(ObjectSort::Queue, finding)?;
+        Some(Op::Await(queue, Access::Peek, words.number_unless("forever")?))
+    } else if is(word, "waiting") {
+        Some(Op::MessagesWaiting(words.object(ObjectSort::Queue, finding)?))
+    } else if is(word, "spaces") {
+        Some(Op::SpacesAvailable(words.object(ObjectSort::Queue, finding)?))
+    } else {
+        semaphore_op_after(word, words, finding)
+    }
+}
+
+// The op of this word on an object, whose arguments are the next words.
+fn object_op_after<F: Finding>(word: &[u8], words: &mut Words<'_>, finding: &F) -> Option<Op>
+    // What is still to be read is whether the text ends here.
+    ensures { MatchOption result
+        (read_by (F.naming finding.now) object_forms word.now words.old ≡ None)
+        (λ op. read_by (F.naming finding.now) object_forms word.now words.old
+        ≡ read (F.naming finding.now) (Done op) words.new) }
+{
+    if is(word, "send") {
+        let queue = words.object(ObjectSort::Queue, finding)?;
+        let access = Access::Send(words.number()?);
+        Some(Op::Await(queue, access, words.number_unless("forever")?))
+    } else if is(word, "send_front") {
+        let queue = words.object(ObjectSort::Queue, finding)?;
+        let access = Access::SendFront(words.number()?);
+        Some(Op::Await(queue, access, words.number_unless("forever")?))
+    } else if is(word, "overwrite") {
+        let queue = words.object(ObjectSort::Queue, finding)?;
+        Some(Op::Do(queue, Access::Overwrite(words.number()?)))
+    } else {
+        reading_op_after(word, words, finding)
+    }
+}
+
+// The op of this word that is none of the first four, whose arguments are the next words.
+fn later_op_after<F: Finding>(word: &[u8], words: &mut Words<'_>, finding: &F) -> Option<Op>
+    // What is still to be read is whether the text ends here; a number past what the code can hold is out of range.
+    ensures { MatchOption result
+        (option_and_then if_in_range (read_by (F.naming finding.now) (drop 4 forms) word.now words.old) ≡ None)
+        (λ op. read_by (F.naming finding.now) (drop 4 forms) word.now words.old
+        ≡ read (F.naming finding.now) (Done op) words.new) }
+{
+    if is(word, "time") {
+        Some(Op::Time)
+    } else if is(word, "mark") {
+        Some(Op::Mark(words.number()?))
+    } else if is(word, "expect") {
+        Some(Op::Expect(words.number_unless("none")?))
+    } else if is(word, "repeat") {
+        Some(Op::Repeat(u16::try_from(words.number()?).ok()?))
+    } else if is(word, "end") {
+        Some(Op::End)
+    } else {
+        object_op_after(word, words, finding)
+    }
+}
+
+// The op of this word, whose arguments are the next words.
+fn op_after<F: Finding>(word: &[u8], words: &mut Words<'_>, finding: &F) -> Option<Op>
+    // What is still to be read is whether the text ends here; a number past what the code can hold is out of range.
+    ensures { MatchOption result
+        (option_and_then if_in_range (read_by (F.naming finding.now) forms word.now words.old) ≡ None)
+        (λ op. read_by (F.naming finding.now) forms word.now words.old
+        ≡ read (F.naming finding.now) (Done op) words.new) }
+{
+    if is(word, "work") {
+        Some(Op::Work(words.number()?))
+    } else if is(word, "delay") {
+        Some(Op::Delay(words.number()?))
+    } else if is(word, "delay_until") {
+        Some(Op::DelayUntil(words.number()?))
+    } else if is(word, "yield") {
+        Some(Op::Yield)
+    } else {
+        later_op_after(word, words, finding)
+    }
+}
+
+/// The op that a text spells, where names are read so; `None` where it spells none.
+pub fn op_of<F: Finding>(text: &[u8], finding: &F) -> Option<Op>
+    ensures op { result ≡ op_of (F.naming finding.now) (words_of text.now) }
+    ensures range { IfSome result InRange }
+{
+    let mut words = Words::new(text);
+    let word = words.next()?;
+    let op = op_after(word, &mut words, finding)?;
+    if words.is_at_end() && op.is_in_range() {
+        Some(op)
+    } else {
+        None
+    }
+}
+
+// The op of a handler of this word that is none of the five on a queue, whose arguments are the next words.
+fn other_isr_op_after<F: Finding>(word: &[u8], words: &mut Words<'_>, finding: &F) -> Option<IsrOp>
+    // What is still to be read is whether the text ends here.
+    ensures { MatchOption result
+        (read_by (F.naming finding.now) (drop 5 isr_forms) word.now words.old ≡ None)
+        (λ op. read_by (F.naming finding.now) (drop 5 isr_forms) word.now words.old
+        ≡ read (F.naming finding.now) (Done op) words.new) }
+{
+    if is(word, "give") {
+        let semaphore = words.object(ObjectSort::Semaphore, finding)?;
+        Some(IsrOp::Do(semaphore, Access::Give))
+    } else if is(word, "resume") {
+        Some(IsrOp::Resume(words.task(finding)?))
+    } else if is(word, "bits") {
+        Some(IsrOp::GetBits(words.group(finding)?))
+    } else if is(word, "mark") {
+        Some(IsrOp::Mark(words.number()?))
+    } else {
+        None
+    }
+}
+
+// The op of a handler of this word, whose arguments are the next words.
+fn isr_op_after<F: Finding>(word: &[u8], words: &mut Words<'_>, finding: &F) -> Option<IsrOp>
+    // What is still to be read is whether the text ends here.
+    ensures { MatchOption result
+        (read_by (F.naming finding.now) isr_forms word.now words.old ≡ None)
+        (λ op. read_by (F.naming finding.now) isr_forms word.now words.old
+        ≡ read (F.naming finding.now) (Done op) words.new) }
+{
+    if is(word, "send") {
+        let queue = words.object(ObjectSort::Queue, finding)?;
+        Some(IsrOp::Do(queue, Access::Send(words.number()?)))
+    } else if is(word, "send_front") {
+        let queue = words.object(ObjectSort::Queue, finding)?;
+        Some(IsrOp::Do(queue, Access::SendFront(words.number()?)))
+    } else if is(word, "overwrite") {
+        let queue = words.object(ObjectSort::Queue, finding)?;
+        Some(IsrOp::Do(queue, Access::Overwrite(words.number()?)))
+    } else if is(word, "receive") {
+        Some(IsrOp::Do(words.object(ObjectSort::Queue, finding)?, Access::Receive))
+    } else if is(word, "peek") {
+        Some(IsrOp::Do(words.object(ObjectSort::Queue, finding)?, Access::Peek))
+    } else {
+        other_isr_op_after(word, words, finding)
+    }
+}
+
+/// The op of a handler that a text spells, where names are read so; `None` where it spells none.
+pub fn isr_op_of<F: Finding>(text: &[u8], finding: &F) -> Option<IsrOp>
+    ensures { result ≡ isr_op_of (F.naming finding.now) (words_of text.now) }
+{
+    let mut words = Words::new(text);
+    let word = words.next()?;
+    let op = isr_op_after(word, &mut words, finding)?;
+    if words.is_at_end() { Some(op) } else { None }
+}
+
+/// However names are read, what the reader of ops takes is what the grammar spells.
+pub fn op_grammar()
+    ensures sound { (named : Naming) (ws : List (List ℕ)) (op : Op)
+        → op_of named ws ≡ Some op → Spells named op ws }
+    ensures complete { (named : Naming) (ws : List (List ℕ)) (op : Op)
+        → Spells named op ws → op_of named ws ≡ Some op }
+    ensures isr_sound { (named : Naming) (ws : List (List ℕ)) (op : IsrOp)
+        → isr_op_of named ws ≡ Some op → SpellsIsr named op ws }
+    ensures isr_complete { (named : Naming) (ws : List (List ℕ)) (op : IsrOp)
+        → SpellsIsr named op ws → isr_op_of named ws ≡ Some op }
+{}

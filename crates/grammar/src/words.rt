@@ -1,0 +1,190 @@
+//! The words of an op's text, and what they say.
+ghost use Rattle.std.specs.Prelude.{◌≡◌, ◌==◌, ◌↔◌, ◌⊎◌, ◌<◌, ◌≤◌, [], ◌∷◌, None, Some, IsNone, IfSome, IsTrue, MatchOption, length, true};
+ghost use Rattle.std.specs.Char.{is_ascii_digit};
+ghost use Rattle.std.specs.List.{list_all, position_or_len};
+ghost use Rattle.std.specs.Str.Parse.{digits_value};
+ghost use Rattle.grammar.specs.Grammar.{words_of, is_number, number_of, number_unless, choice_of, OfObject, OfGroup, OfTask, take_by};
+
+use crate::finding::Finding;
+use crate::object_sort::ObjectSort;
+use model::{GroupId, ObjectId, TaskId};
+use std::marker::Model;
+
+// The text from its first word on.
+fn trim_start(text: &[u8]) -> &[u8]
+    ensures words { words_of result.now ≡ words_of text.now }
+    ensures word { (result.now ≡ []) ⊎ (0 < position_or_len (λ b. b == 32) result.now) }
+{
+    let mut left = text;
+    while let [b' ', after @ ..] = left {
+        left = after;
+    }
+    left
+}
+
+// Where the first space of a text stands, or the text ends.
+fn word_length(text: &[u8]) -> usize
+    ensures space { result ≡ position_or_len (λ b. b == 32) text.now }
+    ensures within { result ≤ length text.now }
+{
+    for (index, byte) in text.iter().enumerate() {
+        if *byte == b' ' {
+            return index;
+        }
+    }
+    text.len()
+}
+
+fn are_digits(bytes: &[u8]) -> bool
+    ensures { result ≡ list_all is_ascii_digit bytes.now }
+{
+    bytes.iter().all(|byte| byte.is_ascii_digit())
+}
+
+// One to ten digits.
+fn is_number(word: &[u8]) -> bool
+    ensures { result ≡ is_number word.now }
+{
+    !word.is_empty() && word.len() <= 10 && are_digits(word)
+}
+
+// The number that digits write.
+fn value_of(digits: &[u8]) -> u64
+    requires few { length digits.now ≤ 10 }
+    requires digits { list_all is_ascii_digit digits.now ≡ true }
+    ensures { result ≡ digits_value 10 digits.now }
+{
+    let mut value = 0u64;
+    for digit in digits {
+        value = value * 10 + u64::from(*digit - b'0');
+    }
+    value
+}
+
+/// The number that a word writes.
+pub(crate) fn number_of(word: &[u8]) -> Option<u32>
+    ensures { result ≡ number_of word.now }
+{
+    if is_number(word) {
+        u32::try_from(value_of(word)).ok()
+    } else {
+        None
+    }
+}
+
+// The number that a word writes, or none where it is this other word.
+fn number_unless(word: &[u8], other: &str) -> Option<Option<u32>>
+    ensures { result ≡ number_unless other.now word.now }
+{
+    if word == other.as_bytes() {
+        Some(None)
+    } else {
+        number_of(word).map(Some)
+    }
+}
+
+// Which of two words it is: whether it is the second.
+fn choice_of(word: &[u8], first: &str, second: &str) -> Option<bool>
+    ensures { result ≡ choice_of first.now second.now word.now }
+{
+    if word == first.as_bytes() {
+        Some(false)
+    } else if word == second.as_bytes() {
+        Some(true)
+    } else {
+        None
+    }
+}
+
+/// The words of a text that are still to be read.
+#[derive(Drop)]
+pub(crate) struct Words<'a> {
+    text: &'a [u8],
+}
+
+impl<'a> Model for Words<'a> {
+    ghost use Rattle.std.specs.Prelude.{List};
+    ghost use Rattle.grammar.specs.Grammar.{Word, words_of};
+
+    ghost Value = { List Word };
+
+    ghost view = { λ w. words_of w.text.now };
+}
+
+impl<'a> Words<'a> {
+    /// The words of a text.
+    pub(crate) fn new(text: &'a [u8]) -> Self
+        ensures { result ≡ words_of text.now }
+    {
+        Words { text }
+    }
+
+    /// The next word.
+    pub(crate) fn next(&mut self) -> Option<&'a [u8]>
+        ensures none { IsNone result → self.old ≡ [] }
+        ensures some { IfSome result (λ word. self.old ≡ word.now ∷ self.new) }
+    {
+        let text = trim_start(self.text);
+        if text.is_empty() {
+            return None;
+        }
+        let (word, left) = text.split_at(word_length(text));
+        self.text = left;
+        Some(word)
+    }
+
+    /// The number that the next word writes.
+    pub(crate) fn number(&mut self) -> Option<u32>
+        ensures { MatchOption result (take_by number_of self.old ≡ None)
+            (λ n. take_by number_of self.old ≡ Some (n, self.new)) }
+    {
+        number_of(self.next()?)
+    }
+
+    /// The number that the next word writes, or none where it is this other word.
+    pub(crate) fn number_unless(&mut self, other: &str) -> Option<Option<u32>>
+        ensures { MatchOption result (take_by (number_unless other.now) self.old ≡ None)
+            (λ n. take_by (number_unless other.now) self.old ≡ Some (n, self.new)) }
+    {
+        number_unless(self.next()?, other)
+    }
+
+    /// The object of this sort that the next word names.
+    pub(crate) fn object<F: Finding>(&mut self, sort: ObjectSort, finding: &F) -> Option<ObjectId>
+        ensures { MatchOption result (take_by (F.naming finding.now (OfObject sort)) self.old ≡ None)
+            (λ object. take_by (F.naming finding.now (OfObject sort)) self.old ≡ Some (object, self.new)) }
+    {
+        finding.object(sort, self.next()?)
+    }
+
+    /// The event group that the next word names.
+    pub(crate) fn group<F: Finding>(&mut self, finding: &F) -> Option<GroupId>
+        ensures { MatchOption result (take_by (F.naming finding.now OfGroup) self.old ≡ None)
+            (λ group. take_by (F.naming finding.now OfGroup) self.old ≡ Some (group, self.new)) }
+    {
+        finding.group(self.next()?)
+    }
+
+    /// The task that the next word names.
+    pub(crate) fn task<F: Finding>(&mut self, finding: &F) -> Option<TaskId>
+        ensures { MatchOption result (take_by (F.naming finding.now OfTask) self.old ≡ None)
+            (λ task. take_by (F.naming finding.now OfTask) self.old ≡ Some (task, self.new)) }
+    {
+        finding.task(self.next()?)
+    }
+
+    /// Which of two words the next word is: whether it is the second.
+    pub(crate) fn choice(&mut self, first: &str, second: &str) -> Option<bool>
+        ensures { MatchOption result (take_by (choice_of first.now second.now) self.old ≡ None)
+            (λ b. take_by (choice_of first.now second.now) self.old ≡ Some (b, self.new)) }
+    {
+        choice_of(self.next()?, first, second)
+    }
+
+    /// Whether no word is left.
+    pub(crate) fn is_at_end(&self) -> bool
+        ensures { IsTrue result ↔ (self.now ≡ []) }
+    {
+        trim_start(self.text).is_empty()
+    }
+}
