@@ -2,9 +2,10 @@
 ghost use Rattle.std.specs.Prelude.{◌≡◌, List, ℕ, drop, None, Some, IfSome, MatchOption, option_and_then};
 ghost use Rattle.std.specs.Str.{bytes_eq};
 ghost use Rattle.model.specs.declared.op.Op.{Op};
+ghost use Rattle.model.specs.declared.op.Op.TheVariants.{Await, Do, WaitBits};
 ghost use Rattle.model.specs.declared.op.IsrOp.{IsrOp};
 ghost use Rattle.model.specs.Scripts.{InRange};
-ghost use Rattle.grammar.specs.Grammar.{Naming, words_of, Done, forms, object_forms, semaphore_forms, group_forms, suspension_forms, isr_forms, read, read_by, if_in_range, op_of, isr_op_of, Spells, SpellsIsr};
+ghost use Rattle.grammar.specs.Grammar.{Naming, words_of, Done, Object, Group, Bits, Wait, forms, object_forms, semaphore_forms, group_forms, suspension_forms, isr_forms, read, read_by, if_in_range, op_of, isr_op_of, Spells, SpellsIsr};
 
 use crate::finding::Finding;
 use crate::object_sort::ObjectSort;
@@ -15,6 +16,53 @@ fn is(word: &[u8], name: &str) -> bool
     ensures { result ≡ bytes_eq word.now name.now }
 {
     word == name.as_bytes()
+}
+
+// The op of a call on the object of this sort that the next word names.
+fn do_op<F: Finding>(
+    access: Access,
+    sort: ObjectSort,
+    words: &mut Words<'_>,
+    finding: &F,
+) -> Option<Op>
+    // What is still to be read is whether the text ends here.
+    ensures { let form = Object sort (λ object. Done (Do object access)) in MatchOption result
+        (read (F.naming finding.now) form words.old ≡ None)
+        (λ op. read (F.naming finding.now) form words.old ≡ read (F.naming finding.now) (Done op) words.new) }
+{
+    Some(Op::Do(words.object(sort, finding)?, access))
+}
+
+// The op of a call that waits at the object of this sort that the next word names, for as long as the word after it says.
+fn await_op<F: Finding>(
+    access: Access,
+    sort: ObjectSort,
+    words: &mut Words<'_>,
+    finding: &F,
+) -> Option<Op>
+    // What is still to be read is whether the text ends here.
+    ensures { let form = Object sort (λ object. Wait (λ ticks. Done (Await object access ticks))) in MatchOption result
+        (read (F.naming finding.now) form words.old ≡ None)
+        (λ op. read (F.naming finding.now) form words.old ≡ read (F.naming finding.now) (Done op) words.new) }
+{
+    let object = words.object(sort, finding)?;
+    let ticks = words.number_unless("forever")?;
+    Some(Op::Await(object, access, ticks))
+}
+
+// The op that waits for bits of the group that the next word names, as the words after it say.
+fn wait_op<F: Finding>(words: &mut Words<'_>, finding: &F) -> Option<Op>
+    // What is still to be read is whether the text ends here.
+    ensures { let form = Group (λ group. Bits (λ condition. Wait (λ ticks. Done (WaitBits group condition ticks)))) in MatchOption result
+        (read (F.naming finding.now) form words.old ≡ None)
+        (λ op. read (F.naming finding.now) form words.old ≡ read (F.naming finding.now) (Done op) words.new) }
+{
+    let group = words.group(finding)?;
+    let mask = words.number()?;
+    let all = words.choice("any", "all")?;
+    let clear = words.choice("keep", "clear")?;
+    let condition = Condition { mask, all, clear };
+    Some(Op::WaitBits(group, condition, words.number_unless("forever")?))
 }
 
 // The op of this word that suspends or resumes, whose arguments are the next words.
@@ -55,12 +103,7 @@ fn group_op_after<F: Finding>(word: &[u8], words: &mut Words<'_>, finding: &F) -
     } else if is(word, "bits") {
         Some(Op::GetBits(words.group(finding)?))
     } else if is(word, "wait") {
-        let group = words.group(finding)?;
-        let mask = words.number()?;
-        let all = words.choice("any", "all")?;
-        let clear = words.choice("keep", "clear")?;
-        let condition = Condition { mask, all, clear };
-        Some(Op::WaitBits(group, condition, words.number_unless("forever")?))
+        wait_op(words, finding)
     } else {
         suspension_op_after(word, words, finding)
     }
@@ -75,14 +118,11 @@ fn semaphore_op_after<F: Finding>(word: &[u8], words: &mut Words<'_>, finding: &
         ≡ read (F.naming finding.now) (Done op) words.new) }
 {
     if is(word, "take") {
-        let semaphore = words.object(ObjectSort::Semaphore, finding)?;
-        Some(Op::Await(semaphore, Access::Take, words.number_unless("forever")?))
+        await_op(Access::Take, ObjectSort::Semaphore, words, finding)
     } else if is(word, "give") {
-        let semaphore = words.object(ObjectSort::Semaphore, finding)?;
-        Some(Op::Do(semaphore, Access::Give))
+        do_op(Access::Give, ObjectSort::Semaphore, words, finding)
     } else if is(word, "lock") {
-        let mutex = words.object(ObjectSort::Mutex, finding)?;
-        Some(Op::Await(mutex, Access::Lock, words.number_unless("forever")?))
+        await_op(Access::Lock, ObjectSort::Mutex, words, finding)
     } else if is(word, "unlock") {
         let mutex = words.object(ObjectSort::Mutex, finding)?;
         Some(Op::GiveMutex(mutex))
@@ -100,11 +140,9 @@ fn reading_op_after<F: Finding>(word: &[u8], words: &mut Words<'_>, finding: &F)
         ≡ read (F.naming finding.now) (Done op) words.new) }
 {
     if is(word, "receive") {
-        let queue = words.object(ObjectSort::Queue, finding)?;
-        Some(Op::Await(queue, Access::Receive, words.number_unless("forever")?))
+        await_op(Access::Receive, ObjectSort::Queue, words, finding)
     } else if is(word, "peek") {
-        let queue = words.object(ObjectSort::Queue, finding)?;
-        Some(Op::Await(queue, Access::Peek, words.number_unless("forever")?))
+        await_op(Access::Peek, ObjectSort::Queue, words, finding)
     } else if is(word, "waiting") {
         Some(Op::MessagesWaiting(words.object(ObjectSort::Queue, finding)?))
     } else if is(word, "spaces") {

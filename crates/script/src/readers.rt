@@ -13,9 +13,8 @@ use crate::objects::objects;
 use crate::place::{Key, Place, Section};
 use crate::raw_handler::{RawHandler, RawHandlers};
 use crate::raw_task::{RawTask, RawTasks};
-use crate::sections::{EntryReader, read_section};
+use crate::sections::{EntryReader, whole_section};
 use crate::values::{new_name, required_number, texts};
-use arrayvec::ArrayVec;
 use model::{HandlerDefinition, Script};
 use toml::Table;
 
@@ -119,9 +118,7 @@ fn groups<'a>(document: &'a Table, earlier: &NamedEntries<'_>) -> Result<Groups<
     ensures { Judges (seen (λ v. map group_view v.items) result)
         (groups_fault (entries_view earlier.now) (table_view document.now)) (groups_named (table_view document.now)) }
 {
-    let mut groups = ArrayVec::new();
-    read_section(&GroupReader(earlier), Section::Group, document, &mut groups)?;
-    Ok(groups)
+    whole_section(&GroupReader(earlier), Section::Group, document)
 }
 
 #[tactic(auto, unfolding(crate::specs::Sections::handlers_fault, crate::specs::Sections::handlers_named))]
@@ -129,14 +126,7 @@ fn handlers<'a>(document: &'a Table, earlier: &NamedEntries<'_>) -> Result<RawHa
     ensures { Judges (seen (λ v. map isr_view v.items) result)
         (handlers_fault (entries_view earlier.now) (table_view document.now)) (handlers_named (table_view document.now)) }
 {
-    let mut handlers = ArrayVec::new();
-    read_section(
-        &HandlerReader(earlier),
-        Section::Handler,
-        document,
-        &mut handlers,
-    )?;
-    Ok(handlers)
+    whole_section(&HandlerReader(earlier), Section::Handler, document)
 }
 
 #[tactic(auto, unfolding(crate::specs::Sections::tasks_fault, crate::specs::Sections::tasks_named))]
@@ -144,9 +134,7 @@ fn tasks<'a>(document: &'a Table, earlier: &NamedEntries<'_>) -> Result<RawTasks
     ensures { Judges (seen (λ v. map raw_view v.items) result)
         (tasks_fault (entries_view earlier.now) (table_view document.now)) (tasks_named (table_view document.now)) }
 {
-    let mut tasks = ArrayVec::new();
-    read_section(&TaskReader(earlier), Section::Task, document, &mut tasks)?;
-    Ok(tasks)
+    whole_section(&TaskReader(earlier), Section::Task, document)
 }
 
 /// The entries of a document that have names, of which at least one is a task.

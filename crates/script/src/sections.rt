@@ -129,3 +129,18 @@ pub(crate) fn read_section<'a, R: EntryReader<'a>, const N: usize>(
     };
     read_few(reader, section, values, read)
 }
+
+/// All entries of a section, which may be left out.
+pub(crate) fn whole_section<'a, R: EntryReader<'a>, const N: usize>(
+    reader: &R,
+    section: Section,
+    document: &'a Table,
+) -> Result<ArrayVec<R::Entry, N>, Fault>
+    ensures { Judges (seen (λ v. map R.shown v.items) result)
+        (section_fault N section (R.named reader.now) (R.keys reader.now) [] (data_at section (table_view document.now)))
+        (section_named (R.named reader.now) (data_at section (table_view document.now))) }
+{
+    let mut entries = ArrayVec::new();
+    read_section(reader, section, document, &mut entries)?;
+    Ok(entries)
+}
