@@ -7,6 +7,7 @@ import threading
 
 ROOT = os.path.dirname(os.path.dirname(os.path.realpath(__file__)))
 MEMORY_OF_A_JOB = 1_500_000_000
+MEMORY_OF_A_CRATE = 3_000_000_000
 
 
 def crates(root=ROOT):
@@ -32,11 +33,11 @@ def processors():
     return len(os.sched_getaffinity(0))
 
 
-def room_for_jobs():
-    """How many jobs there are processors and memory for, one at least."""
+def room_for_jobs(memory=MEMORY_OF_A_JOB):
+    """How many jobs, of so much memory each, there are processors and memory for, one at least."""
     with open("/proc/meminfo", encoding="ascii") as file:
         free = 1024 * int(re.search(r"MemAvailable:\s+(\d+)", file.read())[1])
-    return max(1, min(processors(), free // MEMORY_OF_A_JOB))
+    return max(1, min(processors(), free // memory))
 
 
 class Checks:
