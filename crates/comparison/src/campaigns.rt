@@ -144,6 +144,13 @@ fn workers_of(dice: &mut Dice) -> usize
     }
 }
 
+/// One of the manners.
+fn manner_of(dice: &mut Dice) -> Manner {
+    let stride = stride_of(dice);
+    let workers = workers_of(dice);
+    Manner { workers, stride }
+}
+
 /// The report of the campaign over these points, made in this manner.
 fn report_of<R: Abort + Threads + Wait + Sync>(
     rt: &R,
@@ -165,15 +172,27 @@ fn report_of<R: Abort + Threads + Wait + Sync>(
     text
 }
 
-/// The points in blocks of this length.
-fn even(rt: &impl Abort, alloc: Global, points: &[Point], block: usize) -> Division
+/// The same, in blocks of this length.
+fn report_in_blocks<R: Abort + Threads + Wait + Sync>(
+    rt: &R,
+    alloc: Global,
+    app: &App,
+    points: &[Point],
+    manner: Manner,
+    block: usize,
+) -> Vec<u8>
     requires { 0 < block }
-    ensures { sum result ≡ length points.now }
 {
+    assert!(rt; points.len() <= 1_000_000, "few points");
     match Division::even(alloc, points.len(), block) {
-        Ok(division) => division,
+        Ok(division) => report_of(rt, alloc, app, points, manner, division),
         Err(_) => panic!(rt; "memory"),
     }
+}
+
+/// In how many steps the base run ends.
+fn base_steps(rt: &impl Abort, alloc: Global, app: &App) -> u32 {
+    alone(rt, alloc, app, Vec::new(alloc)).steps
 }
 
 /// The report over these points, each of whose rows is run alone, where the base run has so many steps.
@@ -201,30 +220,33 @@ fn rows_alone(
     text
 }
 
+/// Fails the test, and shows the application as a file.
+fn fail(rt: &impl Abort, alloc: Global, seed: u32, app: &App, points: &[Point], manner: Manner) {
+    let file = file_of(alloc, app).expect(rt, "memory");
+    let told = points_text(alloc, app, points).expect(rt, "memory");
+    panic!(rt; "seed {seed}, {manner:?}: another report, of points{told} on this file\n{file}");
+}
+
+/// Compares the campaign of an application with its rows one by one.
+fn compare<R: Abort + Threads + Wait + Sync>(rt: &R, alloc: Global, seed: u32, seen: &mut Seen) {
+    let mut dice = Dice::crowding(seed);
+    let app = dice.app(alloc).expect(rt, "memory");
+    let steps = base_steps(rt, alloc, &app);
+    let points = points_of(&mut dice, alloc, steps).expect(rt, "memory");
+    let wanted = rows_alone(rt, alloc, &app, &points, steps, seen);
+    let manner = manner_of(&mut dice);
+    let block = 1 + seed as usize % 5;
+    let written = report_in_blocks(rt, alloc, &app, &points, manner, block);
+    if written.as_slice() != wanted.as_slice() {
+        fail(rt, alloc, seed, &app, &points, manner);
+    }
+}
+
 #[test]
 fn a_campaign_is_its_rows_one_by_one(rt: HostRuntime) {
-    let alloc = rt.alloc();
     let mut seen = Seen::default();
     for seed in 0..2_000 {
-        let mut dice = Dice::crowding(seed);
-        let app = dice.app(alloc).expect(&rt, "memory");
-        let base = alone(&rt, alloc, &app, Vec::new(alloc));
-        let points = points_of(&mut dice, alloc, base.steps).expect(&rt, "memory");
-        assert!(rt; points.len() <= 1_000_000, "few points");
-        let wanted = rows_alone(&rt, alloc, &app, &points, base.steps, &mut seen);
-        let stride = stride_of(&mut dice);
-        let workers = workers_of(&mut dice);
-        let manner = Manner { workers, stride };
-        let block = 1 + seed as usize % 5;
-        let division = even(&rt, alloc, &points, block);
-        let written = report_of(&rt, alloc, &app, &points, manner, division);
-        if written.as_slice() != wanted.as_slice() {
-            let file = file_of(alloc, &app).expect(&rt, "memory");
-            let told = points_text(alloc, &app, points.as_slice()).expect(&rt, "memory");
-            panic!(rt;
-                "seed {seed}, {manner:?}: another report, of points{told} on this file\n{file}"
-            );
-        }
+        compare(&rt, rt.alloc(), seed, &mut seen);
     }
     assert!(rt; seen.rows == 24_000 && seen.missed > 1_000, "{seen:?}");
     assert!(rt; seen.stuck > 500 && seen.pass > 500, "{seen:?}");
@@ -264,23 +286,35 @@ const MANNERS: [Manner; 6] = [
     },
 ];
 
+const STEPS: [u32; 7] = [0, 2, 2, 3, 5, 6, 7];
+
+const DIVISIONS: [&[usize]; 3] = [&[7], &[1, 1, 1, 1, 1, 1, 1], &[3, 4]];
+
+/// Compares the report, made in this manner over blocks of these lengths, with what is wanted.
+fn compare_made<R: Abort + Threads + Wait + Sync>(
+    rt: &R,
+    alloc: Global,
+    app: &App,
+    lengths: &[usize],
+    manner: Manner,
+    wanted: &[u8],
+) {
+    let points = points_at(rt, alloc, &STEPS);
+    let division = divided(rt, alloc, &points, lengths);
+    let written = report_of(rt, alloc, app, &points, manner, division);
+    assert!(rt; written.as_slice() == wanted, "{lengths:?} {manner:?}");
+}
+
 #[test]
 fn a_report_is_the_same_however_it_is_made(rt: HostRuntime) {
     let alloc = rt.alloc();
     let app = loaded(&rt, alloc, ONE_RECEIVE);
-    let points = points_at(&rt, alloc, &[0, 2, 2, 3, 5, 6, 7]);
-    let base = alone(&rt, alloc, &app, Vec::new(alloc));
-    let wanted = rows_alone(&rt, alloc, &app, &points, base.steps, &mut Seen::default());
-    let divisions: [&[usize]; 3] = [&[7], &[1, 1, 1, 1, 1, 1, 1], &[3, 4]];
-    for lengths in divisions {
+    let points = points_at(&rt, alloc, &STEPS);
+    let steps = base_steps(&rt, alloc, &app);
+    let wanted = rows_alone(&rt, alloc, &app, &points, steps, &mut Seen::default());
+    for lengths in DIVISIONS {
         for manner in MANNERS {
-            let division = divided(&rt, alloc, &points, lengths);
-            let written = report_of(&rt, alloc, &app, &points, manner, division);
-            assert_eq!(rt;
-                written.as_slice(),
-                wanted.as_slice(),
-                "{lengths:?} {manner:?}"
-            );
+            compare_made(&rt, alloc, &app, lengths, manner, &wanted);
         }
     }
 }

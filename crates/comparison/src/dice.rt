@@ -32,7 +32,7 @@ pub(crate) struct Dice {
 }
 
 /// What the tasks of an application do for the most part.
-#[derive(Clone, Copy, Debug, PartialEq, Eq)]
+#[derive(Clone, Copy, PartialEq, Eq)]
 enum Theme {
     Any,
     /// They crowd about one queue or semaphore or two, and do little else than to wait there.
@@ -46,7 +46,7 @@ enum Theme {
 }
 
 /// What calls do.
-#[derive(Clone, Copy, Debug, PartialEq, Eq)]
+#[derive(Clone, Copy, PartialEq, Eq)]
 enum Role {
     Any,
     /// They send to queues, give semaphores and set bits.

@@ -1,20 +1,26 @@
 //! An application as a file, so that one can run it.
 
 use model::{
-    Access, App, Condition, GroupId, HandlerDefinition, Interrupt, IsrOp, ObjectId, ObjectKind, Op,
-    Point, TaskDefinition, TaskId,
+    Access, App, Condition, HandlerDefinition, Interrupt, IsrOp, ObjectId, ObjectKind, Op, Point,
+    TaskDefinition,
 };
 use std::alloc::{AllocError, Global};
 
-// The first word of a call, and the name of its object: a letter that tells its kind, and its number.
-fn call_text(
-    alloc: Global,
-    word: &str,
-    letter: &str,
-    object: ObjectId,
-) -> Result<String, AllocError> {
-    let number = object.number;
-    format!(in alloc; "{word} {letter}{number}")
+// A word, with a space before it.
+fn push_word(file: &mut String, word: &str) -> Result<(), AllocError> {
+    file.push_str(" ")?;
+    file.push_str(word)
+}
+
+// A number, as a word.
+fn push_number(file: &mut String, number: u32) -> Result<(), AllocError> {
+    write!(file, " {number}")
+}
+
+// The name of an object or of an event group, as a word: a letter that tells its kind, and its number.
+fn push_name(file: &mut String, letter: &str, number: u8) -> Result<(), AllocError> {
+    push_word(file, letter)?;
+    write!(file, "{number}")
 }
 
 // The letter of the objects that allow a call.
@@ -28,195 +34,195 @@ fn letter_for(access: Access) -> &'static str {
     }
 }
 
-// How long a call waits, as a word.
-fn wait_text(alloc: Global, ticks: Option<u32>) -> Result<String, AllocError> {
-    match ticks {
-        Some(ticks) => format!(in alloc; "{ticks}"),
-        None => String::from_str(alloc, "forever"),
-    }
-}
-
-// The item that a call puts in, as a word with a space before it.
-fn item_text(alloc: Global, access: Access) -> Result<String, AllocError> {
+// The object of a call, and the item that it puts in, as words.
+fn push_access(file: &mut String, object: ObjectId, access: Access) -> Result<(), AllocError> {
+    push_name(file, letter_for(access), object.number)?;
     match access {
         Access::Send(item) | Access::SendFront(item) | Access::Overwrite(item) => {
-            format!(in alloc; " {item}")
+            push_number(file, item)
         }
-        Access::Receive | Access::Peek | Access::Take | Access::Give | Access::Lock => {
-            Ok(String::new(alloc))
-        }
+        Access::Receive | Access::Peek | Access::Take | Access::Give | Access::Lock => Ok(()),
     }
 }
 
-// The first word of an op, and the name of its event group.
-fn group_text(alloc: Global, word: &str, group: GroupId) -> Result<String, AllocError> {
-    let number = group.number;
-    format!(in alloc; "{word} e{number}")
-}
-
-// The first word of an op, and the name of its task.
-fn task_text(alloc: Global, app: &App, word: &str, task: TaskId) -> Result<String, AllocError> {
-    let name = app.name(task);
-    format!(in alloc; "{word} {name}")
+// A number, or another word where there is none.
+fn push_number_or(file: &mut String, number: Option<u32>, none: &str) -> Result<(), AllocError> {
+    match number {
+        Some(number) => push_number(file, number),
+        None => push_word(file, none),
+    }
 }
 
 // For which bits a call waits, as words.
-fn condition_text(alloc: Global, condition: Condition) -> Result<String, AllocError> {
-    let mask = condition.mask;
-    let how_many = if condition.all { "all" } else { "any" };
-    let after = if condition.clear { "clear" } else { "keep" };
-    format!(in alloc; "{mask} {how_many} {after}")
+fn push_condition(file: &mut String, condition: Condition) -> Result<(), AllocError> {
+    push_number(file, condition.mask)?;
+    push_word(file, if condition.all { "all" } else { "any" })?;
+    push_word(file, if condition.clear { "clear" } else { "keep" })
 }
 
-fn push_op(file: &mut String, alloc: Global, app: &App, op: &Op) -> Result<(), AllocError> {
-    let word = op.word();
-    let text = match *op {
+// The words of an op behind its first.
+fn push_rest(file: &mut String, app: &App, op: &Op) -> Result<(), AllocError> {
+    match *op {
         Op::Work(number) | Op::Delay(number) | Op::DelayUntil(number) | Op::Mark(number) => {
-            format!(in alloc; "{word} {number}")?
+            push_number(file, number)
         }
-        Op::Repeat(turns) => format!(in alloc; "{word} {turns}")?,
-        Op::Expect(Some(number)) => format!(in alloc; "{word} {number}")?,
-        Op::Expect(None) => format!(in alloc; "{word} none")?,
-        Op::Yield | Op::Time | Op::End | Op::SuspendAll | Op::ResumeAll => {
-            String::from_str(alloc, word)?
-        }
+        Op::Repeat(turns) => push_number(file, turns as u32),
+        Op::Expect(answer) => push_number_or(file, answer, "none"),
+        Op::Yield | Op::Time | Op::End | Op::SuspendAll | Op::ResumeAll => Ok(()),
         Op::Await(object, access, ticks) => {
-            let call = call_text(alloc, word, letter_for(access), object)?;
-            let item = item_text(alloc, access)?;
-            let wait = wait_text(alloc, ticks)?;
-            format!(in alloc; "{call}{item} {wait}")?
+            push_access(file, object, access)?;
+            push_number_or(file, ticks, "forever")
         }
-        Op::Do(object, access) => {
-            let call = call_text(alloc, word, letter_for(access), object)?;
-            let item = item_text(alloc, access)?;
-            format!(in alloc; "{call}{item}")?
-        }
-        Op::GiveMutex(object) => call_text(alloc, word, "m", object)?,
+        Op::Do(object, access) => push_access(file, object, access),
+        Op::GiveMutex(object) => push_name(file, "m", object.number),
         Op::MessagesWaiting(object) | Op::SpacesAvailable(object) => {
-            call_text(alloc, word, "q", object)?
+            push_name(file, "q", object.number)
         }
         Op::SetBits(group, mask) | Op::ClearBits(group, mask) => {
-            let call = group_text(alloc, word, group)?;
-            format!(in alloc; "{call} {mask}")?
+            push_name(file, "e", group.number)?;
+            push_number(file, mask)
         }
-        Op::GetBits(group) => group_text(alloc, word, group)?,
+        Op::GetBits(group) => push_name(file, "e", group.number),
         Op::WaitBits(group, condition, ticks) => {
-            let call = group_text(alloc, word, group)?;
-            let bits = condition_text(alloc, condition)?;
-            let wait = wait_text(alloc, ticks)?;
-            format!(in alloc; "{call} {bits} {wait}")?
+            push_name(file, "e", group.number)?;
+            push_condition(file, condition)?;
+            push_number_or(file, ticks, "forever")
         }
-        Op::Suspend(task) | Op::Resume(task) => task_text(alloc, app, word, task)?,
-    };
-    let quoted = format!(in alloc; "'{text}', ")?;
-    file.push_str(quoted.as_str())
+        Op::Suspend(task) | Op::Resume(task) => push_word(file, app.name(task)),
+    }
+}
+
+fn push_op(file: &mut String, app: &App, op: &Op) -> Result<(), AllocError> {
+    file.push_str("'")?;
+    file.push_str(op.word())?;
+    push_rest(file, app, op)?;
+    file.push_str("', ")
+}
+
+// The words of a handler's op behind its first.
+fn push_isr_rest(file: &mut String, app: &App, op: &IsrOp) -> Result<(), AllocError> {
+    match *op {
+        IsrOp::Mark(number) => push_number(file, number),
+        IsrOp::Do(object, access) => push_access(file, object, access),
+        IsrOp::Resume(task) => push_word(file, app.name(task)),
+        IsrOp::GetBits(group) => push_name(file, "e", group.number),
+    }
+}
+
+fn push_isr_op(file: &mut String, app: &App, op: &IsrOp) -> Result<(), AllocError> {
+    file.push_str("'")?;
+    file.push_str(op.word())?;
+    push_isr_rest(file, app, op)?;
+    file.push_str("', ")
 }
 
 // The object of this index, whose name is a letter and the index. A semaphore that is as a binary one is shown as one.
-fn push_object(
-    file: &mut String,
-    alloc: Global,
-    index: usize,
-    kind: ObjectKind,
-) -> Result<(), AllocError> {
-    let text = match kind {
+fn push_object(file: &mut String, index: usize, kind: ObjectKind) -> Result<(), AllocError> {
+    match kind {
         ObjectKind::Queue(length) => {
-            format!(in alloc; "\n[[queue]]\nname = 'q{index}'\nlength = {length}\n")?
+            write!(file, "\n[[queue]]\nname = 'q{index}'\nlength = {length}\n")
         }
-        ObjectKind::Semaphore(1, 0) => format!(in alloc; "\n[[binary]]\nname = 's{index}'\n")?,
-        ObjectKind::Semaphore(max, initial) => format!(in alloc;
+        ObjectKind::Semaphore(1, 0) => write!(file, "\n[[binary]]\nname = 's{index}'\n"),
+        ObjectKind::Semaphore(max, initial) => write!(
+            file,
             "\n[[counting]]\nname = 's{index}'\nmax = {max}\ninitial = {initial}\n"
-        )?,
-        ObjectKind::Mutex => format!(in alloc; "\n[[mutex]]\nname = 'm{index}'\n")?,
-    };
-    file.push_str(text.as_str())
+        ),
+        ObjectKind::Mutex => write!(file, "\n[[mutex]]\nname = 'm{index}'\n"),
+    }
 }
 
-fn push_task(
-    file: &mut String,
-    alloc: Global,
-    app: &App,
-    task: &TaskDefinition,
-) -> Result<(), AllocError> {
+fn push_task(file: &mut String, app: &App, task: &TaskDefinition) -> Result<(), AllocError> {
     let name = task.name();
     let priority = task.priority();
-    let head = format!(in alloc; "\n[[task]]\nname = '{name}'\npriority = {priority}\nscript = [")?;
-    file.push_str(head.as_str())?;
+    write!(
+        file,
+        "\n[[task]]\nname = '{name}'\npriority = {priority}\nscript = ["
+    )?;
     for op in task.ops() {
-        push_op(file, alloc, app, op)?;
+        push_op(file, app, op)?;
     }
     file.push_str("]\n")
-}
-
-fn push_isr_op(file: &mut String, alloc: Global, app: &App, op: &IsrOp) -> Result<(), AllocError> {
-    let word = op.word();
-    let text = match *op {
-        IsrOp::Mark(number) => format!(in alloc; "{word} {number}")?,
-        IsrOp::Do(object, access) => {
-            let call = call_text(alloc, word, letter_for(access), object)?;
-            let item = item_text(alloc, access)?;
-            format!(in alloc; "{call}{item}")?
-        }
-        IsrOp::Resume(task) => task_text(alloc, app, word, task)?,
-        IsrOp::GetBits(group) => group_text(alloc, word, group)?,
-    };
-    let quoted = format!(in alloc; "'{text}', ")?;
-    file.push_str(quoted.as_str())
 }
 
 fn push_handler(
     file: &mut String,
-    alloc: Global,
     app: &App,
     handler: &HandlerDefinition,
 ) -> Result<(), AllocError> {
     let name = handler.name();
-    let head = format!(in alloc; "\n[[handler]]\nname = '{name}'\nops = [")?;
-    file.push_str(head.as_str())?;
+    write!(file, "\n[[handler]]\nname = '{name}'\nops = [")?;
     for op in handler.ops() {
-        push_isr_op(file, alloc, app, op)?;
+        push_isr_op(file, app, op)?;
     }
     file.push_str("]\n")
 }
 
-fn push_interrupt(
-    file: &mut String,
-    alloc: Global,
-    app: &App,
-    interrupt: &Interrupt,
-) -> Result<(), AllocError> {
+fn push_interrupt(file: &mut String, app: &App, interrupt: &Interrupt) -> Result<(), AllocError> {
     let tick = interrupt.tick;
     let name = app.handler_name(interrupt.handler);
-    let text = format!(in alloc; "\n[[interrupt]]\ntick = {tick}\nhandler = '{name}'\n")?;
-    file.push_str(text.as_str())
+    write!(file, "\n[[interrupt]]\ntick = {tick}\nhandler = '{name}'\n")
 }
 
-/// A file that describes this application.
-pub(crate) fn file_of(alloc: Global, app: &App) -> Result<String, AllocError> {
+// When the run begins and ends.
+fn push_head(file: &mut String, app: &App) -> Result<(), AllocError> {
     let start = app.start();
     let limits = app.limits();
     let ticks = limits.ticks;
     let steps = limits.steps;
-    let mut file = format!(in alloc;
+    write!(
+        file,
         "start = {start}\nlimits = {{ ticks = {ticks}, steps = {steps} }}\n"
-    )?;
+    )
+}
+
+fn push_objects(file: &mut String, app: &App) -> Result<(), AllocError> {
     for (index, kind) in app.objects().iter().enumerate() {
-        push_object(&mut file, alloc, index, *kind)?;
+        push_object(file, index, *kind)?;
     }
     for number in 0..app.group_count() {
-        let text = format!(in alloc; "\n[[group]]\nname = 'e{number}'\n")?;
-        file.push_str(text.as_str())?;
+        write!(file, "\n[[group]]\nname = 'e{number}'\n")?;
     }
+    Ok(())
+}
+
+fn push_handlers(file: &mut String, app: &App) -> Result<(), AllocError> {
     for handler in app.handlers() {
-        push_handler(&mut file, alloc, app, handler)?;
+        push_handler(file, app, handler)?;
     }
     for interrupt in app.interrupts() {
-        push_interrupt(&mut file, alloc, app, interrupt)?;
+        push_interrupt(file, app, interrupt)?;
     }
+    Ok(())
+}
+
+fn push_tasks(file: &mut String, app: &App) -> Result<(), AllocError> {
     for task in app.tasks() {
-        push_task(&mut file, alloc, app, task)?;
+        push_task(file, app, task)?;
     }
+    Ok(())
+}
+
+fn push_app(file: &mut String, app: &App) -> Result<(), AllocError> {
+    push_head(file, app)?;
+    push_objects(file, app)?;
+    push_handlers(file, app)?;
+    push_tasks(file, app)
+}
+
+/// A file that describes this application.
+pub(crate) fn file_of(alloc: Global, app: &App) -> Result<String, AllocError> {
+    let mut file = String::new(alloc);
+    push_app(&mut file, app)?;
     Ok(file)
+}
+
+fn push_points(text: &mut String, app: &App, points: &[Point]) -> Result<(), AllocError> {
+    for point in points {
+        push_number(text, point.step)?;
+        push_word(text, app.handler_name(point.handler))?;
+        text.push_str(",")?;
+    }
+    Ok(())
 }
 
 /// The points of a plan, as words.
@@ -226,11 +232,6 @@ pub(crate) fn points_text(
     points: &[Point],
 ) -> Result<String, AllocError> {
     let mut text = String::new(alloc);
-    for point in points {
-        let step = point.step;
-        let name = app.handler_name(point.handler);
-        let word = format!(in alloc; " {step} {name},")?;
-        text.push_str(word.as_str())?;
-    }
+    push_points(&mut text, app, points)?;
     Ok(text)
 }

@@ -1,9 +1,8 @@
 //! What the gate of a campaign is told, and when.
 use crate::dice::Dice;
 use crate::working::{Manner, campaign_in, divided, points_at};
-use campaign::{Finished, Gate};
+use campaign::Gate;
 use deal::Counts;
-use model::App;
 use std::alloc::Global;
 use std::process::Abort;
 use std::sync::Wait;
@@ -33,6 +32,10 @@ impl Meeting {
             met: AtomicU64::new(0),
             last_seen: AtomicU64::new(0),
         }
+    }
+
+    fn has_met(&self) -> bool {
+        self.met.load(Ordering::SeqCst) == 1
     }
 
     fn wait(&self) {
@@ -67,22 +70,25 @@ impl Gate for Meeting {
     }
 }
 
-// The campaign of an application over seven points, cut into blocks of these lengths, whose rows so many workers make.
+// The steps of the points.
+const STEPS: [u32; 7] = [0, 2, 2, 3, 5, 6, 7];
+
+// Makes the campaign of an application over seven points, cut into blocks of these lengths, and compares how many rows it has and
+// how many seats come back.
 fn run<R: Abort + Threads + Wait + Sync, G: Gate + Sync>(
     rt: &R,
     alloc: Global,
-    app: &App,
     lengths: &[usize],
     manner: Manner,
     gate: &G,
-) -> Finished {
+) {
+    let app = Dice::crowding(1).app(alloc).expect(rt, "memory");
     let points = points_at(rt, alloc, &STEPS);
     let division = divided(rt, alloc, &points, lengths);
-    campaign_in(rt, alloc, app, points, manner, division, gate)
+    let finished = campaign_in(rt, alloc, &app, points, manner, division, gate);
+    assert_eq!(rt; finished.report.totals().rows, 7);
+    assert_eq!(rt; finished.seats.len(), manner.workers);
 }
-
-// The steps of the points.
-const STEPS: [u32; 7] = [0, 2, 2, 3, 5, 6, 7];
 
 const TWO_WORKERS: Manner = Manner {
     workers: 2,
@@ -96,28 +102,21 @@ const ONE_WORKER: Manner = Manner {
 
 #[test]
 fn two_workers_are_in_two_blocks_at_once(rt: HostRuntime) {
-    let app = Dice::crowding(1).app(rt.alloc()).expect(&rt, "memory");
     let gate = Meeting::new(1);
-    let finished = run(&rt, rt.alloc(), &app, &[3, 4], TWO_WORKERS, &gate);
-    assert_eq!(rt; gate.met.load(Ordering::SeqCst), 1);
-    assert_eq!(rt; finished.report.totals().rows, 7);
+    run(&rt, rt.alloc(), &[3, 4], TWO_WORKERS, &gate);
+    assert!(rt; gate.has_met());
 }
 
 #[test]
 fn a_block_of_a_lane_that_is_kept_goes_to_another(rt: HostRuntime) {
-    let app = Dice::crowding(1).app(rt.alloc()).expect(&rt, "memory");
     let gate = Meeting::new(2);
-    let lengths = [1, 1, 1, 1, 1, 1, 1];
-    let finished = run(&rt, rt.alloc(), &app, &lengths, TWO_WORKERS, &gate);
-    assert_eq!(rt; gate.met.load(Ordering::SeqCst), 1);
-    assert_eq!(rt; finished.report.totals().rows, 7);
+    run(&rt, rt.alloc(), &[1, 1, 1, 1, 1, 1, 1], TWO_WORKERS, &gate);
+    assert!(rt; gate.has_met());
 }
 
 #[test]
 fn rows_are_counted_when_they_are_made(rt: HostRuntime) {
-    let app = Dice::crowding(1).app(rt.alloc()).expect(&rt, "memory");
     let gate = Meeting::new(0);
-    let finished = run(&rt, rt.alloc(), &app, &[3, 4], ONE_WORKER, &gate);
-    assert_eq!(rt; gate.last_seen.load(Ordering::SeqCst), 3);
-    assert_eq!(rt; finished.seats.len(), 1);
+    run(&rt, rt.alloc(), &[3, 4], ONE_WORKER, &gate);
+    assert!(rt; gate.last_seen.load(Ordering::SeqCst) == 3);
 }

@@ -4,7 +4,7 @@ use crate::dice::Dice;
 use crate::file::{file_of, points_text};
 use crate::planner::{Planner, Points};
 use crate::slow::SlowKernel;
-use model::{App, Meter, Plan};
+use model::{App, HandlerDefinition, Meter, Plan, TaskDefinition};
 use script::FromDocument;
 use std::alloc::Global;
 use std::process::Abort;
@@ -170,108 +170,134 @@ fn compare(
     seen.count(&slow, has_wrapped, &made);
 }
 
-#[test]
-fn the_slow_program_agrees(rt: HostRuntime) {
+/// Which applications are compared, and in how many runs handlers are injected.
+#[derive(Clone, Copy)]
+enum Sort {
+    /// Of all sorts, with base interrupts alone.
+    Any,
+    /// Two of three crowd about objects. Handlers are injected in each run.
+    Crowd,
+    /// Tasks contend for mutexes. Handlers are injected in every other run.
+    Contest,
+    /// Tasks wait for bits. Handlers are injected in every other run.
+    Gathering,
+    /// Tasks are suspended. Handlers are injected in three of four runs.
+    Suspension,
+}
+
+impl Sort {
+    fn dice(self, seed: u32) -> Dice {
+        match self {
+            Sort::Crowd if seed % 3 != 0 => Dice::crowding(seed),
+            Sort::Any | Sort::Crowd => Dice::new(seed),
+            Sort::Contest => Dice::contending(seed),
+            Sort::Gathering => Dice::gathering(seed),
+            Sort::Suspension => Dice::suspending(seed),
+        }
+    }
+
+    fn has_points(self, seed: u32) -> bool {
+        match self {
+            Sort::Any => false,
+            Sort::Crowd => true,
+            Sort::Contest | Sort::Gathering => seed % 2 != 0,
+            Sort::Suspension => seed % 4 != 0,
+        }
+    }
+
+    fn planner(self, alloc: Global, seed: u32) -> Planner {
+        if self.has_points(seed) {
+            Planner::new(alloc, u32::MAX - seed)
+        } else {
+            Planner::idle(alloc)
+        }
+    }
+}
+
+/// Compares both on 20,000 applications.
+fn seen_in(rt: &impl Abort, alloc: Global, sort: Sort) -> Seen {
     let mut seen = Seen::default();
     for seed in 0..20_000 {
-        let mut dice = Dice::new(seed);
-        let app = dice.app(rt.alloc()).expect(&rt, "memory");
-        let planner = Planner::idle(rt.alloc());
-        compare(&rt, rt.alloc(), seed, &app, planner, &mut seen);
+        let app = sort.dice(seed).app(alloc).expect(rt, "memory");
+        compare(rt, alloc, seed, &app, sort.planner(alloc, seed), &mut seen);
     }
+    seen
+}
+
+/// Fails the test where the runs have too little of what they are for.
+fn has_enough(rt: &impl Abort, seen: &Seen, is_so: bool) {
+    assert!(rt; is_so, "{seen:?}");
+}
+
+#[test]
+fn the_slow_program_agrees(rt: HostRuntime) {
+    let seen = seen_in(&rt, rt.alloc(), Sort::Any);
     let has_all = seen.wraps > 9_500 && seen.wakes > 2_750 && seen.timeouts > 3_000;
-    assert!(rt; has_all && seen.bit_timeouts > 2_300, "{seen:?}");
-    assert!(rt;
+    has_enough(&rt, &seen, has_all && seen.bit_timeouts > 2_300);
+    has_enough(
+        &rt,
+        &seen,
         seen.suspended_waits > 800 && seen.held_ticks > 2_700,
-        "{seen:?}"
     );
 }
 
 #[test]
 fn the_slow_program_agrees_where_handlers_are_injected(rt: HostRuntime) {
-    let mut seen = Seen::default();
-    for seed in 0..20_000 {
-        let mut dice = if seed % 3 == 0 {
-            Dice::new(seed)
-        } else {
-            Dice::crowding(seed)
-        };
-        let app = dice.app(rt.alloc()).expect(&rt, "memory");
-        let planner = Planner::new(rt.alloc(), u32::MAX - seed);
-        compare(&rt, rt.alloc(), seed, &app, planner, &mut seen);
-    }
+    let seen = seen_in(&rt, rt.alloc(), Sort::Crowd);
     let points = seen.points;
-    let has_points = points.all > 47_500 && points.late > 4_750;
+    has_enough(&rt, &seen, points.all > 47_500 && points.late > 4_750);
     let has_inside = points.inside_calls > points.all / 3 && points.locked > points.all / 6;
-    assert!(rt; has_points && has_inside, "{seen:?}");
+    has_enough(&rt, &seen, has_inside);
     let has_awakenings = seen.own_awakenings > 2_400 && seen.other_awakenings > 475;
-    assert!(rt; has_awakenings && seen.mixed_unlocks > 45, "{seen:?}");
-    assert!(rt; seen.locked_gives > 1_150, "{seen:?}");
+    has_enough(&rt, &seen, has_awakenings && seen.mixed_unlocks > 45);
+    has_enough(&rt, &seen, seen.locked_gives > 1_150);
 }
 
 #[test]
 fn the_slow_program_agrees_where_tasks_contend_for_mutexes(rt: HostRuntime) {
-    let mut seen = Seen::default();
-    for seed in 0..20_000 {
-        let mut dice = Dice::contending(seed);
-        let app = dice.app(rt.alloc()).expect(&rt, "memory");
-        let planner = if seed % 2 == 0 {
-            Planner::idle(rt.alloc())
-        } else {
-            Planner::new(rt.alloc(), u32::MAX - seed)
-        };
-        compare(&rt, rt.alloc(), seed, &app, planner, &mut seen);
-    }
-    let has_raises = seen.raises > 4_750 && seen.kept_raises > 475;
-    let has_falls = seen.falls > 1_150 && seen.partial_falls > 180;
-    assert!(rt;
-        has_raises && has_falls && seen.not_holder > 2_375,
-        "{seen:?}"
-    );
+    let seen = seen_in(&rt, rt.alloc(), Sort::Contest);
+    has_enough(&rt, &seen, seen.raises > 4_750 && seen.kept_raises > 475);
+    has_enough(&rt, &seen, seen.falls > 1_150 && seen.partial_falls > 180);
+    has_enough(&rt, &seen, seen.not_holder > 2_375);
 }
 
 #[test]
 fn the_slow_program_agrees_where_tasks_wait_for_bits(rt: HostRuntime) {
-    let mut seen = Seen::default();
-    for seed in 0..20_000 {
-        let mut dice = Dice::gathering(seed);
-        let app = dice.app(rt.alloc()).expect(&rt, "memory");
-        let planner = if seed % 2 == 0 {
-            Planner::idle(rt.alloc())
-        } else {
-            Planner::new(rt.alloc(), u32::MAX - seed)
-        };
-        compare(&rt, rt.alloc(), seed, &app, planner, &mut seen);
-    }
-    let has_sets = seen.crowded_sets > 900 && seen.clearing_sets > 3_000;
-    let has_ends = seen.bit_timeouts > 8_500 && seen.suspended_answers > 200;
-    assert!(rt; has_sets && has_ends, "{seen:?}");
+    let seen = seen_in(&rt, rt.alloc(), Sort::Gathering);
+    has_enough(
+        &rt,
+        &seen,
+        seen.crowded_sets > 900 && seen.clearing_sets > 3_000,
+    );
+    has_enough(
+        &rt,
+        &seen,
+        seen.bit_timeouts > 8_500 && seen.suspended_answers > 200,
+    );
 }
 
 #[test]
 fn the_slow_program_agrees_where_tasks_are_suspended(rt: HostRuntime) {
-    let mut seen = Seen::default();
-    for seed in 0..20_000 {
-        let mut dice = Dice::suspending(seed);
-        let app = dice.app(rt.alloc()).expect(&rt, "memory");
-        let planner = if seed % 4 == 0 {
-            Planner::idle(rt.alloc())
-        } else {
-            Planner::new(rt.alloc(), u32::MAX - seed)
-        };
-        compare(&rt, rt.alloc(), seed, &app, planner, &mut seen);
-    }
+    let seen = seen_in(&rt, rt.alloc(), Sort::Suspension);
     let has_tasks = seen.suspended_waits > 700 && seen.suspended_decisions > 120;
-    let has_resumes = seen.resumed_calls > 600 && seen.locked_resumes > 70;
-    assert!(rt;
-        has_tasks && has_resumes && seen.cut_off_sleeps > 550,
-        "{seen:?}"
+    has_enough(&rt, &seen, has_tasks && seen.cut_off_sleeps > 550);
+    has_enough(
+        &rt,
+        &seen,
+        seen.resumed_calls > 600 && seen.locked_resumes > 70,
     );
-    let has_ticks = seen.held_ticks > 7_000 && seen.held_interrupts > 3_800;
-    let has_wakes = seen.held_wakes > 1_100 && seen.points.suspended > 20_000;
-    assert!(rt; has_ticks && has_wakes, "{seen:?}");
+    has_enough(
+        &rt,
+        &seen,
+        seen.held_ticks > 7_000 && seen.held_interrupts > 3_800,
+    );
+    has_enough(
+        &rt,
+        &seen,
+        seen.held_wakes > 1_100 && seen.points.suspended > 20_000,
+    );
     let has_early_misuses = seen.while_suspended > 600 && seen.not_suspended > 600;
-    assert!(rt; has_early_misuses && seen.ended_suspended > 900, "{seen:?}");
+    has_enough(&rt, &seen, has_early_misuses && seen.ended_suspended > 900);
 }
 
 /// The application that a file describes.
@@ -284,28 +310,55 @@ pub(crate) fn loaded(rt: &impl Abort, alloc: Global, file: &str) -> App {
         .expect(rt, "an application")
 }
 
+fn is_same_handler(one: &HandlerDefinition, other: &HandlerDefinition) -> bool {
+    one.name() == other.name() && one.ops() == other.ops()
+}
+
+fn is_same_task(one: &TaskDefinition, other: &TaskDefinition) -> bool {
+    one.name() == other.name() && one.priority() == other.priority() && one.ops() == other.ops()
+}
+
+/// Whether two applications have the same handlers and interrupts.
+fn has_same_handlers(one: &App, other: &App) -> bool {
+    for (one, other) in one.handlers().iter().zip(other.handlers()) {
+        if !is_same_handler(one, other) {
+            return false;
+        }
+    }
+    one.handlers().len() == other.handlers().len() && one.interrupts() == other.interrupts()
+}
+
+/// Whether they have the same tasks.
+fn has_same_tasks(one: &App, other: &App) -> bool {
+    for (one, other) in one.tasks().iter().zip(other.tasks()) {
+        if !is_same_task(one, other) {
+            return false;
+        }
+    }
+    one.tasks().len() == other.tasks().len()
+}
+
+/// Whether they are the same but for handlers and tasks.
+fn has_same_rest(one: &App, other: &App) -> bool {
+    one.start() == other.start()
+        && one.limits() == other.limits()
+        && one.objects() == other.objects()
+        && one.group_count() == other.group_count()
+}
+
+/// Loads the file that shows an application, and compares what it describes.
+fn load_again(rt: &impl Abort, alloc: Global, app: &App) {
+    let file = file_of(alloc, app).expect(rt, "memory");
+    let back = loaded(rt, alloc, file.as_str());
+    assert!(rt; has_same_rest(&back, app), "{file}");
+    assert!(rt; has_same_handlers(&back, app), "{file}");
+    assert!(rt; has_same_tasks(&back, app), "{file}");
+}
+
 #[test]
 fn an_application_that_is_shown_as_a_file_is_loaded_as_it_was(rt: HostRuntime) {
     for seed in 0..200 {
-        let mut dice = Dice::new(seed);
-        let app = dice.app(rt.alloc()).expect(&rt, "memory");
-        let file = file_of(rt.alloc(), &app).expect(&rt, "memory");
-        let back = loaded(&rt, rt.alloc(), file.as_str());
-        assert_eq!(rt; back.start(), app.start(), "{file}");
-        assert_eq!(rt; back.limits(), app.limits(), "{file}");
-        assert_eq!(rt; back.objects(), app.objects(), "{file}");
-        assert_eq!(rt; back.group_count(), app.group_count(), "{file}");
-        assert_eq!(rt; back.interrupts(), app.interrupts(), "{file}");
-        assert_eq!(rt; back.handlers().len(), app.handlers().len(), "{file}");
-        for (one, other) in back.handlers().iter().zip(app.handlers()) {
-            assert_eq!(rt; one.name(), other.name(), "{file}");
-            assert_eq!(rt; one.ops(), other.ops(), "{file}");
-        }
-        assert_eq!(rt; back.tasks().len(), app.tasks().len(), "{file}");
-        for (one, other) in back.tasks().iter().zip(app.tasks()) {
-            assert_eq!(rt; one.name(), other.name(), "{file}");
-            assert_eq!(rt; one.priority(), other.priority(), "{file}");
-            assert_eq!(rt; one.ops(), other.ops(), "{file}");
-        }
+        let app = Dice::new(seed).app(rt.alloc()).expect(&rt, "memory");
+        load_again(&rt, rt.alloc(), &app);
     }
 }

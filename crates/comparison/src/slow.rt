@@ -16,7 +16,7 @@ mod suspension;
 mod waits_for_bits;
 
 /// A wait that has begun: at which side of which object, with the priority that the task had then.
-#[derive(Clone, Copy, Debug)]
+#[derive(Clone, Copy)]
 struct Wait {
     object: u8,
     side: Side,
@@ -25,7 +25,7 @@ struct Wait {
     ticket: u64,
 }
 
-#[derive(Clone, Copy, Debug)]
+#[derive(Clone, Copy)]
 enum Status {
     /// In the ready list, with this ticket.
     Ready(u64),
@@ -45,7 +45,7 @@ enum Status {
 }
 
 /// How far a call that may wait has come.
-#[derive(Clone, Copy, Debug, Default)]
+#[derive(Clone, Copy, Default)]
 struct Call {
     phase: Phase,
     deadline: Option<u64>,
@@ -57,7 +57,7 @@ struct Call {
     kept: Option<u32>,
 }
 
-#[derive(Clone, Copy, Debug)]
+#[derive(Clone, Copy)]
 struct Task {
     base_priority: u8,
     priority: u8,
@@ -72,7 +72,7 @@ struct Task {
 }
 
 /// How often something happened that runs are to have.
-#[derive(Clone, Copy, Debug, Default)]
+#[derive(Clone, Copy, Default)]
 pub(crate) struct Tally {
     /// A wait ended by a call or by a handler.
     pub(crate) wakes: u32,

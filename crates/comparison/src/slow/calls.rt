@@ -4,7 +4,7 @@ use super::{Call, SlowKernel, Status, Task, Wait, count_if};
 use model::{Access, App, Phase, TaskId};
 
 /// What a task waits for at an object: an item, a count or a mutex; or room.
-#[derive(Clone, Copy, Debug, PartialEq, Eq)]
+#[derive(Clone, Copy, PartialEq, Eq)]
 pub(super) enum Side {
     Receivers,
     Senders,

@@ -20,7 +20,7 @@ pub(super) struct Queue {
     items: VecDeque<u32>,
 }
 
-#[derive(Clone, Copy, Debug)]
+#[derive(Clone, Copy)]
 pub(super) struct Semaphore {
     max_count: u16,
     count: u16,

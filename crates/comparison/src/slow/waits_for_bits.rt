@@ -4,7 +4,7 @@ use super::{Call, SlowKernel, Status, Task, count_if};
 use model::{App, Condition, GroupId, Phase, TaskId};
 
 /// A wait for bits of a group that has begun.
-#[derive(Clone, Copy, Debug)]
+#[derive(Clone, Copy)]
 pub(super) struct BitWait {
     group: GroupId,
     condition: Condition,
