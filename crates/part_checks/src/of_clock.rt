@@ -1,7 +1,7 @@
 //! Sleepers across the wrap of the tick.
 ghost use Rattle.std.specs.Prelude.{◌<◌};
 
-use clock::Clock;
+use clock::{Clock, Mark};
 use model::TaskId;
 use std::process::Abort;
 
@@ -17,7 +17,45 @@ fn sleep(rt: &impl Abort, clock: &mut Clock, task: TaskId, ticks: u32)
 fn advance(rt: &impl Abort, clock: &mut Clock, expected: &[TaskId]) {
     assert!(rt; clock.age() < 1000);
     let due = clock.advance();
-    assert_eq!(rt; due.as_slice(), expected);
+    assert!(rt; due.as_slice() == expected, "{expected:?} wake");
+}
+
+/// Lets a tick pass where nobody is due, and compares whether it did.
+fn advance_if_none_due(rt: &impl Abort, clock: &mut Clock, expected: bool) {
+    assert!(rt; clock.age() < 1000);
+    assert!(rt;
+        clock.advance_if_none_due() == expected,
+        "it passed: {expected}"
+    );
+}
+
+/// Holds a tick.
+fn hold_tick(rt: &impl Abort, clock: &mut Clock) {
+    assert!(rt; clock.held() < 10);
+    clock.hold_tick();
+}
+
+/// Releases a tick that is held, lets it pass, and compares the tasks that wake.
+fn apply_tick(rt: &impl Abort, clock: &mut Clock, expected: &[TaskId]) {
+    assert!(rt; clock.held() > 0);
+    clock.release();
+    advance(rt, clock, expected);
+}
+
+/// Compares the tick, how many ticks have passed, and how many are held.
+fn shows(rt: &impl Abort, clock: &Clock, tick: u32, age: u64, held: u32) {
+    assert!(rt; clock.tick() == tick, "the tick is {tick}");
+    assert!(rt; clock.age() == age, "{age} ticks have passed");
+    assert!(rt; clock.held() == held, "{held} ticks are held");
+}
+
+/// Compares how many ticks lie between the mark and now.
+fn has_elapsed(rt: &impl Abort, clock: &Clock, mark: Mark, expected: u32) {
+    assert!(rt; mark.moment <= clock.mark().moment);
+    assert!(rt;
+        clock.elapsed_since(mark) == expected,
+        "{expected} ticks since the mark"
+    );
 }
 
 #[test]
@@ -29,43 +67,26 @@ fn sleepers_wake_across_the_wrap(rt: HostRuntime) {
     sleep(&rt, &mut clock, TaskId { number: 2 }, 3);
     sleep(&rt, &mut clock, TaskId { number: 7 }, 2);
     clock.wake(TaskId { number: 7 });
-    assert!(rt; clock.age() < 1000);
-    assert!(rt; !clock.advance_if_none_due());
+    advance_if_none_due(&rt, &mut clock, false);
     advance(&rt, &mut clock, &[TaskId { number: 9 }]);
-    assert_eq!(rt; clock.tick(), u32::MAX);
-    assert!(rt; clock.age() < 1000);
-    assert!(rt; clock.advance_if_none_due());
-    assert_eq!(rt; clock.tick(), 0);
-    advance(
-        &rt,
-        &mut clock,
-        &[TaskId { number: 4 }, TaskId { number: 2 }],
-    );
-    assert_eq!(rt; clock.tick(), 1);
-    assert_eq!(rt; clock.age(), 3);
-    assert!(rt; mark.moment <= clock.mark().moment);
-    assert_eq!(rt; clock.elapsed_since(mark), 3);
+    shows(&rt, &clock, u32::MAX, 1, 0);
+    advance_if_none_due(&rt, &mut clock, true);
+    shows(&rt, &clock, 0, 2, 0);
+    let last = [TaskId { number: 4 }, TaskId { number: 2 }];
+    advance(&rt, &mut clock, &last);
+    shows(&rt, &clock, 1, 3, 0);
+    has_elapsed(&rt, &clock, mark, 3);
 }
 
 #[test]
 fn a_held_tick_is_applied_later(rt: HostRuntime) {
     let mut clock = Clock::new(5);
     sleep(&rt, &mut clock, TaskId { number: 3 }, 1);
-    assert!(rt; clock.held() < 10);
-    clock.hold_tick();
-    assert!(rt; clock.held() < 10);
-    clock.hold_tick();
-    assert_eq!(rt; clock.held(), 2);
-    assert_eq!(rt; clock.tick(), 5);
-    assert_eq!(rt; clock.age(), 0);
-    assert!(rt; clock.held() > 0);
-    clock.release();
-    assert_eq!(rt; clock.held(), 1);
-    advance(&rt, &mut clock, &[TaskId { number: 3 }]);
-    assert!(rt; clock.held() > 0);
-    clock.release();
-    advance(&rt, &mut clock, &[]);
-    assert_eq!(rt; clock.held(), 0);
-    assert_eq!(rt; clock.tick(), 7);
-    assert_eq!(rt; clock.age(), 2);
+    hold_tick(&rt, &mut clock);
+    hold_tick(&rt, &mut clock);
+    shows(&rt, &clock, 5, 0, 2);
+    apply_tick(&rt, &mut clock, &[TaskId { number: 3 }]);
+    shows(&rt, &clock, 6, 1, 1);
+    apply_tick(&rt, &mut clock, &[]);
+    shows(&rt, &clock, 7, 2, 0);
 }

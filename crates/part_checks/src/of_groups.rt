@@ -21,6 +21,40 @@ fn wait(rt: &impl Abort, groups: &mut Groups, number: u8, condition: Condition)
     groups.place(task, GROUP, condition);
 }
 
+/// Sets bits, and compares the tasks that are met, by which bits, and which are left.
+fn set(rt: &impl Abort, groups: &mut Groups, mask: u32, tasks: &[TaskId], by: u32, left: u32) {
+    let met = groups.set(GROUP, mask);
+    assert!(rt; met.tasks.as_slice() == tasks, "{tasks:?} are met");
+    assert!(rt; met.bits == by, "met by {by}");
+    assert!(rt; met.left == left, "{left} is left");
+    has_bits(rt, groups, left);
+}
+
+/// Compares which bits are set.
+fn has_bits(rt: &impl Abort, groups: &Groups, expected: u32) {
+    assert!(rt; groups.bits(GROUP) == expected, "{expected} is set");
+}
+
+/// Compares whether a wait is met, and which bits are set before it is over and after.
+fn end_wait(
+    rt: &impl Abort,
+    groups: &mut Groups,
+    condition: &Condition,
+    is_met: bool,
+    before: u32,
+    after: u32,
+) {
+    assert!(rt;
+        groups.check(GROUP, condition) == is_met,
+        "it is met: {is_met}"
+    );
+    assert!(rt;
+        groups.final_bits(GROUP, condition) == before,
+        "{before} was set"
+    );
+    has_bits(rt, groups, after);
+}
+
 #[test]
 fn all_are_tested_before_any_bit_is_cleared(rt: HostRuntime) {
     let mut groups = Groups::new();
@@ -29,36 +63,29 @@ fn all_are_tested_before_any_bit_is_cleared(rt: HostRuntime) {
     wait(&rt, &mut groups, 2, condition(0b0110, false, false));
     wait(&rt, &mut groups, 9, condition(0b1001, true, false));
     wait(&rt, &mut groups, 4, condition(0b0010, true, true));
-    let none = groups.set(GROUP, 0b0001);
-    assert_eq!(rt; none.tasks.len(), 0);
-    assert_eq!(rt; groups.bits(GROUP), 0b0001);
-    let met = groups.set(GROUP, 0b0110);
-    let expected = [
-        TaskId { number: 7 },
-        TaskId { number: 2 },
-        TaskId { number: 4 },
-    ];
-    assert_eq!(rt; met.tasks.as_slice(), expected.as_slice());
-    assert_eq!(rt; met.bits, 0b0111);
-    assert_eq!(rt; met.left, 0b0100);
-    assert_eq!(rt; groups.bits(GROUP), 0b0100);
+    set(&rt, &mut groups, 0b0001, &[], 0b0001, 0b0001);
+    set(&rt, &mut groups, 0b0110, &FIRST_MET, 0b0111, 0b0100);
     assert!(rt; groups.is_waiting(TaskId { number: 9 }));
     assert!(rt; !groups.is_waiting(TaskId { number: 2 }));
     groups.drop_waiter(TaskId { number: 9 });
     assert!(rt; !groups.has_waiter());
 }
 
+// In the order in which their waits began.
+const FIRST_MET: [TaskId; 3] = [
+    TaskId { number: 7 },
+    TaskId { number: 2 },
+    TaskId { number: 4 },
+];
+
 #[test]
 fn a_wait_that_is_over_clears_only_what_is_met(rt: HostRuntime) {
     let mut groups = Groups::new();
-    assert_eq!(rt; groups.set(GROUP, 0b0101).left, 0b0101);
+    set(&rt, &mut groups, 0b0101, &[], 0b0101, 0b0101);
     let all = condition(0b0111, true, true);
-    assert!(rt; !groups.check(GROUP, &all));
-    assert_eq!(rt; groups.final_bits(GROUP, &all), 0b0101);
-    assert_eq!(rt; groups.bits(GROUP), 0b0101);
+    end_wait(&rt, &mut groups, &all, false, 0b0101, 0b0101);
     let any = condition(0b0110, false, true);
-    assert!(rt; groups.check(GROUP, &any));
-    assert_eq!(rt; groups.final_bits(GROUP, &any), 0b0101);
-    assert_eq!(rt; groups.clear(GROUP, 0b0001), 0b0001);
-    assert_eq!(rt; groups.bits(GROUP), 0);
+    end_wait(&rt, &mut groups, &any, true, 0b0101, 0b0001);
+    assert!(rt; groups.clear(GROUP, 0b0001) == 0b0001);
+    has_bits(&rt, &groups, 0);
 }

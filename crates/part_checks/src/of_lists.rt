@@ -14,6 +14,45 @@ fn put(rt: &impl Abort, table: &mut Table<2, 8>, node: NodeId, value: u32)
     table.insert_sorted(LIST, node, value);
 }
 
+/// Puts a node that is in no list behind all others of the list.
+fn put_last(rt: &impl Abort, table: &mut Table<2, 8>, node: NodeId)
+    requires { node.number < 8 }
+{
+    assert!(rt; table.place(node).is_none(), "node {} is free", node.number);
+    table.push_back(LIST, node, 0);
+}
+
+/// Compares the nodes of the list, from the first to the last.
+fn has_nodes(rt: &impl Abort, table: &Table<2, 8>, expected: &[u16]) {
+    let mut found = table.first(LIST);
+    for number in expected {
+        assert_eq!(rt; found, NodeId::new(*number), "of {expected:?}");
+        found = after(table, found);
+    }
+    assert!(rt; found.is_none(), "no more than {expected:?}");
+}
+
+/// The node behind this one in its list.
+fn after(table: &Table<2, 8>, node: Option<NodeId>) -> Option<NodeId> {
+    let node = node?;
+    if node.number < 8 {
+        table.next(node)
+    } else {
+        None
+    }
+}
+
+/// Puts the first node last, and compares the nodes then. The answer is the one that is first then, where there are two.
+fn rotate(rt: &impl Abort, table: &mut Table<2, 8>, expected: &[u16]) {
+    let first = table.rotate(LIST);
+    if expected.len() < 2 {
+        assert!(rt; first.is_none(), "no turn of {expected:?}");
+    } else {
+        assert_eq!(rt; first, table.first(LIST));
+    }
+    has_nodes(rt, table, expected);
+}
+
 #[test]
 fn equals_stand_in_the_order_in_which_they_came(rt: HostRuntime) {
     let mut table: Table<2, 8> = Table::new();
@@ -22,18 +61,9 @@ fn equals_stand_in_the_order_in_which_they_came(rt: HostRuntime) {
     put(&rt, &mut table, NodeId { number: 2 }, 20);
     put(&rt, &mut table, NodeId { number: 7 }, 15);
     table.remove(NodeId { number: 7 });
-    assert_eq!(rt; table.first(LIST), Some(NodeId { number: 5 }));
-    assert_eq!(rt;
-        table.next(NodeId { number: 5 }),
-        Some(NodeId { number: 3 })
-    );
-    assert_eq!(rt;
-        table.next(NodeId { number: 3 }),
-        Some(NodeId { number: 2 })
-    );
-    assert_eq!(rt; table.next(NodeId { number: 2 }), None);
+    has_nodes(&rt, &table, &[5, 3, 2]);
     assert_eq!(rt; table.value(NodeId { number: 2 }), 20);
-    assert_eq!(rt; table.place(NodeId { number: 7 }), None);
+    assert!(rt; table.place(NodeId { number: 7 }).is_none());
     assert!(rt; table.is_empty(ListId { number: 1 }));
 }
 
@@ -41,32 +71,19 @@ fn equals_stand_in_the_order_in_which_they_came(rt: HostRuntime) {
 fn a_node_goes_last(rt: HostRuntime) {
     let mut table: Table<2, 8> = Table::new();
     put(&rt, &mut table, NodeId { number: 1 }, 9);
-    let node = NodeId { number: 4 };
-    assert!(rt; table.place(node).is_none());
-    table.push_back(LIST, node, 0);
-    assert_eq!(rt; table.next(NodeId { number: 1 }), Some(node));
-    assert_eq!(rt; table.place(node), Some(LIST));
+    put_last(&rt, &mut table, NodeId { number: 4 });
+    has_nodes(&rt, &table, &[1, 4]);
+    assert_eq!(rt; table.place(NodeId { number: 4 }), Some(LIST));
 }
 
 #[test]
 fn the_first_goes_last(rt: HostRuntime) {
     let mut table: Table<2, 8> = Table::new();
-    assert_eq!(rt; table.rotate(LIST), None);
+    rotate(&rt, &mut table, &[]);
     put(&rt, &mut table, NodeId { number: 6 }, 10);
-    assert_eq!(rt; table.rotate(LIST), None);
-    assert_eq!(rt; table.first(LIST), Some(NodeId { number: 6 }));
+    rotate(&rt, &mut table, &[6]);
     put(&rt, &mut table, NodeId { number: 3 }, 20);
     put(&rt, &mut table, NodeId { number: 5 }, 30);
-    assert_eq!(rt; table.rotate(LIST), Some(NodeId { number: 3 }));
-    assert_eq!(rt; table.first(LIST), Some(NodeId { number: 3 }));
-    assert_eq!(rt;
-        table.next(NodeId { number: 3 }),
-        Some(NodeId { number: 5 })
-    );
-    assert_eq!(rt;
-        table.next(NodeId { number: 5 }),
-        Some(NodeId { number: 6 })
-    );
-    assert_eq!(rt; table.next(NodeId { number: 6 }), None);
+    rotate(&rt, &mut table, &[3, 5, 6]);
     assert_eq!(rt; table.value(NodeId { number: 6 }), 10);
 }

@@ -17,54 +17,13 @@ fn put(rt: &impl Abort, queues: &mut Queues, list: WaitList, number: u8, priorit
     queues.place(list, task, priority);
 }
 
-#[test]
-fn the_best_is_first_and_equals_stay_in_order(rt: HostRuntime) {
-    let mut queues = objects();
-    for (number, priority) in [(4, 1), (9, 31), (2, 1), (7, 0), (5, 1)] {
-        put(&rt, &mut queues, RECEIVERS, number, priority);
-    }
-    assert_eq!(rt; queues.best_priority(RECEIVERS), 31);
-    assert_eq!(rt; queues.wake_best(RECEIVERS), Some(TaskId { number: 9 }));
-    assert!(rt; !queues.is_waiting(TaskId { number: 9 }));
-    assert_eq!(rt; queues.best_priority(RECEIVERS), 1);
-    queues.drop_waiter(TaskId { number: 2 });
-    for number in [4, 5, 7] {
-        assert_eq!(rt; queues.wake_best(RECEIVERS), Some(TaskId { number }));
-    }
-    assert_eq!(rt; queues.wake_best(RECEIVERS), None);
-}
-
-#[test]
-fn an_unlock_takes_the_counted_ones(rt: HostRuntime) {
-    let mut queues = objects();
-    put(&rt, &mut queues, WaitList::ToSend(QUEUE), 1, 2);
-    put(&rt, &mut queues, WaitList::ToSend(QUEUE), 0, 3);
-    put(&rt, &mut queues, WaitList::ToReceive(QUEUE), 8, 0);
-    assert!(rt; !queues.is_locked());
-    queues.lock(QUEUE);
-    for _ in 0..200_u8 {
-        queues.wake_best(WaitList::ToReceive(QUEUE));
-    }
-    queues.wake_best(WaitList::ToSend(QUEUE));
-    let Some(unlocked) = queues.unlock() else {
-        panic!(rt; "locked")
-    };
-    assert_eq!(rt;
-        unlocked.to_receive.as_slice(),
-        [TaskId { number: 8 }].as_slice()
-    );
-    assert_eq!(rt;
-        unlocked.to_send.as_slice(),
-        [TaskId { number: 0 }].as_slice()
-    );
-    assert!(rt; queues.is_waiting(TaskId { number: 1 }));
-}
-
 const SEMAPHORE: ObjectId = ObjectId { number: 0 };
 
 const QUEUE: ObjectId = ObjectId { number: 1 };
 
 const RECEIVERS: WaitList = WaitList::ToReceive(QUEUE);
+
+const SENDERS: WaitList = WaitList::ToSend(QUEUE);
 
 const MUTEX: ObjectId = ObjectId { number: 2 };
 
@@ -77,21 +36,91 @@ fn objects() -> Queues {
     ])
 }
 
+/// Compares the greatest priority of those who wait to receive.
+fn has_best(rt: &impl Abort, queues: &Queues, expected: u8) {
+    assert!(rt;
+        queues.best_priority(RECEIVERS) == expected,
+        "{expected} is the best"
+    );
+}
+
+/// Wakes those who wait to receive, one after the other, and compares who they are.
+fn wake_all(rt: &impl Abort, queues: &mut Queues, expected: &[u8]) {
+    for number in expected {
+        let woken = queues.wake_best(RECEIVERS);
+        assert!(rt; woken == TaskId::new(*number), "of {expected:?}");
+        assert!(rt; woken.is_none_or(|task| !queues.is_waiting(task)));
+    }
+}
+
+/// Compares whether a task waits.
+fn is_waiting(rt: &impl Abort, queues: &Queues, task: TaskId, expected: bool) {
+    assert!(rt;
+        queues.is_waiting(task) == expected,
+        "{task:?} waits: {expected}"
+    );
+}
+
+/// Locks the queue, which is free.
+fn lock(rt: &impl Abort, queues: &mut Queues) {
+    assert!(rt; !queues.is_locked());
+    queues.lock(QUEUE);
+}
+
+/// Unlocks, and compares who is woken then.
+fn unlock(rt: &impl Abort, queues: &mut Queues, to_receive: &[TaskId], to_send: &[TaskId]) {
+    match queues.unlock() {
+        None => panic!(rt; "locked"),
+        Some(unlocked) => {
+            assert!(rt;
+                unlocked.to_receive.as_slice() == to_receive,
+                "{to_receive:?}"
+            );
+            assert!(rt; unlocked.to_send.as_slice() == to_send, "{to_send:?}");
+        }
+    }
+    assert!(rt; !queues.is_locked());
+}
+
+#[test]
+fn the_best_is_first_and_equals_stay_in_order(rt: HostRuntime) {
+    let mut queues = objects();
+    for (number, priority) in [(4, 1), (9, 31), (2, 1), (7, 0), (5, 1)] {
+        put(&rt, &mut queues, RECEIVERS, number, priority);
+    }
+    has_best(&rt, &queues, 31);
+    wake_all(&rt, &mut queues, &[9]);
+    has_best(&rt, &queues, 1);
+    queues.drop_waiter(TaskId { number: 2 });
+    wake_all(&rt, &mut queues, &[4, 5, 7]);
+    assert!(rt; queues.wake_best(RECEIVERS).is_none());
+}
+
+#[test]
+fn an_unlock_takes_the_counted_ones(rt: HostRuntime) {
+    let mut queues = objects();
+    put(&rt, &mut queues, SENDERS, 1, 2);
+    put(&rt, &mut queues, SENDERS, 0, 3);
+    put(&rt, &mut queues, RECEIVERS, 8, 0);
+    lock(&rt, &mut queues);
+    for _ in 0..200_u8 {
+        queues.wake_best(RECEIVERS);
+    }
+    queues.wake_best(SENDERS);
+    let receiver = TaskId { number: 8 };
+    unlock(&rt, &mut queues, &[receiver], &[TaskId { number: 0 }]);
+    is_waiting(&rt, &queues, TaskId { number: 1 }, true);
+}
+
 #[test]
 fn a_wake_through_the_locked_queue_waits_for_its_unlock(rt: HostRuntime) {
     let mut queues = objects();
     let task = TaskId { number: 6 };
-    assert!(rt; !queues.is_locked());
-    queues.lock(QUEUE);
-    assert!(rt; !queues.is_waiting(task));
-    queues.place(WaitList::ToReceive(QUEUE), task, 3);
-    assert_eq!(rt; queues.wake_best(WaitList::ToReceive(QUEUE)), None);
-    assert!(rt; queues.is_waiting(task));
-    let Some(unlocked) = queues.unlock() else {
-        panic!(rt; "locked")
-    };
-    assert_eq!(rt; unlocked.to_receive.as_slice(), [task].as_slice());
-    assert!(rt; !queues.is_locked());
+    lock(&rt, &mut queues);
+    put(&rt, &mut queues, RECEIVERS, 6, 3);
+    assert!(rt; queues.wake_best(RECEIVERS).is_none());
+    is_waiting(&rt, &queues, task, true);
+    unlock(&rt, &mut queues, &[task], &[]);
     queues.drop_waiter(task);
 }
 
@@ -100,8 +129,7 @@ fn items_leave_in_order(rt: HostRuntime) {
     let mut queues = objects();
     succeed(&rt, &mut queues, None, QUEUE, Access::Send(8));
     succeed(&rt, &mut queues, None, QUEUE, Access::SendFront(9));
-    assert_eq!(rt; queues.waiting(QUEUE), 2);
-    assert_eq!(rt; queues.spaces(QUEUE), 0);
+    assert!(rt; queues.waiting(QUEUE) == 2 && queues.spaces(QUEUE) == 0);
     assert!(rt; !queues.possible(QUEUE, Access::Send(7)));
 }
 
@@ -121,15 +149,21 @@ fn a_mutex_has_one_holder_who_gives_it_back(rt: HostRuntime) {
     let task = TaskId { number: 6 };
     succeed(&rt, &mut queues, Some(task), MUTEX, Access::Lock);
     assert!(rt; !queues.possible(MUTEX, Access::Lock));
-    assert_eq!(rt; queues.holder(MUTEX), Some(task));
-    assert_eq!(rt; queues.mutexes_held(task), 1);
-    assert_eq!(rt;
-        queues.give_mutex(TaskId { number: 5 }, MUTEX),
-        Err(NotHolder)
-    );
-    assert_eq!(rt; queues.give_mutex(task, MUTEX), Ok(()));
-    assert_eq!(rt; queues.holder(MUTEX), None);
-    assert_eq!(rt; queues.mutexes_held(task), 0);
+    has_holder(&rt, &queues, Some(task), 1);
+    assert!(rt; give(&mut queues, TaskId { number: 5 }) == Err(NotHolder));
+    assert!(rt; give(&mut queues, task) == Ok(()));
+    has_holder(&rt, &queues, None, 0);
+}
+
+/// A task gives the mutex back.
+fn give(queues: &mut Queues, task: TaskId) -> Result<(), NotHolder> {
+    queues.give_mutex(task, MUTEX)
+}
+
+/// Compares who holds the mutex, and how many mutexes the task 6 holds.
+fn has_holder(rt: &impl Abort, queues: &Queues, holder: Option<TaskId>, held: u8) {
+    assert!(rt; queues.holder(MUTEX) == holder, "{holder:?} holds it");
+    assert!(rt; queues.mutexes_held(TaskId { number: 6 }) == held, "{held}");
 }
 
 /// Makes a call that is possible, and answers 1. It is no `overwrite`.
@@ -143,5 +177,5 @@ fn succeed(
     requires { HasRoom access (object_in queues.old.objects object) }
 {
     assert!(rt; queues.possible(object, access));
-    assert_eq!(rt; queues.carry_out(caller, object, access), Some(1));
+    assert!(rt; queues.carry_out(caller, object, access) == Some(1));
 }

@@ -3,6 +3,33 @@ use model::TaskId;
 use sched::Sched;
 use std::process::Abort;
 
+/// What is done to the scheduler, with what it answers, and what is seen of it.
+#[derive(Clone, Copy)]
+enum Move {
+    Wake(TaskId),
+    Block(TaskId),
+    Suspend(TaskId),
+    /// Whether it was suspended.
+    Resume(TaskId, bool),
+    Priority(TaskId, u8),
+    Hold,
+    /// How deep it is held then.
+    Unhold(u32),
+    Choose(Option<TaskId>),
+    /// The task that runs then, where the switch is made.
+    Preempt(Option<TaskId>),
+    Slice(Option<TaskId>),
+    Yield(TaskId),
+    Runs(Option<TaskId>),
+    HasReady(bool),
+    IsReady(TaskId, bool),
+    IsSuspended(TaskId, bool),
+    HasPriority(TaskId, u8),
+    HasBasePriority(TaskId, u8),
+}
+
+use Move::*;
+
 /// Wakes a task that isn't Ready.
 fn wake(rt: &impl Abort, sched: &mut Sched, task: TaskId) {
     assert!(rt; !sched.is_ready(task), "task {} isn't Ready", task.number);
@@ -16,9 +43,10 @@ fn hold(rt: &impl Abort, sched: &mut Sched) {
 }
 
 /// Takes back a hold.
-fn unhold(rt: &impl Abort, sched: &mut Sched) {
+fn unhold(rt: &impl Abort, sched: &mut Sched) -> u32 {
     assert!(rt; sched.depth() > 0);
     sched.unhold();
+    sched.depth()
 }
 
 /// Gives a task another priority, while the scheduler isn't held.
@@ -36,156 +64,224 @@ fn resume(rt: &impl Abort, sched: &mut Sched, task: TaskId) -> bool {
     sched.resume(task)
 }
 
+/// The task that runs after a switch, or `None` where none was made.
+fn switched(sched: &Sched, is_switch: bool) -> Option<TaskId> {
+    if is_switch { sched.current() } else { None }
+}
+
+/// Whether a sight of the scheduler is as the move says.
+fn is_seen(sched: &Sched, sight: Move) -> bool {
+    match sight {
+        Runs(task) => sched.current() == task,
+        HasReady(has_ready) => sched.has_ready() == has_ready,
+        IsReady(task, is_ready) => sched.is_ready(task) == is_ready,
+        IsSuspended(task, is_suspended) => sched.is_suspended(task) == is_suspended,
+        HasPriority(task, priority) => sched.priority(task) == priority,
+        HasBasePriority(task, priority) => sched.base_priority(task) == priority,
+        _ => false,
+    }
+}
+
+/// Whether the scheduler switches as the move says.
+fn is_switched(sched: &mut Sched, switch: Move) -> bool {
+    match switch {
+        Choose(task) => sched.choose() == task,
+        Preempt(task) => {
+            let is_switch = sched.preempt();
+            switched(sched, is_switch) == task
+        }
+        Slice(task) => {
+            let is_switch = sched.slice();
+            switched(sched, is_switch) == task
+        }
+        Yield(task) => {
+            sched.yield_now();
+            sched.current() == Some(task)
+        }
+        _ => is_seen(sched, switch),
+    }
+}
+
+/// Makes a move, and tells whether the scheduler answers what the move says.
+fn is_answered(rt: &impl Abort, sched: &mut Sched, step: Move) -> bool {
+    match step {
+        Wake(task) => wake(rt, sched, task),
+        Block(task) => sched.block(task),
+        Suspend(task) => sched.suspend(task),
+        Resume(task, was_suspended) => return resume(rt, sched, task) == was_suspended,
+        Priority(task, priority) => set_priority(rt, sched, task, priority),
+        Hold => hold(rt, sched),
+        Unhold(depth) => return unhold(rt, sched) == depth,
+        _ => return is_switched(sched, step),
+    }
+    true
+}
+
+/// Makes the moves in turn, with a scheduler of these priorities.
+fn play(rt: &impl Abort, moves: &[Move]) {
+    let mut sched = Sched::new(PRIORITIES);
+    for (number, step) in moves.iter().enumerate() {
+        assert!(rt;
+            is_answered(rt, &mut sched, *step),
+            "move {number}, from 0 on"
+        );
+    }
+}
+
+const PRIORITIES: [u8; 32] = [
+    1, 1, 0, 2, 7, 7, 7, 0, 0, 0, 0, 0, 0, 0, 0, 0, 0, 0, 0, 0, 0, 0, 0, 0, 0, 0, 0, 0, 0, 0, 0, 0,
+];
+
+// Two of priority 1, one of 2, and three of 7.
+const LOW: TaskId = TaskId { number: 0 };
+
+const OTHER: TaskId = TaskId { number: 1 };
+
+const HIGH: TaskId = TaskId { number: 3 };
+
+const SECOND: TaskId = TaskId { number: 4 };
+
+const FIRST: TaskId = TaskId { number: 5 };
+
+const GONE: TaskId = TaskId { number: 6 };
+
 #[test]
 fn tasks_take_turns_and_give_way(rt: HostRuntime) {
-    let low = TaskId { number: 0 };
-    let other = TaskId { number: 1 };
-    let high = TaskId { number: 3 };
-    let mut sched = Sched::new([
-        1, 1, 0, 2, 0, 0, 0, 0, 0, 0, 0, 0, 0, 0, 0, 0, 0, 0, 0, 0, 0, 0, 0, 0, 0, 0, 0, 0, 0, 0,
-        0, 0,
-    ]);
-    assert_eq!(rt; sched.current(), None);
-    wake(&rt, &mut sched, low);
-    wake(&rt, &mut sched, other);
-    assert_eq!(rt; sched.choose(), Some(low));
-    assert!(rt; !sched.preempt());
-    assert!(rt; sched.slice());
-    assert_eq!(rt; sched.current(), Some(other));
-    wake(&rt, &mut sched, high);
-    assert!(rt; sched.preempt());
-    assert_eq!(rt; sched.current(), Some(high));
-    sched.block(high);
-    assert!(rt; !sched.is_ready(high));
-    assert_eq!(rt; sched.choose(), Some(low));
-    sched.yield_now();
-    assert_eq!(rt; sched.current(), Some(other));
-    assert_eq!(rt; sched.priority(high), 2);
+    play(
+        &rt,
+        &[
+            Runs(None),
+            Wake(LOW),
+            Wake(OTHER),
+            Choose(Some(LOW)),
+            Preempt(None),
+            Slice(Some(OTHER)),
+            Wake(HIGH),
+            Preempt(Some(HIGH)),
+            Block(HIGH),
+            IsReady(HIGH, false),
+            Choose(Some(LOW)),
+            Yield(OTHER),
+            HasPriority(HIGH, 2),
+        ],
+    );
 }
 
 #[test]
 fn tasks_woken_while_held_are_lined_up_when_the_last_hold_ends(rt: HostRuntime) {
-    let low = TaskId { number: 0 };
-    let other = TaskId { number: 1 };
-    let high = TaskId { number: 3 };
-    let mut sched = Sched::new([
-        1, 1, 0, 2, 0, 0, 0, 0, 0, 0, 0, 0, 0, 0, 0, 0, 0, 0, 0, 0, 0, 0, 0, 0, 0, 0, 0, 0, 0, 0,
-        0, 0,
-    ]);
-    wake(&rt, &mut sched, low);
-    assert_eq!(rt; sched.choose(), Some(low));
-    hold(&rt, &mut sched);
-    hold(&rt, &mut sched);
-    wake(&rt, &mut sched, other);
-    wake(&rt, &mut sched, high);
-    assert!(rt; sched.is_ready(other) && sched.is_ready(high));
-    assert!(rt; !sched.preempt());
-    assert!(rt; !sched.slice());
-    unhold(&rt, &mut sched);
-    assert_eq!(rt; sched.depth(), 1);
-    assert!(rt; !sched.preempt());
-    unhold(&rt, &mut sched);
-    assert_eq!(rt; sched.depth(), 0);
-    assert_eq!(rt; sched.current(), Some(low));
-    assert!(rt; sched.preempt());
-    assert_eq!(rt; sched.current(), Some(high));
-    sched.block(high);
-    assert_eq!(rt; sched.choose(), Some(other));
-    assert!(rt; sched.slice());
-    assert_eq!(rt; sched.current(), Some(low));
+    play(
+        &rt,
+        &[
+            Wake(LOW),
+            Choose(Some(LOW)),
+            Hold,
+            Hold,
+            Wake(OTHER),
+            Wake(HIGH),
+            IsReady(OTHER, true),
+            IsReady(HIGH, true),
+            Preempt(None),
+            Slice(None),
+            Unhold(1),
+            Preempt(None),
+            Unhold(0),
+            Runs(Some(LOW)),
+            Preempt(Some(HIGH)),
+            Block(HIGH),
+            Choose(Some(OTHER)),
+            Slice(Some(LOW)),
+        ],
+    );
 }
 
 #[test]
 fn pending_tasks_keep_the_order_of_their_waking(rt: HostRuntime) {
-    let first = TaskId { number: 5 };
-    let gone = TaskId { number: 6 };
-    let second = TaskId { number: 4 };
-    let mut sched = Sched::new([7; 32]);
-    hold(&rt, &mut sched);
-    wake(&rt, &mut sched, first);
-    wake(&rt, &mut sched, gone);
-    wake(&rt, &mut sched, second);
-    sched.block(gone);
-    assert!(rt; !sched.is_ready(gone));
-    assert!(rt; sched.has_ready());
-    unhold(&rt, &mut sched);
-    assert_eq!(rt; sched.choose(), Some(first));
-    sched.block(first);
-    assert_eq!(rt; sched.choose(), Some(second));
-    sched.block(second);
-    assert_eq!(rt; sched.choose(), None);
+    play(
+        &rt,
+        &[
+            Hold,
+            Wake(FIRST),
+            Wake(GONE),
+            Wake(SECOND),
+            Block(GONE),
+            IsReady(GONE, false),
+            HasReady(true),
+            Unhold(0),
+            Choose(Some(FIRST)),
+            Block(FIRST),
+            Choose(Some(SECOND)),
+            Block(SECOND),
+            Choose(None),
+            HasReady(false),
+        ],
+    );
 }
 
 #[test]
 fn a_task_goes_behind_its_new_equals(rt: HostRuntime) {
-    let low = TaskId { number: 0 };
-    let other = TaskId { number: 1 };
-    let high = TaskId { number: 3 };
-    let mut sched = Sched::new([
-        1, 1, 0, 2, 0, 0, 0, 0, 0, 0, 0, 0, 0, 0, 0, 0, 0, 0, 0, 0, 0, 0, 0, 0, 0, 0, 0, 0, 0, 0,
-        0, 0,
-    ]);
-    wake(&rt, &mut sched, low);
-    wake(&rt, &mut sched, other);
-    // Its own priority leaves it first among its equals.
-    set_priority(&rt, &mut sched, low, 1);
-    assert_eq!(rt; sched.choose(), Some(low));
-    wake(&rt, &mut sched, high);
-    // It inherits, and goes behind the one that was there.
-    set_priority(&rt, &mut sched, low, 2);
-    assert_eq!(rt; sched.priority(low), 2);
-    assert_eq!(rt; sched.base_priority(low), 1);
-    assert_eq!(rt; sched.choose(), Some(high));
-    sched.yield_now();
-    assert_eq!(rt; sched.current(), Some(low));
-    // Back at its base priority it is behind the other.
-    set_priority(&rt, &mut sched, low, 1);
-    assert!(rt; sched.preempt());
-    assert_eq!(rt; sched.current(), Some(high));
-    sched.block(high);
-    assert_eq!(rt; sched.choose(), Some(other));
-    // A task that isn't Ready has the priority once it is woken.
-    set_priority(&rt, &mut sched, high, 0);
-    assert!(rt; !sched.is_ready(high));
-    wake(&rt, &mut sched, high);
-    assert!(rt; !sched.preempt());
+    play(
+        &rt,
+        &[
+            Wake(LOW),
+            Wake(OTHER),
+            // Its own priority leaves it first among its equals.
+            Priority(LOW, 1),
+            Choose(Some(LOW)),
+            Wake(HIGH),
+            // It inherits, and goes behind the one that was there.
+            Priority(LOW, 2),
+            HasPriority(LOW, 2),
+            HasBasePriority(LOW, 1),
+            Choose(Some(HIGH)),
+            Yield(LOW),
+            // Back at its base priority it is behind the other.
+            Priority(LOW, 1),
+            Preempt(Some(HIGH)),
+            Block(HIGH),
+            Choose(Some(OTHER)),
+            // A task that isn't Ready has the priority once it is woken.
+            Priority(HIGH, 0),
+            IsReady(HIGH, false),
+            Wake(HIGH),
+            Preempt(None),
+        ],
+    );
 }
 
 #[test]
 fn a_suspended_task_is_ready_once_it_is_resumed(rt: HostRuntime) {
-    let low = TaskId { number: 0 };
-    let other = TaskId { number: 1 };
-    let high = TaskId { number: 3 };
-    let mut sched = Sched::new([
-        1, 1, 0, 2, 0, 0, 0, 0, 0, 0, 0, 0, 0, 0, 0, 0, 0, 0, 0, 0, 0, 0, 0, 0, 0, 0, 0, 0, 0, 0,
-        0, 0,
-    ]);
-    wake(&rt, &mut sched, low);
-    wake(&rt, &mut sched, high);
-    assert_eq!(rt; sched.choose(), Some(high));
-    sched.suspend(high);
-    sched.suspend(high);
-    assert!(rt; sched.is_suspended(high) && !sched.is_ready(high));
-    assert!(rt; !sched.is_suspended(low));
-    assert_eq!(rt; sched.choose(), Some(low));
-    assert!(rt; !resume(&rt, &mut sched, low));
-    // One resume undoes both.
-    assert!(rt; resume(&rt, &mut sched, high));
-    assert!(rt; !sched.is_suspended(high));
-    assert!(rt; !resume(&rt, &mut sched, high));
-    assert_eq!(rt; sched.choose(), Some(high));
-    // While the scheduler is held, one that is pending is suspended, and one that is resumed is pending.
-    hold(&rt, &mut sched);
-    wake(&rt, &mut sched, other);
-    sched.suspend(other);
-    sched.suspend(high);
-    assert!(rt; !sched.is_ready(other));
-    assert!(rt; resume(&rt, &mut sched, high));
-    assert!(rt; sched.is_ready(high));
-    assert!(rt; !sched.preempt());
-    unhold(&rt, &mut sched);
-    assert_eq!(rt; sched.choose(), Some(high));
-    sched.block(high);
-    sched.block(low);
-    assert_eq!(rt; sched.choose(), None);
+    play(
+        &rt,
+        &[
+            Wake(LOW),
+            Wake(HIGH),
+            Choose(Some(HIGH)),
+            Suspend(HIGH),
+            Suspend(HIGH),
+            IsSuspended(HIGH, true),
+            IsReady(HIGH, false),
+            IsSuspended(LOW, false),
+            Choose(Some(LOW)),
+            Resume(LOW, false),
+            // One resume undoes both.
+            Resume(HIGH, true),
+            IsSuspended(HIGH, false),
+            Resume(HIGH, false),
+            Choose(Some(HIGH)),
+            // While the scheduler is held, one that is pending is suspended, and one that is resumed is pending.
+            Hold,
+            Wake(OTHER),
+            Suspend(OTHER),
+            Suspend(HIGH),
+            IsReady(OTHER, false),
+            Resume(HIGH, true),
+            IsReady(HIGH, true),
+            Preempt(None),
+            Unhold(0),
+            Choose(Some(HIGH)),
+            Block(HIGH),
+            Block(LOW),
+            Choose(None),
+        ],
+    );
 }
