@@ -113,3 +113,25 @@ pub mapped_at : {A B : Type 0} (f : A → B) (xs : List A) (i : ℕ) (x : A) →
 mapped_at f [] i x l e = absurd (omega arith)
 mapped_at f (y ∷ ys) zero x l e = ap f e
 mapped_at f (y ∷ ys) (suc i) x l e = mapped_at f ys i x (omega arith) e
+
+-- ---- the guess at the next base interrupt is nothing that the kernel stands for
+
+pub guessed : (k : Kernel) (n : ℕ) (log : List Event) (s : State) → At k log s → At (record k { next_interrupt = n }) log s
+guessed k n log s h = record {
+  stands = record {
+    sched = h.stands.sched;
+    rest = record {
+      progress = h.stands.rest.progress;
+      full = h.stands.rest.full;
+      clock = h.stands.rest.clock;
+      queues = h.stands.rest.queues;
+      groups = h.stands.rest.groups;
+      suspensions = h.stands.rest.suspensions;
+      awake = h.stands.rest.awake;
+      steps = h.stands.rest.steps;
+      stopped = h.stands.rest.stopped;
+      placed = h.stands.rest.placed;
+    };
+  };
+  log = h.log;
+}

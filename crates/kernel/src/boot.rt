@@ -107,6 +107,7 @@ impl Kernel {
             queues: Queues::new(app.objects()),
             groups: Groups::new(),
             suspensions: 0,
+            next_interrupt: 0,
             steps: 0,
             stopped: None,
         }

@@ -30,6 +30,8 @@ pub struct Kernel {
     pub(crate) groups: Groups,
     /// How many `suspend_all` are in force.
     pub(crate) suspensions: u32,
+    /// The index of the base interrupt that is taken for the next. It is a guess, which is tested before it is used.
+    pub(crate) next_interrupt: u32,
     pub(crate) steps: u32,
     pub(crate) stopped: Option<End>,
 }
@@ -75,6 +77,7 @@ impl Kernel {
             queues: self.queues.copy(),
             groups: self.groups.copy(),
             suspensions: self.suspensions,
+            next_interrupt: self.next_interrupt,
             steps: self.steps,
             stopped: self.stopped,
         }
@@ -90,6 +93,7 @@ impl Kernel {
         self.queues.set_from(&other.queues);
         self.groups.set_from(&other.groups);
         self.suspensions = other.suspensions;
+        self.next_interrupt = other.next_interrupt;
         self.steps = other.steps;
         self.stopped = other.stopped;
     }

@@ -21,6 +21,7 @@ pub struct Snapshot {
     queues: QueuesSnapshot,
     groups: Groups,
     suspensions: u32,
+    next_interrupt: u32,
     steps: u32,
     stopped: Option<End>,
 }
@@ -31,7 +32,7 @@ impl Model for Snapshot {
 
     ghost Value = { declared.Kernel };
 
-    ghost view = { λ s. record { progress = s.progress; sched = s.sched; clock = s.clock; queues = s.queues; groups = s.groups; suspensions = s.suspensions; steps = s.steps; stopped = s.stopped } };
+    ghost view = { λ s. record { progress = s.progress; sched = s.sched; clock = s.clock; queues = s.queues; groups = s.groups; suspensions = s.suspensions; next_interrupt = s.next_interrupt; steps = s.steps; stopped = s.stopped } };
 }
 
 impl Kernel {
@@ -48,6 +49,7 @@ impl Kernel {
             queues: self.queues.snapshot(alloc)?,
             groups: self.groups.copy(),
             suspensions: self.suspensions,
+            next_interrupt: self.next_interrupt,
             steps: self.steps,
             stopped: self.stopped,
         })
@@ -63,6 +65,7 @@ impl Kernel {
         self.queues.restore(&snapshot.queues);
         self.groups.set_from(&snapshot.groups);
         self.suspensions = snapshot.suspensions;
+        self.next_interrupt = snapshot.next_interrupt;
         self.steps = snapshot.steps;
         self.stopped = snapshot.stopped;
     }
