@@ -154,29 +154,40 @@ def a_file_through_a_pipe_of_a_name_byte_by_byte():
 # Writing
 
 
-def written_with_room(size, name, *words):
+def written_with_room(size, *words):
     """Status, output and faults where the file of the output takes no more bytes than this."""
     def limit():
         signal.signal(signal.SIGXFSZ, signal.SIG_IGN)
         resource.setrlimit(resource.RLIMIT_FSIZE, (size, size))
 
     with open("report", "w+b") as it:
-        status, _, err = run(*words, f"{ROOT}/examples/{name}", stdout=it, preexec_fn=limit, restore_signals=False)
+        status, _, err = run(*words, stdout=it, preexec_fn=limit, restore_signals=False)
         it.seek(0)
         return status, it.read(), err
 
 
 def each_room(name, command, whole, step):
-    status = 0 if name == "round_robin" else 1
+    status, words = 0 if name == "round_robin" else 1, [command, f"{ROOT}/examples/{name}.toml"]
     for size in range(0, len(whole), step):
-        equal(written_with_room(size, f"{name}.toml", command), (5, whole[:size], CANNOT_WRITE))
-    equal(written_with_room(len(whole), f"{name}.toml", command), (status, whole, b""))
+        equal(written_with_room(size, *words), (5, whole[:size], CANNOT_WRITE))
+    equal(written_with_room(len(whole), *words), (status, whole, b""))
 
 
 @case
 def what_a_full_disk_leaves_is_a_beginning_of_the_report():
     each_room("timeout_race", "campaign", stored("examples/timeout_race.report"), 13)
     each_room("round_robin", "run", stored("examples/round_robin.out"), 1)
+
+
+@case
+def what_a_full_disk_leaves_of_a_text_that_several_workers_spell_is_a_beginning():
+    write("application.toml", MANY_ROWS)
+    whole = rows_report(ROWS)
+    for workers in ("2", "5"):
+        words = ["campaign", "--workers", workers, "--block", "7", "application.toml"]
+        for size in range(0, len(whole), 997):
+            equal(written_with_room(size, *words), (5, whole[:size], CANNOT_WRITE))
+        equal(written_with_room(len(whole), *words), (0, whole, b""))
 
 
 @long_case
@@ -200,8 +211,8 @@ def a_reader_who_leaves_after_some_bytes_has_a_beginning():
     write("application.toml", MANY_ROWS)
     whole = rows_report(ROWS)
     assert len(whole) > 30_000, len(whole)
-    for wanted in (0, 1, 2, 100, 4095, 4096, 4097, 8192, 20_000):
-        with started_with_small_pipe("campaign", "application.toml") as started:
+    for wanted, workers in itertools.product((0, 1, 2, 100, 4095, 4096, 4097, 8192, 20_000), "13"):
+        with started_with_small_pipe("campaign", "--workers", workers, "application.toml") as started:
             found = b""
             while len(found) < wanted:
                 found += started.stdout.read(wanted - len(found))
