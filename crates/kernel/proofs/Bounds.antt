@@ -425,3 +425,11 @@ module _ (app : Application) (formed : IsWellFormed app) (k : Kernel) (c : CanSt
       let low : (before_step app handlers now).elapsed < 1000000 = (let l = early_now in omega arith) in
       let few : (before_step app handlers now).suspensions < 1000000 = (let e = ap (λ (x : Suspension). x.suspensions) (keeps-before_step app handlers now).suspension in let n = c.suspended in let l = (below_limits app c.limits now c.goes_on).1 in let o = c.step_limit in omega arith) in
       can_act app formed new (before_step app handlers now) (reached_before_step app formed handlers now c.sound) h low few
+
+  pub can_go_on : (task : TaskId) → k.sched.current ≡ Some task → (object : ℕ) (access : Access) (ticks : Option ℕ) → op_at app task (progress_in k.progress task).op_index ≡ Some (Await object access ticks) → k.suspensions ≡ 0
+      → CanGoOn k task object access ticks (progress_in k.progress task).call.phase
+  can_go_on task runs object access ticks is awake = can_op app formed k now c.sound c.stands early_now task runs awake (Await object access ticks) is
+
+  pub held_in_call : (task : TaskId) → k.sched.current ≡ Some task → k.suspensions ≡ 0 → (phase : Phase) → (progress_in k.progress task).call.phase ≡ phase → holds phase ≡ true → k.sched.depth ≡ 1
+  held_in_call task runs awake phase e t =
+      held_once app formed k now c.sound c.stands early_now awake (held_in app formed k now c.sound c.stands early_now task runs phase (ap (λ (p : Progress). p.call.phase) (sym (progress_is k now c.stands task)) ∙ e) t)

@@ -21,3 +21,4 @@ pub mod Handling
 pub mod Planned
 pub mod Suspending
 pub mod Held
+pub mod InCall

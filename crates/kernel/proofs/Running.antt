@@ -183,15 +183,20 @@ ticks_between app plan n (suc m) le = by_test (eqb n (suc m))
     omega arith)
 
 -- Before a step up to which no limit is reached, the run goes on where it isn't over.
-pub goes_on_until : (app : Application) (plan : List Point) (limits : Limits) (first k : Kernel) (until : ℕ) → IsUnderWay app plan limits first → IsUnderWay app plan limits k → first.steps ≤ k.steps → k.steps < until
-    → (first.steps < until → first.clock.age + first.clock.held + until ≤ limits.ticks + first.steps) → (first.steps < until → until ≤ limits.steps) → is_over app (state_after app plan k.steps) ≡ false → end_of app limits (state_after app plan k.steps) ≡ None
-goes_on_until app plan limits first k until begin way on short ticks steps going =
+pub free_before : (app : Application) (plan : List Point) (limits : Limits) (first : Kernel) (until : ℕ) → IsUnderWay app plan limits first
+    → (first.steps < until → first.clock.age + first.clock.held + until ≤ limits.ticks + first.steps) → (first.steps < until → until ≤ limits.steps)
+    → (n : ℕ) → first.steps ≤ n → n < until → is_over app (state_after app plan n) ≡ false → end_of app limits (state_after app plan n) ≡ None
+free_before app plan limits first until begin ticks steps n on short going =
     let before = elapsed_is first (state_after app plan first.steps) begin.stands in
-    let between = ticks_between app plan first.steps k.steps on in
-    let done = steps_are k (state_after app plan k.steps) way.stands in
+    let between = ticks_between app plan first.steps n on in
+    let done = steps_after app plan n in
     let early = ticks (omega arith) in
     let few = steps (omega arith) in
-    goes_if_not_over app limits (state_after app plan k.steps) going (omega arith) (omega arith)
+    goes_if_not_over app limits (state_after app plan n) going (omega arith) (omega arith)
+
+pub goes_on_until : (app : Application) (plan : List Point) (limits : Limits) (first k : Kernel) (until : ℕ) → IsUnderWay app plan limits first → IsUnderWay app plan limits k → first.steps ≤ k.steps → k.steps < until
+    → (first.steps < until → first.clock.age + first.clock.held + until ≤ limits.ticks + first.steps) → (first.steps < until → until ≤ limits.steps) → is_over app (state_after app plan k.steps) ≡ false → end_of app limits (state_after app plan k.steps) ≡ None
+goes_on_until app plan limits first k until begin way on short ticks steps going = free_before app plan limits first until begin ticks steps k.steps on short going
 
 -- It comes a step further where it went on.
 pub moves_on : (app : Application) (plan : List Point) (limits : Limits) (k new : Kernel) (until : ℕ) → k.steps ≤ new.steps → k.steps < until → end_of app limits (state_after app plan k.steps) ≡ None

@@ -71,6 +71,13 @@ log-preempt s = by_test (is_outranked s)
     (λ t. rw t (log-yield_now s))
     (λ t. rw t (sym (append-nil s.log) ∙ ap (λ l. s.log ++ l) (sym (same_runs s))))
 
+-- Where no task is above the running one, nothing is told.
+pub none_above : (v new : Schedule) → new ≡ schedule.preempt v → schedule.is_outranked v ≡ false → new.current ≡ v.current
+none_above v new is none = ap (λ (w : Schedule). w.current) is ∙ rw none refl
+
+pub nothing_told : (log : List Event) (step time : ℕ) (before now : Option ℕ) → now ≡ before → log ≡ log ++ change step time before now
+nothing_told log step time before now e = rw (e, same_self before) (sym (append-nil log))
+
 -- all but the scheduler stands as it stood
 
 rest-choose : (k : Kernel) (s : State) → RestStandsFor k s → IsTable (choose s) → RestStandsFor k (choose s)

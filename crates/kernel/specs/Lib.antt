@@ -8,3 +8,4 @@ pub mod Keeping
 pub mod Rows
 pub mod Quiet
 pub mod Over
+pub mod InCall

@@ -3,6 +3,7 @@
 
 mod boot;
 mod handlers;
+mod in_call;
 mod kernel;
 mod log;
 mod loops;

@@ -52,8 +52,9 @@ fn advance(
         let tick = kernel.clock.tick();
         kernel.step(app, &[], meter, log);
         count += log.len();
-        let quiet = kernel.clock.tick() != tick && log.is_empty();
-        pass_on(kernel, app, &[], step, quiet, limits, meter);
+        let ticked = kernel.clock.tick() != tick;
+        let silent = log.is_empty();
+        pass_on(kernel, app, &[], step, ticked, silent, limits, meter);
     }
     count
 }

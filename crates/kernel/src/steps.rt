@@ -31,7 +31,7 @@ type Injected = ArrayVec<HandlerId, 3>;
 /// The op of this index in a task's script; `None` past its end.
 // By a reference, so that of an op no more is read than what it does needs.
 #[inline(always)]
-fn op_of(app: &App, task: TaskId, op_index: u16) -> Option<&Op>
+pub(crate) fn op_of(app: &App, task: TaskId, op_index: u16) -> Option<&Op>
     ensures some { IfSome result (λ op. op_at app.now task op_index ≡ Some op.now) }
     ensures none { IsNone result → op_at app.now task op_index ≡ None }
 {
@@ -143,7 +143,7 @@ impl Kernel {
     /// Whether the run is over before its next step, whatever its limits: an `expect` failed or a misuse came, every task is
     /// Ended, or it is stuck.
     #[inline(always)]
-    fn is_over(&self, app: &App) -> bool
+    pub(crate) fn is_over(&self, app: &App) -> bool
         ensures { (s : State) → Stands self.now s → result ≡ is_over app.now s }
     {
         if self.stopped.is_some() {
@@ -397,8 +397,9 @@ fn go_on(
         }
         let tick = kernel.clock.tick();
         step_along(kernel, app, meter, log, trail)?;
-        let quiet = kernel.clock.tick() != tick && trail.is_silent();
-        pass_on(kernel, app, points, until, quiet, limits, meter);
+        let ticked = kernel.clock.tick() != tick;
+        let silent = trail.is_silent();
+        pass_on(kernel, app, points, until, ticked, silent, limits, meter);
     }
     Ok(())
 }

@@ -53,6 +53,8 @@ pub(crate) fn wake_all(sched: &mut Sched, clock: &mut Clock, tasks: &[TaskId])
         → AreThere s tasks.now
         → ClockStandsFor clock.new (for_each make_ready tasks.now s) }
     ensures rest { (more : List ℕ) → AreToWake sched.old (tasks.now ++ more) → AreToWake sched.new more }
+    ensures depth { sched.new.depth ≡ sched.old.depth }
+    ensures current { sched.new.current ≡ sched.old.current }
 {
     for task in tasks {
         clock.wake(*task);
@@ -125,6 +127,8 @@ impl Kernel {
     }
 
     /// A task above the running one runs, if there is one.
+    // Mostly there is none, and nothing is to be told.
+    #[inline(always)]
     pub(crate) fn preempt<L: Log>(&mut self, log: &mut L)
         requires room { 0 < (L.logged log.old).room }
         requires free { self.old.sched.depth ≡ 0 }
@@ -132,8 +136,9 @@ impl Kernel {
         ensures queues { self.new.queues ≡ self.old.queues }
     {
         let before = self.sched.current();
-        self.sched.preempt();
-        self.write_change(before, log);
+        if self.sched.preempt() {
+            self.write_change(before, log);
+        }
     }
 
     /// The end of a step: where the running task isn't Ready any more, the choice runs, unless the scheduler is held.

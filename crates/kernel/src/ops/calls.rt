@@ -1,5 +1,5 @@
 //! Calls on objects that may wait, phase by phase.
-ghost use Rattle.std.specs.Prelude.{◌≡◌, ◌<◌, ◌≤◌, ◌+◌, ◌^◌, ◌||◌, ℕ, false, List, Some, None};
+ghost use Rattle.std.specs.Prelude.{◌≡◌, ◌≢◌, ◌<◌, ◌≤◌, ◌+◌, ◌^◌, ◌||◌, ℕ, false, List, Option, Some, None};
 ghost use Rattle.std.specs.Option.{option_map};
 ghost use Rattle.model.specs.declared.event.Event.{Event};
 ghost use Rattle.model.specs.declared.op.Op.TheVariants as op;
@@ -9,13 +9,15 @@ ghost use Rattle.model.specs.Waiting.{set_deadline, unlock, wait_in};
 ghost use Rattle.model.specs.declared.call.WaitList as declared;
 ghost use Rattle.model.specs.Objects as definitions;
 ghost use Rattle.model.specs.declared.call.Phase.TheVariants as phase;
-ghost use Rattle.model.specs.Calls.{try, lock, decide, leave_call};
+ghost use Rattle.model.specs.Application.{Application};
+ghost use Rattle.model.specs.Calls.{try, lock, decide, leave_call, await};
 ghost use Rattle.model.specs.Step.{act};
 ghost use Rattle.lists.specs.Lists.{place_of};
 ghost use Rattle.clock.specs.Timeline.{is_asleep};
 ghost use Rattle.clock.specs.StandsFor.{StandsFor as ClockStandsFor, StandsBefore as ClockStandsBefore};
 ghost use Rattle.objects.specs.Queues.{StandsFor as QueuesStandFor};
 ghost use Rattle.kernel.specs.StandsFor.{StandsFor, At, AtAny, Does, DoesAny, Moves, progress_in, with_progress};
+ghost use Rattle.kernel.specs.InCall.{IsSilent, Remains};
 ghost use Rattle.kernel.specs.Can.{Agrees, CanTry, CanDecide, CanPlace, CanLeave, CanGoOn, IsAhead, IsInCall, IsShort};
 
 use super::queues::refusal;
@@ -135,8 +137,10 @@ impl Kernel {
     #[inline(always)]
     fn decide(&mut self, task: TaskId, object: ObjectId, access: Access)
         requires { CanDecide self.old task }
-        ensures { (log : List Event) (s : State) → At self.old log s
+        ensures does { (log : List Event) (s : State) → At self.old log s
             → AtAny self.new log (decide task object access s) }
+        ensures remains { Remains self.old self.new task }
+        ensures held { self.new.sched.depth ≡ 1 }
     {
         if self.need_not_wait(task, object, access) {
             self.pass_on(task, object);
@@ -149,7 +153,9 @@ impl Kernel {
     /// The scheduler is held and the object locked, and the call goes on without a wait.
     fn pass_on(&mut self, task: TaskId, object: ObjectId)
         requires { CanDecide self.old task }
-        ensures { Moves self.old self.new (lock task object phase.Unlock) }
+        ensures does { Moves self.old self.new (lock task object phase.Unlock) }
+        ensures remains { Remains self.old self.new task }
+        ensures held { self.new.sched.depth ≡ 1 }
     {
         self.sched.hold();
         self.queues.lock(object);
@@ -159,8 +165,10 @@ impl Kernel {
     /// The scheduler is held and the object locked, and the task begins to wait.
     fn begin_wait(&mut self, task: TaskId, object: ObjectId, access: Access)
         requires { CanDecide self.old task }
-        ensures { (log : List Event) (s : State) → At self.old log s → AtAny self.new log
+        ensures does { (log : List Event) (s : State) → At self.old log s → AtAny self.new log
             (lock task object phase.Place (wait_in task (definitions.list_for object access) s)) }
+        ensures remains { Remains self.old self.new task }
+        ensures held { self.new.sched.depth ≡ 1 }
     {
         self.sched.hold();
         self.queues.lock(object);
@@ -171,8 +179,10 @@ impl Kernel {
     #[inline(always)]
     fn place(&mut self, task: TaskId)
         requires { CanPlace self.old task }
-        ensures { (log : List Event) (s : State) → AtAny self.old log s
+        ensures does { (log : List Event) (s : State) → AtAny self.old log s
             → At self.new log (go_on task phase.Unlock s) }
+        ensures remains { Remains self.old self.new task }
+        ensures depth { self.new.sched.depth ≡ self.old.sched.depth }
     {
         let call = self.progress(task).call;
         self.sched.block(task);
@@ -186,7 +196,11 @@ impl Kernel {
     #[inline(never)]
     fn unlock_and_wake(&mut self)
         requires { Agrees self.old }
-        ensures { Moves self.old self.new unlock }
+        ensures does { Moves self.old self.new unlock }
+        ensures depth { self.new.sched.depth ≡ self.old.sched.depth }
+        ensures current { self.new.sched.current ≡ self.old.sched.current }
+        ensures progress { self.new.progress ≡ self.old.progress }
+        ensures suspensions { self.new.suspensions ≡ self.old.suspensions }
     {
         if let Some(unlocked) = self.queues.unlock() {
             wake_all(
@@ -205,7 +219,9 @@ impl Kernel {
     /// The queue is unlocked, and who was woken meanwhile, if anyone was, becomes Ready.
     fn unlock(&mut self, task: TaskId)
         requires { IsInCall self.old task }
-        ensures { Moves self.old self.new (λ s. go_on task phase.Leave (unlock s)) }
+        ensures does { Moves self.old self.new (λ s. go_on task phase.Leave (unlock s)) }
+        ensures remains { Remains self.old self.new task }
+        ensures depth { self.new.sched.depth ≡ self.old.sched.depth }
     {
         if !self.queues.unlock_if_none_woken() {
             self.unlock_and_wake();
@@ -227,6 +243,31 @@ impl Kernel {
             self.choose(log);
         } else {
             self.preempt(log);
+        }
+    }
+
+    /// The next phase of a call, of those in which it tells nothing, and holds the scheduler after it.
+    #[inline(always)]
+    pub(crate) fn go_on_silently(
+        &mut self,
+        task: TaskId,
+        object: ObjectId,
+        access: Access,
+        next: Phase,
+    )
+        requires silent { IsSilent next }
+        requires can { (ticks : Option ℕ) × CanGoOn self.old task object access ticks next }
+        requires held { next ≢ phase.Decide → self.old.sched.depth ≡ 1 }
+        ensures does { (app : Application) (ticks : Option ℕ) (log : List Event) (s : State)
+            → AtAny self.old log s → AtAny self.new log (await app task object access ticks next s) }
+        ensures remains { Remains self.old self.new task }
+        ensures held { self.new.sched.depth ≡ 1 }
+    {
+        match next {
+            Phase::Decide => self.decide(task, object, access),
+            Phase::Place => self.place(task),
+            Phase::Unlock => self.unlock(task),
+            _ => {}
         }
     }
 

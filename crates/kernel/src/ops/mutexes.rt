@@ -25,6 +25,7 @@ impl Kernel {
         ensures does { (log : List Event) (s : State) → At self.old log s → task < length s.tasks
             → At self.new log (definitions.set_priority task priority s) }
         ensures reranks { Reranks self.old self.new }
+        ensures suspensions { self.new.suspensions ≡ self.old.suspensions }
     {
         self.sched.set_priority(task, priority);
     }
@@ -36,6 +37,7 @@ impl Kernel {
         ensures does { (log : List Event) (s : State) → At self.old log s → holder < length s.tasks
             → At self.new log (definitions.lend priority holder s) }
         ensures reranks { Reranks self.old self.new }
+        ensures suspensions { self.new.suspensions ≡ self.old.suspensions }
     {
         if self.sched.priority(holder) < priority {
             self.set_priority(holder, priority);
@@ -55,6 +57,7 @@ impl Kernel {
         ensures does { (log : List Event) (s : State) → At self.old log s → holder < length s.tasks
             → At self.new log (definitions.inherit_from task holder s) }
         ensures reranks { Reranks self.old self.new }
+        ensures suspensions { self.new.suspensions ≡ self.old.suspensions }
     {
         let inherited = self.inherits(task, holder);
         self.set_inherited(task, inherited);
@@ -67,6 +70,8 @@ impl Kernel {
         requires { CanDecide self.old task }
         ensures does { Moves self.old self.new (definitions.inherit task object) }
         ensures can { CanDecide self.new task }
+        ensures reranks { Reranks self.old self.new }
+        ensures suspensions { self.new.suspensions ≡ self.old.suspensions }
     {
         if let Some(holder) = self.queues.holder(object) {
             self.inherit_from(task, holder);

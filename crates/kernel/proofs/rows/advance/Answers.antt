@@ -24,6 +24,9 @@ pass_on-requires-clause-way c =
     let on : end_of c.args.app.now c.args.limits.now (state_after c.args.app.now [] c.steps.kernel.steps) ≡ None = c.requires.reached c.steps.kernel.steps lt in
     goes_on c.args.app.now c.well_formed-2.ensures [] c.args.limits.now c.well_formed-3.ensures c.steps.kernel c.steps.invariant.way on c.step.new.self c.step.ensures.stands
 
+pub pass_on-requires-clause-free : goal.pass_on-requires-clause-free
+pass_on-requires-clause-free c = λ n from below going. c.requires.reached n below
+
 pub pass_on-requires-clause-meter : goal.pass_on-requires-clause-meter
 pass_on-requires-clause-meter c =
     let lt : c.steps.kernel.steps < c.args.step = omega (arith, c.steps-test.true) in

@@ -7,7 +7,7 @@ use Rattle.model.proofs.Injected.{from_here}
 use Rattle.kernel.specs.Logged.{all_of}
 use Rattle.kernel.specs.Rows.{events_from}
 use Rattle.kernel.proofs.Planned.{stands_as}
-use Rattle.kernel.proofs.Running.{can_step, goes_on, goes_on_until, more_events, silent_from, steps_more, told_more}
+use Rattle.kernel.proofs.Running.{can_step, free_before, goes_on, goes_on_until, more_events, silent_from, steps_more, told_more}
 use Rattle.kernel.proofs.steps.go_on.Goals as goal
 
 pub step_along-requires-clause-going : goal.step_along-requires-clause-going
@@ -40,6 +40,15 @@ pass_on-requires-clause-alone c =
     let m = steps_more c.args.app.now c.well_formed-2.ensures c.args.points.now c.args.limits.now c.well_formed-3.ensures c.steps.kernel c.steps.invariant.way on c.step_along.new.kernel stands in
     let so_far = c.steps.invariant.on in
     λ n from below. c.requires.alone n (omega arith) below
+
+pub pass_on-requires-clause-free : goal.pass_on-requires-clause-free
+pass_on-requires-clause-free c =
+    let on : end_of c.args.app.now c.args.limits.now (state_after c.args.app.now c.args.points.now c.steps.kernel.steps) ≡ None = goes_on_until c.args.app.now c.args.points.now c.args.limits.now c.args.kernel.now c.steps.kernel c.args.until c.requires.way c.steps.invariant.way c.steps.invariant.on (omega (arith, c.steps-test.true)) c.requires.ticks c.requires.steps (sym (c.if-is_over.ensures _ c.steps.invariant.way.stands)) in
+    let none : [] ≡ injected c.args.points.now c.steps.kernel.steps = sym (c.requires.alone c.steps.kernel.steps c.steps.invariant.on (omega (arith, c.steps-test.true))) in
+    let stands = stands_as c.args.app.now c.steps.kernel c.step_along.new.kernel [] (injected c.args.points.now c.steps.kernel.steps) none c.step_along.ensures.stands in
+    let m = steps_more c.args.app.now c.well_formed-2.ensures c.args.points.now c.args.limits.now c.well_formed-3.ensures c.steps.kernel c.steps.invariant.way on c.step_along.new.kernel stands in
+    let so_far = c.steps.invariant.on in
+    λ n from below going. free_before c.args.app.now c.args.points.now c.args.limits.now c.args.kernel.now c.args.until c.requires.way c.requires.ticks c.requires.steps n (omega arith) below going
 
 pub pass_on-requires-clause-meter : goal.pass_on-requires-clause-meter
 pass_on-requires-clause-meter c =

@@ -1,4 +1,4 @@
-use Rattle.std.proofs.Common.{ℕ, List, ◌++◌, take, drop}
+use Rattle.std.proofs.Common.{◌≡◌, ℕ, List, ◌++◌, take, drop}
 use Rattle.model.specs.State.{State, for_each}
 use Rattle.model.specs.Switching.{make_ready}
 use Rattle.sched.specs.StandsFor.{StandsFor}
@@ -12,4 +12,6 @@ invariant-loop-task l = record {
   woken : (s : State) → clock.StandsFor l.fn.clock s → AreThere s l.tasks → clock.StandsFor l.clock (for_each make_ready (take l.task-index l.tasks) s);
   free : AreToWake l.sched (drop l.task-index l.tasks);
   rest : (more : List ℕ) → AreToWake l.fn.sched (l.tasks ++ more) → AreToWake l.sched (drop l.task-index l.tasks ++ more);
+  depth : l.sched.depth ≡ l.fn.sched.depth;
+  current : l.sched.current ≡ l.fn.sched.current;
 }

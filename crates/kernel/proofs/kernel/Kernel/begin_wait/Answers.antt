@@ -13,8 +13,8 @@ use Rattle.kernel.specs.StandsFor.{AtAny, progress_in}
 use Rattle.kernel.proofs.Deciding.{waits}
 use Rattle.kernel.proofs.kernel.Kernel.begin_wait.Goals as goal
 
-pub returns : goal.returns
-returns c = λ log s h.
+pub returns-clause-does : goal.returns-clause-does
+returns-clause-does c = λ log s h.
     let k = c.args.self.now in
     let holds : s.call_hold ≡ false → sched.StandsFor c.hold.new.self (record s { call_hold = true }) = λ free. c.hold.ensures.stands s h.stands.sched free in
     let locks : ((j : ℕ) → wait_if_awake (status_at s j) ≡ None) → queues.StandsFor c.lock.new.self None (record s { locked = Some c.args.object }) = λ nobody. c.lock.ensures.stands s None h.stands.rest.queues nobody in

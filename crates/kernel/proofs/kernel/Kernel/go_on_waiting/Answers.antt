@@ -44,21 +44,21 @@ returns-in-Decide g c =
     let e = ap (λ (p : Progress). p.call.phase) (sym (c.behind-self.view_is ∙ c.progress.ensures)) ∙ c.in-Decide.is in
     let can = subst (CanGoOn c.args.self.now c.args.task c.args.object c.args.access c.args.ticks) e c.requires.can in
     in_phase c.args.app.now c.args.self.now c.decide.new.self (g.L.Log.logged c.args.log.now) (g.L.Log.logged c.args.log.now) c.args.task c.args.object c.args.access c.args.ticks Decide e
-    (record { at = λ s h. c.decide.ensures _ s (all_placed c.args.self.now can.agrees _ s h); few = omega arith; before = refl })
+    (record { at = λ s h. c.decide.ensures.does _ s (all_placed c.args.self.now can.agrees _ s h); few = omega arith; before = refl })
 
 pub returns-in-Place : goal.returns-in-Place
 returns-in-Place g c =
     let e = ap (λ (p : Progress). p.call.phase) (sym (c.behind-self.view_is ∙ c.progress.ensures)) ∙ c.in-Place.is in
     let can = subst (CanGoOn c.args.self.now c.args.task c.args.object c.args.access c.args.ticks) e c.requires.can in
     in_phase c.args.app.now c.args.self.now c.place.new.self (g.L.Log.logged c.args.log.now) (g.L.Log.logged c.args.log.now) c.args.task c.args.object c.args.access c.args.ticks Place e
-    (record { at = λ s h. any c.place.new.self _ _ (c.place.ensures _ s h); few = omega arith; before = refl })
+    (record { at = λ s h. any c.place.new.self _ _ (c.place.ensures.does _ s h); few = omega arith; before = refl })
 
 pub returns-in-Unlock : goal.returns-in-Unlock
 returns-in-Unlock g c =
     let e = ap (λ (p : Progress). p.call.phase) (sym (c.behind-self.view_is ∙ c.progress.ensures)) ∙ c.in-Unlock.is in
     let can = subst (CanGoOn c.args.self.now c.args.task c.args.object c.args.access c.args.ticks) e c.requires.can in
     in_phase c.args.app.now c.args.self.now c.unlock.new.self (g.L.Log.logged c.args.log.now) (g.L.Log.logged c.args.log.now) c.args.task c.args.object c.args.access c.args.ticks Unlock e
-    (moves_any 2 c.args.self.now c.unlock.new.self (g.L.Log.logged c.args.log.now) _ can.agrees c.unlock.ensures)
+    (moves_any 2 c.args.self.now c.unlock.new.self (g.L.Log.logged c.args.log.now) _ can.agrees c.unlock.ensures.does)
 
 pub returns-in-Leave : goal.returns-in-Leave
 returns-in-Leave g c =

@@ -9,8 +9,8 @@ use Rattle.kernel.proofs.Waits.{gone_on}
 use Rattle.kernel.proofs.Deciding.{held_at}
 use Rattle.kernel.proofs.kernel.Kernel.pass_on.Goals as goal
 
-pub returns : goal.returns
-returns c = λ log s h.
+pub returns-clause-does : goal.returns-clause-does
+returns-clause-does c = λ log s h.
     let k = c.args.self.now in
     let mid : Kernel = record k { sched = c.hold.new.self; queues = c.lock.new.self } in
     let holds : s.call_hold ≡ false → sched.StandsFor c.hold.new.self (record s { call_hold = true }) = λ free. c.hold.ensures.stands s h.stands.sched free in

@@ -13,8 +13,8 @@ use Rattle.kernel.proofs.kernel.Kernel.place.Goals as goal
 pub place_waiter-requires-clause-free : goal.place_waiter-requires-clause-free
 place_waiter-requires-clause-free c = still_free c.args.self.now.queues c.requires.state (decider c.args.task c.requires.list c.requires.state) c.requires.stands.queues
 
-pub returns : goal.returns
-returns c = λ log s h.
+pub returns-clause-does : goal.returns-clause-does
+returns-clause-does c = λ log s h.
     let k = c.args.self.now in
     let i : ℕ = c.args.task in
     let runs = c.requires.stands.sched.current ∙ c.requires.stands.current in

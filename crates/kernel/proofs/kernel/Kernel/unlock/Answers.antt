@@ -7,13 +7,13 @@ use Rattle.kernel.proofs.Unlocking.{sched_opened, clock_opened, unlocked_at, cur
 use Rattle.kernel.proofs.kernel.Kernel.unlock.Goals.{then-not-unlock_if_none_woken, else-not-unlock_if_none_woken}
 use Rattle.kernel.proofs.kernel.Kernel.unlock.Goals as goal
 
-pub returns : goal.returns
-returns c = λ log s h.
+pub returns-clause-does : goal.returns-clause-does
+returns-clause-does c = λ log s h.
     let k = c.args.self.now in
     let there : At c.if-not-unlock_if_none_woken.self log (unlock s) = elim c.if-not-unlock_if_none_woken.branch [
       | then-not-unlock_if_none_woken w ↦
           let kept = c.unlock_if_none_woken.ensures.kept w.if-not-unlock_if_none_woken.true in
-          rw w.self-is (w.unlock_and_wake.ensures log s (rw kept h))
+          rw w.self-is (w.unlock_and_wake.ensures.does log s (rw kept h))
       | else-not-unlock_if_none_woken w ↦
           let none = w.if-not-unlock_if_none_woken.false in
           rw w.self-is (unlocked_at k log s h [] k.sched k.clock c.unlock_if_none_woken.new.self (c.unlock_if_none_woken.ensures.woken s none h.stands.rest.queues) (sched_opened k log s h) (clock_opened k log s h) (c.unlock_if_none_woken.ensures.stands s none h.stands.rest.queues))

@@ -22,8 +22,8 @@ wake_all-requires-in-Some c =
     let all = are_to_wake c.args.self.now s h a.0 c.in-Some.unlocked.to_receive.items c.in-Some.unlocked.to_send.items a.2 in
     c.wake_all.ensures.rest c.as_slice-in-Some.result.now (rw (c.as_slice.ensures.value, c.as_slice-in-Some.ensures.value) all)
 
-pub returns-in-Some : goal.returns-in-Some
-returns-in-Some c = λ log s h.
+pub returns-in-Some-clause-does : goal.returns-in-Some-clause-does
+returns-in-Some-clause-does c = λ log s h.
     let k = c.args.self.now in
     let a = c.in-Some.ensures.awakened s h.stands.rest.queues in
     let xs : List ℕ = c.in-Some.unlocked.to_receive.items in
@@ -40,5 +40,5 @@ returns-in-Some c = λ log s h.
     (in_turn (clock.StandsFor c.wake_all-in-Some.new.clock) (opened s) xs ys (rw (c.as_slice.ensures.value, c.as_slice-in-Some.ensures.value) at awake_both))
     (c.in-Some.ensures.stands s h.stands.rest.queues)
 
-pub returns-in_default : goal.returns-in_default
-returns-in_default c = λ log s h. still_unlocked c.args.self.now log s h (none_by c.args.self.now.queues.lock c.in_default.ensures.locked.1) c.unlock.new.self (c.in_default.ensures.stands s h.stands.rest.queues)
+pub returns-in_default-clause-does : goal.returns-in_default-clause-does
+returns-in_default-clause-does c = λ log s h. still_unlocked c.args.self.now log s h (none_by c.args.self.now.queues.lock c.in_default.ensures.locked.1) c.unlock.new.self (c.in_default.ensures.stands s h.stands.rest.queues)

@@ -1,0 +1,87 @@
+-- Steps of a call that waits, from where it decides to where it lets go of the scheduler.
+use Rattle.std.proofs.Common.{◌≡◌, ◌≢◌, ◌<◌, ◌+◌, ℕ, true, List, [], Option, Some, refl, ap, sym, ◌∙◌, arith}
+use Rattle.std.specs.Prelude.{nat_lt}
+use Rattle.std.proofs.lemmas.Bool.{lt-ltb}
+use Rattle.model.specs.declared.op.Access.{Access}
+use Rattle.model.specs.declared.op.Op.TheVariants.{Await}
+use Rattle.model.specs.declared.call.Phase.{Phase}
+use Rattle.model.specs.declared.call.Phase.TheVariants.{Start, Try, Decide, Place, Unlock, Leave, Final}
+use Rattle.model.specs.Invariant.{holds}
+use Rattle.model.specs.declared.event.Event.{Event}
+use Rattle.model.specs.Application.{Application, op_at}
+use Rattle.model.specs.State.{State}
+use Rattle.model.specs.Switching.{is_held, settle, unless_held}
+use Rattle.model.specs.Calls.{await}
+use Rattle.model.specs.Step.{act_current, before_step, step}
+use Rattle.sched.specs.StandsFor as sched
+use Rattle.sched.specs.Schedule.{Schedule}
+use Rattle.sched.proofs.Standing.{held_by_depth}
+use Rattle.kernel.specs.declared.kernel.Kernel.{Kernel}
+use Rattle.kernel.specs.Logged.{Logged}
+use Rattle.kernel.specs.StandsFor.{Stands, AtAny, DoesAny, progress_in}
+use Rattle.kernel.specs.InCall.{IsSilent, IsInPhase, Remains}
+use Rattle.kernel.proofs.Either.{any, either, does_more, freely, in_phase, steps_are}
+use Rattle.kernel.proofs.Switches.{settled_before, settled_held}
+use Rattle.kernel.proofs.Ending.{begun, handled_before, stepped}
+use Rattle.kernel.proofs.Running.{acts}
+
+-- There are three such phases,
+pub none_else : (phase : Phase) → IsSilent phase → phase ≢ Decide → phase ≢ Place → phase ≢ Unlock → ⊥
+none_else Start s a b c = s
+none_else Try s a b c = s
+none_else Decide s a b c = a refl
+none_else Place s a b c = b refl
+none_else Unlock s a b c = c refl
+none_else Leave s a b c = s
+none_else Final s a b c = s
+
+-- and in all but the first the scheduler is held before it too.
+pub holds_silently : (phase : Phase) → IsSilent phase → phase ≢ Decide → holds phase ≡ true
+holds_silently Start s a = absurd s
+holds_silently Try s a = absurd s
+holds_silently Decide s a = absurd (a refl)
+holds_silently Place s a = refl
+holds_silently Unlock s a = refl
+holds_silently Leave s a = absurd s
+holds_silently Final s a = absurd s
+
+held_by : (v : Schedule) (s : State) → sched.StandsFor v s → 0 < v.depth → is_held s ≡ true
+held_by v s h some = held_by_depth s ∙ ap (λ (n : ℕ). nat_lt 0 n) (sym h.depth) ∙ lt-ltb 0 v.depth some
+
+-- While the scheduler is held, a step ends without a switch.
+still_held : (k : Kernel) (log : List Event) (s : State) → 0 < k.sched.depth → AtAny k log s → AtAny k log (unless_held settle s)
+still_held k log s some h = either k log s h
+    (λ a. any k log (unless_held settle s) (settled_held k log s (held_by k.sched s a.stands.sched some) a))
+    (λ task list b. settled_before k log s h task list b)
+
+module _ (app : Application) (k : Kernel) (task object : ℕ) (access : Access) (phase : Phase) (c : IsInPhase app k task object access phase) where
+  -- it is in its next phase then
+  pub still_in_call : (new : Kernel) → Remains k new task → (next : Phase) → (progress_in new.progress task).call.phase ≡ next → IsInPhase app new task object access next
+  still_in_call new r next e = record {
+    current = r.current ∙ c.current;
+    ticks = c.ticks;
+    op = ap (λ (n : ℕ). op_at app task n) r.op_index ∙ c.op;
+    reached = e;
+    awake = r.suspensions ∙ c.awake;
+  }
+
+  -- What the call does in its phase is what the step does,
+  module _ (new : Kernel) (does : (log : List Event) (s : State) → AtAny k log s → AtAny new log (await app task object access c.ticks phase s)) where
+    acts_there : (log : List Event) (s : State) → AtAny k log s → AtAny new log (act_current app s.current s)
+    acts_there log s h =
+        let told : Logged = record { before = []; told = log; room = 65 } in
+        let one : DoesAny 2 k told new told (await app task object access c.ticks phase) = record { at = does log; few = omega arith; before = refl } in
+        let all = does_more 2 65 k new told told _ (omega arith) (in_phase app k new told told task object access c.ticks phase c.reached one) in
+        (acts app k task c.current (Await object access c.ticks) c.op new told told (freely app k new told told task (Await object access c.ticks) c.awake (λ s. refl) (λ e. absurd (cc)) all)).at s h
+
+    -- as it tells nothing, and switches nothing.
+    module _ (held : 0 < new.sched.depth) (s : State) (h : Stands k s) where
+      there : AtAny new [] (unless_held settle (act_current app (before_step app [] s).current (before_step app [] s)))
+      there = still_held new [] _ held (acts_there [] (before_step app [] s) (handled_before app [] s k [] (begun k [] s h refl)))
+
+      pub stepped_held : Stands (record new { steps = k.steps + 1 }) (step app [] s)
+      stepped_held = stepped app [] s new [] k.steps (steps_are k s h) there
+
+      pub told_nothing : (step app [] s).log ≡ []
+      unfolding step
+      told_nothing = sym there.log

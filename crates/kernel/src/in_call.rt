@@ -1,0 +1,119 @@
+//! The steps of a call that waits, from where it decides to where it lets go of the scheduler. They are done one after another,
+//! with the call in hand, and nothing is looked for in each but whether the run is over.
+ghost use Rattle.std.specs.Prelude.{◌≡◌, true, false, None, ℕ, ◌+◌, ◌<◌, ◌≤◌, ◌^◌, []};
+ghost use Rattle.model.specs.declared.call.Phase as declared;
+ghost use Rattle.model.specs.State.{State};
+ghost use Rattle.model.specs.Step.{step};
+ghost use Rattle.model.specs.Run.{end_of, injected, state_after};
+ghost use Rattle.kernel.specs.StandsFor.{Stands, progress_in};
+ghost use Rattle.kernel.specs.Can.{CanStep, IsUnderWay};
+ghost use Rattle.kernel.specs.InCall.{IsInPhase, IsSilent};
+ghost use Rattle.kernel.specs.Over.{is_over};
+ghost use Rattle.kernel.specs.Rows.{events_from};
+
+use crate::kernel::Kernel;
+use crate::steps::op_of;
+use model::{Access, App, Limits, Meter, ObjectId, Op, Phase, Point, TaskId};
+
+/// Whether a call tells nothing in this phase, and holds the scheduler after it.
+fn is_silent(phase: Phase) -> bool
+    ensures { result ≡ true → IsSilent phase }
+{
+    matches!(phase, Phase::Decide | Phase::Place | Phase::Unlock)
+}
+
+impl Kernel {
+    /// The phase that is next of a task's call.
+    fn phase(&self, task: TaskId) -> Phase
+        ensures { result ≡ (progress_in self.now.progress task).call.phase }
+    {
+        self.progress(task).call.phase
+    }
+
+    /// Whether the running task's call has come to decide.
+    #[inline(always)]
+    pub(crate) fn is_deciding(&self) -> bool {
+        match self.sched.current() {
+            None => false,
+            Some(task) => self.phase(task) == Phase::Decide,
+        }
+    }
+
+    /// One step of the run, in which the running task's call goes on in such a phase. While it holds the scheduler nothing
+    /// switches, so nothing else is done.
+    #[inline(always)]
+    fn step_in_call(
+        &mut self,
+        app: &App,
+        task: TaskId,
+        object: ObjectId,
+        access: Access,
+        phase: Phase,
+        meter: &mut Meter,
+    )
+        requires silent { IsSilent phase }
+        requires going { CanStep app.now self.old }
+        requires call { IsInPhase app.now self.old task object access phase }
+        requires meter { meter.old < 2 ^ 63 }
+        ensures stands { (s : State) → Stands self.old s → Stands self.new (step app.now [] s) }
+        ensures silent { (s : State) → Stands self.old s → (step app.now [] s).log ≡ [] }
+        ensures call { (next : declared.Phase) → (progress_in self.new.progress task).call.phase ≡ next
+            → IsInPhase app.now self.new task object access next }
+        ensures meter { meter.new ≡ meter.old + 1 }
+    {
+        app.well_formed();
+        let steps = self.steps;
+        self.go_on_silently(task, object, access, phase);
+        self.steps = steps + 1;
+        meter.count();
+    }
+}
+
+/// Does the steps of the running task's call as long as it tells nothing and holds the scheduler, where it has come to decide:
+/// none of a step of this number, where the plan may have a point or a limit may be reached, nor later.
+#[inline(never)]
+pub(crate) fn pass_call(
+    kernel: &mut Kernel,
+    app: &App,
+    points: &[Point],
+    until: u32,
+    limits: &Limits,
+    meter: &mut Meter,
+)
+    requires way { IsUnderWay app.now points.now limits.now kernel.old }
+    requires alone { (n : ℕ) → kernel.old.steps ≤ n → n < until → injected points.now n ≡ [] }
+    requires free { (n : ℕ) → kernel.old.steps ≤ n → n < until
+        → is_over app.now (state_after app.now points.now n) ≡ false
+        → end_of app.now limits.now (state_after app.now points.now n) ≡ None }
+    requires meter { meter.old < 2 ^ 62 + kernel.old.steps }
+    ensures way { IsUnderWay app.now points.now limits.now kernel.new }
+    ensures on { kernel.old.steps ≤ kernel.new.steps }
+    ensures far { kernel.old.steps ≤ until → kernel.new.steps ≤ until }
+    ensures silent { events_from app.now points.now kernel.old.steps kernel.new.steps ≡ [] }
+    ensures meter { meter.new + kernel.old.steps ≡ meter.old + kernel.new.steps }
+{
+    app.well_formed();
+    limits.well_formed();
+    if kernel.suspensions > 0 {
+        return;
+    }
+    let Some(task) = kernel.sched.current() else {
+        return;
+    };
+    let Some(op) = op_of(app, task, kernel.progress(task).op_index) else {
+        return;
+    };
+    let Op::Await(object, access, _) = *op else {
+        return;
+    };
+    'phases: while kernel.steps < until {
+        let phase = kernel.phase(task);
+        if !is_silent(phase) {
+            return;
+        }
+        if kernel.is_over(app) {
+            return;
+        }
+        kernel.step_in_call(app, task, object, access, phase, meter);
+    }
+}
