@@ -11,16 +11,17 @@ use Rattle.model.specs.declared.event.Event.{Event}
 use Rattle.model.specs.Application.{Application, op_at}
 use Rattle.model.specs.State.{State}
 use Rattle.model.specs.Switching.{is_held, settle, unless_held}
-use Rattle.model.specs.Calls.{await}
+use Rattle.model.specs.Calls.{await, leave_call}
 use Rattle.model.specs.Step.{act_current, before_step, step}
 use Rattle.sched.specs.StandsFor as sched
 use Rattle.sched.specs.Schedule.{Schedule}
 use Rattle.sched.proofs.Standing.{held_by_depth}
 use Rattle.kernel.specs.declared.kernel.Kernel.{Kernel}
 use Rattle.kernel.specs.Logged.{Logged}
-use Rattle.kernel.specs.StandsFor.{Stands, AtAny, DoesAny, progress_in}
-use Rattle.kernel.specs.InCall.{IsSilent, IsInPhase, Remains}
-use Rattle.kernel.proofs.Either.{any, either, does_more, freely, in_phase, steps_are}
+use Rattle.kernel.specs.StandsFor.{Stands, AtAny, Does, DoesAny, progress_in}
+use Rattle.kernel.specs.Can.{CanLeave}
+use Rattle.kernel.specs.InCall.{IsSilent, IsInPhase, IsLeaving, Remains}
+use Rattle.kernel.proofs.Either.{any, either, does_any, does_more, freely, in_phase, steps_are}
 use Rattle.kernel.proofs.Switches.{settled_before, settled_held}
 use Rattle.kernel.proofs.Ending.{begun, handled_before, stepped}
 use Rattle.kernel.proofs.Running.{acts}
@@ -66,13 +67,17 @@ module _ (app : Application) (k : Kernel) (task object : ℕ) (access : Access) 
   }
 
   -- What the call does in its phase is what the step does,
+  pub acts_in_phase : (new : Kernel) (old_log new_log : Logged) → DoesAny 2 k old_log new new_log (await app task object access c.ticks phase) → DoesAny 65 k old_log new new_log (λ s. act_current app s.current s)
+  acts_in_phase new old_log new_log does =
+      let all = does_more 2 65 k new old_log new_log _ (omega arith) (in_phase app k new old_log new_log task object access c.ticks phase c.reached does) in
+      acts app k task c.current (Await object access c.ticks) c.op new old_log new_log (freely app k new old_log new_log task (Await object access c.ticks) c.awake (λ s. refl) (λ e. absurd (cc)) all)
+
   module _ (new : Kernel) (does : (log : List Event) (s : State) → AtAny k log s → AtAny new log (await app task object access c.ticks phase s)) where
     acts_there : (log : List Event) (s : State) → AtAny k log s → AtAny new log (act_current app s.current s)
     acts_there log s h =
         let told : Logged = record { before = []; told = log; room = 65 } in
         let one : DoesAny 2 k told new told (await app task object access c.ticks phase) = record { at = does log; few = omega arith; before = refl } in
-        let all = does_more 2 65 k new told told _ (omega arith) (in_phase app k new told told task object access c.ticks phase c.reached one) in
-        (acts app k task c.current (Await object access c.ticks) c.op new told told (freely app k new told told task (Await object access c.ticks) c.awake (λ s. refl) (λ e. absurd (cc)) all)).at s h
+        (acts_in_phase new told told one).at s h
 
     -- as it tells nothing, and switches nothing.
     module _ (held : 0 < new.sched.depth) (s : State) (h : Stands k s) where
@@ -85,3 +90,8 @@ module _ (app : Application) (k : Kernel) (task object : ℕ) (access : Access) 
       pub told_nothing : (step app [] s).log ≡ []
       unfolding step
       told_nothing = sym there.log
+
+-- So it is where the call lets go of the scheduler.
+pub leaves : (app : Application) (k new : Kernel) (task : ℕ) → IsLeaving app k task → CanLeave k task → (old_log new_log : Logged) → Does 1 k old_log new new_log (leave_call task) → DoesAny 65 k old_log new new_log (λ s. act_current app s.current s)
+leaves app k new task l can old_log new_log does =
+    acts_in_phase app k task l.0 l.1 Leave l.2 new old_log new_log (does_more 1 2 k new old_log new_log (leave_call task) (omega arith) (does_any 1 k new old_log new_log (leave_call task) can.call.agrees does))

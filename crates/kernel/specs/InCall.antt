@@ -3,7 +3,7 @@ use Rattle.std.specs.Prelude.{◌≡◌, ◌<◌, ◌+◌, ℕ, Option, Some}
 use Rattle.model.specs.declared.op.Access.{Access}
 use Rattle.model.specs.declared.op.Op.TheVariants.{Await}
 use Rattle.model.specs.declared.call.Phase.{Phase}
-use Rattle.model.specs.declared.call.Phase.TheVariants.{Decide, Place, Unlock}
+use Rattle.model.specs.declared.call.Phase.TheVariants.{Decide, Place, Unlock, Leave}
 use Rattle.model.specs.Application.{Application, op_at}
 use Rattle.kernel.specs.declared.kernel.Kernel.{Kernel}
 use Rattle.kernel.specs.StandsFor.{progress_in}
@@ -22,6 +22,10 @@ pub record IsInPhase (app : Application) (k : Kernel) (task object : ℕ) (acces
   pub op : op_at app task (progress_in k.progress task).op_index ≡ Some (Await object access ticks)
   pub reached : (progress_in k.progress task).call.phase ≡ phase
   pub awake : k.suspensions ≡ 0
+
+-- The running task's call lets go of the scheduler next.
+abbrev pub IsLeaving : Application → Kernel → ℕ → Type 0
+IsLeaving app k task = (object : ℕ) × (access : Access) × IsInPhase app k task object access Leave
 
 -- Such a phase leaves it as it is who runs, and at which op the task is.
 pub record Remains (old new : Kernel) (task : ℕ) : Type 0 where

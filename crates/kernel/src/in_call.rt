@@ -1,18 +1,22 @@
-//! The steps of a call that waits, from where it decides to where it lets go of the scheduler. They are done one after another,
+//! The steps of a call that waits, from where it decides until it has let go of the scheduler. They are done one after another,
 //! with the call in hand, and nothing is looked for in each but whether the run is over.
-ghost use Rattle.std.specs.Prelude.{◌≡◌, true, false, None, ℕ, ◌+◌, ◌<◌, ◌≤◌, ◌^◌, []};
+ghost use Rattle.std.specs.Prelude.{◌≡◌, true, false, None, ℕ, ◌+◌, ◌<◌, ◌≤◌, ◌^◌, ◌++◌, [], IfSome};
 ghost use Rattle.model.specs.declared.call.Phase as declared;
+ghost use Rattle.model.specs.declared.call.Phase.TheVariants.{Leave};
 ghost use Rattle.model.specs.State.{State};
 ghost use Rattle.model.specs.Step.{step};
 ghost use Rattle.model.specs.Run.{end_of, injected, state_after};
+ghost use Rattle.kernel.specs.Logged.{all_of};
 ghost use Rattle.kernel.specs.StandsFor.{Stands, progress_in};
 ghost use Rattle.kernel.specs.Can.{CanStep, IsUnderWay};
-ghost use Rattle.kernel.specs.InCall.{IsInPhase, IsSilent};
+ghost use Rattle.kernel.specs.InCall.{IsInPhase, IsLeaving, IsSilent};
 ghost use Rattle.kernel.specs.Over.{is_over};
 ghost use Rattle.kernel.specs.Rows.{events_from};
 
 use crate::kernel::Kernel;
+use crate::log::Log;
 use crate::steps::op_of;
+use crate::trail::Trail;
 use model::{Access, App, Limits, Meter, ObjectId, Op, Phase, Point, TaskId};
 
 /// Whether a call tells nothing in this phase, and holds the scheduler after it.
@@ -67,10 +71,33 @@ impl Kernel {
         self.steps = steps + 1;
         meter.count();
     }
+
+    /// One step of the run, in which the running task's call lets go of the scheduler. The log has no event of this step yet.
+    #[inline(always)]
+    fn step_leaving<L: Log>(&mut self, app: &App, task: TaskId, meter: &mut Meter, log: &mut L)
+        requires going { CanStep app.now self.old }
+        requires leaving { IsLeaving app.now self.old task }
+        requires meter { meter.old < 2 ^ 63 }
+        requires begun { (L.logged log.old).told ≡ [] }
+        requires room { 128 ≤ (L.logged log.old).room }
+        ensures stands { (s : State) → Stands self.old s → Stands self.new (step app.now [] s) }
+        ensures told { (s : State) → Stands self.old s
+            → (L.logged log.new).told ≡ (step app.now [] s).log }
+        ensures before { (L.logged log.new).before ≡ (L.logged log.old).before }
+        ensures meter { meter.new ≡ meter.old + 1 }
+    {
+        app.well_formed();
+        let steps = self.steps;
+        self.leave_call(task, log);
+        self.settle(log);
+        self.steps = steps + 1;
+        meter.count();
+    }
 }
 
 /// Does the steps of the running task's call as long as it tells nothing and holds the scheduler, where it has come to decide:
-/// none of a step of this number, where the plan may have a point or a limit may be reached, nor later.
+/// none of a step of this number, where the plan may have a point or a limit may be reached, nor later. It answers the task
+/// where its call lets go of the scheduler next.
 #[inline(never)]
 pub(crate) fn pass_call(
     kernel: &mut Kernel,
@@ -79,7 +106,7 @@ pub(crate) fn pass_call(
     until: u32,
     limits: &Limits,
     meter: &mut Meter,
-)
+) -> Option<TaskId>
     requires way { IsUnderWay app.now points.now limits.now kernel.old }
     requires alone { (n : ℕ) → kernel.old.steps ≤ n → n < until → injected points.now n ≡ [] }
     requires free { (n : ℕ) → kernel.old.steps ≤ n → n < until
@@ -91,29 +118,74 @@ pub(crate) fn pass_call(
     ensures far { kernel.old.steps ≤ until → kernel.new.steps ≤ until }
     ensures silent { events_from app.now points.now kernel.old.steps kernel.new.steps ≡ [] }
     ensures meter { meter.new + kernel.old.steps ≡ meter.old + kernel.new.steps }
+    ensures leaving { IfSome result (λ task. IsLeaving app.now kernel.new task) }
 {
     app.well_formed();
     limits.well_formed();
     if kernel.suspensions > 0 {
-        return;
+        return None;
     }
-    let Some(task) = kernel.sched.current() else {
-        return;
-    };
-    let Some(op) = op_of(app, task, kernel.progress(task).op_index) else {
-        return;
-    };
+    let task = kernel.sched.current()?;
+    let op = op_of(app, task, kernel.progress(task).op_index)?;
     let Op::Await(object, access, _) = *op else {
-        return;
+        return None;
     };
     'phases: while kernel.steps < until {
         let phase = kernel.phase(task);
+        if let Phase::Leave = phase {
+            return Some(task);
+        }
         if !is_silent(phase) {
-            return;
+            return None;
         }
         if kernel.is_over(app) {
-            return;
+            return None;
         }
         kernel.step_in_call(app, task, object, access, phase, meter);
     }
+    None
+}
+
+/// Does the step in which the running task's call lets go of the scheduler, where it has come to that (`pass_call` tells), but for a
+/// step of this number, where the plan may have a point or a limit may be reached.
+#[inline(always)]
+pub(crate) fn pass_leave(
+    kernel: &mut Kernel,
+    app: &App,
+    points: &[Point],
+    until: u32,
+    leaving: Option<TaskId>,
+    limits: &Limits,
+    meter: &mut Meter,
+    trail: &mut Trail,
+)
+    requires way { IsUnderWay app.now points.now limits.now kernel.old }
+    requires alone { (n : ℕ) → kernel.old.steps ≤ n → n < until → injected points.now n ≡ [] }
+    requires free { (n : ℕ) → kernel.old.steps ≤ n → n < until
+        → is_over app.now (state_after app.now points.now n) ≡ false
+        → end_of app.now limits.now (state_after app.now points.now n) ≡ None }
+    requires leaving { IfSome leaving (λ task. IsLeaving app.now kernel.old task) }
+    requires meter { meter.old < 2 ^ 62 + kernel.old.steps }
+    ensures way { IsUnderWay app.now points.now limits.now kernel.new }
+    ensures on { kernel.old.steps ≤ kernel.new.steps }
+    ensures far { kernel.old.steps ≤ until → kernel.new.steps ≤ until }
+    ensures events { all_of trail.new
+        ≡ all_of trail.old ++ events_from app.now points.now kernel.old.steps kernel.new.steps }
+    ensures meter { meter.new + kernel.old.steps ≡ meter.old + kernel.new.steps }
+{
+    app.well_formed();
+    limits.well_formed();
+    let Some(task) = leaving else {
+        return;
+    };
+    if until <= kernel.steps {
+        return;
+    }
+    if kernel.is_over(app) {
+        return;
+    }
+    if trail.begin().is_err() {
+        return;
+    }
+    kernel.step_leaving(app, task, meter, trail);
 }

@@ -54,7 +54,7 @@ fn advance(
         count += log.len();
         let ticked = kernel.clock.tick() != tick;
         let silent = log.is_empty();
-        pass_on(kernel, app, &[], step, ticked, silent, limits, meter);
+        let _ = pass_on(kernel, app, &[], step, ticked, silent, limits, meter);
     }
     count
 }

@@ -17,6 +17,7 @@ ghost use Rattle.kernel.specs.Over.{is_over};
 ghost use Rattle.kernel.specs.Can.{CanAct, CanStep, IsUnderWay};
 ghost use Rattle.kernel.specs.Rows.{events_from, Extends};
 
+use crate::in_call::pass_leave;
 use crate::kernel::Kernel;
 use crate::log::{Log, StepLog};
 use crate::quiet::{next_point, pass_on};
@@ -399,7 +400,8 @@ fn go_on(
         step_along(kernel, app, meter, log, trail)?;
         let ticked = kernel.clock.tick() != tick;
         let silent = trail.is_silent();
-        pass_on(kernel, app, points, until, ticked, silent, limits, meter);
+        let leaving = pass_on(kernel, app, points, until, ticked, silent, limits, meter);
+        pass_leave(kernel, app, points, until, leaving, limits, meter, trail);
     }
     Ok(())
 }

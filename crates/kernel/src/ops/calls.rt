@@ -231,7 +231,7 @@ impl Kernel {
 
     /// The hold ends, and the call will try again: after a wait has begun the choice runs, else a higher task may run.
     #[inline(always)]
-    fn leave_call<L: Log>(&mut self, task: TaskId, log: &mut L)
+    pub(crate) fn leave_call<L: Log>(&mut self, task: TaskId, log: &mut L)
         requires room { 1 ≤ (L.logged log.old).room }
         requires can { CanLeave self.old task }
         ensures { Does 1 self.old (L.logged log.old) self.new (L.logged log.new) (leave_call task) }

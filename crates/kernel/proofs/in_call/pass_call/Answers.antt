@@ -1,4 +1,5 @@
-use Rattle.std.proofs.Common.{◌≡◌, ◌<◌, ℕ, List, [], None, sym, subst, arith}
+use Rattle.std.proofs.Common.{◌∙◌, ◌≡◌, ◌<◌, ℕ, List, [], None, sym, subst, arith}
+use Rattle.model.specs.declared.call.Phase.TheVariants.{Leave}
 use Rattle.model.specs.Step.{step}
 use Rattle.model.specs.Run.{end_of, injected, state_after}
 use Rattle.kernel.proofs.Planned.{stands_as}
@@ -45,3 +46,6 @@ phases-smaller c =
     let more = steps_more c.args.app.now c.well_formed-2.ensures c.args.points.now c.args.limits.now c.well_formed-3.ensures c.phases.kernel c.phases.invariant.way on c.step_in_call.new.self stands in
     let lt : c.phases.kernel.steps < c.args.until = omega (arith, c.phases-test.true) in
     omega arith
+
+pub returns-in-Leave-clause-leaving : goal.returns-in-Leave-clause-leaving
+returns-in-Leave-clause-leaving c = (c.in-Await.object, c.in-Await.access, c.phases.invariant.call Leave (sym c.phase-phase.ensures ∙ c.in-Leave.is))
