@@ -13,7 +13,7 @@ use crate::shown::add_shown;
 use crate::stream::Sink;
 
 /// A piece of a line.
-#[derive(Clone, Copy, Debug)]
+#[derive(Clone, Copy)]
 pub enum Piece<'a> {
     /// The text itself.
     Text(&'a str),

@@ -6,7 +6,7 @@ ghost use Rattle.byte_io.specs.Bytes.{Writes};
 use crate::stream::{Failed, Sink};
 
 /// The sink failed, or took none of the bytes.
-#[derive(Clone, Copy, Debug, PartialEq, Eq)]
+#[derive(Clone, Copy)]
 pub struct WriteFault;
 
 /// Puts all of the bytes. At `Err` the sink failed or took none of some bytes, and it has taken a beginning of them.

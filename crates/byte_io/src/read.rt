@@ -10,7 +10,7 @@ use std::alloc::{AllocError, Global};
 const CHUNK: usize = 4096;
 
 /// Why not all bytes were read.
-#[derive(Clone, Copy, Debug, PartialEq, Eq)]
+#[derive(Clone, Copy)]
 pub enum ReadFault {
     /// The source failed.
     Failed,

@@ -9,7 +9,7 @@ use crate::rows::Place;
 
 /// A place between the rows of a report: so many rows lie before it. Those behind it are the rows of the place of this number,
 /// but for so many, and of the places after that one.
-#[derive(Clone, Copy, Debug, PartialEq, Eq)]
+#[derive(Clone, Copy)]
 pub(crate) struct Cursor {
     pub(crate) number: usize,
     place: usize,

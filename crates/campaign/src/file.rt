@@ -9,7 +9,7 @@ use script::{Fault, FromDocument, LoadError};
 use std::alloc::Global;
 
 /// Why what is asked for of a file was not written, or not as a whole.
-#[derive(Clone, Copy, Debug, PartialEq, Eq)]
+#[derive(Clone, Copy)]
 pub enum ServeFault {
     /// The reader failed.
     Read,

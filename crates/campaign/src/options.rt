@@ -4,7 +4,7 @@ ghost use Rattle.campaign.specs.Options.{bad_option};
 
 /// How a campaign is worked off (profile). Its report doesn't depend on it. A number that is out of its range, as `Options::new`
 /// never gives one, is taken for the nearest in it.
-#[derive(Clone, Copy, Debug, PartialEq, Eq)]
+#[derive(Clone, Copy, PartialEq, Eq)]
 pub struct Options {
     /// How many threads work on it, 1 to 64.
     pub workers: u32,
@@ -15,7 +15,7 @@ pub struct Options {
 }
 
 /// Which number is out of its range.
-#[derive(Clone, Copy, Debug, PartialEq, Eq)]
+#[derive(Clone, Copy)]
 pub enum BadOption {
     /// The workers are not 1 to 64.
     Workers,

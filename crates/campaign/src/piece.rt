@@ -11,7 +11,7 @@ use crate::rows::Place;
 const MOST_ALIKE: usize = 16;
 
 /// So many rows of a report, from the cursor on.
-#[derive(Clone, Copy, Debug, PartialEq, Eq)]
+#[derive(Clone, Copy)]
 pub(crate) struct Piece {
     pub(crate) from: Cursor,
     pub(crate) count: usize,

@@ -9,7 +9,7 @@ use model::{App, HandlerId, Memory, Point, PointEntry, Run};
 use std::alloc::Global;
 
 /// Why the points of a file are not listed.
-#[derive(Clone, Copy, Debug, PartialEq, Eq)]
+#[derive(Clone, Copy)]
 pub enum ExpandFault {
     /// There are more than 1,000,000 (profile).
     TooManyPoints,

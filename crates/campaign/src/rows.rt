@@ -6,7 +6,7 @@ use model::{End, Memory, Point};
 
 /// A row as it is kept: its events begin with so many of the base run's, and go on with its own, which stand in a trail between
 /// two places. Its point is reached where the base run gets beyond the point's step.
-#[derive(Clone, Copy, Debug, PartialEq, Eq)]
+#[derive(Clone, Copy)]
 pub(crate) struct KeptRow {
     pub(crate) point: Point,
     pub(crate) shared: usize,
@@ -18,7 +18,7 @@ pub(crate) struct KeptRow {
 }
 
 /// A block whose rows are kept: so many, from the first on.
-#[derive(Clone, Copy, Debug, PartialEq, Eq)]
+#[derive(Clone, Copy)]
 pub(crate) struct KeptBlock {
     pub(crate) number: usize,
     pub(crate) first: usize,
@@ -26,7 +26,7 @@ pub(crate) struct KeptBlock {
 }
 
 /// Where the rows of a block are: so many of a part, from the first on.
-#[derive(Clone, Copy, Debug, PartialEq, Eq)]
+#[derive(Clone, Copy)]
 pub(crate) struct Place {
     pub(crate) part: usize,
     pub(crate) first: usize,

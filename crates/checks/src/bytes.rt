@@ -37,7 +37,7 @@ fn bytes_are_written_as_far_as_there_is_room(rt: HostRuntime) {
     let mut room = [0; 5];
     let mut sink = ToWriter::new(room.as_mut_slice());
     assert!(rt; put_all(&mut sink, b"base: pass").is_err());
-    assert_eq!(rt; room.as_slice(), b"base:".as_slice());
+    assert!(rt; room.as_slice() == b"base:".as_slice());
 }
 
 #[test]

@@ -18,6 +18,23 @@ pub(crate) fn loaded(rt: &impl Abort, alloc: Global, file: &str) -> App {
         .expect(rt, "an application")
 }
 
+/// Compares the objects of an application.
+fn has_objects(rt: &impl Abort, app: &App, objects: &[ObjectKind]) {
+    assert!(rt; app.objects() == objects);
+}
+
+/// Compares the ops of its first task.
+fn has_ops(rt: &impl Abort, app: &App, ops: &[Op]) {
+    let task = app.tasks().first().expect(rt, "a task");
+    assert!(rt; task.ops() == ops);
+}
+
+/// Compares the ops of its first handler.
+fn has_isr_ops(rt: &impl Abort, app: &App, ops: &[IsrOp]) {
+    let handler = app.handlers().first().expect(rt, "a handler");
+    assert!(rt; handler.ops() == ops);
+}
+
 const QUEUES: &str = "
 [[queue]]
 name = 'one'
@@ -39,12 +56,9 @@ script = [
 #[test]
 fn queues_and_the_ops_on_them_are_loaded(rt: HostRuntime) {
     let app = loaded(&rt, rt.alloc(), QUEUES);
-    let one = ObjectId::new(0).expect(&rt, "an object");
-    let many = ObjectId::new(1).expect(&rt, "an object");
-    assert_eq!(rt;
-        app.objects(),
-        [ObjectKind::Queue(1), ObjectKind::Queue(256)].as_slice()
-    );
+    has_objects(&rt, &app, &[ObjectKind::Queue(1), ObjectKind::Queue(256)]);
+    let one = ObjectId { number: 0 };
+    let many = ObjectId { number: 1 };
     let ops = [
         Op::Await(many, Access::Send(4_294_967_295), Some(4_294_967_294)),
         Op::Await(one, Access::SendFront(7), Some(0)),
@@ -54,8 +68,7 @@ fn queues_and_the_ops_on_them_are_loaded(rt: HostRuntime) {
         Op::MessagesWaiting(one),
         Op::SpacesAvailable(many),
     ];
-    let task = app.tasks().first().expect(&rt, "a task");
-    assert_eq!(rt; task.ops(), ops.as_slice());
+    has_ops(&rt, &app, &ops);
 }
 
 const SEMAPHORES_AND_MUTEXES: &str = "
@@ -88,17 +101,17 @@ script = ['take b 4294967294', 'give c', ' take  d  forever', 'lock m 0', 'unloc
 #[test]
 fn semaphores_and_mutexes_and_the_ops_on_them_are_loaded(rt: HostRuntime) {
     let app = loaded(&rt, rt.alloc(), SEMAPHORES_AND_MUTEXES);
-    let b = ObjectId::new(0).expect(&rt, "an object");
-    let c = ObjectId::new(1).expect(&rt, "an object");
-    let d = ObjectId::new(2).expect(&rt, "an object");
-    let m = ObjectId::new(3).expect(&rt, "an object");
+    let b = ObjectId { number: 0 };
+    let c = ObjectId { number: 1 };
+    let d = ObjectId { number: 2 };
+    let m = ObjectId { number: 3 };
     let kinds = [
         ObjectKind::Semaphore(1, 0),
         ObjectKind::Semaphore(65_535, 7),
         ObjectKind::Semaphore(3, 0),
         ObjectKind::Mutex,
     ];
-    assert_eq!(rt; app.objects(), kinds.as_slice());
+    has_objects(&rt, &app, &kinds);
     let ops = [
         Op::Await(b, Access::Take, Some(4_294_967_294)),
         Op::Do(c, Access::Give),
@@ -107,11 +120,9 @@ fn semaphores_and_mutexes_and_the_ops_on_them_are_loaded(rt: HostRuntime) {
         Op::GiveMutex(m),
         Op::Await(m, Access::Lock, None),
     ];
-    let task = app.tasks().first().expect(&rt, "a task");
-    assert_eq!(rt; task.ops(), ops.as_slice());
+    has_ops(&rt, &app, &ops);
     let isr_ops = [IsrOp::Do(b, Access::Give), IsrOp::Do(d, Access::Give)];
-    let handler = app.handlers().first().expect(&rt, "a handler");
-    assert_eq!(rt; handler.ops(), isr_ops.as_slice());
+    has_isr_ops(&rt, &app, &isr_ops);
 }
 
 // A word of the grammar may be a name too.
@@ -149,12 +160,12 @@ fn bits(mask: u32, all: bool, clear: bool) -> Condition {
 #[test]
 fn groups_and_the_ops_on_them_and_those_that_suspend_are_loaded(rt: HostRuntime) {
     let app = loaded(&rt, rt.alloc(), GROUPS_AND_SUSPENSION);
-    let g = GroupId::new(0).expect(&rt, "a group");
-    let any = GroupId::new(1).expect(&rt, "a group");
-    let a = TaskId::new(0).expect(&rt, "a task");
-    let all = TaskId::new(1).expect(&rt, "a task");
-    assert_eq!(rt; app.group_count(), 2);
-    assert_eq!(rt; app.objects().len(), 0);
+    let g = GroupId { number: 0 };
+    let any = GroupId { number: 1 };
+    let a = TaskId { number: 0 };
+    let all = TaskId { number: 1 };
+    assert!(rt; app.group_count() == 2);
+    assert!(rt; app.objects().len() == 0);
     let ops = [
         Op::SetBits(g, 16_777_215),
         Op::ClearBits(any, 1),
@@ -168,22 +179,20 @@ fn groups_and_the_ops_on_them_and_those_that_suspend_are_loaded(rt: HostRuntime)
         Op::SuspendAll,
         Op::ResumeAll,
     ];
-    let task = app.tasks().first().expect(&rt, "a task");
-    assert_eq!(rt; task.ops(), ops.as_slice());
+    has_ops(&rt, &app, &ops);
     let isr_ops = [
         IsrOp::Resume(all),
         IsrOp::GetBits(g),
         IsrOp::Resume(a),
         IsrOp::GetBits(any),
     ];
-    let handler = app.handlers().first().expect(&rt, "a handler");
-    assert_eq!(rt; handler.ops(), isr_ops.as_slice());
+    has_isr_ops(&rt, &app, &isr_ops);
 }
 
 #[test]
 fn an_application_without_groups(rt: HostRuntime) {
     let app = loaded(&rt, rt.alloc(), QUEUES);
-    assert_eq!(rt; app.group_count(), 0);
+    assert!(rt; app.group_count() == 0);
 }
 
 // The first word of a point decides: a handler `all` is one like any other.
@@ -210,8 +219,8 @@ script = ['work 2', 'mark 7']
 #[test]
 fn points_are_loaded(rt: HostRuntime) {
     let app = loaded(&rt, rt.alloc(), POINTS);
-    let h = HandlerId::new(0).expect(&rt, "a handler");
-    let all = HandlerId::new(1).expect(&rt, "a handler");
+    let h = HandlerId { number: 0 };
+    let all = HandlerId { number: 1 };
     let at = |step: u32, handler: HandlerId| PointEntry::One(Point { step, handler });
     let points = [
         at(0, h),
@@ -225,11 +234,11 @@ fn points_are_loaded(rt: HostRuntime) {
         at(5, h),
         at(0, h),
     ];
-    assert_eq!(rt; app.points(), points.as_slice());
+    assert!(rt; app.points() == points.as_slice());
 }
 
 #[test]
 fn an_application_without_points(rt: HostRuntime) {
     let app = loaded(&rt, rt.alloc(), QUEUES);
-    assert_eq!(rt; app.points().len(), 0);
+    assert!(rt; app.points().len() == 0);
 }

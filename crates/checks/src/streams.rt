@@ -66,7 +66,7 @@ fn check_byte_by_byte<R: Abort + Threads + Wait + Sync>(
         &mut told,
         &NoGate,
     );
-    assert_eq!(rt; found, status);
+    assert!(rt; found == status);
     check_text(rt, alloc, "written", written.bytes(), texts.0);
     check_text(rt, alloc, "told", told.bytes(), texts.1);
 }
@@ -107,7 +107,7 @@ fn check_full_writer<R: Abort + Threads + Wait + Sync>(
         &mut told,
         &NoGate,
     );
-    assert_eq!(rt; status, 5, "with room for {room}");
+    assert!(rt; status == 5, "with room for {room}");
     let line = "rtosim: cannot write\n";
     check_text(rt, alloc, "a full writer", told.bytes(), line);
     written
@@ -119,7 +119,7 @@ fn a_full_writer_has_the_beginning(rt: HostRuntime) {
     for room in 0..report.len() {
         for is_polite in [false, true] {
             let written = check_full_writer(&rt, rt.alloc(), ONE_MARK, room, is_polite);
-            assert_eq!(rt; written.bytes(), &report[..room]);
+            assert!(rt; written.bytes() == &report[..room]);
         }
     }
 }
@@ -128,7 +128,7 @@ fn a_full_writer_has_the_beginning(rt: HostRuntime) {
 fn a_writer_is_full_after_some_pages(rt: HostRuntime) {
     for room in [8191, 8192, 8193, 20_000, MANY_MARKS_SIZE - 1] {
         let written = check_full_writer(&rt, rt.alloc(), MANY_MARKS, room, false);
-        assert_eq!(rt; written.bytes().len(), room);
+        assert!(rt; written.bytes().len() == room);
     }
 }
 
@@ -153,9 +153,9 @@ fn check_broken_reader<R: Abort + Threads + Wait + Sync>(
         &NoGate,
     );
     let line = b"rtosim: cannot read a folder\n".as_slice();
-    assert_eq!(rt; status, 3);
-    assert_eq!(rt; written.bytes(), b"".as_slice());
-    assert_eq!(rt; told.bytes(), &line[..line.len().min(room)]);
+    assert!(rt; status == 3);
+    assert!(rt; written.bytes() == b"".as_slice());
+    assert!(rt; told.bytes() == &line[..line.len().min(room)]);
 }
 
 #[test]

@@ -77,7 +77,7 @@ fn words_that_name_a_job(rt: HostRuntime) {
             at: named.at,
             handler: named.handler,
         };
-        assert_eq!(rt; job_named(rt.alloc(), named.words).ok(), Some(job));
+        assert!(rt; job_named(rt.alloc(), named.words).ok() == Some(job));
     }
 }
 
@@ -152,6 +152,6 @@ fn words_that_name_a_campaign(rt: HostRuntime) {
             },
             quiet: named.quiet,
         };
-        assert_eq!(rt; job_named(rt.alloc(), named.words).ok(), Some(job));
+        assert!(rt; job_named(rt.alloc(), named.words).ok() == Some(job));
     }
 }

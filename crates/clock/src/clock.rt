@@ -17,7 +17,7 @@ use std::mem;
 use task_lists::TaskLists;
 
 /// A moment of a clock, in ticks without bound: its tick at the start, and one more for each tick since (profile).
-#[derive(Clone, Copy, Debug, PartialEq, Eq)]
+#[derive(Clone, Copy)]
 pub struct Mark {
     pub moment: u64,
 }

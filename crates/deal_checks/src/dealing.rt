@@ -2,8 +2,9 @@
 ghost use Rattle.std.specs.Prelude.{◌<◌, ◌≤◌};
 ghost use Rattle.deal.specs.Sharing.{Game, AreLanesOf};
 
-use deal::{Deal, Division, Lane, Next};
+use deal::{Closed, Deal, Division, Lane, Next};
 use std::alloc::Global;
+use std::process::Abort;
 use std::test::Fail;
 
 // What the lane of this number is answered, where there is one.
@@ -15,6 +16,27 @@ fn turn(lanes: &mut Vec<Lane>, lane: usize) -> Next
     }
     let lane = &mut lanes[lane];
     lane.next()
+}
+
+// Compares what the lane of this number is answered.
+fn is_answered(rt: &impl Abort, lanes: &mut Vec<Lane>, lane: usize, next: Next)
+    ensures { (g : Game) → AreLanesOf g lanes.old.items → AreLanesOf g lanes.new.items }
+{
+    assert!(rt; turn(lanes, lane) == next, "lane {lane}");
+}
+
+// Compares the blocks in the list of the lane of this number.
+fn has_list(rt: &impl Abort, closed: &Closed, lane: usize, blocks: &[usize]) {
+    match closed.lists.get(lane) {
+        Some(list) => assert!(rt; list.as_slice() == blocks, "lane {lane}"),
+        None => panic!(rt; "no list of lane {lane}"),
+    }
+}
+
+// Compares of how many lanes there are lists, and which blocks are left.
+fn has_rest(rt: &impl Abort, closed: &Closed, lanes: usize, rest: &[usize]) {
+    assert!(rt; closed.lists.len() == lanes);
+    assert!(rt; closed.rest.as_slice() == rest);
 }
 
 // The last lane never comes back.
@@ -43,15 +65,14 @@ fn a_lane_steals(rt: HostRuntime) -> Result<(), Fail> {
     let division = ones(rt.alloc(), 3)?;
     let (deal, mut lanes) = Deal::new(rt.alloc(), division, 2)?;
     for number in [0, 2, 1] {
-        assert_eq!(rt; turn(&mut lanes, 0), block(number));
+        is_answered(&rt, &mut lanes, 0, block(number));
     }
-    assert_eq!(rt; turn(&mut lanes, 0), Next::Empty);
-    assert_eq!(rt; turn(&mut lanes, 1), Next::Empty);
+    is_answered(&rt, &mut lanes, 0, Next::Empty);
+    is_answered(&rt, &mut lanes, 1, Next::Empty);
     let closed = deal.close(lanes);
-    assert_eq!(rt; closed.lists.len(), 2);
-    assert_eq!(rt; closed.lists[0].as_slice(), [0, 2, 1].as_slice());
-    assert_eq!(rt; closed.lists[1].len(), 0);
-    assert_eq!(rt; closed.rest.len(), 0);
+    has_list(&rt, &closed, 0, &[0, 2, 1]);
+    has_list(&rt, &closed, 1, &[]);
+    has_rest(&rt, &closed, 2, &[]);
     Ok(())
 }
 
@@ -60,7 +81,7 @@ fn other_lanes_are_tried_upwards_and_round(rt: HostRuntime) -> Result<(), Fail> 
     let division = ones(rt.alloc(), 3)?;
     let (_deal, mut lanes) = Deal::new(rt.alloc(), division, 3)?;
     for number in [1, 2, 0] {
-        assert_eq!(rt; turn(&mut lanes, 1), block(number));
+        is_answered(&rt, &mut lanes, 1, block(number));
     }
     Ok(())
 }
@@ -69,12 +90,11 @@ fn other_lanes_are_tried_upwards_and_round(rt: HostRuntime) -> Result<(), Fail> 
 fn what_a_missing_lane_took_is_in_the_rest(rt: HostRuntime) -> Result<(), Fail> {
     let division = ones(rt.alloc(), 4)?;
     let (deal, mut lanes) = Deal::new(rt.alloc(), division, 2)?;
-    assert_eq!(rt; turn(&mut lanes, 0), block(0));
-    assert_eq!(rt; turn(&mut lanes, 1), block(1));
+    is_answered(&rt, &mut lanes, 0, block(0));
+    is_answered(&rt, &mut lanes, 1, block(1));
     lose_last(&mut lanes);
     let closed = deal.close(lanes);
-    assert_eq!(rt; closed.lists.len(), 1);
-    assert_eq!(rt; closed.lists[0].as_slice(), [0].as_slice());
-    assert_eq!(rt; closed.rest.as_slice(), [1, 2, 3].as_slice());
+    has_list(&rt, &closed, 0, &[0]);
+    has_rest(&rt, &closed, 1, &[1, 2, 3]);
     Ok(())
 }

@@ -8,18 +8,18 @@ fn seats_share_the_words(rt: HostRuntime) -> Result<(), Fail> {
     let one = &mut seats[0];
     tally.add(one, 0, 3);
     assert!(rt; tally.read(one).kinds[0] >= 3);
-    assert_eq!(rt; one.room(0), (1 << 40) - 3);
-    assert_eq!(rt; one.room(1), 1 << 40);
+    assert!(rt; one.room(0) == (1 << 40) - 3);
+    assert!(rt; one.room(1) == 1 << 40);
     let other = &mut seats[1];
     let three = Counts {
         kinds: [3, 0, 0, 0, 0, 0, 0],
     };
-    assert_eq!(rt; tally.read(other), three);
+    assert!(rt; tally.read(other) == three);
     tally.add(other, 0, 2);
     let five = Counts {
         kinds: [5, 0, 0, 0, 0, 0, 0],
     };
-    assert_eq!(rt; tally.close(seats).ok(), Some(five));
+    assert!(rt; tally.close(seats).ok() == Some(five));
     Ok(())
 }
 
@@ -30,7 +30,7 @@ fn a_seat_is_missing(rt: HostRuntime) -> Result<(), Fail> {
     assert!(rt; one.is_some());
     match tally.close(seats) {
         Ok(_) => assert!(rt; false),
-        Err(missing) => assert_eq!(rt; missing.seats.len(), 1),
+        Err(missing) => assert!(rt; missing.seats.len() == 1),
     }
     Ok(())
 }

@@ -71,8 +71,8 @@ fn are_each_once(alloc: Global, closed: &Closed, blocks: usize) -> Result<bool, 
 fn each_block_goes_to_one_lane(rt: HostRuntime) -> Result<(), Fail> {
     for workers in [1, 2, 4, 64] {
         let closed = share(&rt, rt.alloc(), 1000, workers)?;
-        assert_eq!(rt; closed.lists.len(), workers);
-        assert_eq!(rt; closed.rest.len(), 0);
+        assert!(rt; closed.lists.len() == workers);
+        assert!(rt; closed.rest.len() == 0);
         assert!(rt; are_each_once(rt.alloc(), &closed, 1000)?);
     }
     Ok(())
@@ -81,7 +81,7 @@ fn each_block_goes_to_one_lane(rt: HostRuntime) -> Result<(), Fail> {
 #[test]
 fn no_blocks_are_handed_out_at_once(rt: HostRuntime) -> Result<(), Fail> {
     let closed = share(&rt, rt.alloc(), 0, 4)?;
-    assert_eq!(rt; closed.lists.len(), 4);
-    assert_eq!(rt; closed.rest.len(), 0);
+    assert!(rt; closed.lists.len() == 4);
+    assert!(rt; closed.rest.len() == 0);
     Ok(())
 }

@@ -20,7 +20,7 @@ use std::sync::Wait;
 use std::thread::Threads;
 
 /// What the program is to do.
-#[derive(Clone, Copy, Debug, PartialEq, Eq)]
+#[derive(Clone, Copy, PartialEq, Eq)]
 pub enum Job<'a> {
     /// Write the report of the run of this file's application: the base run, or row 0, where the handler of this name is
     /// injected before this step. A step and a handler go together.
@@ -39,7 +39,7 @@ pub enum Job<'a> {
 }
 
 /// Why a job was not done, or not as a whole.
-#[derive(Clone, Copy, Debug, PartialEq, Eq)]
+#[derive(Clone, Copy)]
 pub enum JobFault {
     /// The job has a step and no handler, or a handler and no step.
     Unpaired,

@@ -6,7 +6,7 @@ use model::Loop;
 use std::marker::Model;
 
 /// The open loops of a task: at most four (profile).
-#[derive(Debug, Drop)]
+#[derive(Drop)]
 pub(crate) struct Loops {
     cells: [Loop; 4],
     nesting: u8,

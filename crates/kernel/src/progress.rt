@@ -4,7 +4,7 @@ use model::CallProgress;
 use std::marker::Model;
 
 /// Where a task is in its script, and what it keeps there.
-#[derive(Debug, Drop)]
+#[derive(Drop)]
 pub(crate) struct Progress {
     /// The index of the op that the task is at.
     pub(crate) op_index: u16,

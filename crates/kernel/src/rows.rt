@@ -14,7 +14,7 @@ use crate::trail::Trail;
 use model::{App, End, Limits, Memory, Meter, Point};
 
 /// What is said of a row but its events.
-#[derive(Clone, Copy, Debug, PartialEq, Eq)]
+#[derive(Clone, Copy)]
 pub struct RowEnding {
     /// How many events of the base run come before the row's injection, counted from where the kernel had come.
     pub before: usize,

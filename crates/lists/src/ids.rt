@@ -2,7 +2,7 @@
 ghost use Rattle.std.specs.Prelude.{◌≡◌, ◌<◌, ◌↔◌, IsSome, IfSome};
 
 /// The number of a node of a table, 0 to 4095.
-#[derive(Clone, Copy, Debug, PartialEq, Eq)]
+#[derive(Clone, Copy, PartialEq, Eq)]
 pub struct NodeId {
     pub number: u16,
     pub ghost known: { number < 4096 },
@@ -23,7 +23,7 @@ impl NodeId {
 }
 
 /// The number of a list of a table, 0 to 4095.
-#[derive(Clone, Copy, Debug, PartialEq, Eq)]
+#[derive(Clone, Copy, PartialEq, Eq)]
 pub struct ListId {
     pub number: u16,
     pub ghost known: { number < 4096 },

@@ -115,7 +115,7 @@ impl HandlerDefinition {
 }
 
 /// A base interrupt: at this elapsed tick the handler runs (profile).
-#[derive(Clone, Copy, Debug, PartialEq, Eq)]
+#[derive(Clone, Copy, PartialEq, Eq)]
 pub struct Interrupt {
     pub tick: u32,
     pub handler: HandlerId,

@@ -3,7 +3,7 @@ use crate::ids::ObjectId;
 
 /// The phases of a call that may wait. Each is one step of the kernel, so that an interrupt may come between any two
 /// (profile: FreeRTOS is interrupted between any two instructions outside its critical sections, which are these).
-#[derive(Clone, Copy, Debug, Default, PartialEq, Eq)]
+#[derive(Clone, Copy, Default, PartialEq, Eq)]
 pub enum Phase {
     /// The first try, from which the timeout counts.
     #[default]
@@ -23,7 +23,7 @@ pub enum Phase {
 }
 
 /// For which bits of an event group a task waits (`xEventGroupWaitBits`).
-#[derive(Clone, Copy, Debug, PartialEq, Eq)]
+#[derive(Clone, Copy, PartialEq, Eq)]
 pub struct Condition {
     /// The bits, 1 to 16,777,215.
     pub mask: u32,
@@ -34,7 +34,7 @@ pub struct Condition {
 }
 
 /// A list in which tasks wait at an object.
-#[derive(Clone, Copy, Debug, PartialEq, Eq)]
+#[derive(Clone, Copy)]
 pub enum WaitList {
     /// For an item, a count or a mutex (`xTasksWaitingToReceive`).
     ToReceive(ObjectId),
@@ -43,7 +43,7 @@ pub enum WaitList {
 }
 
 /// How far the call that a task is in has come.
-#[derive(Clone, Copy, Debug, Default, PartialEq, Eq)]
+#[derive(Clone, Copy, Default)]
 pub struct CallProgress {
     /// The phase that is next.
     pub phase: Phase,

@@ -2,7 +2,7 @@
 use crate::ids::{HandlerId, TaskId};
 
 /// What an event tells.
-#[derive(Clone, Copy, Debug, PartialEq, Eq)]
+#[derive(Clone, Copy, PartialEq, Eq)]
 pub enum What {
     /// The task's op of this index is complete, with this answer.
     Call(TaskId, u16, u32),
@@ -27,7 +27,7 @@ impl Default for What {
 }
 
 /// One thing that happened in a run.
-#[derive(Clone, Copy, Debug, Default, PartialEq, Eq)]
+#[derive(Clone, Copy, Default, PartialEq, Eq)]
 pub struct Event {
     /// The number of the step, from 0.
     pub step: u32,
@@ -41,7 +41,7 @@ pub struct Event {
 const _: () = prove!(size_of::<Event>() == 16);
 
 /// What a task must not do (profile). FreeRTOS asserts it, and what comes of it is not told.
-#[derive(Clone, Copy, Debug, PartialEq, Eq)]
+#[derive(Clone, Copy, PartialEq, Eq)]
 pub enum Misuse {
     /// While a `suspend_all` is in force it does an op that may switch, or wait.
     WhileSuspended,
@@ -54,7 +54,7 @@ pub enum Misuse {
 }
 
 /// How a run ends (profile).
-#[derive(Clone, Copy, Debug, PartialEq, Eq)]
+#[derive(Clone, Copy, PartialEq, Eq)]
 pub enum End {
     /// Every task is Ended.
     Pass,

@@ -43,7 +43,7 @@ impl Default for TaskId {
 }
 
 /// An interrupt handler, by its index in the file: 0 to 15.
-#[derive(Clone, Copy, Debug, PartialEq, Eq)]
+#[derive(Clone, Copy, PartialEq, Eq)]
 pub struct HandlerId {
     pub number: u8,
 }
@@ -82,7 +82,7 @@ impl Default for HandlerId {
 }
 
 /// An object that tasks share, by its index among all of them: 0 to 31. Those of the file's first section come first.
-#[derive(Clone, Copy, Debug, PartialEq, Eq)]
+#[derive(Clone, Copy, PartialEq, Eq)]
 pub struct ObjectId {
     pub number: u8,
 }
@@ -115,7 +115,7 @@ impl ObjectId {
 }
 
 /// An event group, by its index in the file: 0 to 15.
-#[derive(Clone, Copy, Debug, PartialEq, Eq)]
+#[derive(Clone, Copy, PartialEq, Eq)]
 pub struct GroupId {
     pub number: u8,
 }

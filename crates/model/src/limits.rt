@@ -5,7 +5,7 @@ ghost use Rattle.model.specs.Scripts.{AreLimits};
 use std::marker::Model;
 
 /// Where a run ends at the latest: elapsed ticks and steps, each 1 to 1,000,000 (profile).
-#[derive(Clone, Copy, Debug, PartialEq, Eq)]
+#[derive(Clone, Copy, PartialEq, Eq)]
 pub struct Limits {
     pub ticks: u32,
     pub steps: u32,
@@ -51,7 +51,7 @@ impl Limits {
 }
 
 /// Counts the kernel steps of the calls that it is lent to.
-#[derive(Debug, Drop)]
+#[derive(Drop)]
 pub struct Meter {
     steps: u64,
 }

@@ -3,7 +3,7 @@ use crate::call::Condition;
 use crate::ids::{GroupId, ObjectId, TaskId};
 
 /// What a call asks of an object.
-#[derive(Clone, Copy, Debug, PartialEq, Eq)]
+#[derive(Clone, Copy, PartialEq, Eq)]
 pub enum Access {
     /// Puts an item last (`xQueueSend`).
     Send(u32),
@@ -74,7 +74,7 @@ impl Access {
 }
 
 /// An op of a task's script. The numbers are those of the op's text, in the ranges of docs/FORMATS.md.
-#[derive(Clone, Copy, Debug, PartialEq, Eq)]
+#[derive(Clone, Copy, PartialEq, Eq)]
 pub enum Op {
     /// Computes for this many ticks, 1 to 1,000,000 (profile).
     Work(u32),
@@ -160,7 +160,7 @@ impl Op {
 }
 
 /// An op of an interrupt handler, which never waits.
-#[derive(Clone, Copy, Debug, PartialEq, Eq)]
+#[derive(Clone, Copy, PartialEq, Eq)]
 pub enum IsrOp {
     /// A call on an object, done if it is possible: send, send_front, overwrite, receive, peek or give (`xQueueSendFromISR`,
     /// `xSemaphoreGiveFromISR` and the like).

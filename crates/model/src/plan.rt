@@ -9,14 +9,14 @@ use std::alloc::Global;
 use std::marker::Model;
 
 /// An injection point: the handler runs before the step of this number, from 0.
-#[derive(Clone, Copy, Debug, PartialEq, Eq)]
+#[derive(Clone, Copy, PartialEq, Eq)]
 pub struct Point {
     pub step: u32,
     pub handler: HandlerId,
 }
 
 /// An entry of the list of points that a file has for its campaign.
-#[derive(Clone, Copy, Debug, PartialEq, Eq)]
+#[derive(Clone, Copy, PartialEq, Eq)]
 pub enum PointEntry {
     /// This point.
     One(Point),
@@ -25,7 +25,7 @@ pub enum PointEntry {
 }
 
 /// Why some points are no plan.
-#[derive(Clone, Copy, Debug, PartialEq, Eq)]
+#[derive(Clone, Copy)]
 pub enum BadPlan {
     /// A step is less than the one before it.
     Falling,

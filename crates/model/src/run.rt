@@ -20,7 +20,7 @@ impl<T: Drop> From<AllocFailed<T>> for Memory {
 }
 
 /// How a run ended, and when.
-#[derive(Clone, Copy, Debug, PartialEq, Eq)]
+#[derive(Clone, Copy)]
 pub struct Ending {
     /// The steps done, at most 1,000,000.
     pub steps: u32,

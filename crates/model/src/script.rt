@@ -101,7 +101,7 @@ impl Op {
 }
 
 /// Why an op does not follow.
-#[derive(Clone, Copy, Debug, PartialEq, Eq)]
+#[derive(Clone, Copy)]
 pub enum NestingFault {
     /// An `end` without a `repeat`, or a `repeat` inside four open ones.
     BadNesting,

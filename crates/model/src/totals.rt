@@ -6,7 +6,7 @@ use crate::event::End;
 
 /// How many rows a campaign has, how many of them end in each way, and how many of their points are not reached. A row whose
 /// point is not reached is counted by its end too, so that the ends add up to the rows.
-#[derive(Clone, Copy, Debug, Default, PartialEq, Eq)]
+#[derive(Clone, Copy, Default)]
 pub struct Totals {
     /// All rows.
     pub rows: u32,

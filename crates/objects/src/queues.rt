@@ -34,7 +34,7 @@ use std::alloc::Global;
 use std::marker::Model;
 
 /// It isn't the task that holds the mutex.
-#[derive(Clone, Copy, Debug, PartialEq, Eq)]
+#[derive(Clone, Copy, PartialEq, Eq)]
 pub struct NotHolder;
 
 /// 32 objects, each a queue, a semaphore or a mutex, and the tasks that wait at them.

@@ -26,7 +26,7 @@ fn put_last(rt: &impl Abort, table: &mut Table<2, 8>, node: NodeId)
 fn has_nodes(rt: &impl Abort, table: &Table<2, 8>, expected: &[u16]) {
     let mut found = table.first(LIST);
     for number in expected {
-        assert_eq!(rt; found, NodeId::new(*number), "of {expected:?}");
+        assert!(rt; found == NodeId::new(*number), "of {expected:?}");
         found = after(table, found);
     }
     assert!(rt; found.is_none(), "no more than {expected:?}");
@@ -48,7 +48,7 @@ fn rotate(rt: &impl Abort, table: &mut Table<2, 8>, expected: &[u16]) {
     if expected.len() < 2 {
         assert!(rt; first.is_none(), "no turn of {expected:?}");
     } else {
-        assert_eq!(rt; first, table.first(LIST));
+        assert!(rt; first == table.first(LIST));
     }
     has_nodes(rt, table, expected);
 }
@@ -62,7 +62,7 @@ fn equals_stand_in_the_order_in_which_they_came(rt: HostRuntime) {
     put(&rt, &mut table, NodeId { number: 7 }, 15);
     table.remove(NodeId { number: 7 });
     has_nodes(&rt, &table, &[5, 3, 2]);
-    assert_eq!(rt; table.value(NodeId { number: 2 }), 20);
+    assert!(rt; table.value(NodeId { number: 2 }) == 20);
     assert!(rt; table.place(NodeId { number: 7 }).is_none());
     assert!(rt; table.is_empty(ListId { number: 1 }));
 }
@@ -73,7 +73,7 @@ fn a_node_goes_last(rt: HostRuntime) {
     put(&rt, &mut table, NodeId { number: 1 }, 9);
     put_last(&rt, &mut table, NodeId { number: 4 });
     has_nodes(&rt, &table, &[1, 4]);
-    assert_eq!(rt; table.place(NodeId { number: 4 }), Some(LIST));
+    assert!(rt; table.place(NodeId { number: 4 }) == Some(LIST));
 }
 
 #[test]
@@ -85,5 +85,5 @@ fn the_first_goes_last(rt: HostRuntime) {
     put(&rt, &mut table, NodeId { number: 3 }, 20);
     put(&rt, &mut table, NodeId { number: 5 }, 30);
     rotate(&rt, &mut table, &[3, 5, 6]);
-    assert_eq!(rt; table.value(NodeId { number: 6 }), 10);
+    assert!(rt; table.value(NodeId { number: 6 }) == 10);
 }

@@ -2,7 +2,7 @@
 use model::Point;
 
 /// What the report of a run is of.
-#[derive(Clone, Copy, Debug, PartialEq, Eq)]
+#[derive(Clone, Copy)]
 pub enum Title {
     /// The base run: nothing is injected.
     Base,

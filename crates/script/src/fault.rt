@@ -6,7 +6,7 @@ use crate::place::Place;
 use std::alloc::AllocError;
 
 /// What a check finds.
-#[derive(Clone, Copy, Debug, PartialEq, Eq)]
+#[derive(Clone, Copy)]
 pub enum FaultKind {
     /// What has to stand there does not.
     Missing,
@@ -58,14 +58,14 @@ impl FaultKind {
 }
 
 /// The first check that failed, and where.
-#[derive(Clone, Copy, Debug, PartialEq, Eq)]
+#[derive(Clone, Copy)]
 pub struct Fault {
     pub kind: FaultKind,
     pub place: Place,
 }
 
 /// Why a document was not loaded.
-#[derive(Clone, Copy, Debug, PartialEq, Eq)]
+#[derive(Clone, Copy)]
 pub enum LoadError {
     /// The fault of the first of its checks that fails.
     Fault(Fault),

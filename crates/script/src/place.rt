@@ -1,7 +1,7 @@
 //! Places of a file.
 
 /// A section of the file.
-#[derive(Clone, Copy, Debug, PartialEq, Eq)]
+#[derive(Clone, Copy)]
 pub enum Section {
     Start,
     Limits,
@@ -41,7 +41,7 @@ impl Section {
 }
 
 /// A key of a section.
-#[derive(Clone, Copy, Debug, PartialEq, Eq)]
+#[derive(Clone, Copy)]
 pub enum Key {
     Ticks,
     Steps,
@@ -83,7 +83,7 @@ impl Key {
 }
 
 /// A word of a place.
-#[derive(Clone, Copy, Debug, PartialEq, Eq)]
+#[derive(Clone, Copy)]
 pub enum PlaceWord {
     Name(&'static str),
     Index(usize),
@@ -91,7 +91,7 @@ pub enum PlaceWord {
 
 /// Where in the file: the section, the index of the entry, the key, the index inside the key's array. Parts that do
 /// not apply are left out.
-#[derive(Clone, Copy, Debug, PartialEq, Eq)]
+#[derive(Clone, Copy)]
 pub struct Place {
     pub section: Section,
     pub entry: Option<usize>,

@@ -1,7 +1,7 @@
 use Rattle.deal_checks.proofs.dealing.a_lane_steals.Goals as goal
 
 pub loop-number-preserved : goal.loop-number-preserved
-loop-number-preserved g c = c.turn.ensures c.in_ok-deal.deal c.loop-number.invariant
+loop-number-preserved g c = c.is_answered.ensures c.in_ok-deal.deal c.loop-number.invariant
 
 pub close-closed-requires : goal.close-closed-requires
-close-closed-requires g c = c.turn-3.ensures c.in_ok-deal.deal (c.turn-2.ensures c.in_ok-deal.deal c.loop-number.invariant)
+close-closed-requires g c = c.is_answered-3.ensures c.in_ok-deal.deal (c.is_answered-2.ensures c.in_ok-deal.deal c.loop-number.invariant)

@@ -4,4 +4,4 @@ use Rattle.deal_checks.proofs.dealing.what_a_missing_lane_took_is_in_the_rest.Go
 pub close-closed-requires : goal.close-closed-requires
 close-closed-requires g c =
     let deal : Game = c.in_ok-deal.deal in
-    c.lose_last.ensures deal (c.turn-2.ensures deal (c.turn.ensures deal c.in_ok-deal.ensures.of))
+    c.lose_last.ensures deal (c.is_answered-2.ensures deal (c.is_answered.ensures deal c.in_ok-deal.ensures.of))
