@@ -289,6 +289,27 @@ impl Dice {
         }
     }
 
+    /// Adds a task of this name.
+    fn add_task(
+        &mut self,
+        tasks: &mut Vec<TaskDefinition>,
+        alloc: Global,
+        name: &str,
+        objects: &[ObjectKind],
+    ) -> Option<()>
+        requires name { length name.now ≤ 16 }
+        requires few { length objects.now ≤ 4 }
+        ensures one { IfSome result (λ _. length tasks.new.items ≡ length tasks.old.items + 1) }
+        ensures tasks { IfSome result (λ _.
+            AllByRecursion IsDefinition tasks.old.items → AllByRecursion IsDefinition tasks.new.items) }
+        ensures known { IfSome result (λ _.
+            AllByRecursion (λ (d : Definition). AreKnown objects.now d.script) tasks.old.items
+            → AllByRecursion (λ (d : Definition). AreKnown objects.now d.script) tasks.new.items) }
+    {
+        let task = self.task(alloc, name, objects)?;
+        tasks.push(task).ok()
+    }
+
     /// Four tasks of priorities 0 to 3.
     fn tasks(&mut self, alloc: Global, objects: &[ObjectKind]) -> Option<Vec<TaskDefinition>>
         requires { length objects.now ≤ 4 }
@@ -300,16 +321,16 @@ impl Dice {
         let mut tasks = Vec::new(alloc);
         let (early, late) = self.roles();
         self.role = early;
-        tasks.push(self.task(alloc, "a", objects)?).ok()?;
+        self.add_task(&mut tasks, alloc, "a", objects)?;
         self.is_late = self.theme == Theme::Contest;
         self.present = 1;
-        tasks.push(self.task(alloc, "b", objects)?).ok()?;
+        self.add_task(&mut tasks, alloc, "b", objects)?;
         self.role = late;
         self.is_late = self.theme != Theme::Any;
         self.present = 2;
-        tasks.push(self.task(alloc, "c", objects)?).ok()?;
+        self.add_task(&mut tasks, alloc, "c", objects)?;
         self.present = 3;
-        tasks.push(self.task(alloc, "d", objects)?).ok()?;
+        self.add_task(&mut tasks, alloc, "d", objects)?;
         Some(tasks)
     }
 

@@ -60,15 +60,9 @@ fn push_condition(file: &mut String, condition: Condition) -> Result<(), AllocEr
     push_word(file, if condition.clear { "clear" } else { "keep" })
 }
 
-// The words of an op behind its first.
-fn push_rest(file: &mut String, app: &App, op: &Op) -> Result<(), AllocError> {
+// The words of an op on an object behind its first. Any other op has none.
+fn push_rest_on_object(file: &mut String, op: &Op) -> Result<(), AllocError> {
     match *op {
-        Op::Work(number) | Op::Delay(number) | Op::DelayUntil(number) | Op::Mark(number) => {
-            push_number(file, number)
-        }
-        Op::Repeat(turns) => push_number(file, turns as u32),
-        Op::Expect(answer) => push_number_or(file, answer, "none"),
-        Op::Yield | Op::Time | Op::End | Op::SuspendAll | Op::ResumeAll => Ok(()),
         Op::Await(object, access, ticks) => {
             push_access(file, object, access)?;
             push_number_or(file, ticks, "forever")
@@ -78,6 +72,13 @@ fn push_rest(file: &mut String, app: &App, op: &Op) -> Result<(), AllocError> {
         Op::MessagesWaiting(object) | Op::SpacesAvailable(object) => {
             push_name(file, "q", object.number)
         }
+        _ => Ok(()),
+    }
+}
+
+// Those of an op on an event group. Any other is one on an object, or has none.
+fn push_rest_on_group(file: &mut String, op: &Op) -> Result<(), AllocError> {
+    match *op {
         Op::SetBits(group, mask) | Op::ClearBits(group, mask) => {
             push_name(file, "e", group.number)?;
             push_number(file, mask)
@@ -88,7 +89,20 @@ fn push_rest(file: &mut String, app: &App, op: &Op) -> Result<(), AllocError> {
             push_condition(file, condition)?;
             push_number_or(file, ticks, "forever")
         }
+        _ => push_rest_on_object(file, op),
+    }
+}
+
+// Those of any op.
+fn push_rest(file: &mut String, app: &App, op: &Op) -> Result<(), AllocError> {
+    match *op {
+        Op::Work(number) | Op::Delay(number) | Op::DelayUntil(number) | Op::Mark(number) => {
+            push_number(file, number)
+        }
+        Op::Repeat(turns) => push_number(file, turns as u32),
+        Op::Expect(answer) => push_number_or(file, answer, "none"),
         Op::Suspend(task) | Op::Resume(task) => push_word(file, app.name(task)),
+        _ => push_rest_on_group(file, op),
     }
 }
 
