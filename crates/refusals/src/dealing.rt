@@ -2,7 +2,7 @@
 ghost use Rattle.std.specs.Prelude.{IfOk};
 
 use crate::fault::Fault;
-use deal::{Counts, Deal, Division, Next, Tally};
+use deal::{Counts, Deal, Division, Lane, Next, Tally};
 use std::alloc::Global;
 
 /// Ten points in blocks of three.
@@ -13,15 +13,20 @@ pub(crate) fn divided(alloc: Global) -> Result<Division, Fault> {
     }
 }
 
-/// What the first of two lanes is answered at first.
-pub(crate) fn dealt(alloc: Global) -> Result<Next, Fault> {
-    let division = divided(alloc)?;
-    let Ok((_deal, mut lanes)) = Deal::new(alloc, division, 2) else {
-        return Err(Fault::Memory);
-    };
+// What the first of these lanes is answered.
+fn first_next(lanes: &mut Vec<Lane>) -> Result<Next, Fault> {
     match lanes.first_mut() {
         Some(lane) => Ok(lane.next()),
         None => Err(Fault::Other),
+    }
+}
+
+/// What the first of two lanes is answered at first.
+pub(crate) fn dealt(alloc: Global) -> Result<Next, Fault> {
+    let division = divided(alloc)?;
+    match Deal::new(alloc, division, 2) {
+        Ok((_deal, mut lanes)) => first_next(&mut lanes),
+        Err(_) => Err(Fault::Memory),
     }
 }
 

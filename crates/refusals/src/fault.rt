@@ -3,7 +3,7 @@ use campaign::{ExpandFault, ServeFault};
 use script::LoadError;
 
 /// Memory was refused; or there is another fault, which no call here has.
-#[derive(Clone, Copy, Debug, PartialEq, Eq)]
+#[derive(Clone, Copy)]
 pub(crate) enum Fault {
     Memory,
     Other,

@@ -4,41 +4,44 @@
 //! time: a call answers `Memory`, and leaves what it was given as it was, or gives what it gives with ample memory.
 #![tactic(auto)]
 
+ghost use Rattle.shelf.specs.Shelves.{IsShelf};
+
+mod again;
 mod dealing;
 mod fault;
 mod runs;
 
-use crate::dealing::{counted, dealt, divided};
+use crate::again::{
+    app_again, base_again, blocks_again, counts_again, next_again, report_again, row_again,
+    serve_again, shelf_again,
+};
 use crate::fault::Fault;
-use crate::runs::{base_run, loaded, report_of, row_of, served, shelf_of, show_report, show_run};
+use crate::runs::{show_report, show_run};
+use deal::{Counts, Next};
 use model::{App, Run};
 use report::Title;
+use shelf::Shelf;
 use std::process::ExitCode;
 use std::sync::Wait;
 use std::thread::Threads;
 
-// What a call gives, at the second time where memory was refused at the first.
-macro_rules! again {
-    ($call:expr) => {
-        match $call {
-            Err(Fault::Memory) => $call?,
-            Err(fault) => return Err(fault),
-            Ok(given) => given,
-        }
+fn row(rt: &HostRuntime, app: &App, shelf: &Shelf, step: u32) -> Result<(), Fault>
+    requires { IsShelf app.now shelf.now }
+{
+    let row = row_again(rt.alloc(), app, shelf, step)?;
+    let title = Title::Row {
+        number: step,
+        point: row.point,
+        reached: row.reached,
     };
+    show_run(rt, app, title, &row.run)
 }
 
 // Rows from one shelf: their points reached and not.
 fn rows(rt: &HostRuntime, app: &App) -> Result<(), Fault> {
-    let shelf = again!(shelf_of(rt.alloc(), app));
+    let shelf = shelf_again(rt.alloc(), app)?;
     for step in [0, 7, 90] {
-        let row = again!(row_of(rt.alloc(), app, &shelf, step));
-        let title = Title::Row {
-            number: step,
-            point: row.point,
-            reached: row.reached,
-        };
-        show_run(rt, app, title, &row.run)?;
+        row(rt, app, &shelf, step)?;
     }
     Ok(())
 }
@@ -49,25 +52,28 @@ fn campaigns<T: Threads + Wait + Sync>(
     app: &App,
     base: &Run,
 ) -> Result<(), Fault> {
-    let report = again!(report_of(threads, rt.alloc(), app, base));
+    let report = report_again(threads, rt.alloc(), app, base)?;
     show_report(rt, app, &report)?;
-    again!(served(rt, threads));
-    Ok(())
+    serve_again(rt, threads)
 }
 
-fn deals(rt: &HostRuntime) -> Result<(), Fault> {
-    let blocks = again!(divided(rt.alloc())).count();
-    let next = again!(dealt(rt.alloc()));
-    let counts = again!(counted(rt.alloc()));
+fn show_deals(rt: &HostRuntime, blocks: usize, next: Next, counts: Counts) -> Result<(), Fault> {
     match println!(rt; "{blocks} blocks, {next:?}, {counts:?}") {
         Ok(()) => Ok(()),
         Err(_) => Err(Fault::Other),
     }
 }
 
+fn deals(rt: &HostRuntime) -> Result<(), Fault> {
+    let blocks = blocks_again(rt.alloc())?;
+    let next = next_again(rt.alloc())?;
+    let counts = counts_again(rt.alloc())?;
+    show_deals(rt, blocks, next, counts)
+}
+
 fn all<T: Threads + Wait + Sync>(rt: &HostRuntime, threads: &T) -> Result<(), Fault> {
-    let app = again!(loaded(rt.alloc()));
-    let base = again!(base_run(rt.alloc(), &app));
+    let app = app_again(rt.alloc())?;
+    let base = base_again(rt.alloc(), &app)?;
     show_run(rt, &app, Title::Base, &base)?;
     rows(rt, &app)?;
     campaigns(rt, threads, &app, &base)?;
