@@ -1,5 +1,5 @@
 //! Handlers, and base interrupts.
-ghost use Rattle.std.specs.Prelude.{◌≤◌, ◌≡◌, Some, IfSome, length};
+ghost use Rattle.std.specs.Prelude.{◌+◌, ◌≤◌, ◌≡◌, Some, IfSome, length};
 ghost use Rattle.std.specs.List.{AllByRecursion, slice_get};
 ghost use Rattle.model.specs.declared.object.ObjectKind.TheVariants as of_kind;
 ghost use Rattle.comparison.specs.Known.{AreInterrupts, IsKnownHandler, IsKnownIsr};
@@ -107,6 +107,25 @@ impl Dice {
         Some(HandlerDefinition::new(name, ops))
     }
 
+    /// Adds a handler of this name.
+    fn add_handler(
+        &mut self,
+        handlers: &mut Vec<HandlerDefinition>,
+        alloc: Global,
+        name: &str,
+        objects: &[ObjectKind],
+    ) -> Option<()>
+        requires name { length name.now ≤ 16 }
+        requires few { length objects.now ≤ 4 }
+        ensures one { IfSome result (λ _. length handlers.new.items ≡ length handlers.old.items + 1) }
+        ensures known { IfSome result (λ _.
+            AllByRecursion (IsKnownHandler objects.now) handlers.old.items
+            → AllByRecursion (IsKnownHandler objects.now) handlers.new.items) }
+    {
+        let handler = self.handler(alloc, name, objects)?;
+        handlers.push(handler).ok()
+    }
+
     /// Three handlers.
     pub(super) fn handlers(
         &mut self,
@@ -119,9 +138,9 @@ impl Dice {
             AllByRecursion (IsKnownHandler objects.now) handlers.items) }
     {
         let mut handlers = Vec::new(alloc);
-        handlers.push(self.handler(alloc, "f", objects)?).ok()?;
-        handlers.push(self.handler(alloc, "g", objects)?).ok()?;
-        handlers.push(self.handler(alloc, "h", objects)?).ok()?;
+        self.add_handler(&mut handlers, alloc, "f", objects)?;
+        self.add_handler(&mut handlers, alloc, "g", objects)?;
+        self.add_handler(&mut handlers, alloc, "h", objects)?;
         Some(handlers)
     }
 

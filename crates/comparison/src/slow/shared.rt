@@ -113,6 +113,11 @@ impl Object {
     }
 }
 
+/// A number of items as one that a call answers.
+fn number_of(items: usize) -> u32 {
+    u32::try_from(items).unwrap_or(u32::MAX)
+}
+
 impl SlowKernel {
     pub(super) fn make_objects(&mut self, alloc: Global, app: &App) {
         for kind in app.objects() {
@@ -128,8 +133,7 @@ impl SlowKernel {
         };
         let items = queue.items.len();
         let room = queue.length.saturating_sub(items);
-        let [items, room] = [items, room].map(|n| u32::try_from(n).unwrap_or(u32::MAX));
-        (items, room)
+        (number_of(items), number_of(room))
     }
 
     pub(super) fn is_possible(&self, object: u8, access: Access) -> bool {
