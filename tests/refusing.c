@@ -1,5 +1,5 @@
-/* Stands before the system's allocator, and refuses the growth of one number: REFUSED, counted from 1. Where there was no growth
-   of that number it says so at the end, on file descriptor 9. */
+/* Stands before the system's allocator, and refuses the growth of one number: REFUSED, counted from 1. It says so on file
+   descriptor 9. */
 #define _GNU_SOURCE
 #include <dlfcn.h>
 #include <errno.h>
@@ -18,6 +18,8 @@ static int is_refused(void)
     }
     if (++growths != refused)
         return 0;
+    if (write(9, "refused", 7) != 7)
+        _exit(99);
     errno = ENOMEM;
     return 1;
 }
@@ -36,10 +38,4 @@ void *realloc(void *old, size_t size)
     if (!next)
         next = (void *(*)(void *, size_t))dlsym(RTLD_NEXT, "realloc");
     return is_refused() ? NULL : next(old, size);
-}
-
-__attribute__((destructor)) static void end(void)
-{
-    if (growths < refused && write(9, "none", 4) != 4)
-        _exit(99);
 }
