@@ -17,4 +17,6 @@ mod random;
 #[cfg(test)]
 mod slow;
 #[cfg(test)]
+mod watching;
+#[cfg(test)]
 mod working;
