@@ -2,13 +2,13 @@
 ghost use Rattle.std.specs.Prelude.{◌≡◌, ◌<◌, ◌≤◌, length, sum};
 ghost use Rattle.model.specs.Scripts.{most_points};
 
-use crate::dice::Dice;
 use crate::file::{file_of, points_text};
 use crate::random::loaded;
 use crate::working::{Manner, campaign_in, divided, points_at};
 use byte_io::ToWriter;
 use campaign::{NoGate, write_report};
 use deal::Division;
+use dice::Dice;
 use model::{App, End, HandlerId, Memory, Meter, Plan, Point, Run};
 use report::{Title, write_run};
 use std::alloc::Global;

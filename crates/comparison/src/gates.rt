@@ -1,8 +1,8 @@
 //! What the gate of a campaign is told, and when.
-use crate::dice::Dice;
 use crate::working::{Manner, campaign_in, divided, points_at};
 use campaign::Gate;
 use deal::Counts;
+use dice::Dice;
 use std::alloc::Global;
 use std::process::Abort;
 use std::sync::Wait;

@@ -5,8 +5,6 @@
 #[cfg(test)]
 mod campaigns;
 #[cfg(test)]
-mod dice;
-#[cfg(test)]
 mod file;
 #[cfg(test)]
 mod gates;
@@ -14,8 +12,6 @@ mod gates;
 mod planner;
 #[cfg(test)]
 mod random;
-#[cfg(test)]
-mod slow;
 #[cfg(test)]
 mod watching;
 #[cfg(test)]

@@ -1,8 +1,8 @@
 //! Plans that are made while the slow program runs, so that many of their points lie inside calls.
 
-use crate::dice::Dice;
-use crate::slow::SlowKernel;
+use dice::Dice;
 use model::{App, End, HandlerId, Limits, Point};
+use slow::SlowKernel;
 use std::alloc::Global;
 
 /// How many points were made.

@@ -1,11 +1,11 @@
 //! Runs of the kernel beside runs of the slow program, on many small applications.
 
-use crate::dice::Dice;
 use crate::file::{file_of, points_text};
 use crate::planner::{Planner, Points};
-use crate::slow::SlowKernel;
+use dice::Dice;
 use model::{App, HandlerDefinition, Meter, Plan, TaskDefinition};
 use script::FromDocument;
+use slow::SlowKernel;
 use std::alloc::Global;
 use std::process::Abort;
 

@@ -1,10 +1,10 @@
 //! A campaign's tally, as it is seen while the rows are made.
 ghost use Rattle.std.specs.Prelude.{◌≡◌};
 
-use crate::dice::Dice;
 use crate::working::{divided, points_at};
 use campaign::{Gate, campaign};
 use deal::{Counts, Tally, TallySeat};
+use dice::Dice;
 use model::Totals;
 use std::process::Abort;
 use std::sync::{Mutex, Wait};

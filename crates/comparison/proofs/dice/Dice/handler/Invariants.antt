@@ -1,7 +1,0 @@
-use Rattle.std.proofs.Common.{◌≤◌, length}
-use Rattle.std.specs.List.{AllByRecursion}
-use Rattle.comparison.specs.Known.{IsKnownIsr}
-use Rattle.comparison.proofs.dice.Dice.handler.Given as goal
-
-abbrev pub invariant-loop : goal.invariant-loop
-invariant-loop l = (length l.ops.items ≤ l.counter) × AllByRecursion (IsKnownIsr l.objects) l.ops.items

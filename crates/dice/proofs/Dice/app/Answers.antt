@@ -1,0 +1,48 @@
+use Rattle.std.proofs.Common.{arith, ◌-◌, ◌≤◌, refl, subst, sym, length, List}
+use Rattle.std.specs.List.{AllByRecursion}
+use Rattle.model.specs.declared.object.ObjectKind.{ObjectKind}
+use Rattle.model.specs.Application.{Application, Definition, Handler}
+use Rattle.model.specs.declared.plan.PointEntry.{PointEntry}
+use Rattle.model.specs.Scripts.{IsPointEntry, most_points}
+use Rattle.dice.specs.Known.{AreKnown, IsKnownHandler}
+use Rattle.dice.proofs.Known.{are_handlers, are_interrupts, few_at, known_all}
+use Rattle.dice.proofs.Dice.app.Goals as goal
+
+pub new-requires-2 : goal.new-requires-2
+new-requires-2 c =
+    let kinds : List ObjectKind = c.in_ok-objects.objects.items in
+    let handlers : List Handler = c.in_ok-handlers.handlers.items in
+    let tasks : List Definition = c.in_ok-tasks.tasks.items in
+    let app : Application = record {
+      start = 4294967295 - c.roll-start.result;
+      limits = c.in_ok-limits.limits;
+      objects = kinds;
+      group_count = 2;
+      handlers = handlers;
+      interrupts = c.in_ok-interrupts.interrupts.items;
+      tasks = tasks;
+      points = c.new-points.result.items;
+    } in
+    let four = c.in_ok-tasks.ensures.four in
+    let objects_few = c.in_ok-objects.ensures.few in
+    let three = c.in_ok-handlers.ensures.three in
+    let few = c.in_ok-interrupts.ensures.few in
+    let formed = c.in_ok-interrupts.ensures.formed in
+    record {
+      some = omega arith;
+      few = omega arith;
+      tasks = c.in_ok-tasks.ensures.tasks;
+      objects = c.in_ok-objects.ensures.kinds;
+      few_objects = omega arith;
+      few_groups = omega arith;
+      handlers = are_handlers app kinds refl refl four handlers (subst (λ (objects : List ObjectKind). AllByRecursion (IsKnownHandler objects) handlers) c.as_slice-2.ensures.value c.in_ok-handlers.ensures.known);
+      few_handlers = omega arith;
+      interrupts = are_interrupts app three c.in_ok-interrupts.interrupts.items formed.first formed.last formed.known;
+      few_interrupts = omega arith;
+      few_at_once = λ tick. let here = few_at app tick in omega arith;
+      in_order = formed.in_order;
+      known = known_all app refl four tasks (subst (λ (objects : List ObjectKind). AllByRecursion (λ (d : Definition). AreKnown objects d.script) tasks) c.as_slice.ensures.value c.in_ok-tasks.ensures.known);
+      points = subst (AllByRecursion (IsPointEntry app)) (sym c.new-points.ensures.items) tt;
+      few_points = subst (λ (points : List PointEntry). length points ≤ most_points) (sym c.new-points.ensures.items) (omega arith);
+      start = omega arith;
+    }

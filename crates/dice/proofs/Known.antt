@@ -1,0 +1,137 @@
+-- Ops that an application of given objects, two event groups and four tasks knows.
+use Rattle.std.proofs.Common.{◌≡◌, ◌≤◌, ◌<◌, ◌+◌, ℕ, Bool, ap, arith, length, length-append, refl, true, List, [], ◌∷◌, ◌++◌, Option, Some, None, sym, subst}
+use Rattle.std.specs.Prelude.{Result, Ok, Err, OnOk, OnErr, filter, nat_eq, nat_lt}
+use Rattle.std.specs.List.{AllByRecursion}
+use Rattle.std.specs.Option.{IfSome}
+use Rattle.model.specs.declared.object.ObjectKind.{ObjectKind}
+use Rattle.model.specs.declared.op.Op.{Op}
+use Rattle.std.proofs.lemmas.Bool.{lt-ltb}
+use Rattle.std.proofs.lemmas.List.{length-map}
+use Rattle.model.specs.declared.op.IsrOp.{IsrOp}
+use Rattle.model.specs.Application.{Application, Definition, Handler, Interrupt, interrupts_at}
+use Rattle.model.specs.Scripts.{IsScript, IsHandler, IsInterrupt, InOrder, KnowsAll, knows, knows_isr, most_handler_ops, most_name_bytes}
+use Rattle.model.proofs.Sorting.{by_test}
+use Rattle.dice.specs.Known.{AreInterrupts, AreKnown, IsKnown, IsKnownHandler, IsKnownIsr}
+
+known-end : (app : Application) (ops : List Op) (op : Op) → AllByRecursion (λ op. knows app op ≡ true) ops → knows app op ≡ true → AllByRecursion (λ op. knows app op ≡ true) (ops ++ op ∷ [])
+known-end app [] op h k = (k, tt)
+known-end app (o ∷ ops) op h k = (h.0, known-end app ops op h.1 k)
+
+-- a script to which an op was pushed, or not
+pub known-pushed : {A B : Type 0} (objects : List ObjectKind) (old new : List Op) (op : Op) (result : Result A B) → OnOk result (new ≡ old ++ op ∷ []) → OnErr result (new ≡ old) → AreKnown objects old → IsKnown objects op → AreKnown objects new
+known-pushed objects old new op (Ok x) ok err h k = subst (AreKnown objects) (sym ok) (λ app same two four. known-end app old op (h app same two four) (k app same two four))
+known-pushed objects old new op (Err e) ok err h k = subst (AreKnown objects) (sym err) h
+
+pub few-pushed : {A B : Type 0} (old new : List Op) (op : Op) (result : Result A B) → OnOk result (new ≡ old ++ op ∷ []) → OnErr result (new ≡ old) → length new ≤ length old + 1
+few-pushed old new op (Ok x) ok err = let n = ap length ok in omega (arith, n, length-append old (op ∷ []))
+few-pushed old new op (Err e) ok err = let n = ap length err in omega (arith, n)
+
+pub known-finished : (objects : List ObjectKind) (o : Option (List Op)) (ops : List Op) → IfSome o (λ script. (script ≡ ops) × IsScript script) → AreKnown objects ops → IfSome o (λ script. AreKnown objects script)
+known-finished objects None ops h k = tt
+known-finished objects (Some script) ops h k = subst (AreKnown objects) (sym h.0) k
+
+-- such an application knows all ops of such tasks
+pub known_all : (app : Application) → app.group_count ≡ 2 → length app.tasks ≡ 4 → (tasks : List Definition)
+    → AllByRecursion (λ (d : Definition). AreKnown app.objects d.script) tasks → AllByRecursion (KnowsAll app) tasks
+known_all app two four [] h = tt
+known_all app two four (d ∷ ds) h = (h.0 app refl two four, known_all app two four ds h.1)
+
+-- ---- groups and tasks
+
+-- one of two event groups
+pub knows_group : (app : Application) (group : ℕ) → app.group_count ≡ 2 → group < 2 → nat_lt group app.group_count ≡ true
+knows_group app group two first = lt-ltb group app.group_count (omega arith)
+
+-- one of four tasks
+pub knows_task : (app : Application) (task : ℕ) → length app.tasks ≡ 4 → task < 4 → nat_lt task (length app.tasks) ≡ true
+knows_task app task four first = lt-ltb task (length app.tasks) (omega arith)
+
+-- ---- handlers
+
+known_ops : (app : Application) (objects : List ObjectKind) → app.objects ≡ objects → app.group_count ≡ 2 → length app.tasks ≡ 4
+    → (ops : List IsrOp) → AllByRecursion (IsKnownIsr objects) ops → AllByRecursion (λ op. knows_isr app op ≡ true) ops
+known_ops app objects same two four [] h = tt
+known_ops app objects same two four (op ∷ ops) h = (h.0 app same two four, known_ops app objects same two four ops h.1)
+
+-- a handler of a short name and few ops that are known
+pub known_handler : (objects : List ObjectKind) (handler : Handler) → length handler.name ≤ most_name_bytes
+    → length handler.ops ≤ most_handler_ops → AllByRecursion (IsKnownIsr objects) handler.ops → IsKnownHandler objects handler
+known_handler objects handler name few known app same two four = record {
+  name = name;
+  few = few;
+  known = known_ops app objects same two four handler.ops known;
+}
+
+pub are_handlers : (app : Application) (objects : List ObjectKind) → app.objects ≡ objects → app.group_count ≡ 2
+    → length app.tasks ≡ 4 → (handlers : List Handler) → AllByRecursion (IsKnownHandler objects) handlers
+    → AllByRecursion (IsHandler app) handlers
+are_handlers app objects same two four [] h = tt
+are_handlers app objects same two four (handler ∷ handlers) h =
+    (h.0 app same two four, are_handlers app objects same two four handlers h.1)
+
+-- ---- base interrupts
+
+all_at_end : (P : Interrupt → Type 0) (is : List Interrupt) (i : Interrupt) → AllByRecursion P is → P i → AllByRecursion P (is ++ i ∷ [])
+all_at_end P [] i h p = (p, tt)
+all_at_end P (j ∷ js) i h p = (h.0, all_at_end P js i h.1 p)
+
+up_to_more : (m n : ℕ) → m ≤ n → (is : List Interrupt) → AllByRecursion (λ (i : Interrupt). i.tick ≤ m) is
+    → AllByRecursion (λ (i : Interrupt). i.tick ≤ n) is
+up_to_more m n more [] h = tt
+up_to_more m n more (i ∷ is) h = (let here = h.0 in omega arith, up_to_more m n more is h.1)
+
+order_at_end : (is : List Interrupt) (i : Interrupt) → InOrder is → AllByRecursion (λ (j : Interrupt). j.tick ≤ i.tick) is
+    → InOrder (is ++ i ∷ [])
+order_at_end [] i h last = (tt, tt)
+order_at_end (j ∷ js) i h last =
+    (all_at_end (λ (k : Interrupt). j.tick ≤ k.tick) js i h.0 last.0, order_at_end js i h.1 last.1)
+
+pub none_yet : (tick : ℕ) → AreInterrupts tick []
+none_yet tick = record { first = tt; last = tt; known = tt; in_order = tt }
+
+-- one more, which comes last
+pub one_more : (tick : ℕ) (is : List Interrupt) (i : Interrupt) → AreInterrupts tick is → 1 ≤ i.tick → tick ≤ i.tick → i.handler < 3
+    → AreInterrupts i.tick (is ++ i ∷ [])
+one_more tick is i h first later known =
+    let before = up_to_more tick i.tick later is h.last in
+    record {
+      first = all_at_end (λ (j : Interrupt). 1 ≤ j.tick) is i h.first first;
+      last = all_at_end (λ (j : Interrupt). j.tick ≤ i.tick) is i before (omega arith);
+      known = all_at_end (λ (j : Interrupt). j.handler < 3) is i h.known known;
+      in_order = order_at_end is i h.in_order before;
+    }
+
+-- the same, with a later bound
+pub up_to_later : (m n : ℕ) → m ≤ n → (is : List Interrupt) → AreInterrupts m is → AreInterrupts n is
+up_to_later m n more is h = record {
+  first = h.first;
+  last = up_to_more m n more is h.last;
+  known = h.known;
+  in_order = h.in_order;
+}
+
+pub are_interrupts : (app : Application) → length app.handlers ≡ 3 → (is : List Interrupt)
+    → AllByRecursion (λ (i : Interrupt). 1 ≤ i.tick) is → AllByRecursion (λ (i : Interrupt). i.tick ≤ 26) is
+    → AllByRecursion (λ (i : Interrupt). i.handler < 3) is → AllByRecursion (IsInterrupt app) is
+are_interrupts app three [] first last known = tt
+are_interrupts app three (i ∷ is) first last known = (
+  record {
+    first = first.0;
+    last = let here = last.0 in omega arith;
+    handler = subst (λ n. i.handler < n) (sym three) known.0;
+  },
+  are_interrupts app three is first.1 last.1 known.1,
+)
+
+few_pass : (p : Interrupt → Bool) (is : List Interrupt) → length (filter p is) ≤ length is
+few_pass p [] = omega arith
+few_pass p (i ∷ is) = by_test (p i)
+    (λ t. let others = few_pass p is in rw t (omega arith))
+    (λ t. let others = few_pass p is in rw t (omega arith))
+
+-- at a tick no more than all
+pub few_at : (app : Application) (tick : ℕ) → length (interrupts_at app tick) ≤ length app.interrupts
+few_at app tick =
+    let passing = few_pass (λ (i : Interrupt). nat_eq i.tick tick) app.interrupts in
+    let same = length-map (filter (λ (i : Interrupt). nat_eq i.tick tick) app.interrupts) (λ (i : Interrupt). i.handler) in
+    omega arith

@@ -1,0 +1,165 @@
+//! Handlers, and base interrupts.
+ghost use Rattle.std.specs.Prelude.{◌+◌, ◌≤◌, ◌≡◌, Some, IfSome, length};
+ghost use Rattle.std.specs.List.{AllByRecursion, slice_get};
+ghost use Rattle.model.specs.declared.object.ObjectKind.TheVariants as of_kind;
+ghost use Rattle.dice.specs.Known.{AreInterrupts, IsKnownHandler, IsKnownIsr};
+
+use super::{Dice, Role, Theme};
+use model::{Access, HandlerDefinition, HandlerId, Interrupt, IsrOp, ObjectId, ObjectKind};
+use std::alloc::Global;
+
+impl Dice {
+    /// A call of a handler on this queue, which has this length.
+    fn isr_queue_call(&mut self, objects: &[ObjectKind], queue: ObjectId, length: u16) -> IsrOp
+        requires { slice_get objects.now queue ≡ Some (of_kind.Queue length) }
+        ensures { IsKnownIsr objects.now result }
+    {
+        let _ = objects;
+        if length == 1 && self.roll(4) == 0 {
+            return IsrOp::Do(queue, Access::Overwrite(self.roll(9)));
+        }
+        IsrOp::Do(queue, self.queue_access(length))
+    }
+
+    /// A call of a handler on this object, if there is one.
+    fn isr_call_on(
+        &mut self,
+        objects: &[ObjectKind],
+        object: ObjectId,
+        kind: ObjectKind,
+    ) -> Option<IsrOp>
+        requires { slice_get objects.now object ≡ Some kind }
+        ensures { IfSome result (λ op. IsKnownIsr objects.now op) }
+    {
+        match kind {
+            ObjectKind::Queue(length) => Some(self.isr_queue_call(objects, object, length)),
+            ObjectKind::Semaphore(_, _) => Some(IsrOp::Do(object, Access::Give)),
+            ObjectKind::Mutex => None,
+        }
+    }
+
+    /// A call of a handler on some object, if there is one.
+    fn isr_call(&mut self, objects: &[ObjectKind]) -> Option<IsrOp>
+        requires { length objects.now ≤ 4 }
+        ensures { IfSome result (λ op. IsKnownIsr objects.now op) }
+    {
+        let object = self.object_number(objects)?;
+        let kind = objects.get(object.number as usize).copied()?;
+        self.isr_call_on(objects, object, kind)
+    }
+
+    /// An op of a handler that resumes a task, or asks for the bits of a group.
+    #[tactic(auto, using(crate::proofs::Known::knows_group, crate::proofs::Known::knows_task))]
+    fn isr_resume(&mut self, objects: &[ObjectKind]) -> IsrOp
+        ensures { IsKnownIsr objects.now result }
+    {
+        let _ = objects;
+        if self.roll(4) == 0 {
+            IsrOp::GetBits(self.group())
+        } else {
+            IsrOp::Resume(self.some_task())
+        }
+    }
+
+    /// Whether the next op of a handler speaks of a task or a group: never where tasks crowd about objects or contend for
+    /// them, often where they are suspended.
+    fn resumes(&mut self) -> bool {
+        match self.theme {
+            Theme::Crowd | Theme::Contest => false,
+            Theme::Any | Theme::Gathering => self.roll(4) == 0,
+            Theme::Suspension => self.roll(2) == 0,
+        }
+    }
+
+    fn isr_op(&mut self, objects: &[ObjectKind]) -> IsrOp
+        requires { length objects.now ≤ 4 }
+        ensures { IsKnownIsr objects.now result }
+    {
+        if self.resumes() {
+            return self.isr_resume(objects);
+        }
+        if self.roll(8) > 0 {
+            if let Some(op) = self.isr_call(objects) {
+                return op;
+            }
+        }
+        IsrOp::Mark(self.roll(10))
+    }
+
+    /// A handler of up to five ops.
+    fn handler(
+        &mut self,
+        alloc: Global,
+        name: &str,
+        objects: &[ObjectKind],
+    ) -> Option<HandlerDefinition>
+        requires name { length name.now ≤ 16 }
+        requires few { length objects.now ≤ 4 }
+        ensures { IfSome result (λ handler. IsKnownHandler objects.now handler) }
+    {
+        self.role = Role::Any;
+        let mut ops = Vec::new(alloc);
+        let length = self.roll(6);
+        for _ in 0..length {
+            ops.push(self.isr_op(objects)).ok()?;
+        }
+        let name = String::from_str(alloc, name).ok()?;
+        Some(HandlerDefinition::new(name, ops))
+    }
+
+    /// Adds a handler of this name.
+    fn add_handler(
+        &mut self,
+        handlers: &mut Vec<HandlerDefinition>,
+        alloc: Global,
+        name: &str,
+        objects: &[ObjectKind],
+    ) -> Option<()>
+        requires name { length name.now ≤ 16 }
+        requires few { length objects.now ≤ 4 }
+        ensures one { IfSome result (λ _. length handlers.new.items ≡ length handlers.old.items + 1) }
+        ensures known { IfSome result (λ _.
+            AllByRecursion (IsKnownHandler objects.now) handlers.old.items
+            → AllByRecursion (IsKnownHandler objects.now) handlers.new.items) }
+    {
+        let handler = self.handler(alloc, name, objects)?;
+        handlers.push(handler).ok()
+    }
+
+    /// Three handlers.
+    pub(super) fn handlers(
+        &mut self,
+        alloc: Global,
+        objects: &[ObjectKind],
+    ) -> Option<Vec<HandlerDefinition>>
+        requires { length objects.now ≤ 4 }
+        ensures three { IfSome result (λ handlers. length handlers.items ≡ 3) }
+        ensures known { IfSome result (λ handlers.
+            AllByRecursion (IsKnownHandler objects.now) handlers.items) }
+    {
+        let mut handlers = Vec::new(alloc);
+        self.add_handler(&mut handlers, alloc, "f", objects)?;
+        self.add_handler(&mut handlers, alloc, "g", objects)?;
+        self.add_handler(&mut handlers, alloc, "h", objects)?;
+        Some(handlers)
+    }
+
+    /// Up to four base interrupts of three handlers, some of them at one tick.
+    #[tactic(auto, using(crate::proofs::Known::one_more, crate::proofs::Known::none_yet, crate::proofs::Known::up_to_later))]
+    pub(super) fn interrupts(&mut self, alloc: Global) -> Option<Vec<Interrupt>>
+        ensures few { IfSome result (λ interrupts. length interrupts.items ≤ 4) }
+        ensures formed { IfSome result (λ interrupts. AreInterrupts 26 interrupts.items) }
+    {
+        let mut interrupts = Vec::new(alloc);
+        let mut tick = 1;
+        let length = self.roll(5);
+        for _ in 0..length {
+            tick += self.roll(6);
+            let handler = HandlerId {
+                number: self.roll(3) as u8,
+            };
+            interrupts.push(Interrupt { tick, handler }).ok()?;
+        }
+        Some(interrupts)
+    }
+}

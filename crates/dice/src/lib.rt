@@ -1,0 +1,365 @@
+//! Small applications, each from a seed.
+#![tactic(auto)]
+
+ghost use Rattle.std.specs.Prelude.{◌+◌, ◌<◌, ◌≤◌, ◌≡◌, true, IfSome, length};
+ghost use Rattle.std.specs.List.{AllByRecursion};
+ghost use Rattle.model.specs.Application.{Definition};
+ghost use Rattle.model.specs.Scripts.{InRange, IsScript, IsDefinition, is_wait};
+ghost use Rattle.dice.specs.Known.{AreKnown, IsKnown};
+
+use model::{App, Limits, ObjectId, ObjectKind, Op, Script, ScriptBuilder, TaskDefinition, TaskId};
+use std::alloc::Global;
+
+mod calls;
+mod handlers;
+mod kinds;
+mod ops;
+
+/// Numbers that follow from a seed.
+#[derive(Drop)]
+pub struct Dice {
+    state: u32,
+    theme: Theme,
+    /// What the calls of the present task or handler do.
+    role: Role,
+    /// Whether the present task sleeps first, and has the priority of those that don't or a higher one.
+    is_late: bool,
+    /// Which of the objects are mutexes that the present script has locked and not given back yet.
+    held: [bool; 4],
+    /// How often the present script has suspended the scheduler and not resumed it yet.
+    suspensions: u8,
+    /// The number of the present task, and the other task that it has suspended last and not resumed yet.
+    present: u8,
+    suspended: Option<TaskId>,
+}
+
+/// What the tasks of an application do for the most part.
+#[derive(Clone, Copy, PartialEq, Eq)]
+enum Theme {
+    Any,
+    /// They crowd about one queue or semaphore or two, and do little else than to wait there.
+    Crowd,
+    /// They contend for mutexes: those of low priority come first, and work while they hold them.
+    Contest,
+    /// They wait for bits of event groups, and set them.
+    Gathering,
+    /// They suspend and resume each other, and the scheduler.
+    Suspension,
+}
+
+/// What calls do.
+#[derive(Clone, Copy, PartialEq, Eq)]
+enum Role {
+    Any,
+    /// They send to queues, give semaphores and set bits.
+    Sends,
+    /// They receive from queues, take semaphores and wait for bits.
+    Receives,
+}
+
+impl Dice {
+    fn of_theme(seed: u32, theme: Theme) -> Self {
+        Dice {
+            state: seed,
+            theme,
+            role: Role::Any,
+            is_late: false,
+            held: [false; 4],
+            suspensions: 0,
+            present: 0,
+            suspended: None,
+        }
+    }
+
+    /// For applications of all sorts.
+    pub fn new(seed: u32) -> Self {
+        Dice::of_theme(seed, Theme::Any)
+    }
+
+    /// For applications whose tasks crowd about one queue or semaphore or two.
+    pub fn crowding(seed: u32) -> Self {
+        Dice::of_theme(seed, Theme::Crowd)
+    }
+
+    /// For applications whose tasks contend for mutexes.
+    pub fn contending(seed: u32) -> Self {
+        Dice::of_theme(seed, Theme::Contest)
+    }
+
+    /// For applications whose tasks wait for bits of event groups.
+    pub fn gathering(seed: u32) -> Self {
+        Dice::of_theme(seed, Theme::Gathering)
+    }
+
+    /// For applications whose tasks suspend and resume each other, and the scheduler.
+    pub fn suspending(seed: u32) -> Self {
+        Dice::of_theme(seed, Theme::Suspension)
+    }
+
+    /// A number below this one.
+    pub fn roll(&mut self, sides: u32) -> u32
+        requires { 0 < sides }
+        ensures { result < sides }
+    {
+        self.state = self
+            .state
+            .wrapping_mul(1_664_525)
+            .wrapping_add(1_013_904_223);
+        (self.state >> 16) % sides
+    }
+
+    /// How long a call waits: not at all, for some ticks, for ever, or for longer than any run lasts.
+    fn wait(&mut self) -> Option<u32>
+        ensures { is_wait result ≡ true }
+    {
+        let first = match self.theme {
+            Theme::Any => 0,
+            Theme::Crowd => 4,
+            Theme::Contest | Theme::Gathering | Theme::Suspension => 2,
+        };
+        match first + self.roll(8 - first) {
+            0..=1 => Some(0),
+            2..=4 => Some(1 + self.roll(5)),
+            5..=6 => None,
+            _ => Some(4_294_967_294 - self.roll(3)),
+        }
+    }
+
+    /// The first op of a late task: it sleeps, or suspends itself where tasks do that.
+    #[tactic(auto, using(crate::proofs::Known::knows_task))]
+    fn first_op(&mut self, objects: &[ObjectKind]) -> Op
+        ensures range { InRange result }
+        ensures known { IsKnown objects.now result }
+    {
+        let _ = objects;
+        if self.theme == Theme::Suspension && self.roll(2) == 0 {
+            return Op::Suspend(TaskId {
+                number: self.present % 4,
+            });
+        }
+        Op::Delay(1 + self.roll(3))
+    }
+
+    /// The op of this index.
+    fn op_at(&mut self, index: u32, objects: &[ObjectKind]) -> Op
+        requires { length objects.now ≤ 4 }
+        ensures range { InRange result }
+        ensures known { IsKnown objects.now result }
+    {
+        if index == 0 && self.is_late {
+            return self.first_op(objects);
+        }
+        self.op(objects)
+    }
+
+    /// Gives a mutex back that the script still holds, at its end.
+    fn last_unlock(&self, objects: &[ObjectKind], number: u8) -> Option<Op>
+        ensures range { IfSome result (λ op. InRange op) }
+        ensures known { IfSome result (λ op. IsKnown objects.now op) }
+    {
+        let mutex = ObjectId::new(number)?;
+        let kind = objects.get(mutex.number as usize).copied()?;
+        let is_held = self.held.get(mutex.number as usize).copied()?;
+        match kind {
+            ObjectKind::Mutex if is_held => Some(Op::GiveMutex(mutex)),
+            _ => None,
+        }
+    }
+
+    /// Forgets that the present script has suspended the scheduler, once and seldom.
+    fn forget_suspension(&mut self) {
+        if self.suspensions > 0 && self.roll(12) == 0 {
+            self.suspensions = self.suspensions.saturating_sub(1);
+        }
+    }
+
+    /// Resumes the scheduler at the end of a script that has suspended it more often than this.
+    fn last_resume(&self, objects: &[ObjectKind], number: u8) -> Option<Op>
+        ensures range { IfSome result (λ op. InRange op) }
+        ensures known { IfSome result (λ op. IsKnown objects.now op) }
+    {
+        let _ = objects;
+        if number < self.suspensions {
+            Some(Op::ResumeAll)
+        } else {
+            None
+        }
+    }
+
+    /// Resumes the scheduler at the end of a script as often as that has suspended it.
+    fn resume_all(&self, script: &mut ScriptBuilder, objects: &[ObjectKind])
+        requires few { length script.old ≤ 8 }
+        requires known { AreKnown objects.now script.old }
+        ensures few { length script.new ≤ 10 }
+        ensures known { AreKnown objects.now script.new }
+    {
+        for number in 0..2_u8 {
+            self.resume_last(script, objects, number);
+        }
+    }
+
+    /// Resumes the scheduler, where the script has suspended it more often than this.
+    fn resume_last(&self, script: &mut ScriptBuilder, objects: &[ObjectKind], number: u8)
+        requires few { length script.old ≤ 9 }
+        requires known { AreKnown objects.now script.old }
+        ensures few { length script.new ≤ length script.old + 1 }
+        ensures known { AreKnown objects.now script.new }
+    {
+        if let Some(op) = self.last_resume(objects, number) {
+            let _ = script.push(op);
+        }
+    }
+
+    /// Gives back what a script holds at its end.
+    fn unlock_all(&self, script: &mut ScriptBuilder, objects: &[ObjectKind])
+        requires few { length script.old ≤ 10 }
+        requires known { AreKnown objects.now script.old }
+        ensures few { length script.new ≤ 14 }
+        ensures known { AreKnown objects.now script.new }
+    {
+        for number in 0..4_u8 {
+            self.unlock_last(script, objects, number);
+        }
+    }
+
+    /// Gives the mutex of this number back, where it is held.
+    fn unlock_last(&self, script: &mut ScriptBuilder, objects: &[ObjectKind], number: u8)
+        requires few { length script.old ≤ 13 }
+        requires known { AreKnown objects.now script.old }
+        ensures few { length script.new ≤ length script.old + 1 }
+        ensures known { AreKnown objects.now script.new }
+    {
+        if let Some(op) = self.last_unlock(objects, number) {
+            let _ = script.push(op);
+        }
+    }
+
+    /// Up to eight ops. One that may not stand where it would is left out. Then the scheduler is resumed if it is suspended,
+    /// mutexes that are held are given back, and loops that are open are closed.
+    fn script(&mut self, alloc: Global, objects: &[ObjectKind]) -> Option<Script>
+        requires { length objects.now ≤ 4 }
+        ensures script { IfSome result (λ script. IsScript script) }
+        ensures known { IfSome result (λ script. AreKnown objects.now script) }
+    {
+        let mut script = ScriptBuilder::new(alloc);
+        let length = self.roll(9);
+        self.held = [false; 4];
+        self.suspensions = 0;
+        self.suspended = None;
+        for index in 0..length {
+            let _ = script.push(self.op_at(index, objects));
+        }
+        self.forget_suspension();
+        self.resume_all(&mut script, objects);
+        self.unlock_all(&mut script, objects);
+        close(&mut script, objects);
+        script.finish()
+    }
+
+    fn priority(&mut self) -> u8
+        ensures { result < 4 }
+    {
+        match self.theme {
+            Theme::Any => self.roll(3) as u8,
+            Theme::Crowd | Theme::Gathering if self.is_late => 1 + self.roll(2) as u8,
+            Theme::Crowd | Theme::Gathering => 1,
+            Theme::Contest | Theme::Suspension if self.is_late => 1 + self.roll(3) as u8,
+            Theme::Contest | Theme::Suspension => self.roll(2) as u8,
+        }
+    }
+
+    fn task(&mut self, alloc: Global, name: &str, objects: &[ObjectKind]) -> Option<TaskDefinition>
+        requires name { length name.now ≤ 16 }
+        requires few { length objects.now ≤ 4 }
+        ensures task { IfSome result (λ task. IsDefinition task) }
+        ensures known { IfSome result (λ task. AreKnown objects.now task.script) }
+    {
+        let priority = self.priority();
+        let script = self.script(alloc, objects)?;
+        let name = String::from_str(alloc, name).ok()?;
+        Some(TaskDefinition::new(name, priority, script))
+    }
+
+    /// What the calls of the first two tasks do, and those of the others: where tasks crowd about queues and semaphores, or
+    /// about event groups, some send, give or set and the others receive, take or wait.
+    fn roles(&mut self) -> (Role, Role) {
+        let is_divided = matches!(self.theme, Theme::Crowd | Theme::Gathering);
+        match self.roll(2) {
+            _ if !is_divided => (Role::Any, Role::Any),
+            0 => (Role::Sends, Role::Receives),
+            _ => (Role::Receives, Role::Sends),
+        }
+    }
+
+    /// Adds a task of this name.
+    fn add_task(
+        &mut self,
+        tasks: &mut Vec<TaskDefinition>,
+        alloc: Global,
+        name: &str,
+        objects: &[ObjectKind],
+    ) -> Option<()>
+        requires name { length name.now ≤ 16 }
+        requires few { length objects.now ≤ 4 }
+        ensures one { IfSome result (λ _. length tasks.new.items ≡ length tasks.old.items + 1) }
+        ensures tasks { IfSome result (λ _.
+            AllByRecursion IsDefinition tasks.old.items → AllByRecursion IsDefinition tasks.new.items) }
+        ensures known { IfSome result (λ _.
+            AllByRecursion (λ (d : Definition). AreKnown objects.now d.script) tasks.old.items
+            → AllByRecursion (λ (d : Definition). AreKnown objects.now d.script) tasks.new.items) }
+    {
+        let task = self.task(alloc, name, objects)?;
+        tasks.push(task).ok()
+    }
+
+    /// Four tasks of priorities 0 to 3.
+    fn tasks(&mut self, alloc: Global, objects: &[ObjectKind]) -> Option<Vec<TaskDefinition>>
+        requires { length objects.now ≤ 4 }
+        ensures four { IfSome result (λ tasks. length tasks.items ≡ 4) }
+        ensures tasks { IfSome result (λ tasks. AllByRecursion IsDefinition tasks.items) }
+        ensures known { IfSome result (λ tasks.
+            AllByRecursion (λ (d : Definition). AreKnown objects.now d.script) tasks.items) }
+    {
+        let mut tasks = Vec::new(alloc);
+        let (early, late) = self.roles();
+        self.role = early;
+        self.add_task(&mut tasks, alloc, "a", objects)?;
+        self.is_late = self.theme == Theme::Contest;
+        self.present = 1;
+        self.add_task(&mut tasks, alloc, "b", objects)?;
+        self.role = late;
+        self.is_late = self.theme != Theme::Any;
+        self.present = 2;
+        self.add_task(&mut tasks, alloc, "c", objects)?;
+        self.present = 3;
+        self.add_task(&mut tasks, alloc, "d", objects)?;
+        Some(tasks)
+    }
+
+    /// Four tasks, three handlers, two event groups and up to four objects and four base interrupts, shortly before the tick
+    /// wraps. It has no points, which no run depends on.
+    pub fn app(&mut self, alloc: Global) -> Option<App> {
+        let objects = self.objects(alloc)?;
+        let tasks = self.tasks(alloc, objects.as_slice())?;
+        let start = u32::MAX - self.roll(8);
+        let limits = Limits::new(10 + self.roll(50), 20 + self.roll(300))?;
+        let handlers = self.handlers(alloc, objects.as_slice())?;
+        let interrupts = self.interrupts(alloc)?;
+        let points = Vec::new(alloc);
+        Some(App::new(
+            start, limits, objects, 2, handlers, interrupts, tasks, points,
+        ))
+    }
+}
+
+/// Closes the loops that are open.
+fn close(script: &mut ScriptBuilder, objects: &[ObjectKind])
+    requires few { length script.old ≤ 14 }
+    requires known { AreKnown objects.now script.old }
+    ensures { AreKnown objects.now script.new }
+{
+    let _ = objects;
+    for _ in 0..4_u8 {
+        let _ = script.push(Op::End);
+    }
+}
