@@ -183,7 +183,8 @@ impl Kernel {
 
 /// One step of the run, whose events go to this log first, in place of what it has: memory is taken only for those that the step
 /// tells. So it is done where the trail has less room than a step may need, and where handlers come before it, as they do
-/// before few. At `Err(Memory)`, answered only where that growth was refused, it is done all the same.
+/// before few. At `Err(Memory)`, answered only where the trail had less room for them and that growth was refused, it is done all the
+/// same.
 #[cold]
 #[inline(never)]
 fn step_apart(
@@ -205,7 +206,7 @@ fn step_apart(
     ensures meter { meter.new ≡ meter.old + 1 }
     ensures kept { OnErr result (trail.new.told ≡ []) }
     ensures memory { OnErr result ((s : State) → Stands kernel.old s
-        → 0 < length (step app.now handlers.now s).log) }
+        → trail.old.room < length (step app.now handlers.now s).log) }
 {
     log.clear();
     kernel.step_onto(app, handlers, meter, log);

@@ -77,13 +77,13 @@ impl Trail {
         Ok(())
     }
 
-    /// This step tells these events too, whatever room there is. At `Err(Memory)`, where the growth was refused, it has told
-    /// none of them; never where there are none.
+    /// This step tells these events too, whatever room there is. At `Err(Memory)`, where there was less room and the growth was
+    /// refused, it has told none of them.
     pub(crate) fn append(&mut self, events: &[Event]) -> Result<(), Memory>
         ensures before { self.new.before ≡ self.old.before }
         ensures told { OnOk result (self.new.told ≡ self.old.told ++ events.now) }
         ensures refused { OnErr result (self.new.told ≡ self.old.told) }
-        ensures memory { OnErr result (0 < length events.now) }
+        ensures memory { OnErr result (self.old.room < length events.now) }
     {
         if self.events.extend_from_slice(events).is_err() {
             return Err(Memory);

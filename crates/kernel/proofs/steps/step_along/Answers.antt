@@ -1,5 +1,5 @@
-use Rattle.std.proofs.Common.{◌∙◌}
-use Rattle.std.proofs.lemmas.Result.{on_ok_weaker}
+use Rattle.std.proofs.Common.{◌∙◌, arith}
+use Rattle.std.proofs.lemmas.Result.{on_err_weaker, on_ok_weaker}
 use Rattle.kernel.proofs.Running.{told_after}
 use Rattle.kernel.proofs.steps.step_along.Goals as goal
 
@@ -8,3 +8,6 @@ returns-then-is_err-clause-told c = on_ok_weaker c.step_apart.result (λ told s 
 
 pub returns-clause-told : goal.returns-clause-told
 returns-clause-told c = λ s h. told_after c.step_onto.new.log _ _ (c.step_onto.ensures.before ∙ c.begin.ensures.before) (c.step_onto.ensures.told s h)
+
+pub returns-then-is_err-clause-memory : goal.returns-then-is_err-clause-memory
+returns-then-is_err-clause-memory c = on_err_weaker c.step_apart.result (λ more s h. let m = more s h in omega arith) c.step_apart.ensures.memory
