@@ -12,7 +12,7 @@ use Rattle.kernel.specs.declared.kernel.Kernel.{Kernel}
 use Rattle.kernel.specs.StandsFor.{Stands}
 use Rattle.model.specs.Run.{injected}
 use Rattle.std.specs.Prelude.{slice_get}
-use Rattle.model.specs.Plans.{IsPlan, is_at}
+use Rattle.model.specs.Plans.{IsPlan}
 use Rattle.model.specs.Scripts.{Rises}
 use Rattle.model.proofs.Sorting.{by_test}
 use Rattle.model.proofs.Lists.{eqb-same}
@@ -123,13 +123,6 @@ no_more (p ∷ ps) n = let l = no_more ps n in by_test (eqb p.step n) (λ t. rw 
 
 pub stands_as : (app : Application) (k next : Kernel) (handlers others : List ℕ) → handlers ≡ others → ((s : State) → Stands k s → Stands next (step app handlers s)) → (s : State) → Stands k s → Stands next (step app others s)
 stands_as app k next handlers others e h = subst (λ (hs : List ℕ). (s : State) → Stands k s → Stands next (step app hs s)) e h
-
--- where the first that is left isn't at this step, no handler comes before it
-pub none_due : (n : ℕ) (points : List Point) → Rises (λ (p : Point). p.step) points → AllByRecursion (λ (p : Point). n ≤ p.step) points → is_at n (slice_get points 0) ≡ false → [] ≡ injected points n
-none_due n [] order ahead off = refl
-none_due n (p ∷ ps) order ahead off =
-    let ne : p.step ≢ n = (λ e. let u : eqb p.step n ≡ true = eq-eqb p.step n e in absurd (cc)) in
-    sym (none_at n (p ∷ ps) (later n p ps order ahead.0 ne))
 
 -- ---- before the first that is left
 

@@ -1,5 +1,5 @@
 //! Steps, and whole runs.
-ghost use Rattle.std.specs.Prelude.{◌≡◌, true, ℕ, ◌<◌, ◌≤◌, ◌+◌, ◌^◌, ◌++◌, [], Some, None, ◌||◌, IfSome, IsNone, IfOk, OnOk, OnErr, drop, length, slice_get};
+ghost use Rattle.std.specs.Prelude.{◌≡◌, true, ℕ, ◌<◌, ◌≤◌, ◌+◌, ◌^◌, ◌++◌, [], Some, None, ◌||◌, IfSome, IsNone, IfOk, OnOk, OnErr, drop, length};
 ghost use Rattle.std.specs.List.{AllByRecursion};
 ghost use Rattle.std.specs.List.{list_any};
 ghost use Rattle.model.specs.Application.{op_at};
@@ -7,7 +7,7 @@ ghost use Rattle.model.specs.State.{State};
 ghost use Rattle.model.specs.Step.{act_current, step};
 ghost use Rattle.model.specs.Run as definition;
 ghost use Rattle.model.specs.declared.plan.Point as definitions;
-ghost use Rattle.model.specs.Plans.{IsPlan, is_at};
+ghost use Rattle.model.specs.Plans.{IsPlan};
 ghost use Rattle.model.specs.Scripts.{Rises};
 ghost use Rattle.model.specs.Run.{end_of, injected, IsRun, state_after, events_after, are_all_ended, is_stuck};
 ghost use Rattle.kernel.specs.Logged.{all_of};
@@ -213,31 +213,34 @@ fn step_apart(
     trail.append(log.as_slice())
 }
 
-/// One step of the run, without handlers before it, whose events go to the end of the trail. At `Err(Memory)`, answered only
-/// where a growth was refused, so never where the step tells nothing, it is done all the same.
+/// One step of the run, after these handlers, whose events go to the end of the trail. At `Err(Memory)`, answered only where a
+/// growth was refused, so never where the step tells nothing, it is done all the same.
 #[inline(always)]
 fn step_along(
     kernel: &mut Kernel,
     app: &App,
+    handlers: &[HandlerId],
     meter: &mut Meter,
     log: &mut StepLog,
     trail: &mut Trail,
 ) -> Result<(), Memory>
+    requires few { length handlers.now ≤ 3 }
     requires going { CanStep app.now kernel.old }
     requires meter { meter.old < 2 ^ 63 }
-    ensures stands { (s : State) → Stands kernel.old s → Stands kernel.new (step app.now [] s) }
+    ensures stands { (s : State) → Stands kernel.old s → Stands kernel.new (step app.now handlers.now s) }
     ensures told { OnOk result ((s : State) → Stands kernel.old s
-        → all_of trail.new ≡ all_of trail.old ++ (step app.now [] s).log) }
+        → all_of trail.new ≡ all_of trail.old ++ (step app.now handlers.now s).log) }
     ensures meter { meter.new ≡ meter.old + 1 }
     ensures kept { OnErr result (all_of trail.new ≡ all_of trail.old) }
     ensures memory { OnErr result ((s : State) → Stands kernel.old s
-        → 0 < length (step app.now [] s).log) }
+        → 0 < length (step app.now handlers.now s).log) }
 {
-    if trail.begin().is_err() {
-        return step_apart(kernel, app, &[], meter, log, trail);
+    let is_roomy = trail.begin().is_ok();
+    if is_roomy && handlers.is_empty() {
+        kernel.step_onto(app, handlers, meter, trail);
+        return Ok(());
     }
-    kernel.step_onto(app, &[], meter, trail);
-    Ok(())
+    step_apart(kernel, app, handlers, meter, log, trail)
 }
 
 /// The handlers of a plan's points at this step, where these points are those from this step on.
@@ -257,75 +260,8 @@ fn handlers_at(points: &[Point], step: u32) -> Injected
     handlers
 }
 
-/// Whether the first of these points is at this step.
-fn is_due(points: &[Point], step: u32) -> bool
-    ensures { result ≡ is_at step (slice_get points.now 0) }
-{
-    match points.first() {
-        None => false,
-        Some(point) => point.step == step,
-    }
-}
-
-/// One step of the run, with these handlers before it.
-fn step_after(
-    kernel: &mut Kernel,
-    app: &App,
-    handlers: &[HandlerId],
-    meter: &mut Meter,
-    log: &mut StepLog,
-    trail: &mut Trail,
-) -> Result<(), Memory>
-    requires few { length handlers.now ≤ 3 }
-    requires going { CanStep app.now kernel.old }
-    requires meter { meter.old < 2 ^ 63 }
-    ensures stands { (s : State) → Stands kernel.old s → Stands kernel.new (step app.now handlers.now s) }
-    ensures told { OnOk result ((s : State) → Stands kernel.old s
-        → all_of trail.new ≡ all_of trail.old ++ (step app.now handlers.now s).log) }
-    ensures meter { meter.new ≡ meter.old + 1 }
-    ensures kept { OnErr result (all_of trail.new ≡ all_of trail.old) }
-    ensures memory { OnErr result ((s : State) → Stands kernel.old s
-        → 0 < length (step app.now handlers.now s).log) }
-{
-    // Room for what the step tells is asked for once it is known.
-    let _ = trail.begin();
-    step_apart(kernel, app, handlers, meter, log, trail)
-}
-
 /// One step of the run, after the handlers of those points that are at it: these points are those from this step on. It
-/// answers how many are at it.
-#[cold]
-#[inline(never)]
-fn step_after_points(
-    kernel: &mut Kernel,
-    app: &App,
-    points: &[Point],
-    meter: &mut Meter,
-    log: &mut StepLog,
-    trail: &mut Trail,
-) -> Result<usize, Memory>
-    requires order { Rises (λ (p : definitions.Point). p.step) points.now }
-    requires left { AllByRecursion (λ (p : definitions.Point). kernel.old.steps ≤ p.step) points.now }
-    requires few { length (injected points.now kernel.old.steps) ≤ 3 }
-    requires going { CanStep app.now kernel.old }
-    requires meter { meter.old < 2 ^ 63 }
-    ensures stands { (s : State) → Stands kernel.old s
-        → Stands kernel.new (step app.now (injected points.now kernel.old.steps) s) }
-    ensures told { OnOk result ((s : State) → Stands kernel.old s
-        → all_of trail.new ≡ all_of trail.old ++ (step app.now (injected points.now kernel.old.steps) s).log) }
-    ensures many { IfOk result (λ many. many ≡ length (injected points.now kernel.old.steps)) }
-    ensures meter { meter.new ≡ meter.old + 1 }
-    ensures kept { OnErr result (all_of trail.new ≡ all_of trail.old) }
-    ensures memory { OnErr result ((s : State) → Stands kernel.old s
-        → 0 < length (step app.now (injected points.now kernel.old.steps) s).log) }
-{
-    let handlers = handlers_at(points, kernel.steps);
-    let many = handlers.len();
-    step_after(kernel, app, handlers.as_slice(), meter, log, trail)?;
-    Ok(many)
-}
-
-/// The same, where mostly no point is at the step. It answers the points after those that are.
+/// answers the points after it.
 #[inline(always)]
 fn step_by_plan<'a>(
     kernel: &mut Kernel,
@@ -351,13 +287,10 @@ fn step_by_plan<'a>(
     ensures memory { OnErr result ((s : State) → Stands kernel.old s
         → 0 < length (step app.now (injected points.now kernel.old.steps) s).log) }
 {
-    if is_due(points, kernel.steps) {
-        let many = step_after_points(kernel, app, points, meter, log, trail)?;
-        let (_, later) = points.split_at(many);
-        return Ok(later);
-    }
-    step_along(kernel, app, meter, log, trail)?;
-    Ok(points)
+    let handlers = handlers_at(points, kernel.steps);
+    step_along(kernel, app, handlers.as_slice(), meter, log, trail)?;
+    let (_, later) = points.split_at(handlers.len());
+    Ok(later)
 }
 
 /// Goes on along a run that is under way, up to this step or to an end before it, and keeps the events from there on. The plan
@@ -398,7 +331,7 @@ fn go_on(
             return Ok(());
         }
         let tick = kernel.clock.tick();
-        step_along(kernel, app, meter, log, trail)?;
+        step_along(kernel, app, &[], meter, log, trail)?;
         let ticked = kernel.clock.tick() != tick;
         let silent = trail.is_silent();
         let leaving = pass_on(kernel, app, points, until, ticked, silent, limits, meter);
