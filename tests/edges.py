@@ -284,6 +284,11 @@ def edges_of_base_interrupts():
     marked = HANDLER.replace("[]", '["mark 3"]')
     lines = [line for it in range(1, 257) for line in [f"{it - 1} {it} mark h 3"] * 4]
     tells(marked + task("work 256") + all_of_them, "pass in 256 steps, 256 ticks", *lines, "255 256 run -")
+    # in whatever order they stand, they come at their ticks, and those of one tick in the order of the file
+    three = "".join(f'[[handler]]\nname = "h{it}"\nops = ["mark {it}"]\n' for it in range(3))
+    falling = "".join(f'[[interrupt]]\ntick = {tick}\nhandler = "h{it}"\n' for tick, it in ((3, 0), (1, 2), (3, 1), (1, 0)))
+    lines = [f"{tick - 1} {tick} mark h{it} {it}" for tick, it in ((1, 2), (1, 0), (3, 0), (3, 1))]
+    tells(three + task("work 3") + falling, "pass in 3 steps, 3 ticks", *lines, "2 3 run -")
 
 
 @case

@@ -1,25 +1,23 @@
 -- Ops that an application of given objects, two event groups and four tasks knows.
 use Rattle.std.proofs.Common.{◌≡◌, ◌≤◌, ◌<◌, ◌+◌, ℕ, Bool, ap, arith, length, length-append, refl, true, List, [], ◌∷◌, ◌++◌, Option, Some, None, sym, subst}
-use Rattle.std.specs.Prelude.{Result, Ok, Err, OnOk, OnErr, filter, nat_eq, nat_lt}
+use Rattle.std.specs.Prelude.{Result, Ok, Err, IfOk, OnOk, OnErr, filter, nat_eq, nat_lt, unwrap_or}
 use Rattle.std.specs.List.{AllByRecursion}
-use Rattle.std.specs.Option.{IfSome}
+use Rattle.std.specs.Option.{IfSome, is_some}
+use Rattle.std.specs.Result.{result_ok}
 use Rattle.model.specs.declared.object.ObjectKind.{ObjectKind}
 use Rattle.model.specs.declared.op.Op.{Op}
 use Rattle.std.proofs.lemmas.Bool.{lt-ltb}
 use Rattle.std.proofs.lemmas.List.{length-map}
 use Rattle.model.specs.declared.op.IsrOp.{IsrOp}
 use Rattle.model.specs.Application.{Application, Definition, Handler, Interrupt, interrupts_at}
-use Rattle.model.specs.Scripts.{IsScript, IsHandler, IsInterrupt, InOrder, KnowsAll, knows, knows_isr, most_handler_ops, most_name_bytes}
+use Rattle.model.specs.Scripts.{IsScript, IsHandler, IsInterrupt, KnowsAll, knows, knows_isr, most_handler_ops, most_name_bytes}
+use Rattle.model.proofs.Nesting.{all-append}
 use Rattle.model.proofs.Sorting.{by_test}
 use Rattle.dice.specs.Known.{AreInterrupts, AreKnown, IsKnown, IsKnownHandler, IsKnownIsr}
 
-known-end : (app : Application) (ops : List Op) (op : Op) → AllByRecursion (λ op. knows app op ≡ true) ops → knows app op ≡ true → AllByRecursion (λ op. knows app op ≡ true) (ops ++ op ∷ [])
-known-end app [] op h k = (k, tt)
-known-end app (o ∷ ops) op h k = (h.0, known-end app ops op h.1 k)
-
 -- a script to which an op was pushed, or not
 pub known-pushed : {A B : Type 0} (objects : List ObjectKind) (old new : List Op) (op : Op) (result : Result A B) → OnOk result (new ≡ old ++ op ∷ []) → OnErr result (new ≡ old) → AreKnown objects old → IsKnown objects op → AreKnown objects new
-known-pushed objects old new op (Ok x) ok err h k = subst (AreKnown objects) (sym ok) (λ app same two four. known-end app old op (h app same two four) (k app same two four))
+known-pushed objects old new op (Ok x) ok err h k = subst (AreKnown objects) (sym ok) (λ app same two four. all-append (λ op. knows app op ≡ true) old op (h app same two four) (k app same two four))
 known-pushed objects old new op (Err e) ok err h k = subst (AreKnown objects) (sym err) h
 
 pub few-pushed : {A B : Type 0} (old new : List Op) (op : Op) (result : Result A B) → OnOk result (new ≡ old ++ op ∷ []) → OnErr result (new ≡ old) → length new ≤ length old + 1
@@ -71,34 +69,23 @@ are_handlers app objects same two four (handler ∷ handlers) h =
 
 -- ---- base interrupts
 
-all_at_end : (P : Interrupt → Type 0) (is : List Interrupt) (i : Interrupt) → AllByRecursion P is → P i → AllByRecursion P (is ++ i ∷ [])
-all_at_end P [] i h p = (p, tt)
-all_at_end P (j ∷ js) i h p = (h.0, all_at_end P js i h.1 p)
-
 up_to_more : (m n : ℕ) → m ≤ n → (is : List Interrupt) → AllByRecursion (λ (i : Interrupt). i.tick ≤ m) is
     → AllByRecursion (λ (i : Interrupt). i.tick ≤ n) is
 up_to_more m n more [] h = tt
 up_to_more m n more (i ∷ is) h = (let here = h.0 in omega arith, up_to_more m n more is h.1)
 
-order_at_end : (is : List Interrupt) (i : Interrupt) → InOrder is → AllByRecursion (λ (j : Interrupt). j.tick ≤ i.tick) is
-    → InOrder (is ++ i ∷ [])
-order_at_end [] i h last = (tt, tt)
-order_at_end (j ∷ js) i h last =
-    (all_at_end (λ (k : Interrupt). j.tick ≤ k.tick) js i h.0 last.0, order_at_end js i h.1 last.1)
-
 pub none_yet : (tick : ℕ) → AreInterrupts tick []
-none_yet tick = record { first = tt; last = tt; known = tt; in_order = tt }
+none_yet tick = record { first = tt; last = tt; known = tt }
 
--- one more, which comes last
+-- one more, which is not before that tick
 pub one_more : (tick : ℕ) (is : List Interrupt) (i : Interrupt) → AreInterrupts tick is → 1 ≤ i.tick → tick ≤ i.tick → i.handler < 3
     → AreInterrupts i.tick (is ++ i ∷ [])
 one_more tick is i h first later known =
     let before = up_to_more tick i.tick later is h.last in
     record {
-      first = all_at_end (λ (j : Interrupt). 1 ≤ j.tick) is i h.first first;
-      last = all_at_end (λ (j : Interrupt). j.tick ≤ i.tick) is i before (omega arith);
-      known = all_at_end (λ (j : Interrupt). j.handler < 3) is i h.known known;
-      in_order = order_at_end is i h.in_order before;
+      first = all-append (λ (j : Interrupt). 1 ≤ j.tick) is i h.first first;
+      last = all-append (λ (j : Interrupt). j.tick ≤ i.tick) is i before (omega arith);
+      known = all-append (λ (j : Interrupt). j.handler < 3) is i h.known known;
     }
 
 -- the same, with a later bound
@@ -107,7 +94,6 @@ up_to_later m n more is h = record {
   first = h.first;
   last = up_to_more m n more is h.last;
   known = h.known;
-  in_order = h.in_order;
 }
 
 pub are_interrupts : (app : Application) → length app.handlers ≡ 3 → (is : List Interrupt)
@@ -135,3 +121,9 @@ few_at app tick =
     let passing = few_pass (λ (i : Interrupt). nat_eq i.tick tick) app.interrupts in
     let same = length-map (filter (λ (i : Interrupt). nat_eq i.tick tick) app.interrupts) (λ (i : Interrupt). i.handler) in
     omega arith
+
+-- ---- the value of a call that has one
+
+pub of_ok : {T E : Type 0} (r : Result T E) (P : T → Type 0) (x : T) → Some x ≡ result_ok r → IfOk r P → P x
+of_ok {T} (Ok y) P x e h = subst P (sym (ap (λ (o : Option T). unwrap_or o x) e)) h
+of_ok {T} (Err y) P x e h = let f = ap (λ (o : Option T). is_some o) e in absurd (cc)

@@ -5,7 +5,7 @@ use Rattle.model.specs.declared.object.ObjectKind.{ObjectKind}
 use Rattle.model.specs.declared.op.Op.{Op}
 use Rattle.model.specs.declared.op.IsrOp.{IsrOp}
 use Rattle.model.specs.Application.{Application, Handler, Interrupt}
-use Rattle.model.specs.Scripts.{IsHandler, InOrder, knows, knows_isr}
+use Rattle.model.specs.Scripts.{IsHandler, knows, knows_isr}
 
 -- Every application of these objects, two event groups and four tasks knows the op.
 abbrev pub IsKnown : List ObjectKind → Op → Type 0
@@ -28,9 +28,8 @@ abbrev pub IsKnownHandler : List ObjectKind → Handler → Type 0
 IsKnownHandler objects handler =
     (app : Application) → app.objects ≡ objects → app.group_count ≡ 2 → length app.tasks ≡ 4 → IsHandler app handler
 
--- base interrupts of three handlers, in order, the last at this tick at most
+-- base interrupts of three handlers, none after this tick
 pub record AreInterrupts (tick : ℕ) (interrupts : List Interrupt) : Type 0 where
   pub first : AllByRecursion (λ (i : Interrupt). 1 ≤ i.tick) interrupts
   pub last : AllByRecursion (λ (i : Interrupt). i.tick ≤ tick) interrupts
   pub known : AllByRecursion (λ (i : Interrupt). i.handler < 3) interrupts
-  pub in_order : InOrder interrupts

@@ -7,7 +7,10 @@ ghost use Rattle.model.specs.Application.{Definition};
 ghost use Rattle.model.specs.Scripts.{InRange, IsScript, IsDefinition, is_wait};
 ghost use Rattle.dice.specs.Known.{AreKnown, IsKnown};
 
-use model::{App, Limits, ObjectId, ObjectKind, Op, Script, ScriptBuilder, TaskDefinition, TaskId};
+use model::{
+    App, BaseInterrupts, Limits, ObjectId, ObjectKind, Op, Script, ScriptBuilder, TaskDefinition,
+    TaskId,
+};
 use std::alloc::Global;
 
 mod calls;
@@ -344,7 +347,8 @@ impl Dice {
         let start = u32::MAX - self.roll(8);
         let limits = Limits::new(10 + self.roll(50), 20 + self.roll(300))?;
         let handlers = self.handlers(alloc, objects.as_slice())?;
-        let interrupts = self.interrupts(alloc)?;
+        let listed = self.interrupts(alloc)?;
+        let interrupts = BaseInterrupts::new(alloc, listed.as_slice()).ok()?;
         let points = Vec::new(alloc);
         Some(App::new(
             start, limits, objects, 2, handlers, interrupts, tasks, points,

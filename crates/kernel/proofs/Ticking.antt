@@ -1,6 +1,6 @@
 -- Steps in which nothing happens but that a tick passes.
-use Rattle.std.proofs.Common.{◌≡◌, ◌≢◌, ◌<◌, ◌≤◌, ◌+◌, ◌^◌, ◌%◌, ℕ, zero, suc, Bool, true, false, not, ◌&&◌, eqb, leb, ltb, List, [], ◌∷◌, length, get_or, Option, Some, None, refl, ap, sym, subst, ◌∙◌, arith, get_or-set_same}
-use Rattle.std.specs.Prelude.{if◌then◌else◌}
+use Rattle.std.proofs.Common.{◌≡◌, ◌≢◌, ◌<◌, ◌≤◌, ◌+◌, ◌^◌, ◌%◌, ℕ, zero, suc, Bool, true, false, not, ◌&&◌, eqb, leb, ltb, List, [], ◌∷◌, length, map, get_or, Option, Some, None, refl, ap, sym, subst, ◌∙◌, arith, get_or-set_same}
+use Rattle.std.specs.Prelude.{◌==◌, if◌then◌else◌}
 use Rattle.std.specs.List.{filter}
 use Rattle.std.specs.Option.{is_none, is_some}
 use Rattle.std.proofs.lemmas.Bool.{eq-eqb, ne_eqb}
@@ -10,7 +10,8 @@ use Rattle.std.proofs.lemmas.List.{get_or_default}
 use Rattle.model.specs.declared.event.Event.{Event}
 use Rattle.model.specs.declared.op.Op.{Op}
 use Rattle.model.specs.declared.op.Op.TheVariants.{Work}
-use Rattle.model.specs.Application.{Application, Limits, op_at, interrupts_at}
+use Rattle.model.specs.Application.{Application, Interrupt, Limits, op_at, interrupts_at}
+use Rattle.model.specs.Coming.{AreComing}
 use Rattle.model.specs.State.{State, Progress, no_progress, progress_at}
 use Rattle.model.specs.Switching.{is_ready, slice, settle, unless_held}
 use Rattle.model.specs.Time.{increment_tick}
@@ -121,6 +122,21 @@ module _ {X : Type 0} (n : X → ℕ) (xs : List X) (index e : ℕ) (x : X) (l :
 
   pub some_at_next : (t : ℕ) → t ≡ n x → filter (λ y. eqb (n y) t) xs ≢ []
   some_at_next t e none = some_at n xs index t x l (sym (ap n is) ∙ sym e) none
+
+-- ---- those that come
+
+module _ (app : Application) (coming : List Interrupt) (are : AreComing app.interrupts coming) (tick : ℕ) where
+  -- None comes at a tick where none of these does ..
+  pub none_comes : filter (λ (i : Interrupt). i.tick == tick) coming ≡ [] → interrupts_at app tick ≡ []
+  none_comes none = ap (map (λ (i : Interrupt). i.handler)) (sym (are.same tick) ∙ none)
+
+  none_mapped : (is : List Interrupt) → map (λ (i : Interrupt). i.handler) is ≡ [] → is ≡ []
+  none_mapped [] none = refl
+  none_mapped (i ∷ is) none = absurd (cc)
+
+  -- .. and the other way round.
+  pub none_of_these : interrupts_at app tick ≡ [] → filter (λ (i : Interrupt). i.tick == tick) coming ≡ []
+  none_of_these none = are.same tick ∙ none_mapped (filter (λ (i : Interrupt). i.tick == tick) app.interrupts) none
 
 pub uninterrupted : (app : Application) (s : State) → interrupts_at app s.elapsed ≡ [] → interrupt app s ≡ s
 unfolding interrupt

@@ -25,16 +25,16 @@ nests-closed : (n : ℕ) (ops : List Op) → NestsSoFar n ops → nesting_after 
 nests-closed n [] nests closed = closed
 nests-closed n (o ∷ ops) nests closed = (nests.0, nests-closed (nesting_past n o) ops nests.1 closed)
 
-ranges-append : (ops : List Op) (op : Op)
-    → AllByRecursion InRange ops → InRange op → AllByRecursion InRange (ops ++ op ∷ [])
-ranges-append [] op ranges range = (range, tt)
-ranges-append (o ∷ ops) op ranges range = (ranges.0, ranges-append ops op ranges.1 range)
+-- one more of which it is true
+pub all-append : {X : Type 0} (P : X → Type 0) (xs : List X) (x : X) → AllByRecursion P xs → P x → AllByRecursion P (xs ++ x ∷ [])
+all-append P [] x all one = (one, tt)
+all-append P (y ∷ ys) x all one = (all.0, all-append P ys x all.1 one)
 
 -- one more op
 prefix-append : (ops : List Op) (op : Op) → IsPrefix ops → InRange op → length ops < 256
     → may_stand (nesting_after 0 ops) op ≡ true → IsPrefix (ops ++ op ∷ [])
 prefix-append ops op p range room may = record {
-  ranges = ranges-append ops op p.ranges range;
+  ranges = all-append InRange ops op p.ranges range;
   nests = nests-append 0 ops op p.nests may;
   few = omega (arith, length-append ops (op ∷ []));
 }

@@ -35,7 +35,6 @@ pub record Application : Type 0 where
   -- how many event groups there are
   pub group_count : ℕ
   pub handlers : List Handler
-  -- in the order in which they come: that of their ticks, at one tick that of the file
   pub interrupts : List Interrupt
   pub tasks : List Definition
   -- of the campaign, which no run depends on

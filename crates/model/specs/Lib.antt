@@ -1,5 +1,6 @@
 pub mod Application
 pub mod Words
+pub mod Coming
 pub mod Scripts
 pub mod State
 pub mod Order

@@ -241,10 +241,6 @@ abbrev pub Rises : {X : Type 0} → (X → ℕ) → List X → Type 0
 Rises number [] = Unit {0}
 Rises number (x ∷ xs) = AllByRecursion (λ y. number x ≤ number y) xs × Rises number xs
 
--- The base interrupts are in the order of their ticks.
-abbrev pub InOrder : List Interrupt → Type 0
-InOrder interrupts = Rises (λ (i : Interrupt). i.tick) interrupts
-
 -- ---- the application
 
 -- an object that an application may have (profile: its limits)
@@ -290,7 +286,6 @@ pub record IsWellFormed (app : Application) : Type 0 where
   pub interrupts : AllByRecursion (IsInterrupt app) app.interrupts
   pub few_interrupts : length app.interrupts ≤ most_interrupts
   pub few_at_once : (tick : ℕ) → length (interrupts_at app tick) ≤ most_at_once
-  pub in_order : InOrder app.interrupts
   -- each op speaks of what there is
   pub known : AllByRecursion (KnowsAll app) app.tasks
   pub points : AllByRecursion (IsPointEntry app) app.points

@@ -1,13 +1,15 @@
 //! An application: its objects, its event groups, its handlers and base interrupts, its tasks, its limits, the time at reset,
 //! and the points of its campaign.
-ghost use Rattle.std.specs.Prelude.{◌≡◌, ◌<◌, ◌≤◌, ◌==◌, filter, length, map, nat_lt, string_bytes};
+ghost use Rattle.std.specs.Prelude.{◌≡◌, ◌<◌, ◌≤◌, length, map, nat_lt, string_bytes};
 ghost use Rattle.std.specs.List.{list_any};
 ghost use Rattle.model.specs.Application as application;
 ghost use Rattle.model.specs.Application.{op_at, op_count, interrupts_at, ops_of};
 ghost use Rattle.model.specs.Words.{name_of, handler_name_of, handler_named, isr_op_at};
-ghost use Rattle.model.specs.Scripts.{InOrder, IsScript, IsDefinition, IsWellFormed, most_handler_ops, most_name_bytes};
+ghost use Rattle.model.specs.Coming.{AreComing};
+ghost use Rattle.model.specs.Scripts.{IsScript, IsDefinition, IsWellFormed, most_handler_ops, most_name_bytes};
 
 use crate::ids::{HandlerId, TaskId};
+use crate::interrupts::{BaseInterrupts, Interrupt};
 use crate::limits::Limits;
 use crate::object::ObjectKind;
 use crate::op::{IsrOp, Op};
@@ -114,50 +116,6 @@ impl HandlerDefinition {
     }
 }
 
-/// A base interrupt: at this elapsed tick the handler runs (profile).
-#[derive(Clone, Copy, PartialEq, Eq)]
-pub struct Interrupt {
-    pub tick: u32,
-    pub handler: HandlerId,
-}
-
-// Clauses see the two numbers.
-impl Model for Interrupt {
-    ghost use Rattle.model.specs.Application as application;
-
-    ghost Value = { application.Interrupt };
-
-    ghost view = { λ interrupt. record { tick = interrupt.tick; handler = interrupt.handler } };
-
-    ghost inverse = { λ interrupt. record { tick = interrupt.tick; handler = interrupt.handler } };
-}
-
-impl Default for Interrupt {
-    fn default() -> Self {
-        Interrupt {
-            tick: 1,
-            handler: HandlerId { number: 0 },
-        }
-    }
-}
-
-impl Interrupt {
-    /// The last elapsed tick at which one may come (profile).
-    pub const LAST_TICK: u32 = 1_000_000;
-}
-
-// Those of a tick, which stand together.
-fn at_tick(interrupts: &[Interrupt], tick: u64) -> &[Interrupt]
-    requires { InOrder interrupts.now }
-    ensures { result.now ≡ filter (λ (i : application.Interrupt). i.tick == tick) interrupts.now }
-{
-    let start = interrupts.partition_point(|interrupt| (interrupt.tick as u64) < tick);
-    let (_, rest) = interrupts.split_at(start);
-    let count = rest.partition_point(|interrupt| interrupt.tick as u64 <= tick);
-    let (those, _) = rest.split_at(count);
-    those
-}
-
 /// An application: what a run starts from, and the points of its campaign, which no run depends on. That it has 1 to 32
 /// tasks, at most 32 objects, 16 event groups, 16 handlers, 1,024 base interrupts, 4 of them at one tick, and 1,000,000
 /// entries of points, is profile.
@@ -168,7 +126,7 @@ pub struct App {
     objects: Vec<ObjectKind>,
     group_count: u8,
     handlers: Vec<HandlerDefinition>,
-    interrupts: Vec<Interrupt>,
+    interrupts: BaseInterrupts,
     tasks: Vec<TaskDefinition>,
     points: Vec<PointEntry>,
 }
@@ -185,7 +143,7 @@ impl Model for App {
       objects = a.objects.items;
       group_count = a.group_count;
       handlers = a.handlers.items;
-      interrupts = a.interrupts.items;
+      interrupts = a.interrupts;
       tasks = a.tasks.items;
       points = a.points.items;
     } };
@@ -196,7 +154,7 @@ impl Model for App {
       objects = a.objects.items;
       group_count = a.group_count;
       handlers = a.handlers.items;
-      interrupts = a.interrupts.items;
+      interrupts = a.interrupts;
       tasks = a.tasks.items;
       points = a.points.items;
     }) };
@@ -222,15 +180,15 @@ impl App {
     pub const MOST_POINTS: usize = 1_000_000;
 
     /// An application of these objects, so many event groups, these handlers, base interrupts and tasks, whose time at reset
-    /// is `start`, and whose campaign has these points. They are well formed together: each is within the limits, each op speaks of what is there and allows it,
-    /// and the interrupts are in the order of their ticks.
+    /// is `start`, and whose campaign has these points. They are well formed together: each is within the limits, and each op
+    /// speaks of what is there and allows it.
     pub fn new(
         start: u32,
         limits: Limits,
         objects: Vec<ObjectKind>,
         group_count: u8,
         handlers: Vec<HandlerDefinition>,
-        interrupts: Vec<Interrupt>,
+        interrupts: BaseInterrupts,
         tasks: Vec<TaskDefinition>,
         points: Vec<PointEntry>,
     ) -> Self
@@ -240,7 +198,7 @@ impl App {
           objects = objects.items;
           group_count = group_count;
           handlers = handlers.items;
-          interrupts = interrupts.items;
+          interrupts = interrupts;
           tasks = tasks.items;
           points = points.items;
         }) }
@@ -250,7 +208,7 @@ impl App {
           objects = objects.items;
           group_count = group_count;
           handlers = handlers.items;
-          interrupts = interrupts.items;
+          interrupts = interrupts;
           tasks = tasks.items;
           points = points.items;
         } }
@@ -309,28 +267,32 @@ impl App {
         self.handlers.as_slice()
     }
 
-    /// The base interrupts in the order in which they come: that of their ticks, at one tick that of the file.
+    /// The base interrupts, in the order of the file.
     pub fn interrupts(&self) -> &[Interrupt]
         ensures { result.now ≡ self.now.interrupts }
     {
-        self.interrupts.as_slice()
+        self.interrupts.listed()
+    }
+
+    /// The base interrupts in the order in which they come: that of their ticks, at one tick that of the file.
+    pub fn coming(&self) -> &[Interrupt]
+        ensures { AreComing self.now.interrupts result.now }
+    {
+        self.interrupts.coming()
     }
 
     /// The base interrupts at an elapsed tick, in the order of the file. Found by bisection.
     pub fn interrupts_at(&self, tick: u64) -> &[Interrupt]
         ensures { map (λ (i : application.Interrupt). i.handler) result.now ≡ interrupts_at self.now tick }
     {
-        at_tick(self.interrupts.as_slice(), tick)
+        self.interrupts.at(tick)
     }
 
     /// Whether a base interrupt comes after this elapsed tick.
     pub fn has_interrupt_after(&self, tick: u64) -> bool
         ensures { result ≡ list_any (λ (i : application.Interrupt). nat_lt tick i.tick) self.now.interrupts }
     {
-        match self.interrupts.last() {
-            None => false,
-            Some(last) => tick < last.tick as u64,
-        }
+        self.interrupts.has_after(tick)
     }
 
     /// The tasks, in the order of the file.

@@ -1,15 +1,17 @@
 -- The base interrupts and the points that are taken are those of a well formed application.
-use Rattle.std.proofs.Common.{◌≡◌, ◌+◌, ◌<◌, ◌≤◌, ◌++◌, ℕ, ℤ, pos, negsuc, List, [], ◌∷◌, length, map, Option, Some, None, refl, ap, ◌∙◌, arith}
+use Rattle.std.proofs.Common.{◌≡◌, ◌+◌, ◌<◌, ◌≤◌, ◌++◌, ℕ, ℤ, pos, negsuc, List, [], ◌∷◌, length, map, Option, Some, None, refl, ap, subst, sym, ◌∙◌, arith}
 use Rattle.std.specs.Prelude.{◌==◌, ◌||◌, codes, nat_lt, nat_le, is_none, option_and_then, unwrap_or}
-use Rattle.std.specs.List.{filter, fold, filter_map, cons_option, AllByRecursion}
-use Rattle.std.proofs.lemmas.Bool.{ltb-false, leb-false, or_parts}
-use Rattle.std.proofs.lemmas.List.{length-map, length-append}
+use Rattle.std.specs.List.{filter, filter_map, cons_option, AllByRecursion}
+use Rattle.std.proofs.lemmas.Bool.{eqb-true, ltb-false, leb-false, or_parts}
+use Rattle.std.proofs.lemmas.List.{append-nil, append_assoc, length-map, length-append}
 use Rattle.std.proofs.lemmas.List.Elements.{filter-append}
 use Rattle.toml.specs.Data.{Data, Members, as_str, as_integer, as_table, get_member}
 use Rattle.model.specs.declared.plan.PointEntry.{PointEntry}
 use Rattle.model.specs.declared.plan.PointEntry.TheVariants.{One, Every}
 use Rattle.model.specs.Application.{Application, Interrupt, interrupts_at}
 use Rattle.model.specs.Scripts.{IsInterrupt, IsPointEntry, last_interrupt, last_point, most_at_once, most_interrupts, most_points}
+use Rattle.model.proofs.Nesting.{all-append}
+use Rattle.model.proofs.Sorting.{by_test}
 use Rattle.script.specs.declared.fault.FaultKind.TheVariants.{Missing, WrongKind, OutOfRange, UnknownName, TooMany}
 use Rattle.script.specs.declared.place.Place.{Place}
 use Rattle.script.specs.declared.place.Key.{Key}
@@ -23,11 +25,10 @@ use Rattle.script.specs.Sections.{data_at}
 use Rattle.grammar.specs.Grammar.{Word, words_of}
 use Rattle.grammar.specs.Points.{SpellsEntry, entry_of}
 use Rattle.script.specs.Points.{entry_named, point_elements, points_fault, campaign_fault, campaign_named}
-use Rattle.script.specs.Interrupts.{count_at, interrupt_named, interrupt_keys, interrupts_fault, interrupts_named, put_in, in_order}
+use Rattle.script.specs.Interrupts.{count_at, interrupt_named, interrupt_keys, interrupts_fault, interrupts_named}
 use Rattle.script.proofs.Checks.{none_fails, passes}
 use Rattle.script.proofs.Fitting.{below_from}
 use Rattle.grammar.proofs.PointTexts.{sound}
-use Rattle.script.proofs.Coming.{AreInterrupts, one_more, none_yet, count_more, length_put}
 
 -- ---- what the checks of keys give
 
@@ -92,58 +93,86 @@ table_comes : (names : List (List ℕ)) (before : List Interrupt) (p : Place) (t
 table_comes names before p None none = cc
 table_comes names before p (Some ms) none = keys_come names before p ms none
 
--- at each tick as many come as before
-abbrev SameCounts : List Interrupt → List Interrupt → Type 0
-SameCounts xs ys = (tick : ℕ) → count_at tick xs ≡ count_at tick ys
+count_last : (tick : ℕ) (i : Interrupt) (is : List Interrupt) → count_at tick (is ++ i ∷ []) ≡ count_at tick is + count_at tick (i ∷ [])
+count_last tick i is =
+    let test = λ (j : Interrupt). j.tick == tick in
+    ap length (filter-append test is (i ∷ [])) ∙ length-append (filter test is) (filter test (i ∷ []))
 
-count_add : (tick : ℕ) (xs ys : List Interrupt) → count_at tick (xs ++ ys) ≡ count_at tick xs + count_at tick ys
-count_add tick xs ys =
-    let test = λ (i : Interrupt). i.tick == tick in
-    ap length (filter-append test xs ys) ∙ length-append (filter test xs) (filter test ys)
+-- it is one more at its own tick, and at no other
+few_more : (i : Interrupt) (is : List Interrupt) → count_at i.tick is < most_at_once
+    → ((tick : ℕ) → count_at tick is ≤ most_at_once) → (tick : ℕ) → count_at tick (is ++ i ∷ []) ≤ most_at_once
+few_more i is room few tick = by_test (i.tick == tick)
+    (λ t.
+    let here = subst (λ n. count_at n is < most_at_once) (eqb-true i.tick tick t) room in
+    let one : count_at tick (i ∷ []) ≡ 1 = rw t refl in
+    let more = count_last tick i is in
+    omega arith)
+    (λ t.
+    let none : count_at tick (i ∷ []) ≡ 0 = rw t refl in
+    let more = count_last tick i is in
+    let before = few tick in
+    omega arith)
 
-each_comes : (names : List (List ℕ)) (before sorted : List Interrupt) (i : ℕ) (ds : List Data)
+-- the base interrupts of an application of so many handlers
+pub record AreInterrupts (handlers : ℕ) (interrupts : List Interrupt) : Type 0 where
+  pub first : AllByRecursion (λ (i : Interrupt). 1 ≤ i.tick) interrupts
+  pub last : AllByRecursion (λ (i : Interrupt). i.tick ≤ last_interrupt) interrupts
+  pub known : AllByRecursion (λ (i : Interrupt). i.handler < handlers) interrupts
+  pub few : length interrupts ≤ most_interrupts
+  pub few_at_once : (tick : ℕ) → count_at tick interrupts ≤ most_at_once
+
+none_yet : (handlers : ℕ) → AreInterrupts handlers []
+none_yet handlers = record {
+  first = tt;
+  last = tt;
+  known = tt;
+  few = omega arith;
+  few_at_once = λ tick. omega arith;
+}
+
+one_more : (names : List (List ℕ)) (i : Interrupt) (is : List Interrupt) → Comes names is i → length is < most_interrupts
+    → AreInterrupts (length names) is → AreInterrupts (length names) (is ++ i ∷ [])
+one_more names i is comes room h = record {
+  first = all-append (λ (j : Interrupt). 1 ≤ j.tick) is i h.first comes.first;
+  last = all-append (λ (j : Interrupt). j.tick ≤ last_interrupt) is i h.last comes.last;
+  known = all-append (λ (j : Interrupt). j.handler < length names) is i h.known comes.known;
+  few = omega (arith, length-append is (i ∷ []));
+  few_at_once = few_more i is comes.room h.few_at_once;
+}
+
+each_comes : (names : List (List ℕ)) (before : List Interrupt) (i : ℕ) (ds : List Data)
     → each_fault (tables section.Interrupt (interrupt_named names) (interrupt_keys names)) before i ds ≡ None
-    → SameCounts sorted before → length sorted + length ds ≤ most_interrupts → AreInterrupts (length names) sorted
-    → AreInterrupts (length names) (fold put_in sorted (map (λ d. interrupt_named names (as_table d)) ds))
-each_comes names before sorted i [] none same few h = h
-each_comes names before sorted i (d ∷ ds) none same few h =
+    → length before + length ds ≤ most_interrupts → AreInterrupts (length names) before
+    → AreInterrupts (length names) (before ++ map (λ d. interrupt_named names (as_table d)) ds)
+each_comes names before i [] none few h = subst (AreInterrupts (length names)) (sym (append-nil before)) h
+each_comes names before i (d ∷ ds) none few h =
     let p = at_entry section.Interrupt i in
     let next = interrupt_named names (as_table d) in
     let here = none_fails (need (fault_at WrongKind p) (as_table d) (interrupt_keys names before p)) _ none in
     let comes = table_comes names before p (as_table d) here.0 in
-    let counts = same next.tick in
-    let room = comes.room in
-    let spread : count_at next.tick sorted < most_at_once = omega arith in
-    let one = length_put next sorted in
-    each_comes names (before ++ next ∷ []) (put_in sorted next) (i + 1) ds (none_fails _ [] here.1).0
-    (λ tick.
-    let put = count_more tick next sorted in
-    let first = count_add tick (next ∷ []) sorted in
-    let last = count_add tick before (next ∷ []) in
-    let alike = same tick in
-    omega arith)
-    (omega arith)
-    (one_more (length names) next sorted comes.first comes.last comes.known (omega arith) spread h)
+    subst (AreInterrupts (length names)) (append_assoc before (next ∷ []) (map (λ e. interrupt_named names (as_table e)) ds))
+    (each_comes names (before ++ next ∷ []) (i + 1) ds (none_fails _ [] here.1).0
+    (omega (arith, length-append before (next ∷ []))) (one_more names next before comes (omega arith) h))
 
 array_comes : (names : List (List ℕ)) (array : Option (List Data))
     → need (fault_at WrongKind (at_section section.Interrupt)) array (λ ds. first_fault (
     fails_if (nat_lt most_interrupts (length ds)) (fault_at TooMany (at_section section.Interrupt))
     ∷ each_fault (tables section.Interrupt (interrupt_named names) (interrupt_keys names)) [] 0 ds ∷ [])) ≡ None
-    → AreInterrupts (length names) (in_order (map (λ d. interrupt_named names (as_table d)) (unwrap_or array [])))
+    → AreInterrupts (length names) (map (λ d. interrupt_named names (as_table d)) (unwrap_or array []))
 array_comes names None none = cc
 array_comes names (Some ds) none =
     let here = none_fails (fails_if (nat_lt most_interrupts (length ds)) (fault_at TooMany (at_section section.Interrupt))) _ none in
     let few = ltb-false most_interrupts (length ds) (passes (nat_lt most_interrupts (length ds)) _ here.0) in
-    each_comes names [] [] 0 ds (none_fails _ [] here.1).0 (λ tick. refl) (omega arith) (none_yet (length names))
+    each_comes names [] 0 ds (none_fails _ [] here.1).0 (omega arith) (none_yet (length names))
 
 section_comes : (names : List (List ℕ)) (d : Option Data)
     → section_fault most_interrupts section.Interrupt (interrupt_named names) (interrupt_keys names) [] d ≡ None
-    → AreInterrupts (length names) (in_order (map (λ e. interrupt_named names (as_table e)) (elements_of d)))
+    → AreInterrupts (length names) (map (λ e. interrupt_named names (as_table e)) (elements_of d))
 section_comes names None none = none_yet (length names)
 section_comes names (Some d) none = array_comes names (array_of d) none
 
 pub taken_interrupts : (names : List (List ℕ)) (document : Members) → interrupts_fault names document ≡ None
-    → AreInterrupts (length names) (in_order (interrupts_named names document))
+    → AreInterrupts (length names) (interrupts_named names document)
 unfolding interrupts_fault interrupts_named
 taken_interrupts names document none = section_comes names (data_at section.Interrupt document) none
 

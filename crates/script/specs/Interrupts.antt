@@ -1,5 +1,5 @@
 -- The base interrupts of a document, whose handlers have these names.
-use Rattle.std.specs.Prelude.{ℕ, ◌==◌, nat_lt, nat_le, List, [], ◌∷◌, length, filter, fold, Option, Some, if◌then◌else◌}
+use Rattle.std.specs.Prelude.{ℕ, ◌==◌, nat_le, List, [], ◌∷◌, length, filter, Option, Some}
 use Rattle.toml.specs.Data.{Members}
 use Rattle.model.specs.Application.{Interrupt}
 use Rattle.model.specs.Scripts.{most_interrupts, most_at_once, last_interrupt}
@@ -41,14 +41,3 @@ interrupts_fault names document =
 -- its interrupts, in the order of the file
 unfoldable pub interrupts_named : List (List ℕ) → Members → List Interrupt
 interrupts_named names document = section_named (interrupt_named names) (data_at section.Interrupt document)
-
--- ---- their order
-
--- some interrupts in the order of their ticks, and one more after those of its tick
-abbrev pub put_in : List Interrupt → Interrupt → List Interrupt
-put_in [] i = i ∷ []
-put_in (j ∷ js) i = if nat_lt i.tick j.tick then i ∷ j ∷ js else j ∷ put_in js i
-
--- in the order in which they come
-abbrev pub in_order : List Interrupt → List Interrupt
-in_order interrupts = fold put_in [] interrupts

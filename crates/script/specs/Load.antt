@@ -12,7 +12,7 @@ use Rattle.script.specs.Values.{member_of, number_fault, number_or}
 use Rattle.script.specs.Entries.{Object, Entries, isr_names, names_of}
 use Rattle.script.specs.Sections.{data_at, no_entries, objects_fault, objects_named, groups_fault, groups_named, handlers_fault, handlers_named, tasks_fault, tasks_named}
 use Rattle.script.specs.Ops.{handler_ops_fault, scripts_fault, with_isr_ops, with_ops}
-use Rattle.script.specs.Interrupts.{interrupts_fault, interrupts_named, in_order}
+use Rattle.script.specs.Interrupts.{interrupts_fault, interrupts_named}
 use Rattle.script.specs.Points.{campaign_fault, campaign_named}
 
 -- the most ticks and steps that a file may ask for, and where it says nothing (profile)
@@ -86,7 +86,7 @@ app_named document =
       objects = map (λ (o : Object). o.kind) entries.objects;
       group_count = length entries.groups;
       handlers = map (with_isr_ops entries) entries.handlers;
-      interrupts = in_order (interrupts_named (isr_names entries) document);
+      interrupts = interrupts_named (isr_names entries) document;
       tasks = map (with_ops entries) entries.tasks;
       points = campaign_named (isr_names entries) document;
     }

@@ -10,14 +10,14 @@ ghost use Rattle.script.specs.Sections.{data_at};
 ghost use Rattle.script.specs.Load.{limits_fault, limits_named, load_fault, app_named};
 
 use crate::fault::{Fault, FaultKind, LoadError};
-use crate::interrupts::{in_order, interrupts};
+use crate::interrupts::interrupts;
 use crate::objects::kinds_of;
 use crate::ops::{check_handlers, check_scripts, handlers_of, tasks_of};
 use crate::place::{Key, Place, Section};
 use crate::points::points;
 use crate::readers::named_entries;
 use crate::values::{at_key, at_section, optional_number};
-use model::{App, Limits};
+use model::{App, BaseInterrupts, Limits};
 use std::alloc::Global;
 use toml::Table;
 
@@ -80,12 +80,12 @@ impl FromDocument for App {
         let entries = named_entries(document)?;
         check_handlers(&entries)?;
         check_scripts(&entries)?;
-        let interrupts = interrupts(document, &entries)?;
+        let listed = interrupts(document, &entries)?;
         let points = points(alloc, document, &entries)?;
         // No check fails, so that only memory may be wanting.
         let kinds = kinds_of(alloc, entries.objects.as_slice())?;
         let handlers = handlers_of(alloc, &entries)?;
-        let coming = in_order(alloc, interrupts.as_slice())?;
+        let interrupts = BaseInterrupts::new(alloc, listed.as_slice())?;
         let tasks = tasks_of(alloc, &entries)?;
         Ok(App::new(
             start,
@@ -93,7 +93,7 @@ impl FromDocument for App {
             kinds,
             entries.group_count(),
             handlers,
-            coming,
+            interrupts,
             tasks,
             points,
         ))

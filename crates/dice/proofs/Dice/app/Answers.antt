@@ -1,15 +1,15 @@
-use Rattle.std.proofs.Common.{arith, ◌-◌, ◌≤◌, refl, subst, sym, length, List}
+use Rattle.std.proofs.Common.{arith, ◌-◌, ◌≤◌, refl, subst, sym, length, List, ◌≡◌, ◌∙◌}
 use Rattle.std.specs.List.{AllByRecursion}
 use Rattle.model.specs.declared.object.ObjectKind.{ObjectKind}
-use Rattle.model.specs.Application.{Application, Definition, Handler}
+use Rattle.model.specs.Application.{Application, Definition, Handler, Interrupt}
 use Rattle.model.specs.declared.plan.PointEntry.{PointEntry}
 use Rattle.model.specs.Scripts.{IsPointEntry, most_points}
-use Rattle.dice.specs.Known.{AreKnown, IsKnownHandler}
-use Rattle.dice.proofs.Known.{are_handlers, are_interrupts, few_at, known_all}
+use Rattle.dice.specs.Known.{AreInterrupts, AreKnown, IsKnownHandler}
+use Rattle.dice.proofs.Known.{are_handlers, are_interrupts, few_at, known_all, of_ok}
 use Rattle.dice.proofs.Dice.app.Goals as goal
 
-pub new-requires-2 : goal.new-requires-2
-new-requires-2 c =
+pub new-requires-3 : goal.new-requires-3
+new-requires-3 c =
     let kinds : List ObjectKind = c.in_ok-objects.objects.items in
     let handlers : List Handler = c.in_ok-handlers.handlers.items in
     let tasks : List Definition = c.in_ok-tasks.tasks.items in
@@ -19,15 +19,16 @@ new-requires-2 c =
       objects = kinds;
       group_count = 2;
       handlers = handlers;
-      interrupts = c.in_ok-interrupts.interrupts.items;
+      interrupts = c.in_ok-interrupts.interrupts;
       tasks = tasks;
       points = c.new-points.result.items;
     } in
     let four = c.in_ok-tasks.ensures.four in
     let objects_few = c.in_ok-objects.ensures.few in
     let three = c.in_ok-handlers.ensures.three in
-    let few = c.in_ok-interrupts.ensures.few in
-    let formed = c.in_ok-interrupts.ensures.formed in
+    let of_interrupts : app.interrupts ≡ c.in_ok-listed.listed.items = of_ok c.new-2.result (λ interrupts. interrupts ≡ c.as_slice-3.result.now) c.in_ok-interrupts.interrupts c.in_ok-interrupts.ensures.value c.new-2.ensures ∙ c.as_slice-3.ensures.value in
+    let few : length app.interrupts ≤ 4 = subst (λ (is : List Interrupt). length is ≤ 4) (sym of_interrupts) c.in_ok-listed.ensures.few in
+    let formed : AreInterrupts 26 app.interrupts = subst (AreInterrupts 26) (sym of_interrupts) c.in_ok-listed.ensures.formed in
     record {
       some = omega arith;
       few = omega arith;
@@ -37,10 +38,9 @@ new-requires-2 c =
       few_groups = omega arith;
       handlers = are_handlers app kinds refl refl four handlers (subst (λ (objects : List ObjectKind). AllByRecursion (IsKnownHandler objects) handlers) c.as_slice-2.ensures.value c.in_ok-handlers.ensures.known);
       few_handlers = omega arith;
-      interrupts = are_interrupts app three c.in_ok-interrupts.interrupts.items formed.first formed.last formed.known;
+      interrupts = are_interrupts app three app.interrupts formed.first formed.last formed.known;
       few_interrupts = omega arith;
       few_at_once = λ tick. let here = few_at app tick in omega arith;
-      in_order = formed.in_order;
       known = known_all app refl four tasks (subst (λ (objects : List ObjectKind). AllByRecursion (λ (d : Definition). AreKnown objects d.script) tasks) c.as_slice.ensures.value c.in_ok-tasks.ensures.known);
       points = subst (AllByRecursion (IsPointEntry app)) (sym c.new-points.ensures.items) tt;
       few_points = subst (λ (points : List PointEntry). length points ≤ most_points) (sym c.new-points.ensures.items) (omega arith);

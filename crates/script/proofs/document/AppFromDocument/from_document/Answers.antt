@@ -8,12 +8,11 @@ use Rattle.toml.specs.View.{table_view}
 use Rattle.script.specs.declared.named_object.NamedObject.{NamedObject}
 use Rattle.script.specs.Entries.{Object, RawIsr, Entries, HasEntries, isr_names, object_view, raw_view, entries_view}
 use Rattle.script.specs.Ops.{with_ops, with_isr_ops}
-use Rattle.script.specs.Interrupts.{interrupts_named, in_order}
+use Rattle.script.specs.Interrupts.{interrupts_named}
 use Rattle.script.specs.Points.{campaign_named}
 use Rattle.script.proofs.Known.{known_tasks, known_handlers}
 use Rattle.script.proofs.Scripts.{tasks_nest}
-use Rattle.script.proofs.Coming.{AreInterrupts}
-use Rattle.script.proofs.Formed.{ArePoints, taken_interrupts, are_interrupts, few_come, taken_points, are_entries}
+use Rattle.script.proofs.Formed.{AreInterrupts, ArePoints, taken_interrupts, are_interrupts, few_come, taken_points, are_entries}
 use Rattle.script.proofs.document.AppFromDocument.from_document.Goals as goal
 
 abbrev HasFewOps : Handler → Type 0
@@ -22,8 +21,8 @@ HasFewOps h = (length h.name ≤ most_name_bytes) × (length h.ops ≤ most_hand
 pub tasks_of-requires : goal.tasks_of-requires
 tasks_of-requires c = tasks_nest (entries_view c.in_ok-entries.entries) c.in_ok-check_scripts.ensures.0
 
-pub new-requires : goal.new-requires
-new-requires c =
+pub new-requires-2 : goal.new-requires-2
+new-requires-2 c =
     let entries : Entries = entries_view c.in_ok-entries.entries in
     let app : Application = record {
       start = c.in_ok-start.start;
@@ -31,7 +30,7 @@ new-requires c =
       objects = c.in_ok-kinds.kinds.items;
       group_count = c.group_count.result;
       handlers = c.in_ok-handlers.handlers.items;
-      interrupts = c.in_ok-coming.coming.items;
+      interrupts = c.in_ok-interrupts.interrupts;
       tasks = c.in_ok-tasks.tasks.items;
       points = c.in_ok-points.points.items;
     } in
@@ -42,8 +41,8 @@ new-requires c =
     c.in_ok-kinds.ensures.kinds ∙ ap kinds c.as_slice.ensures.value in
     let of_handlers : app.handlers ≡ map (with_isr_ops entries) entries.handlers = c.in_ok-handlers.ensures.handlers in
     let of_tasks : app.tasks ≡ map (with_ops entries) entries.tasks = c.in_ok-tasks.ensures.tasks in
-    let of_interrupts : app.interrupts ≡ in_order (interrupts_named names document) =
-    c.in_ok-coming.ensures ∙ ap in_order (c.as_slice-2.ensures.value ∙ c.in_ok-interrupts.ensures.1) in
+    let of_interrupts : app.interrupts ≡ interrupts_named names document =
+    c.in_ok-interrupts.ensures ∙ c.as_slice-2.ensures.value ∙ c.in_ok-listed.ensures.1 in
     let of_points : app.points ≡ campaign_named names document = c.in_ok-points.ensures.1 in
     let count : length names ≡ length app.handlers =
     length-map entries.handlers (λ (h : RawIsr). h.name)
@@ -53,9 +52,9 @@ new-requires c =
       groups = c.group_count.ensures.count;
       tasks = ap length of_tasks ∙ length-map entries.tasks (with_ops entries);
     } in
-    let coming : AreInterrupts (length app.handlers) app.interrupts =
+    let interrupts : AreInterrupts (length app.handlers) app.interrupts =
     subst (λ n. AreInterrupts n app.interrupts) count
-    (subst (AreInterrupts (length names)) (sym of_interrupts) (taken_interrupts names document c.in_ok-interrupts.ensures.0)) in
+    (subst (AreInterrupts (length names)) (sym of_interrupts) (taken_interrupts names document c.in_ok-listed.ensures.0)) in
     let points : ArePoints (length app.handlers) app.points =
     subst (λ n. ArePoints n app.points) count
     (subst (ArePoints (length names)) (sym of_points) (taken_points names document c.in_ok-points.ensures.0)) in
@@ -79,10 +78,9 @@ new-requires c =
           subst (AllByRecursion (IsHandler app)) (sym of_handlers)
           (known_handlers app entries has c.in_ok-check_handlers.ensures.0 few);
       few_handlers = c.in_ok-handlers.ensures.few;
-      interrupts = are_interrupts app app.interrupts coming.first coming.last coming.known;
-      few_interrupts = coming.few;
-      few_at_once = λ tick. few_come app tick (coming.few_at_once tick);
-      in_order = coming.in_order;
+      interrupts = are_interrupts app app.interrupts interrupts.first interrupts.last interrupts.known;
+      few_interrupts = interrupts.few;
+      few_at_once = λ tick. few_come app tick (interrupts.few_at_once tick);
       known =
           subst (AllByRecursion (KnowsAll app)) (sym of_tasks)
           (known_tasks app entries has c.in_ok-check_scripts.ensures.0);
