@@ -5,6 +5,8 @@ ghost use Rattle.model.specs.Campaign.{totals_of};
 use crate::rows::{Part, Place};
 use model::{Run, Totals};
 use std::marker::Model;
+use std::thread;
+use std::thread::Threads;
 
 /// The rows of a campaign: those of each block stand in its place, one block after the other. All begin as the base run does.
 #[derive(Drop)]
@@ -71,5 +73,19 @@ impl Report {
         ensures sound { IsSound result.now }
     {
         &self.rows
+    }
+
+    /// Gives back the memory of the rows, that of each part in a thread of its own where one can be started: for so much, the
+    /// system takes its time.
+    pub(crate) fn free<R: Threads + Sync>(self, rt: &R) {
+        let Report { rows } = self;
+        let Rows {
+            base: _base,
+            parts,
+            places: _places,
+            totals: _,
+        } = rows;
+        // A part that comes to no thread is given back here.
+        let _freed = thread::map_vec(rt, parts, &|_part: Part| {});
     }
 }

@@ -109,7 +109,9 @@ pub fn serve_watched<T: Threads + Wait + Sync, R: Source, W: Sink, G: Gate + Syn
     let app = app_of(alloc, reader)?;
     let report = report_of(rt, alloc, &app, options, gate)?;
     write_report_in(rt, alloc, &app, &report, workers_of(&options), writer)?;
-    Ok(report.totals())
+    let totals = report.totals();
+    report.free(rt);
+    Ok(totals)
 }
 
 /// The same as `serve_watched`, with a gate that does nothing.

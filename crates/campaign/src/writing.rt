@@ -20,10 +20,10 @@ use report::{BaseEvents, ReportWriter, Title};
 use std::alloc::Global;
 use std::thread::Threads;
 
-// How long the texts of pieces are that threads spell, in bytes.
+// How long the text of a piece is at least that a thread spells, in bytes, and how long those of a round are together.
 const LEAST_PIECE: usize = 1 << 16;
 
-const MOST_PIECE: usize = 1 << 20;
+const MOST_ROUND: usize = 1 << 23;
 
 // No text that is longer than this is kept in memory, in bytes.
 const MOST_TEXT: usize = 1 << 24;
@@ -230,7 +230,7 @@ pub fn write_report<W: Sink>(app: &App, report: &Report, writer: &mut W) -> Resu
 }
 
 // How many bytes of text a speller spells in a round, where there are so many: some 64 kB, and where the rows' own events take
-// much memory, more, but with all spellers together not a thirtieth of it.
+// much memory, more: with all spellers together a twelfth of it, since an event takes 16 bytes, and at most 8 MB.
 fn length_of_pieces(rows: &Rows, spellers: usize) -> usize
     requires { 0 < spellers }
     ensures { 0 < result }
@@ -239,7 +239,8 @@ fn length_of_pieces(rows: &Rows, spellers: usize) -> usize
     for part in &rows.parts {
         events = events.saturating_add(part.trail.len());
     }
-    (events / spellers).clamp(LEAST_PIECE, MOST_PIECE)
+    let bytes = events.saturating_mul(4) / 3;
+    (bytes.min(MOST_ROUND) / spellers).max(LEAST_PIECE)
 }
 
 /// Writes the report of a campaign as `write_report` does, and faster: it takes memory for the text of the base run's events,
