@@ -19,11 +19,11 @@ use Rattle.groups.proofs.Standing.{stands_same}
 -- ---- one deed, and then another
 
 pub same : (s : State) → SameBitWaits s s
-same s = record { bits = refl; waits = λ i. refl; wants = λ i some. refl }
+same s = record { bits = λ group. refl; waits = λ i. refl; wants = λ i some. refl }
 
 pub same_both : (a b c : State) → SameBitWaits a b → SameBitWaits b c → SameBitWaits a c
 same_both a b c h k = record {
-  bits = k.bits ∙ h.bits;
+  bits = λ group. k.bits group ∙ h.bits group;
   waits = λ i. k.waits i ∙ h.waits i;
   wants = λ i some. k.wants i (ap is_some (h.waits i) ∙ some) ∙ h.wants i some;
 }
@@ -31,7 +31,7 @@ same_both a b c h k = record {
 -- the tasks and the bits are the same: another time, other objects, another one runs, ..
 pub same_parts : (s t : State) → t.tasks ≡ s.tasks → t.group_bits ≡ s.group_bits → SameBitWaits s t
 same_parts s t tasks bits = record {
-  bits = bits;
+  bits = λ group. ap (λ (bs : ℕ → ℕ). bs group) bits;
   waits = λ i. ap (λ (ts : List Task). bits_wait (get_or ts i no_task).status) tasks;
   wants = λ i some. ap (λ (ts : List Task). (get_or ts i no_task).progress.call.wants) tasks;
 }
@@ -44,7 +44,7 @@ same_task i t s waits wants =
     let W : ℕ → Task → Type 0 = λ j u. bits_wait u.status ≡ bits_wait (status_at s j) in
     let C : ℕ → Task → Type 0 = λ j u. is_some (bits_wait (status_at s j)) ≡ true → u.progress.call.wants ≡ (call_at s j).wants in
     record {
-      bits = refl;
+      bits = λ group. refl;
       waits = each-set no_task W s.tasks i t waits (λ j. refl);
       wants = each-set no_task C s.tasks i t wants (λ j some. refl);
     }

@@ -1,12 +1,15 @@
 -- The tasks that bits meet, and what these leave of the bits.
-use Rattle.std.proofs.Common.{length-set, ◌≡◌, ℕ, ◌<◌, Bool, true, false, Option, Some, List, [], ◌∷◌, ◌++◌, set, length, map, refl, ap, sym, ◌∙◌, subst, get_or, bit_or}
+use Rattle.std.proofs.Common.{length-set, ◌≡◌, ◌≢◌, ℕ, ◌<◌, inl, inr, Bool, true, false, Option, Some, List, [], ◌∷◌, ◌++◌, set, length, map, refl, ap, sym, ◌∙◌, subst, get_or, bit_or}
 use Rattle.std.specs.Prelude.{◌==◌, ◌||◌}
 use Rattle.std.specs.List.{filter, filter_map, fold}
+use Rattle.std.proofs.lemmas.Bool.{cases_eq}
+use Rattle.std.proofs.lemmas.List.{get_or-set_same, get_or-set_other}
 use Rattle.std.specs.Option.{option_map, unwrap_or}
 use Rattle.model.specs.declared.call.Condition.{Condition}
 use Rattle.model.specs.declared.call.CallProgress.{CallProgress}
-use Rattle.model.specs.State.{State, call_at, progress_at, with_bits, for_each}
+use Rattle.model.specs.State.{State, bits_at, call_at, progress_at, with_bits, for_each}
 use Rattle.model.specs.Groups.{bits_after_set, bits_left, bits_set, is_met, is_met_for, keep_answer, met_by, set as set_bits, wake_with_bits}
+use Rattle.model.proofs.Lists.{eqb-refl, eqb-apart}
 use Rattle.model.proofs.Sorting.{by_test}
 use Rattle.lists.specs.Lists.{Each, has_node, without}
 use Rattle.lists.proofs.Entries.{has_node-same}
@@ -56,7 +59,7 @@ module _ (v : EventGroups) (s : State) (h : StandsFor v s) (group : ℕ) where
       ∙ ap (λ (ts : List ℕ). fold bits_left bits (filter_map (λ task. (call_at s task).wants) ts)) (met_is bits)
 
   pub set_is : (mask : ℕ) → bit_or (bits_in v group) mask ≡ bits_set group mask s
-  set_is mask = ap (λ (bs : List ℕ). bit_or (get_or bs group 0) mask) h.bits
+  set_is mask = ap (λ (n : ℕ). bit_or n mask) (h.bits group)
 
 -- ---- one is woken
 
@@ -74,21 +77,31 @@ each_more deed s (j ∷ is) i = each_more deed (deed j s) is i
 
 -- ---- and what is left is the group's
 
-pub stands_with_bits : (v : EventGroups) (s : State) (group bits : ℕ) → StandsFor v s → StandsFor (record v { bits = set v.bits group bits }) (with_bits group bits s)
-stands_with_bits v s group bits h = record {
-  bits = ap (λ (bs : List ℕ). set bs group bits) h.bits;
+bits_own : (group bits : ℕ) (s : State) → bits_at (with_bits group bits s) group ≡ bits
+bits_own group bits s = let t = eqb-refl group in rw t refl
+
+bits_else : (group other bits : ℕ) (s : State) → other ≢ group → bits_at (with_bits group bits s) other ≡ bits_at s other
+bits_else group other bits s ne = let t = eqb-apart other group ne in rw t refl
+
+pub stands_with_bits : (v : EventGroups) (s : State) (group bits : ℕ) → group < length v.bits → StandsFor v s → StandsFor (record v { bits = set v.bits group bits }) (with_bits group bits s)
+stands_with_bits v s group bits known h = record {
+  bits = λ other. elim (cases_eq other group) [
+    | inl same ↦ let own : get_or (set v.bits group bits) group 0 ≡ bits_at (with_bits group bits s) group = get_or-set_same v.bits group bits 0 known ∙ sym (bits_own group bits s) in
+        subst (λ (k : ℕ). get_or (set v.bits group bits) k 0 ≡ bits_at (with_bits group bits s) k) (sym same) own
+    | inr apart ↦ get_or-set_other v.bits group other bits 0 apart ∙ h.bits other ∙ sym (bits_else group other bits s apart)
+  ];
   tasks = h.tasks;
   conditions = h.conditions;
   table = record { tickets = h.table.tickets; few = h.table.few; current = h.table.current; holders = h.table.holders };
 }
 
 -- The mask's bits are set, whom they meet are woken, and what is left is the group's.
-pub stands_set : (v : EventGroups) (s : State) (group mask bits left : ℕ) (met : List ℕ) (waiting : List (List (ℕ × ℕ))) → StandsFor v s → bits ≡ bits_set group mask s → met ≡ met_by group (bits_set group mask s) s → left ≡ bits_after_set group mask s
+pub stands_set : (v : EventGroups) (s : State) (group mask bits left : ℕ) (met : List ℕ) (waiting : List (List (ℕ × ℕ))) → group < length v.bits → bits ≡ bits_set group mask s → met ≡ met_by group (bits_set group mask s) s → left ≡ bits_after_set group mask s
     → StandsFor (record v { waiting = waiting }) (for_each (λ task. wake_with_bits task bits) met s) → StandsFor (record v { bits = set v.bits group left; waiting = waiting }) (set_bits group mask s)
 unfolding set_bits
-stands_set v s group mask bits left met waiting h bits_is met_is left_is woken =
+stands_set v s group mask bits left met waiting known bits_is met_is left_is woken =
     let P : ℕ → List ℕ → ℕ → Type 0 = λ b ms l. StandsFor (record v { bits = set v.bits group left; waiting = waiting }) (with_bits group l (for_each (λ task. wake_with_bits task b) ms s)) in
-    let here : P bits met left = stands_with_bits (record v { waiting = waiting }) (for_each (λ task. wake_with_bits task bits) met s) group left woken in
+    let here : P bits met left = stands_with_bits (record v { waiting = waiting }) (for_each (λ task. wake_with_bits task bits) met s) group left known woken in
     subst (λ (b : ℕ). P b (met_by group (bits_set group mask s) s) (bits_after_set group mask s)) bits_is
     (subst (λ (ms : List ℕ). P bits ms (bits_after_set group mask s)) met_is
     (subst (λ (l : ℕ). P bits met l) left_is here))

@@ -71,7 +71,7 @@ waits_for_bits v s h i group has = by_wait (bits_wait (status_at s i)) refl wher
 
 pub stands_same : (v : EventGroups) (s t : State) → StandsFor v s → SameBitWaits s t → IsTable t → StandsFor v t
 stands_same v s t h same table = record {
-  bits = h.bits ∙ sym same.bits;
+  bits = λ group. h.bits group ∙ sym (same.bits group);
   tasks = λ group. h.tasks group ∙ ap tasks_of (list_alike (bits_key group) refl s.tasks t.tasks (λ i. sym (key_same group (task_at t i) (task_at s i) (same.waits i))));
   conditions = λ group i has. same.wants i (waits_for_bits v s h i group has) ∙ h.conditions group i has;
   table = table;
@@ -82,7 +82,7 @@ stands_same v s t h same table = record {
 pub stands_left : (v : EventGroups) (s t : State) (i : ℕ) (u : Task) → StandsFor v s → i < length s.tasks → t.tasks ≡ set s.tasks i u → t.group_bits ≡ s.group_bits → bits_wait u.status ≡ None → IsTable t
     → StandsFor (record v { waiting = map (without i) v.waiting }) t
 stands_left v s t i u h l is bits none table = record {
-  bits = h.bits ∙ sym bits;
+  bits = λ group. h.bits group ∙ ap (λ (bs : ℕ → ℕ). bs group) (sym bits);
   tasks = λ group.
       ap tasks_in (entries_of-without i group v.waiting)
       ∙ tasks_in-without i (waiting_in v group)

@@ -63,7 +63,7 @@ impl Groups {
         ensures clear { result.bits ≡ replicate 16 0 }
         ensures nobody { result.waiting ≡ replicate 16 [] }
         ensures nothing { result.wants ≡ replicate 32 no_condition }
-        ensures stands { (s : State) → IsTable s → s.group_bits ≡ replicate 16 0
+        ensures stands { (s : State) → IsTable s → ((group : ℕ) → bits_at s group ≡ 0)
             → ((task : ℕ) → bits_wait (status_at s task) ≡ None) → StandsFor result s }
     {
         Groups {

@@ -117,20 +117,20 @@ same_parts s new tasks objects locked = record {
 }
 
 -- what tasks share, and how many `suspend_all` are in force
-abbrev pub shared_of : State → List Object × List ℕ × ℕ
+abbrev pub shared_of : State → List Object × (ℕ → ℕ) × ℕ
 shared_of s = (s.objects, s.group_bits, s.suspensions)
 
 pub rest_same : (k : Kernel) (s new : State) → RestStandsFor k s → new.tasks ≡ s.tasks → new.time ≡ s.time → ticks_of new ≡ ticks_of s → new.steps ≡ s.steps → new.stopped ≡ s.stopped → shared_of new ≡ shared_of s → new.locked ≡ s.locked → IsTable new → RestStandsFor k new
 rest_same k s new h tasks time ticks steps stopped shared locked table =
-    let same = same_parts s new tasks (ap (λ (x : List Object × List ℕ × ℕ). x.0) shared) locked in
-    let bits = bits_kept.same_parts s new tasks (ap (λ (x : List Object × List ℕ × ℕ). x.1) shared) in
+    let same = same_parts s new tasks (ap (λ (x : List Object × (ℕ → ℕ) × ℕ). x.0) shared) locked in
+    let bits = bits_kept.same_parts s new tasks (ap (λ (x : List Object × (ℕ → ℕ) × ℕ). x.1) shared) in
     record {
       progress = λ i. h.progress i ∙ ap (λ ts. (get_or ts i no_task).progress) (sym tasks);
       full = h.full;
       clock = clock-same k.clock s new h.clock tasks time ticks table;
       queues = stands_same s new same k.queues None h.queues table;
       groups = on_groups.stands_same k.groups s new h.groups bits table;
-      suspensions = h.suspensions ∙ sym (ap (λ (x : List Object × List ℕ × ℕ). x.2) shared);
+      suspensions = h.suspensions ∙ sym (ap (λ (x : List Object × (ℕ → ℕ) × ℕ). x.2) shared);
       awake = at_locked_same None s new same h.awake;
       steps = h.steps ∙ sym steps;
       stopped = h.stopped ∙ sym stopped;

@@ -112,8 +112,8 @@ pub record Object : Type 0 where
 pub record State : Type 0 where
   pub tasks : List Task
   pub objects : List Object
-  -- the bits of each event group, of those too that the application doesn't have
-  pub group_bits : List ℕ
+  -- the bits that are set of each event group
+  pub group_bits : ℕ → ℕ
   -- the time, without bound (`xTickCount`)
   pub time : ℕ
   -- the ticks since reset, held ones too
@@ -205,11 +205,11 @@ with_object object o s = record s { objects = slice_set s.objects object o }
 
 -- the bits of this event group
 abbrev pub bits_at : State → ℕ → ℕ
-bits_at s group = slice_index_or s.group_bits group 0
+bits_at s group = s.group_bits group
 
--- The event group's bits are now these.
+-- The event group's bits are now these, and those of the others are as they were.
 abbrev pub with_bits : ℕ → ℕ → State → State
-with_bits group bits s = record s { group_bits = slice_set s.group_bits group bits }
+with_bits group bits s = record s { group_bits = λ other. if other == group then bits else bits_at s other }
 
 -- A deed is done with this one, if there is one.
 abbrev pub for_one : {A : Type 0} → (A → State → State) → Option A → State → State

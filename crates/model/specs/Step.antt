@@ -1,5 +1,5 @@
 -- One step of the kernel: what the running task's op does, or idle, after the handlers that are injected.
-use Rattle.std.specs.Prelude.{ℕ, ◌+◌, ◌-◌, ◌&&◌, ◌==◌, Bool, true, false, List, [], ◌∷◌, Option, Some, None, if◌then◌else◌, map, length, replicate}
+use Rattle.std.specs.Prelude.{ℕ, ◌+◌, ◌-◌, ◌&&◌, ◌==◌, Bool, true, false, List, [], ◌∷◌, Option, Some, None, if◌then◌else◌, map, length}
 use Rattle.model.specs.declared.object.ObjectKind.{ObjectKind}
 use Rattle.model.specs.declared.object.ObjectKind.TheVariants.{Queue, Semaphore, Mutex}
 use Rattle.model.specs.declared.op.Op.{Op}
@@ -9,7 +9,6 @@ use Rattle.model.specs.declared.event.End.TheVariants as end
 use Rattle.model.specs.declared.event.Misuse.{Misuse}
 use Rattle.model.specs.declared.event.Misuse.TheVariants.{WhileSuspended, NotSuspended, NotHolder, EndedSuspended}
 use Rattle.model.specs.Application.{Application, Definition, op_at}
-use Rattle.model.specs.Scripts.{most_groups}
 use Rattle.model.specs.State.{State, Task, Object, Status, Ended, no_progress, no_object, status_at, progress_at, call_at, object_at, bits_at, for_each, printed}
 use Rattle.model.specs.Switching.{write, is_same, make_ready, choice, yield_now, settle, is_scheduler_suspended, unless_held}
 use Rattle.model.specs.Ops.{complete, answer, use_up, delay, delay_until, expect, open_loop, close_turn}
@@ -137,7 +136,7 @@ unfoldable pub nobody_ready : Application → State
 nobody_ready app = record {
   tasks = map (task_at_reset app.start) app.tasks;
   objects = map object_at_reset app.objects;
-  group_bits = replicate most_groups 0;
+  group_bits = λ group. 0;
   time = app.start;
   elapsed = 0;
   current = None;

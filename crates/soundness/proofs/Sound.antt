@@ -286,7 +286,7 @@ module _ (app : Application) (formed : IsWellFormed app) (hold : Hold) where
   }
 
   -- the event groups, and how many `suspend_all` are in force
-  pub otherwise : (s : State) (bits : List ℕ) (suspensions : ℕ) → IsSound app hold s → IsSound app hold (record s { group_bits = bits; suspensions = suspensions })
+  pub otherwise : (s : State) (bits : ℕ → ℕ) (suspensions : ℕ) → IsSound app hold s → IsSound app hold (record s { group_bits = bits; suspensions = suspensions })
   otherwise s bits suspensions h = record {
     table = record { tickets = h.table.tickets; few = h.table.few; current = h.table.current; holders = h.table.holders };
     tasks = h.tasks;

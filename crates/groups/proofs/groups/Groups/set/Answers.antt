@@ -1,4 +1,4 @@
-use Rattle.std.proofs.Common.{◌<◌, get_or, arith, refl, ◌≡◌, ℕ, List, set, sym, ◌∙◌, subst, ap, bit_or}
+use Rattle.std.proofs.Common.{◌<◌, get_or, arith, refl, ◌≡◌, ℕ, List, set, length, sym, ◌∙◌, subst, ap, bit_or}
 use Rattle.std.proofs.lemmas.List.{get_or-set_same}
 use Rattle.model.specs.declared.call.Condition.{Condition}
 use Rattle.model.specs.State.{bits_at}
@@ -46,8 +46,11 @@ returns-clause-stands c = λ s h.
     let bits : bit_or c.bits.result c.args.mask ≡ bits_set g c.args.mask s = ap (λ (b : ℕ). bit_or b c.args.mask) c.bits.ensures.bits ∙ set_is c.args.self.now s h g c.args.mask in
     let new = c.take_met-met.new.lists in
     let woken = c.take_met-met.ensures.woken w s refl h' in
+    let told = c.self.told in
+    let known : c.group.inside.number < 16 = c.group.invariant in
+    let there : g < length q.bits = subst (λ (k : ℕ). k < length q.bits) c.group.view_is (omega (arith, told, known)) in
     subst (λ (k : ℕ). StandsFor (record { bits = set q.bits k c.take_met-met.result.left; waiting = new; wants = q.wants }) (definitions.set g c.args.mask s)) (sym c.group.view_is)
-    (stands_set w s g c.args.mask (bit_or c.bits.result c.args.mask) c.take_met-met.result.left c.take_met-met.result.tasks.items new h' bits (returns-clause-met c s h) (returns-clause-after c s h) woken)
+    (stands_set w s g c.args.mask (bit_or c.bits.result c.args.mask) c.take_met-met.result.left c.take_met-met.result.tasks.items new there bits (returns-clause-met c s h) (returns-clause-after c s h) woken)
 
 pub returns-clause-kept : goal.returns-clause-kept
 returns-clause-kept c = λ s h.
@@ -58,5 +61,5 @@ returns-clause-kept c = λ s h.
     let known : n < 16 = c.group.invariant in
     let stands = returns-clause-stands c s h in
     sym (get_or-set_same bits n left 0 (omega (arith, told, known)))
-    ∙ ap (λ (bs : List ℕ). get_or bs n 0) stands.bits
+    ∙ stands.bits n
     ∙ ap (bits_at (definitions.set c.args.group c.args.mask s)) c.group.view_is
