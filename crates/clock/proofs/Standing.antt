@@ -536,7 +536,7 @@ module _ (t : Timeline) (s : State) (i : ℕ) (h : StandsFor t s) (l : i < lengt
 pub stands_waiting : (t : Timeline) (s : State) (i : ℕ) (list : WaitList) → StandsFor t s → i < length s.tasks → is_ready s i ≡ true → StandsBefore i (call_at s i).deadline t (wait_in i list s)
 unfolding wait_in
 stands_waiting t s i list h l ready =
-    let call : CallProgress = record (call_at s i) { list = Some list } in
+    let call : CallProgress = record (call_at s i) { waits = true } in
     let u : Task = record (task_at s i) { progress = record (progress_at s i) { call = call } } in
     let s1 : State = with_call i call s in
     let at : task_at s1 i ≡ u = get_or-set_same s.tasks i u no_task l in

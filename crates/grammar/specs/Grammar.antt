@@ -75,26 +75,26 @@ abbrev pub Answer : {O : Type 0} → (Option ℕ → Form O) → Form O
 Answer next = NumberUnless (codes "none") next
 
 -- how many ticks a call waits, which may be for ever
-abbrev pub Wait : {O : Type 0} → (Option ℕ → Form O) → Form O
-Wait next = NumberUnless (codes "forever") next
+abbrev pub WaitTime : {O : Type 0} → (Option ℕ → Form O) → Form O
+WaitTime next = NumberUnless (codes "forever") next
 
 -- the name of an object of a sort
-abbrev pub Object : {O : Type 0} → ObjectSort → (ℕ → Form O) → Form O
-Object sort next = Name (OfObject sort) next
+abbrev pub ObjectName : {O : Type 0} → ObjectSort → (ℕ → Form O) → Form O
+ObjectName sort next = Name (OfObject sort) next
 
 -- the name of an event group
-abbrev pub Group : {O : Type 0} → (ℕ → Form O) → Form O
-Group next = Name OfGroup next
+abbrev pub GroupName : {O : Type 0} → (ℕ → Form O) → Form O
+GroupName next = Name OfGroup next
 
 -- the name of a task
-abbrev pub Task : {O : Type 0} → (ℕ → Form O) → Form O
-Task next = Name OfTask next
+abbrev pub TaskName : {O : Type 0} → (ℕ → Form O) → Form O
+TaskName next = Name OfTask next
 
 -- the word and the arguments of each op that suspends or resumes
 abbrev pub suspension_forms : List (Word × Form Op)
 suspension_forms =
-    (codes "suspend", Task (λ task. Done (Suspend task)))
-    ∷ (codes "resume", Task (λ task. Done (Resume task)))
+    (codes "suspend", TaskName (λ task. Done (Suspend task)))
+    ∷ (codes "resume", TaskName (λ task. Done (Resume task)))
     ∷ (codes "suspend_all", Done SuspendAll)
     ∷ (codes "resume_all", Done ResumeAll)
     ∷ []
@@ -109,31 +109,31 @@ Bits next =
 -- those of each op on an event group
 abbrev pub group_forms : List (Word × Form Op)
 group_forms =
-    (codes "set", Group (λ group. Number (λ mask. Done (SetBits group mask))))
-    ∷ (codes "clear", Group (λ group. Number (λ mask. Done (ClearBits group mask))))
-    ∷ (codes "bits", Group (λ group. Done (GetBits group)))
-    ∷ (codes "wait", Group (λ group. Bits (λ condition. Wait (λ ticks. Done (WaitBits group condition ticks)))))
+    (codes "set", GroupName (λ group. Number (λ mask. Done (SetBits group mask))))
+    ∷ (codes "clear", GroupName (λ group. Number (λ mask. Done (ClearBits group mask))))
+    ∷ (codes "bits", GroupName (λ group. Done (GetBits group)))
+    ∷ (codes "wait", GroupName (λ group. Bits (λ condition. WaitTime (λ ticks. Done (WaitBits group condition ticks)))))
     ∷ suspension_forms
 
 -- those of each op on a semaphore or a mutex
 abbrev pub semaphore_forms : List (Word × Form Op)
 semaphore_forms =
-    (codes "take", Object Semaphore (λ semaphore. Wait (λ ticks. Done (Await semaphore Take ticks))))
-    ∷ (codes "give", Object Semaphore (λ semaphore. Done (Do semaphore Give)))
-    ∷ (codes "lock", Object Mutex (λ mutex. Wait (λ ticks. Done (Await mutex Lock ticks))))
-    ∷ (codes "unlock", Object Mutex (λ mutex. Done (GiveMutex mutex)))
+    (codes "take", ObjectName Semaphore (λ semaphore. WaitTime (λ ticks. Done (Await semaphore Take ticks))))
+    ∷ (codes "give", ObjectName Semaphore (λ semaphore. Done (Do semaphore Give)))
+    ∷ (codes "lock", ObjectName Mutex (λ mutex. WaitTime (λ ticks. Done (Await mutex Lock ticks))))
+    ∷ (codes "unlock", ObjectName Mutex (λ mutex. Done (GiveMutex mutex)))
     ∷ group_forms
 
 -- those of each op on an object
 abbrev pub object_forms : List (Word × Form Op)
 object_forms =
-    (codes "send", Object Queue (λ queue. Number (λ n. Wait (λ ticks. Done (Await queue (Send n) ticks)))))
-    ∷ (codes "send_front", Object Queue (λ queue. Number (λ n. Wait (λ ticks. Done (Await queue (SendFront n) ticks)))))
-    ∷ (codes "overwrite", Object Queue (λ queue. Number (λ n. Done (Do queue (Overwrite n)))))
-    ∷ (codes "receive", Object Queue (λ queue. Wait (λ ticks. Done (Await queue Receive ticks))))
-    ∷ (codes "peek", Object Queue (λ queue. Wait (λ ticks. Done (Await queue Peek ticks))))
-    ∷ (codes "waiting", Object Queue (λ queue. Done (MessagesWaiting queue)))
-    ∷ (codes "spaces", Object Queue (λ queue. Done (SpacesAvailable queue)))
+    (codes "send", ObjectName Queue (λ queue. Number (λ n. WaitTime (λ ticks. Done (Await queue (Send n) ticks)))))
+    ∷ (codes "send_front", ObjectName Queue (λ queue. Number (λ n. WaitTime (λ ticks. Done (Await queue (SendFront n) ticks)))))
+    ∷ (codes "overwrite", ObjectName Queue (λ queue. Number (λ n. Done (Do queue (Overwrite n)))))
+    ∷ (codes "receive", ObjectName Queue (λ queue. WaitTime (λ ticks. Done (Await queue Receive ticks))))
+    ∷ (codes "peek", ObjectName Queue (λ queue. WaitTime (λ ticks. Done (Await queue Peek ticks))))
+    ∷ (codes "waiting", ObjectName Queue (λ queue. Done (MessagesWaiting queue)))
+    ∷ (codes "spaces", ObjectName Queue (λ queue. Done (SpacesAvailable queue)))
     ∷ semaphore_forms
 
 -- those of each op
@@ -153,14 +153,14 @@ forms =
 -- those of each op of a handler, which never waits
 abbrev pub isr_forms : List (Word × Form IsrOp)
 isr_forms =
-    (codes "send", Object Queue (λ queue. Number (λ n. Done (isr.Do queue (Send n)))))
-    ∷ (codes "send_front", Object Queue (λ queue. Number (λ n. Done (isr.Do queue (SendFront n)))))
-    ∷ (codes "overwrite", Object Queue (λ queue. Number (λ n. Done (isr.Do queue (Overwrite n)))))
-    ∷ (codes "receive", Object Queue (λ queue. Done (isr.Do queue Receive)))
-    ∷ (codes "peek", Object Queue (λ queue. Done (isr.Do queue Peek)))
-    ∷ (codes "give", Object Semaphore (λ semaphore. Done (isr.Do semaphore Give)))
-    ∷ (codes "resume", Task (λ task. Done (isr.Resume task)))
-    ∷ (codes "bits", Group (λ group. Done (isr.GetBits group)))
+    (codes "send", ObjectName Queue (λ queue. Number (λ n. Done (isr.Do queue (Send n)))))
+    ∷ (codes "send_front", ObjectName Queue (λ queue. Number (λ n. Done (isr.Do queue (SendFront n)))))
+    ∷ (codes "overwrite", ObjectName Queue (λ queue. Number (λ n. Done (isr.Do queue (Overwrite n)))))
+    ∷ (codes "receive", ObjectName Queue (λ queue. Done (isr.Do queue Receive)))
+    ∷ (codes "peek", ObjectName Queue (λ queue. Done (isr.Do queue Peek)))
+    ∷ (codes "give", ObjectName Semaphore (λ semaphore. Done (isr.Do semaphore Give)))
+    ∷ (codes "resume", TaskName (λ task. Done (isr.Resume task)))
+    ∷ (codes "bits", GroupName (λ group. Done (isr.GetBits group)))
     ∷ (codes "mark", Number (λ n. Done (isr.Mark n)))
     ∷ []
 

@@ -5,7 +5,7 @@ ghost use Rattle.model.specs.declared.op.Op.{Op};
 ghost use Rattle.model.specs.declared.op.Op.TheVariants.{Await, Do, WaitBits};
 ghost use Rattle.model.specs.declared.op.IsrOp.{IsrOp};
 ghost use Rattle.model.specs.Scripts.{InRange};
-ghost use Rattle.grammar.specs.Grammar.{Naming, words_of, Done, Object, Group, Bits, Wait, forms, object_forms, semaphore_forms, group_forms, suspension_forms, isr_forms, read, read_by, if_in_range, op_of, isr_op_of, Spells, SpellsIsr};
+ghost use Rattle.grammar.specs.Grammar.{Naming, words_of, Done, ObjectName, GroupName, Bits, WaitTime, forms, object_forms, semaphore_forms, group_forms, suspension_forms, isr_forms, read, read_by, if_in_range, op_of, isr_op_of, Spells, SpellsIsr};
 
 use crate::finding::Finding;
 use crate::object_sort::ObjectSort;
@@ -26,7 +26,7 @@ fn do_op<F: Finding>(
     finding: &F,
 ) -> Option<Op>
     // What is still to be read is whether the text ends here.
-    ensures { let form = Object sort (λ object. Done (Do object access)) in MatchOption result
+    ensures { let form = ObjectName sort (λ object. Done (Do object access)) in MatchOption result
         (read (F.naming finding.now) form words.old ≡ None)
         (λ op. read (F.naming finding.now) form words.old ≡ read (F.naming finding.now) (Done op) words.new) }
 {
@@ -41,7 +41,7 @@ fn await_op<F: Finding>(
     finding: &F,
 ) -> Option<Op>
     // What is still to be read is whether the text ends here.
-    ensures { let form = Object sort (λ object. Wait (λ ticks. Done (Await object access ticks))) in MatchOption result
+    ensures { let form = ObjectName sort (λ object. WaitTime (λ ticks. Done (Await object access ticks))) in MatchOption result
         (read (F.naming finding.now) form words.old ≡ None)
         (λ op. read (F.naming finding.now) form words.old ≡ read (F.naming finding.now) (Done op) words.new) }
 {
@@ -53,7 +53,7 @@ fn await_op<F: Finding>(
 // The op that waits for bits of the group that the next word names, as the words after it say.
 fn wait_op<F: Finding>(words: &mut Words<'_>, finding: &F) -> Option<Op>
     // What is still to be read is whether the text ends here.
-    ensures { let form = Group (λ group. Bits (λ condition. Wait (λ ticks. Done (WaitBits group condition ticks)))) in MatchOption result
+    ensures { let form = GroupName (λ group. Bits (λ condition. WaitTime (λ ticks. Done (WaitBits group condition ticks)))) in MatchOption result
         (read (F.naming finding.now) form words.old ≡ None)
         (λ op. read (F.naming finding.now) form words.old ≡ read (F.naming finding.now) (Done op) words.new) }
 {

@@ -1,5 +1,5 @@
 -- Waits at objects, and what their ends do, leave the waits for bits as they are.
-use Rattle.std.proofs.Common.{◌≡◌, ℕ, ◌++◌, List, [], ◌∷◌, Option, Some, None, refl, ◌∙◌}
+use Rattle.std.proofs.Common.{◌≡◌, ℕ, true, ◌++◌, List, [], ◌∷◌, Option, Some, None, refl, ◌∙◌}
 use Rattle.std.specs.List.{AllByRecursion}
 use Rattle.std.specs.Option.{option_and_then}
 use Rattle.model.specs.declared.call.CallProgress.{CallProgress}
@@ -18,7 +18,7 @@ use Rattle.groups.proofs.Kept.{same, same_all_ready, same_both, same_call, same_
 pub same_wait_in : (i : ℕ) (list : WaitList) (s : State) → bits_wait (status_at s i) ≡ None → SameBitWaits s (wait_in i list s)
 unfolding wait_in
 same_wait_in i list s was =
-    let call : CallProgress = record (call_at s i) { list = Some list } in
+    let call : CallProgress = record (call_at s i) { waits = true } in
     let s1 : State = with_call i call s in
     let k : SameBitWaits s s1 = same_call i call s refl in
     let status : ℕ → Status = λ ticket. Waiting (record { list = list; priority = (task_at s i).priority; ticket = ticket; deadline = (call_at s i).deadline }) in

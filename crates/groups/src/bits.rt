@@ -17,8 +17,8 @@ pub(crate) fn is_met(bits: u32, condition: &Condition) -> bool
 }
 
 /// The bits without those of a mask.
-pub(crate) fn without(bits: u32, mask: u32) -> u32
-    ensures left { result ≡ definitions.without bits mask }
+pub(crate) fn bits_without(bits: u32, mask: u32) -> u32
+    ensures left { result ≡ definitions.bits_without bits mask }
 {
     bits & !mask
 }
@@ -28,7 +28,7 @@ pub(crate) fn bits_left(bits: u32, condition: &Condition) -> u32
     ensures left { result ≡ definitions.bits_left bits condition.now }
 {
     if condition.clear {
-        without(bits, condition.mask)
+        bits_without(bits, condition.mask)
     } else {
         bits
     }

@@ -10,7 +10,7 @@ ghost use Rattle.model.specs.Groups as definitions;
 ghost use Rattle.groups.specs.EventGroups.{bits_in, after_set, left_by, met_of, no_condition, waiting_in};
 ghost use Rattle.groups.specs.StandsFor.{StandsFor, bits_wait};
 
-use crate::bits::{bits_left, is_met, without};
+use crate::bits::{bits_left, bits_without, is_met};
 use crate::met::{Met, take_met};
 use lists::ListId;
 use model::{Condition, GroupId, TaskId};
@@ -112,14 +112,14 @@ impl Groups {
     pub fn clear(&mut self, group: GroupId, mask: u32) -> u32
         ensures before { result ≡ bits_in self.old group }
         ensures cleared { self.new ≡ record self.old {
-          bits = slice_set self.old.bits group (definitions.without (bits_in self.old group) mask);
+          bits = slice_set self.old.bits group (definitions.bits_without (bits_in self.old group) mask);
         } }
         ensures answer { (s : State) → StandsFor self.old s → result ≡ bits_at s group }
         ensures stands { (s : State) → StandsFor self.old s → StandsFor self.new
-            (with_bits group (definitions.without (bits_at s group) mask) s) }
+            (with_bits group (definitions.bits_without (bits_at s group) mask) s) }
     {
         let bits = self.bits(group);
-        self.bits[group.number as usize] = without(bits, mask);
+        self.bits[group.number as usize] = bits_without(bits, mask);
         bits
     }
 

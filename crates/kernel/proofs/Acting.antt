@@ -234,7 +234,7 @@ can_tick_still app k new c depth clock queues suspensions deed does = record {
     awake = suspensions ∙ c.advance.awake;
   };
   depth = depth ∙ c.depth;
-  objects = λ o a fit. subst (λ (q : Exchange). HasRoom a (object_in q.objects o)) (sym queues) (c.objects o a fit);
+  objects = λ o a fit. subst (λ (q : Exchange). HasRoom q o a) (sym queues) (c.objects o a fit);
 }
 
 -- ---- the task goes on at an op

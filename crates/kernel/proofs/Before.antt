@@ -122,7 +122,7 @@ module _ (task : ℕ) (list : WaitList) (k : Kernel) (s : State) (b : StandsBefo
         current = b.current;
         held = b.held;
         phase = b.phase;
-        waits = b.waits;
+        wait_list = b.wait_list;
         placed = b.placed;
       }
 
@@ -148,7 +148,7 @@ module _ (task : ℕ) (list : WaitList) (k : Kernel) (s : State) (b : StandsBefo
           current = b.current;
           held = b.held;
           phase = subst (λ (u : Task). u.progress.call.phase ≡ Place) (sym own_task) b.phase;
-          waits = subst (λ (u : Task). u.progress.call.list ≡ Some list) (sym own_task) b.waits;
+          wait_list = b.wait_list;
           placed = b.placed;
         }
 
@@ -173,7 +173,7 @@ module _ (task : ℕ) (list : WaitList) (k : Kernel) (s : State) (b : StandsBefo
         current = b.current;
         held = b.held;
         phase = subst (λ (p : Progress). p.call.phase ≡ Place) (sym (same_progress task)) b.phase;
-        waits = subst (λ (p : Progress). p.call.list ≡ Some list) (sym (same_progress task)) b.waits;
+        wait_list = b.wait_list;
         placed = b.placed;
       }
 
@@ -220,7 +220,7 @@ module _ (task : ℕ) (tl : WaitList) (k : Kernel) (s : State) (b : StandsBefore
       current = b.current;
       held = b.held;
       phase = b.phase;
-      waits = b.waits;
+      wait_list = b.wait_list;
       placed = b.placed;
     })
     by_case (Counted i l one) = subst (StandsBefore task tl (record k { queues = q })) (sym one) (awakened_before task tl k s b i l q (subst (queues.StandsFor q (Some (decider task tl s))) one there) (subst (AtLocked (Some (decider task tl s))) one (at_locked-wake_best (Some (decider task tl s)) list s b.awake)) (subst (SameBitWaits s) one (bits_elsewhere.same_wake_best list s)))

@@ -236,7 +236,7 @@ module _ (app : Application) where
   same_at_reset : SameWaits (nobody_ready app) (reset app)
   unfolding nobody_ready reset ready_at_reset
   same_at_reset = record {
-    objects = λ o. ap (λ (os : List Object). get_or os o no_object) (objects-all_ready (with_ops 0 app.tasks) (nobody_ready app));
+    objects = objects-all_ready (with_ops 0 app.tasks) (nobody_ready app);
     waits = λ i. nobody_waits-reset app i ∙ sym (call-reset app.start i app.tasks).1;
     awake = λ i. free_unwoken _ (nobody_waits-reset app i) ∙ sym (free_unwoken _ (call-reset app.start i app.tasks).1);
     locked = ap (λ (hold : Hold). hold.locked) (keeps-all_ready (with_ops 0 app.tasks) (nobody_ready app)).hold;
@@ -245,7 +245,7 @@ module _ (app : Application) where
   pub queues_at_reset : (v : Exchange) → queues.StandsFor v None (reset app) → IsTable (nobody_ready app) → queues.StandsFor v None (nobody_ready app)
   queues_at_reset v h table =
       let same = same_at_reset in
-      stands_same (reset app) (nobody_ready app) (record { objects = λ o. sym (same.objects o); waits = λ i. sym (same.waits i); awake = λ i. sym (same.awake i); locked = sym same.locked }) v None h table
+      stands_same (reset app) (nobody_ready app) (record { objects = sym same.objects; waits = λ i. sym (same.waits i); awake = λ i. sym (same.awake i); locked = sym same.locked }) v None h table
 
   pub nobody_awake-reset : AtLocked None (nobody_ready app)
   unfolding nobody_ready

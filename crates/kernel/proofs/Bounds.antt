@@ -281,7 +281,7 @@ module _ (app : Application) (formed : IsWellFormed app) (k : Kernel) (state : S
       in_state None deadline w p near = absurd p
       in_state (Some w) None of p near = tt
       in_state (Some w) (Some d) of p near =
-          let later : state.time < d = subst (λ (o : Option ℕ). IfSome o (λ time. state.time < time)) of.deadline p.2 in
+          let later : state.time < d = subst (λ (o : Option ℕ). IfSome o (λ time. state.time < time)) of.deadline p.1 in
           (later, omega arith)
 
       deadline_near : (call_at state task).phase ≡ Place → IsAhead k.clock.now (progress_in k.progress task).call.deadline

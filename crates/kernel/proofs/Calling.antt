@@ -1,5 +1,5 @@
 -- A call on a queue: what it makes of the states that the kernel stands for, whether or not a task is still to be placed.
-use Rattle.std.proofs.Common.{IfSome, length, ◌≡◌, ◌<◌, ℕ, zero, suc, Bool, true, false, List, [], ◌∷◌, set, Option, Some, None, refl, ap, sym, subst, ◌∙◌}
+use Rattle.std.proofs.Common.{IfSome, length, ◌≡◌, ◌<◌, ℕ, zero, suc, Bool, true, false, List, [], ◌∷◌, set, Option, Some, None, refl, ap, sym, subst, ◌∙◌, arith}
 use Rattle.model.specs.declared.call.WaitList.{WaitList}
 use Rattle.model.specs.declared.op.Access.{Access}
 use Rattle.model.specs.declared.op.Access.TheVariants.{Send, SendFront, Overwrite, Receive, Peek, Take, Give, Lock}
@@ -10,7 +10,7 @@ use Rattle.model.specs.Objects.{allows, object_after, list_woken, possible, answ
 use Rattle.objects.specs.Items.{object_in}
 use Rattle.objects.specs.WaitersStand.{Decider}
 use Rattle.objects.specs.Queues as queues
-use Rattle.objects.specs.Queues.{Exchange}
+use Rattle.objects.specs.Queues.{CanHold, Exchange}
 use Rattle.kernel.specs.declared.kernel.Kernel.{Kernel}
 use Rattle.kernel.specs.StandsFor.{Stands, At, AtAny, decider}
 use Rattle.kernel.specs.StandsFor.Stands.{Placed, Placing}
@@ -44,7 +44,7 @@ same_size caller Give x = refl
 same_size caller Lock x = refl
 
 -- there is room for what a call puts in, whatever is in it
-room_by_size : (a : Access) (x y : Object) → y.size ≡ x.size → queues.HasRoom a x → queues.HasRoom a y
+room_by_size : (a : Access) (x y : Object) → y.size ≡ x.size → CanHold a x → CanHold a y
 room_by_size (Overwrite n) x y e h = rw e h
 room_by_size (Send n) x y e h = tt
 room_by_size (SendFront n) x y e h = tt
@@ -62,8 +62,10 @@ size_set (y ∷ ys) (suc o) zero x e = refl
 size_set (y ∷ ys) (suc o) (suc j) x e = size_set ys o j x e
 
 pub room_still : (k : Kernel) (q : Exchange) (caller : Option ℕ) (o : ℕ) (a : Access) → q ≡ record k.queues { objects = set k.queues.objects o (object_after caller a (object_in k.queues.objects o)) } → (j : ℕ) (b : Access) → HasRoom k j b → HasRoom (record k { queues = q }) j b
-room_still k q caller o a is j b room =
-    room_by_size b (object_in k.queues.objects j) (object_in q.objects j) (ap (λ (v : Exchange). (object_in v.objects j).size) is ∙ size_set k.queues.objects o j (object_after caller a (object_in k.queues.objects o)) (same_size caller a (object_in k.queues.objects o))) room
+room_still k q caller o a is j b room = (
+  let same = ap (λ (v : Exchange). v.number) is in let below = room.0 in omega (arith, same, below),
+  room_by_size b (object_in k.queues.objects j) (object_in q.objects j) (ap (λ (v : Exchange). (object_in v.objects j).size) is ∙ size_set k.queues.objects o j (object_after caller a (object_in k.queues.objects o)) (same_size caller a (object_in k.queues.objects o))) room.1,
+)
 
 -- ---- the object changes
 

@@ -67,7 +67,7 @@ module _ (s : State) (i : ℕ) (list : WaitList) (object : ℕ) (l : i < length 
   decided = go_on i Place locked_then
 
   call : CallProgress
-  call = record (call_at s i) { list = Some list }
+  call = record (call_at s i) { waits = true }
 
   first : Task
   unfolding call
@@ -115,7 +115,7 @@ module _ (s : State) (i : ℕ) (list : WaitList) (object : ℕ) (l : i < length 
   unfolding last next_call
   decided_others j ne = get_or-set_other begun.tasks i j last no_task ne ∙ begun_others j ne
 
-  pub progress_decided : progress_at decided i ≡ record (progress_at s i) { call = record (call_at s i) { phase = Place; list = Some list } }
+  pub progress_decided : progress_at decided i ≡ record (progress_at s i) { call = record (call_at s i) { phase = Place; waits = true } }
   unfolding last next_call first call
   progress_decided = ap (λ (t : Task). t.progress) decided_at ∙ ap (λ (t : Task). record t.progress { call = record t.progress.call { phase = Place } }) begun_at
 
@@ -201,7 +201,7 @@ module _ (k : Kernel) (log : List Event) (s : State) (h : At k log s) (i o : ℕ
       }
 
   -- or it waits
-  module _ (a : Access) (nobody : CountsNobody q) (p : Progress) (is : p ≡ record (progress_in k.progress i) { call = record (progress_in k.progress i).call { phase = Place; list = Some (list_for o a) } }) where
+  module _ (a : Access) (nobody : CountsNobody q) (next : WaitList) (next_is : next ≡ list_for o a) (p : Progress) (is : p ≡ record (progress_in k.progress i) { call = record (progress_in k.progress i).call { phase = Place; waits = true } }) where
     list : WaitList
     list = list_for o a
 
@@ -225,9 +225,9 @@ module _ (k : Kernel) (log : List Event) (s : State) (h : At k log s) (i o : ℕ
     long : i < length k.progress
     long = let n = h.stands.rest.full in let m = h.stands.sched.table.few in let w = l in omega arith
 
-    own : p ≡ record (progress_at s i) { call = record (call_at s i) { phase = Place; list = Some list } }
+    own : p ≡ record (progress_at s i) { call = record (call_at s i) { phase = Place; waits = true } }
     unfolding list
-    own = is ∙ ap (λ (x : Progress). record x { call = record x.call { phase = Place; list = Some list } }) (h.stands.rest.progress i)
+    own = is ∙ ap (λ (x : Progress). record x { call = record x.call { phase = Place; waits = true } }) (h.stands.rest.progress i)
 
     progress_then : (j : ℕ) → progress_in (set k.progress i p) j ≡ progress_at after j
     unfolding list after
@@ -237,10 +237,10 @@ module _ (k : Kernel) (log : List Event) (s : State) (h : At k log s) (i o : ℕ
         (λ u. let apart : j ≢ i = (λ e. let w : eqb j i ≡ true = rw e (eqb-refl i) in absurd (cc)) in
         rw (get_or-set_other k.progress i j p _ apart) (h.stands.rest.progress j ∙ sym (progress_others s i list o l j apart)))
 
-    pub waits : AtAny (with_progress i p (record k { sched = v; queues = q })) log (lock i o Place (wait_in i (list_for o a) s))
+    pub waits : AtAny (with_progress i p (record k { sched = v; queues = q; wait_list = next })) log (lock i o Place (wait_in i (list_for o a) s))
     unfolding list after
     waits =
-        let new : Kernel = with_progress i p (record k { sched = v; queues = q }) in
+        let new : Kernel = with_progress i p (record k { sched = v; queues = q; wait_list = next }) in
         let kept = begun_free s i list o l in
         record {
           stands = Placing i list (record {
@@ -257,7 +257,7 @@ module _ (k : Kernel) (log : List Event) (s : State) (h : At k log s) (i o : ℕ
             current = current_then;
             held = held_then;
             phase = phase_then;
-            waits = waits_then;
+            wait_list = next_is;
             placed = λ j ne e. h.stands.rest.placed j (ap (λ (x : Progress). x.call.phase) (sym (get_or-set_other k.progress i j p _ ne)) ∙ e);
           });
           log = log_then;
@@ -290,9 +290,6 @@ module _ (k : Kernel) (log : List Event) (s : State) (h : At k log s) (i o : ℕ
 
           phase_then : (call_at after i).phase ≡ Place
           phase_then = ap (λ (x : Progress). x.call.phase) (progress_decided s i list o l)
-
-          waits_then : (call_at after i).list ≡ Some list
-          waits_then = ap (λ (x : Progress). x.call.list) (progress_decided s i list o l)
 
           log_then : log ≡ after.log
           log_then = h.log ∙ sym (begun_free s i list o l).6
@@ -388,14 +385,14 @@ hold_at b k log s h v on =
 
 -- The task's call has let go of the scheduler, and goes on with this phase.
 module _ (k new : Kernel) (log : List Event) (s : State) (h : At k log s) (i : ℕ) (c : CanLeave k i) (w : Schedule) (unhold : s.call_hold ≡ true → sched.StandsFor w (record s { call_hold = false })) (runs : w.current ≡ k.sched.current)
-    (v : Progress) (view : v ≡ progress_in k.progress i) (phase : Phase) (off : phase ≢ Place) (is : new ≡ with_progress i (record (progress_in k.progress i) { call = record v.call { phase = phase; list = None } }) (record k { sched = w })) where
+    (v : Progress) (view : v ≡ progress_in k.progress i) (phase : Phase) (off : phase ≢ Place) (is : new ≡ with_progress i (record (progress_in k.progress i) { call = record v.call { phase = phase; waits = false } }) (record k { sched = w })) where
   same : v ≡ progress_at s i
   same = view ∙ h.stands.rest.progress i
 
   pub freed : At new log (end_hold i phase s)
   freed = recalled (record k { sched = w }) new log (record s { call_hold = false }) (hold_at false k log s h w (unhold (is_held s.suspensions s.call_hold k.sched.depth h.stands.sched.depth (sym h.stands.rest.suspensions ∙ c.awake) c.held))) i
       (runs ∙ c.call.current)
-      (record v.call { phase = phase; list = None }) (record (call_at s i) { phase = phase; list = None }) is (ap (λ (p : Progress). record p.call { phase = phase; list = None }) same) off (λ _. refl)
+      (record v.call { phase = phase; waits = false }) (record (call_at s i) { phase = phase; waits = false }) is (ap (λ (p : Progress). record p.call { phase = phase; waits = false }) same) off (λ _. refl)
 
-  pub waited : is_some (call_at s i).list ≡ is_some v.call.list
-  waited = ap (λ (p : Progress). is_some p.call.list) (sym same)
+  pub waited : (call_at s i).waits ≡ v.call.waits
+  waited = ap (λ (p : Progress). p.call.waits) (sym same)

@@ -296,7 +296,7 @@ begun_before k s task list b log steps n e =
       current = b.current;
       held = b.held;
       phase = b.phase;
-      waits = b.waits;
+      wait_list = b.wait_list;
       placed = b.placed;
     }
 

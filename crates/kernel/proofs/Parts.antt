@@ -110,7 +110,7 @@ apart_back k s h i t = by_test (schedule.is_ready k.sched i)
 -- the same tasks, the same objects
 pub same_parts : (s new : State) → new.tasks ≡ s.tasks → new.objects ≡ s.objects → new.locked ≡ s.locked → SameWaits s new
 same_parts s new tasks objects locked = record {
-  objects = λ o. ap (λ (os : List Object). get_or os o no_object) objects;
+  objects = objects;
   waits = λ i. ap (λ ts. wait_of (get_or ts i no_task).status) tasks;
   awake = λ i. ap (λ ts. wait_if_awake (get_or ts i no_task).status) tasks;
   locked = locked;

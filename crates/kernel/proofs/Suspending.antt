@@ -295,7 +295,7 @@ module _ (k : Kernel) (s : State) (i : ℕ) (t : can_resume (status_at s i) ≡ 
         current = b.current;
         held = b.held;
         phase = subst (λ (u : Task). u.progress.call.phase ≡ Place) (sym own) b.phase;
-        waits = subst (λ (u : Task). u.progress.call.list ≡ Some list) (sym own) b.waits;
+        wait_list = b.wait_list;
         placed = λ j. each-set state.no_progress P k.progress i p (λ _. off) b.placed j;
       }))
 

@@ -337,10 +337,10 @@ module _ (app : Application) (new : Kernel) (log : List Event) (s : State) (i o 
   did h = h
 
 -- the hold ends
-pub left_after : (new : Kernel) (log : List Event) (s : State) (i : ℕ) → is_some (call_at s i).list ≡ true → At new log (choose (end_hold i Try s)) → At new log (leave_call i s)
+pub left_after : (new : Kernel) (log : List Event) (s : State) (i : ℕ) → (call_at s i).waits ≡ true → At new log (choose (end_hold i Try s)) → At new log (leave_call i s)
 unfolding leave_call
 left_after new log s i t h = rw t h
 
-pub left_before : (new : Kernel) (log : List Event) (s : State) (i : ℕ) → is_some (call_at s i).list ≡ false → At new log (preempt (end_hold i Try s)) → At new log (leave_call i s)
+pub left_before : (new : Kernel) (log : List Event) (s : State) (i : ℕ) → (call_at s i).waits ≡ false → At new log (preempt (end_hold i Try s)) → At new log (leave_call i s)
 unfolding leave_call
 left_before new log s i t h = rw t h

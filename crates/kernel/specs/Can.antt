@@ -46,9 +46,9 @@ abbrev pub HasLoopRoom : Op → ℕ → Type 0
 HasLoopRoom (Repeat n) nesting = nesting < 4
 HasLoopRoom _ nesting = Unit {0}
 
--- The object has room for what the call puts in, where nothing is in it.
+-- The object is there, and has room for what the call puts in, where nothing is in it.
 abbrev pub HasRoom : Kernel → ℕ → Access → Type 0
-HasRoom k object access = objects.HasRoom access (object_in k.queues.objects object)
+HasRoom k object access = objects.HasRoom k.queues object access
 
 -- The op speaks of such an object, if of any.
 abbrev pub HasObject : Kernel → Op → Type 0

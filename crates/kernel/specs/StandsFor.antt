@@ -58,7 +58,7 @@ pub record StandsBefore (task : ℕ) (list : WaitList) (k : Kernel) (s : State) 
   pub current : s.current ≡ Some task
   pub held : s.call_hold ≡ true
   pub phase : (call_at s task).phase ≡ Place
-  pub waits : (call_at s task).list ≡ Some list
+  pub wait_list : k.wait_list ≡ list
   pub placed : (other : ℕ) → other ≢ task → (progress_in k.progress other).call.phase ≢ Place
 
 -- The kernel stands for the state, in which each task is in its lists, or one is still to be placed there.

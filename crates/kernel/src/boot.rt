@@ -18,10 +18,13 @@ use crate::kernel::Kernel;
 use crate::progress::Progress;
 use clock::Clock;
 use groups::Groups;
-use model::{App, TaskDefinition, TaskId};
+use model::{App, ObjectId, TaskDefinition, TaskId, WaitList};
 use objects::Queues;
 use sched::Sched;
 use std::array;
+
+/// What stands where no wait at an object has begun yet.
+const NO_WAIT_LIST: WaitList = WaitList::ToReceive(ObjectId { number: 0 });
 
 /// The progress where there are no tasks: a value made for each place, since they are not copied.
 pub(crate) fn without_tasks() -> [Progress; 32]
@@ -107,6 +110,7 @@ impl Kernel {
             queues: Queues::new(app.objects()),
             groups: Groups::new(),
             suspensions: 0,
+            wait_list: NO_WAIT_LIST,
             next_interrupt: 0,
             steps: 0,
             stopped: None,

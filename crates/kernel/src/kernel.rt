@@ -30,6 +30,8 @@ pub struct Kernel {
     pub(crate) groups: Groups,
     /// How many `suspend_all` are in force.
     pub(crate) suspensions: u32,
+    /// The list in which the last wait at an object has begun, and into which its task is put.
+    pub(crate) wait_list: WaitList,
     /// The index of the base interrupt that is taken for the next. It is a guess, which is tested before it is used.
     pub(crate) next_interrupt: u32,
     pub(crate) steps: u32,
@@ -77,6 +79,7 @@ impl Kernel {
             queues: self.queues.copy(),
             groups: self.groups.copy(),
             suspensions: self.suspensions,
+            wait_list: self.wait_list,
             next_interrupt: self.next_interrupt,
             steps: self.steps,
             stopped: self.stopped,
@@ -93,6 +96,7 @@ impl Kernel {
         self.queues.set_from(&other.queues);
         self.groups.set_from(&other.groups);
         self.suspensions = other.suspensions;
+        self.wait_list = other.wait_list;
         self.next_interrupt = other.next_interrupt;
         self.steps = other.steps;
         self.stopped = other.stopped;
@@ -196,14 +200,14 @@ impl Kernel {
         progress.call.phase = phase;
     }
 
-    /// A task's call goes on with this phase, and waits in this list, if in any.
-    pub(crate) fn set_wait(&mut self, task: TaskId, phase: Phase, list: Option<WaitList>)
+    /// A task's call goes on with this phase, and has begun to wait, or hasn't.
+    pub(crate) fn set_wait(&mut self, task: TaskId, phase: Phase, waits: bool)
         ensures { let p = progress_in self.old.progress task in
-            self.new ≡ with_progress task (record p { call = record p.call { phase = phase; list = list } }) self.old }
+            self.new ≡ with_progress task (record p { call = record p.call { phase = phase; waits = waits } }) self.old }
     {
         let progress = &mut self.progress[task.number as usize];
         progress.call.phase = phase;
-        progress.call.list = list;
+        progress.call.waits = waits;
     }
 
     /// A task's call waits until this time at the latest, in ticks without bound, or for ever.

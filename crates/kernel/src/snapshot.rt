@@ -5,7 +5,7 @@ use crate::kernel::{Kernel, copy_progress, set_progress_from};
 use crate::progress::Progress;
 use clock::Clock;
 use groups::Groups;
-use model::{End, Memory};
+use model::{End, Memory, WaitList};
 use objects::QueuesSnapshot;
 use sched::Sched;
 use std::alloc::Global;
@@ -21,6 +21,7 @@ pub struct Snapshot {
     queues: QueuesSnapshot,
     groups: Groups,
     suspensions: u32,
+    wait_list: WaitList,
     next_interrupt: u32,
     steps: u32,
     stopped: Option<End>,
@@ -32,7 +33,7 @@ impl Model for Snapshot {
 
     ghost Value = { declared.Kernel };
 
-    ghost view = { λ s. record { progress = s.progress; sched = s.sched; clock = s.clock; queues = s.queues; groups = s.groups; suspensions = s.suspensions; next_interrupt = s.next_interrupt; steps = s.steps; stopped = s.stopped } };
+    ghost view = { λ s. record { progress = s.progress; sched = s.sched; clock = s.clock; queues = s.queues; groups = s.groups; suspensions = s.suspensions; wait_list = s.wait_list; next_interrupt = s.next_interrupt; steps = s.steps; stopped = s.stopped } };
 }
 
 impl Kernel {
@@ -49,6 +50,7 @@ impl Kernel {
             queues: self.queues.snapshot(alloc)?,
             groups: self.groups.copy(),
             suspensions: self.suspensions,
+            wait_list: self.wait_list,
             next_interrupt: self.next_interrupt,
             steps: self.steps,
             stopped: self.stopped,
@@ -65,6 +67,7 @@ impl Kernel {
         self.queues.restore(&snapshot.queues);
         self.groups.set_from(&snapshot.groups);
         self.suspensions = snapshot.suspensions;
+        self.wait_list = snapshot.wait_list;
         self.next_interrupt = snapshot.next_interrupt;
         self.steps = snapshot.steps;
         self.stopped = snapshot.stopped;

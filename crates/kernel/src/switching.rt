@@ -33,6 +33,7 @@ fn make_all_ready(sched: &mut Sched, queues: &mut Queues, groups: &mut Groups, t
     ensures gone { (s : State) → GroupsStandFor groups.old s → AreThere s tasks.now
         → GroupsStandFor groups.new (for_each make_ready tasks.now s) }
     ensures depth { sched.new.depth ≡ sched.old.depth }
+    ensures number { queues.new.number ≡ queues.old.number }
     ensures objects { queues.new.objects ≡ queues.old.objects }
 {
     for task in tasks {

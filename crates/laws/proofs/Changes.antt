@@ -288,7 +288,7 @@ module _ (P : State → Type 0)
   kept-wait_in : (i : ℕ) (list : WaitList) (s : State) → is_expired s i ≡ false → P s → P (wait_in i list s)
   unfolding wait_in
   kept-wait_in i list s t h =
-      let call : CallProgress = record (call_at s i) { list = Some list } in
+      let call : CallProgress = record (call_at s i) { waits = true } in
       taken (with_call i call s) i (λ ticket. Waiting (record { list = list; priority = (task_at s i).priority; ticket = ticket; deadline = (call_at s i).deadline })) refl (still_to_come (call_at s i).deadline s.time t) (kept-with_call i call s h)
 
   -- the scheduler is held and the object locked, and the call goes on
@@ -312,7 +312,7 @@ module _ (P : State → Type 0)
   kept-leave_call i s h =
       let t : State = record s { call_hold = false } in
       let free : P (end_hold i Try s) = kept-with_call i _ t (framed s t refl refl refl h) in
-      by_test (is_some (call_at s i).list)
+      by_test (call_at s i).waits
       (λ q. rw q (kept-choose (end_hold i Try s) free))
       (λ q. rw q (kept-preempt (end_hold i Try s) free))
 

@@ -171,7 +171,7 @@ current-unlock s = by_locked s.locked where
 
 idle-leave_call : (i : ℕ) (s : State) → IdleAlone (leave_call i s)
 unfolding leave_call
-idle-leave_call i s = by_test (is_some (call_at s i).list)
+idle-leave_call i s = by_test (call_at s i).waits
     (λ t. rw t (idle-choose (end_hold i Try s)))
     (λ t. rw t (idle-preempt (end_hold i Try s)))
 

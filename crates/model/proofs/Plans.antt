@@ -1,11 +1,11 @@
 -- Points that don't fall, and among which none is at the step of the third after it, are a plan; others aren't.
-use Rattle.std.proofs.Common.{◌≡◌, ◌<◌, ◌≤◌, ◌+◌, ◌||◌, ℕ, suc, Bool, true, false, List, [], ◌∷◌, length, nat_lt, refl, eqb, ltb, subst, arith}
+use Rattle.std.proofs.Common.{◌≡◌, ◌<◌, ◌≤◌, ◌+◌, ◌||◌, ℕ, suc, Bool, true, false, List, [], ◌∷◌, Option, Some, None, length, nat_lt, refl, eqb, ltb, subst, arith}
 use Rattle.std.specs.List.{filter, AllByRecursion, slice_get}
 use Rattle.std.proofs.lemmas.Bool.{ltb-false, le-ltb, eqb-false, eq-eqb, ne_eqb, or_parts, eqb-true}
 use Rattle.std.proofs.lemmas.List.{length-map}
 use Rattle.model.specs.declared.plan.Point.{Point}
 use Rattle.model.specs.Scripts.{Rises}
-use Rattle.model.specs.Plans.{AreInOrder, IsCrowded, most_injected, is_at}
+use Rattle.model.specs.Plans.{AreInOrder, IsCrowded, most_injected}
 use Rattle.model.specs.Run.{injected}
 use Rattle.model.proofs.Sorting.{by_test}
 
@@ -13,6 +13,11 @@ use Rattle.model.proofs.Sorting.{by_test}
 abbrev pub falls_from : ℕ → List Point → Bool
 falls_from last [] = false
 falls_from last (p ∷ ps) = nat_lt p.step last || falls_from p.step ps
+
+-- The point is at this step.
+abbrev is_at : ℕ → Option Point → Bool
+is_at n None = false
+is_at n (Some p) = eqb p.step n
 
 -- Some point is at the step of the third after it.
 abbrev pub fourth_found : List Point → Bool

@@ -1,5 +1,5 @@
 -- Calls on objects: one that waits, phase by phase; and one that does not.
-use Rattle.std.specs.Prelude.{ℕ, ◌||◌, Option, Some, is_some, true, if◌then◌else◌}
+use Rattle.std.specs.Prelude.{ℕ, ◌||◌, Option, Some, true, if◌then◌else◌}
 use Rattle.model.specs.declared.call.Phase.{Phase}
 use Rattle.model.specs.declared.call.Phase.TheVariants.{Start, Try, Decide, Place, Unlock, Leave}
 use Rattle.model.specs.declared.op.Access.{Access}
@@ -36,7 +36,7 @@ decide task object access s =
 unfoldable pub leave_call : ℕ → State → State
 leave_call task s =
     let free = end_hold task Try s in
-    if is_some (call_at s task).list then choose free else preempt free
+    if (call_at s task).waits then choose free else preempt free
 
 -- The phases of a call that may wait for so many ticks (`xQueueReceive` and the like). Its deadline is fixed at the first
 -- try; Place is where the code puts the task into its list (`vTaskPlaceOnEventList`), and changes nothing here.

@@ -16,12 +16,12 @@ abbrev pub is_met : ℕ → Condition → Bool
 is_met bits c = if c.all then bit_and bits c.mask == c.mask else nat_lt 0 (bit_and bits c.mask)
 
 -- the bits without those of a mask
-abbrev pub without : ℕ → ℕ → ℕ
-without bits mask = bits - bit_and bits mask
+abbrev pub bits_without : ℕ → ℕ → ℕ
+bits_without bits mask = bits - bit_and bits mask
 
 -- the bits that one leaves whose condition is met, and who may have asked to clear them
 abbrev pub bits_left : ℕ → Condition → ℕ
-bits_left bits c = if c.clear then without bits c.mask else bits
+bits_left bits c = if c.clear then bits_without bits c.mask else bits
 
 -- The task's call waits for such bits.
 abbrev pub want : ℕ → Condition → State → State
@@ -84,7 +84,7 @@ set_bits app task group mask _ s = preempt (answer app task (call_at s task).kep
 -- The mask's bits are cleared; the answer is the bits before (`xEventGroupClearBits`).
 unfoldable pub clear : Application → ℕ → ℕ → ℕ → State → State
 clear app task group mask s =
-    answer app task (Some (bits_at s group)) (with_bits group (without (bits_at s group) mask) s)
+    answer app task (Some (bits_at s group)) (with_bits group (bits_without (bits_at s group) mask) s)
 
 -- ---- wait
 

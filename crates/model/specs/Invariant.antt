@@ -2,7 +2,7 @@
 use Rattle.std.specs.Prelude.{◌≡◌, ◌<◌, ◌≤◌, ℕ, ◌+◌, Bool, true, false, List, [], ◌∷◌, Option, Some, None, ◌⊎◌, length, drop, slice_get, IfSome}
 use Rattle.std.specs.List.{AllByRecursion}
 use Rattle.model.specs.declared.object.ObjectKind.{ObjectKind}
-use Rattle.model.specs.declared.object.ObjectKind.TheVariants.{Queue, Semaphore, Mutex}
+use Rattle.model.specs.declared.object.ObjectKind.TheVariants.{Queue, Semaphore}
 use Rattle.model.specs.declared.op.Op.{Op}
 use Rattle.model.specs.declared.op.Op.TheVariants.{Work, Await, SetBits, WaitBits}
 use Rattle.model.specs.declared.call.Phase.{Phase}
@@ -126,8 +126,7 @@ pub record IsCall (hold : Hold) (now : ℕ) (op : Option Op) (t : Task) : Type 0
 abbrev pub IsObject : Option ObjectKind → Object → Type 0
 IsObject (Some (Queue size)) o = (o.size ≡ size) × (length o.items ≤ o.size)
 IsObject (Some (Semaphore max_count initial_count)) o = (o.max_count ≡ max_count) × (o.count ≤ o.max_count)
-IsObject (Some Mutex) o = o.max_count ≡ 1
-IsObject None o = Unit {0}
+IsObject _ o = Unit {0}
 
 -- A task's priority is at least that of the file, and one of those that there are, as is that of its wait.
 abbrev pub HasPriority : Task → Type 0
@@ -165,7 +164,7 @@ holds _ = false
 -- may have woken it already.
 abbrev pub IsPlacing : ℕ → Task → Option Wait → Type 0
 IsPlacing now t None = ⊥
-IsPlacing now t (Some w) = (t.progress.call.list ≡ Some w.list) × (w.priority ≡ t.priority) × IfSome w.deadline (λ deadline. now < deadline)
+IsPlacing now t (Some w) = (w.priority ≡ t.priority) × IfSome w.deadline (λ deadline. now < deadline)
 
 -- The task has come to the end of its script while a `suspend_all` is in force, and so it runs on.
 abbrev pub IsStranded : Application → State → ℕ → Type 0

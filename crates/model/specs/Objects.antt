@@ -1,5 +1,5 @@
 -- Queues, semaphores and mutexes: which calls are possible, what they answer, and what they do.
-use Rattle.std.specs.Prelude.{ℕ, ◌+◌, ◌-◌, ◌&&◌, Bool, true, [], ◌∷◌, ◌++◌, Option, Some, None, nat_lt, if◌then◌else◌, length, drop, slice_get, is_none}
+use Rattle.std.specs.Prelude.{ℕ, ◌+◌, ◌-◌, Bool, true, [], ◌∷◌, ◌++◌, Option, Some, None, nat_lt, if◌then◌else◌, length, drop, slice_get, is_none}
 use Rattle.model.specs.declared.call.WaitList.{WaitList}
 use Rattle.model.specs.declared.call.WaitList.TheVariants.{ToReceive, ToSend}
 use Rattle.model.specs.declared.op.Access.{Access}
@@ -17,7 +17,7 @@ allows o Receive = nat_lt 0 (length o.items)
 allows o Peek = nat_lt 0 (length o.items)
 allows o Take = nat_lt 0 o.count
 allows o Give = nat_lt o.count o.max_count
-allows o Lock = nat_lt 0 o.max_count && is_none o.holder
+allows o Lock = is_none o.holder
 
 -- what a call answers: the first item, or `none`; any other 1 where it is possible, else 0
 abbrev pub reply : Object → Access → Option ℕ

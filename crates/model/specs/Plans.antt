@@ -1,5 +1,5 @@
 -- Which points are a plan.
-use Rattle.std.specs.Prelude.{ℕ, ◌<◌, ◌≤◌, ◌==◌, Bool, false, List, length, Option, Some, None}
+use Rattle.std.specs.Prelude.{ℕ, ◌<◌, ◌≤◌, List, length}
 use Rattle.model.specs.declared.plan.Point.{Point}
 use Rattle.model.specs.Run.{injected}
 use Rattle.model.specs.Scripts.{Rises}
@@ -16,11 +16,6 @@ AreInOrder points = Rises (λ (p : Point). p.step) points
 pub record IsCrowded (points : List Point) : Type 0 where
   pub step : ℕ
   pub many : most_injected < length (injected points step)
-
--- The point is at this step.
-abbrev pub is_at : ℕ → Option Point → Bool
-is_at n None = false
-is_at n (Some p) = p.step == n
 
 -- The points are in order, and few are at one step.
 pub record IsPlan (points : List Point) : Type 0 where

@@ -101,7 +101,7 @@ pub record Object : Type 0 where
   pub size : ℕ
   -- the items of a queue, the first to leave first
   pub items : List ℕ
-  -- the greatest count of a semaphore (`uxMaxCount`); 1 of a mutex, which one task at most holds
+  -- the greatest count of a semaphore (`uxMaxCount`)
   pub max_count : ℕ
   -- the count of a semaphore
   pub count : ℕ
@@ -140,7 +140,7 @@ pub record State : Type 0 where
 
 -- a call that has not begun
 abbrev pub no_call : CallProgress
-no_call = record { phase = Start; deadline = None; list = None; inherited = false; wants = None; kept = None }
+no_call = record { phase = Start; deadline = None; waits = false; inherited = false; wants = None; kept = None }
 
 -- at the first op, of which nothing is done
 abbrev pub no_progress : Progress

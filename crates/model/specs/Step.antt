@@ -129,7 +129,7 @@ task_at_reset start d = record {
 abbrev pub object_at_reset : ObjectKind → Object
 object_at_reset (Queue size) = record no_object { size = size }
 object_at_reset (Semaphore max_count initial_count) = record no_object { max_count = max_count; count = initial_count }
-object_at_reset Mutex = record no_object { max_count = 1 }
+object_at_reset Mutex = no_object
 
 -- the kernel when no task has been Ready yet, and idle runs
 unfoldable pub nobody_ready : Application → State

@@ -1,5 +1,5 @@
 -- Tasks that wait at an object: how a wait begins, and how a task is woken.
-use Rattle.std.specs.Prelude.{ℕ, ◌+◌, ◌==◌, Bool, false, List, ◌++◌, Option, Some, None, nat_le, if◌then◌else◌, option_map, option_and_then, unwrap_or}
+use Rattle.std.specs.Prelude.{ℕ, ◌+◌, ◌==◌, Bool, true, false, List, ◌++◌, Option, Some, None, nat_le, if◌then◌else◌, option_map, option_and_then, unwrap_or}
 use Rattle.model.specs.declared.call.CallProgress.{CallProgress}
 use Rattle.model.specs.declared.call.Phase.{Phase}
 use Rattle.model.specs.declared.call.WaitList.{WaitList}
@@ -37,7 +37,7 @@ wait_in task list s =
     let call : CallProgress = call_at s task in
     let priority : ℕ = (task_at s task).priority in
     let status : ℕ → Status = λ ticket. Waiting (record { list = list; priority = priority; ticket = ticket; deadline = call.deadline }) in
-    take_ticket task status (with_call task (record call { list = Some list }) s)
+    take_ticket task status (with_call task (record call { waits = true }) s)
 
 -- The task's call may wait for so many ticks from now, or for ever (`vTaskInternalSetTimeOutState`).
 unfoldable pub set_deadline : ℕ → Option ℕ → State → State
@@ -51,7 +51,7 @@ is_expired s task = unwrap_or (option_map (λ deadline. nat_le deadline s.time) 
 -- The task's call holds the scheduler no more, and goes on with this phase.
 abbrev pub end_hold : ℕ → Phase → State → State
 end_hold task phase s =
-    with_call task (record (call_at s task) { phase = phase; list = None }) (record s { call_hold = false })
+    with_call task (record (call_at s task) { phase = phase; waits = false }) (record s { call_hold = false })
 
 -- ---- a wait ends
 

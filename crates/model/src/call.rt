@@ -49,8 +49,8 @@ pub struct CallProgress {
     pub phase: Phase,
     /// Until when it may wait, in ticks without bound; `None`: for ever.
     pub deadline: Option<u64>,
-    /// The list in which it has begun to wait, until its hold of the scheduler ends.
-    pub list: Option<WaitList>,
+    /// Whether it has begun to wait at an object, until its hold of the scheduler ends.
+    pub waits: bool,
     /// Whether its last wait has inherited: the mutex was held by another task, of lower base priority.
     pub inherited: bool,
     /// For which bits of an event group it waits.

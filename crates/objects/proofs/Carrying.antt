@@ -3,7 +3,7 @@ use Rattle.std.proofs.Common.{◌≡◌, ℕ, zero, suc, ◌+◌, ◌<◌, inl, 
 use Rattle.std.specs.Prelude.{nat_lt, not}
 use Rattle.std.specs.Option.{IfSome, is_none}
 use Rattle.std.proofs.lemmas.Bool.{cases_eq, cases_lt, le-ltb, lt-ltb}
-use Rattle.std.proofs.lemmas.List.{get_or-set_same, get_or-set_other, get_or_past}
+use Rattle.std.proofs.lemmas.List.{length-set, get_or-set_same, get_or-set_other, get_or_past}
 use Rattle.model.specs.declared.op.Access.{Access}
 use Rattle.model.specs.declared.op.Access.TheVariants.{Send, SendFront, Overwrite, Receive, Peek, Take, Give, Lock}
 use Rattle.model.specs.State.{State, Object, no_object, object_at, with_object}
@@ -20,10 +20,6 @@ some_room left n size e = elim (cases_lt 0 left) [
   | inr none ↦ le-ltb 0 left none ∙ sym (le-ltb n size (omega (arith, e, none)))
 ]
 
-pub and_right : (a b : Bool) → (a && b) ≡ true → b ≡ true
-and_right true b t = t
-and_right false b t = absurd cc
-
 -- nobody holds what is free
 pub free_of : (holder : Option ℕ) → is_none holder ≡ true → holder ≡ None
 free_of None e = refl
@@ -39,29 +35,11 @@ there_held [] o task e = absurd cc
 there_held (x ∷ xs) zero task e = omega arith
 there_held (x ∷ xs) (suc o) task e = let h = there_held xs o task e in omega (arith, h)
 
--- So is one on which a call is possible.
-none_possible : (a : Access) → allows no_object a ≡ true → HasRoom a no_object → ⊥
-none_possible (Send v) t room = cc
-none_possible (SendFront v) t room = cc
-none_possible (Overwrite v) t room = omega (arith, room)
-none_possible Receive t room = cc
-none_possible Peek t room = cc
-none_possible Take t room = cc
-none_possible Give t room = cc
-none_possible Lock t room = cc
-
-there_possible : (xs : List Object) (o : ℕ) (a : Access) → allows (get_or xs o no_object) a ≡ true → HasRoom a (get_or xs o no_object) → o < length xs
-there_possible xs o a t room = elim (cases_lt o (length xs)) [
-  | inl below ↦ below
-  | inr past ↦
-      let none : get_or xs o no_object ≡ no_object = get_or_past xs o no_object past in
-      absurd (none_possible a (ap (λ (x : Object). allows x a) (sym none) ∙ t) (subst (HasRoom a) none room))
-]
-
 module _ (v : Exchange) (d : Option Decider) (s : State) (o : ℕ) (h : StandsFor v d s) (known : o < length v.objects) where
   -- an object is another now
   stands_put : o < length s.objects → (x : Object) → IfSome x.holder (λ i. i < length s.tasks) → StandsFor (record v { objects = set v.objects o x }) d (with_object o x s)
   stands_put there x held = record {
+    number = length-set s.objects o x ∙ h.number;
     objects = λ k. elim (cases_eq k o) [
       | inl same ↦
           subst (λ (j : ℕ). object_in (set v.objects o x) j ≡ object_at (with_object o x s) j) (sym same)
@@ -82,12 +60,12 @@ module _ (v : Exchange) (d : Option Decider) (s : State) (o : ℕ) (h : StandsFo
   }
 
   -- a possible call is carried out
-  pub stands_carried : (new : Exchange) (caller : Option ℕ) (a : Access) → allows (object_in v.objects o) a ≡ true → HasRoom a (object_in v.objects o) → new ≡ record v { objects = set v.objects o (object_after caller a (object_in v.objects o)) } → IfSome caller (λ i. i < length s.tasks)
+  pub stands_carried : (new : Exchange) (caller : Option ℕ) (a : Access) → o < v.number → new ≡ record v { objects = set v.objects o (object_after caller a (object_in v.objects o)) } → IfSome caller (λ i. i < length s.tasks)
       → StandsFor new d (with_object o (object_after caller a (object_at s o)) s)
-  stands_carried new caller a possible room e l =
+  stands_carried new caller a there e l =
       subst (λ (w : Exchange). StandsFor w d (with_object o (object_after caller a (object_at s o)) s)) (sym e)
       (subst (λ (x : Object). StandsFor (record v { objects = set v.objects o (object_after caller a x) }) d (with_object o (object_after caller a (object_at s o)) s)) (sym (h.objects o))
-      (stands_put (there_possible s.objects o a (ap (λ (x : Object). allows x a) (sym (h.objects o)) ∙ possible) (subst (HasRoom a) (h.objects o) room)) (object_after caller a (object_at s o)) (held_after caller a (object_at s o) (length s.tasks) l (h.waiters.table.holders o))))
+      (stands_put (let many = h.number in omega (arith, many, there)) (object_after caller a (object_at s o)) (held_after caller a (object_at s o) (length s.tasks) l (h.waiters.table.holders o))))
 
   -- a mutex that a task holds is freed
   pub stands_freed : (new : Exchange) (task : ℕ) → (object_at s o).holder ≡ Some task → new ≡ record v { objects = set v.objects o (record (object_in v.objects o) { holder = None }) } → StandsFor new d (with_object o (record (object_at s o) { holder = None }) s)

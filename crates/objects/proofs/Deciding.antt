@@ -37,7 +37,7 @@ pub stands_unseen : (v : Exchange) (d : Option Decider) (s : State) (time elapse
     → StandsFor v d (record s { time = time; elapsed = elapsed; call_hold = held; steps = steps; stopped = stopped; log = log })
 stands_unseen v d s time elapsed steps held stopped log h =
     stands_same s (record s { time = time; elapsed = elapsed; call_hold = held; steps = steps; stopped = stopped; log = log })
-    (record { objects = λ o. refl; waits = λ i. refl; awake = λ i. refl; locked = refl }) v d h
+    (record { objects = refl; waits = λ i. refl; awake = λ i. refl; locked = refl }) v d h
     (record { tickets = h.waiters.table.tickets; few = h.waiters.table.few; current = h.waiters.table.current; holders = h.waiters.table.holders })
 
 -- A task goes on with its call, or in its script.
@@ -51,7 +51,7 @@ stands_gone_on v d s i phase h = stands_staying v d s i (record (progress_at s i
 
 -- Who is woken stays in its list.
 pub stands_awaken : (v : Exchange) (d : Option Decider) (s : State) (i : ℕ) → StandsFor v d s → IfSome v.lock (Counts (awaken i s)) → StandsFor v d (awaken i s)
-stands_awaken v d s i h counts = record { objects = h.objects; waiters = stands_awakened v.waiting d s i h.waiters; locked = h.locked; counts = counts }
+stands_awaken v d s i h counts = record { number = h.number; objects = h.objects; waiters = stands_awakened v.waiting d s i h.waiters; locked = h.locked; counts = counts }
 
 -- ---- nobody is counted
 
@@ -95,7 +95,7 @@ module _ (s : State) (i : ℕ) (q : WaitList) where
   pub waits_now : i < length s.tasks → wait_if_awake (status_at (wait_in i q s) i) ≡ None
   unfolding wait_in
   waits_now l =
-      let u : Task = record (task_at s i) { progress = record (progress_at s i) { call = record (call_at s i) { list = Some q } } } in
+      let u : Task = record (task_at s i) { progress = record (progress_at s i) { call = record (call_at s i) { waits = true } } } in
       ap (λ (t : Task). wait_if_awake t.status) (get_or-set_same (set s.tasks i u) i _ no_task (rw length-set l))
 
   counts_begun : (lock : Option Lock) → i < length s.tasks → IfSome lock (λ (l : Lock). (l.receivers ≡ 0) × (l.senders ≡ 0)) → IfSome lock (Counts s) → IfSome lock (Counts (wait_in i q s))
@@ -118,6 +118,7 @@ locked_begun s i q = refl
 pub stands_begins : (v : Exchange) (s : State) (i : ℕ) (q : WaitList) → StandsFor v None s → i < length s.tasks → wait_of (status_at s i) ≡ None → CountsNobody v
     → StandsFor v (Some (record { task = i; list = q; priority = (task_at s i).priority })) (wait_in i q s)
 stands_begins v s i q h l none nobody = record {
+  number = ap length (objects_begun s i q) ∙ h.number;
   objects = λ o. h.objects o ∙ sym (ap (λ os. object_in os o) (objects_begun s i q));
   waiters = stands_decided v.waiting i (absent v s h i none) s q h.waiters l;
   locked = h.locked ∙ sym (locked_begun s i q);

@@ -1,12 +1,12 @@
 -- What leaves the waits as they are leaves the queues standing for the state.
-use Rattle.std.proofs.Common.{◌≡◌, ℕ, suc, ◌+◌, List, [], ◌∷◌, Option, Some, None, refl, ap, sym, subst, ◌∙◌, get_or}
+use Rattle.std.proofs.Common.{length, ◌≡◌, ℕ, suc, ◌+◌, List, [], ◌∷◌, Option, Some, None, refl, ap, sym, subst, ◌∙◌, get_or}
 use Rattle.std.specs.List.{AllByRecursion}
 use Rattle.std.specs.Option.{IfSome, is_some, option_and_then}
 use Rattle.model.specs.declared.call.CallProgress.{CallProgress}
 use Rattle.model.specs.declared.call.Phase.{Phase}
 use Rattle.model.specs.declared.call.WaitList.{WaitList}
 use Rattle.model.specs.declared.call.WaitList.TheVariants.{ToReceive, ToSend}
-use Rattle.model.specs.State.{State, Task, Progress, Status, Ready, no_task, wait_if_awake, task_at, status_at, progress_at, call_at, with_task, with_call, with_progress, go_on, take_ticket}
+use Rattle.model.specs.State.{Object, State, Task, Progress, Status, Ready, no_task, wait_if_awake, task_at, status_at, progress_at, call_at, with_task, with_call, with_progress, go_on, take_ticket}
 use Rattle.model.specs.Order.{Key, Entry, in_order, keyed}
 use Rattle.model.specs.Switching.{make_ready, to_back, is_ready}
 use Rattle.model.specs.Invariant.{IsTable, wait_of}
@@ -15,6 +15,7 @@ use Rattle.model.proofs.Tables.{each-set}
 use Rattle.model.proofs.Statuses.{free_unwoken, ready_free}
 use Rattle.task_lists.specs.Priorities.{with_priorities}
 use Rattle.objects.specs.declared.lock.Lock.{Lock}
+use Rattle.objects.specs.Items.{object_in}
 use Rattle.objects.specs.WaitersStand.{Decider, FirstAwake, is_awake, standing}
 use Rattle.objects.specs.Queues.{Counts, Exchange, SameWaits, StandsFor}
 use Rattle.objects.proofs.Keys.{standing_key}
@@ -46,7 +47,8 @@ module _ (s t : State) (same : SameWaits s t) where
 
   pub stands_same : (v : Exchange) (d : Option Decider) → StandsFor v d s → IsTable t → StandsFor v d t
   stands_same v d h table = record {
-    objects = λ o. h.objects o ∙ sym (same.objects o);
+    number = ap length same.objects ∙ h.number;
+    objects = λ o. h.objects o ∙ sym (ap (λ (os : List Object). object_in os o) same.objects);
     waiters = record { lists = λ list. h.waiters.lists list ∙ ap with_priorities (standing_same list); table = table };
     locked = h.locked ∙ sym same.locked;
     counts = counts_same v.lock h.counts;
@@ -55,10 +57,10 @@ module _ (s t : State) (same : SameWaits s t) where
 -- ---- one deed, and then another
 
 pub same : (s : State) → SameWaits s s
-same s = record { objects = λ o. refl; waits = λ i. refl; awake = λ i. refl; locked = refl }
+same s = record { objects = refl; waits = λ i. refl; awake = λ i. refl; locked = refl }
 
 pub same_both : (a b c : State) → SameWaits a b → SameWaits b c → SameWaits a c
-same_both a b c h k = record { objects = λ o. k.objects o ∙ h.objects o; waits = λ i. k.waits i ∙ h.waits i; awake = λ i. k.awake i ∙ h.awake i; locked = k.locked ∙ h.locked }
+same_both a b c h k = record { objects = k.objects ∙ h.objects; waits = λ i. k.waits i ∙ h.waits i; awake = λ i. k.awake i ∙ h.awake i; locked = k.locked ∙ h.locked }
 
 -- ---- a task changes
 
@@ -67,7 +69,7 @@ same_task i t s waits awake =
     let W : ℕ → Task → Type 0 = λ j u. wait_of u.status ≡ wait_of (status_at s j) in
     let A : ℕ → Task → Type 0 = λ j u. wait_if_awake u.status ≡ wait_if_awake (status_at s j) in
     record {
-      objects = λ o. refl;
+      objects = refl;
       waits = each-set no_task W s.tasks i t waits (λ j. refl);
       awake = each-set no_task A s.tasks i t awake (λ j. refl);
       locked = refl;

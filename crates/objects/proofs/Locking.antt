@@ -1,5 +1,5 @@
 -- The lock of an object, over the whole of the queues.
-use Rattle.std.proofs.Common.{◌≡◌, ℕ, false, Option, Some, None, List, [], ◌∷◌, ◌++◌, sym, ◌∙◌, ap, subst, refl, eqb}
+use Rattle.std.proofs.Common.{length, ◌≡◌, ℕ, false, Option, Some, None, List, [], ◌∷◌, ◌++◌, sym, ◌∙◌, ap, subst, refl, eqb}
 use Rattle.std.specs.Option.{IfSome, is_some, option_map, unwrap_or}
 use Rattle.std.proofs.lemmas.Option.{same_Some}
 use Rattle.model.specs.declared.call.WaitList.{WaitList}
@@ -33,6 +33,7 @@ pub stands_locked : (v : Exchange) (d : Option Decider) (s : State) (o : ℕ) �
 stands_locked v d s o h nobody =
     let new : State = record s { locked = Some o } in
     record {
+      number = h.number;
       objects = h.objects;
       waiters = record { lists = h.waiters.lists; table = record { tickets = h.waiters.table.tickets; few = h.waiters.table.few; current = h.waiters.table.current; holders = h.waiters.table.holders } };
       locked = refl;
@@ -55,19 +56,20 @@ pub stands_unlocked_none : (v : Exchange) (s : State) → StandsFor v None s →
 unfolding unlock
 stands_unlocked_none v s h e = subst (λ (x : Option ℕ). StandsFor v None (for_one unlock_object x s)) (sym (ap locked_by e) ∙ h.locked) h
 
-pub stands_unlocked : (v : Exchange) (w : List (List (ℕ × ℕ))) (s : State) (l : Lock) → StandsFor v None s → v.lock ≡ Some l → WaitersStand w None (unlock s) → StandsFor (record { objects = v.objects; waiting = w; lock = None }) None (unlock s)
+pub stands_unlocked : (v : Exchange) (w : List (List (ℕ × ℕ))) (s : State) (l : Lock) → StandsFor v None s → v.lock ≡ Some l → WaitersStand w None (unlock s) → StandsFor (record { number = v.number; objects = v.objects; waiting = w; lock = None }) None (unlock s)
 unfolding unlock
 stands_unlocked v w s l h e stand =
     let js : List ℕ = tasks_of (awakened s (ToReceive l.object)) ++ tasks_of (awakened s (ToSend l.object)) in
     let is : Some l.object ≡ s.locked = sym (ap locked_by e) ∙ h.locked in
     let own : WaitersStand w None (unlock_object l.object s) = subst (λ (x : Option ℕ). WaitersStand w None (for_one unlock_object x s)) (sym is) stand in
-    let one : StandsFor (record { objects = v.objects; waiting = w; lock = None }) None (unlock_object l.object s) = record {
+    let one : StandsFor (record { number = v.number; objects = v.objects; waiting = w; lock = None }) None (unlock_object l.object s) = record {
+      number = ap length (objects-all_ready js (opened s)) ∙ h.number;
       objects = λ k. h.objects k ∙ sym (ap (λ (os : List Object). object_in os k) (objects-all_ready js (opened s)));
       waiters = own;
       locked = sym (locked-all_ready (opened s) js);
       counts = tt;
     } in
-    subst (λ (x : Option ℕ). StandsFor (record { objects = v.objects; waiting = w; lock = None }) None (for_one unlock_object x s)) is one
+    subst (λ (x : Option ℕ). StandsFor (record { number = v.number; objects = v.objects; waiting = w; lock = None }) None (for_one unlock_object x s)) is one
 
 -- the best waiter of a list is woken
 
@@ -106,12 +108,13 @@ counted_at l m (ToSend o) v d s e h = by_test (eqb l.object o)
     (subst (λ (k : ℕ). StandLocked v d l.object l.receivers (one_more l.senders) (wake_best (ToSend k) s)) same (stands_sent v d l.object l.receivers l.senders s h)))
     (λ t. let f = rw t at e in absurd (cc))
 
-pub stands_counted : (objects : List Object) (waiting : List (List (ℕ × ℕ))) (lock : Option Lock) (m : Lock) (list : WaitList) (d : Option Decider) (s : State) → Some m ≡ counted_by list lock
-    → StandsFor (record { objects = objects; waiting = waiting; lock = lock }) d s → StandsFor (record { objects = objects; waiting = waiting; lock = Some m }) d (wake_best list s)
-stands_counted objects waiting None m list d s e h = absurd (cc)
-stands_counted objects waiting (Some l) m list d s e h =
+pub stands_counted : (number : ℕ) (objects : List Object) (waiting : List (List (ℕ × ℕ))) (lock : Option Lock) (m : Lock) (list : WaitList) (d : Option Decider) (s : State) → Some m ≡ counted_by list lock
+    → StandsFor (record { number = number; objects = objects; waiting = waiting; lock = lock }) d s → StandsFor (record { number = number; objects = objects; waiting = waiting; lock = Some m }) d (wake_best list s)
+stands_counted number objects waiting None m list d s e h = absurd (cc)
+stands_counted number objects waiting (Some l) m list d s e h =
     let k = counted_at l m list waiting d s e (record { stand = h.waiters; locked = sym h.locked; to_receive = h.counts.0; to_send = h.counts.1 }) in
     record {
+      number = ap length (wake_objects s list) ∙ h.number;
       objects = λ i. h.objects i ∙ sym (ap (λ (os : List Object). object_in os i) (wake_objects s list));
       waiters = k.stand;
       locked = sym k.locked;
@@ -131,19 +134,21 @@ shut_by None list locked e h = subst (λ (x : Option ℕ). is_locked x list ≡ 
 shut_by (Some l) list locked e h = subst (λ (x : Option ℕ). is_locked x list ≡ false) h (none_counted l list e)
 
 -- The list is another object's.
-pub stands_taken_best : (objects : List Object) (waiting new : List (List (ℕ × ℕ))) (lock : Option Lock) (list : WaitList) (d : Option Decider) (s : State)
-    → StandsFor (record { objects = objects; waiting = waiting; lock = lock }) d s → WaitersStand new d (wake_best list s)
+pub stands_taken_best : (number : ℕ) (objects : List Object) (waiting new : List (List (ℕ × ℕ))) (lock : Option Lock) (list : WaitList) (d : Option Decider) (s : State)
+    → StandsFor (record { number = number; objects = objects; waiting = waiting; lock = lock }) d s → WaitersStand new d (wake_best list s)
     → ((o receivers senders : ℕ) → StandLocked waiting d o receivers senders s → StandLocked new d o receivers senders (wake_best list s))
-    → StandsFor (record { objects = objects; waiting = new; lock = lock }) d (wake_best list s)
-stands_taken_best objects waiting new None list d s h stand counts = record {
+    → StandsFor (record { number = number; objects = objects; waiting = new; lock = lock }) d (wake_best list s)
+stands_taken_best number objects waiting new None list d s h stand counts = record {
+  number = ap length (wake_objects s list) ∙ h.number;
   objects = λ i. h.objects i ∙ sym (ap (λ (os : List Object). object_in os i) (wake_objects s list));
   waiters = stand;
   locked = h.locked ∙ sym (wake_locked s list);
   counts = tt;
 }
-stands_taken_best objects waiting new (Some l) list d s h stand counts =
+stands_taken_best number objects waiting new (Some l) list d s h stand counts =
     let k = counts l.object l.receivers l.senders (record { stand = h.waiters; locked = sym h.locked; to_receive = h.counts.0; to_send = h.counts.1 }) in
     record {
+      number = ap length (wake_objects s list) ∙ h.number;
       objects = λ i. h.objects i ∙ sym (ap (λ (os : List Object). object_in os i) (wake_objects s list));
       waiters = stand;
       locked = h.locked ∙ sym (wake_locked s list);
@@ -173,5 +178,5 @@ module _ (v : Exchange) (s : State) (l : Lock) (h : StandsFor v None s) (e : v.l
   pub unlock_opens : unlock s ≡ opened s
   unlock_opens = unlocks v.waiting s l.object 0 0 [] [] none_woken refl refl
 
-  pub stands_released : StandsFor (record { objects = v.objects; waiting = v.waiting; lock = None }) None (unlock s)
+  pub stands_released : StandsFor (record { number = v.number; objects = v.objects; waiting = v.waiting; lock = None }) None (unlock s)
   stands_released = stands_unlocked v v.waiting s l h e (subst (λ (t : State). WaitersStand v.waiting None t) (sym unlock_opens) (stands_opened v.waiting s h.waiters))

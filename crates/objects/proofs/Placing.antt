@@ -1,5 +1,5 @@
 -- A task that has begun to wait, from then until it is placed.
-use Rattle.std.proofs.Common.{◌≡◌, ◌≢◌, ℕ, ◌<◌, false, Option, Some, None, List, [], ◌∷◌, map, length, set, sym, ◌∙◌, ap, subst, arith, refl}
+use Rattle.std.proofs.Common.{◌≡◌, ◌≢◌, ℕ, ◌<◌, true, false, Option, Some, None, List, [], ◌∷◌, map, length, set, sym, ◌∙◌, ap, subst, arith, refl}
 use Rattle.std.specs.Prelude.{nat_lt}
 use Rattle.std.proofs.Math.ListN.{length-set}
 use Rattle.std.proofs.lemmas.Option.{same_Some}
@@ -46,7 +46,7 @@ module _ (v : List (List (ℕ × ℕ))) (i : ℕ) (absent : (list : WaitList) �
       → WaitersStand v (Some (record { task = i; list = q; priority = (task_at s i).priority })) (wait_in i q s)
   unfolding wait_in
   stands_decided s q h l =
-      let call = record (call_at s i) { list = Some q } in
+      let call = record (call_at s i) { waits = true } in
       let u : Task = record (task_at s i) { progress = record (progress_at s i) { call = call } } in
       let t : State = with_task i u s in
       let before : WaitersStand v None t = stands_kept v None s i u h (λ list. refl) (ticket_at s.next_ticket i s.tasks h.table.tickets) in

@@ -111,8 +111,9 @@ locked-reset app = locked-all_ready (nobody_ready app) (with_ops 0 app.tasks)
 pub stands_reset : (app : Application) (kinds : List ObjectKind) (objects : List Object) (waiting : List (List (ℕ × ℕ))) → app.objects ≡ kinds → length app.tasks ≤ 32
     → ((o : ℕ) → object_in objects o ≡ get_or (map object_at_reset kinds) o no_object)
     → ((s : State) → IsTable s → ((list : WaitList) → standing s list ≡ []) → WaitersStand waiting None s)
-    → StandsFor (record { objects = objects; waiting = waiting; lock = None }) None (reset app)
+    → StandsFor (record { number = length kinds; objects = objects; waiting = waiting; lock = None }) None (reset app)
 stands_reset app kinds objects waiting own few fresh stand = record {
+  number = ap length (objects-reset app) ∙ length-map app.objects object_at_reset ∙ ap length own;
   objects = λ o. fresh o ∙ ap (λ (ks : List ObjectKind). get_or (map object_at_reset ks) o no_object) (sym own) ∙ sym (ap (λ (os : List Object). object_in os o) (objects-reset app));
   waiters = stand (reset app) (table-reset app few) (λ list. nobody_stands (reset app) list (nobody_waits-reset app));
   locked = sym (locked-reset app);

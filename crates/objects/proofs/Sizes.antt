@@ -1,5 +1,5 @@
 -- What the objects of an application have room for.
-use Rattle.std.proofs.Common.{◌≡◌, ℕ, true, false, Option, Some, None, sym, subst, arith}
+use Rattle.std.proofs.Common.{◌≡◌, ℕ, zero, suc, ◌<◌, true, false, Option, Some, None, List, [], ◌∷◌, length, sym, subst, arith}
 use Rattle.std.specs.Prelude.{option_map, slice_get, unwrap_or}
 use Rattle.model.specs.declared.object.ObjectKind.{ObjectKind}
 use Rattle.model.specs.declared.object.ObjectKind.TheVariants.{Queue, Semaphore, Mutex}
@@ -12,10 +12,10 @@ use Rattle.model.specs.Invariant.{Hold, IsObject, IsSound}
 use Rattle.model.proofs.Lists.{eqb-same}
 use Rattle.objects.specs.Items.{object_in}
 use Rattle.objects.specs.WaitersStand.{Decider}
-use Rattle.objects.specs.Queues.{Exchange, HasRoom, StandsFor}
+use Rattle.objects.specs.Queues.{CanHold, Exchange, HasRoom, StandsFor}
 
 -- an object of a kind that a call fits
-room : (kind : Option ObjectKind) (a : Access) (x : Object) → unwrap_or (option_map (λ k. fits k a) kind) false ≡ true → IsObject kind x → HasRoom a x
+room : (kind : Option ObjectKind) (a : Access) (x : Object) → unwrap_or (option_map (λ k. fits k a) kind) false ≡ true → IsObject kind x → CanHold a x
 room kind (Send v) x t h = tt
 room kind (SendFront v) x t h = tt
 room None (Overwrite v) x t h = absurd cc
@@ -28,6 +28,15 @@ room kind Take x t h = tt
 room kind Give x t h = tt
 room kind Lock x t h = tt
 
--- An object of which an op speaks has the room that its call wants, in the queues that stand for a state of a run.
-pub has_room : (app : Application) (hold : Hold) (v : Exchange) (d : Option Decider) (s : State) (o : ℕ) (a : Access) → IsSound app hold s → StandsFor v d s → fits_object app o a ≡ true → HasRoom a (object_in v.objects o)
-has_room app hold v d s o a h stands known = subst (HasRoom a) (sym (stands.objects o)) (room (slice_get app.objects o) a (object_at s o) known (h.contents o))
+-- an object that there is
+there : (kinds : List ObjectKind) (o : ℕ) (a : Access) → unwrap_or (option_map (λ k. fits k a) (slice_get kinds o)) false ≡ true → o < length kinds
+there [] o a t = absurd cc
+there (kind ∷ kinds) zero a t = omega arith
+there (kind ∷ kinds) (suc o) a t = let h = there kinds o a t in omega (arith, h)
+
+-- An object of which an op speaks is there, and has the room that its call wants, in the queues that stand for a state of a run.
+pub has_room : (app : Application) (hold : Hold) (v : Exchange) (d : Option Decider) (s : State) (o : ℕ) (a : Access) → IsSound app hold s → StandsFor v d s → fits_object app o a ≡ true → HasRoom v o a
+has_room app hold v d s o a h stands known = (
+  let below = there app.objects o a known in let many = h.objects in let same = stands.number in omega (arith, below, many, same),
+  subst (CanHold a) (sym (stands.objects o)) (room (slice_get app.objects o) a (object_at s o) known (h.contents o)),
+)

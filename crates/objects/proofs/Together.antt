@@ -38,19 +38,19 @@ module _ (q : Inside) (v : Exchange) (is : the_view q ≡ v) (n o : ℕ) (same :
   put : (qs : List Object) (c : Counts) (hs : List (Option ℕ)) (f : Object → Object)
       → ((k : ℕ) → k ≢ n → object_of_all qs c hs k ≡ object_of_all q.items q.semaphores q.mutexes k)
       → object_of_all qs c hs n ≡ f (object_of_all q.items q.semaphores q.mutexes n)
-      → record { objects = objects_of_all qs c hs; waiting = q.waiting; lock = q.lock } ≡ record v { objects = set v.objects o (f (object_in v.objects o)) }
+      → record { number = q.number; objects = objects_of_all qs c hs; waiting = q.waiting; lock = q.lock } ≡ record v { objects = set v.objects o (f (object_in v.objects o)) }
   unfolding objects_of_all
   put qs c hs f others own =
       let here : objects_of_all qs c hs ≡ set (objects_of_all q.items q.semaphores q.mutexes) n (f (object_in v.objects o)) =
       listed-set (object_of_all q.items q.semaphores q.mutexes) (object_of_all qs c hs) 32 n known (λ k l ne. others k ne)
       ∙ ap (set (objects_of_all q.items q.semaphores q.mutexes) n) (own ∙ ap f seen) in
-      ap (λ (os : List Object). record { objects = os; waiting = q.waiting; lock = q.lock }) (here ∙ ap (λ (k : ℕ). set (objects_of_all q.items q.semaphores q.mutexes) k (f (object_in v.objects o))) same)
+      ap (λ (os : List Object). record { number = q.number; objects = os; waiting = q.waiting; lock = q.lock }) (here ∙ ap (λ (k : ℕ). set (objects_of_all q.items q.semaphores q.mutexes) k (f (object_in v.objects o))) same)
       ∙ ap (λ (w : Exchange). record w { objects = set w.objects o (f (object_in v.objects o)) }) is
 
   -- ---- a queue has other items
 
   pub queue_put : (qs : List Object) (f : List ℕ → List ℕ) → qs ≡ set q.items n (holding (object_in q.items n) (f (object_in q.items n).items)) → length qs ≡ 32
-      → record { objects = objects_of_all qs q.semaphores q.mutexes; waiting = q.waiting; lock = q.lock } ≡ record v { objects = set v.objects o (record (object_in v.objects o) { items = f (object_in v.objects o).items }) }
+      → record { number = q.number; objects = objects_of_all qs q.semaphores q.mutexes; waiting = q.waiting; lock = q.lock } ≡ record v { objects = set v.objects o (record (object_in v.objects o) { items = f (object_in v.objects o).items }) }
   queue_put qs f e many =
       let x : Object = holding (object_in q.items n) (f (object_in q.items n).items) in
       let within : n < length q.items = let l = length-set q.items n x in let m = ap length e in omega (arith, l, m, many, known) in
@@ -62,7 +62,7 @@ module _ (q : Inside) (v : Exchange) (is : the_view q ≡ v) (n o : ℕ) (same :
   -- ---- a semaphore has another count
 
   pub count_put : (c : Counts) (f : ℕ → ℕ) → c ≡ record q.semaphores { counts = set q.semaphores.counts n (f (count_in q.semaphores n)) } → AreSemaphores c
-      → record { objects = objects_of_all q.items c q.mutexes; waiting = q.waiting; lock = q.lock } ≡ record v { objects = set v.objects o (record (object_in v.objects o) { count = f (object_in v.objects o).count }) }
+      → record { number = q.number; objects = objects_of_all q.items c q.mutexes; waiting = q.waiting; lock = q.lock } ≡ record v { objects = set v.objects o (record (object_in v.objects o) { count = f (object_in v.objects o).count }) }
   count_put c f e sound =
       let m : ℕ = f (count_in q.semaphores n) in
       let many = sound.as_many in
@@ -76,7 +76,7 @@ module _ (q : Inside) (v : Exchange) (is : the_view q ≡ v) (n o : ℕ) (same :
   -- ---- a mutex has another holder
 
   pub holder_put : (hs : List (Option ℕ)) (holder : Option ℕ) → hs ≡ set q.mutexes n holder → length hs ≡ 32
-      → record { objects = objects_of_all q.items q.semaphores hs; waiting = q.waiting; lock = q.lock } ≡ record v { objects = set v.objects o (record (object_in v.objects o) { holder = holder }) }
+      → record { number = q.number; objects = objects_of_all q.items q.semaphores hs; waiting = q.waiting; lock = q.lock } ≡ record v { objects = set v.objects o (record (object_in v.objects o) { holder = holder }) }
   holder_put hs holder e many =
       let within : n < length q.mutexes = let l = length-set q.mutexes n holder in let m = ap length e in omega (arith, l, m, many, known) in
       let at : (k : ℕ) → holder_in hs k ≡ holder_in (set q.mutexes n holder) k = λ k. ap (λ (xs : List (Option ℕ)). holder_in xs k) e in

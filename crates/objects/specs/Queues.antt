@@ -1,5 +1,5 @@
 -- What callers see of the queues, and the states that it stands for.
-use Rattle.std.specs.Prelude.{◌≡◌, ◌<◌, ℕ, ◌==◌, if◌then◌else◌, List, Option, Some, None, option_map, option_and_then, IfSome}
+use Rattle.std.specs.Prelude.{◌≡◌, ◌<◌, ℕ, ◌==◌, if◌then◌else◌, List, Option, Some, None, length, option_map, option_and_then, IfSome}
 use Rattle.lists.specs.Lists.{first_of}
 use Rattle.model.specs.declared.op.Access.{Access}
 use Rattle.model.specs.declared.op.Access.TheVariants.{Overwrite}
@@ -13,6 +13,8 @@ use Rattle.objects.specs.WaitingLists.{best_of, waiting_in, without_best, withou
 use Rattle.objects.specs.WaitersStand.{Decider, FirstAwake, WaitersStand, one_more, standing}
 
 pub record Exchange : Type 0 where
+  -- how many objects there are
+  pub number : ℕ
   -- the objects of the definitions, by number
   pub objects : List Object
   -- for each waiting list its tasks in order, each with its priority
@@ -21,9 +23,13 @@ pub record Exchange : Type 0 where
   pub lock : Option Lock
 
 -- An `overwrite` wants a queue that can hold an item.
-abbrev pub HasRoom : Access → Object → Type 0
-HasRoom (Overwrite item) o = 0 < o.size
-HasRoom _ o = Unit {0}
+abbrev pub CanHold : Access → Object → Type 0
+CanHold (Overwrite item) o = 0 < o.size
+CanHold _ o = Unit {0}
+
+-- The object is there, and has room for what the call puts in, where nothing is in it.
+abbrev pub HasRoom : Exchange → ℕ → Access → Type 0
+HasRoom v object access = (object < v.number) × CanHold access (object_in v.objects object)
 
 -- the object that is locked
 abbrev pub locked_by : Option Lock → Option ℕ
@@ -72,9 +78,10 @@ Counts s lock =
 abbrev pub CountsNobody : Exchange → Type 0
 CountsNobody v = IfSome v.lock (λ (l : Lock). (l.receivers ≡ 0) × (l.senders ≡ 0))
 
--- The objects are the state's, the waiting lists are the tasks that stand there, together with the one who is still to be
+-- The objects are the state's, and as many, the waiting lists are the tasks that stand there, together with the one who is still to be
 -- placed, if there is one, the same object is locked, and its wakes are counted.
 pub record StandsFor (v : Exchange) (decider : Option Decider) (s : State) : Type 0 where
+  pub number : length s.objects ≡ v.number
   pub objects : (object : ℕ) → object_in v.objects object ≡ object_at s object
   pub waiters : WaitersStand v.waiting decider s
   pub locked : locked_by v.lock ≡ s.locked
@@ -82,7 +89,7 @@ pub record StandsFor (v : Exchange) (decider : Option Decider) (s : State) : Typ
 
 -- The objects are the same, the same tasks wait or are Awake, each in the same way, and the same object is locked.
 pub record SameWaits (old new : State) : Type 0 where
-  pub objects : (object : ℕ) → object_at new object ≡ object_at old object
+  pub objects : new.objects ≡ old.objects
   pub waits : (task : ℕ) → wait_of (status_at new task) ≡ wait_of (status_at old task)
   pub awake : (task : ℕ) → wait_if_awake (status_at new task) ≡ wait_if_awake (status_at old task)
   pub locked : new.locked ≡ old.locked

@@ -1,4 +1,4 @@
--- What callers see of semaphores and mutexes: their counts.
+-- What callers see of the semaphores: their counts.
 use Rattle.std.specs.Prelude.{◌≡◌, ℕ, ◌<◌, List, length, slice_index_or}
 
 -- the greatest count of each object, and its count

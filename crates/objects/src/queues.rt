@@ -40,6 +40,8 @@ pub struct NotHolder;
 /// 32 objects, each a queue, a semaphore or a mutex, and the tasks that wait at them.
 #[derive(Drop)]
 pub struct Queues {
+    // How many objects the application has, 0 to 32.
+    number: u8,
     items: Items,
     semaphores: Semaphores,
     mutexes: Mutexes,
@@ -54,12 +56,13 @@ impl Model for Queues {
 
     ghost Value = { Exchange };
 
-    ghost view = { λ q. record { objects = objects_of_all q.items q.semaphores q.mutexes; waiting = q.waiting; lock = q.lock } };
+    ghost view = { λ q. record { number = q.number; objects = objects_of_all q.items q.semaphores q.mutexes; waiting = q.waiting; lock = q.lock } };
 }
 
 /// The objects as they stood once: with no more of the items' storage than the application's queues have.
 #[derive(Drop)]
 pub struct QueuesSnapshot {
+    number: u8,
     items: ItemsSnapshot,
     semaphores: Semaphores,
     mutexes: Mutexes,
@@ -74,7 +77,7 @@ impl Model for QueuesSnapshot {
 
     ghost Value = { Exchange };
 
-    ghost view = { λ q. record { objects = objects_of_all q.items q.semaphores q.mutexes; waiting = q.waiting; lock = q.lock } };
+    ghost view = { λ q. record { number = q.number; objects = objects_of_all q.items q.semaphores q.mutexes; waiting = q.waiting; lock = q.lock } };
 }
 
 impl Queues {
@@ -83,6 +86,7 @@ impl Queues {
     pub fn new(objects: &[ObjectKind]) -> Self
         requires few { length objects.now ≤ 32 }
         requires kinds { AllByRecursion IsObjectKind objects.now }
+        ensures number { result.number ≡ length objects.now }
         ensures objects { (object : ℕ) → object_in result.objects object
             ≡ slice_index_or (map object_at_reset objects.now) object no_object }
         ensures nobody { result.waiting ≡ replicate 64 [] }
@@ -92,6 +96,7 @@ impl Queues {
             → StandsFor result None (reset app) }
     {
         Queues {
+            number: objects.len() as u8,
             items: Items::new(objects),
             semaphores: Semaphores::new(objects),
             mutexes: Mutexes::new(),
@@ -113,6 +118,7 @@ impl Queues {
     pub fn set_from(&mut self, other: &Self)
         ensures { self.new ≡ other.now }
     {
+        self.number = other.number;
         self.items.set_from(&other.items);
         self.semaphores.set_from(&other.semaphores);
         self.mutexes.set_from(&other.mutexes);
@@ -127,6 +133,7 @@ impl Queues {
         ensures { IfOk result (λ snapshot. snapshot ≡ self.now) }
     {
         Ok(QueuesSnapshot {
+            number: self.number,
             items: self.items.snapshot(alloc)?,
             semaphores: self.semaphores.copy(),
             mutexes: self.mutexes.copy(),
@@ -139,6 +146,7 @@ impl Queues {
     pub fn restore(&mut self, snapshot: &QueuesSnapshot)
         ensures { self.new ≡ snapshot.now }
     {
+        self.number = snapshot.number;
         self.items.restore(&snapshot.items);
         self.semaphores.set_from(&snapshot.semaphores);
         self.mutexes.set_from(&snapshot.mutexes);
@@ -169,7 +177,7 @@ impl Queues {
 
     /// Whether a call is possible on an object now: one that puts an item in where there is room, one that takes or reads
     /// the first where there is one, and `overwrite` always; `take` where the count isn't 0, `give` where it is below its
-    /// greatest, and `lock` where it is a mutex that nobody holds.
+    /// greatest, and `lock` where nobody holds the mutex.
     pub fn possible(&self, object: ObjectId, access: Access) -> bool
         ensures possible { result ≡ allows (object_in self.now.objects object) access }
         ensures stands { (s : State) (decider : Option Decider) → StandsFor self.now decider s
@@ -182,13 +190,11 @@ impl Queues {
             Access::Receive | Access::Peek => self.items.len(number) > 0,
             Access::Take => self.semaphores.can_take(number),
             Access::Give => self.semaphores.can_give(number),
-            Access::Lock => {
-                self.semaphores.is_counted(number) && self.mutexes.holder(number).is_none()
-            }
+            Access::Lock => self.mutexes.holder(number).is_none(),
         }
     }
 
-    /// Does a possible call (`possible` tells) of a task, or of a handler (`None`). It answers what the call answers:
+    /// Does a possible call (`possible` tells) of a task, or of a handler (`None`), on an object that there is. It answers what the call answers:
     /// `receive` and `peek` the first item, and any other 1. Nobody is woken.
     #[inline(always)]
     pub fn carry_out(
@@ -198,7 +204,7 @@ impl Queues {
         access: Access,
     ) -> Option<u32>
         requires possible { allows (object_in self.old.objects object) access ≡ true }
-        requires room { HasRoom access (object_in self.old.objects object) }
+        requires room { HasRoom self.old object access }
         ensures answer { result ≡ reply (object_in self.old.objects object) access }
         ensures objects { self.new ≡ record self.old {
           objects = slice_set self.old.objects object

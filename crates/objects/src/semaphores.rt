@@ -1,4 +1,4 @@
-//! The counts of semaphores and mutexes.
+//! The counts of semaphores.
 ghost use Rattle.std.specs.Prelude.{◌≡◌, ℕ, ◌+◌, ◌-◌, ◌<◌, ◌≤◌, nat_lt, length, map, slice_index_or, slice_set};
 ghost use Rattle.std.specs.List.{AllByRecursion};
 ghost use Rattle.model.specs.Scripts.{IsObjectKind};
@@ -9,8 +9,7 @@ ghost use Rattle.objects.specs.Semaphores.{AreSemaphores, count_in, max_count_in
 use model::ObjectKind;
 use std::marker::Model;
 
-/// The greatest count and the count of each of 32 objects. Of a mutex the greatest is 1, for its one holder, and the count
-/// stays 0; of a queue both are 0.
+/// The greatest count and the count of each of 32 objects; both are 0 of one that is no semaphore.
 #[derive(Drop)]
 pub(crate) struct Semaphores {
     max_counts: [u16; 32],
@@ -34,8 +33,7 @@ fn counts_of(object: ObjectKind) -> (u16, u16)
 {
     match object {
         ObjectKind::Semaphore(max_count, initial_count) => (max_count, initial_count),
-        ObjectKind::Mutex => (1, 0),
-        ObjectKind::Queue(_) => (0, 0),
+        ObjectKind::Queue(_) | ObjectKind::Mutex => (0, 0),
     }
 }
 
@@ -75,14 +73,6 @@ impl Semaphores {
     {
         self.max_counts = other.max_counts;
         self.counts = other.counts;
-    }
-
-    /// Whether an object has a count: it is a semaphore or a mutex.
-    pub(crate) fn is_counted(&self, object: usize) -> bool
-        requires { object < 32 }
-        ensures { result ≡ nat_lt 0 (max_count_in self.now object) }
-    {
-        self.max_counts[object] > 0
     }
 
     /// Whether one can be taken from a count.

@@ -1,7 +1,6 @@
 //! Items that come and go, counts, holders, tasks that wait and are woken.
-ghost use Rattle.objects.specs.Items.{object_in};
 ghost use Rattle.objects.specs.Queues.{HasRoom};
-ghost use Rattle.std.specs.Prelude.{◌<◌};
+ghost use Rattle.std.specs.Prelude.{◌≡◌, ◌<◌};
 
 use model::{Access, ObjectId, ObjectKind, TaskId, WaitList};
 use objects::{NotHolder, Queues};
@@ -28,7 +27,9 @@ const SENDERS: WaitList = WaitList::ToSend(QUEUE);
 const MUTEX: ObjectId = ObjectId { number: 2 };
 
 /// A semaphore, a queue and a mutex.
-fn objects() -> Queues {
+fn objects() -> Queues
+    ensures { result.number ≡ 3 }
+{
     Queues::new(&[
         ObjectKind::Semaphore(2, 1),
         ObjectKind::Queue(2),
@@ -174,7 +175,8 @@ fn succeed(
     object: ObjectId,
     access: Access,
 )
-    requires { HasRoom access (object_in queues.old.objects object) }
+    requires { HasRoom queues.old object access }
+    ensures { queues.new.number ≡ queues.old.number }
 {
     assert!(rt; queues.possible(object, access));
     assert!(rt; queues.carry_out(caller, object, access) == Some(1));

@@ -474,7 +474,7 @@ stands_begun v s i status none h l ready below unready awake =
 pub stands_waiting : (v : Schedule) (s : State) (i : ℕ) (list : WaitList) → v.pending ≡ [] → StandsFor v s → i < length s.tasks → is_ready s i ≡ true → StandsBefore i v (wait_in i list s)
 unfolding wait_in
 stands_waiting v s i list none h l ready =
-    let call : CallProgress = record (call_at s i) { list = Some list } in
+    let call : CallProgress = record (call_at s i) { waits = true } in
     let u : Task = record (task_at s i) { progress = record (progress_at s i) { call = call } } in
     let s1 : State = with_call i call s in
     let table : IsTable s1 = table-set s i u h.table (ticket_at s.next_ticket i s.tasks h.table.tickets) in

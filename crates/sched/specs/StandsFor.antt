@@ -34,10 +34,7 @@ pub record StandsBefore (task : ℕ) (v : Schedule) (s : State) : Type 0 where
   pub suspended : (other : ℕ) → is_suspended v other ≡ can_resume (status_at s other)
   pub table : IsTable s
 
--- For every state that the old schedule stands for, the new one stands for what the deed makes of it.
-abbrev pub Does : Schedule → Schedule → (State → State) → Type 0
-Does old new deed = (s : State) → StandsFor old s → StandsFor new (deed s)
-
--- The same for every state in which the scheduler isn't held.
+-- For every state that the old schedule stands for, and in which the scheduler isn't held, the new one stands for what the
+-- deed makes of it.
 abbrev pub DoesFree : Schedule → Schedule → (State → State) → Type 0
 DoesFree old new deed = (s : State) → StandsFor old s → is_held s ≡ false → StandsFor new (deed s)

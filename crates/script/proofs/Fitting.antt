@@ -14,17 +14,17 @@ use Rattle.model.specs.Scripts.{fits, fits_object, is_of_semaphore, is_of_mutex,
 use Rattle.grammar.specs.declared.object_sort.ObjectSort.{ObjectSort}
 use Rattle.grammar.specs.declared.object_sort.ObjectSort.TheVariants.{Queue, Semaphore, Mutex}
 use Rattle.grammar.specs.Grammar.{Word, NameSort, OfObject, OfGroup, OfTask}
-use Rattle.script.specs.Entries.{Object, Group, Raw, Entries, HasEntries}
+use Rattle.script.specs.Entries.{ObjectEntry, GroupEntry, Raw, Entries, HasEntries}
 use Rattle.grammar.specs.Finding.{is_of_sort}
 use Rattle.script.specs.Finding.{is_called, among}
 use Rattle.script.specs.Ops.{allows}
 use Rattle.grammar.proofs.Reading.{chosen}
 
 -- These objects have one of this index and this sort.
-abbrev is_at : List Object → ObjectSort → ℕ → Bool
-is_at objects sort n = unwrap_or (option_map (λ (o : Object). is_of_sort sort o.kind) (slice_get objects n)) false
+abbrev is_at : List ObjectEntry → ObjectSort → ℕ → Bool
+is_at objects sort n = unwrap_or (option_map (λ (o : ObjectEntry). is_of_sort sort o.kind) (slice_get objects n)) false
 
-abbrev IsObject : List Object → ObjectSort → ℕ → Type 0
+abbrev IsObject : List ObjectEntry → ObjectSort → ℕ → Type 0
 IsObject objects sort n = is_at objects sort n ≡ true
 
 -- These entries have one of this index and this sort.
@@ -33,7 +33,7 @@ IsAt entries (OfObject sort) n = IsObject entries.objects sort n
 IsAt entries OfGroup n = nat_lt n (length entries.groups) ≡ true
 IsAt entries OfTask n = nat_lt n (length entries.tasks) ≡ true
 
-found_from : (i : ℕ) (sort : ObjectSort) (w : Word) (objects : List Object) (n : ℕ) → position_from (is_called sort w) i objects ≡ Some n
+found_from : (i : ℕ) (sort : ObjectSort) (w : Word) (objects : List ObjectEntry) (n : ℕ) → position_from (is_called sort w) i objects ≡ Some n
     → (k : ℕ) × (i + k ≡ n) × IsObject objects sort k
 found_from i sort w [] n e = cc
 found_from i sort w (o ∷ os) n e = elim (chosen (is_called sort w o) _ _ _ e) [
@@ -60,9 +60,9 @@ found_at entries (OfObject sort) w n e =
     let same : found.0 ≡ n = omega arith in
     subst (IsObject entries.objects sort) same found.2
 found_at entries OfGroup w n e =
-    let names = map (λ (g : Group). g.name) entries.groups in
+    let names = map (λ (g : GroupEntry). g.name) entries.groups in
     let below = below_from 0 w names n e in
-    let count : length names ≡ length entries.groups = length-map entries.groups (λ (g : Group). g.name) in
+    let count : length names ≡ length entries.groups = length-map entries.groups (λ (g : GroupEntry). g.name) in
     lt-ltb n (length entries.groups) (omega arith)
 found_at entries OfTask w n e =
     let names = map (λ (t : Raw). t.name) entries.tasks in
@@ -93,14 +93,14 @@ kind_fits Mutex access fit kind.Mutex is = fit
 abbrev fits_at : List ObjectKind → ℕ → Access → Bool
 fits_at kinds n access = unwrap_or (option_map (λ k. fits k access) (slice_get kinds n)) false
 
-sort_fits : (sort : ObjectSort) (access : Access) → Fit sort access → (objects : List Object) (n : ℕ) → IsObject objects sort n
-    → fits_at (map (λ (o : Object). o.kind) objects) n access ≡ true
+sort_fits : (sort : ObjectSort) (access : Access) → Fit sort access → (objects : List ObjectEntry) (n : ℕ) → IsObject objects sort n
+    → fits_at (map (λ (o : ObjectEntry). o.kind) objects) n access ≡ true
 sort_fits sort access fit [] n at = cc
 sort_fits sort access fit (o ∷ os) zero at = kind_fits sort access fit o.kind at
 sort_fits sort access fit (o ∷ os) (suc n) at = sort_fits sort access fit os n at
 
-same_fit : (access : Access) (objects : List Object) (n : ℕ)
-    → allows objects n access ≡ fits_at (map (λ (o : Object). o.kind) objects) n access
+same_fit : (access : Access) (objects : List ObjectEntry) (n : ℕ)
+    → allows objects n access ≡ fits_at (map (λ (o : ObjectEntry). o.kind) objects) n access
 same_fit access [] n = refl
 same_fit access (o ∷ os) zero = refl
 same_fit access (o ∷ os) (suc n) = same_fit access os n

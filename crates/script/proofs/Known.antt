@@ -15,7 +15,7 @@ use Rattle.script.specs.Arrays.{each_fault}
 use Rattle.grammar.specs.Grammar.{Word, Form, forms, object_forms, semaphore_forms, group_forms, suspension_forms, isr_forms, read_by, if_in_range, op_of, isr_op_of, words_of}
 use Rattle.script.specs.Entries.{RawIsr, Raw, Entries, HasEntries}
 use Rattle.script.specs.Finding.{among}
-use Rattle.script.specs.Ops.{Ops, task_ops, handler_ops, is_allowed, is_isr_allowed, op_in, nesting_with, op_elements, op_fault, script_fault, script_named, handler_scripts, task_scripts, scripts_fault, handler_ops_fault, with_ops, with_isr_ops}
+use Rattle.script.specs.Ops.{Ops, task_ops, handler_ops, is_allowed, is_isr_allowed, op_in, nesting_with, op_elements, op_fault, script_fault, script_named, handler_scripts, task_scripts, scripts_fault, handler_ops_fault, with_script, with_isr_ops}
 use Rattle.script.proofs.Checks.{none_fails}
 use Rattle.grammar.proofs.Forms.{Makes, read_by_holds}
 use Rattle.script.proofs.Fitting.{IsAt, found_at, at_fits, allowed_fits, at_group, at_task}
@@ -148,7 +148,7 @@ module _ (app : Application) (entries : Entries) (has : HasEntries app entries) 
       range_known (read_by (among entries) forms w ws) holds
 
   tasks_known : (i : ℕ) (ts : List Raw) → each_fault (task_scripts entries) tt i (map (λ (t : Raw). t.script) ts) ≡ None
-      → AllByRecursion (KnowsAll app) (map (with_ops entries) ts)
+      → AllByRecursion (KnowsAll app) (map (with_script entries) ts)
   tasks_known i [] none = tt
   tasks_known i (t ∷ ts) none =
       let elements = task_scripts entries in
@@ -157,7 +157,7 @@ module _ (app : Application) (entries : Entries) (has : HasEntries app entries) 
         tasks_known (i + 1) ts (none_fails _ [] here.1).0,
       )
 
-  pub known_tasks : scripts_fault entries ≡ None → AllByRecursion (KnowsAll app) (map (with_ops entries) entries.tasks)
+  pub known_tasks : scripts_fault entries ≡ None → AllByRecursion (KnowsAll app) (map (with_script entries) entries.tasks)
   unfolding scripts_fault
   known_tasks none = tasks_known 0 entries.tasks none
 

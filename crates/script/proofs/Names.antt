@@ -23,25 +23,25 @@ use Rattle.grammar.specs.Names.{is_name}
 use Rattle.script.specs.Names.{task_names, AreDistinct}
 use Rattle.script.specs.Values.{name_fault, name_named, text_named}
 use Rattle.script.specs.Arrays.{array_of, tables, each_fault, section_fault, section_named}
-use Rattle.script.specs.Entries.{Object, Group, RawIsr, Raw, Entries, names_of}
+use Rattle.script.specs.Entries.{ObjectEntry, GroupEntry, RawIsr, Raw, Entries, names_of}
 use Rattle.script.specs.Sections.{data_at, no_entries, section_of, object_keys, object_named, object_sections, with_objects, more_objects_fault, each_objects_fault, objects_fault, objects_named, group_keys, group_named, groups_fault, groups_named, handler_keys, handler_named, handlers_fault, handlers_named, task_keys, task_named, tasks_fault, tasks_named}
-use Rattle.script.specs.Ops.{with_ops, with_isr_ops}
+use Rattle.script.specs.Ops.{with_script, with_isr_ops}
 use Rattle.script.specs.Load.{with_no_groups, with_no_handlers, with_no_tasks, entries_of, entries_fault, load_fault, app_named, document_names}
 use Rattle.script.proofs.Checks.{none_fails, passes}
 use Rattle.script.proofs.Passing.{passed}
 
 -- one of them has the name, section by section
 pub any_named : (name : List ℕ) (entries : Entries) → list_any (bytes_eq name) (names_of entries)
-    ≡ (list_any (bytes_eq name) (map (λ (o : Object). o.name) entries.objects)
-    || (list_any (bytes_eq name) (map (λ (g : Group). g.name) entries.groups)
+    ≡ (list_any (bytes_eq name) (map (λ (o : ObjectEntry). o.name) entries.objects)
+    || (list_any (bytes_eq name) (map (λ (g : GroupEntry). g.name) entries.groups)
     || (list_any (bytes_eq name) (map (λ (h : RawIsr). h.name) entries.handlers)
     || list_any (bytes_eq name) (map (λ (t : Raw). t.name) entries.tasks))))
 any_named name entries = simp list_any-append
 
 -- where no object, no event group and no handler has it
 pub not_named : (name : List ℕ) (entries : Entries)
-    → list_any (bytes_eq name) (map (λ (o : Object). o.name) entries.objects) ≡ false
-    → list_any (bytes_eq name) (map (λ (g : Group). g.name) entries.groups) ≡ false
+    → list_any (bytes_eq name) (map (λ (o : ObjectEntry). o.name) entries.objects) ≡ false
+    → list_any (bytes_eq name) (map (λ (g : GroupEntry). g.name) entries.groups) ≡ false
     → list_any (bytes_eq name) (map (λ (h : RawIsr). h.name) entries.handlers) ≡ false
     → list_any (bytes_eq name) (names_of entries) ≡ list_any (bytes_eq name) (map (λ (t : Raw). t.name) entries.tasks)
 not_named name entries objects groups handlers = rw (any_named name entries, objects, groups, handlers) refl
@@ -134,29 +134,29 @@ module _ {X : Type 0} (name : X → List ℕ) (value : Option Members → X) (ke
 
 -- ---- the sections
 
-objects_differ : (ss : List ObjectSection) (before : List Object) (document : Members)
-    → each_objects_fault ss before document ≡ None → AreDistinct (map (λ (o : Object). o.name) before)
-    → AreDistinct (map (λ (o : Object). o.name) (fold (λ before s. with_objects before s document) before ss))
+objects_differ : (ss : List ObjectSection) (before : List ObjectEntry) (document : Members)
+    → each_objects_fault ss before document ≡ None → AreDistinct (map (λ (o : ObjectEntry). o.name) before)
+    → AreDistinct (map (λ (o : ObjectEntry). o.name) (fold (λ before s. with_objects before s document) before ss))
 unfolding more_objects_fault with_objects
 objects_differ [] before document none distinct = distinct
 objects_differ (s ∷ ss) before document none distinct =
     let d = data_at (section_of s) document in
     let here = none_fails (more_objects_fault before s document) _ none in
-    let more = section_differs (λ (o : Object). o.name) (object_named s) (object_keys s no_entries) []
+    let more = section_differs (λ (o : ObjectEntry). o.name) (object_named s) (object_keys s no_entries) []
     (λ before p ms none. name_is_new p _ ms (none_fails (required p key.Name (name_fault _) ms) _ none).0)
     most_objects (section_of s) before d here.0 distinct in
     objects_differ ss (with_objects before s document) document (none_fails _ [] here.1).0 more
 
 all_objects_differ : (document : Members) → objects_fault document ≡ None
-    → AreDistinct (map (λ (o : Object). o.name) (objects_named document))
+    → AreDistinct (map (λ (o : ObjectEntry). o.name) (objects_named document))
 unfolding objects_fault objects_named
 all_objects_differ document none = objects_differ object_sections [] document none none_distinct
 
 groups_differ : (earlier : Entries) (document : Members) → groups_fault earlier document ≡ None → AreDistinct (names_of earlier)
-    → AreDistinct (names_of earlier ++ map (λ (g : Group). g.name) (groups_named document))
+    → AreDistinct (names_of earlier ++ map (λ (g : GroupEntry). g.name) (groups_named document))
 unfolding groups_fault groups_named
 groups_differ earlier document none distinct =
-    section_differs (λ (g : Group). g.name) group_named (group_keys earlier) (names_of earlier)
+    section_differs (λ (g : GroupEntry). g.name) group_named (group_keys earlier) (names_of earlier)
     (λ before p ms none. name_is_new p _ ms none)
     most_groups section.Group [] (data_at section.Group document) none (subst AreDistinct (sym (append-nil (names_of earlier))) distinct)
 
@@ -179,7 +179,7 @@ tasks_differ earlier document none distinct =
 -- ---- the document
 
 with_ops_names : (entries : Entries) (tasks : List Raw)
-    → map (λ (d : Definition). d.name) (map (with_ops entries) tasks) ≡ map (λ (t : Raw). t.name) tasks
+    → map (λ (d : Definition). d.name) (map (with_script entries) tasks) ≡ map (λ (t : Raw). t.name) tasks
 with_ops_names entries [] = refl
 with_ops_names entries (t ∷ ts) = ap (λ names. t.name ∷ names) (with_ops_names entries ts)
 
@@ -199,7 +199,7 @@ entries_differ document none =
     let tasks = none_fails (tasks_fault (with_no_tasks document) document) _ handlers.1 in
     let first = subst AreDistinct (sym (append-nil _)) (all_objects_differ document objects.0) in
     let second = groups_differ (with_no_groups document) document groups.0 first in
-    let grouped : names_of (with_no_groups document) ++ map (λ (g : Group). g.name) (groups_named document) ≡ names_of (with_no_handlers document) =
+    let grouped : names_of (with_no_groups document) ++ map (λ (g : GroupEntry). g.name) (groups_named document) ≡ names_of (with_no_handlers document) =
     simp append-nil in
     let third = handlers_differ (with_no_handlers document) document handlers.0 (subst AreDistinct grouped second) in
     let handled : names_of (with_no_handlers document) ++ map (λ (h : RawIsr). h.name) (handlers_named document) ≡ names_of (with_no_tasks document) =

@@ -15,7 +15,7 @@ use Rattle.script.specs.Faults.{fault_at, fails_if, need}
 use Rattle.script.specs.Entries.{Raw, Entries}
 use Rattle.grammar.specs.Finding.{any_name}
 use Rattle.script.specs.Finding.{among}
-use Rattle.script.specs.Ops.{Ops, task_ops, op_in, standing_fault, op_fault, op_elements, nesting_with, script_fault, script_named, task_scripts, scripts_fault, with_ops}
+use Rattle.script.specs.Ops.{Ops, task_ops, op_in, standing_fault, op_fault, op_elements, nesting_with, script_fault, script_named, task_scripts, scripts_fault, with_script}
 use Rattle.script.proofs.Checks.{none_fails, passes}
 
 pub not_false : (b : Bool) → not b ≡ false → b ≡ true
@@ -73,13 +73,13 @@ module _ (entries : Entries) where
       each_nests p 0 0 ds here.0 closed
 
   scripts_nest : (i : ℕ) (ts : List Raw) → each_fault (task_scripts entries) tt i (map (λ (t : Raw). t.script) ts) ≡ None
-      → AllByRecursion (λ (d : Definition). Nests 0 d.script) (map (with_ops entries) ts)
+      → AllByRecursion (λ (d : Definition). Nests 0 d.script) (map (with_script entries) ts)
   scripts_nest i [] none = tt
   scripts_nest i (t ∷ ts) none =
       let elements = task_scripts entries in
       let here = none_fails (script_fault task_ops entries (elements.at i) t.script) _ none in
       (script_nests (elements.at i) t.script here.0, scripts_nest (i + 1) ts (none_fails _ [] here.1).0)
 
-  pub tasks_nest : scripts_fault entries ≡ None → AllByRecursion (λ (d : Definition). Nests 0 d.script) (map (with_ops entries) entries.tasks)
+  pub tasks_nest : scripts_fault entries ≡ None → AllByRecursion (λ (d : Definition). Nests 0 d.script) (map (with_script entries) entries.tasks)
   unfolding scripts_fault
   tasks_nest none = scripts_nest 0 entries.tasks none

@@ -10,11 +10,11 @@ use Rattle.script.specs.declared.raw_handler.RawHandler.{RawHandler}
 use Rattle.script.specs.declared.raw_task.RawTask.{RawTask}
 use Rattle.script.specs.declared.entries.NamedEntries.{NamedEntries}
 
-pub record Object : Type 0 where
+pub record ObjectEntry : Type 0 where
   pub name : List ℕ
   pub kind : ObjectKind
 
-pub record Group : Type 0 where
+pub record GroupEntry : Type 0 where
   pub name : List ℕ
 
 pub record RawIsr : Type 0 where
@@ -27,17 +27,17 @@ pub record Raw : Type 0 where
   pub script : List Data
 
 pub record Entries : Type 0 where
-  pub objects : List Object
-  pub groups : List Group
+  pub objects : List ObjectEntry
+  pub groups : List GroupEntry
   pub handlers : List RawIsr
   pub tasks : List Raw
 
 -- ---- the same of what the code keeps
 
-abbrev pub object_view : NamedObject → Object
+abbrev pub object_view : NamedObject → ObjectEntry
 object_view o = record { name = o.name.now; kind = o.kind }
 
-abbrev pub group_view : NamedGroup → Group
+abbrev pub group_view : NamedGroup → GroupEntry
 group_view g = record { name = g.name.now }
 
 abbrev pub isr_view : RawHandler → RawIsr
@@ -63,12 +63,12 @@ isr_names entries = map (λ (h : RawIsr). h.name) entries.handlers
 -- all names, section by section
 abbrev pub names_of : Entries → List (List ℕ)
 names_of entries =
-    map (λ (o : Object). o.name) entries.objects
-    ++ (map (λ (g : Group). g.name) entries.groups
+    map (λ (o : ObjectEntry). o.name) entries.objects
+    ++ (map (λ (g : GroupEntry). g.name) entries.groups
     ++ (isr_names entries ++ map (λ (t : Raw). t.name) entries.tasks))
 
 -- The application has these objects, so many event groups and so many tasks.
 pub record HasEntries (app : Application) (entries : Entries) : Type 0 where
-  pub objects : app.objects ≡ map (λ (o : Object). o.kind) entries.objects
+  pub objects : app.objects ≡ map (λ (o : ObjectEntry). o.kind) entries.objects
   pub groups : app.group_count ≡ length entries.groups
   pub tasks : length app.tasks ≡ length entries.tasks

@@ -6,14 +6,14 @@ use Rattle.grammar.specs.declared.object_sort.ObjectSort.{ObjectSort}
 use Rattle.grammar.specs.Names.{index_of}
 use Rattle.grammar.specs.Finding.{is_of_sort}
 use Rattle.grammar.specs.Grammar.{Word, Naming, OfObject, OfGroup, OfTask}
-use Rattle.script.specs.Entries.{Object, Group, Raw, Entries}
+use Rattle.script.specs.Entries.{ObjectEntry, GroupEntry, Raw, Entries}
 
 -- It is an object of this sort and this name.
-abbrev pub is_called : ObjectSort → Word → Object → Bool
+abbrev pub is_called : ObjectSort → Word → ObjectEntry → Bool
 is_called sort w o = is_of_sort sort o.kind && bytes_eq o.name w
 
 -- A name is that of one of these entries, which is of the sort that the op asks for.
 abbrev pub among : Entries → Naming
 among entries (OfObject sort) w = position_from (is_called sort w) 0 entries.objects
-among entries OfGroup w = index_of w (map (λ (g : Group). g.name) entries.groups)
+among entries OfGroup w = index_of w (map (λ (g : GroupEntry). g.name) entries.groups)
 among entries OfTask w = index_of w (map (λ (t : Raw). t.name) entries.tasks)

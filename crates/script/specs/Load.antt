@@ -9,9 +9,9 @@ use Rattle.script.specs.declared.place.Key.TheVariants as key
 use Rattle.script.specs.Faults.{at_section, fault_at, first_fault, fails_if, need, optional}
 use Rattle.script.specs.Names.{handler_names, task_names}
 use Rattle.script.specs.Values.{member_of, number_fault, number_or}
-use Rattle.script.specs.Entries.{Object, Entries, isr_names, names_of}
+use Rattle.script.specs.Entries.{ObjectEntry, Entries, isr_names, names_of}
 use Rattle.script.specs.Sections.{data_at, no_entries, objects_fault, objects_named, groups_fault, groups_named, handlers_fault, handlers_named, tasks_fault, tasks_named}
-use Rattle.script.specs.Ops.{handler_ops_fault, scripts_fault, with_isr_ops, with_ops}
+use Rattle.script.specs.Ops.{handler_ops_fault, scripts_fault, with_isr_ops, with_script}
 use Rattle.script.specs.Interrupts.{interrupts_fault, interrupts_named}
 use Rattle.script.specs.Points.{campaign_fault, campaign_named}
 
@@ -83,11 +83,11 @@ app_named document =
     record {
       start = number_or 0 (data_at section.Start document);
       limits = limits_named (data_at section.Limits document);
-      objects = map (λ (o : Object). o.kind) entries.objects;
+      objects = map (λ (o : ObjectEntry). o.kind) entries.objects;
       group_count = length entries.groups;
       handlers = map (with_isr_ops entries) entries.handlers;
       interrupts = interrupts_named (isr_names entries) document;
-      tasks = map (with_ops entries) entries.tasks;
+      tasks = map (with_script entries) entries.tasks;
       points = campaign_named (isr_names entries) document;
     }
 

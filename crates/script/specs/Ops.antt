@@ -17,29 +17,29 @@ use Rattle.script.specs.declared.place.Key.TheVariants as key
 use Rattle.script.specs.Faults.{at_entry, at_key, at_element, fault_at, first_fault, fails_if, need}
 use Rattle.script.specs.Arrays.{Elements, each_fault, alike}
 use Rattle.grammar.specs.Grammar.{Word, Naming, words_of, op_of, isr_op_of}
-use Rattle.script.specs.Entries.{Object, RawIsr, Raw, Entries}
+use Rattle.script.specs.Entries.{ObjectEntry, RawIsr, Raw, Entries}
 use Rattle.grammar.specs.Finding.{any_name}
 use Rattle.script.specs.Finding.{among}
 
 -- The object of this number allows the call: `overwrite` is for queues of length 1.
-abbrev pub allows : List Object → ℕ → Access → Bool
-allows objects object access = option_map_or (λ (o : Object). fits o.kind access) (slice_get objects object) false
+abbrev pub allows : List ObjectEntry → ℕ → Access → Bool
+allows objects object access = option_map_or (λ (o : ObjectEntry). fits o.kind access) (slice_get objects object) false
 
 -- What tells the ops of tasks from those of handlers: which words spell which, whether an object allows it, and where it
 -- may stand and how many loops are open after it, where so many are open before it.
 pub record Ops (O : Type 0) : Type 0 where
   pub of_words : Naming → List Word → Option O
-  pub is_allowed : List Object → O → Bool
+  pub is_allowed : List ObjectEntry → O → Bool
   pub may_stand : ℕ → O → Bool
   pub nesting_past : ℕ → O → ℕ
 
 -- A call that waits is allowed by each object that its text may name.
-abbrev pub is_allowed : List Object → Op → Bool
+abbrev pub is_allowed : List ObjectEntry → Op → Bool
 is_allowed objects (Do object access) = allows objects object access
 is_allowed objects _ = true
 
 -- the same of a handler's op
-abbrev pub is_isr_allowed : List Object → IsrOp → Bool
+abbrev pub is_isr_allowed : List ObjectEntry → IsrOp → Bool
 is_isr_allowed objects (isr.Do object access) = allows objects object access
 is_isr_allowed objects _ = true
 
@@ -119,6 +119,6 @@ scripts_fault entries = each_fault (task_scripts entries) tt 0 (map (λ (t : Raw
 abbrev pub with_isr_ops : Entries → RawIsr → Handler
 with_isr_ops entries h = record { name = h.name; ops = script_named handler_ops entries h.ops }
 
--- a task with its ops
-abbrev pub with_ops : Entries → Raw → Definition
-with_ops entries t = record { name = t.name; priority = t.priority; script = script_named task_ops entries t.script }
+-- a task with its script
+abbrev pub with_script : Entries → Raw → Definition
+with_script entries t = record { name = t.name; priority = t.priority; script = script_named task_ops entries t.script }

@@ -15,7 +15,7 @@ use Rattle.script.specs.declared.object_section.ObjectSection.TheVariants.{Queue
 use Rattle.script.specs.Faults.{section_word, first_fault, required, optional}
 use Rattle.script.specs.Values.{number_fault, number_named, name_fault, name_named, texts_fault, texts_named}
 use Rattle.script.specs.Arrays.{section_fault, section_named}
-use Rattle.script.specs.Entries.{Object, Group, RawIsr, Raw, Entries, names_of}
+use Rattle.script.specs.Entries.{ObjectEntry, GroupEntry, RawIsr, Raw, Entries, names_of}
 
 -- what stands at a section
 abbrev pub data_at : Section → Members → Option Data
@@ -49,13 +49,13 @@ kind_named Binary ms = kind.Semaphore 1 0
 kind_named Counting ms = kind.Semaphore (number_named key.Max ms) (number_named key.Initial ms)
 kind_named Mutex ms = kind.Mutex
 
-abbrev pub object_keys : ObjectSection → Entries → List Object → Place → Members → Option Fault
+abbrev pub object_keys : ObjectSection → Entries → List ObjectEntry → Place → Members → Option Fault
 object_keys s earlier before p ms = first_fault (
-    required p key.Name (name_fault (names_of earlier ++ map (λ (o : Object). o.name) before)) ms
+    required p key.Name (name_fault (names_of earlier ++ map (λ (o : ObjectEntry). o.name) before)) ms
     ∷ kind_fault s p ms
     ∷ [])
 
-abbrev pub object_named : ObjectSection → Option Members → Object
+abbrev pub object_named : ObjectSection → Option Members → ObjectEntry
 object_named s ms = record { name = name_named ms; kind = kind_named s ms }
 
 -- the sections of objects, in the order in which their objects are numbered
@@ -63,16 +63,16 @@ abbrev pub object_sections : List ObjectSection
 object_sections = Queue ∷ Binary ∷ Counting ∷ Mutex ∷ []
 
 -- these objects, and those of a section
-unfoldable pub with_objects : List Object → ObjectSection → Members → List Object
+unfoldable pub with_objects : List ObjectEntry → ObjectSection → Members → List ObjectEntry
 with_objects before s document = before ++ section_named (object_named s) (data_at (section_of s) document)
 
 -- the checks of a section, after these objects, with which there are no more than there may be
-unfoldable pub more_objects_fault : List Object → ObjectSection → Members → Option Fault
+unfoldable pub more_objects_fault : List ObjectEntry → ObjectSection → Members → Option Fault
 more_objects_fault before s document =
     section_fault most_objects (section_of s) (object_named s) (object_keys s no_entries) before (data_at (section_of s) document)
 
 -- each of these sections in order, after these objects
-abbrev pub each_objects_fault : List ObjectSection → List Object → Members → Option Fault
+abbrev pub each_objects_fault : List ObjectSection → List ObjectEntry → Members → Option Fault
 each_objects_fault [] before document = None
 each_objects_fault (s ∷ ss) before document = first_fault (
     more_objects_fault before s document
@@ -82,23 +82,23 @@ each_objects_fault (s ∷ ss) before document = first_fault (
 unfoldable pub objects_fault : Members → Option Fault
 objects_fault document = each_objects_fault object_sections [] document
 
-unfoldable pub objects_named : Members → List Object
+unfoldable pub objects_named : Members → List ObjectEntry
 objects_named document = fold (λ before s. with_objects before s document) [] object_sections
 
 -- ---- event groups, handlers and tasks, each after the entries of earlier sections
 
-abbrev pub group_keys : Entries → List Group → Place → Members → Option Fault
+abbrev pub group_keys : Entries → List GroupEntry → Place → Members → Option Fault
 group_keys earlier before p ms =
-    required p key.Name (name_fault (names_of earlier ++ map (λ (g : Group). g.name) before)) ms
+    required p key.Name (name_fault (names_of earlier ++ map (λ (g : GroupEntry). g.name) before)) ms
 
-abbrev pub group_named : Option Members → Group
+abbrev pub group_named : Option Members → GroupEntry
 group_named ms = record { name = name_named ms }
 
 unfoldable pub groups_fault : Entries → Members → Option Fault
 groups_fault earlier document =
     section_fault most_groups section.Group group_named (group_keys earlier) [] (data_at section.Group document)
 
-unfoldable pub groups_named : Members → List Group
+unfoldable pub groups_named : Members → List GroupEntry
 groups_named document = section_named group_named (data_at section.Group document)
 
 abbrev pub handler_keys : Entries → List RawIsr → Place → Members → Option Fault

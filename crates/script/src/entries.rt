@@ -22,9 +22,9 @@ pub(crate) struct NamedEntries<'a> {
 }
 
 impl Named for NamedObject<'_> {
-    ghost use Rattle.script.specs.Entries.{Object, object_view};
+    ghost use Rattle.script.specs.Entries.{ObjectEntry, object_view};
 
-    ghost Shown = { Object };
+    ghost Shown = { ObjectEntry };
 
     ghost shown = { object_view };
 
@@ -36,9 +36,9 @@ impl Named for NamedObject<'_> {
 }
 
 impl Named for NamedGroup<'_> {
-    ghost use Rattle.script.specs.Entries.{Group, group_view};
+    ghost use Rattle.script.specs.Entries.{GroupEntry, group_view};
 
-    ghost Shown = { Group };
+    ghost Shown = { GroupEntry };
 
     ghost shown = { group_view };
 

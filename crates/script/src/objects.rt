@@ -4,7 +4,7 @@ ghost use Rattle.std.specs.List.{AllByRecursion};
 ghost use Rattle.toml.specs.View.{table_view};
 ghost use Rattle.model.specs.Scripts.{IsObjectKind};
 ghost use Rattle.script.specs.Faults.{Judges, seen};
-ghost use Rattle.script.specs.Entries.{Object, object_view};
+ghost use Rattle.script.specs.Entries.{ObjectEntry, object_view};
 ghost use Rattle.script.specs.Sections.{kind_fault, kind_named, more_objects_fault, with_objects, objects_fault, objects_named};
 
 use crate::entries::NamedEntries;
@@ -61,10 +61,10 @@ struct ObjectReader<'e> {
 impl<'a> EntryReader<'a> for ObjectReader<'_> {
     type Entry = NamedObject<'a>;
 
-    ghost use Rattle.script.specs.Entries.{Object, object_view, entries_view};
+    ghost use Rattle.script.specs.Entries.{ObjectEntry, object_view, entries_view};
     ghost use Rattle.script.specs.Sections.{object_keys, object_named};
 
-    ghost Shown = { Object };
+    ghost Shown = { ObjectEntry };
 
     ghost shown = { object_view };
 
@@ -124,7 +124,7 @@ pub(crate) fn kinds_of(
     alloc: Global,
     objects: &[NamedObject<'_>],
 ) -> Result<Vec<ObjectKind>, AllocError>
-    ensures kinds { IfOk result (λ v. v.items ≡ map (λ (o : Object). o.kind) (map object_view objects.now)) }
+    ensures kinds { IfOk result (λ v. v.items ≡ map (λ (o : ObjectEntry). o.kind) (map object_view objects.now)) }
     ensures formed { IfOk result (λ v. AllByRecursion IsObjectKind v.items) }
 {
     let mut kinds = Vec::new(alloc);

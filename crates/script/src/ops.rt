@@ -7,7 +7,7 @@ ghost use Rattle.model.specs.Scripts.{InRange, IsScript, IsDefinition, Nests, ma
 ghost use Rattle.script.specs.Faults.{Judges};
 ghost use Rattle.script.specs.Finding.{among};
 ghost use Rattle.script.specs.Entries.{object_view, entries_view};
-ghost use Rattle.script.specs.Ops.{allows, task_ops, handler_ops, op_in, op_fault, nesting_with, script_fault, script_named, handler_ops_fault, scripts_fault, with_isr_ops, with_ops};
+ghost use Rattle.script.specs.Ops.{allows, task_ops, handler_ops, op_in, op_fault, nesting_with, script_fault, script_named, handler_ops_fault, scripts_fault, with_isr_ops, with_script};
 
 use crate::entries::NamedEntries;
 use crate::fault::{Fault, FaultKind};
@@ -268,9 +268,9 @@ pub(crate) fn tasks_of(
     entries: &NamedEntries<'_>,
 ) -> Result<Vec<TaskDefinition>, AllocError>
     requires { AllByRecursion (λ (t : Definition). Nests 0 t.script)
-        (map (with_ops (entries_view entries.now)) (entries_view entries.now).tasks) }
+        (map (with_script (entries_view entries.now)) (entries_view entries.now).tasks) }
     ensures tasks { IfOk result (λ v. v.items
-        ≡ map (with_ops (entries_view entries.now)) (entries_view entries.now).tasks) }
+        ≡ map (with_script (entries_view entries.now)) (entries_view entries.now).tasks) }
     ensures formed { IfOk result (λ v. AllByRecursion IsDefinition v.items) }
     ensures few { IfOk result (λ v. length v.items ≤ most_tasks) }
 {

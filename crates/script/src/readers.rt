@@ -34,10 +34,10 @@ struct TaskReader<'e>(&'e NamedEntries<'e>);
 impl<'a> EntryReader<'a> for GroupReader<'_> {
     type Entry = NamedGroup<'a>;
 
-    ghost use Rattle.script.specs.Entries.{Group, group_view, entries_view};
+    ghost use Rattle.script.specs.Entries.{GroupEntry, group_view, entries_view};
     ghost use Rattle.script.specs.Sections.{group_keys, group_named};
 
-    ghost Shown = { Group };
+    ghost Shown = { GroupEntry };
 
     ghost shown = { group_view };
 

@@ -15,7 +15,7 @@ use Rattle.model.specs.Order.{Key, Entry, key, tasks_of}
 use Rattle.model.specs.Switching.{make_ready, is_ready, choose}
 use Rattle.model.specs.Waiting.{set_deadline, end_hold}
 use Rattle.model.specs.Ops.{answer}
-use Rattle.model.specs.Groups.{is_met, without, bits_left, want, keep_answer, bits_key, waiters_for_bits, is_met_for, met_by, wake_with_bits, bits_set, bits_after_set, set, begin_set, clear, answer_bits, wait_for_bits, begin_bits_wait, final_bits}
+use Rattle.model.specs.Groups.{is_met, bits_without, bits_left, want, keep_answer, bits_key, waiters_for_bits, is_met_for, met_by, wake_with_bits, bits_set, bits_after_set, set, begin_set, clear, answer_bits, wait_for_bits, begin_bits_wait, final_bits}
 use Rattle.model.specs.Invariant.{IsReckoned, Hold, hold_of, ForBits, ToSetBits, course, IsPhaseOf, IsWaitOf, list_of_op, IsSound, holds, suspension_of, IsState, wait_of}
 use Rattle.model.proofs.Sorting.{by_test}
 use Rattle.model.proofs.Lists.{HasKey, list_has}
@@ -156,7 +156,7 @@ module _ (app : Application) (formed : IsWellFormed app) (hold : Hold) where
   module _ (s : State) (i : ℕ) (op : Op) (h : IsSound app hold s) (free : wait_of (status_at s i) ≡ None) (is : op_at app i (progress_at s i).op_index ≡ Some op) (flat : (nesting : ℕ) → nesting_past nesting op ≡ nesting) where
     pub cleared : (group mask : ℕ) → IsSound app hold (clear app i group mask s)
     unfolding clear
-    cleared group mask = answered app formed hold _ i op (bits_put s group (without (bits_at s group) mask) h) free is _ (flat _)
+    cleared group mask = answered app formed hold _ i op (bits_put s group (bits_without (bits_at s group) mask) h) free is _ (flat _)
 
     pub answered_bits : (group : ℕ) (c : Condition) → IsSound app hold (answer_bits app i group c s)
     unfolding answer_bits
@@ -259,7 +259,7 @@ module _ (app : Application) (formed : IsWellFormed app) (s : State) (i : ℕ) (
   pub set_ended : (group mask : ℕ) → op_at app i (progress_at s i).op_index ≡ Some (SetBits group mask) → IsSound app free (answer app i (call_at s i).kept (end_hold i Start s))
   set_ended group mask is =
       let ended : State = end_hold i Start s in
-      let t : Task = record (task_at s i) { progress = record (progress_at s i) { call = record (call_at s i) { phase = Start; list = None } } } in
+      let t : Task = record (task_at s i) { progress = record (progress_at s i) { call = record (call_at s i) { phase = Start; waits = false } } } in
       let at : task_at ended i ≡ t = get_or-set_same s.tasks i t no_task l in
       let none : wait_of (status_at s i) ≡ None = listless (op_at app i (progress_at s i).op_index) (call_at s i).deadline (wait_of (status_at s i)) (ap list_of_op is) (h.sound.calls i).wait in
       answered app formed free ended i (SetBits group mask) (hold_ended app formed s i h runs l unlocked Start tt)

@@ -244,7 +244,7 @@ module _ (app : Application) (formed : IsWellFormed app) (hold : Hold) where
   unfolding wait_in
   began s i o a ticks h l r is =
       let list : WaitList = list_for o a in
-      let call : CallProgress = record (call_at s i) { list = Some list } in
+      let call : CallProgress = record (call_at s i) { waits = true } in
       let t : Task = record (task_at s i) { progress = record (progress_at s i) { call = call } } in
       let s1 : State = with_call i call s in
       let at : task_at s1 i ≡ t = get_or-set_same s.tasks i t no_task l in

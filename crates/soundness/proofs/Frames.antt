@@ -22,7 +22,7 @@ use Rattle.model.specs.Objects.{possible, answer_to, object_after, list_woken, f
 use Rattle.model.specs.Calls.{try, do_now}
 use Rattle.model.specs.Ops.{one_if, go_to, moved_to, called, answer, use_up, delay, delay_until, open_loop, turn, close_turn}
 use Rattle.model.specs.declared.call.Condition.{Condition}
-use Rattle.model.specs.Groups.{is_met, without, bits_left, keep_answer, met_by, wake_with_bits, bits_set, bits_after_set, set, clear, answer_bits}
+use Rattle.model.specs.Groups.{is_met, bits_without, bits_left, keep_answer, met_by, wake_with_bits, bits_set, bits_after_set, set, clear, answer_bits}
 use Rattle.model.specs.Suspension.{can_suspend, can_resume, suspend, resumed, resume, call_suspend, call_resume}
 use Rattle.model.specs.Mutexes.{set_priority, mutexes_held, lend, inherits, inherit_from, inherit, best_priority, fall_back, after_timeout, disinherit, give_mutex}
 use Rattle.model.specs.Invariant.{hold_of, suspension_of}
@@ -297,8 +297,8 @@ keeps-set group mask s =
 pub keeps-clear : (app : Application) (i group mask : ℕ) (s : State) → Keeps s (clear app i group mask s)
 unfolding clear
 keeps-clear app i group mask s =
-    let t : State = with_bits group (without (bits_at s group) mask) s in
-    keeps_both s t (answer app i (Some (bits_at s group)) t) (keeps-with_bits group (without (bits_at s group) mask) s) (keeps-answer app i (Some (bits_at s group)) t)
+    let t : State = with_bits group (bits_without (bits_at s group) mask) s in
+    keeps_both s t (answer app i (Some (bits_at s group)) t) (keeps-with_bits group (bits_without (bits_at s group) mask) s) (keeps-answer app i (Some (bits_at s group)) t)
 
 pub keeps-answer_bits : (app : Application) (i group : ℕ) (c : Condition) (s : State) → Keeps s (answer_bits app i group c s)
 unfolding answer_bits

@@ -13,7 +13,7 @@ use Rattle.model.specs.Order.{Entry, tasks_of}
 use Rattle.model.specs.Switching.{make_ready, is_ready, slice, preempt, is_scheduler_suspended, is_held, unless_held, write}
 use Rattle.model.specs.Time.{wake_due, due, is_due, delayed_list, advance, increment_tick, apply_one, apply_held}
 use Rattle.model.specs.Ops.{go_to, moved_to, answer, use_up, expect, open_loop, turn, close_turn}
-use Rattle.model.specs.Groups.{without, clear}
+use Rattle.model.specs.Groups.{bits_without, clear}
 use Rattle.model.specs.Suspension.{suspend_all, resume_scheduler, resume_all}
 use Rattle.model.specs.Handlers.{handle, interrupt, tick_interrupt}
 use Rattle.model.specs.Step.{act, may_switch}
@@ -130,7 +130,7 @@ module _ (app : Application) (i : ℕ) where
 
   cleared_on : (group mask : ℕ) (s : State) → i < length s.tasks → is_ready s i ≡ true → Continues app i s (clear app i group mask s)
   unfolding clear
-  cleared_on group mask s l r = let k = answering_on (Some (bits_at s group)) (with_bits group (without (bits_at s group) mask) s) l r in record { current = k.current; goes = k.goes }
+  cleared_on group mask s l r = let k = answering_on (Some (bits_at s group)) (with_bits group (bits_without (bits_at s group) mask) s) l r in record { current = k.current; goes = k.goes }
 
   pub suspended_on : (s : State) → i < length s.tasks → is_ready s i ≡ true → Continues app i s (suspend_all app i s)
   unfolding suspend_all

@@ -357,11 +357,11 @@ module _ (app : Application) (formed : IsWellFormed app) (s t : State) (h : IsSt
         let W : Option Wait → Type 0 = λ o. IfSome o (λ x. IsWaitOf (op_at app i (progress_at s i).op_index) (call_at s i).deadline x) in
         let of_op : IsWaitOf (op_at app i (progress_at s i).op_index) (call_at s i).deadline w = subst W e (h.sound.calls i).wait in
         let locked : is_locked s.locked w.list ≡ true = place_locked (hold_of s) (op_at app i (progress_at s i).op_index) w.list phase of_op.list in
-        let L : Task → Type 0 = λ u. (u.progress.call.list ≡ Some w.list) × (w.priority ≡ u.priority) in
-        let there : L (task_at t i) = subst L (sym (sp.at i (waiting_unsuspended (status_at s i) w e))) (p.0, p.1) in
+        let L : Task → Type 0 = λ u. w.priority ≡ u.priority in
+        let there : L (task_at t i) = subst L (sym (sp.at i (waiting_unsuspended (status_at s i) w e))) p.0 in
         let D : ℕ → Type 0 = λ now. IfSome w.deadline (λ deadline. now < deadline) in
-        let later : D t.time = subst D (sym sp.kept.time) p.2 in
-        subst (IsPlacing t.time (task_at t i)) (sym (sp.waits i w e locked)) (there.0, there.1, later)
+        let later : D t.time = subst D (sym sp.kept.time) p.1 in
+        subst (IsPlacing t.time (task_at t i)) (sym (sp.waits i w e locked)) (there, later)
 
   -- who ran on its last op runs on
   stranded_still : (i : ℕ) → IsStranded app s i → IsStranded app t i

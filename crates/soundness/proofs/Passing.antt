@@ -62,7 +62,7 @@ unfolding leave_call
 lasts-leave_call i s =
     let free : State = end_hold i Try s in
     let ended : Lasts s free = record { elapsed = refl; suspension = refl } in
-    by_test (is_some (call_at s i).list)
+    by_test (call_at s i).waits
     (λ t. rw t (lasts_both s free (choose free) ended (keeps-choose free)))
     (λ t. rw t (lasts_both s free (preempt free) ended (keeps-preempt free)))
 

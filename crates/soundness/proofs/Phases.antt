@@ -114,14 +114,14 @@ module _ (app : Application) (formed : IsWellFormed app) where
     -- what the task is when it has begun to wait
     waiting_task : Task
     waiting_task = record (task_at s i) {
-      progress = record (progress_at s i) { call = record (call_at s i) { list = Some (list_for o a) } };
+      progress = record (progress_at s i) { call = record (call_at s i) { waits = true } };
       status = Waiting (record { list = list_for o a; priority = (task_at s i).priority; ticket = s.next_ticket; deadline = (call_at s i).deadline });
     }
 
     begun_at : task_at (wait_in i (list_for o a) s) i ≡ waiting_task
     unfolding wait_in waiting_task
     begun_at =
-        let t : Task = record (task_at s i) { progress = record (progress_at s i) { call = record (call_at s i) { list = Some (list_for o a) } } } in
+        let t : Task = record (task_at s i) { progress = record (progress_at s i) { call = record (call_at s i) { waits = true } } } in
         let s1 : State = with_task i t s in
         let at : task_at s1 i ≡ t = get_or-set_same s.tasks i t no_task l in
         let u : Task = record (task_at s1 i) { status = Waiting (record { list = list_for o a; priority = (task_at s i).priority; ticket = s.next_ticket; deadline = (call_at s i).deadline }) } in
@@ -153,7 +153,7 @@ module _ (app : Application) (formed : IsWellFormed app) where
         let O : Task → Type 0 = λ (u : Task). IsPhaseOf locking (course (op_at app i u.progress.op_index)) Place in
         let F : ℕ → Task → Type 0 = λ now u. IsPlacing now (record u { progress = record u.progress { call = record u.progress.call { phase = Place } } }) (wait_of u.status) in
         let later : IfSome (call_at s i).deadline (λ d. s.time < d) = still_to_come (call_at s i).deadline s.time to_come in
-        let placing : F s.time waiting_task = (refl, refl, later) in
+        let placing : F s.time waiting_task = (refl, later) in
         in_hold t i (record (task_at b i) { progress = record (progress_at b i) { call = record (call_at b i) { phase = Place } } })
         (went_on app formed locking t i Place h1 (subst O (sym begun_at) (phase_there Place (refl, refl))))
         (begun_kept.1 ∙ runs) (rw begun_length l) refl refl
@@ -205,7 +205,7 @@ module _ (app : Application) (formed : IsWellFormed app) where
     pub hold_ended : s.locked ≡ None → (phase : Phase) → IsPhaseOf free (course (op_at app i (progress_at s i).op_index)) phase → IsSound app free (end_hold i phase s)
     hold_ended leaves phase fits =
         let s1 : State = record s { call_hold = false } in
-        let t : Task = record (task_at s i) { progress = record (progress_at s i) { call = record (call_at s i) { phase = phase; list = None } } } in
+        let t : Task = record (task_at s i) { progress = record (progress_at s i) { call = record (call_at s i) { phase = phase; waits = false } } } in
         let h1 : IsSound app (hold_of s) s1 = framed app formed (hold_of s) s s.log s.steps s.stopped s.locked false h.sound in
         let a = h.sound.progress i in
         let c = h.sound.calls i in
@@ -325,7 +325,7 @@ module _ (app : Application) (formed : IsWellFormed app) where
 
         pub left : IsSound app free (leave_call i s)
         unfolding leave_call ended
-        left = by_test (is_some (call_at s i).list)
+        left = by_test (call_at s i).waits
             (λ t. rw t (chosen app formed free ended ended_sound))
             (λ t. rw t (preempted app formed free ended ended_sound))
 
@@ -333,6 +333,6 @@ module _ (app : Application) (formed : IsWellFormed app) where
         unfolding leave_call ended
         left_hold =
             let same : hold_of ended ≡ free = ap (λ l. record { held = false; locked = l }) leaves in
-            by_test (is_some (call_at s i).list)
+            by_test (call_at s i).waits
             (λ t. rw t ((keeps-choose ended).hold ∙ same))
             (λ t. rw t ((keeps-preempt ended).hold ∙ same))

@@ -481,7 +481,7 @@ contents-reset : (o : ℕ) (kinds : List ObjectKind) → AllByRecursion IsObject
 contents-reset o [] h = tt
 contents-reset zero ((Queue size) ∷ kinds) h = (refl, omega arith)
 contents-reset zero ((Semaphore most first) ∷ kinds) h = (refl, h.0.2)
-contents-reset zero (Mutex ∷ kinds) h = refl
+contents-reset zero (Mutex ∷ kinds) h = tt
 contents-reset (suc o) (kind ∷ kinds) h = contents-reset o kinds h.1
 
 priority-reset : (start i : ℕ) (ds : List Definition) → AllByRecursion IsDefinition ds → HasPriority (get_or (map (task_at_reset start) ds) i no_task)

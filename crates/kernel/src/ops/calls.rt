@@ -6,16 +6,13 @@ ghost use Rattle.model.specs.declared.op.Op.TheVariants as op;
 ghost use Rattle.model.specs.State.{State, go_on};
 ghost use Rattle.model.specs.Waiting as waiting;
 ghost use Rattle.model.specs.Waiting.{set_deadline, unlock, wait_in};
-ghost use Rattle.model.specs.declared.call.WaitList as declared;
 ghost use Rattle.model.specs.Objects as definitions;
 ghost use Rattle.model.specs.declared.call.Phase.TheVariants as phase;
 ghost use Rattle.model.specs.Application.{Application};
 ghost use Rattle.model.specs.Calls.{try, lock, decide, leave_call, await};
 ghost use Rattle.model.specs.Step.{act};
-ghost use Rattle.lists.specs.Lists.{place_of};
 ghost use Rattle.clock.specs.Timeline.{is_asleep};
 ghost use Rattle.clock.specs.StandsFor.{StandsFor as ClockStandsFor, StandsBefore as ClockStandsBefore};
-ghost use Rattle.objects.specs.Queues.{StandsFor as QueuesStandFor};
 ghost use Rattle.kernel.specs.StandsFor.{StandsFor, At, AtAny, Does, DoesAny, Moves, progress_in, with_progress};
 ghost use Rattle.kernel.specs.InCall.{IsSilent, Remains};
 ghost use Rattle.kernel.specs.Can.{Agrees, CanTry, CanDecide, CanPlace, CanLeave, CanGoOn, IsAhead, IsInCall, IsShort};
@@ -26,7 +23,6 @@ use crate::log::Log;
 use crate::switching::wake_all;
 use clock::Clock;
 use model::{Access, App, ObjectId, Phase, TaskId, WaitList};
-use objects::Queues;
 
 /// The list in which a call waits.
 fn list_for(object: ObjectId, access: Access) -> WaitList
@@ -46,19 +42,6 @@ fn deadline_after(now: u64, ticks: Option<u32>) -> Option<u64>
     Some(now + ticks? as u64)
 }
 
-/// A task that has begun to wait is put into its list, with its priority of 0 to 31.
-fn place_waiter(queues: &mut Queues, list: Option<WaitList>, task: TaskId, priority: u8)
-    requires priority { priority < 32 }
-    requires free { place_of queues.old.waiting task ≡ None }
-    ensures { (s : State) (in_list : declared.WaitList) → list ≡ Some in_list
-        → QueuesStandFor queues.old (Some (record { task = task; list = in_list; priority = priority })) s
-        → QueuesStandFor queues.new None s }
-{
-    if let Some(list) = list {
-        queues.place(list, task, priority);
-    }
-}
-
 /// A task that has begun to wait until a deadline, if there is one, is put among those who wake by themselves.
 pub(super) fn place_sleeper(clock: &mut Clock, deadline: Option<u64>, task: TaskId)
     requires awake { is_asleep clock.old task ≡ false }
@@ -66,7 +49,7 @@ pub(super) fn place_sleeper(clock: &mut Clock, deadline: Option<u64>, task: Task
     ensures { (s : State) → ClockStandsBefore task deadline clock.old s → ClockStandsFor clock.new s }
 {
     if let Some(deadline) = deadline {
-        let ticks = deadline - clock.mark().moment;
+        let ticks = deadline - clock.now();
         clock.sleep(task, ticks as u32);
     }
 }
@@ -83,7 +66,7 @@ impl Kernel {
         ensures deadline { (progress_in self.new.progress task).call.deadline
             ≡ option_map (λ n. self.old.clock.now + n) ticks }
     {
-        let deadline = deadline_after(self.clock.mark().moment, ticks);
+        let deadline = deadline_after(self.clock.now(), ticks);
         self.set_call_deadline(task, deadline);
     }
 
@@ -93,7 +76,7 @@ impl Kernel {
     {
         match self.progress(task).call.deadline {
             None => false,
-            Some(deadline) => deadline <= self.clock.mark().moment,
+            Some(deadline) => deadline <= self.clock.now(),
         }
     }
 
@@ -172,7 +155,8 @@ impl Kernel {
     {
         self.sched.hold();
         self.queues.lock(object);
-        self.set_wait(task, Phase::Place, Some(list_for(object, access)));
+        self.wait_list = list_for(object, access);
+        self.set_wait(task, Phase::Place, true);
     }
 
     /// The task is put into its waiting list and, if it waits until a deadline, among those who wake by themselves.
@@ -184,10 +168,11 @@ impl Kernel {
         ensures remains { Remains self.old self.new task }
         ensures depth { self.new.sched.depth ≡ self.old.sched.depth }
     {
-        let call = self.progress(task).call;
+        let deadline = self.progress(task).call.deadline;
         self.sched.block(task);
-        place_waiter(&mut self.queues, call.list, task, self.sched.priority(task));
-        place_sleeper(&mut self.clock, call.deadline, task);
+        let priority = self.sched.priority(task);
+        self.queues.place(self.wait_list, task, priority);
+        place_sleeper(&mut self.clock, deadline, task);
         self.set_phase(task, Phase::Unlock);
     }
 
@@ -237,8 +222,8 @@ impl Kernel {
         ensures { Does 1 self.old (L.logged log.old) self.new (L.logged log.new) (leave_call task) }
     {
         self.sched.unhold();
-        let waits = self.progress(task).call.list.is_some();
-        self.set_wait(task, Phase::Try, None);
+        let waits = self.progress(task).call.waits;
+        self.set_wait(task, Phase::Try, false);
         if waits {
             self.choose(log);
         } else {

@@ -121,7 +121,7 @@ impl Kernel {
     {
         self.sched.unhold();
         let left = self.progress(task).call.kept;
-        self.set_wait(task, Phase::Start, None);
+        self.set_wait(task, Phase::Start, false);
         self.answer_given(app, task, left, log);
         self.preempt(log);
     }
@@ -217,7 +217,7 @@ impl Kernel {
             (λ s. choose (end_hold task phase.Final s)) }
     {
         self.sched.unhold();
-        self.set_wait(task, Phase::Final, None);
+        self.set_wait(task, Phase::Final, false);
         self.choose(log);
     }
 

@@ -71,7 +71,7 @@ impl Kernel {
     {
         let resumed = self.sched.resume(task);
         if resumed {
-            let now = self.clock.mark().moment;
+            let now = self.clock.now();
             self.set_resumed(task, now);
         }
         resumed

@@ -81,7 +81,7 @@ impl Kernel {
             (act app.now task (op.DelayUntil ticks)) }
     {
         let wake_time = self.progress(task).previous_wake + ticks as u64;
-        let now = self.clock.mark().moment;
+        let now = self.clock.now();
         if now < wake_time {
             self.answer(app, task, 1, log);
             self.sleep(task, (wake_time - now) as u32);

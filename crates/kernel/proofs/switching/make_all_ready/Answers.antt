@@ -17,6 +17,7 @@ loop-task-preserved c = record {
   free = more_free c.loop-task.sched c.args.tasks.now c.loop-task.task-index c.task-item.result c.loop-task-test.true c.task-item.is c.loop-task.invariant.free c.wake.new.self c.wake.ensures.schedule;
   unlocked = ap (λ (q : Exchange). q.lock) c.drop_waiter.ensures.gone ∙ c.loop-task.invariant.unlocked;
   depth = depth_woken c.loop-task.sched c.wake.new.self c.task-item.result c.wake.ensures.schedule ∙ c.loop-task.invariant.depth;
+  number = ap (λ (q : Exchange). q.number) c.drop_waiter.ensures.gone ∙ c.loop-task.invariant.number;
   objects = ap (λ (q : Exchange). q.objects) c.drop_waiter.ensures.gone ∙ c.loop-task.invariant.objects;
 }
 
@@ -31,6 +32,9 @@ returns-clause-gone c = λ s h a. rw (take_all _ _ c.loop-task-test.false) at (c
 
 pub returns-clause-depth : goal.returns-clause-depth
 returns-clause-depth c = c.loop-task.invariant.depth
+
+pub returns-clause-number : goal.returns-clause-number
+returns-clause-number c = c.loop-task.invariant.number
 
 pub returns-clause-objects : goal.returns-clause-objects
 returns-clause-objects c = c.loop-task.invariant.objects

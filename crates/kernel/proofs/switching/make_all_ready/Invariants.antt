@@ -15,5 +15,6 @@ invariant-loop-task l = record {
   free : AreToWake l.sched (drop l.task-index l.tasks);
   unlocked : l.queues.lock ≡ None;
   depth : l.sched.depth ≡ l.fn.sched.depth;
+  number : l.queues.number ≡ l.fn.queues.number;
   objects : l.queues.objects ≡ l.fn.queues.objects;
 }

@@ -1,7 +1,6 @@
-use Rattle.std.proofs.Common.{◌≡◌, ℕ, true, false, Some, None, ap, sym, subst, refl}
+use Rattle.std.proofs.Common.{◌≡◌, ℕ, true, false, Some, None, sym, subst, refl}
 use Rattle.model.specs.declared.call.Phase.TheVariants.{Place}
-use Rattle.model.specs.declared.call.WaitList.{WaitList}
-use Rattle.model.specs.State.{Progress, wait_if_awake, status_at}
+use Rattle.model.specs.State.{wait_if_awake, status_at}
 use Rattle.model.specs.Objects.{list_for}
 use Rattle.model.specs.Waiting.{wait_in}
 use Rattle.model.specs.Calls.{lock}
@@ -9,7 +8,7 @@ use Rattle.sched.specs.StandsFor as sched
 use Rattle.objects.specs.Queues as queues
 use Rattle.objects.specs.Queues.{CountsNobody}
 use Rattle.kernel.specs.declared.kernel.Kernel.{Kernel}
-use Rattle.kernel.specs.StandsFor.{AtAny, progress_in}
+use Rattle.kernel.specs.StandsFor.{AtAny}
 use Rattle.kernel.proofs.Deciding.{waits}
 use Rattle.kernel.proofs.kernel.Kernel.begin_wait.Goals as goal
 
@@ -18,8 +17,6 @@ returns-clause-does c = λ log s h.
     let k = c.args.self.now in
     let holds : s.call_hold ≡ false → sched.StandsFor c.hold.new.self (record s { call_hold = true }) = λ free. c.hold.ensures.stands s h.stands.sched free in
     let locks : ((j : ℕ) → wait_if_awake (status_at s j) ≡ None) → queues.StandsFor c.lock.new.self None (record s { locked = Some c.args.object }) = λ nobody. c.lock.ensures.stands s None h.stands.rest.queues nobody in
-    let own : Progress = progress_in k.progress c.args.task in
-    let called = ap (λ (l : WaitList). record own { call = record own.call { phase = Place; list = Some l } }) c.list_for.ensures in
     subst (λ (x : Kernel). AtAny x log (lock c.args.task c.args.object Place (wait_in c.args.task (list_for c.args.object c.args.access) s))) (sym c.set_wait.ensures)
     (waits k log s h c.args.task c.args.object c.requires c.hold.new.self c.lock.new.self c.hold.ensures.calm holds c.hold.ensures.schedule locks
-    c.args.access (subst CountsNobody (sym c.lock.ensures.lock) (refl, refl)) _ called)
+    c.args.access (subst CountsNobody (sym c.lock.ensures.lock) (refl, refl)) _ c.list_for-self.ensures _ refl)

@@ -14,8 +14,8 @@ returns-then-now-wake_time g c = record {
   at = λ s h.
       let app = c.args.app.now in
       let i : ℕ = c.args.task in
-      let now = c.mark-now.result.moment in
-      let is_now = c.mark-now.ensures.mark in
+      let now = c.now-now.result in
+      let is_now = c.now-now.ensures.now in
       let told = (g.L.Log.logged c.answer.new.log).told in
       let still = still_to_come app i s now _ (is_now ∙ h.stands.rest.clock.now) c.if-now-wake_time.true in
       let P : ℕ → Type 0 = λ m. At c.sleep.new.self told (sleep i m (answer app i (Some 1) s)) in
@@ -34,7 +34,7 @@ returns-else-now-wake_time g c = record {
       let told = (g.L.Log.logged c.answer-else-now-wake_time.new.log).told in
       let answered = c.answer-else-now-wake_time.ensures.does.at s h in
       let here = still_task c.args.app.now c.args.self.now (g.L.Log.logged c.args.log.now).told s h i c.requires.can.runs.current 0 in
-      until_past c.args.app.now c.args.self.now c.set_previous_wake-else-now-wake_time.new.self (g.L.Log.logged c.args.log.now).told told s h i (the_view c.behind-self.inside) (c.behind-self.view_is ∙ c.progress.ensures) c.args.ticks c.mark-now.result.moment c.mark-now.ensures.mark c.if-now-wake_time.false
+      until_past c.args.app.now c.args.self.now c.set_previous_wake-else-now-wake_time.new.self (g.L.Log.logged c.args.log.now).told told s h i (the_view c.behind-self.inside) (c.behind-self.view_is ∙ c.progress.ensures) c.args.ticks c.now-now.result c.now-now.ensures.now c.if-now-wake_time.false
       (counts c.answer-else-now-wake_time.new.self c.set_previous_wake-else-now-wake_time.new.self told _ answered i here _ c.set_previous_wake-else-now-wake_time.ensures);
   few = let a = c.answer-else-now-wake_time.ensures.does.few in omega arith;
   before = c.answer-else-now-wake_time.ensures.does.before;

@@ -1,5 +1,4 @@
 use Rattle.std.proofs.Common.{arith, ◌∙◌, subst, sym}
-use Rattle.objects.specs.Items.{object_in}
 use Rattle.objects.specs.Queues.{HasRoom}
 use Rattle.objects.specs.Queues.{Exchange}
 use Rattle.kernel.proofs.Handling.{injected_free, injected_held, room_after}
@@ -14,7 +13,7 @@ returns-then-not-is_held-clause-does g c = record {
 
 pub returns-then-not-is_held-clause-objects : goal.returns-then-not-is_held-clause-objects
 returns-then-not-is_held-clause-objects g c = λ o a fit.
-    subst (λ (q : Exchange). HasRoom a (object_in q.objects o)) (sym c.preempt.ensures.queues) (room_after c.args.app.now c.args.self.now c.handle.new.self c.requires.objects c.handle.ensures.leaves o a fit)
+    subst (λ (q : Exchange). HasRoom q o a) (sym c.preempt.ensures.queues) (room_after c.args.app.now c.args.self.now c.handle.new.self c.requires.objects c.handle.ensures.leaves o a fit)
 
 pub returns-else-not-is_held-clause-does : goal.returns-else-not-is_held-clause-does
 returns-else-not-is_held-clause-does g c = record {

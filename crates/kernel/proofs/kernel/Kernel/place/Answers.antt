@@ -1,5 +1,6 @@
 use Rattle.std.proofs.Common.{ℕ, Option, Some, ap, sym, subst, ◌∙◌}
 use Rattle.std.proofs.lemmas.Option.{same_Some}
+use Rattle.model.specs.declared.call.WaitList.{WaitList}
 use Rattle.model.specs.State.{Progress}
 use Rattle.sched.specs.Schedule.{Schedule, priority_in}
 use Rattle.clock.specs.StandsFor as clock
@@ -10,8 +11,8 @@ use Rattle.kernel.proofs.Either.{either}
 use Rattle.kernel.proofs.Deciding.{placed_at}
 use Rattle.kernel.proofs.kernel.Kernel.place.Goals as goal
 
-pub place_waiter-requires-clause-free : goal.place_waiter-requires-clause-free
-place_waiter-requires-clause-free c = still_free c.args.self.now.queues c.requires.state (decider c.args.task c.requires.list c.requires.state) c.requires.stands.queues
+pub place-requires-clause-free : goal.place-requires-clause-free
+place-requires-clause-free c = still_free c.args.self.now.queues c.requires.state (decider c.args.task c.requires.list c.requires.state) c.requires.stands.queues
 
 pub returns-clause-does : goal.returns-clause-does
 returns-clause-does c = λ log s h.
@@ -23,11 +24,11 @@ returns-clause-does c = λ log s h.
     (λ j list b.
     let own : StandsBefore i list k s = subst (λ (m : ℕ). StandsBefore m list k s) (same_Some j i (sym b.current ∙ sym b.sched.current ∙ runs)) b in
     let view = c.behind-self.view_is ∙ c.progress.ensures ∙ own.progress i in
-    let in_list = ap (λ (x : Progress). x.call.list) view ∙ own.waits in
     let until = ap (λ (x : Progress). x.call.deadline) view in
-    let priority = c.priority.ensures.priority ∙ ap (λ (v : Schedule). priority_in v.priorities i) c.block.ensures.schedule ∙ own.sched.priorities i in
-    placed_at k log s i list own h.log c.block.new.self c.place_waiter.new.queues c.place_sleeper.new.clock c.set_phase.new.self
+    let priority = c.priority-priority.ensures.priority ∙ ap (λ (v : Schedule). priority_in v.priorities i) c.block.ensures.schedule ∙ own.sched.priorities i in
+    placed_at k log s i list own h.log c.block.new.self c.place.new.self c.place_sleeper.new.clock c.set_phase.new.self
     (c.block.ensures.placed s own.sched)
-    (c.place_waiter.ensures s list in_list (subst (λ (n : ℕ). queues.StandsFor k.queues (Some (record { task = i; list = list; priority = n })) s) (sym priority) own.queues))
+    (c.place.ensures.stands s (subst (λ (w : WaitList). queues.StandsFor k.queues (Some (record { task = i; list = w; priority = c.priority-priority.result })) s) (sym own.wait_list)
+    (subst (λ (n : ℕ). queues.StandsFor k.queues (Some (record { task = i; list = list; priority = n })) s) (sym priority) own.queues)))
     (c.place_sleeper.ensures s (subst (λ (d : Option ℕ). clock.StandsBefore i d k.clock s) (sym until) own.clock))
     c.set_phase.ensures)

@@ -10,11 +10,11 @@ resume-resumed-requires c = record { free = λ t. unready_in c.args.self.now c.r
 
 pub returns-then-resumed-clause-does : goal.returns-then-resumed-clause-does
 returns-then-resumed-clause-does c = λ log s h.
-    rw c.set_resumed.ensures (resumed_at c.args.self.now log s c.args.task c.resume-resumed.new.self c.mark-now.result.moment c.mark-now.ensures.mark (sym c.if-resumed.ensures.answer) h (λ l. c.if-resumed.ensures.stands s h.stands.sched l))
+    rw c.set_resumed.ensures (resumed_at c.args.self.now log s c.args.task c.resume-resumed.new.self c.now-now.result c.now-now.ensures.now (sym c.if-resumed.ensures.answer) h (λ l. c.if-resumed.ensures.stands s h.stands.sched l))
 
 pub returns-then-resumed-clause-any : goal.returns-then-resumed-clause-any
 returns-then-resumed-clause-any c = λ log s h.
-    rw c.set_resumed.ensures (resumed_any c.args.self.now log s c.args.task c.resume-resumed.new.self c.mark-now.result.moment c.mark-now.ensures.mark (sym c.if-resumed.ensures.answer) h
+    rw c.set_resumed.ensures (resumed_any c.args.self.now log s c.args.task c.resume-resumed.new.self c.now-now.result c.now-now.ensures.now (sym c.if-resumed.ensures.answer) h
     (λ l st. c.if-resumed.ensures.stands s st l) (λ task b ne l. c.if-resumed.ensures.placing s task b ne l))
 
 pub returns-else-resumed-clause-does : goal.returns-else-resumed-clause-does

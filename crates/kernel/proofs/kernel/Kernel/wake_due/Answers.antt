@@ -1,7 +1,10 @@
-use Rattle.std.proofs.Common.{◌≡◌, sym, ◌∙◌}
+use Rattle.std.proofs.Common.{◌≡◌, List, sym, subst, ◌∙◌, arith}
+use Rattle.model.specs.State.{Object}
 use Rattle.model.specs.Order.{tasks_of}
 use Rattle.model.specs.Time.{due}
 use Rattle.clock.specs.StandsFor.{at_next_tick}
+use Rattle.objects.specs.Items.{object_in}
+use Rattle.objects.specs.Queues.{CanHold}
 use Rattle.kernel.proofs.Waking.{to_wake, due_there, sched-ticked, queues-ticked, groups-ticked, unsuspended_by, woken}
 use Rattle.kernel.proofs.kernel.Kernel.wake_due.Goals as goal
 
@@ -16,3 +19,12 @@ returns-clause-does c = λ log s h.
     let gone = c.make_all_ready.ensures.gone (at_next_tick s) (groups-ticked c.args.self.now log s h) (rw is (due_there (at_next_tick s))) in
     let none = sym h.stands.rest.suspensions ∙ c.requires.awake in
     woken c.args.self.now log s h c.as_slice.result.now c.make_all_ready.new.sched c.make_all_ready.new.queues c.advance_into.new.self c.make_all_ready.new.groups is ready left gone (c.advance_into.ensures.woken s h.stands.rest.clock (unsuspended_by s none)) none
+
+pub returns-clause-leaves : goal.returns-clause-leaves
+returns-clause-leaves c = record {
+  depth = c.make_all_ready.ensures.depth;
+  objects = λ o a room. (
+    let same = c.make_all_ready.ensures.number in let below = room.0 in omega (arith, same, below),
+    subst (λ (os : List Object). CanHold a (object_in os o)) (sym c.make_all_ready.ensures.objects) room.1,
+  );
+}

@@ -1,6 +1,5 @@
 use Rattle.std.proofs.Common.{[], ap, sym, subst, arith}
 use Rattle.clock.specs.Timeline.{Timeline}
-use Rattle.objects.specs.Items.{object_in}
 use Rattle.objects.specs.Queues.{Exchange, HasRoom}
 use Rattle.kernel.proofs.Acting.{agrees_after}
 use Rattle.kernel.proofs.kernel.Kernel.work_on.Goals as goal
@@ -9,7 +8,7 @@ pub held_tick_interrupt-requires-clause-agrees : goal.held_tick_interrupt-requir
 held_tick_interrupt-requires-clause-agrees g c = agrees_after c.args.self.now c.use_up.new.self [] [] c.requires.can.agrees _ (λ s h. c.use_up.ensures.does [] s h)
 
 pub held_tick_interrupt-requires-clause-objects : goal.held_tick_interrupt-requires-clause-objects
-held_tick_interrupt-requires-clause-objects g c = λ o a fit. subst (λ (q : Exchange). HasRoom a (object_in q.objects o)) (sym c.use_up.ensures.queues) (c.requires.can.objects o a fit)
+held_tick_interrupt-requires-clause-objects g c = λ o a fit. subst (λ (q : Exchange). HasRoom q o a) (sym c.use_up.ensures.queues) (c.requires.can.objects o a fit)
 
 pub held_tick_interrupt-requires-clause-some : goal.held_tick_interrupt-requires-clause-some
 held_tick_interrupt-requires-clause-some g c = let e = c.use_up.ensures.suspensions in let l = c.requires.some in omega arith

@@ -1,4 +1,4 @@
-use Rattle.std.proofs.Common.{◌≡◌, inl, inr, true, false, Option, ℕ, ◌∙◌, ap, length, sym}
+use Rattle.std.proofs.Common.{inl, inr, Option, ℕ, ◌∙◌, ap, length}
 use Rattle.std.specs.Prelude.{nat_lt}
 use Rattle.std.specs.Option.{is_none, is_some}
 use Rattle.model.specs.State.{Object}
@@ -39,21 +39,9 @@ returns-in-Give-clause-possible c = rw c.in-Give.is
 pub returns-in-Give-clause-stands : goal.returns-in-Give-clause-stands
 returns-in-Give-clause-stands c = λ s d h. returns-in-Give-clause-possible c ∙ ap (λ (x : Object). allows x c.args.access) (h.objects c.args.object)
 
-pub returns-then-is_counted-clause-possible : goal.returns-then-is_counted-clause-possible
-returns-then-is_counted-clause-possible c =
-    let counted : nat_lt 0 (object_in c.args.self.now.objects c.args.object).max_count ≡ true =
-    ap (λ (x : Object). nat_lt 0 x.max_count) (sym (seen c.self.inside c.args.self.now c.self.view_is c.object.inside.number c.args.object c.object.view_is c.object.invariant)) ∙ sym c.is_counted.ensures ∙ c.if-is_counted.true in
-    rw (c.in-Lock.is, counted)
+pub returns-in-Lock-clause-possible : goal.returns-in-Lock-clause-possible
+returns-in-Lock-clause-possible c = rw c.in-Lock.is
     (turned (is_some c.holder.result) c.is_none.result c.is_none.ensures ∙ ap (λ (h : Option ℕ). is_none h) c.holder.ensures.holder ∙ ap (λ (x : Object). is_none x.holder) (seen c.self.inside c.args.self.now c.self.view_is c.object.inside.number c.args.object c.object.view_is c.object.invariant))
 
-pub returns-then-is_counted-clause-stands : goal.returns-then-is_counted-clause-stands
-returns-then-is_counted-clause-stands c = λ s d h. returns-then-is_counted-clause-possible c ∙ ap (λ (x : Object). allows x c.args.access) (h.objects c.args.object)
-
-pub returns-else-is_counted-clause-possible : goal.returns-else-is_counted-clause-possible
-returns-else-is_counted-clause-possible c =
-    let uncounted : nat_lt 0 (object_in c.args.self.now.objects c.args.object).max_count ≡ false =
-    ap (λ (x : Object). nat_lt 0 x.max_count) (sym (seen c.self.inside c.args.self.now c.self.view_is c.object.inside.number c.args.object c.object.view_is c.object.invariant)) ∙ sym c.is_counted.ensures ∙ c.if-is_counted.false in
-    rw (c.in-Lock.is, uncounted) c.if-is_counted.false
-
-pub returns-else-is_counted-clause-stands : goal.returns-else-is_counted-clause-stands
-returns-else-is_counted-clause-stands c = λ s d h. returns-else-is_counted-clause-possible c ∙ ap (λ (x : Object). allows x c.args.access) (h.objects c.args.object)
+pub returns-in-Lock-clause-stands : goal.returns-in-Lock-clause-stands
+returns-in-Lock-clause-stands c = λ s d h. returns-in-Lock-clause-possible c ∙ ap (λ (x : Object). allows x c.args.access) (h.objects c.args.object)

@@ -6,8 +6,8 @@ use Rattle.model.specs.Application.{Application, Handler}
 use Rattle.model.specs.Scripts.{IsHandler, KnowsAll, most_name_bytes, most_handler_ops}
 use Rattle.toml.specs.View.{table_view}
 use Rattle.script.specs.declared.named_object.NamedObject.{NamedObject}
-use Rattle.script.specs.Entries.{Object, RawIsr, Entries, HasEntries, isr_names, object_view, raw_view, entries_view}
-use Rattle.script.specs.Ops.{with_ops, with_isr_ops}
+use Rattle.script.specs.Entries.{ObjectEntry, RawIsr, Entries, HasEntries, isr_names, object_view, raw_view, entries_view}
+use Rattle.script.specs.Ops.{with_script, with_isr_ops}
 use Rattle.script.specs.Interrupts.{interrupts_named}
 use Rattle.script.specs.Points.{campaign_named}
 use Rattle.script.proofs.Known.{known_tasks, known_handlers}
@@ -36,11 +36,11 @@ new-requires-2 c =
     } in
     let document = table_view c.args.document.now in
     let names = isr_names entries in
-    let kinds = λ (xs : List NamedObject). map (λ (o : Object). o.kind) (map object_view xs) in
+    let kinds = λ (xs : List NamedObject). map (λ (o : ObjectEntry). o.kind) (map object_view xs) in
     let of_kinds : app.objects ≡ kinds c.in_ok-entries.entries.objects.items =
     c.in_ok-kinds.ensures.kinds ∙ ap kinds c.as_slice.ensures.value in
     let of_handlers : app.handlers ≡ map (with_isr_ops entries) entries.handlers = c.in_ok-handlers.ensures.handlers in
-    let of_tasks : app.tasks ≡ map (with_ops entries) entries.tasks = c.in_ok-tasks.ensures.tasks in
+    let of_tasks : app.tasks ≡ map (with_script entries) entries.tasks = c.in_ok-tasks.ensures.tasks in
     let of_interrupts : app.interrupts ≡ interrupts_named names document =
     c.in_ok-interrupts.ensures ∙ c.as_slice-2.ensures.value ∙ c.in_ok-listed.ensures.1 in
     let of_points : app.points ≡ campaign_named names document = c.in_ok-points.ensures.1 in
@@ -50,7 +50,7 @@ new-requires-2 c =
     let has : HasEntries app entries = record {
       objects = of_kinds;
       groups = c.group_count.ensures.count;
-      tasks = ap length of_tasks ∙ length-map entries.tasks (with_ops entries);
+      tasks = ap length of_tasks ∙ length-map entries.tasks (with_script entries);
     } in
     let interrupts : AreInterrupts (length app.handlers) app.interrupts =
     subst (λ n. AreInterrupts n app.interrupts) count
@@ -63,9 +63,9 @@ new-requires-2 c =
     let objects = c.in_ok-entries.entries.objects.items in
     let few_objects : length objects ≤ 32 = subst (λ (xs : List NamedObject). length xs ≤ 32) c.as_slice.ensures.value c.as_slice.ensures.fits in
     let object_count : length app.objects ≡ length objects =
-    ap length of_kinds ∙ (length-map (map object_view objects) (λ (o : Object). o.kind) ∙ length-map objects object_view) in
+    ap length of_kinds ∙ (length-map (map object_view objects) (λ (o : ObjectEntry). o.kind) ∙ length-map objects object_view) in
     let task_count : length app.tasks ≡ length c.in_ok-entries.entries.tasks.items =
-    ap length of_tasks ∙ (length-map entries.tasks (with_ops entries) ∙ length-map c.in_ok-entries.entries.tasks.items raw_view) in
+    ap length of_tasks ∙ (length-map entries.tasks (with_script entries) ∙ length-map c.in_ok-entries.entries.tasks.items raw_view) in
     let some = c.in_ok-entries.ensures.some in
     record {
       some = omega (arith, task_count, some);

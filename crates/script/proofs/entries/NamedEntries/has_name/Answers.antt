@@ -5,7 +5,7 @@ use Rattle.script.specs.declared.named_object.NamedObject.{NamedObject}
 use Rattle.script.specs.declared.named_group.NamedGroup.{NamedGroup}
 use Rattle.script.specs.declared.raw_handler.RawHandler.{RawHandler}
 use Rattle.script.specs.declared.raw_task.RawTask.{RawTask}
-use Rattle.script.specs.Entries.{Object, Group, RawIsr, Raw, object_view, group_view, isr_view, raw_view, entries_view}
+use Rattle.script.specs.Entries.{ObjectEntry, GroupEntry, RawIsr, Raw, object_view, group_view, isr_view, raw_view, entries_view}
 use Rattle.script.proofs.Names.{not_named}
 use Rattle.script.proofs.entries.NamedEntries.has_name.Goals as goal
 
@@ -13,10 +13,10 @@ pub returns : goal.returns
 returns c =
     let name = bytes_eq c.args.name.now in
     let objects =
-    subst (λ (xs : List NamedObject). list_any name (map (λ (o : Object). o.name) (map object_view xs)) ≡ false)
+    subst (λ (xs : List NamedObject). list_any name (map (λ (o : ObjectEntry). o.name) (map object_view xs)) ≡ false)
     c.as_slice.ensures.value (sym c.has_name.ensures ∙ c.if-has_name.false) in
     let groups =
-    subst (λ (xs : List NamedGroup). list_any name (map (λ (g : Group). g.name) (map group_view xs)) ≡ false)
+    subst (λ (xs : List NamedGroup). list_any name (map (λ (g : GroupEntry). g.name) (map group_view xs)) ≡ false)
     c.as_slice-2.ensures.value (sym c.has_name-2.ensures ∙ c.if-has_name-2.false) in
     let handlers =
     subst (λ (xs : List RawHandler). list_any name (map (λ (h : RawIsr). h.name) (map isr_view xs)) ≡ false)

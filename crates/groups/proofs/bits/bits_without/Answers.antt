@@ -1,6 +1,6 @@
 use Rattle.std.proofs.Common.{◌≡◌, ◌+◌, ◌-◌, ◌^◌, bit_and, arith}
 use Rattle.std.proofs.lemmas.Nat.{and-not, and_comm}
-use Rattle.groups.proofs.bits.without.Goals as goal
+use Rattle.groups.proofs.bits.bits_without.Goals as goal
 
 pub returns : goal.returns
 returns c =
