@@ -1,12 +1,15 @@
 #!/usr/bin/env python3
 """Times the built program on the files beside this script, its output going to /dev/null.
 
-    run.py [PROGRAM [OTHER]]
+    run.py [--instructions] [PROGRAM [OTHER]]
 
-Prints for each file the best and the median wall time of nine runs, the steps a second of the best, and the peak
+Prints for each file the best and the median wall time of fifteen runs, the steps a second of the best, and the peak
 memory. The program is crates/rtosim/out/rtosim, as bin/rtosim builds it, or PROGRAM. With OTHER, the runs of the two
-take turns, and a line gives PROGRAM's times as multiples of OTHER's."""
+take turns; each file has PROGRAM's times as multiples of OTHER's, and the last line the geometric means of these. With
+--instructions, each file has the instructions a step too, as valgrind counts them over the whole program: they are the
+same on each run, where times of a busy machine aren't."""
 import ctypes
+import math
 import os
 import re
 import statistics
@@ -15,8 +18,8 @@ import sys
 import time
 
 HERE = os.path.dirname(os.path.abspath(__file__))
-PROGRAMS = sys.argv[1:3] or [os.path.join(HERE, "..", "crates", "rtosim", "out", "rtosim")]
-RUNS = 9
+PROGRAM = os.path.join(HERE, "..", "crates", "rtosim", "out", "rtosim")
+RUNS = 15
 PR_SET_CHILD_SUBREAPER = 36
 
 
@@ -42,18 +45,45 @@ def peak_of(program, path):
     return os.wait4(-1, 0)[2].ru_maxrss / 1024
 
 
+def instructions_of(program, path):
+    """The instructions of one run, by valgrind."""
+    tool = ["valgrind", "--tool=callgrind", "--callgrind-out-file=/dev/null", program, "run", path]
+    told = subprocess.run(tool, stdout=subprocess.DEVNULL, stderr=subprocess.PIPE, text=True).stderr
+    return int(re.search(r"Collected : (\d+)", told).group(1))
+
+
+def times_of(programs, path):
+    """For each program the best and the median time of its runs, which take turns."""
+    turns = [[seconds_of(it, path) for it in programs] for _ in range(RUNS)]
+    return [(min(it), statistics.median(it)) for it in zip(*turns)]
+
+
+def line_of(program, path, best, median, with_instructions):
+    """What is told of a program's runs on one file."""
+    steps = steps_of(program, path)
+    told = f"best {best:.3f} s, median {median:.3f} s, {steps / best:,.0f} steps a second, peak {peak_of(program, path):.1f} MiB"
+    if with_instructions:
+        told += f", {instructions_of(program, path) / steps:.0f} instructions a step"
+    return f"{told} ({os.path.relpath(program)})"
+
+
 def main():
     ctypes.CDLL(None).prctl(PR_SET_CHILD_SUBREAPER, 1, 0, 0, 0)
+    words = sys.argv[1:]
+    with_instructions = "--instructions" in words
+    programs = [it for it in words if it != "--instructions"] or [PROGRAM]
+    ratios = []
     for name in sorted(it for it in os.listdir(HERE) if it.endswith(".toml")):
         path = os.path.join(HERE, name)
-        turns = [[seconds_of(it, path) for it in PROGRAMS] for _ in range(RUNS)]
-        times = [(min(it), statistics.median(it)) for it in zip(*turns)]
-        for program, (best, median) in zip(PROGRAMS, times):
-            speed = f"{steps_of(program, path) / best:,.0f} steps a second, peak {peak_of(program, path):.1f} MiB"
-            print(f"{name}: best {best:.3f} s, median {median:.3f} s, {speed} ({os.path.relpath(program)})")
+        times = times_of(programs, path)
+        for program, (best, median) in zip(programs, times):
+            print(f"{name}: {line_of(program, path, best, median, with_instructions)}", flush=True)
         if len(times) == 2:
-            best, median = (ours / theirs for ours, theirs in zip(*times))
-            print(f"{name}: best {best:.3f}, median {median:.3f} times the other's")
+            ratios.append([ours / theirs for ours, theirs in zip(*times)])
+            print(f"{name}: best {ratios[-1][0]:.3f}, median {ratios[-1][1]:.3f} times the other's")
+    if ratios:
+        best, median = (math.exp(statistics.fmean(map(math.log, it))) for it in zip(*ratios))
+        print(f"geometric means: best {best:.3f}, median {median:.3f} times the other's")
 
 
 if __name__ == "__main__":

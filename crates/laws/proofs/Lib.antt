@@ -1,6 +1,6 @@
 pub mod Choice
 pub mod ExampleRuns
-pub mod OneRun
+pub mod LatePoints
 pub mod Idle
 pub mod Changes
 pub mod Held

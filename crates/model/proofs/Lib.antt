@@ -11,3 +11,4 @@ pub mod Plans
 pub mod Ticks
 pub mod Counting
 pub mod Injected
+pub mod OneRun

@@ -1,4 +1,4 @@
-use Rattle.laws.proofs.OneRun.{one_row}
+use Rattle.model.proofs.OneRun.{one_row}
 use Rattle.laws.proofs.runs.row_is_one.Goals as goal
 
 pub returns : goal.returns

@@ -1,4 +1,4 @@
-use Rattle.laws.proofs.OneRun.{one_run}
+use Rattle.model.proofs.OneRun.{one_run}
 use Rattle.laws.proofs.runs.run_is_one.Goals as goal
 
 pub returns : goal.returns

@@ -1,0 +1,102 @@
+#!/usr/bin/env python3
+"""Times campaigns of the built program with 1, 2 and 4 workers, their output going to /dev/null.
+
+    campaigns.py [PROGRAM [OTHER]]
+
+Prints for each campaign and number of workers the best and the median wall time of nine runs, the processor time of the
+best, and the peak memory. The runs take turns. The program is crates/rtosim/out/rtosim, or PROGRAM. With OTHER, the
+same of that program with one worker.
+
+The campaigns: `dense`, 5,000 rows of tasks that call a queue and a mutex in nearly each step, each row to the step limit
+of 5,000; `computing`, the same with more `work` between the calls, and 2,000 rows of 2,000 steps; `million`, 1,000,000
+single points of a short application, each of which ends after some ten steps."""
+import ctypes
+import os
+import random
+import statistics
+import subprocess
+import sys
+import tempfile
+import time
+
+HERE = os.path.dirname(os.path.abspath(__file__))
+PROGRAM = os.path.join(HERE, "..", "crates", "rtosim", "out", "rtosim")
+WORKERS = (1, 2, 4)
+RUNS = 9
+PR_SET_CHILD_SUBREAPER = 36
+
+
+def array(words):
+    return "[" + ", ".join(f'"{it}"' for it in words) + "]"
+
+
+def task(name, priority, script):
+    return f'[[task]]\nname = "{name}"\npriority = {priority}\nscript = {array(script)}\n'
+
+
+def turns(*ops):
+    """A million turns of these ops."""
+    return ["repeat 1000", "repeat 1000", *ops, "end", "end"]
+
+
+def producer_and_consumer(steps, work):
+    """A producer, a consumer and a third task, with a mutex between them, and a handler before each step."""
+    return (
+        f"[limits]\nsteps = {steps}\n"
+        '[[queue]]\nname = "q"\nlength = 4\n[[mutex]]\nname = "m"\n'
+        '[[handler]]\nname = "h"\nops = ["send q 9", "receive q"]\n'
+        + task("producer", 1, turns(f"work {work}", "send q 7 50", "lock m forever", "work 5", "unlock m"))
+        + task("consumer", 3, turns("receive q 40", "lock m forever", f"work {work // 2}", "unlock m"))
+        + task("third", 2, turns(f"delay {work}", "lock m forever", "work 2", "unlock m"))
+        + '[campaign]\npoints = ["all h"]\n'
+    )
+
+
+def million_points():
+    """A million points over an application that ends after some ten steps."""
+    dice = random.Random(5)
+    points = (f"{dice.randrange(11)} {dice.choice('hk')}" for _ in range(1000000))
+    return (
+        '[[queue]]\nname = "q"\nlength = 1\n'
+        '[[handler]]\nname = "h"\nops = ["send q 7", "receive q"]\n[[handler]]\nname = "k"\nops = ["send q 3"]\n'
+        + task("a", 1, ["receive q 1", "send q 1 0", "receive q 0", "work 2"])
+        + f"[campaign]\npoints = {array(points)}\n"
+    )
+
+
+def timed(words):
+    """The wall time and the processor time of one run in seconds, and its peak memory in MiB.
+
+    A shell, which is small, starts the program and ends, so that the memory is the program's own."""
+    begin = time.perf_counter()
+    subprocess.run(["sh", "-c", '"$@" >/dev/null &', "sh", *words])
+    usage = os.wait4(-1, 0)[2]
+    return time.perf_counter() - begin, usage.ru_utime + usage.ru_stime, usage.ru_maxrss / 1024
+
+
+def measure(name, path, programs):
+    """Runs a campaign with each number of workers, and prints what that took."""
+    calls = {f"{it} workers": [programs[0], "campaign", path, "--workers", str(it)] for it in WORKERS}
+    if len(programs) == 2:
+        calls[os.path.relpath(programs[1])] = [programs[1], "campaign", path]
+    runs = [[timed(words) for words in calls.values()] for _ in range(RUNS)]
+    for call, taken in zip(calls, zip(*runs)):
+        (wall, processors, _), peak = min(taken), max(it[2] for it in taken)
+        median = statistics.median(it[0] for it in taken)
+        print(f"{name}, {call}: best {wall:.3f} s, median {median:.3f} s, processors {processors:.3f} s, peak {peak:.1f} MiB", flush=True)
+
+
+def main():
+    ctypes.CDLL(None).prctl(PR_SET_CHILD_SUBREAPER, 1, 0, 0, 0)
+    programs = sys.argv[1:3] or [PROGRAM]
+    texts = {"dense": producer_and_consumer(5000, 2), "computing": producer_and_consumer(2000, 200), "million": million_points()}
+    with tempfile.TemporaryDirectory() as folder:
+        for name, text in texts.items():
+            path = os.path.join(folder, f"{name}.toml")
+            with open(path, "w") as file:
+                file.write(text)
+            measure(name, path, programs)
+
+
+if __name__ == "__main__":
+    main()
