@@ -8,10 +8,10 @@ root=$(CDPATH= cd -- "$(dirname -- "$0")/.." && pwd) || exit 1
 copy=$(mktemp -d) || exit 1
 trap 'rm -rf "$copy"' EXIT
 mkdir "$copy/crates"
-cp -r "$root/crates/deal" "$copy/crates/deal"
+cp -r "$root/crates/model" "$root/crates/deal" "$copy/crates/"
 cp -r "$root/bench/deal" "$copy/crates/deal_bench"
 find "$copy/crates/deal_bench" -name '*.txt' -exec sh -c 'mv "$1" "${1%.txt}"' - {} \;
 cp "$root/HANDLES" "$copy/"
-grep '^deal ' "$root/crates.txt" >"$copy/crates.txt"
-echo 'deal_bench: deal' >>"$copy/crates.txt"
+grep -E '^(model|deal):' "$root/crates.txt" >"$copy/crates.txt"
+echo 'deal_bench: model deal' >>"$copy/crates.txt"
 cd "$copy/crates/deal_bench" && rt run

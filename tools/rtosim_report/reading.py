@@ -252,17 +252,19 @@ def row_head(match):
 
 
 def parts_of_rows(stream):
-    """The texts of the rows, each without its first word, unchecked: for a quick look."""
-    kept = b"\n"
+    """The texts of the rows, each without its first word, unchecked: for a quick look. A last row that may be cut off, since no
+    line of totals follows, is left out, unless it is the only one."""
+    kept, is_alone = b"\n", True
     while True:
         more = stream.read(BLOCK)
         rows, kept = whole_rows(kept + more)
         yield from rows
+        is_alone = is_alone and not rows
         if not more:
             break
-    at = kept.find(TOTAL_LINE)
-    if kept.startswith(NEXT_ROW):
-        yield kept[len(NEXT_ROW) : at if at >= 0 else len(kept)].rstrip(b"\n")
+    row, total, _ = kept.partition(TOTAL_LINE)
+    if row.startswith(NEXT_ROW) and (total or is_alone and row.endswith(b"\n")):
+        yield row[len(NEXT_ROW) :].rstrip(b"\n")
 
 
 def run_of_part(part):

@@ -1,7 +1,8 @@
 -- The campaign of an application, from its shelf.
-use Rattle.std.proofs.Common.{◌≡◌, List, [], sym, subst}
+use Rattle.std.proofs.Common.{◌≡◌, ◌≤◌, List, [], length, sym, subst}
 use Rattle.model.specs.declared.plan.Point.{Point}
 use Rattle.model.specs.Application.{Application, Limits}
+use Rattle.model.specs.Scripts.{most_points}
 use Rattle.model.specs.Run.{Run, IsRun}
 use Rattle.model.specs.Campaign.{Row, AreRows, points_in}
 use Rattle.campaign.specs.declared.points.ExpandFault.{ExpandFault}
@@ -18,9 +19,10 @@ module _ (app : Application) (shelf : Shelved) (base : Run) (is : IsShelf app sh
   expand_fault TooManyPoints many = record { base = base; is_base = its_run; many = many }
   expand_fault Memory few = tt
 
-  pub app_rows : (points : List Point) (rows : List Row) → points ≡ points_in app base.steps → AreRows app shelf.limits points rows → AreRowsOf app rows
-  app_rows points rows its are = record {
+  pub app_rows : (points : List Point) (rows : List Row) → points ≡ points_in app base.steps → length points ≤ most_points → AreRows app shelf.limits points rows → AreRowsOf app rows
+  app_rows points rows its few are = record {
     base = base;
     is_base = its_run;
+    few = subst (λ (ps : List Point). length ps ≤ most_points) its few;
     are_rows = subst (λ ps. AreRows app app.limits ps rows) its (subst (λ (limits : Limits). AreRows app limits points rows) own are);
   }

@@ -1,5 +1,5 @@
 -- What the campaign of a file comes to: the report of one row for each of its points, or the fault that stands in the way.
-use Rattle.std.specs.Prelude.{◌≡◌, ◌<◌, ℕ, Bool, List, [], length, Option, Result}
+use Rattle.std.specs.Prelude.{◌≡◌, ◌<◌, ◌≤◌, ℕ, Bool, List, [], length, Option, Result}
 use Rattle.model.specs.Application.{Application}
 use Rattle.model.specs.Scripts.{most_points}
 use Rattle.model.specs.Run.{Run, IsRun}
@@ -12,10 +12,12 @@ use Rattle.campaign.specs.declared.points.ExpandFault.{ExpandFault}
 use Rattle.campaign.specs.declared.points.ExpandFault.TheVariants as expanding
 use Rattle.campaign.specs.Serving.{IsFileOf, HasFileFault, Serves}
 
--- The rows are those of the application's own points, under its own limits; `all` stands for every step of the base run.
+-- The rows are those of the application's own points, which are few enough, under its own limits; `all` stands for every step of
+-- the base run.
 pub record AreRowsOf (app : Application) (rows : List Row) : Type 0 where
   pub base : Run
   pub is_base : IsRun app [] app.limits base
+  pub few : length (points_in app base.steps) ≤ most_points
   pub are_rows : AreRows app app.limits (points_in app base.steps) rows
 
 -- The application's points are more than there may be (profile).

@@ -105,8 +105,7 @@ impl Deal {
     /// The blocks that each lane was answered, in order, and the others. Takes no memory.
     ///
     /// A lane may be missing; what it was answered is then among the others. Where all lanes are
-    /// back, and one of them was answered
-    /// `Empty`, there are no others.
+    /// back, and one of them was answered `Empty`, there are no others.
     pub fn close(self, lanes: Vec<Lane>) -> Closed
         requires { AreLanesOf self lanes.items }
         ensures lists { items_of result.lists.items ≡ lists_of lanes.items }

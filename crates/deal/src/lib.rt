@@ -1,5 +1,4 @@
-//! Blocks of work that several lanes take, each in a thread of its own, and counts that they all
-//! add to.
+//! Blocks of work that several lanes take, each in a thread of its own, and counts that they all add to.
 #![tactic(auto)]
 
 mod count;

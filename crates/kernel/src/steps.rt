@@ -156,8 +156,8 @@ impl Kernel {
         self.is_stuck(app)
     }
 
-    /// The end of the run before its next step, under these limits: the first that holds of a failed `expect`, every task
-    /// Ended, the ticks, the steps, stuck (profile). `None` where the run goes on.
+    /// The end of the run before its next step, under these limits: the first that holds of a failed `expect` or a misuse,
+    /// every task Ended, the ticks, the steps, stuck (profile). `None` where the run goes on.
     #[inline(always)]
     pub fn ended(&self, app: &App, limits: &Limits) -> Option<End>
         ensures { (s : State) → Stands self.now s → result ≡ end_of app.now limits.now s }

@@ -15,7 +15,7 @@ pub fn examples_run()
 /// Each application of the table of examples with semaphores and mutexes runs as the table says: a holder takes the priority
 /// of who waits for it, falls to that of the next waiter where the best one waited in vain, and keeps it until its last
 /// mutex is given back; a task that locks what it holds waits in vain; an unlock by another than the holder ends the run; a
-/// semaphore at its maximum isn't given.
+/// semaphore at its greatest count isn't given.
 pub fn examples_with_mutexes_run()
     ensures { AllByRecursion Runs mutex_examples }
 {}

@@ -246,7 +246,8 @@ impl App {
         self.limits
     }
 
-    /// The objects, in the order of the file.
+    /// The objects by their numbers: queues, then binary semaphores, counting ones and mutexes, those of a kind in the order of
+    /// the file.
     pub fn objects(&self) -> &[ObjectKind]
         ensures { result.now ≡ self.now.objects }
     {

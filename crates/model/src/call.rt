@@ -5,7 +5,8 @@ use crate::ids::ObjectId;
 /// (profile: FreeRTOS is interrupted between any two instructions outside its critical sections, which are these).
 #[derive(Clone, Copy, Default, PartialEq, Eq)]
 pub enum Phase {
-    /// The first try, from which the timeout counts.
+    /// The first step: a call on an object tries, and its deadline counts from here; a `set` sets its bits, and a `wait` looks
+    /// at them.
     #[default]
     Start,
     /// A later try.

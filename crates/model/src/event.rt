@@ -40,7 +40,7 @@ pub struct Event {
 // A run may keep millions of events.
 const _: () = prove!(size_of::<Event>() == 16);
 
-/// What a task must not do (profile). FreeRTOS asserts it, and what comes of it is not told.
+/// What a task must not do (profile). FreeRTOS asserts it, or its manual forbids it, and what comes of it is not told.
 #[derive(Clone, Copy, PartialEq, Eq)]
 pub enum Misuse {
     /// While a `suspend_all` is in force it does an op that may switch, or wait.

@@ -81,7 +81,8 @@ impl Default for HandlerId {
     }
 }
 
-/// An object that tasks share, by its index among all of them: 0 to 31. Those of the file's first section come first.
+/// An object that tasks share, by its index among all of them: 0 to 31. Queues come first, then binary semaphores, counting
+/// ones and mutexes, those of a kind in the order of the file.
 #[derive(Clone, Copy, PartialEq, Eq)]
 pub struct ObjectId {
     pub number: u8,

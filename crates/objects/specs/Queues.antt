@@ -1,4 +1,4 @@
--- What callers see of the queues, and the states that it stands for.
+-- What callers see of the queues, and the states that they stand for.
 use Rattle.std.specs.Prelude.{◌≡◌, ◌<◌, ℕ, ◌==◌, if◌then◌else◌, List, Option, Some, None, length, option_map, option_and_then, IfSome}
 use Rattle.lists.specs.Lists.{first_of}
 use Rattle.model.specs.declared.op.Access.{Access}

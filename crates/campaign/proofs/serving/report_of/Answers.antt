@@ -13,4 +13,5 @@ pub returns : goal.returns
 returns g c =
     let own = c.in_ok-shelf.ensures.limits ∙ c.limits.ensures in
     let points = c.as_slice.ensures.value ∙ c.in_ok-points.ensures.points.0 in
-    app_rows c.args.app.now c.in_ok-shelf.shelf c.base.result.now c.in_ok-shelf.ensures.shelf own c.base.ensures c.as_slice.result.now c.in_ok-report.report points c.in_ok-report.ensures
+    let few = rw c.as_slice.ensures.value c.in_ok-points.ensures.points.1 in
+    app_rows c.args.app.now c.in_ok-shelf.shelf c.base.result.now c.in_ok-shelf.ensures.shelf own c.base.ensures c.as_slice.result.now c.in_ok-report.report points few c.in_ok-report.ensures
