@@ -119,12 +119,13 @@ AreIdle deal lanes = AllByRecursion (λ (lane : Sight). (lane.game ≡ deal) × 
 abbrev pub AreReady : Sheet → ℕ → List Tallied → Type 0
 AreReady tally count seats = AllByRecursion (λ (seat : Tallied). (seat.sheet ≡ tally) × HasRoom count seat) seats
 
--- the job of such a lane and such a seat
+-- the job of such a lane and such a seat, with no rows yet
 pub record IsJob (deal : Game) (tally : Sheet) (count : ℕ) (job : Job) : Type 0 where
   pub lane : job.lane.game ≡ deal
   pub fresh : job.lane.answered ≡ []
   pub seat : job.seat.sheet ≡ tally
   pub room : HasRoom count job.seat
+  pub none : job.kept.items ≡ []
 
 abbrev pub AreJobs : Game → Sheet → ℕ → List Job → Type 0
 AreJobs deal tally count jobs = AllByRecursion (IsJob deal tally count) jobs

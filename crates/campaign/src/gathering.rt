@@ -6,7 +6,7 @@ ghost use Rattle.deal.specs.Tallies.{Sheet, added_in};
 ghost use Rattle.campaign.specs.declared.worker.Done as worker;
 ghost use Rattle.campaign.specs.Working.{AreIdle, AreJobs, AreReady, lanes_in, parts_in, seats_in, seats_of};
 
-use crate::rows::Part;
+use crate::rows::{Part, room_for};
 use crate::worker::{Done, Job};
 use deal::{Lane, TallySeat};
 use model::Memory;
@@ -20,11 +20,13 @@ pub(crate) struct Apart {
     pub(crate) parts: Vec<Part>,
 }
 
-/// A job for each lane and seat, the last one first, so that the calling thread gets the first lane.
+/// A job for each lane and seat, the last one first, so that the calling thread gets the first lane. Each has room for so many
+/// rows, as far as there is memory for it.
 pub(crate) fn jobs_of(
     alloc: Global,
     mut lanes: Vec<Lane>,
     mut seats: Vec<TallySeat>,
+    rows: usize,
 ) -> Result<Vec<Job>, Memory>
     requires { vec_len lanes ≡ vec_len seats }
     ensures jobs { IfOk result (λ jobs. (deal : Game) (tally : Sheet) (count : ℕ) → AreIdle deal lanes.items
@@ -35,7 +37,14 @@ pub(crate) fn jobs_of(
     let mut jobs = Vec::new(alloc);
     while let (Some(lane), Some(seat)) = (lanes.pop(), seats.pop()) {
         let number = lanes.len();
-        if jobs.push(Job { number, lane, seat }).is_err() {
+        let kept = room_for(alloc, rows);
+        let job = Job {
+            number,
+            lane,
+            seat,
+            kept,
+        };
+        if jobs.push(job).is_err() {
             return Err(Memory);
         }
     }

@@ -70,6 +70,15 @@ fn run_all<R: Threads + Wait + Sync, G: Gate + Sync>(
     }
 }
 
+// For how many of these rows each of so many workers gets room: an eighth more than if all made as many, since who is faster
+// makes more.
+fn share_of(rows: usize, workers: usize) -> usize
+    requires { 0 < workers }
+{
+    let share = rows / workers;
+    rows.min(share.saturating_add(share / 8))
+}
+
 // Deals the blocks among so many workers, each with a seat, and lets them work.
 fn bring_all<R: Threads + Wait + Sync, G: Gate + Sync>(
     rt: &R,
@@ -92,7 +101,8 @@ fn bring_all<R: Threads + Wait + Sync, G: Gate + Sync>(
     let Ok((deal, lanes)) = Deal::new(alloc, division, workers) else {
         return Err(Memory);
     };
-    let jobs = jobs_of(alloc, lanes, seats)?;
+    let rows = share_of(setup.points.len(), workers);
+    let jobs = jobs_of(alloc, lanes, seats, rows)?;
     let dones = run_all(rt, alloc, setup, gate, jobs)?;
     if is_refused(&dones) {
         return Err(Memory);

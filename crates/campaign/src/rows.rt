@@ -3,6 +3,7 @@ ghost use Rattle.std.specs.Prelude.{◌≡◌, ◌++◌, ◌∷◌, [], OnOk};
 
 use kernel::Trail;
 use model::{End, Memory, Point};
+use std::alloc::Global;
 
 /// A row as it is kept: its events begin with so many of the base run's, and go on with its own, which stand in a trail between
 /// two places. Its point is reached where the base run gets beyond the point's step.
@@ -42,6 +43,17 @@ pub(crate) struct Part {
     pub(crate) kept: Vec<KeptRow>,
     pub(crate) trail: Trail,
     pub(crate) blocks: Vec<KeptBlock>,
+}
+
+/// No rows yet, with room for so many where there is memory for it. Rows that needn't move as they become more leave no gaps
+/// behind, and room that isn't used is mostly none of the machine's memory.
+pub(crate) fn room_for(alloc: Global, count: usize) -> Vec<KeptRow>
+    ensures { result.items ≡ [] }
+{
+    let mut kept = Vec::new(alloc);
+    // Where there is none for all, there may be for those that come.
+    let _refused = kept.reserve_exact(count).is_err();
+    kept
 }
 
 /// Appends a row.

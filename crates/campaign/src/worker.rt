@@ -26,12 +26,13 @@ pub(crate) struct Setup<'a> {
     pub(crate) tally: &'a Tally,
 }
 
-/// What a worker is given: its number, its lane and its seat.
+/// What a worker is given: its number, its lane and its seat, and the room for its rows, of which none is made.
 #[derive(Drop)]
 pub(crate) struct Job {
     pub(crate) number: usize,
     pub(crate) lane: Lane,
     pub(crate) seat: TallySeat,
+    pub(crate) kept: Vec<KeptRow>,
 }
 
 /// What a worker hands on when it is joined. It is refused where it, or another, found no memory; then its part is of no use.
@@ -55,16 +56,16 @@ struct Worker {
 }
 
 impl Worker {
-    // A worker that has made nothing.
-    fn new(alloc: Global, app: &App) -> Worker
-        ensures kept { result.kept.items ≡ [] }
+    // A worker that has made nothing, with this room for rows.
+    fn new(alloc: Global, app: &App, kept: Vec<KeptRow>) -> Worker
+        ensures kept { result.kept.items ≡ kept.items }
         ensures blocks { result.blocks.items ≡ [] }
     {
         Worker {
             kernel: Kernel::boot(app),
             log: StepLog::new(),
             trail: Trail::new(alloc),
-            kept: Vec::new(alloc),
+            kept,
             blocks: Vec::new(alloc),
             recent: Recent::new(),
         }
@@ -264,8 +265,9 @@ pub(crate) fn work<R: Wait, G: Gate>(
         number,
         mut lane,
         mut seat,
+        kept,
     } = job;
-    let mut worker = Worker::new(alloc, setup.app);
+    let mut worker = Worker::new(alloc, setup.app, kept);
     let mut refused = true;
     for _ in rt.forever() {
         if stop.load(Ordering::SeqCst) != 0 {

@@ -229,17 +229,18 @@ pub fn write_report<W: Sink>(app: &App, report: &Report, writer: &mut W) -> Resu
     write_rows(app, rows, &events, writer)
 }
 
-// How many bytes of text a speller spells in a round, where there are so many: some 64 kB, and where the rows' own events take
-// much memory, more: with all spellers together a twelfth of it, since an event takes 16 bytes, and at most 8 MB.
+// How many bytes of text a speller spells in a round, where there are so many: some 64 kB, and where the rows take much memory,
+// more: with all spellers together a twelfth of it, since a row takes 48 bytes and each of its own events 16, and at most 8 MB.
 fn length_of_pieces(rows: &Rows, spellers: usize) -> usize
-    requires { 0 < spellers }
+    requires some { 0 < spellers }
+    requires sound { IsSound rows.now }
     ensures { 0 < result }
 {
     let mut events: usize = 0;
     for part in &rows.parts {
         events = events.saturating_add(part.trail.len());
     }
-    let bytes = events.saturating_mul(4) / 3;
+    let bytes = (events / 3).saturating_add(rows.count()).saturating_mul(4);
     (bytes.min(MOST_ROUND) / spellers).max(LEAST_PIECE)
 }
 

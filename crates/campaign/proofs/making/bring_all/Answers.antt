@@ -20,7 +20,7 @@ run_all-requires-clause-jobs g c κs within k d l =
     let deal = c.in-Ok.deal in
     let are = c.in_ok-jobs.ensures.jobs deal c.args.setup.now.tally.now (length c.args.setup.now.points.now) (idle_lanes deal _ c.in-Ok.ensures.lanes) c.requires.seats.1 in
     let job = all_of_each _ c.in_ok-jobs.jobs.items are k d l in
-    record { lane = refl; fresh = job.fresh; seat = job.seat; room = job.room }
+    record { lane = refl; fresh = job.fresh; seat = job.seat; room = job.room; none = job.none }
 
 pub returns-clause-brought : goal.returns-clause-brought
 returns-clause-brought g c =
