@@ -1,5 +1,5 @@
 -- Steps of a call that waits, from where it decides to where it lets go of the scheduler.
-use Rattle.std.proofs.Common.{◌≡◌, ◌≢◌, ◌<◌, ◌+◌, ℕ, true, List, [], Option, Some, refl, ap, sym, ◌∙◌, arith}
+use Rattle.std.proofs.Common.{◌≡◌, ◌≢◌, ◌<◌, ◌+◌, ℕ, true, List, [], refl, ap, sym, ◌∙◌, arith}
 use Rattle.std.specs.Prelude.{nat_lt}
 use Rattle.std.proofs.lemmas.Bool.{lt-ltb}
 use Rattle.model.specs.declared.op.Access.{Access}
@@ -22,6 +22,7 @@ use Rattle.kernel.specs.StandsFor.{Stands, AtAny, Does, DoesAny, progress_in}
 use Rattle.kernel.specs.Can.{CanLeave}
 use Rattle.kernel.specs.InCall.{IsSilent, IsInPhase, IsLeaving, Remains}
 use Rattle.kernel.proofs.Either.{any, either, does_any, does_more, freely, in_phase, steps_are}
+use Rattle.kernel.proofs.Counting.{steps_still}
 use Rattle.kernel.proofs.Switches.{settled_before, settled_held}
 use Rattle.kernel.proofs.Ending.{begun, handled_before, stepped}
 use Rattle.kernel.proofs.Running.{acts}
@@ -84,8 +85,11 @@ module _ (app : Application) (k : Kernel) (task object : ℕ) (access : Access) 
       there : AtAny new [] (unless_held settle (act_current app (before_step app [] s).current (before_step app [] s)))
       there = still_held new [] _ held (acts_there [] (before_step app [] s) (handled_before app [] s k [] (begun k [] s h refl)))
 
-      pub stepped_held : Stands (record new { steps = k.steps + 1 }) (step app [] s)
-      stepped_held = stepped app [] s new [] k.steps (steps_are k s h) there
+      pub steps_held : new.steps ≡ k.steps
+      steps_held = steps_still app [] s k new [] h there
+
+      pub stepped_held : Stands (record new { steps = new.steps + 1 }) (step app [] s)
+      stepped_held = stepped app [] s new [] new.steps (steps_held ∙ steps_are k s h) there
 
       pub told_nothing : (step app [] s).log ≡ []
       unfolding step

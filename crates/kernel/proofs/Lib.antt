@@ -22,3 +22,4 @@ pub mod Planned
 pub mod Suspending
 pub mod Held
 pub mod InCall
+pub mod Counting

@@ -17,7 +17,7 @@ use crate::kernel::Kernel;
 use crate::log::Log;
 use crate::steps::op_of;
 use crate::trail::Trail;
-use model::{Access, App, Limits, Meter, ObjectId, Op, Phase, Point, TaskId};
+use model::{Access, App, Limits, ObjectId, Op, Phase, Point, TaskId};
 
 /// Whether a call tells nothing in this phase, and holds the scheduler after it.
 fn is_silent(phase: Phase) -> bool
@@ -53,45 +53,36 @@ impl Kernel {
         object: ObjectId,
         access: Access,
         phase: Phase,
-        meter: &mut Meter,
     )
         requires silent { IsSilent phase }
         requires going { CanStep app.now self.old }
         requires call { IsInPhase app.now self.old task object access phase }
-        requires meter { meter.old < 2 ^ 63 }
         ensures stands { (s : State) → Stands self.old s → Stands self.new (step app.now [] s) }
         ensures silent { (s : State) → Stands self.old s → (step app.now [] s).log ≡ [] }
         ensures call { (next : declared.Phase) → (progress_in self.new.progress task).call.phase ≡ next
             → IsInPhase app.now self.new task object access next }
-        ensures meter { meter.new ≡ meter.old + 1 }
     {
         app.well_formed();
-        let steps = self.steps;
         self.go_on_silently(task, object, access, phase);
-        self.steps = steps + 1;
-        meter.count();
+        self.steps += 1;
     }
 
     /// One step of the run, in which the running task's call lets go of the scheduler. The log has no event of this step yet.
     #[inline(always)]
-    fn step_leaving<L: Log>(&mut self, app: &App, task: TaskId, meter: &mut Meter, log: &mut L)
+    fn step_leaving<L: Log>(&mut self, app: &App, task: TaskId, log: &mut L)
         requires going { CanStep app.now self.old }
         requires leaving { IsLeaving app.now self.old task }
-        requires meter { meter.old < 2 ^ 63 }
         requires begun { (L.logged log.old).told ≡ [] }
         requires room { 128 ≤ (L.logged log.old).room }
         ensures stands { (s : State) → Stands self.old s → Stands self.new (step app.now [] s) }
         ensures told { (s : State) → Stands self.old s
             → (L.logged log.new).told ≡ (step app.now [] s).log }
         ensures before { (L.logged log.new).before ≡ (L.logged log.old).before }
-        ensures meter { meter.new ≡ meter.old + 1 }
     {
         app.well_formed();
-        let steps = self.steps;
         self.leave_call(task, log);
         self.settle(log);
-        self.steps = steps + 1;
-        meter.count();
+        self.steps += 1;
     }
 }
 
@@ -105,19 +96,16 @@ pub(crate) fn pass_call(
     points: &[Point],
     until: u32,
     limits: &Limits,
-    meter: &mut Meter,
 ) -> Option<TaskId>
     requires way { IsUnderWay app.now points.now limits.now kernel.old }
     requires alone { (n : ℕ) → kernel.old.steps ≤ n → n < until → injected points.now n ≡ [] }
     requires free { (n : ℕ) → kernel.old.steps ≤ n → n < until
         → is_over app.now (state_after app.now points.now n) ≡ false
         → end_of app.now limits.now (state_after app.now points.now n) ≡ None }
-    requires meter { meter.old < 2 ^ 62 + kernel.old.steps }
     ensures way { IsUnderWay app.now points.now limits.now kernel.new }
     ensures on { kernel.old.steps ≤ kernel.new.steps }
     ensures far { kernel.old.steps ≤ until → kernel.new.steps ≤ until }
     ensures silent { events_from app.now points.now kernel.old.steps kernel.new.steps ≡ [] }
-    ensures meter { meter.new + kernel.old.steps ≡ meter.old + kernel.new.steps }
     ensures leaving { IfSome result (λ task. IsLeaving app.now kernel.new task) }
 {
     app.well_formed();
@@ -141,7 +129,7 @@ pub(crate) fn pass_call(
         if kernel.is_over(app) {
             return None;
         }
-        kernel.step_in_call(app, task, object, access, phase, meter);
+        kernel.step_in_call(app, task, object, access, phase);
     }
     None
 }
@@ -156,7 +144,6 @@ pub(crate) fn pass_leave(
     until: u32,
     leaving: Option<TaskId>,
     limits: &Limits,
-    meter: &mut Meter,
     trail: &mut Trail,
 )
     requires way { IsUnderWay app.now points.now limits.now kernel.old }
@@ -165,13 +152,11 @@ pub(crate) fn pass_leave(
         → is_over app.now (state_after app.now points.now n) ≡ false
         → end_of app.now limits.now (state_after app.now points.now n) ≡ None }
     requires leaving { IfSome leaving (λ task. IsLeaving app.now kernel.old task) }
-    requires meter { meter.old < 2 ^ 62 + kernel.old.steps }
     ensures way { IsUnderWay app.now points.now limits.now kernel.new }
     ensures on { kernel.old.steps ≤ kernel.new.steps }
     ensures far { kernel.old.steps ≤ until → kernel.new.steps ≤ until }
     ensures events { all_of trail.new
         ≡ all_of trail.old ++ events_from app.now points.now kernel.old.steps kernel.new.steps }
-    ensures meter { meter.new + kernel.old.steps ≡ meter.old + kernel.new.steps }
 {
     app.well_formed();
     limits.well_formed();
@@ -187,5 +172,5 @@ pub(crate) fn pass_leave(
     if trail.begin().is_err() {
         return;
     }
-    kernel.step_leaving(app, task, meter, trail);
+    kernel.step_leaving(app, task, trail);
 }

@@ -9,7 +9,7 @@ ghost use Rattle.kernel.specs.Rows.{IsRowFrom, Extends};
 use crate::kernel::Kernel;
 use crate::log::StepLog;
 use crate::quiet::pass_on;
-use crate::steps::finish;
+use crate::steps::{count_steps, finish};
 use crate::trail::Trail;
 use model::{App, End, Limits, Memory, Meter, Point};
 
@@ -49,12 +49,11 @@ fn advance(
     limits.well_formed();
     let mut count = 0;
     'steps: while kernel.steps < step {
-        let tick = kernel.clock.tick();
         kernel.step(app, &[], meter, log);
         count += log.len();
-        let ticked = kernel.clock.tick() != tick;
-        let silent = log.is_empty();
-        let _ = pass_on(kernel, app, &[], step, ticked, silent, limits, meter);
+        let start = kernel.steps;
+        let _ = pass_on(kernel, app, &[], step, log.is_empty(), limits);
+        count_steps(meter, kernel.steps - start);
     }
     count
 }

@@ -1,5 +1,5 @@
 //! Steps, and whole runs.
-ghost use Rattle.std.specs.Prelude.{◌≡◌, true, ℕ, ◌<◌, ◌≤◌, ◌+◌, ◌^◌, ◌++◌, [], Some, None, ◌||◌, IfSome, IsNone, IfOk, OnOk, OnErr, drop, length};
+ghost use Rattle.std.specs.Prelude.{◌≡◌, true, false, ℕ, ◌<◌, ◌≤◌, ◌+◌, ◌^◌, ◌++◌, [], Some, None, ◌||◌, IfSome, IsNone, IfOk, OnOk, OnErr, drop, length};
 ghost use Rattle.std.specs.List.{AllByRecursion};
 ghost use Rattle.std.specs.List.{list_any};
 ghost use Rattle.model.specs.Application.{op_at};
@@ -65,31 +65,21 @@ impl Kernel {
 
     /// One step of the run, before which these handlers come, whose events go to a log that has none of this step yet.
     #[inline(always)]
-    fn step_onto<L: Log>(
-        &mut self,
-        app: &App,
-        handlers: &[HandlerId],
-        meter: &mut Meter,
-        log: &mut L,
-    )
+    fn step_onto<L: Log>(&mut self, app: &App, handlers: &[HandlerId], log: &mut L)
         requires few { length handlers.now ≤ 3 }
         requires going { CanStep app.now self.old }
-        requires meter { meter.old < 2 ^ 63 }
         requires begun { (L.logged log.old).told ≡ [] }
         requires room { 128 ≤ (L.logged log.old).room }
         ensures stands { (s : State) → Stands self.old s → Stands self.new (step app.now handlers.now s) }
         ensures told { (s : State) → Stands self.old s
             → (L.logged log.new).told ≡ (step app.now handlers.now s).log }
         ensures before { (L.logged log.new).before ≡ (L.logged log.old).before }
-        ensures meter { meter.new ≡ meter.old + 1 }
     {
         app.well_formed();
-        let steps = self.steps;
         self.inject_all(app, handlers, log);
         self.act_current(app, log);
         self.settle(log);
-        self.steps = steps + 1;
-        meter.count();
+        self.steps += 1;
     }
 
     /// One step of the run: these handlers, three at most, and then the running task's op, or a tick of idle (profile). The
@@ -107,7 +97,8 @@ impl Kernel {
         ensures meter { meter.new ≡ meter.old + 1 }
     {
         log.clear();
-        self.step_onto(app, handlers, meter, log);
+        self.step_onto(app, handlers, log);
+        meter.count();
     }
 
     /// Whether any task waits, for an object or for bits, or is suspended.
@@ -209,7 +200,8 @@ fn step_apart(
         → trail.old.room < length (step app.now handlers.now s).log) }
 {
     log.clear();
-    kernel.step_onto(app, handlers, meter, log);
+    kernel.step_onto(app, handlers, log);
+    meter.count();
     trail.append(log.as_slice())
 }
 
@@ -237,7 +229,8 @@ fn step_along(
 {
     let is_roomy = trail.begin().is_ok();
     if is_roomy && handlers.is_empty() {
-        kernel.step_onto(app, handlers, meter, trail);
+        kernel.step_onto(app, handlers, trail);
+        meter.count();
         return Ok(());
     }
     step_apart(kernel, app, handlers, meter, log, trail)
@@ -293,9 +286,56 @@ fn step_by_plan<'a>(
     Ok(later)
 }
 
+/// Counts so many steps.
+// The compiler makes one addition of it.
+pub(crate) fn count_steps(meter: &mut Meter, steps: u32)
+    requires { meter.old + steps ≤ 2 ^ 63 }
+    ensures { meter.new ≡ meter.old + steps }
+{
+    for _ in 0..steps {
+        meter.count();
+    }
+}
+
+/// Goes on as `go_on` does, but counts nothing, and also stops where the trail has less room than a step may need and gets no
+/// more.
+#[inline(never)]
+fn go_on_in_room(
+    kernel: &mut Kernel,
+    app: &App,
+    points: &[Point],
+    until: u32,
+    limits: &Limits,
+    trail: &mut Trail,
+)
+    requires way { IsUnderWay app.now points.now limits.now kernel.old }
+    requires alone { (n : ℕ) → kernel.old.steps ≤ n → n < until → injected points.now n ≡ [] }
+    requires free { (n : ℕ) → kernel.old.steps ≤ n → n < until
+        → is_over app.now (state_after app.now points.now n) ≡ false
+        → end_of app.now limits.now (state_after app.now points.now n) ≡ None }
+    ensures way { IsUnderWay app.now points.now limits.now kernel.new }
+    ensures on { kernel.old.steps ≤ kernel.new.steps }
+    ensures far { kernel.old.steps ≤ until → kernel.new.steps ≤ until }
+    ensures events { all_of trail.new
+        ≡ all_of trail.old ++ events_from app.now points.now kernel.old.steps kernel.new.steps }
+{
+    app.well_formed();
+    limits.well_formed();
+    'steps: while kernel.steps < until {
+        if trail.begin().is_err() {
+            return;
+        }
+        if kernel.is_over(app) {
+            return;
+        }
+        kernel.step_onto(app, &[], trail);
+        let leaving = pass_on(kernel, app, points, until, trail.is_silent(), limits);
+        pass_leave(kernel, app, points, until, leaving, limits, trail);
+    }
+}
+
 /// Goes on along a run that is under way, up to this step or to an end before it, and keeps the events from there on. The plan
 /// has no points before that step, and neither limit is reached before it, so none of this is looked at on the way.
-#[inline(never)]
 fn go_on(
     kernel: &mut Kernel,
     app: &App,
@@ -326,18 +366,18 @@ fn go_on(
 {
     app.well_formed();
     limits.well_formed();
-    'steps: while kernel.steps < until {
+    'steps: loop {
+        let start = kernel.steps;
+        go_on_in_room(kernel, app, points, until, limits, trail);
+        count_steps(meter, kernel.steps - start);
+        if until <= kernel.steps {
+            return Ok(());
+        }
         if kernel.is_over(app) {
             return Ok(());
         }
-        let tick = kernel.clock.tick();
         step_along(kernel, app, &[], meter, log, trail)?;
-        let ticked = kernel.clock.tick() != tick;
-        let silent = trail.is_silent();
-        let leaving = pass_on(kernel, app, points, until, ticked, silent, limits, meter);
-        pass_leave(kernel, app, points, until, leaving, limits, meter, trail);
     }
-    Ok(())
 }
 
 /// Goes on to the end of a run that is under way, and keeps the events from there on. These points are its plan, all of

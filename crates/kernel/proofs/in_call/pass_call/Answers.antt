@@ -24,14 +24,11 @@ phases-preserved c =
     let more = steps_more c.args.app.now c.well_formed-2.ensures c.args.points.now c.args.limits.now c.well_formed-3.ensures c.phases.kernel c.phases.invariant.way on c.step_in_call.new.self stands in
     let lt : c.phases.kernel.steps < c.args.until = omega (arith, c.phases-test.true) in
     let so_far = c.phases.invariant.on in
-    let one = c.step_in_call.ensures.meter in
-    let meter = c.phases.invariant.meter in
     record {
       way = goes_on c.args.app.now c.well_formed-2.ensures c.args.points.now c.args.limits.now c.well_formed-3.ensures c.phases.kernel c.phases.invariant.way on c.step_in_call.new.self stands;
       on = omega arith;
       far = λ _. omega arith;
       silent = sym (more_events c.args.app.now c.well_formed-2.ensures c.args.points.now c.args.limits.now c.well_formed-3.ensures c.phases.kernel c.phases.invariant.way on c.step_in_call.new.self stands c.args.kernel.now.steps so_far [] [] [] (sym c.phases.invariant.silent) told);
-      meter = omega arith;
       call = c.step_in_call.ensures.call;
     }
 

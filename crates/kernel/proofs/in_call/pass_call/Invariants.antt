@@ -1,4 +1,4 @@
-use Rattle.std.proofs.Common.{◌≡◌, ◌≤◌, ◌+◌, ◌-◌, []}
+use Rattle.std.proofs.Common.{◌≡◌, ◌≤◌, ◌-◌, []}
 use Rattle.model.specs.declared.call.Phase.{Phase}
 use Rattle.kernel.specs.StandsFor.{progress_in}
 use Rattle.kernel.specs.Can.{IsUnderWay}
@@ -12,7 +12,6 @@ invariant-phases l = record {
   on : l.fn.kernel.steps ≤ l.kernel.steps;
   far : l.fn.kernel.steps ≤ l.until → l.kernel.steps ≤ l.until;
   silent : events_from l.app l.points l.fn.kernel.steps l.kernel.steps ≡ [];
-  meter : l.meter + l.fn.kernel.steps ≡ l.fn.meter + l.kernel.steps;
   call : (phase : Phase) → (progress_in l.kernel.progress l.task).call.phase ≡ phase → IsInPhase l.app l.kernel l.task l.object l.access phase;
 }
 

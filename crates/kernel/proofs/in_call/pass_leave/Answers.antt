@@ -38,15 +38,6 @@ returns-clause-far c =
     let short = c.if-until-kernel.false in
     λ _. omega arith
 
-pub returns-clause-meter : goal.returns-clause-meter
-returns-clause-meter c =
-    let on : end_of c.args.app.now c.args.limits.now (state_after c.args.app.now c.args.points.now c.args.kernel.now.steps) ≡ None = c.requires.free c.args.kernel.now.steps (omega arith) (omega (arith, c.if-until-kernel.false)) (sym (c.if-is_over.ensures _ c.requires.way.stands)) in
-    let none : [] ≡ injected c.args.points.now c.args.kernel.now.steps = sym (c.requires.alone c.args.kernel.now.steps (omega arith) (omega (arith, c.if-until-kernel.false))) in
-    let stands = stands_as c.args.app.now c.args.kernel.now c.step_leaving.new.self [] (injected c.args.points.now c.args.kernel.now.steps) none c.step_leaving.ensures.stands in
-    let more = steps_more c.args.app.now c.well_formed-2.ensures c.args.points.now c.args.limits.now c.well_formed-3.ensures c.args.kernel.now c.requires.way on c.step_leaving.new.self stands in
-    let one = c.step_leaving.ensures.meter in
-    omega arith
-
 pub returns-clause-events : goal.returns-clause-events
 returns-clause-events c =
     let on : end_of c.args.app.now c.args.limits.now (state_after c.args.app.now c.args.points.now c.args.kernel.now.steps) ≡ None = c.requires.free c.args.kernel.now.steps (omega arith) (omega (arith, c.if-until-kernel.false)) (sym (c.if-is_over.ensures _ c.requires.way.stands)) in

@@ -10,5 +10,4 @@ invariant-loop l = record {
   quiet : (n : ℕ) → l.counter + suc n ≡ l.count → IsQuiet l.app l.limits (suc n) l.kernel;
   steps : l.kernel.steps ≡ l.fn.kernel.steps + l.counter;
   silent : events_from l.app l.points l.fn.kernel.steps l.kernel.steps ≡ [];
-  meter : l.meter ≡ l.fn.meter + l.counter;
 }

@@ -27,16 +27,6 @@ pass_on-requires-clause-way c =
 pub pass_on-requires-clause-free : goal.pass_on-requires-clause-free
 pass_on-requires-clause-free c = λ n from below going. c.requires.reached n below
 
-pub pass_on-requires-clause-meter : goal.pass_on-requires-clause-meter
-pass_on-requires-clause-meter c =
-    let lt : c.steps.kernel.steps < c.args.step = omega (arith, c.steps-test.true) in
-    let on : end_of c.args.app.now c.args.limits.now (state_after c.args.app.now [] c.steps.kernel.steps) ≡ None = c.requires.reached c.steps.kernel.steps lt in
-    let more = steps_more c.args.app.now c.well_formed-2.ensures [] c.args.limits.now c.well_formed-3.ensures c.steps.kernel c.steps.invariant.way on c.step.new.self c.step.ensures.stands in
-    let meter = c.steps.invariant.meter in
-    let one = c.step.ensures.meter in
-    let low = c.requires.meter in
-    omega arith
-
 pub steps-preserved : goal.steps-preserved
 steps-preserved c =
     let lt : c.steps.kernel.steps < c.args.step = omega (arith, c.steps-test.true) in
@@ -50,7 +40,7 @@ steps-preserved c =
     let len = c.len-count.ensures.value in
     let fits = c.len-count.ensures.fits in
     let passed = c.pass_on.ensures.on in
-    let rest = c.pass_on.ensures.meter in
+    let rest = c.count_steps.ensures in
     let same : length (events_after c.args.app.now [] c.pass_on.new.kernel.steps) ≡ length (events_after c.args.app.now [] c.step.new.self.steps) = ap (λ (es : List Event). length es) (same_events c.args.app.now [] c.step.new.self.steps c.pass_on.new.kernel.steps passed c.pass_on.ensures.silent) in
     record {
       way = c.pass_on.ensures.way;

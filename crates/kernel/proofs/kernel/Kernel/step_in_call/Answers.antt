@@ -1,7 +1,8 @@
 use Rattle.std.proofs.Common.{subst, arith}
 use Rattle.kernel.specs.Can.{CanGoOn}
-use Rattle.kernel.proofs.Bounds.{can_go_on, held_in_call}
-use Rattle.kernel.proofs.InCall.{holds_silently, still_in_call, stepped_held, told_nothing}
+use Rattle.kernel.proofs.Bounds.{below_limits, can_go_on, held_in_call}
+use Rattle.kernel.proofs.Either.{steps_are}
+use Rattle.kernel.proofs.InCall.{holds_silently, steps_held, still_in_call, stepped_held, told_nothing}
 use Rattle.kernel.proofs.kernel.Kernel.step_in_call.Goals as goal
 
 pub go_on_silently-requires-clause-can : goal.go_on_silently-requires-clause-can
@@ -16,6 +17,18 @@ pub go_on_silently-requires-clause-held : goal.go_on_silently-requires-clause-he
 go_on_silently-requires-clause-held c =
     let call = c.requires.call in
     λ later. held_in_call c.args.app.now c.well_formed-2.ensures c.args.self.now c.requires.going c.args.task call.current call.awake c.args.phase call.reached (holds_silently c.args.phase c.requires.silent later)
+
+pub overflow_add-self : goal.overflow_add-self
+overflow_add-self c =
+    let going = c.requires.going in
+    let held = c.go_on_silently.ensures.held in
+    let still = steps_held c.args.app.now c.args.self.now c.args.task c.args.object c.args.access c.args.phase c.requires.call c.go_on_silently.new.self
+    (λ log s h. c.go_on_silently.ensures.does c.args.app.now c.requires.call.ticks log s h) (omega arith) going.state going.stands in
+    let is = steps_are c.args.self.now going.state going.stands in
+    let low = below_limits c.args.app.now going.limits going.state going.goes_on in
+    let few = low.1 in
+    let most = going.step_limit in
+    omega arith
 
 pub returns-clause-stands : goal.returns-clause-stands
 returns-clause-stands c = λ s h.

@@ -1,5 +1,7 @@
 use Rattle.model.specs.Step.{step}
-use Rattle.kernel.proofs.Bounds.{can_act_after, has_objects, stood}
+use Rattle.kernel.proofs.Bounds.{below_limits, can_act_after, has_objects, stood}
+use Rattle.std.proofs.Common.{◌∙◌, arith}
+use Rattle.kernel.proofs.Counting.{steps_still}
 use Rattle.kernel.proofs.Either.{steps_are}
 use Rattle.kernel.proofs.Ending.{begun, handled_before, stepped}
 use Rattle.kernel.proofs.kernel.Kernel.step_onto.Goals as goal
@@ -16,9 +18,22 @@ act_current-requires-clause-can g c =
     can_act_after c.args.app.now c.well_formed-2.ensures c.args.self.now going c.args.handlers.now c.inject_all.new.self
     (handled_before c.args.app.now c.args.handlers.now _ c.inject_all.new.self _ (c.inject_all.ensures.at _ (begun c.args.self.now (g.L.Log.logged c.args.log.now).told _ going.stands c.requires.begun))).stands
 
+pub overflow_add-self : goal.overflow_add-self
+overflow_add-self g c =
+    let going = c.requires.going in
+    let a = c.settle.ensures.at _ (c.act_current.ensures.at _ (handled_before c.args.app.now c.args.handlers.now going.state c.inject_all.new.self _ (c.inject_all.ensures.at _ (begun c.args.self.now (g.L.Log.logged c.args.log.now).told going.state going.stands c.requires.begun)))) in
+    let still = steps_still c.args.app.now c.args.handlers.now going.state c.args.self.now c.settle.new.self (g.L.Log.logged c.settle.new.log).told going.stands a in
+    let is = steps_are c.args.self.now going.state going.stands in
+    let low = below_limits c.args.app.now going.limits going.state going.goes_on in
+    let few = low.1 in
+    let most = going.step_limit in
+    omega arith
+
 pub returns-clause-stands : goal.returns-clause-stands
-returns-clause-stands g c = λ s h. stepped c.args.app.now c.args.handlers.now s c.settle.new.self (g.L.Log.logged c.settle.new.log).told c.args.self.now.steps (steps_are c.args.self.now s h)
-    (c.settle.ensures.at _ (c.act_current.ensures.at _ (handled_before c.args.app.now c.args.handlers.now s c.inject_all.new.self _ (c.inject_all.ensures.at _ (begun c.args.self.now (g.L.Log.logged c.args.log.now).told s h c.requires.begun)))))
+returns-clause-stands g c = λ s h.
+    let a = c.settle.ensures.at _ (c.act_current.ensures.at _ (handled_before c.args.app.now c.args.handlers.now s c.inject_all.new.self _ (c.inject_all.ensures.at _ (begun c.args.self.now (g.L.Log.logged c.args.log.now).told s h c.requires.begun)))) in
+    let still = steps_still c.args.app.now c.args.handlers.now s c.args.self.now c.settle.new.self (g.L.Log.logged c.settle.new.log).told h a in
+    stepped c.args.app.now c.args.handlers.now s c.settle.new.self (g.L.Log.logged c.settle.new.log).told c.settle.new.self.steps (still ∙ steps_are c.args.self.now s h) a
 
 pub returns-clause-told : goal.returns-clause-told
 unfolding step

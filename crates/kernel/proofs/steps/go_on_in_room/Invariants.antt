@@ -1,0 +1,16 @@
+use Rattle.std.proofs.Common.{◌≡◌, ◌≤◌, ◌-◌, ◌++◌}
+use Rattle.kernel.specs.Logged.{all_of}
+use Rattle.kernel.specs.Can.{IsUnderWay}
+use Rattle.kernel.specs.Rows.{events_from}
+use Rattle.kernel.proofs.steps.go_on_in_room.Given as goal
+
+abbrev pub invariant-steps : goal.invariant-steps
+invariant-steps l = record {
+  way : IsUnderWay l.app l.points l.limits l.kernel;
+  on : l.fn.kernel.steps ≤ l.kernel.steps;
+  far : l.fn.kernel.steps ≤ l.until → l.kernel.steps ≤ l.until;
+  events : all_of l.trail ≡ all_of l.fn.trail ++ events_from l.app l.points l.fn.kernel.steps l.kernel.steps;
+}
+
+abbrev pub decreases-steps : goal.decreases-steps
+decreases-steps l = l.until - l.kernel.steps
