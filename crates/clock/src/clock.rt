@@ -190,6 +190,7 @@ impl Clock {
     }
 
     /// Ends the sleep of a task. One that does not sleep is left as it is.
+    #[inline(always)]
     pub fn wake(&mut self, task: TaskId)
         ensures now { self.new.now ≡ self.old.now }
         ensures age { self.new.age ≡ self.old.age }

@@ -48,7 +48,7 @@ steps-leave_call : (i : ℕ) (s : State) → (leave_call i s).steps ≡ s.steps
 unfolding leave_call
 steps-leave_call i s =
     let free : State = end_hold i Try s in
-    by_test (is_some (call_at s i).list)
+    by_test (call_at s i).waits
     (λ t. rw t (keeps-choose free).steps)
     (λ t. rw t (keeps-preempt free).steps)
 

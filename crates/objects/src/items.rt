@@ -190,6 +190,7 @@ impl Items {
     }
 
     /// Takes the first item out of a queue; `None` where it is empty.
+    #[inline(always)]
     pub(crate) fn pop_front(&mut self, queue: usize) -> Option<u32>
         requires { queue < 32 }
         ensures first { result ≡ slice_get (object_in self.old queue).items 0 }

@@ -178,6 +178,7 @@ impl Queues {
     /// Whether a call is possible on an object now: one that puts an item in where there is room, one that takes or reads
     /// the first where there is one, and `overwrite` always; `take` where the count isn't 0, `give` where it is below its
     /// greatest, and `lock` where nobody holds the mutex.
+    #[inline(always)]
     pub fn possible(&self, object: ObjectId, access: Access) -> bool
         ensures possible { result ≡ allows (object_in self.now.objects object) access }
         ensures stands { (s : State) (decider : Option Decider) → StandsFor self.now decider s

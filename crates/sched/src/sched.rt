@@ -178,6 +178,7 @@ impl Sched {
 
     /// Takes back one of the holds, of which there is one, and with the last one moves the pending tasks to their ready
     /// lists (`xTaskResumeAll`). It switches nothing by itself.
+    #[inline(always)]
     pub fn unhold(&mut self)
         requires { 0 < self.old.depth }
         ensures schedule { self.new ≡ unhold self.old }
@@ -332,6 +333,7 @@ impl Sched {
 
     /// Where a task in a ready list has a higher priority than the running one, or idle runs and a ready list
     /// has a task, yields. Answers whether it did. One of equal priority changes nothing (profile).
+    #[inline(always)]
     pub fn preempt(&mut self) -> bool
         ensures outranked { result ≡ is_outranked self.old }
         ensures schedule { self.new ≡ preempt self.old }
