@@ -16,7 +16,7 @@ use Rattle.campaign.specs.declared.rows.KeptBlock.{KeptBlock}
 use Rattle.campaign.specs.declared.worker.Job.{Job}
 use Rattle.campaign.specs.declared.worker.Done.{Done}
 use Rattle.deal.specs.Sharing.{HasSeenAll}
-use Rattle.kernel.specs.Logged.{all_of}
+use Rattle.machine.specs.Logged.{all_of}
 use Rattle.campaign.specs.Kinds.{kind_in}
 use Rattle.campaign.specs.Report.{row_of, rows_of, IsKept}
 use Rattle.campaign.specs.Working.{Work, GainsRows, HasRoom, block_points, IsKeptBlock, AreKeptBlocks, numbers_of, CountsBlocks, IsDone}

@@ -2,7 +2,7 @@
 use Rattle.std.specs.List.{flat_map}
 use Rattle.std.proofs.Common.{◌≡◌, ◌<◌, ◌≤◌, ◌+◌, ◌-◌, ℕ, zero, suc, List, [], ◌∷◌, ◌++◌, length, map, take, drop, slice_index_or, refl, sym, ap, ◌∙◌, length-append, arith}
 use Rattle.std.proofs.lemmas.List.{drop_all, drop_at, drop_more, drop-drop, drop-append-le, drop-map, drop-take, length-drop, take-append-le, take-map, take-take}
-use Rattle.kernel.specs.Logged.{all_of}
+use Rattle.machine.specs.Logged.{all_of}
 use Rattle.model.specs.Campaign.{Row}
 use Rattle.campaign.specs.declared.campaign_report.Rows.{Rows}
 use Rattle.campaign.specs.declared.cursor.Cursor.{Cursor}

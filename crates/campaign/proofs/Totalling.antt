@@ -6,7 +6,7 @@ use Rattle.std.proofs.lemmas.List.{length-take, length-drop, length-map, take_al
 use Rattle.model.specs.declared.event.Event.{Event}
 use Rattle.model.specs.Run.{Run}
 use Rattle.model.specs.Campaign.{Row}
-use Rattle.kernel.specs.Logged.{all_of}
+use Rattle.machine.specs.Logged.{all_of}
 use Rattle.campaign.specs.declared.rows.KeptRow.{KeptRow}
 use Rattle.campaign.specs.declared.rows.Part.{Part}
 use Rattle.campaign.specs.declared.rows.Place.{Place}

@@ -1,7 +1,7 @@
 -- The rows of a campaign, as they are kept.
 use Rattle.std.specs.Prelude.{◌≡◌, ℕ, ◌+◌, ◌≤◌, List, [], ◌++◌, length, map, take, drop, slice_range, slice_get, nat_lt, Option, Some, None}
 use Rattle.std.specs.List.{AllByRecursion, flat_map}
-use Rattle.kernel.specs.Logged.{all_of}
+use Rattle.machine.specs.Logged.{all_of}
 use Rattle.model.specs.declared.event.Event.{Event}
 use Rattle.model.specs.Run.{Run}
 use Rattle.model.specs.Campaign.{Row, totals_of}

@@ -1,6 +1,6 @@
 //! A worker, which makes the rows of the blocks that its lane is answered.
 ghost use Rattle.std.specs.Prelude.{◌≡◌, ◌<◌, ◌≤◌, ◌+◌, ◌++◌, ◌∷◌, [], false, length, sum, take, drop, IfOk, IfSome, OnOk};
-ghost use Rattle.kernel.specs.Logged.{all_of};
+ghost use Rattle.machine.specs.Logged.{all_of};
 ghost use Rattle.shelf.specs.Shelves.{IsShelf};
 ghost use Rattle.campaign.specs.Working.{AreKnown, GainsRow, GainsRows, HasRoom, IsAmong, IsDone, IsJob};
 ghost use Rattle.campaign.specs.Setup.{work_of};

@@ -2,7 +2,7 @@
 ghost use Rattle.std.specs.Prelude.{◌≡◌, ◌≤◌, ◌<◌, ◌+◌, false, [], length, OnOk};
 ghost use Rattle.std.specs.Result.{is_err};
 ghost use Rattle.byte_io.specs.Bytes.{Adds, Writes};
-ghost use Rattle.kernel.specs.Logged.{all_of};
+ghost use Rattle.machine.specs.Logged.{all_of};
 ghost use Rattle.model.specs.Scripts.{most_points};
 ghost use Rattle.model.specs.Campaign.{totals_of};
 ghost use Rattle.report.specs.Text.{row_text, rows_text, total_text, campaign_text};

@@ -35,10 +35,10 @@ use Rattle.groups.specs.StandsFor.{SameBitWaits}
 use Rattle.groups.proofs.Standing as on_groups
 use Rattle.groups.proofs.Kept as bits_kept
 use Rattle.groups.proofs.Elsewhere as bits_elsewhere
-use Rattle.kernel.specs.declared.kernel.Kernel.{Kernel}
-use Rattle.kernel.specs.StandsFor.{StandsBefore, Stands, decider}
-use Rattle.kernel.specs.StandsFor.Stands.{Placed, Placing}
-use Rattle.kernel.proofs.Waking.{progress-ready}
+use Rattle.machine.specs.declared.machine.Machine.{Machine}
+use Rattle.machine.specs.StandsFor.{StandsBefore, Stands, decider}
+use Rattle.machine.specs.StandsFor.Stands.{Placed, Placing}
+use Rattle.machine.proofs.Waking.{progress-ready}
 use Rattle.kernel.proofs.Waits.{awake_unready, awake_resumes, awake_alike, best, woken_free, waits_there, opened, wakes_it, Unwoken, unwoken}
 use Rattle.kernel.proofs.Waits.Unwoken.{Nobody, Counted}
 
@@ -86,7 +86,7 @@ one_list a b k m (WaitingForBits g n d) e f = absurd (cc)
 one_list a b k m Suspended e f = absurd (cc)
 one_list a b k m Ended e f = absurd (cc)
 
-module _ (task : ℕ) (list : WaitList) (k : Kernel) (s : State) (b : StandsBefore task list k s) where
+module _ (task : ℕ) (list : WaitList) (k : Machine) (s : State) (b : StandsBefore task list k s) where
   pub stands_there : (m : Key) × (option_and_then (wait_key list) (wait_of (status_at s task)) ≡ Some m)
   stands_there =
       let own : same_list list list ≡ true = same_list-refl list in
@@ -178,7 +178,7 @@ module _ (task : ℕ) (list : WaitList) (k : Kernel) (s : State) (b : StandsBefo
       }
 
 -- who is woken becomes Ready
-module _ (task : ℕ) (tl : WaitList) (k : Kernel) (s : State) (b : StandsBefore task tl k s) (list : WaitList) (i : ℕ) (is : Some i ≡ (if is_locked s.locked list then None else best s list)) where
+module _ (task : ℕ) (tl : WaitList) (k : Machine) (s : State) (b : StandsBefore task tl k s) (list : WaitList) (i : ℕ) (is : Some i ≡ (if is_locked s.locked list then None else best s list)) where
   apart_there : task ≢ i
   apart_there = woken_apart task tl k s b i list (waits_there s list i is).key (opened s list i is) (waits_there s list i is).there
 
@@ -197,12 +197,12 @@ module _ (task : ℕ) (tl : WaitList) (k : Kernel) (s : State) (b : StandsBefore
       (readied_before task tl k s b i apart_there v t q (on apart_there l) (awake apart_there l) (subst (queues.StandsFor q (Some (decider task tl s))) one there) (subst (AtLocked (Some (decider task tl s))) one (at_locked-wake_best (Some (decider task tl s)) list s b.awake)) (subst (SameBitWaits s) one (bits_elsewhere.same_wake_best list s)))
 
 -- in either case whoever is woken isn't Ready in the scheduler
-pub woken_free_any : (k : Kernel) (s : State) (list : WaitList) (i : ℕ) → Stands k s → ((d : Option Decider) → queues.StandsFor k.queues d s → AtLocked d s → Some i ≡ (if is_locked s.locked list then None else best s list)) → schedule.is_ready k.sched i ≡ false
+pub woken_free_any : (k : Machine) (s : State) (list : WaitList) (i : ℕ) → Stands k s → ((d : Option Decider) → queues.StandsFor k.queues d s → AtLocked d s → Some i ≡ (if is_locked s.locked list then None else best s list)) → schedule.is_ready k.sched i ≡ false
 woken_free_any k s list i (Placed h) is = woken_free k s h list i (is None h.rest.queues h.rest.awake)
 woken_free_any k s list i (Placing task tl b) is = free_before task tl k s b list i (is (Some (decider task tl s)) b.queues b.awake)
 
 -- or nobody does
-module _ (task : ℕ) (tl : WaitList) (k : Kernel) (s : State) (b : StandsBefore task tl k s) (list : WaitList) (is : None ≡ (if is_locked s.locked list then None else best s list)) (q : Exchange) (there : queues.StandsFor q (Some (decider task tl s)) (wake_best list s)) where
+module _ (task : ℕ) (tl : WaitList) (k : Machine) (s : State) (b : StandsBefore task tl k s) (list : WaitList) (is : None ≡ (if is_locked s.locked list then None else best s list)) (q : Exchange) (there : queues.StandsFor q (Some (decider task tl s)) (wake_best list s)) where
   pub unwoken_before : StandsBefore task tl (record k { queues = q }) (wake_best list s)
   unwoken_before = by_case (unwoken s list is) where
     by_case : Unwoken s list → StandsBefore task tl (record k { queues = q }) (wake_best list s)

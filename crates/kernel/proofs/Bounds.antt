@@ -22,19 +22,20 @@ use Rattle.model.specs.Run.{end_of, are_all_ended, is_stuck}
 use Rattle.model.specs.Invariant.{IsState, IsUsedBy, IsRunning, IsPlacing, IsWaitOf, RunsIn, InOne, ToSetBits, course, IsPhaseOf, hold_of, holds, Suspension, wait_of}
 use Rattle.soundness.proofs.InScripts.{script_formed, stands_at, known_at, range_at}
 use Rattle.soundness.proofs.Sound.{ready_reckoned}
-use Rattle.soundness.proofs.Frames.{keeps-all_ready, keeps-before_step}
+use Rattle.soundness.proofs.Frames.{keeps-before_step}
 use Rattle.soundness.proofs.Reached.{reached_before_step, start_only}
-use Rattle.model.specs.Step.{before_step, nobody_ready, ready_at_reset, reset, with_ops}
+use Rattle.model.specs.Step.{before_step}
 use Rattle.sched.proofs.Standing as on_sched
 use Rattle.objects.specs.declared.lock.Lock.{Lock}
 use Rattle.objects.specs.Queues.{locked_by}
 use Rattle.soundness.proofs.Handled.{and_left, and_right}
 use Rattle.objects.proofs.Sizes.{has_room}
-use Rattle.kernel.specs.declared.kernel.Kernel.{Kernel}
-use Rattle.kernel.specs.StandsFor.{StandsFor, StandsBefore, Stands, decider, progress_in}
-use Rattle.kernel.specs.StandsFor.Stands.{Placed, Placing}
-use Rattle.kernel.specs.Can.{Runs, HasLoopRoom, HasRoom, HasObject, HasObjects, Agrees, CanTick, Can, IsAhead, IsInCall, CanTry, IsShort, CanDecide, CanPlace, CanLeave, CanGoOn, CanSetBits, CanWaitBits, CanOp, CanHold, CanAct, CanStep, StandsForSome}
-use Rattle.kernel.proofs.Either.{elapsed_is, now_is, current_is, progress_is, suspensions_are}
+use Rattle.machine.specs.declared.machine.Machine.{Machine}
+use Rattle.machine.specs.StandsFor.{StandsFor, StandsBefore, Stands, decider, progress_in}
+use Rattle.machine.specs.StandsFor.Stands.{Placed, Placing}
+use Rattle.machine.specs.Can.{Runs, HasRoom, Agrees, IsAhead, IsInCall, StandsForSome}
+use Rattle.kernel.specs.Can.{HasLoopRoom, HasObject, HasObjects, CanTick, Can, CanTry, IsShort, CanDecide, CanPlace, CanLeave, CanGoOn, CanSetBits, CanWaitBits, CanOp, CanHold, CanAct, CanStep}
+use Rattle.machine.proofs.Either.{elapsed_is, now_is, current_is, progress_is, suspensions_are}
 
 leb-less : (a b : ℕ) → leb a b ≡ false → b < a
 leb-less a b e = grind (arith, nat_tests)
@@ -87,7 +88,7 @@ loop_room ResumeAll nesting h = tt
 abbrev IsBrief : Op → Type 0
 IsBrief op = course (Some op) ≡ InOne
 
-known_object : (app : Application) (op : Op) → IsBrief op → knows app op ≡ true → (k : Kernel) → HasObjects app k → HasObject k op
+known_object : (app : Application) (op : Op) → IsBrief op → knows app op ≡ true → (k : Machine) → HasObjects app k → HasObject k op
 known_object app (Work n) brief t k room = tt
 known_object app (Delay n) brief t k room = tt
 known_object app (DelayUntil n) brief t k room = tt
@@ -132,7 +133,7 @@ once_held n true depth e z t = omega (arith, e, z)
 once_held n false depth e z t = absurd (cc)
 
 -- the kernel stands for a state of a run, early enough
-module _ (app : Application) (formed : IsWellFormed app) (k : Kernel) (state : State) (reached : IsState app state) (stands : Stands k state) (early : state.elapsed < 1000000) where
+module _ (app : Application) (formed : IsWellFormed app) (k : Machine) (state : State) (reached : IsState app state) (stands : Stands k state) (early : state.elapsed < 1000000) where
   time_low : k.clock.now < 4294967296 + 1000000
   time_low = let e = now_is k state stands in let l = early in let m = reached.sound.time.1 in let n = formed.start in omega arith
 
@@ -398,15 +399,9 @@ module _ (app : Application) (formed : IsWellFormed app) (k : Kernel) (state : S
   pub can_act : state.suspensions < 1000000 → CanAct app k
   can_act few = record { tick = λ idle. can_tick (idle_awake idle) (idle_free idle); op = λ task op runs is. ((λ awake. can_op task runs awake op is), (λ some. can_hold task runs some few op is)) }
 
--- ---- how many steps are done
-
-pub steps-reset : (app : Application) → (reset app).steps ≡ 0
-unfolding reset ready_at_reset nobody_ready
-steps-reset app = (keeps-all_ready (with_ops 0 app.tasks) (nobody_ready app)).steps
-
 -- ---- before a step, and after the handlers that come before it
 
-module _ (app : Application) (formed : IsWellFormed app) (k : Kernel) (c : CanStep app k) where
+module _ (app : Application) (formed : IsWellFormed app) (k : Machine) (c : CanStep app k) where
   abbrev now : State
   now = c.state
 
@@ -419,7 +414,7 @@ module _ (app : Application) (formed : IsWellFormed app) (k : Kernel) (c : CanSt
   pub has_objects : HasObjects app k
   has_objects = rooms app formed k now c.sound c.stands early_now
 
-  pub can_act_after : (handlers : List ℕ) (new : Kernel) → Stands new (before_step app handlers now) → CanAct app new
+  pub can_act_after : (handlers : List ℕ) (new : Machine) → Stands new (before_step app handlers now) → CanAct app new
   can_act_after handlers new h =
       let age : (before_step app handlers now).elapsed ≡ now.elapsed = (keeps-before_step app handlers now).elapsed in
       let low : (before_step app handlers now).elapsed < 1000000 = (let l = early_now in omega arith) in

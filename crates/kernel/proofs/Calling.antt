@@ -11,24 +11,25 @@ use Rattle.objects.specs.Items.{object_in}
 use Rattle.objects.specs.WaitersStand.{Decider}
 use Rattle.objects.specs.Queues as queues
 use Rattle.objects.specs.Queues.{CanHold, Exchange}
-use Rattle.kernel.specs.declared.kernel.Kernel.{Kernel}
-use Rattle.kernel.specs.StandsFor.{Stands, At, AtAny, decider}
-use Rattle.kernel.specs.StandsFor.Stands.{Placed, Placing}
-use Rattle.kernel.specs.Can.{HasRoom, IsCaller, StandsForSome}
+use Rattle.machine.specs.declared.machine.Machine.{Machine}
+use Rattle.machine.specs.StandsFor.{Stands, At, AtAny, decider}
+use Rattle.machine.specs.StandsFor.Stands.{Placed, Placing}
+use Rattle.machine.specs.Can.{HasRoom, StandsForSome}
+use Rattle.kernel.specs.Can.{IsCaller}
 use Rattle.kernel.proofs.Before.{stored_before}
-use Rattle.kernel.proofs.Either.{any, either}
+use Rattle.machine.proofs.Either.{any, either}
 use Rattle.kernel.proofs.Waits.{stored_at}
 
 -- ---- what is in an object
 
-pub objects_are : (k : Kernel) (s : State) → Stands k s → (o : ℕ) → object_in k.queues.objects o ≡ object_at s o
+pub objects_are : (k : Machine) (s : State) → Stands k s → (o : ℕ) → object_in k.queues.objects o ≡ object_at s o
 objects_are k s (Placed h) o = h.rest.queues.objects o
 objects_are k s (Placing task list b) o = b.queues.objects o
 
-pub answers : (k : Kernel) (s : State) (o : ℕ) (a : Access) (given : Option ℕ) → Stands k s → given ≡ reply (object_in k.queues.objects o) a → given ≡ answer_to s o a
+pub answers : (k : Machine) (s : State) (o : ℕ) (a : Access) (given : Option ℕ) → Stands k s → given ≡ reply (object_in k.queues.objects o) a → given ≡ answer_to s o a
 answers k s o a given h e = e ∙ ap (λ (x : Object). reply x a) (objects_are k s h o)
 
-pub is_possible : (k : Kernel) (s : State) (o : ℕ) (a : Access) (b : Bool) → Stands k s → allows (object_in k.queues.objects o) a ≡ b → possible s o a ≡ b
+pub is_possible : (k : Machine) (s : State) (o : ℕ) (a : Access) (b : Bool) → Stands k s → allows (object_in k.queues.objects o) a ≡ b → possible s o a ≡ b
 is_possible k s o a b h e = ap (λ (x : Object). allows x a) (sym (objects_are k s h o)) ∙ e
 
 -- ---- for what there is room
@@ -61,7 +62,7 @@ size_set (y ∷ ys) zero (suc j) x e = refl
 size_set (y ∷ ys) (suc o) zero x e = refl
 size_set (y ∷ ys) (suc o) (suc j) x e = size_set ys o j x e
 
-pub room_still : (k : Kernel) (q : Exchange) (caller : Option ℕ) (o : ℕ) (a : Access) → q ≡ record k.queues { objects = set k.queues.objects o (object_after caller a (object_in k.queues.objects o)) } → (j : ℕ) (b : Access) → HasRoom k j b → HasRoom (record k { queues = q }) j b
+pub room_still : (k : Machine) (q : Exchange) (caller : Option ℕ) (o : ℕ) (a : Access) → q ≡ record k.queues { objects = set k.queues.objects o (object_after caller a (object_in k.queues.objects o)) } → (j : ℕ) (b : Access) → HasRoom k j b → HasRoom (record k { queues = q }) j b
 room_still k q caller o a is j b room = (
   let same = ap (λ (v : Exchange). v.number) is in let below = room.0 in omega (arith, same, below),
   room_by_size b (object_in k.queues.objects j) (object_in q.objects j) (ap (λ (v : Exchange). (object_in v.objects j).size) is ∙ size_set k.queues.objects o j (object_after caller a (object_in k.queues.objects o)) (same_size caller a (object_in k.queues.objects o))) room.1,
@@ -70,12 +71,12 @@ room_still k q caller o a is j b room = (
 -- ---- the object changes
 
 -- who makes the call is a task, or none
-pub caller_within : (k : Kernel) (s : State) → Stands k s → (caller : Option ℕ) → IsCaller k caller → IfSome caller (λ i. i < length s.tasks)
+pub caller_within : (k : Machine) (s : State) → Stands k s → (caller : Option ℕ) → IsCaller k caller → IfSome caller (λ i. i < length s.tasks)
 caller_within k s h None r = tt
 caller_within k s (Placed h) (Some i) r = let L : Option ℕ → Type 0 = λ o. IfSome o (λ j. j < length s.tasks) in subst L (sym h.sched.current ∙ r) h.sched.table.current
 caller_within k s (Placing task list b) (Some i) r = let L : Option ℕ → Type 0 = λ o. IfSome o (λ j. j < length s.tasks) in subst L (sym b.sched.current ∙ r) b.sched.table.current
 
-module _ (k : Kernel) (q : Exchange) (caller : Option ℕ) (o : ℕ) (a : Access) (calls : IsCaller k caller) (stores : (s : State) (d : Option Decider) → queues.StandsFor k.queues d s → IfSome caller (λ i. i < length s.tasks) → queues.StandsFor q d (with_object o (object_after caller a (object_at s o)) s)) where
+module _ (k : Machine) (q : Exchange) (caller : Option ℕ) (o : ℕ) (a : Access) (calls : IsCaller k caller) (stores : (s : State) (d : Option Decider) → queues.StandsFor k.queues d s → IfSome caller (λ i. i < length s.tasks) → queues.StandsFor q d (with_object o (object_after caller a (object_at s o)) s)) where
   abbrev stored : State → State
   stored s = with_object o (object_after caller a (object_at s o)) s
 
@@ -91,7 +92,7 @@ module _ (k : Kernel) (q : Exchange) (caller : Option ℕ) (o : ℕ) (a : Access
   stored_some h = let there = stored_any (h.0).log h.0 (record { stands = h.1; log = refl }) in (stored h.0, there.stands)
 
   -- and one waiter is woken, or nobody
-  module _ (new : Kernel) (log : List Event) (s : State) where
+  module _ (new : Machine) (log : List Event) (s : State) where
     pub fulfilled : (list : WaitList) → Some list ≡ list_woken caller o a → At new log (wake_best list (with_object o (object_after caller a (object_at s o)) s)) → At new log (fulfil caller o a s)
     unfolding fulfil
     fulfilled list is h = subst (λ (x : Option WaitList). At new log (for_one wake_best x (stored s))) is h
@@ -110,7 +111,7 @@ module _ (k : Kernel) (q : Exchange) (caller : Option ℕ) (o : ℕ) (a : Access
 
 -- ---- it is done where it is possible
 
-module _ (new : Kernel) (log : List Event) (s : State) (caller : Option ℕ) (o : ℕ) (a : Access) where
+module _ (new : Machine) (log : List Event) (s : State) (caller : Option ℕ) (o : ℕ) (a : Access) where
   pub attempted : possible s o a ≡ true → At new log (fulfil caller o a s) → At new log (attempt caller o a s)
   unfolding attempt
   attempted t h = rw t h

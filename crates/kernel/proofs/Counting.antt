@@ -1,6 +1,6 @@
 -- No op changes how many steps are done: only the step itself counts.
 use Rattle.std.proofs.Common.{◌≡◌, ◌+◌, ◌-◌, ◌||◌, ◌&&◌, ℕ, zero, suc, true, eqb, List, ◌++◌, Option, Some, None, refl, sym, ◌∙◌, length}
-use Rattle.std.specs.Option.{option_eq, is_some}
+use Rattle.std.specs.Option.{option_eq}
 use Rattle.model.specs.declared.op.Op.{Op}
 use Rattle.model.specs.declared.op.Op.TheVariants.{Work, Delay, DelayUntil, Yield, Time, Mark, Expect, Repeat, End, Await, Do, GiveMutex, MessagesWaiting, SpacesAvailable, SetBits, ClearBits, GetBits, WaitBits, Suspend, Resume, SuspendAll, ResumeAll}
 use Rattle.model.specs.declared.op.Access.{Access}
@@ -26,9 +26,9 @@ use Rattle.model.specs.Step.{is_ended, judge, act, act_unless, misuse, act_if, a
 use Rattle.model.proofs.Sorting.{by_test}
 use Rattle.soundness.proofs.Passing.{lasts-final_bits}
 use Rattle.model.specs.declared.event.Event.{Event}
-use Rattle.kernel.specs.declared.kernel.Kernel.{Kernel}
-use Rattle.kernel.specs.StandsFor.{Stands, AtAny}
-use Rattle.kernel.proofs.Either.{steps_are}
+use Rattle.machine.specs.declared.machine.Machine.{Machine}
+use Rattle.machine.specs.StandsFor.{Stands, AtAny}
+use Rattle.machine.proofs.Either.{steps_are}
 use Rattle.soundness.proofs.Frames.{keeps-choose, keeps-yield_now, keeps-preempt, keeps-slice, keeps-settle, keeps-unless_held, keeps-all_ready, keeps-wake_due, keeps-go_to, keeps-answer, keeps-use_up, keeps-delay, keeps-delay_until, keeps-open_loop, keeps-close_turn, keeps-set_deadline, keeps-inherit, keeps-give_mutex, keeps-try, keeps-do_now, keeps-set, keeps-clear, keeps-answer_bits, keeps-call_suspend, keeps-call_resume, keeps-interrupt, keeps-before_step}
 
 steps-unlock : (s : State) → (unlock s).steps ≡ s.steps
@@ -194,6 +194,6 @@ steps_acted app handlers s =
     (keeps-unless_held settle acted keeps-settle).steps ∙ steps-act_current app begun.current begun ∙ (keeps-before_step app handlers s).steps
 
 -- The kernel has the number of before, then.
-pub steps_still : (app : Application) (handlers : List ℕ) (s : State) (k new : Kernel) (log : List Event) → Stands k s
+pub steps_still : (app : Application) (handlers : List ℕ) (s : State) (k new : Machine) (log : List Event) → Stands k s
     → AtAny new log (unless_held settle (act_current app (before_step app handlers s).current (before_step app handlers s))) → new.steps ≡ k.steps
 steps_still app handlers s k new log h a = steps_are new _ a.stands ∙ steps_acted app handlers s ∙ sym (steps_are k s h)

@@ -1,7 +1,7 @@
 -- Where a call decides to wait, and is placed: what that makes of the states that the kernel stands for.
 use Rattle.std.proofs.Common.{◌≡◌, ◌≢◌, ◌<◌, ◌+◌, ◌||◌, ℕ, Bool, true, false, eqb, set, List, [], length, get_or, get_or-set_same, get_or-set_other, Option, Some, None, refl, ap, sym, subst, ◌∙◌, arith}
 use Rattle.std.specs.Prelude.{if◌then◌else◌}
-use Rattle.std.specs.Option.{IfSome, is_some}
+use Rattle.std.specs.Option.{IfSome}
 use Rattle.std.proofs.Math.ListN.{length-set}
 use Rattle.model.specs.declared.call.CallProgress.{CallProgress}
 use Rattle.model.specs.declared.call.Phase.{Phase}
@@ -37,13 +37,13 @@ use Rattle.groups.proofs.Standing as on_groups
 use Rattle.groups.proofs.Kept as bits_kept
 use Rattle.groups.proofs.Kept.{ready_waits_not}
 use Rattle.groups.proofs.Elsewhere as bits_elsewhere
-use Rattle.kernel.specs.declared.kernel.Kernel.{Kernel}
-use Rattle.kernel.specs.StandsFor.{StandsBefore, At, AtAny, decider, progress_in, with_progress}
-use Rattle.kernel.specs.StandsFor.Stands.{Placing}
+use Rattle.machine.specs.declared.machine.Machine.{Machine}
+use Rattle.machine.specs.StandsFor.{StandsBefore, At, AtAny, decider, progress_in, with_progress}
+use Rattle.machine.specs.StandsFor.Stands.{Placing}
 use Rattle.kernel.specs.Can.{CanDecide, CanLeave}
-use Rattle.kernel.proofs.Parts.{clock-same, progress-set, same_parts, same_alike}
-use Rattle.kernel.proofs.Acting.{within}
-use Rattle.kernel.proofs.Waits.{recalled}
+use Rattle.machine.proofs.Parts.{clock-same, progress-set, same_parts, same_alike}
+use Rattle.machine.proofs.Acting.{within}
+use Rattle.machine.proofs.Continuing.{recalled}
 
 pub not_held : (n : ℕ) (b : Bool) (depth : ℕ) → depth ≡ n + (if b then 1 else 0) → depth ≡ 0 → b ≡ false
 not_held n true depth e z = absurd (omega (arith, e, z))
@@ -153,7 +153,7 @@ module _ (s : State) (i : ℕ) (list : WaitList) (object : ℕ) (l : i < length 
       (on_clock.stands_before_kept t begun decided i i (call_at s i).deadline last one begun_within refl refl refl (record { key = refl; wake_time = refl }) table)
 
 -- The queue is locked, and the scheduler held.
-module _ (k : Kernel) (log : List Event) (s : State) (h : At k log s) (i o : ℕ) (c : CanDecide k i) (v : Schedule) (q : Exchange)
+module _ (k : Machine) (log : List Event) (s : State) (h : At k log s) (i o : ℕ) (c : CanDecide k i) (v : Schedule) (q : Exchange)
     (calm : IsCalm k.sched) (holds : s.call_hold ≡ false → sched.StandsFor v (record s { call_hold = true })) (held : v ≡ record k.sched { depth = k.sched.depth + 1 })
     (locks : ((j : ℕ) → wait_if_awake (status_at s j) ≡ None) → queues.StandsFor q None (record s { locked = Some o })) where
   l : i < length s.tasks
@@ -240,7 +240,7 @@ module _ (k : Kernel) (log : List Event) (s : State) (h : At k log s) (i o : ℕ
     pub waits : AtAny (with_progress i p (record k { sched = v; queues = q; wait_list = next })) log (lock i o Place (wait_in i (list_for o a) s))
     unfolding list after
     waits =
-        let new : Kernel = with_progress i p (record k { sched = v; queues = q; wait_list = next }) in
+        let new : Machine = with_progress i p (record k { sched = v; queues = q; wait_list = next }) in
         let kept = begun_free s i list o l in
         record {
           stands = Placing i list (record {
@@ -295,7 +295,7 @@ module _ (k : Kernel) (log : List Event) (s : State) (h : At k log s) (i o : ℕ
           log_then = h.log ∙ sym (begun_free s i list o l).6
 
 -- The call goes on at once, or it waits.
-module _ (new : Kernel) (log : List Event) (s : State) (i o : ℕ) (a : Access) where
+module _ (new : Machine) (log : List Event) (s : State) (i o : ℕ) (a : Access) where
   pub decided_not : (possible s o a || is_expired s i) ≡ true → AtAny new log (lock i o Unlock s) → AtAny new log (decide i o a s)
   unfolding decide
   decided_not t h = rw t h
@@ -306,7 +306,7 @@ module _ (new : Kernel) (log : List Event) (s : State) (i o : ℕ) (a : Access) 
 
 -- ---- a task is placed
 
-module _ (k : Kernel) (log : List Event) (s : State) (i : ℕ) (list : WaitList) (b : StandsBefore i list k s) (told : log ≡ s.log) (v : Schedule) (q : Exchange) (t : Timeline) (new : Kernel)
+module _ (k : Machine) (log : List Event) (s : State) (i : ℕ) (list : WaitList) (b : StandsBefore i list k s) (told : log ≡ s.log) (v : Schedule) (q : Exchange) (t : Timeline) (new : Machine)
     (on : sched.StandsFor v s) (there : queues.StandsFor q None s) (awake : clock.StandsFor t s)
     (is : new ≡ with_progress i (record (progress_in k.progress i) { call = record (progress_in k.progress i).call { phase = Unlock } }) (record k { sched = v; queues = q; clock = t })) where
   l_then : i < length s.tasks
@@ -337,7 +337,7 @@ module _ (k : Kernel) (log : List Event) (s : State) (i : ℕ) (list : WaitList)
       let one : p ≡ record (progress_in k.progress i) { call = record (progress_in k.progress i).call { phase = Unlock } } = ap (λ (x : Progress). record x { call = record x.call { phase = Unlock } }) (sym (b.progress i)) in
       let is_new : new ≡ with_progress i p (record k { sched = v; queues = q; clock = t }) = is ∙ ap (λ (x : Progress). with_progress i x (record k { sched = v; queues = q; clock = t })) (sym one) in
       let table : IsTable later = kept_table in
-      subst (λ (x : Kernel). At x log later) (sym is_new) (record {
+      subst (λ (x : Machine). At x log later) (sym is_new) (record {
         stands = record {
           sched = on_sched.stands_kept v s later i u on l_then refl refl refl refl refl refl table refl;
           rest = record {
@@ -360,7 +360,7 @@ module _ (k : Kernel) (log : List Event) (s : State) (i : ℕ) (list : WaitList)
 
 -- ---- a hold begins, or ends
 
-pub hold_at : (b : Bool) (k : Kernel) (log : List Event) (s : State) → At k log s → (v : Schedule) → sched.StandsFor v (record s { call_hold = b }) → At (record k { sched = v }) log (record s { call_hold = b })
+pub hold_at : (b : Bool) (k : Machine) (log : List Event) (s : State) → At k log s → (v : Schedule) → sched.StandsFor v (record s { call_hold = b }) → At (record k { sched = v }) log (record s { call_hold = b })
 hold_at b k log s h v on =
     let new : State = record s { call_hold = b } in
     let same : SameWaits s new = same_parts s new refl refl refl in
@@ -384,7 +384,7 @@ hold_at b k log s h v on =
     }
 
 -- The task's call has let go of the scheduler, and goes on with this phase.
-module _ (k new : Kernel) (log : List Event) (s : State) (h : At k log s) (i : ℕ) (c : CanLeave k i) (w : Schedule) (unhold : s.call_hold ≡ true → sched.StandsFor w (record s { call_hold = false })) (runs : w.current ≡ k.sched.current)
+module _ (k new : Machine) (log : List Event) (s : State) (h : At k log s) (i : ℕ) (c : CanLeave k i) (w : Schedule) (unhold : s.call_hold ≡ true → sched.StandsFor w (record s { call_hold = false })) (runs : w.current ≡ k.sched.current)
     (v : Progress) (view : v ≡ progress_in k.progress i) (phase : Phase) (off : phase ≢ Place) (is : new ≡ with_progress i (record (progress_in k.progress i) { call = record v.call { phase = phase; waits = false } }) (record k { sched = w })) where
   same : v ≡ progress_at s i
   same = view ∙ h.stands.rest.progress i

@@ -1,5 +1,5 @@
 -- When a run ends.
-use Rattle.std.proofs.Common.{◌≡◌, ◌+◌, ◌<◌, ◌≤◌, ℕ, suc, Bool, true, false, not, ◌&&◌, ◌||◌, eqb, leb, ltb, List, [], ◌∷◌, ◌++◌, length, get_or, Option, Some, None, refl, ap, sym, ◌∙◌, arith}
+use Rattle.std.proofs.Common.{◌≡◌, ◌+◌, ◌<◌, ◌≤◌, ℕ, suc, Bool, true, false, not, ◌&&◌, ◌||◌, eqb, leb, ltb, List, [], ◌∷◌, length, get_or, Option, Some, None, refl, ap, sym, ◌∙◌, arith}
 use Rattle.std.proofs.lemmas.Bool.Decides.{nat_tests}
 use Rattle.std.specs.List.{list_all, list_any, filter, AllByRecursion}
 use Rattle.std.specs.Prelude.{IsTrue, ◌↔◌, if◌then◌else◌}
@@ -9,16 +9,16 @@ use Rattle.model.specs.declared.event.Event.{Event}
 use Rattle.model.specs.declared.event.End.{End}
 use Rattle.model.specs.declared.event.End.TheVariants.{Pass, Ticks, Steps, Stuck}
 use Rattle.model.specs.Application.{Application, Limits}
-use Rattle.model.specs.State.{State, Task, Status, Ready, Awake, Waiting, Asleep, WaitingForBits, Suspended, Ended, wake_time_of, task_at, no_task, printed, for_each}
+use Rattle.model.specs.State.{State, Task, Status, Ready, Awake, Waiting, Asleep, WaitingForBits, Suspended, Ended, wake_time_of, task_at, no_task, for_each}
 use Rattle.model.specs.Order.{Key, Entry, key, keyed, list_by, in_order, tasks_of}
-use Rattle.model.specs.Switching.{ready_key, settle, unless_held, write}
+use Rattle.model.specs.Switching.{ready_key, settle, unless_held}
 use Rattle.model.specs.declared.call.WaitList.{WaitList}
 use Rattle.model.specs.Waiting.{same_list, wait_key}
 use Rattle.model.specs.Time.{delayed_key}
 use Rattle.model.specs.Handlers.{inject}
 use Rattle.model.specs.Step.{is_ended, act_current, before_step, step}
 use Rattle.model.specs.Run.{are_all_ended, is_interrupt_to_come, is_stuck, end_of}
-use Rattle.model.specs.Invariant.{IsTable, wait_of}
+use Rattle.model.specs.Invariant.{wait_of}
 use Rattle.model.proofs.Sorting.{length-in_order, by_test}
 use Rattle.model.proofs.Lists.{eqb-apart, eqb-refl, HasKey, list_has}
 use Rattle.lists.specs.Lists.{first_of, has_node}
@@ -36,18 +36,11 @@ use Rattle.groups.specs.StandsFor.{bits_wait}
 use Rattle.kernel.specs.Blocked.{is_blocked}
 use Rattle.kernel.specs.Over.{is_over}
 use Rattle.model.specs.Suspension.{can_resume}
-use Rattle.groups.proofs.Standing as on_groups
-use Rattle.groups.proofs.Kept as bits_kept
-use Rattle.kernel.specs.declared.kernel.Kernel.{Kernel}
-use Rattle.kernel.specs.StandsFor.{StandsFor, StandsBefore, Stands, AtAny, DoesAny, decider}
-use Rattle.kernel.specs.Logged.{Logged}
-use Rattle.kernel.specs.Can.{StandsForSome}
-use Rattle.kernel.specs.StandsFor.Stands.{Placed, Placing}
-use Rattle.objects.specs.Queues.{SameWaits}
-use Rattle.objects.proofs.Kept.{stands_same}
-use Rattle.objects.proofs.Awake.{at_locked_same}
-use Rattle.kernel.proofs.Parts.{clock-same, same_parts}
-use Rattle.kernel.proofs.Either.{steps_are, now_is}
+use Rattle.machine.specs.declared.machine.Machine.{Machine}
+use Rattle.machine.specs.StandsFor.{StandsFor, StandsBefore, Stands, AtAny, decider}
+use Rattle.machine.specs.StandsFor.Stands.{Placed, Placing}
+use Rattle.machine.proofs.Either.{steps_are}
+use Rattle.machine.proofs.Renewed.{renewed}
 
 leb-yes : (a b : ℕ) → a ≤ b → leb a b ≡ true
 leb-yes a b e = grind (arith, nat_tests)
@@ -149,7 +142,7 @@ abbrev is_quiet : State → Bool
 is_quiet s = eqb (length (keyed delayed_key 0 s.tasks)) 0
 
 -- What the parts of the kernel say of an end.
-module _ (k : Kernel) (s : State) (h : StandsFor k s) where
+module _ (k : Machine) (s : State) (h : StandsFor k s) where
   over_is : not (is_some (first_of (lined_up k.sched))) && is_quiet s && not (list_any is_blocked s.tasks) ≡ are_all_ended s
   over_is = rw (none_first (lined_up k.sched), h.sched.ready, length-ready s.tasks) (over 0 s.tasks)
 
@@ -182,7 +175,7 @@ put_in_some : (e : ℕ × ℕ) (es : List (ℕ × ℕ)) → insert_by_priority e
 put_in_some e [] h = absurd (cc)
 put_in_some e (f ∷ fs) h = by_test (ltb f.1 e.1) (λ t. let g = rw t at h in absurd (cc)) (λ t. let g = rw t at h in absurd (cc))
 
-waits_before : (k : Kernel) (s : State) (task : ℕ) (list : WaitList) → StandsBefore task list k s → false ≡ are_all_ended s
+waits_before : (k : Machine) (s : State) (task : ℕ) (list : WaitList) → StandsBefore task list k s → false ≡ are_all_ended s
 waits_before k s task list b = by_test (are_all_ended s)
     (λ t.
     let none : standing s list ≡ [] = ap in_order (standing_none list 0 s.tasks t) in
@@ -191,17 +184,17 @@ waits_before k s task list b = by_test (are_all_ended s)
     absurd (put_in_some (task, (task_at s task).priority) (waiting_in k.queues.waiting list) (rw own at joined)))
     (λ t. sym t)
 
-ready_before : (k : Kernel) (s : State) (task : ℕ) (list : WaitList) → StandsBefore task list k s → is_some (first_of (lined_up k.sched)) ≡ true
+ready_before : (k : Machine) (s : State) (task : ℕ) (list : WaitList) → StandsBefore task list k s → is_some (first_of (lined_up k.sched)) ≡ true
 ready_before k s task list b = by_entries (lined_up k.sched) (ready_if_listed task k.sched b.sched.still) where
   by_entries : (es : List (ℕ × ℕ)) → has_node task es ≡ true → is_some (first_of es) ≡ true
   by_entries [] t = absurd (cc)
   by_entries (e ∷ es) t = refl
 
-runs_before : (app : Application) (k : Kernel) (s : State) (task : ℕ) (list : WaitList) → StandsBefore task list k s → false ≡ is_stuck app s
+runs_before : (app : Application) (k : Machine) (s : State) (task : ℕ) (list : WaitList) → StandsBefore task list k s → false ≡ is_stuck app s
 runs_before app k s task list b = rw b.current refl
 
 -- Whether or not a task is still to be placed.
-module _ (k : Kernel) (s : State) (ready q : Bool) (r : ready ≡ is_some (first_of (lined_up k.sched))) (is : IsTrue q ↔ (k.clock.delayed_list ≡ [])) where
+module _ (k : Machine) (s : State) (ready q : Bool) (r : ready ≡ is_some (first_of (lined_up k.sched))) (is : IsTrue q ↔ (k.clock.delayed_list ≡ [])) where
   pub over_by : Stands k s → ready ≡ false → q ≡ true → (w : Bool) → (StandsFor k s → w ≡ list_any is_blocked s.tasks) → not w ≡ are_all_ended s
   over_by (Placed h) none still w waiting = let e = ended_if k s h ready q w r is (waiting h) in rw (none, still) at e
   over_by (Placing task list b) none still w waiting = let some : ready ≡ true = r ∙ ready_before k s task list b in absurd (cc)
@@ -210,11 +203,11 @@ module _ (k : Kernel) (s : State) (ready q : Bool) (r : ready ≡ is_some (first
   on_by (Placed h) on = let e = ended_if k s h ready q (list_any is_blocked s.tasks) r is refl in sym (rw on at e)
   on_by (Placing task list b) on = sym (waits_before k s task list b)
 
-pub not_over_by : (k : Kernel) (s : State) (ready : Bool) → ready ≡ is_some (first_of (lined_up k.sched)) → Stands k s → ready ≡ true → are_all_ended s ≡ false
+pub not_over_by : (k : Machine) (s : State) (ready : Bool) → ready ≡ is_some (first_of (lined_up k.sched)) → Stands k s → ready ≡ true → are_all_ended s ≡ false
 not_over_by k s ready r (Placed h) some = sym (not_over k s h (sym r ∙ some))
 not_over_by k s ready r (Placing task list b) some = sym (waits_before k s task list b)
 
-pub stuck_by : (app : Application) (k : Kernel) (s : State) (idle q later : Bool) → Stands k s → idle ≡ is_none k.sched.current → (IsTrue q ↔ (k.clock.delayed_list ≡ [])) → later ≡ is_interrupt_to_come app s → idle && q && not later ≡ is_stuck app s
+pub stuck_by : (app : Application) (k : Machine) (s : State) (idle q later : Bool) → Stands k s → idle ≡ is_none k.sched.current → (IsTrue q ↔ (k.clock.delayed_list ≡ [])) → later ≡ is_interrupt_to_come app s → idle && q && not later ≡ is_stuck app s
 stuck_by app k s idle q later (Placed h) n is come = is_stuck_by k s h idle q later app n is come
 stuck_by app k s idle q later (Placing task list b) n is come = let e : idle ≡ false = n ∙ ap is_none (b.sched.current ∙ b.current) in rw e (runs_before app k s task list b)
 
@@ -277,78 +270,14 @@ module _ (app : Application) (limits : Limits) (s : State) where
 
 -- A step begins with no event told, and ends with one step more.
 
-begun_before : (k : Kernel) (s : State) (task : ℕ) (list : WaitList) → StandsBefore task list k s → (log : List Event) (steps : ℕ) (n : ℕ) → n ≡ steps → StandsBefore task list (record k { steps = n }) (record s { log = log; steps = steps })
-begun_before k s task list b log steps n e =
-    let new : State = record s { log = log; steps = steps } in
-    let table : IsTable new = record { tickets = b.sched.table.tickets; few = b.sched.table.few; current = b.sched.table.current; holders = b.sched.table.holders } in
-    let same : SameWaits s new = same_parts s new refl refl refl in
-    record {
-      sched = record { ready = b.sched.ready; still = b.sched.still; current = b.sched.current; priorities = b.sched.priorities; base_priorities = b.sched.base_priorities; depth = b.sched.depth; suspended = b.sched.suspended; table = table };
-      clock = record { now = b.clock.now; age = b.clock.age; held = b.clock.held; sorted = b.clock.sorted; once = b.clock.once; delayed = b.clock.delayed; awake = b.clock.awake; table = table };
-      queues = stands_same s new same k.queues (Some (decider task list s)) b.queues table;
-      groups = on_groups.stands_same k.groups s new b.groups (bits_kept.same_parts s new refl refl) table;
-      suspensions = b.suspensions;
-      awake = at_locked_same (Some (decider task list s)) s new same b.awake;
-      progress = b.progress;
-      full = b.full;
-      steps = e;
-      stopped = b.stopped;
-      current = b.current;
-      held = b.held;
-      phase = b.phase;
-      wait_list = b.wait_list;
-      placed = b.placed;
-    }
-
-begun_at : (k : Kernel) (s : State) → StandsFor k s → (log : List Event) (steps : ℕ) (n : ℕ) → n ≡ steps → StandsFor (record k { steps = n }) (record s { log = log; steps = steps })
-begun_at k s h log steps n e =
-    let new : State = record s { log = log; steps = steps } in
-    let table : IsTable new = record { tickets = h.sched.table.tickets; few = h.sched.table.few; current = h.sched.table.current; holders = h.sched.table.holders } in
-    let same : SameWaits s new = same_parts s new refl refl refl in
-    record {
-      sched = record { ready = h.sched.ready; current = h.sched.current; priorities = h.sched.priorities; base_priorities = h.sched.base_priorities; depth = h.sched.depth; suspended = h.sched.suspended; table = table };
-      rest = record {
-        progress = h.rest.progress;
-        full = h.rest.full;
-        clock = clock-same k.clock s new h.rest.clock refl refl refl table;
-        queues = stands_same s new same k.queues None h.rest.queues table;
-        groups = on_groups.stands_same k.groups s new h.rest.groups (bits_kept.same_parts s new refl refl) table;
-        suspensions = h.rest.suspensions;
-        awake = at_locked_same None s new same h.rest.awake;
-        steps = e;
-        stopped = h.rest.stopped;
-        placed = h.rest.placed;
-      };
-    }
-
--- steps and events are another's
-renewed : (k : Kernel) (s : State) → Stands k s → (log : List Event) (steps : ℕ) (n : ℕ) → n ≡ steps → Stands (record k { steps = n }) (record s { log = log; steps = steps })
-renewed k s (Placed h) log steps n e = Placed (begun_at k s h log steps n e)
-renewed k s (Placing task list b) log steps n e = Placing task list (begun_before k s task list b log steps n e)
-
--- an event is told
-pub any_written : (k : Kernel) (log new_log : List Event) (s : State) (e : Event) → AtAny k log s → new_log ≡ log ++ e ∷ [] → e.step ≡ k.steps → e.tick ≡ printed k.clock.now → AtAny k new_log (write e.what s)
-any_written k log new_log s e h told step tick = record {
-  stands = renewed k s h.stands (write e.what s).log s.steps k.steps (steps_are k s h.stands);
-  log = told ∙ rw h.log (ap (λ (x : Event). s.log ++ x ∷ []) (event_same e s.steps (printed s.time) (step ∙ steps_are k s h.stands) (tick ∙ ap printed (now_is k s h.stands))));
-} where
-  event_same : (e : Event) (n m : ℕ) → e.step ≡ n → e.tick ≡ m → e ≡ record { step = n; tick = m; what = e.what }
-  event_same e n m a b = ap (λ (x : ℕ). record e { step = x }) a ∙ ap (λ (x : ℕ). record e { step = n; tick = x }) b
-
--- It stands for some state after a deed, as before it.
-pub stood_after : (count : ℕ) (old new : Kernel) (old_log new_log : Logged) (deed : State → State) → StandsForSome old → DoesAny count old old_log new new_log deed → StandsForSome new
-stood_after count old new old_log new_log deed h d =
-    let s : State = record (h.0) { log = old_log.told } in
-    (deed s, (d.at s (record { stands = renewed old h.0 h.1 old_log.told (h.0).steps old.steps (steps_are old h.0 h.1); log = refl })).stands)
-
-pub begun : (k : Kernel) (log : List Event) (s : State) → Stands k s → log ≡ [] → AtAny k log (record s { log = [] })
+pub begun : (k : Machine) (log : List Event) (s : State) → Stands k s → log ≡ [] → AtAny k log (record s { log = [] })
 begun k log s h e = record { stands = renewed k s h [] s.steps k.steps (steps_are k s h); log = e }
 
-pub handled_before : (app : Application) (handlers : List ℕ) (s : State) (k : Kernel) (log : List Event) → AtAny k log (for_each (inject app) handlers (record s { log = [] })) → AtAny k log (before_step app handlers s)
+pub handled_before : (app : Application) (handlers : List ℕ) (s : State) (k : Machine) (log : List Event) → AtAny k log (for_each (inject app) handlers (record s { log = [] })) → AtAny k log (before_step app handlers s)
 unfolding before_step
 handled_before app handlers s k log h = h
 
-pub stepped : (app : Application) (handlers : List ℕ) (s : State) (k : Kernel) (log : List Event) (n : ℕ) → n ≡ s.steps → AtAny k log (unless_held settle (act_current app (before_step app handlers s).current (before_step app handlers s))) → Stands (record k { steps = n + 1 }) (step app handlers s)
+pub stepped : (app : Application) (handlers : List ℕ) (s : State) (k : Machine) (log : List Event) (n : ℕ) → n ≡ s.steps → AtAny k log (unless_held settle (act_current app (before_step app handlers s).current (before_step app handlers s))) → Stands (record k { steps = n + 1 }) (step app handlers s)
 unfolding step
 stepped app handlers s k log n e a =
     let new : State = unless_held settle (act_current app (before_step app handlers s).current (before_step app handlers s)) in

@@ -42,27 +42,28 @@ use Rattle.groups.specs.EventGroups.{EventGroups}
 use Rattle.groups.specs.StandsFor as groups
 use Rattle.groups.proofs.Standing as on_groups
 use Rattle.groups.proofs.Kept.{ready_waits_not}
-use Rattle.kernel.specs.declared.kernel.Kernel.{Kernel}
-use Rattle.kernel.specs.StandsFor.{StandsFor, Stands, At, AtAny, DoesAny, Moves, progress_in, with_progress}
-use Rattle.kernel.specs.StandsFor.Stands.{Placed, Placing}
-use Rattle.kernel.specs.Logged.{Logged}
-use Rattle.kernel.specs.Keeping.{keep_in, kept_by}
-use Rattle.kernel.specs.Can.{AreThere, AreToWake, CanDecide, IsAhead, IsShort}
-use Rattle.kernel.proofs.Parts.{apart, clock-same, not_for_bits, progress-same, same_parts}
-use Rattle.kernel.proofs.Acting.{within, changed}
-use Rattle.kernel.proofs.Waits.{not_placing, recalled}
+use Rattle.machine.specs.declared.machine.Machine.{Machine}
+use Rattle.machine.specs.StandsFor.{StandsFor, Stands, At, AtAny, DoesAny, Moves, progress_in, with_progress}
+use Rattle.machine.specs.StandsFor.Stands.{Placed, Placing}
+use Rattle.machine.specs.Logged.{Logged}
+use Rattle.machine.specs.Keeping.{keep_in, kept_by}
+use Rattle.machine.specs.Can.{AreThere, AreToWake, IsAhead}
+use Rattle.kernel.specs.Can.{CanDecide, IsShort}
+use Rattle.machine.proofs.Parts.{apart, clock-same, not_for_bits, progress-same, same_parts}
+use Rattle.machine.proofs.Acting.{within, changed}
+use Rattle.machine.proofs.Continuing.{not_placing, recalled}
 use Rattle.kernel.proofs.Deciding.{not_held, hold_at}
-use Rattle.kernel.proofs.Either.{progress_is}
-use Rattle.kernel.proofs.Waking.{progress-all_ready, log-all_ready}
+use Rattle.machine.proofs.Either.{progress_is}
+use Rattle.machine.proofs.Waking.{progress-all_ready, log-all_ready}
 
 -- ---- the bits of a group
 
 -- The groups stand for the state, whether or not a task is still to be placed.
-pub groups_stand : (k : Kernel) (s : State) → Stands k s → groups.StandsFor k.groups s
+pub groups_stand : (k : Machine) (s : State) → Stands k s → groups.StandsFor k.groups s
 groups_stand k s (Placed h) = h.rest.groups
 groups_stand k s (Placing task list b) = b.groups
 
-module _ (k : Kernel) (log : List Event) (s : State) (h : At k log s) (group : ℕ) (g : EventGroups) where
+module _ (k : Machine) (log : List Event) (s : State) (h : At k log s) (group : ℕ) (g : EventGroups) where
   -- A group has other bits.
   pub put_at : (bits : ℕ) → groups.StandsFor g (with_bits group bits s) → At (record k { groups = g }) log (with_bits group bits s)
   put_at bits there =
@@ -107,13 +108,13 @@ module _ (k : Kernel) (log : List Event) (s : State) (h : At k log s) (group : �
 -- ---- a call holds the scheduler
 
 -- where nothing is held
-pub held_then : (k : Kernel) (log : List Event) (s : State) → At k log s → k.sched.depth ≡ 0 → (v : Schedule) → (s.call_hold ≡ false → sched.StandsFor v (record s { call_hold = true })) → At (record k { sched = v }) log (record s { call_hold = true })
+pub held_then : (k : Machine) (log : List Event) (s : State) → At k log s → k.sched.depth ≡ 0 → (v : Schedule) → (s.call_hold ≡ false → sched.StandsFor v (record s { call_hold = true })) → At (record k { sched = v }) log (record s { call_hold = true })
 held_then k log s h free v holds = hold_at true k log s h v (holds (not_held s.suspensions s.call_hold k.sched.depth h.stands.sched.depth free))
 
 -- ---- a task begins to wait for bits
 
 -- A call that needs not wait answers, and another waits.
-module _ (app : Application) (new : Kernel) (log : List Event) (s : State) (i group : ℕ) (c : Condition) (ticks : Option ℕ) where
+module _ (app : Application) (new : Machine) (log : List Event) (s : State) (i group : ℕ) (c : Condition) (ticks : Option ℕ) where
   pub checked : (is_met (bits_at s group) c || option_eq eqb ticks (Some 0)) ≡ true → At new log (answer_bits app i group c s) → At new log (check app i group c ticks s)
   unfolding check
   checked t h = rw t h
@@ -134,14 +135,14 @@ ahead now None short some = tt
 ahead now (Some zero) short some = absurd (some refl)
 ahead now (Some (suc n)) short some = (omega arith, omega arith)
 
-module _ (k : Kernel) (log : List Event) (s : State) (h : At k log s) (i : ℕ) (r : k.sched.current ≡ Some i) (on : schedule.is_ready k.sched i ≡ true) where
+module _ (k : Machine) (log : List Event) (s : State) (h : At k log s) (i : ℕ) (r : k.sched.current ≡ Some i) (on : schedule.is_ready k.sched i ≡ true) where
   ready : is_ready s i ≡ true
   ready = sym (on_sched.ready_same k.sched s i h.stands.sched) ∙ on
 
   l : i < length s.tasks
   l = within k log s h i r
 
-  wanted_at : (new : Kernel) (c : Condition) → new ≡ with_progress i (record (progress_in k.progress i) { call = record (progress_in k.progress i).call { wants = Some c } }) k → At new log (want i c s)
+  wanted_at : (new : Machine) (c : Condition) → new ≡ with_progress i (record (progress_in k.progress i) { call = record (progress_in k.progress i).call { wants = Some c } }) k → At new log (want i c s)
   wanted_at new c is =
       recalled k new log s h i r (record (progress_in k.progress i).call { wants = Some c }) (record (call_at s i) { wants = Some c }) is
       (ap (λ (p : Progress). record p.call { wants = Some c }) (h.stands.rest.progress i)) (not_placing k new log s h i r) (not_for_bits s i ready)
@@ -184,7 +185,7 @@ module _ (k : Kernel) (log : List Event) (s : State) (h : At k log s) (i : ℕ) 
       }
 
 -- The running task's call holds the scheduler, has its deadline, and wants the bits.
-pub record Wanting (new : Kernel) (log : List Event) (timed : State) (i : ℕ) (condition : Condition) : Type 0 where
+pub record Wanting (new : Machine) (log : List Event) (timed : State) (i : ℕ) (condition : Condition) : Type 0 where
   pub at : At new log (want i condition timed)
   pub within : i < length timed.tasks
   pub groups : groups.StandsFor new.groups timed
@@ -195,9 +196,9 @@ pub record Wanting (new : Kernel) (log : List Event) (timed : State) (i : ℕ) (
   pub free : place_of new.groups.waiting i ≡ None
   pub awake : is_asleep new.clock i ≡ false
 
-pub wanting : (k : Kernel) (log : List Event) (s : State) → At k log s → (i : ℕ) → CanDecide k i → (v : Schedule) → IsCalm k.sched → v ≡ schedule.hold k.sched → (s.call_hold ≡ false → sched.StandsFor v (record s { call_hold = true }))
-    → (timed : Kernel) (ticks : Option ℕ) → Moves (record k { sched = v }) timed (set_deadline i ticks) → timed.sched ≡ v
-    → (new : Kernel) (condition : Condition) → new ≡ with_progress i (record (progress_in timed.progress i) { call = record (progress_in timed.progress i).call { wants = Some condition } }) timed
+pub wanting : (k : Machine) (log : List Event) (s : State) → At k log s → (i : ℕ) → CanDecide k i → (v : Schedule) → IsCalm k.sched → v ≡ schedule.hold k.sched → (s.call_hold ≡ false → sched.StandsFor v (record s { call_hold = true }))
+    → (timed : Machine) (ticks : Option ℕ) → Moves (record k { sched = v }) timed (set_deadline i ticks) → timed.sched ≡ v
+    → (new : Machine) (condition : Condition) → new ≡ with_progress i (record (progress_in timed.progress i) { call = record (progress_in timed.progress i).call { wants = Some condition } }) timed
     → Wanting new log (set_deadline i ticks (record s { call_hold = true })) i condition
 wanting k log s h i c v calm held holds timed ticks times kept new condition is =
     let due : State = set_deadline i ticks (record s { call_hold = true }) in
@@ -206,13 +207,13 @@ wanting k log s h i c v calm held holds timed ticks times kept new condition is 
     let ready : schedule.is_ready timed.sched i ≡ true = ap (λ (w : Schedule). schedule.is_ready w i) before ∙ c.runs.ready in
     let there : At timed log due = times log (record s { call_hold = true }) (held_then k log s h c.depth v holds) in
     let wants : At new log (want i condition due) = wanted_at timed log due there i runs ready new condition is in
-    let after : new.sched ≡ timed.sched = ap (λ (x : Kernel). x.sched) is in
+    let after : new.sched ≡ timed.sched = ap (λ (x : Machine). x.sched) is in
     let still : new.sched.current ≡ Some i = ap (λ (w : Schedule). w.current) after ∙ runs in
     let on : schedule.is_ready new.sched i ≡ true = ap (λ (w : Schedule). schedule.is_ready w i) after ∙ ready in
     record {
       at = wants;
       within = within timed log due there i runs;
-      groups = subst (λ (g : EventGroups). groups.StandsFor g due) (sym (ap (λ (x : Kernel). x.groups) is)) there.stands.rest.groups;
+      groups = subst (λ (g : EventGroups). groups.StandsFor g due) (sym (ap (λ (x : Machine). x.groups) is)) there.stands.rest.groups;
       runs = still;
       ready = on;
       calm = ap (λ (w : Schedule). w.pending) (after ∙ before) ∙ calm c.depth;
@@ -267,7 +268,7 @@ module _ (s : State) (group : ℕ) (p : ℕ → Bool) where
 pub met_can : (s : State) (group bits : ℕ) → AllByRecursion (CanMeet s) (met_by group bits s)
 met_can s group bits = can_meet s group (is_met_for bits s) (waiters_for_bits s group) (list_has (bits_key group) s.tasks)
 
-pub met_wake : (k : Kernel) (s : State) → StandsFor k s → (group bits : ℕ) → AreToWake k.sched (met_by group bits s)
+pub met_wake : (k : Machine) (s : State) → StandsFor k s → (group bits : ℕ) → AreToWake k.sched (met_by group bits s)
 met_wake k s h group bits =
     all_wake s group (is_met_for bits s) k.sched (λ i off. on_sched.ready_same k.sched s i h.sched ∙ off) (waiters_for_bits s group) (list_has (bits_key group) s.tasks) (distinct_from (bits_key group) 0 s.tasks)
 
@@ -330,13 +331,13 @@ are_there : (s : State) (is : List ℕ) → AllByRecursion (CanMeet s) is → Ar
 are_there s [] a = tt
 are_there s (i ∷ is) a = ((a.0.within, a.0.unsuspended), are_there s is a.1)
 
-kept_one : (k : Kernel) (log : List Event) (s : State) → At k log s → (bits i : ℕ) → i < length s.tasks → At (record k { progress = keep_in bits k.progress i }) log (keep_answer i bits s)
+kept_one : (k : Machine) (log : List Event) (s : State) → At k log s → (bits i : ℕ) → i < length s.tasks → At (record k { progress = keep_in bits k.progress i }) log (keep_answer i bits s)
 kept_one k log s h bits i l =
     let P : Progress → Type 0 = λ p. At (with_progress i (record p { call = record p.call { kept = Some bits } }) k) log (keep_answer i bits s) in
     let off : (call_at s i).phase ≢ Place = (λ e. h.stands.rest.placed i (ap (λ (p : Progress). p.call.phase) (h.stands.rest.progress i) ∙ e)) in
     subst P (sym (h.stands.rest.progress i)) (changed k log s h i l (record (progress_at s i) { call = record (call_at s i) { kept = Some bits } }) off (λ _. refl))
 
-kept_at : (k : Kernel) (log : List Event) (s : State) → At k log s → (bits : ℕ) (is : List ℕ) → AllByRecursion (CanMeet s) is → At (record k { progress = kept_by bits is k.progress }) log (keep_all bits is s)
+kept_at : (k : Machine) (log : List Event) (s : State) → At k log s → (bits : ℕ) (is : List ℕ) → AllByRecursion (CanMeet s) is → At (record k { progress = kept_by bits is k.progress }) log (keep_all bits is s)
 kept_at k log s h bits [] a = h
 kept_at k log s h bits (i ∷ is) a = kept_at (record k { progress = keep_in bits k.progress i }) log (keep_answer i bits s) (kept_one k log s h bits i a.0.within) bits is (still_can bits i s is a.1)
 
@@ -355,7 +356,7 @@ waits_nowhere : (s : State) (is : List ℕ) → AllByRecursion (CanMeet s) is �
 waits_nowhere s [] a = tt
 waits_nowhere s (i ∷ is) a = (a.0.free, waits_nowhere s is a.1)
 
-module _ (k : Kernel) (log : List Event) (s : State) (h : At k log s) (group mask : ℕ) (is : List ℕ) (bits : ℕ) (met : is ≡ met_by group (bits_set group mask s) s) (by : bits ≡ bits_set group mask s) where
+module _ (k : Machine) (log : List Event) (s : State) (h : At k log s) (group mask : ℕ) (is : List ℕ) (bits : ℕ) (met : is ≡ met_by group (bits_set group mask s) s) (by : bits ≡ bits_set group mask s) where
   all_can : AllByRecursion (CanMeet s) is
   all_can = rw met (met_can s group (bits_set group mask s))
 
@@ -417,14 +418,14 @@ module _ (k : Kernel) (log : List Event) (s : State) (h : At k log s) (group mas
       })
 
 -- what is left of the bits is kept as the answer of the set
-pub left_at : (k new : Kernel) (log : List Event) (s : State) → At k log s → (i : ℕ) → k.sched.current ≡ Some i → (left bits : ℕ) → left ≡ bits → new ≡ with_progress i (record (progress_in k.progress i) { call = record (progress_in k.progress i).call { kept = Some left } }) k → At new log (keep_answer i bits s)
+pub left_at : (k new : Machine) (log : List Event) (s : State) → At k log s → (i : ℕ) → k.sched.current ≡ Some i → (left bits : ℕ) → left ≡ bits → new ≡ with_progress i (record (progress_in k.progress i) { call = record (progress_in k.progress i).call { kept = Some left } }) k → At new log (keep_answer i bits s)
 left_at k new log s h i r left bits e is =
     recalled k new log s h i r (record (progress_in k.progress i).call { kept = Some left }) (record (call_at s i) { kept = Some bits }) is
     (ap (λ (p : Progress). record p.call { kept = Some left }) (h.stands.rest.progress i) ∙ ap (λ (n : ℕ). record (call_at s i) { kept = Some n }) e) (not_placing k new log s h i r) (λ _. refl)
 
 -- ---- the phases
 
-module _ (app : Application) (old new : Kernel) (old_log new_log : Logged) (task group : ℕ) where
+module _ (app : Application) (old new : Machine) (old_log new_log : Logged) (task group : ℕ) where
   -- of a set
   pub set_in_phase : (mask : ℕ) (phase : Phase) → (progress_in old.progress task).call.phase ≡ phase → DoesAny 2 old old_log new new_log (set_bits app task group mask phase) → DoesAny 2 old old_log new new_log (act app task (SetBits group mask))
   set_in_phase mask phase e d = record {

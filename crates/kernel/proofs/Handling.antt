@@ -18,11 +18,12 @@ use Rattle.model.specs.Objects.{answer_to, attempt}
 use Rattle.model.specs.Handlers.{isr_told, isr, isr_each, handle, inject}
 use Rattle.model.proofs.Chosen.{each-end}
 use Rattle.soundness.proofs.InScripts.{isr_known}
-use Rattle.kernel.specs.declared.kernel.Kernel.{Kernel}
-use Rattle.kernel.specs.StandsFor.{Stands, At, AtAny}
-use Rattle.kernel.proofs.Either.{any, either}
+use Rattle.machine.specs.declared.machine.Machine.{Machine}
+use Rattle.machine.specs.StandsFor.{Stands, At, AtAny}
+use Rattle.machine.proofs.Either.{any, either}
 use Rattle.soundness.proofs.Handled.{and_left}
-use Rattle.kernel.specs.Can.{HasIsrObject, HasObjects, Leaves}
+use Rattle.kernel.specs.Can.{HasIsrObject, HasObjects}
+use Rattle.machine.specs.Can.{Leaves}
 
 -- ---- an op
 
@@ -36,7 +37,7 @@ pub did_mark : (P : State → Type 0) (s : State) (handler op_index : ℕ) (op :
 did_mark P s handler op_index op n is h = rw is h
 
 -- its object has room for what it puts in
-pub op_fits : (app : Application) (formed : IsWellFormed app) (k : Kernel) (handler i : ℕ) (op : IsrOp) → HasObjects app k → i < length (ops_of app handler) → op ≡ get_or (ops_of app handler) i op → HasIsrObject k op
+pub op_fits : (app : Application) (formed : IsWellFormed app) (k : Machine) (handler i : ℕ) (op : IsrOp) → HasObjects app k → i < length (ops_of app handler) → op ≡ get_or (ops_of app handler) i op → HasIsrObject k op
 op_fits app formed k handler i op room l e = by_op op (at (ops_of app handler) i (isr_known app formed handler) l e) where
   at : (ops : List IsrOp) (i : ℕ) → AllByRecursion (λ (x : IsrOp). knows_isr app x ≡ true) ops → i < length ops → op ≡ get_or ops i op → knows_isr app op ≡ true
   at [] i known l e = absurd (omega arith)
@@ -81,22 +82,22 @@ one_more {A} deed P xs s i x l e h =
 
 -- ---- what is left as it was
 
-pub leaves_same : (k : Kernel) → Leaves k k
+pub leaves_same : (k : Machine) → Leaves k k
 leaves_same k = record { depth = refl; objects = λ o a h. h }
 
-pub leaves_both : (a b c : Kernel) → Leaves a b → Leaves b c → Leaves a c
+pub leaves_both : (a b c : Machine) → Leaves a b → Leaves b c → Leaves a c
 leaves_both a b c h g = record { depth = g.depth ∙ h.depth; objects = λ o a room. g.objects o a (h.objects o a room) }
 
-pub room_after : (app : Application) (old new : Kernel) → HasObjects app old → Leaves old new → HasObjects app new
+pub room_after : (app : Application) (old new : Machine) → HasObjects app old → Leaves old new → HasObjects app new
 room_after app old new room h o a fit = h.objects o a (room o a fit)
 
 -- ---- a higher task may run after an injected handler, unless the scheduler is held
 
-module _ (app : Application) (handler : ℕ) (s : State) (mid : Kernel) where
+module _ (app : Application) (handler : ℕ) (s : State) (mid : Machine) where
   abbrev t : State
   t = handle app handler s
 
-  pub injected_free : (new : Kernel) (log new_log : List Event) → (Stands mid (handle app handler s) → is_held (handle app handler s) ≡ false) → AtAny mid log (handle app handler s) → (At mid log (handle app handler s) → At new new_log (preempt (handle app handler s))) → AtAny new new_log (inject app handler s)
+  pub injected_free : (new : Machine) (log new_log : List Event) → (Stands mid (handle app handler s) → is_held (handle app handler s) ≡ false) → AtAny mid log (handle app handler s) → (At mid log (handle app handler s) → At new new_log (preempt (handle app handler s))) → AtAny new new_log (inject app handler s)
   unfolding inject
   injected_free new log new_log free h goes =
       let off : is_held t ≡ false = free h.stands in
@@ -116,7 +117,7 @@ mapped_at f (y ∷ ys) (suc i) x l e = mapped_at f ys i x (omega arith) e
 
 -- ---- the guess at the next base interrupt is nothing that the kernel stands for
 
-pub guessed : (k : Kernel) (n : ℕ) (log : List Event) (s : State) → At k log s → At (record k { next_interrupt = n }) log s
+pub guessed : (k : Machine) (n : ℕ) (log : List Event) (s : State) → At k log s → At (record k { next_interrupt = n }) log s
 guessed k n log s h = record {
   stands = record {
     sched = h.stands.sched;

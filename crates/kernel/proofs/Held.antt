@@ -34,17 +34,18 @@ use Rattle.objects.proofs.Kept.{stands_same}
 use Rattle.objects.proofs.Awake.{at_locked_same}
 use Rattle.groups.proofs.Standing as on_groups
 use Rattle.groups.proofs.Kept as bits_kept
-use Rattle.kernel.specs.declared.kernel.Kernel.{Kernel}
-use Rattle.kernel.specs.Logged.{Logged}
-use Rattle.kernel.specs.StandsFor.{StandsFor, At, Does, Moves}
-use Rattle.kernel.specs.Can.{CanApply, Runs}
-use Rattle.kernel.proofs.Parts.{clock-same, same_parts}
-use Rattle.kernel.proofs.Acting.{stopped_at}
+use Rattle.machine.specs.declared.machine.Machine.{Machine}
+use Rattle.machine.specs.Logged.{Logged}
+use Rattle.machine.specs.StandsFor.{StandsFor, At, Does, Moves}
+use Rattle.kernel.specs.Can.{CanApply}
+use Rattle.machine.specs.Can.{Runs}
+use Rattle.machine.proofs.Parts.{clock-same, same_parts}
+use Rattle.machine.proofs.Acting.{stopped_at}
 use Rattle.kernel.proofs.Suspending.{ready_by, runs_by}
 
 -- ---- how many `suspend_all` are in force
 
-module _ (k : Kernel) (log : List Event) (s : State) (h : At k log s) where
+module _ (k : Machine) (log : List Event) (s : State) (h : At k log s) where
   -- another number of them
   pub with_suspensions : (v : Schedule) (n m : ℕ) → n ≡ m → sched.StandsFor v (record s { suspensions = m }) → At (record k { sched = v; suspensions = n }) log (record s { suspensions = m })
   with_suspensions v n m e on =
@@ -107,7 +108,7 @@ module _ (k : Kernel) (log : List Event) (s : State) (h : At k log s) where
   released t on = with_ticks t (s.elapsed - 1) (s.held_ticks - 1) on
 
 -- and when it comes now, it is applied
-pub applied_now : (new : Kernel) (log : List Event) (s : State) → s.suspensions ≡ 0 → 0 < s.elapsed → At new log (increment_tick (before_held s)) → At new log (apply_one s)
+pub applied_now : (new : Machine) (log : List Event) (s : State) → s.suspensions ≡ 0 → 0 < s.elapsed → At new log (increment_tick (before_held s)) → At new log (apply_one s)
 unfolding increment_tick apply_one
 applied_now new log s none some h =
     let off : is_scheduler_suspended s ≡ false = rw none refl in
@@ -121,7 +122,7 @@ unlocked : (lock : Option Lock) → locked_by lock ≡ None → lock ≡ None
 unlocked None e = refl
 unlocked (Some l) e = absurd (cc)
 
-module _ (k now : Kernel) (can : CanApply k) (n : ℕ) (does : Moves k now (λ s. apply_held n s)) where
+module _ (k now : Machine) (can : CanApply k) (n : ℕ) (does : Moves k now (λ s. apply_held n s)) where
   abbrev first : State
   first = can.agrees.0
 
@@ -147,12 +148,12 @@ one_later : (n : ℕ) (s : State) → apply_one (apply_held n s) ≡ apply_held 
 one_later zero s = refl
 one_later (suc n) s = one_later n (apply_one s)
 
-pub applied_more : (now : Kernel) (log : List Event) (n : ℕ) (s : State) → At now log (apply_one (apply_held n s)) → At now log (apply_held (n + 1) s)
+pub applied_more : (now : Machine) (log : List Event) (n : ℕ) (s : State) → At now log (apply_one (apply_held n s)) → At now log (apply_held (n + 1) s)
 applied_more now log n s h = let same : n + 1 ≡ suc n = omega arith in rw same (subst (At now log) (one_later n s) h)
 
 -- ---- `resume_all`
 
-module _ (app : Application) (new : Kernel) (log : List Event) (s : State) where
+module _ (app : Application) (new : Machine) (log : List Event) (s : State) where
   -- after the last
   pub last_resumed : s.suspensions ≡ 1 → At new log (apply_held s.held_ticks (record s { suspensions = s.suspensions - 1 })) → At new log (resume_scheduler s)
   unfolding resume_scheduler
@@ -176,18 +177,18 @@ module _ (app : Application) (new : Kernel) (log : List Event) (s : State) where
     resumed_held held h = subst (At new log) (sym (when_held preempt t held)) h
 
 -- where some are in force still, the scheduler is held
-pub still_held : (app : Application) (i : ℕ) (mid : Kernel) (log : List Event) (u : State) → At mid log u → mid.suspensions ≢ 0 → is_held (answer app i (Some 0) u) ≡ true
+pub still_held : (app : Application) (i : ℕ) (mid : Machine) (log : List Event) (u : State) → At mid log u → mid.suspensions ≢ 0 → is_held (answer app i (Some 0) u) ≡ true
 still_held app i mid log u h ne =
     let kept : (answer app i (Some 0) u).suspensions ≡ u.suspensions = ap (λ (x : Suspension). x.suspensions) (keeps-answer app i (Some 0) u).suspension in
     let n = h.stands.rest.suspensions in
     suspended_held (answer app i (Some 0) u) (lt-ltb 0 (answer app i (Some 0) u).suspensions (omega arith))
 
-pub runs_after_all : (k new : Kernel) (i : ℕ) (s : State) → Runs k i → StandsFor k s → StandsFor new (resume_scheduler s) → Runs new i
+pub runs_after_all : (k new : Machine) (i : ℕ) (s : State) → Runs k i → StandsFor k s → StandsFor new (resume_scheduler s) → Runs new i
 runs_after_all k new i s r h g = runs_by k new i s (resume_scheduler s) r h g (current-resumed s) (resumed_apart s i (ready_by k s i r h))
 
 -- ---- who came to its end
 
-module _ (k : Kernel) (log : List Event) (s : State) (h : At k log s) (i op_index : ℕ) where
+module _ (k : Machine) (log : List Event) (s : State) (h : At k log s) (i op_index : ℕ) where
   pub judged : 0 < k.suspensions → is_ended (status_at s i) ≡ true → At (record k { stopped = Some (ending.Misuse i op_index EndedSuspended) }) log (judge i op_index s)
   unfolding judge
   judged some t =
@@ -212,7 +213,7 @@ module _ (k : Kernel) (log : List Event) (s : State) (h : At k log s) (i op_inde
 pub held_by : (v : Schedule) (s : State) → sched.StandsFor v s → 0 < v.depth → is_held s ≡ true
 held_by v s h some = on_sched.held_by_depth s ∙ lt-ltb 0 (depth_of s) (let e = h.depth in omega arith)
 
-pub interrupted_held : (app : Application) (new : Kernel) (log : List Event) (s : State) → is_held (interrupt app (increment_tick s)) ≡ true → At new log (interrupt app (increment_tick s)) → At new log (tick_interrupt app s)
+pub interrupted_held : (app : Application) (new : Machine) (log : List Event) (s : State) → is_held (interrupt app (increment_tick s)) ≡ true → At new log (interrupt app (increment_tick s)) → At new log (tick_interrupt app s)
 unfolding tick_interrupt
 interrupted_held app new log s held h = subst (At new log) (sym (when_held slice (interrupt app (increment_tick s)) held)) h
 
@@ -280,10 +281,10 @@ no_misuse s i = by_test (is_scheduler_suspended s) (λ t. rw t refl) (λ t. rw t
 pub not_suspended : (s : State) (i : ℕ) → s.suspensions ≡ 0 → misuse s i ResumeAll ≡ Some NotSuspended
 not_suspended s i none = rw none refl
 
-pub suspended_by : (k : Kernel) (log : List Event) (s : State) → At k log s → 0 < k.suspensions → is_scheduler_suspended s ≡ true
+pub suspended_by : (k : Machine) (log : List Event) (s : State) → At k log s → 0 < k.suspensions → is_scheduler_suspended s ≡ true
 suspended_by k log s h some = let n = h.stands.rest.suspensions in lt-ltb 0 s.suspensions (omega arith)
 
-module _ (app : Application) (new : Kernel) (log : List Event) (s : State) (i : ℕ) (op : Op) where
+module _ (app : Application) (new : Machine) (log : List Event) (s : State) (i : ℕ) (op : Op) where
   pub misused_at : (kind : Misuse) → misuse s i op ≡ Some kind → At new log (misused i (progress_at s i).op_index kind s) → At new log (act_unless app i (misuse s i op) op s)
   misused_at kind e h = rw e h
 
@@ -292,8 +293,8 @@ module _ (app : Application) (new : Kernel) (log : List Event) (s : State) (i : 
 
 -- ---- told of less than may be told
 
-pub does_up : (count more : ℕ) (old new : Kernel) (old_log new_log : Logged) (deed : State → State) → count ≤ more → Does count old old_log new new_log deed → Does more old old_log new new_log deed
+pub does_up : (count more : ℕ) (old new : Machine) (old_log new_log : Logged) (deed : State → State) → count ≤ more → Does count old old_log new new_log deed → Does more old old_log new new_log deed
 does_up count more old new old_log new_log deed l d = record { at = d.at; few = let f = d.few in omega arith; before = d.before }
 
-pub moves_up : (count : ℕ) (old new : Kernel) (log : Logged) (deed : State → State) → Moves old new deed → Does count old log new log deed
+pub moves_up : (count : ℕ) (old new : Machine) (log : Logged) (deed : State → State) → Moves old new deed → Does count old log new log deed
 moves_up count old new log deed d = record { at = λ s h. d log.told s h; few = omega arith; before = refl }

@@ -16,14 +16,15 @@ use Rattle.model.specs.Step.{act_current, before_step, step}
 use Rattle.sched.specs.StandsFor as sched
 use Rattle.sched.specs.Schedule.{Schedule}
 use Rattle.sched.proofs.Standing.{held_by_depth}
-use Rattle.kernel.specs.declared.kernel.Kernel.{Kernel}
-use Rattle.kernel.specs.Logged.{Logged}
-use Rattle.kernel.specs.StandsFor.{Stands, AtAny, Does, DoesAny, progress_in}
+use Rattle.machine.specs.declared.machine.Machine.{Machine}
+use Rattle.machine.specs.Logged.{Logged}
+use Rattle.machine.specs.StandsFor.{Stands, AtAny, Does, DoesAny, progress_in}
 use Rattle.kernel.specs.Can.{CanLeave}
 use Rattle.kernel.specs.InCall.{IsSilent, IsInPhase, IsLeaving, Remains}
-use Rattle.kernel.proofs.Either.{any, either, does_any, does_more, freely, in_phase, steps_are}
+use Rattle.machine.proofs.Either.{any, either, does_any, does_more, steps_are}
+use Rattle.kernel.proofs.Acted.{freely, in_phase}
 use Rattle.kernel.proofs.Counting.{steps_still}
-use Rattle.kernel.proofs.Switches.{settled_before, settled_held}
+use Rattle.machine.proofs.Switches.{settled_before, settled_held}
 use Rattle.kernel.proofs.Ending.{begun, handled_before, stepped}
 use Rattle.kernel.proofs.Running.{acts}
 
@@ -51,14 +52,14 @@ held_by : (v : Schedule) (s : State) → sched.StandsFor v s → 0 < v.depth →
 held_by v s h some = held_by_depth s ∙ ap (λ (n : ℕ). nat_lt 0 n) (sym h.depth) ∙ lt-ltb 0 v.depth some
 
 -- While the scheduler is held, a step ends without a switch.
-still_held : (k : Kernel) (log : List Event) (s : State) → 0 < k.sched.depth → AtAny k log s → AtAny k log (unless_held settle s)
+still_held : (k : Machine) (log : List Event) (s : State) → 0 < k.sched.depth → AtAny k log s → AtAny k log (unless_held settle s)
 still_held k log s some h = either k log s h
     (λ a. any k log (unless_held settle s) (settled_held k log s (held_by k.sched s a.stands.sched some) a))
     (λ task list b. settled_before k log s h task list b)
 
-module _ (app : Application) (k : Kernel) (task object : ℕ) (access : Access) (phase : Phase) (c : IsInPhase app k task object access phase) where
+module _ (app : Application) (k : Machine) (task object : ℕ) (access : Access) (phase : Phase) (c : IsInPhase app k task object access phase) where
   -- it is in its next phase then
-  pub still_in_call : (new : Kernel) → Remains k new task → (next : Phase) → (progress_in new.progress task).call.phase ≡ next → IsInPhase app new task object access next
+  pub still_in_call : (new : Machine) → Remains k new task → (next : Phase) → (progress_in new.progress task).call.phase ≡ next → IsInPhase app new task object access next
   still_in_call new r next e = record {
     current = r.current ∙ c.current;
     ticks = c.ticks;
@@ -68,12 +69,12 @@ module _ (app : Application) (k : Kernel) (task object : ℕ) (access : Access) 
   }
 
   -- What the call does in its phase is what the step does,
-  pub acts_in_phase : (new : Kernel) (old_log new_log : Logged) → DoesAny 2 k old_log new new_log (await app task object access c.ticks phase) → DoesAny 65 k old_log new new_log (λ s. act_current app s.current s)
+  pub acts_in_phase : (new : Machine) (old_log new_log : Logged) → DoesAny 2 k old_log new new_log (await app task object access c.ticks phase) → DoesAny 65 k old_log new new_log (λ s. act_current app s.current s)
   acts_in_phase new old_log new_log does =
       let all = does_more 2 65 k new old_log new_log _ (omega arith) (in_phase app k new old_log new_log task object access c.ticks phase c.reached does) in
       acts app k task c.current (Await object access c.ticks) c.op new old_log new_log (freely app k new old_log new_log task (Await object access c.ticks) c.awake (λ s. refl) (λ e. absurd (cc)) all)
 
-  module _ (new : Kernel) (does : (log : List Event) (s : State) → AtAny k log s → AtAny new log (await app task object access c.ticks phase s)) where
+  module _ (new : Machine) (does : (log : List Event) (s : State) → AtAny k log s → AtAny new log (await app task object access c.ticks phase s)) where
     acts_there : (log : List Event) (s : State) → AtAny k log s → AtAny new log (act_current app s.current s)
     acts_there log s h =
         let told : Logged = record { before = []; told = log; room = 65 } in
@@ -96,6 +97,6 @@ module _ (app : Application) (k : Kernel) (task object : ℕ) (access : Access) 
       told_nothing = sym there.log
 
 -- So it is where the call lets go of the scheduler.
-pub leaves : (app : Application) (k new : Kernel) (task : ℕ) → IsLeaving app k task → CanLeave k task → (old_log new_log : Logged) → Does 1 k old_log new new_log (leave_call task) → DoesAny 65 k old_log new new_log (λ s. act_current app s.current s)
+pub leaves : (app : Application) (k new : Machine) (task : ℕ) → IsLeaving app k task → CanLeave k task → (old_log new_log : Logged) → Does 1 k old_log new new_log (leave_call task) → DoesAny 65 k old_log new new_log (λ s. act_current app s.current s)
 leaves app k new task l can old_log new_log does =
     acts_in_phase app k task l.0 l.1 Leave l.2 new old_log new_log (does_more 1 2 k new old_log new_log (leave_call task) (omega arith) (does_any 1 k new old_log new_log (leave_call task) can.call.agrees does))

@@ -6,14 +6,14 @@ use Rattle.model.specs.Application.{Application, Limits}
 use Rattle.model.specs.State.{State}
 use Rattle.model.specs.Run.{end_of, events_after}
 use Rattle.model.proofs.Injected.{same_state, same_events, goes_on_with}
-use Rattle.kernel.specs.declared.kernel.Kernel.{Kernel}
-use Rattle.kernel.specs.StandsFor.{Stands}
-use Rattle.kernel.specs.Can.{IsUnderWay}
+use Rattle.machine.specs.declared.machine.Machine.{Machine}
+use Rattle.machine.specs.StandsFor.{Stands}
+use Rattle.machine.specs.Can.{IsUnderWay}
 use Rattle.kernel.specs.Rows.{events_from}
 
 module _ (app : Application) (point : Point) where
   -- as far as the point's step, the base run's way is the row's
-  pub row_way : (limits : Limits) (k : Kernel) → IsUnderWay app [] limits k → k.steps ≤ point.step → IsUnderWay app (point ∷ []) limits k
+  pub row_way : (limits : Limits) (k : Machine) → IsUnderWay app [] limits k → k.steps ≤ point.step → IsUnderWay app (point ∷ []) limits k
   row_way limits k way l = record {
     stands = subst (λ (s : State). Stands k s) (sym (same_state app point k.steps l)) way.stands;
     goes_on = λ n m. ap (λ (s : State). end_of app limits s) (same_state app point n (omega arith)) ∙ way.goes_on n m;

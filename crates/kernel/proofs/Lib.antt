@@ -1,14 +1,9 @@
-pub mod Looping
-pub mod Parts
-pub mod Either
-pub mod Waking
-pub mod Switches
-pub mod Acting
+pub mod Acted
+pub mod Working
 pub mod Bounds
 pub mod Ending
 pub mod Running
 pub mod Injecting
-pub mod Booting
 pub mod Waits
 pub mod Ranking
 pub mod Deciding

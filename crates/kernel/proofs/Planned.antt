@@ -8,8 +8,8 @@ use Rattle.model.specs.declared.plan.Point.{Point}
 use Rattle.model.specs.Application.{Application}
 use Rattle.model.specs.State.{State}
 use Rattle.model.specs.Step.{step}
-use Rattle.kernel.specs.declared.kernel.Kernel.{Kernel}
-use Rattle.kernel.specs.StandsFor.{Stands}
+use Rattle.machine.specs.declared.machine.Machine.{Machine}
+use Rattle.machine.specs.StandsFor.{Stands}
 use Rattle.model.specs.Run.{injected}
 use Rattle.std.specs.Prelude.{slice_get}
 use Rattle.model.specs.Plans.{IsPlan}
@@ -121,7 +121,7 @@ pub no_more : (points : List Point) (n : ℕ) → length (injected points n) ≤
 no_more [] n = omega arith
 no_more (p ∷ ps) n = let l = no_more ps n in by_test (eqb p.step n) (λ t. rw t (omega arith)) (λ t. rw t (omega arith))
 
-pub stands_as : (app : Application) (k next : Kernel) (handlers others : List ℕ) → handlers ≡ others → ((s : State) → Stands k s → Stands next (step app handlers s)) → (s : State) → Stands k s → Stands next (step app others s)
+pub stands_as : (app : Application) (k next : Machine) (handlers others : List ℕ) → handlers ≡ others → ((s : State) → Stands k s → Stands next (step app handlers s)) → (s : State) → Stands k s → Stands next (step app others s)
 stands_as app k next handlers others e h = subst (λ (hs : List ℕ). (s : State) → Stands k s → Stands next (step app hs s)) e h
 
 -- ---- before the first that is left

@@ -1,10 +1,10 @@
 -- What another priority of a task makes of the states that the kernel stands for.
-use Rattle.std.proofs.Common.{◌≡◌, ◌<◌, ℕ, true, false, eqb, Option, Some, None, refl, ap, sym, subst, ◌∙◌}
+use Rattle.std.proofs.Common.{◌≡◌, ◌<◌, ℕ, true, false, eqb, Option, Some, None, refl, ap, sym, subst, ◌∙◌, max, List}
 use Rattle.model.specs.declared.event.Event.{Event}
 use Rattle.model.specs.declared.event.Misuse.{Misuse}
-use Rattle.model.specs.State.{State, Task, task_at, progress_at, call_at, object_at, with_task, for_one, no_task}
-use Rattle.model.specs.Switching.{is_ready, to_back}
-use Rattle.model.specs.Mutexes.{set_priority, mutexes_held, lend, inherit_from, inherit, best_priority, fall_back, after_timeout, disinherit}
+use Rattle.model.specs.State.{State, Task, task_at, progress_at, call_at, object_at, with_task, for_one, no_task, with_object}
+use Rattle.model.specs.Switching.{is_ready, to_back, preempt}
+use Rattle.model.specs.Mutexes.{set_priority, mutexes_held, lend, inherit_from, inherit, best_priority, fall_back, after_timeout, disinherit, give_mutex}
 use Rattle.model.specs.Invariant.{Suspension}
 use Rattle.model.proofs.Sorting.{by_test}
 use Rattle.model.proofs.Tables.{each-set}
@@ -12,15 +12,11 @@ use Rattle.soundness.proofs.Frames.{keeps-set_priority}
 use Rattle.model.specs.declared.call.WaitList.TheVariants.{ToReceive}
 use Rattle.model.specs.declared.op.Op.TheVariants.{GiveMutex}
 use Rattle.model.specs.Application.{Application}
-use Rattle.model.specs.Mutexes.{give_mutex}
 use Rattle.model.specs.Ops.{answer}
 use Rattle.model.specs.Step.{act_unless, misuse, misused, own_misuse}
 use Rattle.soundness.proofs.Passing.{acts_calm}
-use Rattle.model.specs.Switching.{preempt}
 use Rattle.model.specs.Waiting.{wake_best}
-use Rattle.model.specs.State.{with_object}
 use Rattle.std.proofs.lemmas.Bool.{lt-ltb, eq-eqb, ne_eqb}
-use Rattle.std.proofs.Common.{max, List}
 use Rattle.objects.specs.Queues.{Exchange}
 use Rattle.objects.proofs.Ranking.{stands_ranked, at_locked-ranked}
 use Rattle.clock.proofs.Unmoved.{stands_prioritised}
@@ -28,10 +24,11 @@ use Rattle.sched.specs.StandsFor as sched
 use Rattle.sched.specs.Schedule.{Schedule}
 use Rattle.groups.proofs.Standing as on_groups
 use Rattle.groups.proofs.Kept as bits_kept
-use Rattle.kernel.specs.declared.kernel.Kernel.{Kernel}
-use Rattle.kernel.specs.StandsFor.{At}
-use Rattle.kernel.specs.Can.{Agrees, CanDecide, Reranks, Runs}
-use Rattle.kernel.proofs.Waking.{progress-ready}
+use Rattle.machine.specs.declared.machine.Machine.{Machine}
+use Rattle.machine.specs.StandsFor.{At}
+use Rattle.machine.specs.Can.{Agrees, Runs}
+use Rattle.kernel.specs.Can.{CanDecide, Reranks}
+use Rattle.machine.proofs.Waking.{progress-ready}
 
 -- ---- a task has another priority
 
@@ -58,7 +55,7 @@ log-set_priority s i priority = by_test (eqb (task_at s i).priority priority)
     (λ t. rw t (log-to_back (with_task i (record (task_at s i) { priority = priority }) s) i))
 
 -- The scheduler has done its part.
-pub ranked_at : (k : Kernel) (log : List Event) (s : State) → At k log s → (i priority : ℕ) (v : Schedule) → sched.StandsFor v (set_priority i priority s) → At (record k { sched = v }) log (set_priority i priority s)
+pub ranked_at : (k : Machine) (log : List Event) (s : State) → At k log s → (i priority : ℕ) (v : Schedule) → sched.StandsFor v (set_priority i priority s) → At (record k { sched = v }) log (set_priority i priority s)
 ranked_at k log s h i priority v on =
     let keep = keeps-set_priority i priority s in
     record {
@@ -81,11 +78,11 @@ ranked_at k log s h i priority v on =
     }
 
 -- Who runs, runs on.
-pub still_running : (old new : Kernel) (i : ℕ) → Reranks old new → Runs old i → Runs new i
+pub still_running : (old new : Machine) (i : ℕ) → Reranks old new → Runs old i → Runs new i
 still_running old new i r h = record { current = r.current ∙ h.current; ready = r.ready i ∙ h.ready; op_index = rw (r.op_index i) h.op_index }
 
 -- and can decide, as the parts still agree
-pub still_decides : (old new : Kernel) (i : ℕ) → Reranks old new → CanDecide old i → Agrees new → CanDecide new i
+pub still_decides : (old new : Machine) (i : ℕ) → Reranks old new → CanDecide old i → Agrees new → CanDecide new i
 still_decides old new i r c agrees = record {
   runs = still_running old new i r c.runs;
   agrees = agrees;
@@ -136,11 +133,11 @@ module _ (P : State → Type 0) (s : State) where
 -- ---- a mutex is given back
 
 -- an unlock by the holder, where no `suspend_all` is in force
-pub gave : (app : Application) (new : Kernel) (log : List Event) (s : State) (i o : ℕ) → s.suspensions ≡ 0 → own_misuse s i (GiveMutex o) ≡ None
+pub gave : (app : Application) (new : Machine) (log : List Event) (s : State) (i o : ℕ) → s.suspensions ≡ 0 → own_misuse s i (GiveMutex o) ≡ None
     → At new log (preempt (answer app i (Some 1) (wake_best (ToReceive o) (disinherit i (with_object o (record (object_at s o) { holder = None }) s))))) → At new log (act_unless app i (misuse s i (GiveMutex o)) (GiveMutex o) s)
 unfolding give_mutex
 gave app new log s i o calm is h = subst (At new log) (sym (acts_calm app i (GiveMutex o) s calm is (λ e. absurd (cc)))) h
 
 -- or by another
-pub gave_nothing : (app : Application) (new : Kernel) (log : List Event) (s : State) (i o : ℕ) (kind : Misuse) → s.suspensions ≡ 0 → own_misuse s i (GiveMutex o) ≡ Some kind → At new log (misused i (progress_at s i).op_index kind s) → At new log (act_unless app i (misuse s i (GiveMutex o)) (GiveMutex o) s)
+pub gave_nothing : (app : Application) (new : Machine) (log : List Event) (s : State) (i o : ℕ) (kind : Misuse) → s.suspensions ≡ 0 → own_misuse s i (GiveMutex o) ≡ Some kind → At new log (misused i (progress_at s i).op_index kind s) → At new log (act_unless app i (misuse s i (GiveMutex o)) (GiveMutex o) s)
 gave_nothing app new log s i o kind calm is h = let one : misuse s i (GiveMutex o) ≡ own_misuse s i (GiveMutex o) = rw calm refl in rw (one ∙ is) h

@@ -9,20 +9,22 @@ use Rattle.model.specs.declared.op.Op.{Op}
 use Rattle.model.specs.Application.{Application, Limits, op_at}
 use Rattle.model.specs.Scripts.{AreLimits, IsWellFormed}
 use Rattle.model.specs.State.{State, Progress, progress_at}
-use Rattle.model.specs.Step.{act_unless, misuse, act_if, act_current, step, reset}
+use Rattle.model.specs.Step.{act_unless, misuse, act_if, act_current, step}
 use Rattle.model.specs.declared.plan.Point.{Point}
 use Rattle.model.specs.Run.{Run, IsRun, end_of, injected, state_after, events_after}
 use Rattle.model.proofs.Injected.{from_one_more, goes_on_with, no_fewer}
 use Rattle.soundness.proofs.Passing.{elapsed-reset, elapsed-step}
-use Rattle.kernel.specs.declared.kernel.Kernel.{Kernel}
-use Rattle.kernel.specs.Logged.{Logged, all_of}
-use Rattle.kernel.specs.StandsFor.{Stands, AtAny, DoesAny, progress_in}
-use Rattle.kernel.specs.Can.{CanStep, IsUnderWay}
+use Rattle.machine.specs.declared.machine.Machine.{Machine}
+use Rattle.machine.specs.Logged.{Logged, all_of}
+use Rattle.machine.specs.StandsFor.{Stands, AtAny, DoesAny, progress_in}
+use Rattle.kernel.specs.Can.{CanStep}
+use Rattle.machine.specs.Can.{IsUnderWay}
 use Rattle.kernel.specs.Rows.{Extends, events_from}
 use Rattle.kernel.specs.Over.{is_over}
-use Rattle.kernel.proofs.Either.{steps_are, elapsed_is, current_is, progress_is}
+use Rattle.machine.proofs.Either.{steps_are, elapsed_is, current_is, progress_is}
 use Rattle.soundness.proofs.Reached.{reached_after, suspensions_after}
-use Rattle.kernel.proofs.Bounds.{below_limits, steps-reset}
+use Rattle.kernel.proofs.Bounds.{below_limits}
+use Rattle.machine.proofs.Booting.{steps-reset}
 use Rattle.kernel.proofs.Ending.{goes_if_not_over, not_over_if_going}
 
 leb-le : (a b : ℕ) → leb a b ≡ true → a ≤ b
@@ -33,14 +35,14 @@ leb-less a b e = grind (arith, nat_tests)
 
 -- ---- the running task does its op
 
-module _ (app : Application) (k : Kernel) (task : ℕ) (runs : k.sched.current ≡ Some task) where
+module _ (app : Application) (k : Machine) (task : ℕ) (runs : k.sched.current ≡ Some task) where
   its_op : (s : State) → Stands k s → (o : Option Op) → op_at app task (progress_in k.progress task).op_index ≡ o → act_current app s.current s ≡ act_if app task o s
   its_op s h o at =
       let current : s.current ≡ Some task = sym (current_is k s h) ∙ runs in
       let op : op_at app task (progress_at s task).op_index ≡ o = ap (λ (p : Progress). op_at app task p.op_index) (sym (progress_is k s h task)) ∙ at in
       ap (λ c. act_current app c s) current ∙ ap (λ o. act_if app task o s) op
 
-  pub acts : (op : Op) → op_at app task (progress_in k.progress task).op_index ≡ Some op → (new : Kernel) (old_log new_log : Logged) → DoesAny 65 k old_log new new_log (λ s. act_unless app task (misuse s task op) op s) → DoesAny 65 k old_log new new_log (λ s. act_current app s.current s)
+  pub acts : (op : Op) → op_at app task (progress_in k.progress task).op_index ≡ Some op → (new : Machine) (old_log new_log : Logged) → DoesAny 65 k old_log new new_log (λ s. act_unless app task (misuse s task op) op s) → DoesAny 65 k old_log new new_log (λ s. act_current app s.current s)
   acts op at new old_log new_log does = record {
     at = λ s h. subst (AtAny new new_log.told) (sym (its_op s h.stands (Some op) at)) (does.at s h);
     few = does.few;
@@ -67,21 +69,11 @@ unfolding step
 steps_after app plan zero = steps-reset app
 steps_after app plan (suc n) = let e = steps_after app plan n in omega arith
 
--- the kernel at reset
-pub steps_begin : (app : Application) (k : Kernel) → Stands k (reset app) → k.steps ≡ 0
-steps_begin app k h = steps_are k (reset app) h ∙ steps-reset app
-
-pub begins : (app : Application) (plan : List Point) (limits : Limits) (k : Kernel) → Stands k (reset app) → IsUnderWay app plan limits k
-begins app plan limits k h = record {
-  stands = let Q : ℕ → Type 0 = λ n. Stands k (state_after app plan n) in subst Q (sym (steps_begin app k h)) h;
-  goes_on = λ n l. let e = steps_begin app k h in absurd (omega arith);
-}
-
 -- the events from reset on, in a trail that had none
 pub events_from_reset : (app : Application) (plan : List Point) (first next : ℕ) → first ≡ 0 → (log : Logged) → log.before ≡ [] → log.told ≡ [] → all_of log ++ events_from app plan first next ≡ events_after app plan next
 events_from_reset app plan first next z log before told = rw (before, told, z) refl
 
-module _ (app : Application) (formed : IsWellFormed app) (plan : List Point) (limits : Limits) (are : AreLimits limits.ticks limits.steps) (k : Kernel) (h : IsUnderWay app plan limits k) (on : end_of app limits (state_after app plan k.steps) ≡ None) where
+module _ (app : Application) (formed : IsWellFormed app) (plan : List Point) (limits : Limits) (are : AreLimits limits.ticks limits.steps) (k : Machine) (h : IsUnderWay app plan limits k) (on : end_of app limits (state_after app plan k.steps) ≡ None) where
   pub can_step : CanStep app k
   can_step = record {
     state = state_after app plan k.steps;
@@ -98,7 +90,7 @@ module _ (app : Application) (formed : IsWellFormed app) (plan : List Point) (li
   steps_below = let e = steps_are k (state_after app plan k.steps) h.stands in let l = (below_limits app limits (state_after app plan k.steps) on).1 in omega arith
 
   -- one step more
-  module _ (next : Kernel) (stands : (s : State) → Stands k s → Stands next (step app (injected plan k.steps) s)) where
+  module _ (next : Machine) (stands : (s : State) → Stands k s → Stands next (step app (injected plan k.steps) s)) where
     pub steps_more : next.steps ≡ suc k.steps
     unfolding step
     steps_more = let e = steps_are next (step app (injected plan k.steps) (state_after app plan k.steps)) (stands (state_after app plan k.steps) h.stands) in let f = steps_are k (state_after app plan k.steps) h.stands in omega arith
@@ -151,7 +143,7 @@ ticks_by app plan limits are (suc n) g =
     let most = are.1 in
     omega arith
 
-pub ticks_low : (app : Application) (plan : List Point) (limits : Limits) → AreLimits limits.ticks limits.steps → (k : Kernel) → IsUnderWay app plan limits k → k.clock.age + k.clock.held ≤ 1000000
+pub ticks_low : (app : Application) (plan : List Point) (limits : Limits) → AreLimits limits.ticks limits.steps → (k : Machine) → IsUnderWay app plan limits k → k.clock.age + k.clock.held ≤ 1000000
 ticks_low app plan limits are k h = rw (elapsed_is k (state_after app plan k.steps) h.stands) (ticks_by app plan limits are k.steps h.goes_on)
 
 -- ---- some steps, and then others
@@ -183,7 +175,7 @@ ticks_between app plan n (suc m) le = by_test (eqb n (suc m))
     omega arith)
 
 -- Before a step up to which no limit is reached, the run goes on where it isn't over.
-pub free_before : (app : Application) (plan : List Point) (limits : Limits) (first : Kernel) (until : ℕ) → IsUnderWay app plan limits first
+pub free_before : (app : Application) (plan : List Point) (limits : Limits) (first : Machine) (until : ℕ) → IsUnderWay app plan limits first
     → (first.steps < until → first.clock.age + first.clock.held + until ≤ limits.ticks + first.steps) → (first.steps < until → until ≤ limits.steps)
     → (n : ℕ) → first.steps ≤ n → n < until → is_over app (state_after app plan n) ≡ false → end_of app limits (state_after app plan n) ≡ None
 free_before app plan limits first until begin ticks steps n on short going =
@@ -194,12 +186,12 @@ free_before app plan limits first until begin ticks steps n on short going =
     let few = steps (omega arith) in
     goes_if_not_over app limits (state_after app plan n) going (omega arith) (omega arith)
 
-pub goes_on_until : (app : Application) (plan : List Point) (limits : Limits) (first k : Kernel) (until : ℕ) → IsUnderWay app plan limits first → IsUnderWay app plan limits k → first.steps ≤ k.steps → k.steps < until
+pub goes_on_until : (app : Application) (plan : List Point) (limits : Limits) (first k : Machine) (until : ℕ) → IsUnderWay app plan limits first → IsUnderWay app plan limits k → first.steps ≤ k.steps → k.steps < until
     → (first.steps < until → first.clock.age + first.clock.held + until ≤ limits.ticks + first.steps) → (first.steps < until → until ≤ limits.steps) → is_over app (state_after app plan k.steps) ≡ false → end_of app limits (state_after app plan k.steps) ≡ None
 goes_on_until app plan limits first k until begin way on short ticks steps going = free_before app plan limits first until begin ticks steps k.steps on short going
 
 -- It comes a step further where it went on.
-pub moves_on : (app : Application) (plan : List Point) (limits : Limits) (k new : Kernel) (until : ℕ) → k.steps ≤ new.steps → k.steps < until → end_of app limits (state_after app plan k.steps) ≡ None
+pub moves_on : (app : Application) (plan : List Point) (limits : Limits) (k new : Machine) (until : ℕ) → k.steps ≤ new.steps → k.steps < until → end_of app limits (state_after app plan k.steps) ≡ None
     → (new.steps < until → is_over app (state_after app plan new.steps) ≡ true) → k.steps < new.steps
 moves_on app plan limits k new until on short going there = by_test (eqb new.steps k.steps)
     (λ t.
@@ -211,7 +203,7 @@ moves_on app plan limits k new until on short going there = by_test (eqb new.ste
 
 -- ---- a run that is broken off has come no further than the run
 
-module _ (app : Application) (plan : List Point) (limits : Limits) (k : Kernel) (way : IsUnderWay app plan limits k) (run : Run) (is : IsRun app plan limits run) where
+module _ (app : Application) (plan : List Point) (limits : Limits) (k : Machine) (way : IsUnderWay app plan limits k) (run : Run) (is : IsRun app plan limits run) where
   pub no_further : k.steps ≤ run.steps
   no_further = by_test (leb k.steps run.steps)
       (λ t. leb-le k.steps run.steps t)

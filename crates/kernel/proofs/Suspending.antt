@@ -12,7 +12,7 @@ use Rattle.model.specs.declared.op.IsrOp.{IsrOp}
 use Rattle.model.specs.declared.op.IsrOp.TheVariants.{Resume}
 use Rattle.model.specs.Handlers.{isr_told, isr}
 use Rattle.model.specs.Application.{Application, op_count}
-use Rattle.model.specs.State.{State, Task, Progress, Status, Wait, Ready, Awake, Waiting, Asleep, WaitingForBits, Suspended, Ended, ticket_if_ready, wait_if_awake, wake_time_of, task_at, status_at, progress_at, call_at, with_task, with_status, no_task}
+use Rattle.model.specs.State.{State, Task, Progress, Status, Ready, Awake, Waiting, Asleep, WaitingForBits, Suspended, Ended, ticket_if_ready, wait_if_awake, wake_time_of, task_at, status_at, progress_at, call_at, with_task, with_status, no_task}
 use Rattle.model.specs.State as state
 use Rattle.model.specs.Switching.{is_ready, preempt, write}
 use Rattle.model.specs.Ops.{moved_to, called, go_to, answer, one_if}
@@ -41,12 +41,12 @@ use Rattle.groups.specs.StandsFor.{bits_wait}
 use Rattle.groups.specs.EventGroups.{EventGroups}
 use Rattle.groups.proofs.Standing as on_groups
 use Rattle.groups.proofs.Kept as bits_kept
-use Rattle.kernel.specs.declared.kernel.Kernel.{Kernel}
-use Rattle.kernel.specs.StandsFor.{StandsFor, StandsBefore, Stands, At, AtAny, progress_in, with_progress}
-use Rattle.kernel.specs.StandsFor.Stands.{Placed, Placing}
-use Rattle.kernel.specs.Can.{Runs}
-use Rattle.kernel.proofs.Parts.{there_if, progress-same, progress-set, ready_alike}
-use Rattle.kernel.proofs.Either.{any, either}
+use Rattle.machine.specs.declared.machine.Machine.{Machine}
+use Rattle.machine.specs.StandsFor.{StandsFor, StandsBefore, Stands, At, AtAny, progress_in, with_progress}
+use Rattle.machine.specs.StandsFor.Stands.{Placed, Placing}
+use Rattle.machine.specs.Can.{Runs}
+use Rattle.machine.proofs.Parts.{there_if, progress-same, progress-set, ready_alike}
+use Rattle.machine.proofs.Either.{any, either}
 use Rattle.kernel.proofs.Before.{stands_there}
 
 -- ---- whom a suspend changes
@@ -98,7 +98,7 @@ suspended_within s i t = there_if can_resume refl s i t
 
 -- ---- a task is suspended
 
-module _ (k : Kernel) (log : List Event) (s : State) (h : At k log s) (i : ℕ) where
+module _ (k : Machine) (log : List Event) (s : State) (h : At k log s) (i : ℕ) where
   pub suspended_at : can_suspend (status_at s i) ≡ true → (v : Schedule) (t : Timeline) (q : Exchange) (g : EventGroups) → sched.StandsFor v (with_status i Suspended s) → clock.StandsFor t (with_status i Suspended s) → queues.StandsFor q None (with_status i Suspended s)
       → groups.StandsFor g (with_status i Suspended s) → At (record k { sched = v; clock = t; queues = q; groups = g }) log (suspend i s)
   unfolding suspend
@@ -230,10 +230,10 @@ same_resume s i t =
     record { objects = k.objects; waits = k.waits; awake = k.awake; locked = k.locked }
 
 -- the kernel when it is resumed at this time, and the scheduler is this
-abbrev kernel_resumed : Kernel → Schedule → ℕ → ℕ → Kernel
+abbrev kernel_resumed : Machine → Schedule → ℕ → ℕ → Machine
 kernel_resumed k v now i = with_progress i (resumed now (progress_in k.progress i)) (record k { sched = v })
 
-module _ (k : Kernel) (s : State) (i : ℕ) (t : can_resume (status_at s i) ≡ true) (v : Schedule) (now : ℕ) (is : now ≡ s.time) where
+module _ (k : Machine) (s : State) (i : ℕ) (t : can_resume (status_at s i) ≡ true) (v : Schedule) (now : ℕ) (is : now ≡ s.time) where
   l : i < length s.tasks
   l = suspended_within s i t
 
@@ -313,7 +313,7 @@ unready_suspended : (u : Status) → can_resume u ≡ true → is_some (ticket_i
 unready_suspended u t = rw (is_suspended u t) refl
 
 -- nor is it still to be placed
-module _ (k : Kernel) (s : State) (i : ℕ) (t : can_resume (status_at s i) ≡ true) where
+module _ (k : Machine) (s : State) (i : ℕ) (t : can_resume (status_at s i) ≡ true) where
   pub apart_from : (task : ℕ) (list : WaitList) → StandsBefore task list k s → task ≢ i
   apart_from task list b e =
       let there = stands_there task list k s b in
@@ -321,11 +321,11 @@ module _ (k : Kernel) (s : State) (i : ℕ) (t : can_resume (status_at s i) ≡ 
       let none : None ≡ Some there.0 = sym (ap (λ (u : Status). option_and_then (wait_key list) (wait_of u)) is) ∙ there.1 in
       absurd (cc)
 
-pub suspended_is : (k : Kernel) (s : State) → Stands k s → (i : ℕ) → schedule.is_suspended k.sched i ≡ can_resume (status_at s i)
+pub suspended_is : (k : Machine) (s : State) → Stands k s → (i : ℕ) → schedule.is_suspended k.sched i ≡ can_resume (status_at s i)
 suspended_is k s (Placed h) i = h.sched.suspended i
 suspended_is k s (Placing task list b) i = b.sched.suspended i
 
-pub unready_in : (k : Kernel) (s : State) → Stands k s → (i : ℕ) → schedule.is_suspended k.sched i ≡ true → schedule.is_ready k.sched i ≡ false
+pub unready_in : (k : Machine) (s : State) → Stands k s → (i : ℕ) → schedule.is_suspended k.sched i ≡ true → schedule.is_ready k.sched i ≡ false
 unready_in k s st i t = by_stands st where
   can : can_resume (status_at s i) ≡ true
   can = sym (suspended_is k s st i) ∙ t
@@ -339,7 +339,7 @@ unready_in k s st i t = by_stands st where
 
 -- ---- the resume in either case
 
-module _ (k : Kernel) (log : List Event) (s : State) (i : ℕ) (v : Schedule) (now : ℕ) (is : now ≡ k.clock.now) (t : schedule.is_suspended k.sched i ≡ true) where
+module _ (k : Machine) (log : List Event) (s : State) (i : ℕ) (v : Schedule) (now : ℕ) (is : now ≡ k.clock.now) (t : schedule.is_suspended k.sched i ≡ true) where
   can_now : Stands k s → can_resume (status_at s i) ≡ true
   can_now st = sym (suspended_is k s st i) ∙ t
 
@@ -361,7 +361,7 @@ module _ (k : Kernel) (log : List Event) (s : State) (i : ℕ) (v : Schedule) (n
       })
 
 -- it isn't suspended
-module _ (k : Kernel) (log : List Event) (s : State) (i : ℕ) (t : schedule.is_suspended k.sched i ≡ false) where
+module _ (k : Machine) (log : List Event) (s : State) (i : ℕ) (t : schedule.is_suspended k.sched i ≡ false) where
   pub unresumed_at : At k log s → At k log (resume i s)
   unresumed_at h = subst (At k log) (sym (not_resumed s i (sym (suspended_is k s (Placed h.stands) i) ∙ t))) h
 
@@ -370,7 +370,7 @@ module _ (k : Kernel) (log : List Event) (s : State) (i : ℕ) (t : schedule.is_
 
 -- ---- the calls
 
-module _ (app : Application) (new : Kernel) (log : List Event) (s : State) (i j : ℕ) (n : ℕ) where
+module _ (app : Application) (new : Machine) (log : List Event) (s : State) (i j : ℕ) (n : ℕ) where
   pub called_suspend : is_ready s i ≡ true → i < length s.tasks → Some n ≡ one_if (can_suspend (status_at s j)) → At new log (preempt (suspend j (answer app i (Some n) s))) → At new log (call_suspend app i j s)
   unfolding call_suspend
   called_suspend ready l is h =
@@ -382,17 +382,17 @@ module _ (app : Application) (new : Kernel) (log : List Event) (s : State) (i j 
   called_resume is h = subst (λ (a : Option ℕ). At new log (preempt (answer app i a (resume j s)))) is h
 
 -- who runs runs still, where nothing of its task changes
-pub runs_by : (k new : Kernel) (i : ℕ) (s t : State) → Runs k i → StandsFor k s → StandsFor new t → t.current ≡ s.current → task_at t i ≡ task_at s i → Runs new i
+pub runs_by : (k new : Machine) (i : ℕ) (s t : State) → Runs k i → StandsFor k s → StandsFor new t → t.current ≡ s.current → task_at t i ≡ task_at s i → Runs new i
 runs_by k new i s t r h g current same = record {
   current = g.sched.current ∙ current ∙ sym h.sched.current ∙ r.current;
   ready = on_sched.ready_same new.sched t i g.sched ∙ ap (λ (u : Task). is_some (ticket_if_ready u.status)) same ∙ sym (on_sched.ready_same k.sched s i h.sched) ∙ r.ready;
   op_index = let e : (progress_in new.progress i).op_index ≡ (progress_in k.progress i).op_index = ap (λ (p : Progress). p.op_index) (g.rest.progress i ∙ ap (λ (u : Task). u.progress) same ∙ sym (h.rest.progress i)) in rw e r.op_index;
 }
 
-pub ready_by : (k : Kernel) (s : State) (i : ℕ) → Runs k i → StandsFor k s → is_ready s i ≡ true
+pub ready_by : (k : Machine) (s : State) (i : ℕ) → Runs k i → StandsFor k s → is_ready s i ≡ true
 ready_by k s i r h = sym (on_sched.ready_same k.sched s i h.sched) ∙ r.ready
 
-pub runs_resumed : (k new : Kernel) (i j : ℕ) (s : State) → Runs k i → StandsFor k s → StandsFor new (resume j s) → Runs new i
+pub runs_resumed : (k new : Machine) (i j : ℕ) (s : State) → Runs k i → StandsFor k s → StandsFor new (resume j s) → Runs new i
 unfolding resume
 runs_resumed k new i j s r h g = runs_by k new i s (resume j s) r h g
     (by_test (can_resume (status_at s j)) (λ t. rw t refl) (λ t. rw t refl))

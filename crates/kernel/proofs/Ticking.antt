@@ -29,28 +29,29 @@ use Rattle.sched.specs.Schedule.{is_steady, lined_up}
 use Rattle.sched.proofs.Standing as on_sched
 use Rattle.clock.specs.Timeline.{Timeline, Advances}
 use Rattle.clock.proofs.Standing.{due_next, stands_advanced}
-use Rattle.kernel.specs.declared.kernel.Kernel.{Kernel}
-use Rattle.kernel.specs.StandsFor.{StandsFor, Stands, At, AtAny, progress_in, with_progress}
-use Rattle.kernel.specs.StandsFor.Stands.{Placed, Placing}
+use Rattle.machine.specs.declared.machine.Machine.{Machine}
+use Rattle.machine.specs.StandsFor.{StandsFor, Stands, At, AtAny, progress_in, with_progress}
+use Rattle.machine.specs.StandsFor.Stands.{Placed, Placing}
 use Rattle.kernel.specs.Quiet.{IsQuiet, Passes, WorksOn, used_by}
-use Rattle.kernel.proofs.Acting.{used_more, within}
-use Rattle.kernel.proofs.Either.{any, current_is, elapsed_is, steps_are, stopped_is}
+use Rattle.kernel.proofs.Working.{used_more}
+use Rattle.machine.proofs.Acting.{within}
+use Rattle.machine.proofs.Either.{any, current_is, elapsed_is, steps_are, stopped_is}
 use Rattle.kernel.proofs.Ending.{begun, ends_not, not_over_by, on_by, stepped, stuck_by}
-use Rattle.kernel.proofs.Switches.{settled_either, settled_idle, settled_on, unheld_by}
-use Rattle.kernel.proofs.Waking.{groups-ticked, queues-ticked, sched-ticked, woken}
+use Rattle.machine.proofs.Switches.{settled_either, settled_idle, settled_on, unheld_by}
+use Rattle.machine.proofs.Waking.{groups-ticked, queues-ticked, sched-ticked, woken}
 
 -- ---- nothing is held
 
 zero_left : (n m : ℕ) → n + m ≡ 0 → n ≡ 0
 zero_left n m e = omega arith
 
-placed_by : (k : Kernel) (s : State) → k.sched.depth ≡ 0 → Stands k s → StandsFor k s
+placed_by : (k : Machine) (s : State) → k.sched.depth ≡ 0 → Stands k s → StandsFor k s
 placed_by k s z (Placed h) = h
 placed_by k s z (Placing task list b) =
     let e : k.sched.depth ≡ s.suspensions + 1 = b.sched.depth ∙ ap (λ (h : Bool). s.suspensions + (if h then 1 else 0)) b.held in
     absurd (omega arith)
 
-none_suspended : (k : Kernel) (s : State) → k.sched.depth ≡ 0 → StandsFor k s → s.suspensions ≡ 0
+none_suspended : (k : Machine) (s : State) → k.sched.depth ≡ 0 → StandsFor k s → s.suspensions ≡ 0
 none_suspended k s z h = zero_left s.suspensions (if s.call_hold then 1 else 0) (sym h.sched.depth ∙ z)
 
 -- ---- no base interrupt comes
@@ -144,7 +145,7 @@ uninterrupted app s none = rw none refl
 
 -- ---- a tick
 
-module _ (app : Application) (k : Kernel) (z : k.sched.depth ≡ 0) (calm : k.sched.pending ≡ []) (steady : is_steady k.sched ≡ true) (none : interrupts_at app (k.clock.age + k.clock.held + 1) ≡ []) (clock : Timeline) (a : Advances k.clock clock []) where
+module _ (app : Application) (k : Machine) (z : k.sched.depth ≡ 0) (calm : k.sched.pending ≡ []) (steady : is_steady k.sched ≡ true) (none : interrupts_at app (k.clock.age + k.clock.held + 1) ≡ []) (clock : Timeline) (a : Advances k.clock clock []) where
   module _ (log : List Event) (s : State) (h : At k log s) where
     free : s.suspensions ≡ 0
     free = none_suspended k s z h.stands
@@ -182,9 +183,9 @@ works_on app s task n free runs is =
     ∙ ap (λ (o : Option Op). act_if app task o s) is
     ∙ acts_calm app task (Work n) s free refl (λ e. cc)
 
-module _ (app : Application) (limits : Limits) (count : ℕ) (k : Kernel) (q : IsQuiet app limits (suc count) k) (clock : Timeline) (a : Advances k.clock clock []) where
+module _ (app : Application) (limits : Limits) (count : ℕ) (k : Machine) (q : IsQuiet app limits (suc count) k) (clock : Timeline) (a : Advances k.clock clock []) where
   -- what the step comes to, but for its number
-  abbrev after : Kernel
+  abbrev after : Machine
   after = record k { clock = clock; progress = used_by k.sched.current k.progress }
 
   acted : (r : State) → At k [] r → (o : Option ℕ) → k.sched.current ≡ o → WorksOn app (suc count) k o → At (record k { clock = clock; progress = used_by o k.progress }) [] (unless_held settle (act_current app r.current r))
@@ -199,7 +200,7 @@ module _ (app : Application) (limits : Limits) (count : ℕ) (k : Kernel) (q : I
       let p : Progress = progress_in k.progress task in
       let n : ℕ = w.2 in
       let used = w.4 in
-      let mid : Kernel = with_progress task (record p { used = p.used + 1 }) k in
+      let mid : Machine = with_progress task (record p { used = p.used + 1 }) k in
       let same : p ≡ progress_at r task = h.stands.rest.progress task in
       let on : At mid [] (use_up app task n r) = used_more app k mid [] r h task e p refl n (λ f. absurd (omega arith)) refl in
       let t : State = tick_interrupt app (use_up app task n r) in
@@ -274,16 +275,16 @@ module _ (app : Application) (limits : Limits) (count : ℕ) (k : Kernel) (q : I
         works = still_works s (placed_by k s q.depth h) k.sched.current refl q.works;
       }
 
-module _ (app : Application) (limits : Limits) (count : ℕ) (k new : Kernel) (q : IsQuiet app limits (suc count) k) (p : Passes k new) where
+module _ (app : Application) (limits : Limits) (count : ℕ) (k new : Machine) (q : IsQuiet app limits (suc count) k) (p : Passes k new) where
   -- A step that only lets a tick pass is the definition's.
   pub stands_passed : (s : State) → Stands k s → Stands new (step app [] s)
-  stands_passed s h = subst (λ (x : Kernel). Stands x (step app [] s)) (sym p.same) (passed app limits count k q new.clock p.clock s h)
+  stands_passed s h = subst (λ (x : Machine). Stands x (step app [] s)) (sym p.same) (passed app limits count k q new.clock p.clock s h)
 
   pub quiet_stays : (s : State) → Stands k s → IsQuiet app limits count new
   quiet_stays s h = subst (IsQuiet app limits count) (sym p.same) (stays app limits count k q new.clock p.clock s h)
 
   pub one_passed : new.steps ≡ suc k.steps
-  one_passed = ap (λ (x : Kernel). x.steps) p.same ∙ (let e : k.steps + 1 ≡ suc k.steps = omega arith in e)
+  one_passed = ap (λ (x : Machine). x.steps) p.same ∙ (let e : k.steps + 1 ≡ suc k.steps = omega arith in e)
 
 -- ---- before it the run goes on
 
@@ -295,7 +296,7 @@ and_none : (a : Bool) → not a && false ≡ false
 and_none true = refl
 and_none false = refl
 
-module _ (app : Application) (limits : Limits) (count : ℕ) (k : Kernel) (q : IsQuiet app limits (suc count) k) (s : State) (h : Stands k s) where
+module _ (app : Application) (limits : Limits) (count : ℕ) (k : Machine) (q : IsQuiet app limits (suc count) k) (s : State) (h : Stands k s) where
   abbrev ready : Bool
   ready = is_some (first_of (lined_up k.sched))
 
@@ -317,7 +318,7 @@ module _ (app : Application) (limits : Limits) (count : ℕ) (k : Kernel) (q : I
 
 -- ---- what the step asks
 
-module _ (app : Application) (limits : Limits) (count : ℕ) (k : Kernel) (q : IsQuiet app limits (suc count) k) where
+module _ (app : Application) (limits : Limits) (count : ℕ) (k : Machine) (q : IsQuiet app limits (suc count) k) where
   pub asleep_once : Each (λ e. k.clock.now + 1 < e.1) k.clock.delayed_list
   asleep_once = Each-imp (λ e. k.clock.now + suc count < e.1) (λ e. k.clock.now + 1 < e.1) k.clock.delayed_list (λ e l. omega (arith, l)) q.asleep
 
@@ -328,7 +329,7 @@ module _ (app : Application) (limits : Limits) (count : ℕ) (k : Kernel) (q : I
   used_once task e = let w : WorksOn app (suc count) k (Some task) = subst (WorksOn app (suc count) k) e q.works in let fits = w.1 in omega arith
 
 -- so many steps are quiet, and so are fewer
-pub quiet_fewer : (app : Application) (limits : Limits) (count few : ℕ) (k : Kernel) → few ≤ count → IsQuiet app limits count k → IsQuiet app limits few k
+pub quiet_fewer : (app : Application) (limits : Limits) (count few : ℕ) (k : Machine) → few ≤ count → IsQuiet app limits count k → IsQuiet app limits few k
 quiet_fewer app limits count few k le q =
     let ticks = q.ticks in
     let steps = q.steps in

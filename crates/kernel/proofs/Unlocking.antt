@@ -28,11 +28,11 @@ use Rattle.objects.proofs.Counting.{Distinct, distinct_from}
 use Rattle.groups.specs.StandsFor.{SameBitWaits}
 use Rattle.groups.proofs.Standing as on_groups
 use Rattle.groups.proofs.Elsewhere as bits_elsewhere
-use Rattle.kernel.specs.declared.kernel.Kernel.{Kernel}
-use Rattle.kernel.specs.StandsFor.{StandsFor, At}
-use Rattle.kernel.specs.Can.{AreThere, AreToWake}
-use Rattle.kernel.proofs.Parts.{clock-same}
-use Rattle.kernel.proofs.Waking.{progress-all_ready, log-all_ready}
+use Rattle.machine.specs.declared.machine.Machine.{Machine}
+use Rattle.machine.specs.StandsFor.{StandsFor, At}
+use Rattle.machine.specs.Can.{AreThere, AreToWake}
+use Rattle.machine.proofs.Parts.{clock-same}
+use Rattle.machine.proofs.Waking.{progress-all_ready, log-all_ready}
 use Rattle.kernel.proofs.Waits.{unready_awake, awake_unsuspended}
 
 -- ---- those who are Awake can all become Ready
@@ -53,7 +53,7 @@ in_one o (WaitingForBits g n d) k m e f = absurd (cc)
 in_one o Suspended k m e f = absurd (cc)
 in_one o Ended k m e f = absurd (cc)
 
-module _ (k : Kernel) (s : State) (h : StandsFor k s) (o : ℕ) where
+module _ (k : Machine) (s : State) (h : StandsFor k s) (o : ℕ) where
   Receives : Entry → Type 0
   Receives = HasKey (awake_key (ToReceive o)) s.tasks
 
@@ -107,7 +107,7 @@ module _ (k : Kernel) (s : State) (h : StandsFor k s) (o : ℕ) where
 
 -- ---- the unlock
 
-module _ (k : Kernel) (log : List Event) (s : State) (h : At k log s) where
+module _ (k : Machine) (log : List Event) (s : State) (h : At k log s) where
   pub sched_opened : sched.StandsFor k.sched (opened s)
   sched_opened = record { ready = h.stands.sched.ready; current = h.stands.sched.current; priorities = h.stands.sched.priorities; base_priorities = h.stands.sched.base_priorities; depth = h.stands.sched.depth; suspended = h.stands.sched.suspended; table = record { tickets = h.stands.sched.table.tickets; few = h.stands.sched.table.few; current = h.stands.sched.table.current; holders = h.stands.sched.table.holders } }
 
@@ -120,7 +120,7 @@ module _ (k : Kernel) (log : List Event) (s : State) (h : At k log s) where
   unlocked_at is v t q e on awake there =
       let keep = keeps-all_ready is (opened s) in
       let new : State = for_each make_ready is (opened s) in
-      let k2 : Kernel = record k { sched = v; clock = t; queues = q } in
+      let k2 : Machine = record k { sched = v; clock = t; queues = q } in
       subst (λ (x : State). At k2 log x) (sym e) (record {
         stands = record {
           sched = on;
@@ -146,7 +146,7 @@ module _ (k : Kernel) (log : List Event) (s : State) (h : At k log s) where
   still_unlocked none q there =
       let is : None ≡ s.locked = sym (ap locked_by none) ∙ h.stands.rest.queues.locked in
       let back : queues.StandsFor q None s = subst (λ (o : Option ℕ). queues.StandsFor q None (for_one unlock_object o s)) (sym is) there in
-      let k2 : Kernel = record k { queues = q } in
+      let k2 : Machine = record k { queues = q } in
       subst (λ (o : Option ℕ). At k2 log (for_one unlock_object o s)) is (record {
         stands = record {
           sched = h.stands.sched;

@@ -1,21 +1,18 @@
 -- Calls that wait: what a wake and each phase make of the states that the kernel stands for.
-use Rattle.std.proofs.Common.{◌≡◌, ◌≢◌, ◌<◌, ◌+◌, ℕ, Bool, true, false, List, [], ◌∷◌, length, Option, Some, None, refl, ap, sym, subst, ◌∙◌}
+use Rattle.std.proofs.Common.{◌≡◌, ◌≢◌, ◌<◌, ℕ, Bool, true, false, List, [], ◌∷◌, length, Option, Some, None, refl, ap, sym, subst, ◌∙◌}
 use Rattle.std.specs.Prelude.{if◌then◌else◌}
 use Rattle.std.specs.List.{AllByRecursion}
 use Rattle.std.specs.Option.{is_some, option_map, option_and_then}
-use Rattle.model.specs.declared.call.CallProgress.{CallProgress}
-use Rattle.model.specs.declared.call.Phase.{Phase}
-use Rattle.model.specs.declared.call.Phase.TheVariants.{Decide, Place, Try}
+use Rattle.model.specs.declared.call.Phase.TheVariants.{Decide, Try}
 use Rattle.model.specs.declared.call.WaitList.{WaitList}
 use Rattle.model.specs.declared.op.Access.{Access}
 use Rattle.model.specs.declared.event.Event.{Event}
 use Rattle.model.specs.Application.{Application}
-use Rattle.model.specs.State.{State, Task, Progress, Object, Status, Wait, Ready, Awake, Waiting, Asleep, WaitingForBits, Suspended, Ended, ticket_if_ready, wait_if_waiting, wait_if_awake, task_at, status_at, progress_at, call_at, with_call, with_object, go_on, for_one}
-use Rattle.model.specs.State as state
+use Rattle.model.specs.State.{State, Task, Progress, Object, Status, Wait, Ready, Awake, Waiting, Asleep, WaitingForBits, Suspended, Ended, ticket_if_ready, wait_if_waiting, wait_if_awake, task_at, status_at, call_at, with_object, go_on, for_one}
 use Rattle.model.specs.Order.{Key, Entry, first, task_of}
 use Rattle.model.specs.Switching.{is_ready, make_ready, preempt, choose}
 use Rattle.model.specs.Ops.{answer}
-use Rattle.model.specs.Waiting.{wait_key, waiters, awake_status, awaken, is_locked, wake_one, wake_best, set_deadline, is_expired, end_hold}
+use Rattle.model.specs.Waiting.{wait_key, waiters, awake_status, awaken, is_locked, wake_one, wake_best, is_expired, end_hold}
 use Rattle.model.specs.Suspension.{can_resume}
 use Rattle.model.specs.Objects.{possible, answer_to, fulfil, attempt}
 use Rattle.model.specs.Mutexes.{after_timeout}
@@ -35,39 +32,16 @@ use Rattle.objects.specs.WaitersStand.{AtLocked}
 use Rattle.objects.specs.Queues as queues
 use Rattle.objects.specs.Queues.{Exchange}
 use Rattle.objects.proofs.Awake.{at_locked-stored, at_locked-wake_best}
-use Rattle.groups.specs.StandsFor.{SameBitWaits, bits_wait}
+use Rattle.groups.specs.StandsFor.{SameBitWaits}
 use Rattle.groups.proofs.Standing as on_groups
 use Rattle.groups.proofs.Kept as bits_kept
 use Rattle.groups.proofs.Elsewhere as bits_elsewhere
-use Rattle.kernel.specs.declared.kernel.Kernel.{Kernel}
-use Rattle.kernel.specs.StandsFor.{StandsFor, At, progress_in, with_progress}
-use Rattle.kernel.specs.Can.{Runs}
-use Rattle.kernel.proofs.Parts.{clock-same, progress-same}
+use Rattle.machine.specs.declared.machine.Machine.{Machine}
+use Rattle.machine.specs.StandsFor.{StandsFor, At, progress_in}
+use Rattle.machine.specs.Can.{Runs}
+use Rattle.machine.proofs.Parts.{clock-same, progress-same}
 use Rattle.sched.proofs.LinedUp.{ready_woken}
-use Rattle.kernel.proofs.Waking.{progress-ready}
-use Rattle.kernel.proofs.Acting.{within, changed}
-
--- ---- a task's call goes on
-
-module _ (k new : Kernel) (log : List Event) (s : State) (h : At k log s) (i : ℕ) (r : k.sched.current ≡ Some i) where
-  pub not_placing : (call_at s i).phase ≢ Place
-  not_placing e = h.stands.rest.placed i (ap (λ (p : Progress). p.call.phase) (h.stands.rest.progress i) ∙ e)
-
-  pub recalled : (c d : CallProgress) → new ≡ with_progress i (record (progress_in k.progress i) { call = c }) k → c ≡ d → d.phase ≢ Place → (is_some (bits_wait (status_at s i)) ≡ true → d.wants ≡ (call_at s i).wants) → At new log (with_call i d s)
-  recalled c d is e off wants =
-      let P : Progress → Type 0 = λ p. At (with_progress i (record p { call = d }) k) log (state.with_progress i (record (progress_at s i) { call = d }) s) in
-      rw (is, e) (subst P (sym (h.stands.rest.progress i)) (changed k log s h i (within k log s h i r) (record (progress_at s i) { call = d }) off wants))
-
-  pub gone_on : (phase : Phase) → new ≡ with_progress i (record (progress_in k.progress i) { call = record (progress_in k.progress i).call { phase = phase } }) k → phase ≢ Place → At new log (go_on i phase s)
-  gone_on phase is off = recalled (record (progress_in k.progress i).call { phase = phase }) (record (call_at s i) { phase = phase }) is (ap (λ (p : Progress). record p.call { phase = phase }) (h.stands.rest.progress i)) off (λ _. refl)
-
-  pub dated : (v : Progress) → v ≡ progress_in k.progress i → (deadline ticks : Option ℕ) → deadline ≡ option_map (λ n. k.clock.now + n) ticks → new ≡ with_progress i (record (progress_in k.progress i) { call = record v.call { deadline = deadline } }) k → At new log (set_deadline i ticks s)
-  unfolding set_deadline
-  dated v e deadline ticks d is =
-      let now : deadline ≡ option_map (λ n. s.time + n) ticks = d ∙ ap (λ (m : ℕ). option_map (λ n. m + n) ticks) h.stands.rest.clock.now in
-      recalled (record v.call { deadline = deadline }) (record (call_at s i) { deadline = option_map (λ n. s.time + n) ticks }) is
-      (ap (λ (p : Progress). record p.call { deadline = deadline }) (e ∙ h.stands.rest.progress i) ∙ ap (λ (o : Option ℕ). record (call_at s i) { deadline = o }) now)
-      not_placing (λ _. refl)
+use Rattle.machine.proofs.Waking.{progress-ready}
 
 -- ---- a wake
 
@@ -166,7 +140,7 @@ module _ (s : State) (list : WaitList) (i : ℕ) (is : Some i ≡ (if is_locked 
   unfolding wake_best
   wakes_it = subst (λ (o : Option ℕ). for_one (λ task. wake_one task list) o s ≡ make_ready i s) (open_then (is_locked s.locked list) (best s list) i is).1 (rw opened refl)
 
-module _ (k : Kernel) (s : State) (h : StandsFor k s) (list : WaitList) (i : ℕ) (is : Some i ≡ (if is_locked s.locked list then None else best s list)) where
+module _ (k : Machine) (s : State) (h : StandsFor k s) (list : WaitList) (i : ℕ) (is : Some i ≡ (if is_locked s.locked list then None else best s list)) where
   pub woken_free : schedule.is_ready k.sched i ≡ false
   woken_free = on_sched.ready_same k.sched s i h.sched ∙ (waits_there s list i is).unready
 
@@ -244,7 +218,7 @@ awake_alike (WaitingForBits g m d) = record { key = refl; wake_time = refl }
 awake_alike Suspended = record { key = refl; wake_time = refl }
 awake_alike Ended = record { key = refl; wake_time = refl }
 
-module _ (k : Kernel) (log : List Event) (s : State) (h : At k log s) (list : WaitList) (is : None ≡ (if is_locked s.locked list then None else best s list)) (q : Exchange) (left : queues.StandsFor q None (wake_best list s)) where
+module _ (k : Machine) (log : List Event) (s : State) (h : At k log s) (list : WaitList) (is : None ≡ (if is_locked s.locked list then None else best s list)) (q : Exchange) (left : queues.StandsFor q None (wake_best list s)) where
   awakened_at : (i : ℕ) → i < length s.tasks → queues.StandsFor q None (awaken i s) → AtLocked None (awaken i s) → SameBitWaits s (awaken i s) → At (record k { queues = q }) log (awaken i s)
   awakened_at i l there locked bits =
       let t : Task = record (task_at s i) { status = awake_status (status_at s i) } in
@@ -281,7 +255,7 @@ module _ (k : Kernel) (log : List Event) (s : State) (h : At k log s) (list : Wa
     by_case (Counted i l one) = subst (At (record k { queues = q }) log) (sym one) (awakened_at i l (subst (queues.StandsFor q None) one left) (subst (AtLocked None) one (at_locked-wake_best None list s h.stands.rest.awake)) (subst (SameBitWaits s) one (bits_elsewhere.same_wake_best list s)))
 
 -- one task more is Ready, and the running one is as before
-pub still_runs : (k new : Kernel) (i j : ℕ) → Runs k j → schedule.is_ready k.sched i ≡ false → new.sched ≡ schedule.wake i k.sched → new.sched.current ≡ k.sched.current → new.progress ≡ k.progress → Runs new j
+pub still_runs : (k new : Machine) (i j : ℕ) → Runs k j → schedule.is_ready k.sched i ≡ false → new.sched ≡ schedule.wake i k.sched → new.sched.current ≡ k.sched.current → new.progress ≡ k.progress → Runs new j
 still_runs k new i j r off on current same =
     let apart : j ≢ i = (λ e. let f : schedule.is_ready k.sched i ≡ true = subst (λ (n : ℕ). schedule.is_ready k.sched n ≡ true) e r.ready in absurd (cc)) in
     record {
@@ -293,7 +267,7 @@ still_runs k new i j r off on current same =
 -- ---- a call is done
 
 -- an object changes
-pub stored_at : (k : Kernel) (log : List Event) (s : State) → At k log s → (o : ℕ) (x : Object) (q : Exchange) → queues.StandsFor q None (with_object o x s) → At (record k { queues = q }) log (with_object o x s)
+pub stored_at : (k : Machine) (log : List Event) (s : State) → At k log s → (o : ℕ) (x : Object) (q : Exchange) → queues.StandsFor q None (with_object o x s) → At (record k { queues = q }) log (with_object o x s)
 stored_at k log s h o x q there =
     let new : State = with_object o x s in
     let table : IsTable new = there.waiters.table in
@@ -317,7 +291,7 @@ stored_at k log s h o x q there =
     }
 
 -- a try
-module _ (app : Application) (new : Kernel) (log : List Event) (s : State) (i o : ℕ) (a : Access) where
+module _ (app : Application) (new : Machine) (log : List Event) (s : State) (i o : ℕ) (a : Access) where
   pub tried : possible s o a ≡ true → At new log (preempt (answer app i (answer_to s o a) (fulfil (Some i) o a s))) → At new log (try app i o a s)
   unfolding try
   tried t h = rw t h
@@ -337,10 +311,10 @@ module _ (app : Application) (new : Kernel) (log : List Event) (s : State) (i o 
   did h = h
 
 -- the hold ends
-pub left_after : (new : Kernel) (log : List Event) (s : State) (i : ℕ) → (call_at s i).waits ≡ true → At new log (choose (end_hold i Try s)) → At new log (leave_call i s)
+pub left_after : (new : Machine) (log : List Event) (s : State) (i : ℕ) → (call_at s i).waits ≡ true → At new log (choose (end_hold i Try s)) → At new log (leave_call i s)
 unfolding leave_call
 left_after new log s i t h = rw t h
 
-pub left_before : (new : Kernel) (log : List Event) (s : State) (i : ℕ) → (call_at s i).waits ≡ false → At new log (preempt (end_hold i Try s)) → At new log (leave_call i s)
+pub left_before : (new : Machine) (log : List Event) (s : State) (i : ℕ) → (call_at s i).waits ≡ false → At new log (preempt (end_hold i Try s)) → At new log (leave_call i s)
 unfolding leave_call
 left_before new log s i t h = rw t h

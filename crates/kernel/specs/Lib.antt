@@ -1,10 +1,5 @@
-pub mod Logged
-pub mod Loops
-pub mod StandsFor
 pub mod Blocked
 pub mod Can
-pub mod Boot
-pub mod Keeping
 pub mod Rows
 pub mod Quiet
 pub mod Over

@@ -6,11 +6,11 @@ use Rattle.model.specs.State.{Progress}
 use Rattle.lists.specs.Lists.{Each}
 use Rattle.sched.specs.Schedule.{is_ready, is_steady}
 use Rattle.clock.specs.Timeline.{Advances}
-use Rattle.kernel.specs.declared.kernel.Kernel.{Kernel}
-use Rattle.kernel.specs.StandsFor.{progress_in}
+use Rattle.machine.specs.declared.machine.Machine.{Machine}
+use Rattle.machine.specs.StandsFor.{progress_in}
 
 -- The running task has more than so much of a `work` before it; or idle runs, and somebody sleeps.
-abbrev pub WorksOn : Application → ℕ → Kernel → Option ℕ → Type 0
+abbrev pub WorksOn : Application → ℕ → Machine → Option ℕ → Type 0
 WorksOn app count k None = k.clock.delayed_list ≢ []
 WorksOn app count k (Some task) =
     (is_ready k.sched task ≡ true) × ((progress_in k.progress task).used + count < 2 ^ 32)
@@ -18,7 +18,7 @@ WorksOn app count k (Some task) =
 
 -- So many steps only let a tick pass, each before the end under these limits: nobody's sleep ends, the tick that is shown
 -- doesn't become 0, no base interrupt comes, and nothing switches.
-pub record IsQuiet (app : Application) (limits : Limits) (count : ℕ) (k : Kernel) : Type 0 where
+pub record IsQuiet (app : Application) (limits : Limits) (count : ℕ) (k : Machine) : Type 0 where
   pub stopped : k.stopped ≡ None
   pub depth : k.sched.depth ≡ 0
   pub pending : k.sched.pending ≡ []
@@ -36,6 +36,6 @@ used_by None ps = ps
 used_by (Some task) ps = slice_set ps task (record (progress_in ps task) { used = (progress_in ps task).used + 1 })
 
 -- One such step is done.
-pub record Passes (old new : Kernel) : Type 0 where
+pub record Passes (old new : Machine) : Type 0 where
   pub clock : Advances old.clock new.clock []
   pub same : new ≡ record old { clock = new.clock; steps = old.steps + 1; progress = used_by old.sched.current old.progress }

@@ -1,22 +1,23 @@
 //! The steps of a call that waits, from where it decides until it has let go of the scheduler. They are done one after another,
 //! with the call in hand, and nothing is looked for in each but whether the run is over.
-ghost use Rattle.std.specs.Prelude.{◌≡◌, true, false, None, ℕ, ◌+◌, ◌<◌, ◌≤◌, ◌^◌, ◌++◌, [], IfSome};
+ghost use Rattle.std.specs.Prelude.{◌≡◌, true, false, None, ℕ, ◌+◌, ◌<◌, ◌≤◌, ◌++◌, [], IfSome};
 ghost use Rattle.model.specs.declared.call.Phase as declared;
 ghost use Rattle.model.specs.declared.call.Phase.TheVariants.{Leave};
 ghost use Rattle.model.specs.State.{State};
 ghost use Rattle.model.specs.Step.{step};
 ghost use Rattle.model.specs.Run.{end_of, injected, state_after};
-ghost use Rattle.kernel.specs.Logged.{all_of};
-ghost use Rattle.kernel.specs.StandsFor.{Stands, progress_in};
-ghost use Rattle.kernel.specs.Can.{CanStep, IsUnderWay};
+ghost use Rattle.machine.specs.Logged.{all_of};
+ghost use Rattle.machine.specs.StandsFor.{Stands, progress_in};
+ghost use Rattle.machine.specs.Can.{IsUnderWay};
+ghost use Rattle.kernel.specs.Can.{CanStep};
 ghost use Rattle.kernel.specs.InCall.{IsInPhase, IsLeaving, IsSilent};
 ghost use Rattle.kernel.specs.Over.{is_over};
 ghost use Rattle.kernel.specs.Rows.{events_from};
 
-use crate::kernel::Kernel;
-use crate::log::Log;
-use crate::steps::op_of;
+use crate::ops::calls::{go_on_silently, leave_call};
+use crate::steps::{is_over, op_of};
 use crate::trail::Trail;
+use machine::{Log, Machine};
 use model::{Access, App, Limits, ObjectId, Op, Phase, Point, TaskId};
 
 /// Whether a call tells nothing in this phase, and holds the scheduler after it.
@@ -26,64 +27,62 @@ fn is_silent(phase: Phase) -> bool
     matches!(phase, Phase::Decide | Phase::Place | Phase::Unlock)
 }
 
-impl Kernel {
-    /// The phase that is next of a task's call.
-    fn phase(&self, task: TaskId) -> Phase
-        ensures { result ≡ (progress_in self.now.progress task).call.phase }
-    {
-        self.progress(task).call.phase
-    }
+/// The phase that is next of a task's call.
+fn phase(machine: &Machine, task: TaskId) -> Phase
+    ensures { result ≡ (progress_in machine.now.progress task).call.phase }
+{
+    machine.progress(task).call.phase
+}
 
-    /// Whether the running task's call has come to decide.
-    #[inline(always)]
-    pub(crate) fn is_deciding(&self) -> bool {
-        match self.sched.current() {
-            None => false,
-            Some(task) => self.phase(task) == Phase::Decide,
-        }
+/// Whether the running task's call has come to decide.
+#[inline(always)]
+pub(crate) fn is_deciding(machine: &Machine) -> bool {
+    match machine.sched.current() {
+        None => false,
+        Some(task) => phase(machine, task) == Phase::Decide,
     }
+}
 
-    /// One step of the run, in which the running task's call goes on in such a phase. While it holds the scheduler nothing
-    /// switches, so nothing else is done.
-    #[inline(always)]
-    fn step_in_call(
-        &mut self,
-        app: &App,
-        task: TaskId,
-        object: ObjectId,
-        access: Access,
-        phase: Phase,
-    )
-        requires silent { IsSilent phase }
-        requires going { CanStep app.now self.old }
-        requires call { IsInPhase app.now self.old task object access phase }
-        ensures stands { (s : State) → Stands self.old s → Stands self.new (step app.now [] s) }
-        ensures silent { (s : State) → Stands self.old s → (step app.now [] s).log ≡ [] }
-        ensures call { (next : declared.Phase) → (progress_in self.new.progress task).call.phase ≡ next
-            → IsInPhase app.now self.new task object access next }
-    {
-        app.well_formed();
-        self.go_on_silently(task, object, access, phase);
-        self.steps += 1;
-    }
+/// One step of the run, in which the running task's call goes on in such a phase. While it holds the scheduler nothing
+/// switches, so nothing else is done.
+#[inline(always)]
+fn step_in_call(
+    machine: &mut Machine,
+    app: &App,
+    task: TaskId,
+    object: ObjectId,
+    access: Access,
+    phase: Phase,
+)
+    requires silent { IsSilent phase }
+    requires going { CanStep app.now machine.old }
+    requires call { IsInPhase app.now machine.old task object access phase }
+    ensures stands { (s : State) → Stands machine.old s → Stands machine.new (step app.now [] s) }
+    ensures silent { (s : State) → Stands machine.old s → (step app.now [] s).log ≡ [] }
+    ensures call { (next : declared.Phase) → (progress_in machine.new.progress task).call.phase ≡ next
+        → IsInPhase app.now machine.new task object access next }
+{
+    app.well_formed();
+    go_on_silently(machine, task, object, access, phase);
+    machine.steps += 1;
+}
 
-    /// One step of the run, in which the running task's call lets go of the scheduler. The log has no event of this step yet.
-    #[inline(always)]
-    fn step_leaving<L: Log>(&mut self, app: &App, task: TaskId, log: &mut L)
-        requires going { CanStep app.now self.old }
-        requires leaving { IsLeaving app.now self.old task }
-        requires begun { (L.logged log.old).told ≡ [] }
-        requires room { 128 ≤ (L.logged log.old).room }
-        ensures stands { (s : State) → Stands self.old s → Stands self.new (step app.now [] s) }
-        ensures told { (s : State) → Stands self.old s
-            → (L.logged log.new).told ≡ (step app.now [] s).log }
-        ensures before { (L.logged log.new).before ≡ (L.logged log.old).before }
-    {
-        app.well_formed();
-        self.leave_call(task, log);
-        self.settle(log);
-        self.steps += 1;
-    }
+/// One step of the run, in which the running task's call lets go of the scheduler. The log has no event of this step yet.
+#[inline(always)]
+fn step_leaving<L: Log>(machine: &mut Machine, app: &App, task: TaskId, log: &mut L)
+    requires going { CanStep app.now machine.old }
+    requires leaving { IsLeaving app.now machine.old task }
+    requires begun { (L.logged log.old).told ≡ [] }
+    requires room { 128 ≤ (L.logged log.old).room }
+    ensures stands { (s : State) → Stands machine.old s → Stands machine.new (step app.now [] s) }
+    ensures told { (s : State) → Stands machine.old s
+        → (L.logged log.new).told ≡ (step app.now [] s).log }
+    ensures before { (L.logged log.new).before ≡ (L.logged log.old).before }
+{
+    app.well_formed();
+    leave_call(machine, task, log);
+    machine.settle(log);
+    machine.steps += 1;
 }
 
 /// Does the steps of the running task's call as long as it tells nothing and holds the scheduler, where it has come to decide:
@@ -91,7 +90,7 @@ impl Kernel {
 /// where its call lets go of the scheduler next.
 #[inline(never)]
 pub(crate) fn pass_call(
-    kernel: &mut Kernel,
+    kernel: &mut Machine,
     app: &App,
     points: &[Point],
     until: u32,
@@ -119,17 +118,17 @@ pub(crate) fn pass_call(
         return None;
     };
     'phases: while kernel.steps < until {
-        let phase = kernel.phase(task);
+        let phase = phase(kernel, task);
         if let Phase::Leave = phase {
             return Some(task);
         }
         if !is_silent(phase) {
             return None;
         }
-        if kernel.is_over(app) {
+        if is_over(kernel, app) {
             return None;
         }
-        kernel.step_in_call(app, task, object, access, phase);
+        step_in_call(kernel, app, task, object, access, phase);
     }
     None
 }
@@ -138,7 +137,7 @@ pub(crate) fn pass_call(
 /// step of this number, where the plan may have a point or a limit may be reached.
 #[inline(always)]
 pub(crate) fn pass_leave(
-    kernel: &mut Kernel,
+    kernel: &mut Machine,
     app: &App,
     points: &[Point],
     until: u32,
@@ -166,11 +165,11 @@ pub(crate) fn pass_leave(
     if until <= kernel.steps {
         return;
     }
-    if kernel.is_over(app) {
+    if is_over(kernel, app) {
         return;
     }
     if trail.begin().is_err() {
         return;
     }
-    kernel.step_leaving(app, task, trail);
+    step_leaving(kernel, app, task, trail);
 }

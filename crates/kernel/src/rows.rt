@@ -1,16 +1,16 @@
 //! Rows of a campaign: runs with one point each, on a kernel that is used again.
-ghost use Rattle.std.specs.Prelude.{◌≡◌, ◌<◌, ◌≤◌, ◌+◌, ◌*◌, ◌^◌, ℕ, [], ◌∷◌, None, IfOk, OnErr, length};
+ghost use Rattle.std.specs.Prelude.{◌≡◌, ◌<◌, ◌≤◌, ◌+◌, ◌^◌, ℕ, [], ◌∷◌, None, IfOk, OnErr, length};
 ghost use Rattle.model.specs.Run as definition;
 ghost use Rattle.model.specs.Run.{end_of, IsRun, state_after, events_after};
-ghost use Rattle.kernel.specs.Logged.{all_of};
-ghost use Rattle.kernel.specs.Can.{IsUnderWay};
+ghost use Rattle.machine.specs.Logged.{all_of};
+ghost use Rattle.machine.specs.Can.{IsUnderWay};
 ghost use Rattle.kernel.specs.Rows.{IsRowFrom, Extends};
 
 use crate::kernel::Kernel;
-use crate::log::StepLog;
 use crate::quiet::pass_on;
 use crate::steps::{count_steps, finish};
 use crate::trail::Trail;
+use machine::{Machine, StepLog};
 use model::{App, End, Limits, Memory, Meter, Point};
 
 /// What is said of a row but its events.
@@ -28,7 +28,7 @@ pub struct RowEnding {
 
 /// Goes along the base run up to this step, and counts the events. It takes no memory.
 fn advance(
-    kernel: &mut Kernel,
+    kernel: &mut Machine,
     app: &App,
     step: u32,
     limits: &Limits,
@@ -49,7 +49,7 @@ fn advance(
     limits.well_formed();
     let mut count = 0;
     'steps: while kernel.steps < step {
-        kernel.step(app, &[], meter, log);
+        crate::steps::step(kernel, app, &[], meter, log);
         count += log.len();
         let start = kernel.steps;
         let _ = pass_on(kernel, app, &[], step, log.is_empty(), limits);
@@ -90,13 +90,13 @@ pub fn run_row(
         → (meter.new + kernel.old.steps ≤ meter.old + run.steps) × (0 < length run.events)) }
 {
     limits.well_formed();
-    let before = advance(kernel, app, point.step, limits, meter, log);
+    let before = advance(&mut kernel.machine, app, point.step, limits, meter, log);
     let points = [point];
-    let end = finish(kernel, app, &points, limits, meter, log, trail)?;
+    let end = finish(&mut kernel.machine, app, &points, limits, meter, log, trail)?;
     Ok(RowEnding {
         before,
-        steps: kernel.steps,
-        ticks: kernel.clock.elapsed() as u32,
+        steps: kernel.machine.steps,
+        ticks: kernel.machine.clock.elapsed() as u32,
         end,
     })
 }

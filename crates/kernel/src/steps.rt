@@ -1,7 +1,6 @@
 //! Steps, and whole runs.
 ghost use Rattle.std.specs.Prelude.{◌≡◌, true, false, ℕ, ◌<◌, ◌≤◌, ◌+◌, ◌^◌, ◌++◌, [], Some, None, ◌||◌, IfSome, IsNone, IfOk, OnOk, OnErr, drop, length};
-ghost use Rattle.std.specs.List.{AllByRecursion};
-ghost use Rattle.std.specs.List.{list_any};
+ghost use Rattle.std.specs.List.{AllByRecursion, list_any};
 ghost use Rattle.model.specs.Application.{op_at};
 ghost use Rattle.model.specs.State.{State};
 ghost use Rattle.model.specs.Step.{act_current, step};
@@ -10,19 +9,23 @@ ghost use Rattle.model.specs.declared.plan.Point as definitions;
 ghost use Rattle.model.specs.Plans.{IsPlan};
 ghost use Rattle.model.specs.Scripts.{Rises};
 ghost use Rattle.model.specs.Run.{end_of, injected, IsRun, state_after, events_after, are_all_ended, is_stuck};
-ghost use Rattle.kernel.specs.Logged.{all_of};
-ghost use Rattle.kernel.specs.StandsFor.{Stands, StandsFor, DoesAny};
+ghost use Rattle.machine.specs.Logged.{all_of};
+ghost use Rattle.machine.specs.StandsFor.{Stands, StandsFor, DoesAny};
 ghost use Rattle.kernel.specs.Blocked.{is_blocked};
 ghost use Rattle.kernel.specs.Over.{is_over};
-ghost use Rattle.kernel.specs.Can.{CanAct, CanStep, IsUnderWay};
+ghost use Rattle.machine.specs.Can.{IsUnderWay};
+ghost use Rattle.kernel.specs.Can.{CanAct, CanStep};
 ghost use Rattle.kernel.specs.Rows.{events_from, Extends};
 
+use crate::handlers::{inject_all, tick_interrupt};
 use crate::in_call::pass_leave;
 use crate::kernel::Kernel;
-use crate::log::{Log, StepLog};
-use crate::quiet::{next_point, pass_on};
+use crate::ops::act;
+use crate::ops::suspension::act_while_suspended;
+use crate::quiet::{free_until, next_point, pass_on};
 use crate::trail::Trail;
 use arrayvec::ArrayVec;
+use machine::{Log, Machine, StepLog};
 use model::{App, End, HandlerId, Limits, Memory, Meter, Op, Plan, Point, Run, TaskId};
 use std::alloc::Global;
 
@@ -40,136 +43,140 @@ pub(crate) fn op_of(app: &App, task: TaskId, op_index: u16) -> Option<&Op>
     definition.ops().get(op_index as usize)
 }
 
-impl Kernel {
-    /// What a step does: the running task's op, or for idle a tick.
-    #[inline(always)]
-    fn act_current<L: Log>(&mut self, app: &App, log: &mut L)
-        requires room { 65 ≤ (L.logged log.old).room }
-        requires can { CanAct app.now self.old }
-        ensures { DoesAny 65 self.old (L.logged log.old) self.new (L.logged log.new)
-            (λ s. act_current app.now s.current s) }
-    {
-        let Some(task) = self.sched.current() else {
-            self.tick_interrupt(app, log);
-            return;
-        };
-        if self.suspensions > 0 {
-            self.act_while_suspended(app, task, log);
-            return;
-        }
-        let op_index = self.progress(task).op_index;
-        if let Some(op) = op_of(app, task, op_index) {
-            self.act(app, task, op, log);
-        }
+/// What a step does: the running task's op, or for idle a tick.
+#[inline(always)]
+fn act_current<L: Log>(machine: &mut Machine, app: &App, log: &mut L)
+    requires room { 65 ≤ (L.logged log.old).room }
+    requires can { CanAct app.now machine.old }
+    ensures { DoesAny 65 machine.old (L.logged log.old) machine.new (L.logged log.new)
+        (λ s. act_current app.now s.current s) }
+{
+    let Some(task) = machine.sched.current() else {
+        tick_interrupt(machine, app, log);
+        return;
+    };
+    if machine.suspensions > 0 {
+        act_while_suspended(machine, app, task, log);
+        return;
     }
+    let op_index = machine.progress(task).op_index;
+    if let Some(op) = op_of(app, task, op_index) {
+        act(machine, app, task, op, log);
+    }
+}
 
-    /// One step of the run, before which these handlers come, whose events go to a log that has none of this step yet.
-    #[inline(always)]
-    fn step_onto<L: Log>(&mut self, app: &App, handlers: &[HandlerId], log: &mut L)
-        requires few { length handlers.now ≤ 3 }
-        requires going { CanStep app.now self.old }
-        requires begun { (L.logged log.old).told ≡ [] }
-        requires room { 128 ≤ (L.logged log.old).room }
-        ensures stands { (s : State) → Stands self.old s → Stands self.new (step app.now handlers.now s) }
-        ensures told { (s : State) → Stands self.old s
-            → (L.logged log.new).told ≡ (step app.now handlers.now s).log }
-        ensures before { (L.logged log.new).before ≡ (L.logged log.old).before }
-    {
-        app.well_formed();
-        self.inject_all(app, handlers, log);
-        self.act_current(app, log);
-        self.settle(log);
-        self.steps += 1;
-    }
+/// One step of the run, before which these handlers come, whose events go to a log that has none of this step yet.
+#[inline(always)]
+fn step_onto<L: Log>(machine: &mut Machine, app: &App, handlers: &[HandlerId], log: &mut L)
+    requires few { length handlers.now ≤ 3 }
+    requires going { CanStep app.now machine.old }
+    requires begun { (L.logged log.old).told ≡ [] }
+    requires room { 128 ≤ (L.logged log.old).room }
+    ensures stands { (s : State) → Stands machine.old s → Stands machine.new (step app.now handlers.now s) }
+    ensures told { (s : State) → Stands machine.old s
+        → (L.logged log.new).told ≡ (step app.now handlers.now s).log }
+    ensures before { (L.logged log.new).before ≡ (L.logged log.old).before }
+{
+    app.well_formed();
+    inject_all(machine, app, handlers, log);
+    act_current(machine, app, log);
+    machine.settle(log);
+    machine.steps += 1;
+}
 
-    /// One step of the run: these handlers, three at most, and then the running task's op, or a tick of idle (profile). The
-    /// events that it tells are then in the log, in order, and nothing else. It takes no memory.
-    ///
-    /// The kernel is of this application, and its run has not ended under some limits. The meter, which rises by 1, is
-    /// below 2^63.
-    pub fn step(&mut self, app: &App, handlers: &[HandlerId], meter: &mut Meter, log: &mut StepLog)
-        requires few { length handlers.now ≤ 3 }
-        requires going { CanStep app.now self.old }
-        requires meter { meter.old < 2 ^ 63 }
-        ensures stands { (s : State) → Stands self.old s → Stands self.new (step app.now handlers.now s) }
-        ensures log { (s : State) → Stands self.old s
-            → log.new.items ≡ (step app.now handlers.now s).log }
-        ensures meter { meter.new ≡ meter.old + 1 }
-    {
-        log.clear();
-        self.step_onto(app, handlers, log);
-        meter.count();
-    }
+/// One step of the run: these handlers, three at most, and then the running task's op, or a tick of idle (profile). The
+/// events that it tells are then in the log, in order, and nothing else. It takes no memory.
+///
+/// The kernel is of this application, and its run has not ended under some limits. The meter, which rises by 1, is
+/// below 2^63.
+pub(crate) fn step(
+    machine: &mut Machine,
+    app: &App,
+    handlers: &[HandlerId],
+    meter: &mut Meter,
+    log: &mut StepLog,
+)
+    requires few { length handlers.now ≤ 3 }
+    requires going { CanStep app.now machine.old }
+    requires meter { meter.old < 2 ^ 63 }
+    ensures stands { (s : State) → Stands machine.old s → Stands machine.new (step app.now handlers.now s) }
+    ensures log { (s : State) → Stands machine.old s
+        → log.new.items ≡ (step app.now handlers.now s).log }
+    ensures meter { meter.new ≡ meter.old + 1 }
+{
+    log.clear();
+    step_onto(machine, app, handlers, log);
+    meter.count();
+}
 
-    /// Whether any task waits, for an object or for bits, or is suspended.
-    // It is asked only where nobody is Ready and nobody sleeps.
-    #[cold]
-    #[inline(never)]
-    fn has_waiter(&self) -> bool
-        ensures { (s : State) → StandsFor self.now s → result ≡ list_any is_blocked s.tasks }
-    {
-        self.queues.has_waiter() || self.groups.has_waiter() || self.sched.has_suspended()
-    }
+/// Whether any task waits, for an object or for bits, or is suspended.
+// It is asked only where nobody is Ready and nobody sleeps.
+#[cold]
+#[inline(never)]
+fn has_waiter(machine: &Machine) -> bool
+    ensures { (s : State) → StandsFor machine.now s → result ≡ list_any is_blocked s.tasks }
+{
+    machine.queues.has_waiter() || machine.groups.has_waiter() || machine.sched.has_suspended()
+}
 
-    /// Whether every task is Ended: nobody is Ready, sleeps, waits or is suspended.
-    #[inline(always)]
-    fn are_all_ended(&self) -> bool
-        ensures { (s : State) → Stands self.now s → result ≡ are_all_ended s }
-    {
-        !self.sched.has_ready() && self.clock.is_quiet() && !self.has_waiter()
-    }
+/// Whether every task is Ended: nobody is Ready, sleeps, waits or is suspended.
+#[inline(always)]
+fn are_all_ended(machine: &Machine) -> bool
+    ensures { (s : State) → Stands machine.now s → result ≡ are_all_ended s }
+{
+    !machine.sched.has_ready() && machine.clock.is_quiet() && !has_waiter(machine)
+}
 
-    /// Whether idle runs, no task will wake by itself, and no base interrupt is to come.
-    fn is_stuck(&self, app: &App) -> bool
-        ensures { (s : State) → Stands self.now s → result ≡ is_stuck app.now s }
-    {
-        if self.sched.current().is_some() {
-            return false;
-        }
-        if !self.clock.is_quiet() {
-            return false;
-        }
-        !app.has_interrupt_after(self.clock.elapsed())
+/// Whether idle runs, no task will wake by itself, and no base interrupt is to come.
+fn is_stuck(machine: &Machine, app: &App) -> bool
+    ensures { (s : State) → Stands machine.now s → result ≡ is_stuck app.now s }
+{
+    if machine.sched.current().is_some() {
+        return false;
     }
+    if !machine.clock.is_quiet() {
+        return false;
+    }
+    !app.has_interrupt_after(machine.clock.elapsed())
+}
 
-    /// Whether the run is over before its next step, whatever its limits: an `expect` failed or a misuse came, every task is
-    /// Ended, or it is stuck.
-    #[inline(always)]
-    pub(crate) fn is_over(&self, app: &App) -> bool
-        ensures { (s : State) → Stands self.now s → result ≡ is_over app.now s }
-    {
-        if self.stopped.is_some() {
-            return true;
-        }
-        if self.are_all_ended() {
-            return true;
-        }
-        self.is_stuck(app)
+/// Whether the run is over before its next step, whatever its limits: an `expect` failed or a misuse came, every task is
+/// Ended, or it is stuck.
+#[inline(always)]
+pub(crate) fn is_over(machine: &Machine, app: &App) -> bool
+    ensures { (s : State) → Stands machine.now s → result ≡ is_over app.now s }
+{
+    if machine.stopped.is_some() {
+        return true;
     }
+    if are_all_ended(machine) {
+        return true;
+    }
+    is_stuck(machine, app)
+}
 
-    /// The end of the run before its next step, under these limits: the first that holds of a failed `expect` or a misuse,
-    /// every task Ended, the ticks, the steps, stuck (profile). `None` where the run goes on.
-    #[inline(always)]
-    pub fn ended(&self, app: &App, limits: &Limits) -> Option<End>
-        ensures { (s : State) → Stands self.now s → result ≡ end_of app.now limits.now s }
-    {
-        if self.stopped.is_some() {
-            return self.stopped;
-        }
-        if self.are_all_ended() {
-            return Some(End::Pass);
-        }
-        if limits.ticks as u64 <= self.clock.elapsed() {
-            return Some(End::Ticks);
-        }
-        if limits.steps <= self.steps {
-            return Some(End::Steps);
-        }
-        if self.is_stuck(app) {
-            return Some(End::Stuck);
-        }
-        None
+/// The end of the run before its next step, under these limits: the first that holds of a failed `expect` or a misuse,
+/// every task Ended, the ticks, the steps, stuck (profile). `None` where the run goes on.
+#[inline(always)]
+pub(crate) fn ended(machine: &Machine, app: &App, limits: &Limits) -> Option<End>
+    ensures { (s : State) → Stands machine.now s → result ≡ end_of app.now limits.now s }
+{
+    if machine.stopped.is_some() {
+        return machine.stopped;
     }
+    if are_all_ended(machine) {
+        return Some(End::Pass);
+    }
+    if limits.ticks as u64 <= machine.clock.elapsed() {
+        return Some(End::Ticks);
+    }
+    if limits.steps <= machine.steps {
+        return Some(End::Steps);
+    }
+    if is_stuck(machine, app) {
+        return Some(End::Stuck);
+    }
+    None
 }
 
 /// One step of the run, whose events go to this log first, in place of what it has: memory is taken only for those that the step
@@ -179,7 +186,7 @@ impl Kernel {
 #[cold]
 #[inline(never)]
 fn step_apart(
-    kernel: &mut Kernel,
+    kernel: &mut Machine,
     app: &App,
     handlers: &[HandlerId],
     meter: &mut Meter,
@@ -200,7 +207,7 @@ fn step_apart(
         → trail.old.room < length (step app.now handlers.now s).log) }
 {
     log.clear();
-    kernel.step_onto(app, handlers, log);
+    step_onto(kernel, app, handlers, log);
     meter.count();
     trail.append(log.as_slice())
 }
@@ -209,7 +216,7 @@ fn step_apart(
 /// growth was refused, so never where the step tells nothing, it is done all the same.
 #[inline(always)]
 fn step_along(
-    kernel: &mut Kernel,
+    kernel: &mut Machine,
     app: &App,
     handlers: &[HandlerId],
     meter: &mut Meter,
@@ -229,7 +236,7 @@ fn step_along(
 {
     let is_roomy = trail.begin().is_ok();
     if is_roomy && handlers.is_empty() {
-        kernel.step_onto(app, handlers, trail);
+        step_onto(kernel, app, handlers, trail);
         meter.count();
         return Ok(());
     }
@@ -257,7 +264,7 @@ fn handlers_at(points: &[Point], step: u32) -> Injected
 /// answers the points after it.
 #[inline(always)]
 fn step_by_plan<'a>(
-    kernel: &mut Kernel,
+    kernel: &mut Machine,
     app: &App,
     points: &'a [Point],
     meter: &mut Meter,
@@ -301,7 +308,7 @@ pub(crate) fn count_steps(meter: &mut Meter, steps: u32)
 /// more.
 #[inline(never)]
 fn go_on_in_room(
-    kernel: &mut Kernel,
+    kernel: &mut Machine,
     app: &App,
     points: &[Point],
     until: u32,
@@ -325,10 +332,10 @@ fn go_on_in_room(
         if trail.begin().is_err() {
             return;
         }
-        if kernel.is_over(app) {
+        if is_over(kernel, app) {
             return;
         }
-        kernel.step_onto(app, &[], trail);
+        step_onto(kernel, app, &[], trail);
         let leaving = pass_on(kernel, app, points, until, trail.is_silent(), limits);
         pass_leave(kernel, app, points, until, leaving, limits, trail);
     }
@@ -337,7 +344,7 @@ fn go_on_in_room(
 /// Goes on along a run that is under way, up to this step or to an end before it, and keeps the events from there on. The plan
 /// has no points before that step, and neither limit is reached before it, so none of this is looked at on the way.
 fn go_on(
-    kernel: &mut Kernel,
+    kernel: &mut Machine,
     app: &App,
     points: &[Point],
     until: u32,
@@ -373,7 +380,7 @@ fn go_on(
         if until <= kernel.steps {
             return Ok(());
         }
-        if kernel.is_over(app) {
+        if is_over(kernel, app) {
             return Ok(());
         }
         step_along(kernel, app, &[], meter, log, trail)?;
@@ -383,7 +390,7 @@ fn go_on(
 /// Goes on to the end of a run that is under way, and keeps the events from there on. These points are its plan, all of
 /// them still to come.
 pub(crate) fn finish(
-    kernel: &mut Kernel,
+    kernel: &mut Machine,
     app: &App,
     points: &[Point],
     limits: &Limits,
@@ -410,11 +417,11 @@ pub(crate) fn finish(
     limits.well_formed();
     let mut left = points;
     'steps: loop {
-        if let Some(end) = kernel.ended(app, limits) {
+        if let Some(end) = ended(kernel, app, limits) {
             return Ok(end);
         }
         left = step_by_plan(kernel, app, left, meter, log, trail)?;
-        let until = kernel.free_until(next_point(left), limits);
+        let until = free_until(kernel, next_point(left), limits);
         go_on(kernel, app, points, until, limits, meter, log, trail)?;
     }
 }
@@ -452,11 +459,20 @@ pub fn follow(
         if let Some(end) = kernel.ended(app, limits) {
             return Ok(Some(end));
         }
-        if kernel.steps == step {
+        if kernel.machine.steps == step {
             return Ok(None);
         }
-        let until = kernel.free_until(step, limits);
-        go_on(kernel, app, &[], until, limits, meter, log, trail)?;
+        let until = free_until(&kernel.machine, step, limits);
+        go_on(
+            &mut kernel.machine,
+            app,
+            &[],
+            until,
+            limits,
+            meter,
+            log,
+            trail,
+        )?;
     }
 }
 
@@ -482,7 +498,7 @@ pub fn run(
     limits.well_formed();
     plan.well_formed();
     let mut trail = Trail::new(alloc);
-    let mut kernel = Kernel::boot(app);
+    let mut kernel = Machine::boot(app);
     let points = plan.points();
     let mut log = StepLog::new();
     let end = finish(

@@ -1,8 +1,8 @@
 //! The events of a run, or of several, with room for those of one more step.
 ghost use Rattle.std.specs.Prelude.{◌≡◌, ◌<◌, ◌≤◌, ◌++◌, [], OnOk, OnErr, length, take};
-ghost use Rattle.kernel.specs.Logged.{all_of};
+ghost use Rattle.machine.specs.Logged.{all_of};
 
-use crate::log::Log;
+use machine::Log;
 use model::{Event, Memory};
 use std::alloc::Global;
 use std::marker::Model;
@@ -20,7 +20,7 @@ pub struct Trail {
 impl Model for Trail {
     ghost use Rattle.std.specs.Prelude.{◌≤◌, ◌-◌, take, drop, length};
     ghost use Rattle.std.specs.Vec.{vec_capacity};
-    ghost use Rattle.kernel.specs.Logged.{Logged};
+    ghost use Rattle.machine.specs.Logged.{Logged};
 
     ghost Value = { Logged };
 

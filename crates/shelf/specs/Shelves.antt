@@ -3,7 +3,7 @@ use Rattle.std.specs.Prelude.{◌≡◌, ℕ, ◌+◌, ◌-◌, ◌*◌, ◌%◌
 use Rattle.model.specs.declared.plan.Point.{Point}
 use Rattle.model.specs.Application.{Application, Limits}
 use Rattle.model.specs.Run.{Run, IsRun, events_after}
-use Rattle.kernel.specs.Can.{IsUnderWay}
+use Rattle.machine.specs.Can.{IsUnderWay}
 use Rattle.shelf.specs.declared.stops.Stop.{Stop}
 
 -- The kernel stood so before this step of the base run, which had told so many events by then.

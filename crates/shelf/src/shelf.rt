@@ -2,7 +2,7 @@
 ghost use Rattle.std.specs.Prelude.{◌≡◌, Bool, true, false, nat_lt, ◌<◌, ◌≤◌, ◌+◌, ◌%◌, ◌^◌, ◌∷◌, ◌++◌, [], take, length, IfOk, OnErr};
 ghost use Rattle.model.specs.Run as definition;
 ghost use Rattle.model.specs.Run.{IsRun, IsRow, events_after};
-ghost use Rattle.kernel.specs.Logged.{all_of};
+ghost use Rattle.machine.specs.Logged.{all_of};
 ghost use Rattle.kernel.specs.Rows.{IsRowFrom};
 ghost use Rattle.shelf.specs.Shelves.{IsShelf, cost_of};
 

@@ -1,8 +1,8 @@
 //! The kernel as it stood along the base run.
 ghost use Rattle.std.specs.Prelude.{◌≡◌, ◌<◌, ◌≤◌, ◌+◌, ◌*◌, ◌++◌, ◌∷◌, [], length, Some, IfOk, OnOk};
 ghost use Rattle.model.specs.Run.{end_of, state_after, events_after};
-ghost use Rattle.kernel.specs.Logged.{all_of};
-ghost use Rattle.kernel.specs.Can.{IsUnderWay};
+ghost use Rattle.machine.specs.Logged.{all_of};
+ghost use Rattle.machine.specs.Can.{IsUnderWay};
 ghost use Rattle.shelf.specs.Shelves.{AreStops};
 
 use kernel::{Kernel, Snapshot, StepLog, Trail, follow};

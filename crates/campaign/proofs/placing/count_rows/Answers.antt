@@ -1,6 +1,6 @@
 use Rattle.std.specs.Prelude.{nat_lt}
 use Rattle.std.proofs.Common.{◌∙◌, ◌+◌, ◌-◌, ◌++◌, ℕ, take, drop, ap, refl, sym, arith}
-use Rattle.kernel.specs.Logged.{all_of}
+use Rattle.machine.specs.Logged.{all_of}
 use Rattle.model.specs.Campaign.{totals_of}
 use Rattle.campaign.specs.Report.{row_of, rows_of}
 use Rattle.campaign.proofs.Totalling.{one_row_more, rows_few, slice_few, slice_whole}

@@ -1,5 +1,5 @@
 use Rattle.std.proofs.Common.{◌≡◌, ◌++◌, take, List}
-use Rattle.kernel.specs.Logged.{all_of}
+use Rattle.machine.specs.Logged.{all_of}
 use Rattle.model.specs.Campaign.{Row, totals_of}
 use Rattle.campaign.specs.Report.{rows_of}
 use Rattle.campaign.proofs.placing.count_rows.Given as goal

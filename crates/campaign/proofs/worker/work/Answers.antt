@@ -1,5 +1,5 @@
 use Rattle.std.proofs.Common.{◌∙◌, sym, subst, List, ℕ}
-use Rattle.kernel.specs.Logged.{all_of}
+use Rattle.machine.specs.Logged.{all_of}
 use Rattle.deal.specs.Divisions.{IsBlock}
 use Rattle.deal.specs.Sharing.{Game}
 use Rattle.campaign.specs.Setup.{work_of}

@@ -1,5 +1,5 @@
 use Rattle.std.proofs.Common.{◌≡◌, true}
-use Rattle.kernel.specs.Logged.{all_of}
+use Rattle.machine.specs.Logged.{all_of}
 use Rattle.campaign.specs.Setup.{work_of}
 use Rattle.campaign.specs.Working.{AreKnown}
 use Rattle.campaign.proofs.Blocks.{HasWorked}

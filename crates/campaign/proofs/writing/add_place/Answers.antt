@@ -1,6 +1,6 @@
 use Rattle.std.proofs.Common.{◌≡◌, ◌∙◌, ◌+◌, ◌-◌, ◌++◌, ℕ, List, take, drop, ap₂, subst, arith}
 use Rattle.std.proofs.lemmas.Result.{MatchResult-from_err}
-use Rattle.kernel.specs.Logged.{all_of}
+use Rattle.machine.specs.Logged.{all_of}
 use Rattle.byte_io.specs.Bytes.{SentFront}
 use Rattle.report.specs.Text.{rows_text}
 use Rattle.campaign.specs.declared.rows.KeptRow.{KeptRow}

@@ -1,5 +1,5 @@
 use Rattle.std.proofs.Common.{◌≡◌, ◌++◌, take, false}
-use Rattle.kernel.specs.Logged.{all_of}
+use Rattle.machine.specs.Logged.{all_of}
 use Rattle.byte_io.specs.Bytes.{Sent}
 use Rattle.report.specs.Text.{rows_text}
 use Rattle.campaign.specs.Report.{rows_of}

@@ -18,17 +18,17 @@ pub phases-preserved : goal.phases-preserved
 phases-preserved c =
     let on : end_of c.args.app.now c.args.limits.now (state_after c.args.app.now c.args.points.now c.phases.kernel.steps) ≡ None = c.requires.free c.phases.kernel.steps c.phases.invariant.on (omega (arith, c.phases-test.true)) (sym (c.if-is_over.ensures _ c.phases.invariant.way.stands)) in
     let none : [] ≡ injected c.args.points.now c.phases.kernel.steps = sym (c.requires.alone c.phases.kernel.steps c.phases.invariant.on (omega (arith, c.phases-test.true))) in
-    let stands = stands_as c.args.app.now c.phases.kernel c.step_in_call.new.self [] (injected c.args.points.now c.phases.kernel.steps) none c.step_in_call.ensures.stands in
+    let stands = stands_as c.args.app.now c.phases.kernel c.step_in_call.new.machine [] (injected c.args.points.now c.phases.kernel.steps) none c.step_in_call.ensures.stands in
     let told : [] ≡ (step c.args.app.now (injected c.args.points.now c.phases.kernel.steps) (state_after c.args.app.now c.args.points.now c.phases.kernel.steps)).log =
     subst (λ (hs : List ℕ). [] ≡ (step c.args.app.now hs (state_after c.args.app.now c.args.points.now c.phases.kernel.steps)).log) none (sym (c.step_in_call.ensures.silent _ c.phases.invariant.way.stands)) in
-    let more = steps_more c.args.app.now c.well_formed-2.ensures c.args.points.now c.args.limits.now c.well_formed-3.ensures c.phases.kernel c.phases.invariant.way on c.step_in_call.new.self stands in
+    let more = steps_more c.args.app.now c.well_formed-2.ensures c.args.points.now c.args.limits.now c.well_formed-3.ensures c.phases.kernel c.phases.invariant.way on c.step_in_call.new.machine stands in
     let lt : c.phases.kernel.steps < c.args.until = omega (arith, c.phases-test.true) in
     let so_far = c.phases.invariant.on in
     record {
-      way = goes_on c.args.app.now c.well_formed-2.ensures c.args.points.now c.args.limits.now c.well_formed-3.ensures c.phases.kernel c.phases.invariant.way on c.step_in_call.new.self stands;
+      way = goes_on c.args.app.now c.well_formed-2.ensures c.args.points.now c.args.limits.now c.well_formed-3.ensures c.phases.kernel c.phases.invariant.way on c.step_in_call.new.machine stands;
       on = omega arith;
       far = λ _. omega arith;
-      silent = sym (more_events c.args.app.now c.well_formed-2.ensures c.args.points.now c.args.limits.now c.well_formed-3.ensures c.phases.kernel c.phases.invariant.way on c.step_in_call.new.self stands c.args.kernel.now.steps so_far [] [] [] (sym c.phases.invariant.silent) told);
+      silent = sym (more_events c.args.app.now c.well_formed-2.ensures c.args.points.now c.args.limits.now c.well_formed-3.ensures c.phases.kernel c.phases.invariant.way on c.step_in_call.new.machine stands c.args.kernel.now.steps so_far [] [] [] (sym c.phases.invariant.silent) told);
       call = c.step_in_call.ensures.call;
     }
 
@@ -39,8 +39,8 @@ pub phases-smaller : goal.phases-smaller
 phases-smaller c =
     let on : end_of c.args.app.now c.args.limits.now (state_after c.args.app.now c.args.points.now c.phases.kernel.steps) ≡ None = c.requires.free c.phases.kernel.steps c.phases.invariant.on (omega (arith, c.phases-test.true)) (sym (c.if-is_over.ensures _ c.phases.invariant.way.stands)) in
     let none : [] ≡ injected c.args.points.now c.phases.kernel.steps = sym (c.requires.alone c.phases.kernel.steps c.phases.invariant.on (omega (arith, c.phases-test.true))) in
-    let stands = stands_as c.args.app.now c.phases.kernel c.step_in_call.new.self [] (injected c.args.points.now c.phases.kernel.steps) none c.step_in_call.ensures.stands in
-    let more = steps_more c.args.app.now c.well_formed-2.ensures c.args.points.now c.args.limits.now c.well_formed-3.ensures c.phases.kernel c.phases.invariant.way on c.step_in_call.new.self stands in
+    let stands = stands_as c.args.app.now c.phases.kernel c.step_in_call.new.machine [] (injected c.args.points.now c.phases.kernel.steps) none c.step_in_call.ensures.stands in
+    let more = steps_more c.args.app.now c.well_formed-2.ensures c.args.points.now c.args.limits.now c.well_formed-3.ensures c.phases.kernel c.phases.invariant.way on c.step_in_call.new.machine stands in
     let lt : c.phases.kernel.steps < c.args.until = omega (arith, c.phases-test.true) in
     omega arith
 

@@ -1,7 +1,7 @@
 use Rattle.std.proofs.Common.{◌≡◌, ◌≤◌, ◌-◌, []}
 use Rattle.model.specs.declared.call.Phase.{Phase}
-use Rattle.kernel.specs.StandsFor.{progress_in}
-use Rattle.kernel.specs.Can.{IsUnderWay}
+use Rattle.machine.specs.StandsFor.{progress_in}
+use Rattle.machine.specs.Can.{IsUnderWay}
 use Rattle.kernel.specs.InCall.{IsInPhase}
 use Rattle.kernel.specs.Rows.{events_from}
 use Rattle.kernel.proofs.in_call.pass_call.Given as goal

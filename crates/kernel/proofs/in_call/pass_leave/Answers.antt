@@ -3,7 +3,7 @@ use Rattle.model.specs.declared.event.Event.{Event}
 use Rattle.model.specs.Step.{step}
 use Rattle.model.specs.Run.{end_of, injected, state_after}
 use Rattle.model.proofs.Injected.{from_here}
-use Rattle.kernel.specs.Logged.{all_of}
+use Rattle.machine.specs.Logged.{all_of}
 use Rattle.kernel.proofs.Planned.{stands_as}
 use Rattle.kernel.proofs.Running.{can_step, goes_on, more_events, steps_more, told_after}
 use Rattle.kernel.proofs.in_call.pass_leave.Goals as goal
@@ -17,24 +17,24 @@ pub returns-clause-way : goal.returns-clause-way
 returns-clause-way c =
     let on : end_of c.args.app.now c.args.limits.now (state_after c.args.app.now c.args.points.now c.args.kernel.now.steps) ≡ None = c.requires.free c.args.kernel.now.steps (omega arith) (omega (arith, c.if-until-kernel.false)) (sym (c.if-is_over.ensures _ c.requires.way.stands)) in
     let none : [] ≡ injected c.args.points.now c.args.kernel.now.steps = sym (c.requires.alone c.args.kernel.now.steps (omega arith) (omega (arith, c.if-until-kernel.false))) in
-    let stands = stands_as c.args.app.now c.args.kernel.now c.step_leaving.new.self [] (injected c.args.points.now c.args.kernel.now.steps) none c.step_leaving.ensures.stands in
-    let more = steps_more c.args.app.now c.well_formed-2.ensures c.args.points.now c.args.limits.now c.well_formed-3.ensures c.args.kernel.now c.requires.way on c.step_leaving.new.self stands in
-    goes_on c.args.app.now c.well_formed-2.ensures c.args.points.now c.args.limits.now c.well_formed-3.ensures c.args.kernel.now c.requires.way on c.step_leaving.new.self stands
+    let stands = stands_as c.args.app.now c.args.kernel.now c.step_leaving.new.machine [] (injected c.args.points.now c.args.kernel.now.steps) none c.step_leaving.ensures.stands in
+    let more = steps_more c.args.app.now c.well_formed-2.ensures c.args.points.now c.args.limits.now c.well_formed-3.ensures c.args.kernel.now c.requires.way on c.step_leaving.new.machine stands in
+    goes_on c.args.app.now c.well_formed-2.ensures c.args.points.now c.args.limits.now c.well_formed-3.ensures c.args.kernel.now c.requires.way on c.step_leaving.new.machine stands
 
 pub returns-clause-on : goal.returns-clause-on
 returns-clause-on c =
     let on : end_of c.args.app.now c.args.limits.now (state_after c.args.app.now c.args.points.now c.args.kernel.now.steps) ≡ None = c.requires.free c.args.kernel.now.steps (omega arith) (omega (arith, c.if-until-kernel.false)) (sym (c.if-is_over.ensures _ c.requires.way.stands)) in
     let none : [] ≡ injected c.args.points.now c.args.kernel.now.steps = sym (c.requires.alone c.args.kernel.now.steps (omega arith) (omega (arith, c.if-until-kernel.false))) in
-    let stands = stands_as c.args.app.now c.args.kernel.now c.step_leaving.new.self [] (injected c.args.points.now c.args.kernel.now.steps) none c.step_leaving.ensures.stands in
-    let more = steps_more c.args.app.now c.well_formed-2.ensures c.args.points.now c.args.limits.now c.well_formed-3.ensures c.args.kernel.now c.requires.way on c.step_leaving.new.self stands in
+    let stands = stands_as c.args.app.now c.args.kernel.now c.step_leaving.new.machine [] (injected c.args.points.now c.args.kernel.now.steps) none c.step_leaving.ensures.stands in
+    let more = steps_more c.args.app.now c.well_formed-2.ensures c.args.points.now c.args.limits.now c.well_formed-3.ensures c.args.kernel.now c.requires.way on c.step_leaving.new.machine stands in
     omega arith
 
 pub returns-clause-far : goal.returns-clause-far
 returns-clause-far c =
     let on : end_of c.args.app.now c.args.limits.now (state_after c.args.app.now c.args.points.now c.args.kernel.now.steps) ≡ None = c.requires.free c.args.kernel.now.steps (omega arith) (omega (arith, c.if-until-kernel.false)) (sym (c.if-is_over.ensures _ c.requires.way.stands)) in
     let none : [] ≡ injected c.args.points.now c.args.kernel.now.steps = sym (c.requires.alone c.args.kernel.now.steps (omega arith) (omega (arith, c.if-until-kernel.false))) in
-    let stands = stands_as c.args.app.now c.args.kernel.now c.step_leaving.new.self [] (injected c.args.points.now c.args.kernel.now.steps) none c.step_leaving.ensures.stands in
-    let more = steps_more c.args.app.now c.well_formed-2.ensures c.args.points.now c.args.limits.now c.well_formed-3.ensures c.args.kernel.now c.requires.way on c.step_leaving.new.self stands in
+    let stands = stands_as c.args.app.now c.args.kernel.now c.step_leaving.new.machine [] (injected c.args.points.now c.args.kernel.now.steps) none c.step_leaving.ensures.stands in
+    let more = steps_more c.args.app.now c.well_formed-2.ensures c.args.points.now c.args.limits.now c.well_formed-3.ensures c.args.kernel.now c.requires.way on c.step_leaving.new.machine stands in
     let short = c.if-until-kernel.false in
     λ _. omega arith
 
@@ -42,11 +42,11 @@ pub returns-clause-events : goal.returns-clause-events
 returns-clause-events c =
     let on : end_of c.args.app.now c.args.limits.now (state_after c.args.app.now c.args.points.now c.args.kernel.now.steps) ≡ None = c.requires.free c.args.kernel.now.steps (omega arith) (omega (arith, c.if-until-kernel.false)) (sym (c.if-is_over.ensures _ c.requires.way.stands)) in
     let none : [] ≡ injected c.args.points.now c.args.kernel.now.steps = sym (c.requires.alone c.args.kernel.now.steps (omega arith) (omega (arith, c.if-until-kernel.false))) in
-    let stands = stands_as c.args.app.now c.args.kernel.now c.step_leaving.new.self [] (injected c.args.points.now c.args.kernel.now.steps) none c.step_leaving.ensures.stands in
-    let more = steps_more c.args.app.now c.well_formed-2.ensures c.args.points.now c.args.limits.now c.well_formed-3.ensures c.args.kernel.now c.requires.way on c.step_leaving.new.self stands in
+    let stands = stands_as c.args.app.now c.args.kernel.now c.step_leaving.new.machine [] (injected c.args.points.now c.args.kernel.now.steps) none c.step_leaving.ensures.stands in
+    let more = steps_more c.args.app.now c.well_formed-2.ensures c.args.points.now c.args.limits.now c.well_formed-3.ensures c.args.kernel.now c.requires.way on c.step_leaving.new.machine stands in
     let told = told_after c.step_leaving.new.log _ _ (c.step_leaving.ensures.before ∙ c.begin.ensures.before) (c.step_leaving.ensures.told _ c.requires.way.stands) in
     let all = subst (λ (hs : List ℕ). all_of c.step_leaving.new.log ≡ all_of c.args.trail.now ++ (step c.args.app.now hs (state_after c.args.app.now c.args.points.now c.args.kernel.now.steps)).log) none told in
-    more_events c.args.app.now c.well_formed-2.ensures c.args.points.now c.args.limits.now c.well_formed-3.ensures c.args.kernel.now c.requires.way on c.step_leaving.new.self stands c.args.kernel.now.steps (omega arith)
+    more_events c.args.app.now c.well_formed-2.ensures c.args.points.now c.args.limits.now c.well_formed-3.ensures c.args.kernel.now c.requires.way on c.step_leaving.new.machine stands c.args.kernel.now.steps (omega arith)
     (all_of c.args.trail.now) (all_of c.args.trail.now) (all_of c.step_leaving.new.log) (sym (append-nil _) ∙ ap (λ (l : List Event). all_of c.args.trail.now ++ l) (sym (from_here c.args.app.now c.args.points.now c.args.kernel.now.steps))) all
 
 pub returns-then-is_err-clause-events : goal.returns-then-is_err-clause-events

@@ -2,7 +2,7 @@ use Rattle.std.proofs.Common.{◌≡◌, ◌-◌, ℕ, suc, List, [], sym, subst
 use Rattle.model.specs.State.{State}
 use Rattle.model.specs.Step.{step}
 use Rattle.model.specs.Run.{injected, state_after}
-use Rattle.kernel.specs.StandsFor.{Stands}
+use Rattle.machine.specs.StandsFor.{Stands}
 use Rattle.kernel.specs.Quiet.{IsQuiet}
 use Rattle.kernel.proofs.Planned.{stands_as}
 use Rattle.kernel.proofs.Running.{goes_on, more_events, ticks_low}
@@ -36,12 +36,12 @@ loop-preserved c =
     let s : State = state_after c.args.app.now c.args.points.now c.loop.kernel.steps in
     let h : Stands c.loop.kernel s = c.loop.invariant.way.stands in
     let none : [] ≡ injected c.args.points.now c.loop.kernel.steps = sym (c.requires.alone c.loop.kernel.steps (omega arith) (omega arith)) in
-    let stands = stands_as c.args.app.now c.loop.kernel c.pass_tick.new.self [] (injected c.args.points.now c.loop.kernel.steps) none (stands_passed c.args.app.now c.args.limits.now left c.loop.kernel c.pass_tick.new.self q c.pass_tick.ensures) in
-    let more = one_passed c.args.app.now c.args.limits.now left c.loop.kernel c.pass_tick.new.self q c.pass_tick.ensures in
-    let told : [] ≡ (step c.args.app.now (injected c.args.points.now c.loop.kernel.steps) s).log = subst (λ (hs : List ℕ). [] ≡ (step c.args.app.now hs s).log) none (silent c.args.app.now c.args.limits.now left c.loop.kernel q c.pass_tick.new.self.clock c.pass_tick.ensures.clock s h) in
+    let stands = stands_as c.args.app.now c.loop.kernel c.pass_tick.new.machine [] (injected c.args.points.now c.loop.kernel.steps) none (stands_passed c.args.app.now c.args.limits.now left c.loop.kernel c.pass_tick.new.machine q c.pass_tick.ensures) in
+    let more = one_passed c.args.app.now c.args.limits.now left c.loop.kernel c.pass_tick.new.machine q c.pass_tick.ensures in
+    let told : [] ≡ (step c.args.app.now (injected c.args.points.now c.loop.kernel.steps) s).log = subst (λ (hs : List ℕ). [] ≡ (step c.args.app.now hs s).log) none (silent c.args.app.now c.args.limits.now left c.loop.kernel q c.pass_tick.new.machine.clock c.pass_tick.ensures.clock s h) in
     record {
-      way = goes_on c.args.app.now c.well_formed-2.ensures c.args.points.now c.args.limits.now c.well_formed-3.ensures c.loop.kernel c.loop.invariant.way (quiet_on c.args.app.now c.args.limits.now left c.loop.kernel q s h) c.pass_tick.new.self stands;
-      quiet = λ n e. subst (λ (m : ℕ). IsQuiet c.args.app.now c.args.limits.now m c.pass_tick.new.self) (let same : left ≡ suc n = omega arith in same) (quiet_stays c.args.app.now c.args.limits.now left c.loop.kernel c.pass_tick.new.self q c.pass_tick.ensures s h);
+      way = goes_on c.args.app.now c.well_formed-2.ensures c.args.points.now c.args.limits.now c.well_formed-3.ensures c.loop.kernel c.loop.invariant.way (quiet_on c.args.app.now c.args.limits.now left c.loop.kernel q s h) c.pass_tick.new.machine stands;
+      quiet = λ n e. subst (λ (m : ℕ). IsQuiet c.args.app.now c.args.limits.now m c.pass_tick.new.machine) (let same : left ≡ suc n = omega arith in same) (quiet_stays c.args.app.now c.args.limits.now left c.loop.kernel c.pass_tick.new.machine q c.pass_tick.ensures s h);
       steps = omega arith;
-      silent = sym (more_events c.args.app.now c.well_formed-2.ensures c.args.points.now c.args.limits.now c.well_formed-3.ensures c.loop.kernel c.loop.invariant.way (quiet_on c.args.app.now c.args.limits.now left c.loop.kernel q s h) c.pass_tick.new.self stands c.args.kernel.now.steps (omega arith) [] [] [] (sym c.loop.invariant.silent) told);
+      silent = sym (more_events c.args.app.now c.well_formed-2.ensures c.args.points.now c.args.limits.now c.well_formed-3.ensures c.loop.kernel c.loop.invariant.way (quiet_on c.args.app.now c.args.limits.now left c.loop.kernel q s h) c.pass_tick.new.machine stands c.args.kernel.now.steps (omega arith) [] [] [] (sym c.loop.invariant.silent) told);
     }

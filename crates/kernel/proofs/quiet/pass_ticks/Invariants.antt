@@ -1,5 +1,5 @@
 use Rattle.std.proofs.Common.{◌≡◌, ◌+◌, ℕ, suc, []}
-use Rattle.kernel.specs.Can.{IsUnderWay}
+use Rattle.machine.specs.Can.{IsUnderWay}
 use Rattle.kernel.specs.Quiet.{IsQuiet}
 use Rattle.kernel.specs.Rows.{events_from}
 use Rattle.kernel.proofs.quiet.pass_ticks.Given as goal

@@ -14,7 +14,7 @@ pub steps-smaller : goal.steps-smaller
 steps-smaller c =
     let lt : c.steps.kernel.steps < c.args.step = omega (arith, c.steps-test.true) in
     let on : end_of c.args.app.now c.args.limits.now (state_after c.args.app.now [] c.steps.kernel.steps) ≡ None = c.requires.reached c.steps.kernel.steps lt in
-    let more = steps_more c.args.app.now c.well_formed-2.ensures [] c.args.limits.now c.well_formed-3.ensures c.steps.kernel c.steps.invariant.way on c.step.new.self c.step.ensures.stands in
+    let more = steps_more c.args.app.now c.well_formed-2.ensures [] c.args.limits.now c.well_formed-3.ensures c.steps.kernel c.steps.invariant.way on c.step.new.machine c.step.ensures.stands in
     let passed = c.pass_on.ensures.on in
     omega arith
 
@@ -22,7 +22,7 @@ pub pass_on-requires-clause-way : goal.pass_on-requires-clause-way
 pass_on-requires-clause-way c =
     let lt : c.steps.kernel.steps < c.args.step = omega (arith, c.steps-test.true) in
     let on : end_of c.args.app.now c.args.limits.now (state_after c.args.app.now [] c.steps.kernel.steps) ≡ None = c.requires.reached c.steps.kernel.steps lt in
-    goes_on c.args.app.now c.well_formed-2.ensures [] c.args.limits.now c.well_formed-3.ensures c.steps.kernel c.steps.invariant.way on c.step.new.self c.step.ensures.stands
+    goes_on c.args.app.now c.well_formed-2.ensures [] c.args.limits.now c.well_formed-3.ensures c.steps.kernel c.steps.invariant.way on c.step.new.machine c.step.ensures.stands
 
 pub pass_on-requires-clause-free : goal.pass_on-requires-clause-free
 pass_on-requires-clause-free c = λ n from below going. c.requires.reached n below
@@ -31,8 +31,8 @@ pub steps-preserved : goal.steps-preserved
 steps-preserved c =
     let lt : c.steps.kernel.steps < c.args.step = omega (arith, c.steps-test.true) in
     let on : end_of c.args.app.now c.args.limits.now (state_after c.args.app.now [] c.steps.kernel.steps) ≡ None = c.requires.reached c.steps.kernel.steps lt in
-    let more = steps_more c.args.app.now c.well_formed-2.ensures [] c.args.limits.now c.well_formed-3.ensures c.steps.kernel c.steps.invariant.way on c.step.new.self c.step.ensures.stands in
-    let told = more_counted c.args.app.now c.well_formed-2.ensures [] c.args.limits.now c.well_formed-3.ensures c.steps.kernel c.steps.invariant.way on c.step.new.self c.step.ensures.stands c.step.new.log.items (c.step.ensures.log _ c.steps.invariant.way.stands) in
+    let more = steps_more c.args.app.now c.well_formed-2.ensures [] c.args.limits.now c.well_formed-3.ensures c.steps.kernel c.steps.invariant.way on c.step.new.machine c.step.ensures.stands in
+    let told = more_counted c.args.app.now c.well_formed-2.ensures [] c.args.limits.now c.well_formed-3.ensures c.steps.kernel c.steps.invariant.way on c.step.new.machine c.step.ensures.stands c.step.new.log.items (c.step.ensures.log _ c.steps.invariant.way.stands) in
     let before = c.steps.invariant.count in
     let few = c.steps.invariant.few in
     let meter = c.steps.invariant.meter in
@@ -41,7 +41,7 @@ steps-preserved c =
     let fits = c.len-count.ensures.fits in
     let passed = c.pass_on.ensures.on in
     let rest = c.count_steps.ensures in
-    let same : length (events_after c.args.app.now [] c.pass_on.new.kernel.steps) ≡ length (events_after c.args.app.now [] c.step.new.self.steps) = ap (λ (es : List Event). length es) (same_events c.args.app.now [] c.step.new.self.steps c.pass_on.new.kernel.steps passed c.pass_on.ensures.silent) in
+    let same : length (events_after c.args.app.now [] c.pass_on.new.kernel.steps) ≡ length (events_after c.args.app.now [] c.step.new.machine.steps) = ap (λ (es : List Event). length es) (same_events c.args.app.now [] c.step.new.machine.steps c.pass_on.new.kernel.steps passed c.pass_on.ensures.silent) in
     record {
       way = c.pass_on.ensures.way;
       ahead = c.pass_on.ensures.far (omega arith);

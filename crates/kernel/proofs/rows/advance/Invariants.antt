@@ -1,6 +1,6 @@
 use Rattle.std.proofs.Common.{◌≡◌, ◌≤◌, ◌+◌, ◌-◌, ◌*◌, [], length}
 use Rattle.model.specs.Run.{events_after}
-use Rattle.kernel.specs.Can.{IsUnderWay}
+use Rattle.machine.specs.Can.{IsUnderWay}
 use Rattle.kernel.proofs.rows.advance.Given as goal
 
 abbrev pub invariant-steps : goal.invariant-steps

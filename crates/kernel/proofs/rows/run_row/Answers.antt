@@ -1,8 +1,9 @@
 use Rattle.std.proofs.Common.{◌++◌, ◌∷◌, ℕ, [], ap, arith, ◌∙◌}
 use Rattle.std.proofs.lemmas.Result.{err_from_is_err_and}
 use Rattle.model.specs.Run.{events_after}
+use Rattle.machine.specs.declared.machine.Machine.{Machine}
 use Rattle.kernel.specs.Rows.{events_from}
-use Rattle.kernel.proofs.Either.{elapsed_is}
+use Rattle.machine.proofs.Either.{elapsed_is}
 use Rattle.kernel.proofs.Running.{ticks_low, no_further, told_some}
 use Rattle.kernel.proofs.Injecting.{row_way, row_events}
 use Rattle.kernel.proofs.rows.run_row.Goals as goal
@@ -46,4 +47,5 @@ returns-in_err-end-clause-refused c = let p = err_from_is_err_and c.from_residua
     let there = c.advance-before.ensures.there in
     let first = c.advance-before.ensures.meter in
     let then = c.in_err-end.ensures.meter in
+    let seen = ap (λ (k : Machine). k.steps) c.kernel.view_is in
     (omega arith, told_some c.args.app.now (c.args.point ∷ []) c.args.limits.now c.finish.new.kernel c.in_err-end.ensures.way run is c.in_err-end.ensures.memory))

@@ -1,7 +1,7 @@
 use Rattle.std.proofs.Common.{◌^◌, ◌≡◌, ◌<◌, ◌++◌, ℕ, List, None, length, ap, sym, subst, refl, ◌∙◌, append-nil, arith}
 use Rattle.std.proofs.lemmas.Result.{err_from_is_err_and}
 use Rattle.model.specs.Run.{end_of, state_after}
-use Rattle.kernel.specs.Logged.{all_of}
+use Rattle.machine.specs.Logged.{all_of}
 use Rattle.kernel.specs.Rows.{events_from}
 use Rattle.kernel.proofs.Running.{can_step, steps_below, steps_more, goes_on, more_events, more_from, extends_on, told_more}
 use Rattle.model.specs.Step.{step}

@@ -1,6 +1,6 @@
 use Rattle.std.proofs.Common.{◌≡◌, ◌≤◌, ◌+◌, ◌-◌, ◌++◌, []}
-use Rattle.kernel.specs.Logged.{all_of}
-use Rattle.kernel.specs.Can.{IsUnderWay}
+use Rattle.machine.specs.Logged.{all_of}
+use Rattle.machine.specs.Can.{IsUnderWay}
 use Rattle.kernel.specs.Rows.{events_from}
 use Rattle.kernel.proofs.steps.follow.Given as goal
 

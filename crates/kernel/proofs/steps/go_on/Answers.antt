@@ -3,7 +3,7 @@ use Rattle.std.proofs.lemmas.Result.{err_from_is_err_and}
 use Rattle.model.specs.Step.{step}
 use Rattle.model.specs.Run.{end_of, injected, state_after}
 use Rattle.model.proofs.Injected.{from_here}
-use Rattle.kernel.specs.Logged.{all_of}
+use Rattle.machine.specs.Logged.{all_of}
 use Rattle.kernel.specs.Rows.{events_from}
 use Rattle.kernel.proofs.Planned.{stands_as}
 use Rattle.kernel.proofs.Running.{can_step, free_before, goes_on, goes_on_until, more_events, more_from, steps_more, told_more}

@@ -3,7 +3,7 @@ use Rattle.model.specs.Step.{step}
 use Rattle.model.specs.Run.{end_of, injected, state_after}
 use Rattle.model.specs.declared.event.Event.{Event}
 use Rattle.model.proofs.Injected.{from_here}
-use Rattle.kernel.specs.Logged.{all_of}
+use Rattle.machine.specs.Logged.{all_of}
 use Rattle.kernel.specs.Rows.{events_from}
 use Rattle.kernel.proofs.Planned.{stands_as}
 use Rattle.kernel.proofs.Running.{can_step, goes_on, more_events, more_from, silent_from, steps_more, told_after}
@@ -19,8 +19,8 @@ steps-smaller c =
     let lt : c.steps.kernel.steps < c.args.until = omega (arith, c.steps-test.true) in
     let on : end_of c.args.app.now c.args.limits.now (state_after c.args.app.now c.args.points.now c.steps.kernel.steps) ≡ None = c.requires.free c.steps.kernel.steps c.steps.invariant.on (omega (arith, c.steps-test.true)) (sym (c.if-is_over.ensures _ c.steps.invariant.way.stands)) in
     let none : [] ≡ injected c.args.points.now c.steps.kernel.steps = sym (c.requires.alone c.steps.kernel.steps c.steps.invariant.on (omega (arith, c.steps-test.true))) in
-    let stands = stands_as c.args.app.now c.steps.kernel c.step_onto.new.self [] (injected c.args.points.now c.steps.kernel.steps) none c.step_onto.ensures.stands in
-    let m = steps_more c.args.app.now c.well_formed-2.ensures c.args.points.now c.args.limits.now c.well_formed-3.ensures c.steps.kernel c.steps.invariant.way on c.step_onto.new.self stands in
+    let stands = stands_as c.args.app.now c.steps.kernel c.step_onto.new.machine [] (injected c.args.points.now c.steps.kernel.steps) none c.step_onto.ensures.stands in
+    let m = steps_more c.args.app.now c.well_formed-2.ensures c.args.points.now c.args.limits.now c.well_formed-3.ensures c.steps.kernel c.steps.invariant.way on c.step_onto.new.machine stands in
     let passed = c.pass_on-leaving.ensures.on in
     omega arith
 
@@ -28,15 +28,15 @@ pub pass_on-leaving-requires-clause-way : goal.pass_on-leaving-requires-clause-w
 pass_on-leaving-requires-clause-way c =
     let on : end_of c.args.app.now c.args.limits.now (state_after c.args.app.now c.args.points.now c.steps.kernel.steps) ≡ None = c.requires.free c.steps.kernel.steps c.steps.invariant.on (omega (arith, c.steps-test.true)) (sym (c.if-is_over.ensures _ c.steps.invariant.way.stands)) in
     let none : [] ≡ injected c.args.points.now c.steps.kernel.steps = sym (c.requires.alone c.steps.kernel.steps c.steps.invariant.on (omega (arith, c.steps-test.true))) in
-    let stands = stands_as c.args.app.now c.steps.kernel c.step_onto.new.self [] (injected c.args.points.now c.steps.kernel.steps) none c.step_onto.ensures.stands in
-    goes_on c.args.app.now c.well_formed-2.ensures c.args.points.now c.args.limits.now c.well_formed-3.ensures c.steps.kernel c.steps.invariant.way on c.step_onto.new.self stands
+    let stands = stands_as c.args.app.now c.steps.kernel c.step_onto.new.machine [] (injected c.args.points.now c.steps.kernel.steps) none c.step_onto.ensures.stands in
+    goes_on c.args.app.now c.well_formed-2.ensures c.args.points.now c.args.limits.now c.well_formed-3.ensures c.steps.kernel c.steps.invariant.way on c.step_onto.new.machine stands
 
 pub pass_on-leaving-requires-clause-alone : goal.pass_on-leaving-requires-clause-alone
 pass_on-leaving-requires-clause-alone c =
     let on : end_of c.args.app.now c.args.limits.now (state_after c.args.app.now c.args.points.now c.steps.kernel.steps) ≡ None = c.requires.free c.steps.kernel.steps c.steps.invariant.on (omega (arith, c.steps-test.true)) (sym (c.if-is_over.ensures _ c.steps.invariant.way.stands)) in
     let none : [] ≡ injected c.args.points.now c.steps.kernel.steps = sym (c.requires.alone c.steps.kernel.steps c.steps.invariant.on (omega (arith, c.steps-test.true))) in
-    let stands = stands_as c.args.app.now c.steps.kernel c.step_onto.new.self [] (injected c.args.points.now c.steps.kernel.steps) none c.step_onto.ensures.stands in
-    let m = steps_more c.args.app.now c.well_formed-2.ensures c.args.points.now c.args.limits.now c.well_formed-3.ensures c.steps.kernel c.steps.invariant.way on c.step_onto.new.self stands in
+    let stands = stands_as c.args.app.now c.steps.kernel c.step_onto.new.machine [] (injected c.args.points.now c.steps.kernel.steps) none c.step_onto.ensures.stands in
+    let m = steps_more c.args.app.now c.well_formed-2.ensures c.args.points.now c.args.limits.now c.well_formed-3.ensures c.steps.kernel c.steps.invariant.way on c.step_onto.new.machine stands in
     let so_far = c.steps.invariant.on in
     λ n from below. c.requires.alone n (omega arith) below
 
@@ -44,8 +44,8 @@ pub pass_on-leaving-requires-clause-free : goal.pass_on-leaving-requires-clause-
 pass_on-leaving-requires-clause-free c =
     let on : end_of c.args.app.now c.args.limits.now (state_after c.args.app.now c.args.points.now c.steps.kernel.steps) ≡ None = c.requires.free c.steps.kernel.steps c.steps.invariant.on (omega (arith, c.steps-test.true)) (sym (c.if-is_over.ensures _ c.steps.invariant.way.stands)) in
     let none : [] ≡ injected c.args.points.now c.steps.kernel.steps = sym (c.requires.alone c.steps.kernel.steps c.steps.invariant.on (omega (arith, c.steps-test.true))) in
-    let stands = stands_as c.args.app.now c.steps.kernel c.step_onto.new.self [] (injected c.args.points.now c.steps.kernel.steps) none c.step_onto.ensures.stands in
-    let m = steps_more c.args.app.now c.well_formed-2.ensures c.args.points.now c.args.limits.now c.well_formed-3.ensures c.steps.kernel c.steps.invariant.way on c.step_onto.new.self stands in
+    let stands = stands_as c.args.app.now c.steps.kernel c.step_onto.new.machine [] (injected c.args.points.now c.steps.kernel.steps) none c.step_onto.ensures.stands in
+    let m = steps_more c.args.app.now c.well_formed-2.ensures c.args.points.now c.args.limits.now c.well_formed-3.ensures c.steps.kernel c.steps.invariant.way on c.step_onto.new.machine stands in
     let so_far = c.steps.invariant.on in
     λ n from below going. c.requires.free n (omega arith) below going
 
@@ -53,8 +53,8 @@ pub pass_leave-requires-clause-alone : goal.pass_leave-requires-clause-alone
 pass_leave-requires-clause-alone c =
     let on : end_of c.args.app.now c.args.limits.now (state_after c.args.app.now c.args.points.now c.steps.kernel.steps) ≡ None = c.requires.free c.steps.kernel.steps c.steps.invariant.on (omega (arith, c.steps-test.true)) (sym (c.if-is_over.ensures _ c.steps.invariant.way.stands)) in
     let none : [] ≡ injected c.args.points.now c.steps.kernel.steps = sym (c.requires.alone c.steps.kernel.steps c.steps.invariant.on (omega (arith, c.steps-test.true))) in
-    let stands = stands_as c.args.app.now c.steps.kernel c.step_onto.new.self [] (injected c.args.points.now c.steps.kernel.steps) none c.step_onto.ensures.stands in
-    let m = steps_more c.args.app.now c.well_formed-2.ensures c.args.points.now c.args.limits.now c.well_formed-3.ensures c.steps.kernel c.steps.invariant.way on c.step_onto.new.self stands in
+    let stands = stands_as c.args.app.now c.steps.kernel c.step_onto.new.machine [] (injected c.args.points.now c.steps.kernel.steps) none c.step_onto.ensures.stands in
+    let m = steps_more c.args.app.now c.well_formed-2.ensures c.args.points.now c.args.limits.now c.well_formed-3.ensures c.steps.kernel c.steps.invariant.way on c.step_onto.new.machine stands in
     let so_far = c.steps.invariant.on in
     let passed = c.pass_on-leaving.ensures.on in
     λ n from below. c.requires.alone n (omega arith) below
@@ -63,8 +63,8 @@ pub pass_leave-requires-clause-free : goal.pass_leave-requires-clause-free
 pass_leave-requires-clause-free c =
     let on : end_of c.args.app.now c.args.limits.now (state_after c.args.app.now c.args.points.now c.steps.kernel.steps) ≡ None = c.requires.free c.steps.kernel.steps c.steps.invariant.on (omega (arith, c.steps-test.true)) (sym (c.if-is_over.ensures _ c.steps.invariant.way.stands)) in
     let none : [] ≡ injected c.args.points.now c.steps.kernel.steps = sym (c.requires.alone c.steps.kernel.steps c.steps.invariant.on (omega (arith, c.steps-test.true))) in
-    let stands = stands_as c.args.app.now c.steps.kernel c.step_onto.new.self [] (injected c.args.points.now c.steps.kernel.steps) none c.step_onto.ensures.stands in
-    let m = steps_more c.args.app.now c.well_formed-2.ensures c.args.points.now c.args.limits.now c.well_formed-3.ensures c.steps.kernel c.steps.invariant.way on c.step_onto.new.self stands in
+    let stands = stands_as c.args.app.now c.steps.kernel c.step_onto.new.machine [] (injected c.args.points.now c.steps.kernel.steps) none c.step_onto.ensures.stands in
+    let m = steps_more c.args.app.now c.well_formed-2.ensures c.args.points.now c.args.limits.now c.well_formed-3.ensures c.steps.kernel c.steps.invariant.way on c.step_onto.new.machine stands in
     let so_far = c.steps.invariant.on in
     let passed = c.pass_on-leaving.ensures.on in
     λ n from below going. c.requires.free n (omega arith) below going
@@ -74,14 +74,14 @@ steps-preserved c =
     let lt : c.steps.kernel.steps < c.args.until = omega (arith, c.steps-test.true) in
     let on : end_of c.args.app.now c.args.limits.now (state_after c.args.app.now c.args.points.now c.steps.kernel.steps) ≡ None = c.requires.free c.steps.kernel.steps c.steps.invariant.on (omega (arith, c.steps-test.true)) (sym (c.if-is_over.ensures _ c.steps.invariant.way.stands)) in
     let none : [] ≡ injected c.args.points.now c.steps.kernel.steps = sym (c.requires.alone c.steps.kernel.steps c.steps.invariant.on (omega (arith, c.steps-test.true))) in
-    let stands = stands_as c.args.app.now c.steps.kernel c.step_onto.new.self [] (injected c.args.points.now c.steps.kernel.steps) none c.step_onto.ensures.stands in
-    let m = steps_more c.args.app.now c.well_formed-2.ensures c.args.points.now c.args.limits.now c.well_formed-3.ensures c.steps.kernel c.steps.invariant.way on c.step_onto.new.self stands in
+    let stands = stands_as c.args.app.now c.steps.kernel c.step_onto.new.machine [] (injected c.args.points.now c.steps.kernel.steps) none c.step_onto.ensures.stands in
+    let m = steps_more c.args.app.now c.well_formed-2.ensures c.args.points.now c.args.limits.now c.well_formed-3.ensures c.steps.kernel c.steps.invariant.way on c.step_onto.new.machine stands in
     let o = c.steps.invariant.on in
     let passed = c.pass_on-leaving.ensures.on in
     let left = c.pass_leave.ensures.on in
-    let whole : all_of c.step_onto.new.log ≡ all_of c.args.trail.now ++ events_from c.args.app.now c.args.points.now c.args.kernel.now.steps c.step_onto.new.self.steps = more_events c.args.app.now c.well_formed-2.ensures c.args.points.now c.args.limits.now c.well_formed-3.ensures c.steps.kernel c.steps.invariant.way on c.step_onto.new.self stands c.args.kernel.now.steps c.steps.invariant.on (all_of c.args.trail.now) (all_of c.steps.trail) (all_of c.step_onto.new.log) c.steps.invariant.events (subst (λ (hs : List ℕ). all_of c.step_onto.new.log ≡ all_of c.steps.trail ++ (step c.args.app.now hs (state_after c.args.app.now c.args.points.now c.steps.kernel.steps)).log) none (told_after c.step_onto.new.log _ _ (c.step_onto.ensures.before ∙ c.begin.ensures.before) (c.step_onto.ensures.told _ c.steps.invariant.way.stands))) in
+    let whole : all_of c.step_onto.new.log ≡ all_of c.args.trail.now ++ events_from c.args.app.now c.args.points.now c.args.kernel.now.steps c.step_onto.new.machine.steps = more_events c.args.app.now c.well_formed-2.ensures c.args.points.now c.args.limits.now c.well_formed-3.ensures c.steps.kernel c.steps.invariant.way on c.step_onto.new.machine stands c.args.kernel.now.steps c.steps.invariant.on (all_of c.args.trail.now) (all_of c.steps.trail) (all_of c.step_onto.new.log) c.steps.invariant.events (subst (λ (hs : List ℕ). all_of c.step_onto.new.log ≡ all_of c.steps.trail ++ (step c.args.app.now hs (state_after c.args.app.now c.args.points.now c.steps.kernel.steps)).log) none (told_after c.step_onto.new.log _ _ (c.step_onto.ensures.before ∙ c.begin.ensures.before) (c.step_onto.ensures.told _ c.steps.invariant.way.stands))) in
     let then : all_of c.step_onto.new.log ≡ all_of c.args.trail.now ++ events_from c.args.app.now c.args.points.now c.args.kernel.now.steps c.pass_on-leaving.new.kernel.steps =
-    whole ∙ ap (λ (es : List Event). all_of c.args.trail.now ++ es) (sym (silent_from c.args.app.now c.args.points.now c.step_onto.new.self.steps c.pass_on-leaving.new.kernel.steps passed c.pass_on-leaving.ensures.silent c.args.kernel.now.steps)) in
+    whole ∙ ap (λ (es : List Event). all_of c.args.trail.now ++ es) (sym (silent_from c.args.app.now c.args.points.now c.step_onto.new.machine.steps c.pass_on-leaving.new.kernel.steps passed c.pass_on-leaving.ensures.silent c.args.kernel.now.steps)) in
     let far = c.pass_on-leaving.ensures.far (omega arith) in
     record {
       way = c.pass_leave.ensures.way;

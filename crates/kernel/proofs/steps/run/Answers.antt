@@ -2,7 +2,7 @@ use Rattle.std.proofs.Common.{List, ◌∙◌, sym, subst, arith}
 use Rattle.std.proofs.lemmas.Result.{err_from_is_err_and}
 use Rattle.model.specs.declared.plan.Point.{Point}
 use Rattle.model.specs.Run.{IsRun}
-use Rattle.kernel.proofs.Either.{elapsed_is}
+use Rattle.machine.proofs.Either.{elapsed_is}
 use Rattle.kernel.proofs.Running.{ticks_low, no_further, told_some, events_from_reset}
 use Rattle.kernel.proofs.steps.run.Goals as goal
 

@@ -1,8 +1,8 @@
 use Rattle.std.proofs.Common.{◌++◌, ℕ, List, [], length, ap, sym, subst, ◌∙◌, arith}
 use Rattle.model.specs.declared.event.Event.{Event}
 use Rattle.model.specs.Run.{events_after}
-use Rattle.kernel.specs.declared.kernel.Kernel.{Kernel}
-use Rattle.kernel.specs.Can.{IsUnderWay}
+use Rattle.machine.specs.declared.machine.Machine.{Machine}
+use Rattle.machine.specs.Can.{IsUnderWay}
 use Rattle.kernel.specs.Rows.{events_from}
 use Rattle.kernel.proofs.Running.{steps_below}
 use Rattle.model.proofs.Injected.{goes_on_with}
@@ -42,7 +42,7 @@ stops-preserved c =
       events = events;
       stops = one_more c.args.app.now c.args.limits.now c.args.stride c.stops.stops.items c.push.new.self.items _ c.stops.invariant.stops c.in_ok-push.ensures.items (record {
         way = subst (IsUnderWay c.args.app.now [] c.args.limits.now) (sym c.in_ok-snapshot.ensures) way;
-        there = ap (λ (k : Kernel). k.steps) c.in_ok-snapshot.ensures ∙ put;
+        there = ap (λ (k : Machine). k.steps) c.in_ok-snapshot.ensures ∙ put;
         before = c.len.ensures ∙ ap length events ∙ ap (λ (n : ℕ). length (events_after c.args.app.now [] n)) put;
       });
       next = put_more c.stops.stops.items c.push.new.self.items _ c.args.stride c.stops.next c.in_ok-push.ensures.items c.stops.invariant.next;

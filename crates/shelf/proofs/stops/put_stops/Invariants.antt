@@ -1,7 +1,7 @@
 use Rattle.std.proofs.Common.{◌≡◌, ◌≤◌, ◌+◌, ◌-◌, ◌*◌, [], length}
 use Rattle.model.specs.Run.{events_after}
-use Rattle.kernel.specs.Logged.{all_of}
-use Rattle.kernel.specs.Can.{IsUnderWay}
+use Rattle.machine.specs.Logged.{all_of}
+use Rattle.machine.specs.Can.{IsUnderWay}
 use Rattle.shelf.specs.Shelves.{AreStops}
 use Rattle.shelf.proofs.stops.put_stops.Given as goal
 

@@ -1,6 +1,6 @@
 use Rattle.std.proofs.Common.{◌∙◌, ◌++◌, ◌∷◌, [], refl, ap, sym}
 use Rattle.std.specs.Prelude.{nat_lt}
-use Rattle.kernel.specs.Logged.{all_of}
+use Rattle.machine.specs.Logged.{all_of}
 use Rattle.model.specs.declared.plan.Point.{Point}
 use Rattle.campaign.specs.Report.{row_of}
 use Rattle.campaign.proofs.Keeping.{gains_one, known_more}

@@ -1,6 +1,6 @@
 use Rattle.std.proofs.Common.{◌≤◌, ◌∙◌, ◌∷◌, [], refl, length, take, arith}
 use Rattle.std.proofs.lemmas.List.{take_all, length-take-le}
-use Rattle.kernel.specs.Logged.{all_of}
+use Rattle.machine.specs.Logged.{all_of}
 use Rattle.campaign.proofs.Keeping.{gains_none, gains_both, gained_few, next_point}
 use Rattle.campaign.proofs.worker.Worker.add_rows.Goals as goal
 

@@ -1,5 +1,5 @@
 use Rattle.std.proofs.Common.{◌≡◌, take}
-use Rattle.kernel.specs.Logged.{all_of}
+use Rattle.machine.specs.Logged.{all_of}
 use Rattle.campaign.specs.Working.{AreKnown, GainsRows}
 use Rattle.campaign.proofs.worker.Worker.add_rows.Given as goal
 

@@ -1,5 +1,5 @@
 use Rattle.std.proofs.Common.{◌∙◌, arith}
-use Rattle.kernel.specs.Logged.{all_of}
+use Rattle.machine.specs.Logged.{all_of}
 use Rattle.campaign.proofs.Keeping.{missed_row}
 use Rattle.campaign.proofs.worker.Worker.missed.Goals as goal
 

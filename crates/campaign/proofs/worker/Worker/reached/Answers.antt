@@ -1,4 +1,4 @@
-use Rattle.kernel.specs.Logged.{all_of}
+use Rattle.machine.specs.Logged.{all_of}
 use Rattle.campaign.proofs.Keeping.{reached_row}
 use Rattle.campaign.proofs.worker.Worker.reached.Goals as goal
 

@@ -1,4 +1,4 @@
-use Rattle.kernel.specs.Logged.{all_of}
+use Rattle.machine.specs.Logged.{all_of}
 use Rattle.campaign.proofs.Keeping.{row_again}
 use Rattle.campaign.proofs.worker.Worker.row_of.Goals as goal
 

@@ -1,6 +1,6 @@
 use Rattle.std.proofs.Common.{ℕ, [], ap, sym, ◌∙◌, arith}
 use Rattle.model.specs.Run.{end_of, state_after, events_after}
-use Rattle.kernel.proofs.Either.{elapsed_is}
+use Rattle.machine.proofs.Either.{elapsed_is}
 use Rattle.kernel.proofs.Running.{ticks_low}
 use Rattle.shelf.proofs.shelf.Shelf.make.Goals as goal
 

@@ -1,0 +1,58 @@
+use Rattle.std.proofs.Common.{◌≡◌, ℕ, List, length, map, take, arith, ap, sym, subst, ◌∙◌, take_all}
+use Rattle.std.proofs.lemmas.List.{length-map}
+use Rattle.model.specs.Application.{Interrupt, interrupts_at}
+use Rattle.model.specs.State.{for_each}
+use Rattle.model.specs.Handlers.{handle, interrupt}
+use Rattle.machine.specs.StandsFor.{At}
+use Rattle.machine.specs.StandsFor.Stands.{Placed}
+use Rattle.machine.proofs.Acting.{agrees_after}
+use Rattle.kernel.proofs.Handling.{leaves_both, room_after, mapped_at, one_more}
+use Rattle.kernel.proofs.handlers.interrupt_at_tick.Goals as goal
+
+pub handle-requires-clause-room : goal.handle-requires-clause-room
+handle-requires-clause-room g c =
+    let a = c.loop-interrupt.invariant.does.few in
+    let room = c.requires.room in
+    let one = c.loop-interrupt-test.true in
+    let few = c.well_formed-2.ensures.few_at_once c.elapsed.result in
+    let many : length c.interrupts_at-interrupts.result.now ≡ length (interrupts_at c.args.app.now c.elapsed.result) = sym (length-map c.interrupts_at-interrupts.result.now (λ (i : Interrupt). i.handler)) ∙ ap (λ (hs : List ℕ). length hs) c.interrupts_at-interrupts.ensures in
+    omega arith
+
+pub handle-requires-clause-stands : goal.handle-requires-clause-stands
+handle-requires-clause-stands g c =
+    let a = agrees_after c.args.machine.now c.loop-interrupt.machine _ _ c.requires.agrees _ c.loop-interrupt.invariant.does.at in
+    (a.0, Placed a.1)
+
+pub handle-requires-clause-objects : goal.handle-requires-clause-objects
+handle-requires-clause-objects g c = room_after c.args.app.now c.args.machine.now c.loop-interrupt.machine c.requires.objects c.loop-interrupt.invariant.leaves
+
+pub loop-interrupt-preserved : goal.loop-interrupt-preserved
+loop-interrupt-preserved g c =
+    let so = c.loop-interrupt.invariant in
+    let xs : List Interrupt = c.interrupts_at-interrupts.result.now in
+    record {
+      does = record {
+        at = λ s h. one_more (handle c.args.app.now) (At c.handle.new.machine (g.L.Log.logged c.handle.new.log).told) (map (λ (i : Interrupt). i.handler) xs) s c.loop-interrupt.interrupt-index c.interrupt-item.result.handler
+            (rw length-map c.loop-interrupt-test.true) (mapped_at (λ (i : Interrupt). i.handler) xs c.loop-interrupt.interrupt-index c.interrupt-item.result c.loop-interrupt-test.true c.interrupt-item.is) (let T : ℕ → Type 0 = λ n. At c.handle.new.machine (g.L.Log.logged c.handle.new.log).told (handle c.args.app.now n (for_each (handle c.args.app.now) (take c.loop-interrupt.interrupt-index (map (λ (i : Interrupt). i.handler) xs)) s)) in
+            subst T (ap (λ (i : Interrupt). i.handler) c.interrupt.view_is) (c.handle.ensures.does.at _ (so.does.at s h)));
+        few = let a = so.does.few in let b = c.handle.ensures.does.few in omega arith;
+        before = c.handle.ensures.does.before ∙ so.does.before;
+      };
+      leaves = leaves_both c.args.machine.now c.loop-interrupt.machine c.handle.new.machine so.leaves c.handle.ensures.leaves;
+    }
+
+pub returns-clause-does : goal.returns-clause-does
+unfolding interrupt
+returns-clause-does g c =
+    let so = c.loop-interrupt.invariant in
+    let app = c.args.app.now in
+    let many : length c.interrupts_at-interrupts.result.now ≡ length (interrupts_at app c.elapsed.result) = sym (length-map c.interrupts_at-interrupts.result.now (λ (i : Interrupt). i.handler)) ∙ ap (λ (hs : List ℕ). length hs) c.interrupts_at-interrupts.ensures in
+    record {
+      at = λ s h.
+          let P : List ℕ → Type 0 = λ hs. At c.loop-interrupt.machine (g.L.Log.logged c.loop-interrupt.log).told (for_each (handle app) hs s) in
+          let all : take c.loop-interrupt.interrupt-index (map (λ (i : Interrupt). i.handler) c.interrupts_at-interrupts.result.now) ≡ interrupts_at app s.elapsed =
+          take_all _ _ (rw length-map c.loop-interrupt-test.false) ∙ c.interrupts_at-interrupts.ensures ∙ ap (interrupts_at app) (c.elapsed.ensures.elapsed ∙ h.stands.rest.clock.age) in
+          subst P all (so.does.at s h);
+      few = let a = so.does.few in let l = c.loop-interrupt.auto.interrupt-index-end in let few = c.well_formed-2.ensures.few_at_once c.elapsed.result in omega (arith, many);
+      before = so.does.before;
+    }

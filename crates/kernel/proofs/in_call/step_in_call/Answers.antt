@@ -1,0 +1,49 @@
+use Rattle.std.proofs.Common.{subst, arith}
+use Rattle.kernel.specs.Can.{CanGoOn}
+use Rattle.kernel.proofs.Bounds.{below_limits, can_go_on, held_in_call}
+use Rattle.machine.proofs.Either.{steps_are}
+use Rattle.kernel.proofs.InCall.{holds_silently, steps_held, still_in_call, stepped_held, told_nothing}
+use Rattle.kernel.proofs.in_call.step_in_call.Goals as goal
+
+pub go_on_silently-requires-clause-can : goal.go_on_silently-requires-clause-can
+go_on_silently-requires-clause-can c =
+    let call = c.requires.call in (
+      call.ticks,
+      subst (CanGoOn c.args.machine.now c.args.task c.args.object c.args.access call.ticks) call.reached
+          (can_go_on c.args.app.now c.well_formed-2.ensures c.args.machine.now c.requires.going c.args.task call.current c.args.object c.args.access call.ticks call.op call.awake),
+    )
+
+pub go_on_silently-requires-clause-held : goal.go_on_silently-requires-clause-held
+go_on_silently-requires-clause-held c =
+    let call = c.requires.call in
+    λ later. held_in_call c.args.app.now c.well_formed-2.ensures c.args.machine.now c.requires.going c.args.task call.current call.awake c.args.phase call.reached (holds_silently c.args.phase c.requires.silent later)
+
+pub overflow_add-machine : goal.overflow_add-machine
+overflow_add-machine c =
+    let going = c.requires.going in
+    let held = c.go_on_silently.ensures.held in
+    let still = steps_held c.args.app.now c.args.machine.now c.args.task c.args.object c.args.access c.args.phase c.requires.call c.go_on_silently.new.machine
+    (λ log s h. c.go_on_silently.ensures.does c.args.app.now c.requires.call.ticks log s h) (omega arith) going.state going.stands in
+    let is = steps_are c.args.machine.now going.state going.stands in
+    let low = below_limits c.args.app.now going.limits going.state going.goes_on in
+    let few = low.1 in
+    let most = going.step_limit in
+    omega arith
+
+pub returns-clause-stands : goal.returns-clause-stands
+returns-clause-stands c = λ s h.
+    let held = c.go_on_silently.ensures.held in
+    stepped_held c.args.app.now c.args.machine.now c.args.task c.args.object c.args.access c.args.phase c.requires.call c.go_on_silently.new.machine
+    (λ log s h. c.go_on_silently.ensures.does c.args.app.now c.requires.call.ticks log s h) (omega arith) s h
+
+pub returns-clause-silent : goal.returns-clause-silent
+returns-clause-silent c = λ s h.
+    let held = c.go_on_silently.ensures.held in
+    told_nothing c.args.app.now c.args.machine.now c.args.task c.args.object c.args.access c.args.phase c.requires.call c.go_on_silently.new.machine
+    (λ log s h. c.go_on_silently.ensures.does c.args.app.now c.requires.call.ticks log s h) (omega arith) s h
+
+pub returns-clause-call : goal.returns-clause-call
+returns-clause-call c = λ next e.
+    let same = c.go_on_silently.ensures.remains in
+    still_in_call c.args.app.now c.args.machine.now c.args.task c.args.object c.args.access c.args.phase c.requires.call _
+    (record { current = same.current; op_index = same.op_index; suspensions = same.suspensions }) next e

@@ -1,0 +1,17 @@
+use Rattle.std.proofs.Common.{◌≡◌, Some, None, refl, sym, subst, ◌∙◌, arith}
+use Rattle.model.specs.State.{Progress}
+use Rattle.model.specs.Application.{op_at}
+use Rattle.kernel.proofs.Running.{acts, rests}
+use Rattle.kernel.proofs.steps.act_current.Goals as goal
+
+pub act_while_suspended-requires-clause-can : goal.act_while_suspended-requires-clause-can
+act_while_suspended-requires-clause-can g c = λ op at. (c.requires.can.op c.in-Some.task op (sym c.current.ensures.current ∙ c.in-Some.is) at).1 c.if-machine-gt0.true
+
+pub act-requires-clause-can : goal.act-requires-clause-can
+act-requires-clause-can g c = let l = c.if-machine-gt0.false in (c.requires.can.op c.in-Some.task c.in-Some-op_of.op.now (sym c.current.ensures.current ∙ c.in-Some.is) (let P : Progress → Type 0 = λ p. op_at c.args.app.now c.in-Some.task p.op_index ≡ Some c.in-Some-op_of.op.now in subst P (c.behind-machine.view_is ∙ c.progress.ensures) c.in-Some-op_of.ensures.some)).0 (omega arith)
+
+pub returns-in-Some-op_of : goal.returns-in-Some-op_of
+returns-in-Some-op_of g c = acts c.args.app.now c.args.machine.now c.in-Some.task (sym c.current.ensures.current ∙ c.in-Some.is) c.in-Some-op_of.op.now (let P : Progress → Type 0 = λ p. op_at c.args.app.now c.in-Some.task p.op_index ≡ Some c.in-Some-op_of.op.now in subst P (c.behind-machine.view_is ∙ c.progress.ensures) c.in-Some-op_of.ensures.some) c.act.new.machine _ _ c.act.ensures
+
+pub returns-in_default-op_of : goal.returns-in_default-op_of
+returns-in_default-op_of g c = rests c.args.app.now c.args.machine.now c.in-Some.task (sym c.current.ensures.current ∙ c.in-Some.is) (let P : Progress → Type 0 = λ p. op_at c.args.app.now c.in-Some.task p.op_index ≡ None in subst P (c.behind-machine.view_is ∙ c.progress.ensures) (c.in_default-op_of.ensures.none refl)) _

@@ -1,0 +1,40 @@
+use Rattle.model.specs.Step.{step}
+use Rattle.kernel.proofs.Bounds.{below_limits, can_act_after, has_objects, stood}
+use Rattle.std.proofs.Common.{◌∙◌, arith}
+use Rattle.kernel.proofs.Counting.{steps_still}
+use Rattle.machine.proofs.Either.{steps_are}
+use Rattle.kernel.proofs.Ending.{begun, handled_before, stepped}
+use Rattle.kernel.proofs.steps.step_onto.Goals as goal
+
+pub inject_all-requires-clause-stands : goal.inject_all-requires-clause-stands
+inject_all-requires-clause-stands g c = stood c.args.app.now c.well_formed-2.ensures c.args.machine.now c.requires.going
+
+pub inject_all-requires-clause-objects : goal.inject_all-requires-clause-objects
+inject_all-requires-clause-objects g c = has_objects c.args.app.now c.well_formed-2.ensures c.args.machine.now c.requires.going
+
+pub act_current-requires-clause-can : goal.act_current-requires-clause-can
+act_current-requires-clause-can g c =
+    let going = c.requires.going in
+    can_act_after c.args.app.now c.well_formed-2.ensures c.args.machine.now going c.args.handlers.now c.inject_all.new.machine
+    (handled_before c.args.app.now c.args.handlers.now _ c.inject_all.new.machine _ (c.inject_all.ensures.at _ (begun c.args.machine.now (g.L.Log.logged c.args.log.now).told _ going.stands c.requires.begun))).stands
+
+pub overflow_add-machine : goal.overflow_add-machine
+overflow_add-machine g c =
+    let going = c.requires.going in
+    let a = c.settle.ensures.at _ (c.act_current.ensures.at _ (handled_before c.args.app.now c.args.handlers.now going.state c.inject_all.new.machine _ (c.inject_all.ensures.at _ (begun c.args.machine.now (g.L.Log.logged c.args.log.now).told going.state going.stands c.requires.begun)))) in
+    let still = steps_still c.args.app.now c.args.handlers.now going.state c.args.machine.now c.settle.new.self (g.L.Log.logged c.settle.new.log).told going.stands a in
+    let is = steps_are c.args.machine.now going.state going.stands in
+    let low = below_limits c.args.app.now going.limits going.state going.goes_on in
+    let few = low.1 in
+    let most = going.step_limit in
+    omega arith
+
+pub returns-clause-stands : goal.returns-clause-stands
+returns-clause-stands g c = λ s h.
+    let a = c.settle.ensures.at _ (c.act_current.ensures.at _ (handled_before c.args.app.now c.args.handlers.now s c.inject_all.new.machine _ (c.inject_all.ensures.at _ (begun c.args.machine.now (g.L.Log.logged c.args.log.now).told s h c.requires.begun)))) in
+    let still = steps_still c.args.app.now c.args.handlers.now s c.args.machine.now c.settle.new.self (g.L.Log.logged c.settle.new.log).told h a in
+    stepped c.args.app.now c.args.handlers.now s c.settle.new.self (g.L.Log.logged c.settle.new.log).told c.settle.new.self.steps (still ∙ steps_are c.args.machine.now s h) a
+
+pub returns-clause-told : goal.returns-clause-told
+unfolding step
+returns-clause-told g c = λ s h. (c.settle.ensures.at _ (c.act_current.ensures.at _ (handled_before c.args.app.now c.args.handlers.now s c.inject_all.new.machine _ (c.inject_all.ensures.at _ (begun c.args.machine.now (g.L.Log.logged c.args.log.now).told s h c.requires.begun))))).log

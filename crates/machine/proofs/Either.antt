@@ -1,0 +1,73 @@
+-- What holds of a kernel whether or not a task is still to be placed.
+use Rattle.std.proofs.Common.{◌+◌, ◌≡◌, ◌∙◌, ◌≤◌, ℕ, List, refl, ap, arith}
+use Rattle.model.specs.declared.call.WaitList.{WaitList}
+use Rattle.model.specs.declared.event.Event.{Event}
+use Rattle.model.specs.State.{State, Progress, progress_at}
+use Rattle.machine.specs.declared.machine.Machine.{Machine}
+use Rattle.machine.specs.StandsFor.{StandsBefore, Stands, At, AtAny, Does, DoesAny, Moves, progress_in}
+use Rattle.machine.specs.Logged.{Logged}
+use Rattle.machine.specs.Can.{Agrees}
+use Rattle.machine.specs.StandsFor.Stands.{Placed, Placing}
+
+-- Where each task is in its lists, one may be still to be placed.
+pub any : (k : Machine) (log : List Event) (s : State) → At k log s → AtAny k log s
+any k log s h = record { stands = Placed h.stands; log = h.log }
+
+-- A task is still to be placed, or none is.
+pub either : {Q : Type 0} → (k : Machine) (log : List Event) (s : State) → AtAny k log s → (At k log s → Q) → ((task : ℕ) (list : WaitList) → StandsBefore task list k s → Q) → Q
+either {Q} k log s h placed placing = by_stands h.stands where
+  by_stands : Stands k s → Q
+  by_stands (Placed p) = placed (record { stands = p; log = h.log })
+  by_stands (Placing task list b) = placing task list b
+
+module _ (k : Machine) (s : State) where
+  pub steps_are : Stands k s → k.steps ≡ s.steps
+  steps_are (Placed h) = h.rest.steps
+  steps_are (Placing task list b) = b.steps
+
+  pub stopped_is : Stands k s → k.stopped ≡ s.stopped
+  stopped_is (Placed h) = h.rest.stopped
+  stopped_is (Placing task list b) = b.stopped
+
+  pub elapsed_is : Stands k s → k.clock.age + k.clock.held ≡ s.elapsed
+  elapsed_is (Placed h) = h.rest.clock.age
+  elapsed_is (Placing task list b) = b.clock.age
+
+  pub suspensions_are : Stands k s → k.suspensions ≡ s.suspensions
+  suspensions_are (Placed h) = h.rest.suspensions
+  suspensions_are (Placing task list b) = b.suspensions
+
+  pub now_is : Stands k s → k.clock.now ≡ s.time
+  now_is (Placed h) = h.rest.clock.now
+  now_is (Placing task list b) = b.clock.now
+
+  pub current_is : Stands k s → k.sched.current ≡ s.current
+  current_is (Placed h) = h.sched.current
+  current_is (Placing task list b) = b.sched.current
+
+  pub progress_is : Stands k s → (task : ℕ) → progress_in k.progress task ≡ progress_at s task
+  progress_is (Placed h) = h.rest.progress
+  progress_is (Placing task list b) = b.progress
+
+-- Where the parts agree, no task is still to be placed.
+pub all_placed : (k : Machine) → Agrees k → (log : List Event) (s : State) → AtAny k log s → At k log s
+all_placed k a log s h = either k log s h (λ p. p) (λ task list b. absurd (a.1.rest.placed task (ap (λ (p : Progress). p.call.phase) (b.progress task) ∙ b.phase)))
+
+-- A deed that leaves each task in its lists
+pub does_any : (count : ℕ) (old new : Machine) (old_log new_log : Logged) (deed : State → State) → Agrees old → Does count old old_log new new_log deed → DoesAny count old old_log new new_log deed
+does_any count old new old_log new_log deed a d = record {
+  at = λ s h. any new new_log.told (deed s) (d.at s (all_placed old a old_log.told s h));
+  few = d.few;
+  before = d.before;
+}
+
+-- or is told of less than it may tell
+pub does_more : (count more : ℕ) (old new : Machine) (old_log new_log : Logged) (deed : State → State) → count ≤ more → DoesAny count old old_log new new_log deed → DoesAny more old old_log new new_log deed
+does_more count more old new old_log new_log deed l d = record { at = d.at; few = let f = d.few in omega arith; before = d.before }
+
+pub moves_any : (count : ℕ) (old new : Machine) (log : Logged) (deed : State → State) → Agrees old → Moves old new deed → DoesAny count old log new log deed
+moves_any count old new log deed a d = record {
+  at = λ s h. any new log.told (deed s) (d log.told s (all_placed old a log.told s h));
+  few = omega arith;
+  before = refl;
+}

@@ -1,0 +1,9 @@
+pub mod Looping
+pub mod Parts
+pub mod Either
+pub mod Renewed
+pub mod Waking
+pub mod Switches
+pub mod Acting
+pub mod Continuing
+pub mod Booting

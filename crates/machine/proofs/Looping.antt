@@ -1,0 +1,37 @@
+-- The open loops, as the cells hold them.
+use Rattle.std.proofs.Common.{◌≡◌, ◌≢◌, ◌<◌, ◌≤◌, ◌-◌, ℕ, zero, suc, leb, List, ◌∷◌, length, get_or, set, refl, ap, sym, subst, ◌∙◌, arith, get_or-set_same, get_or-set_other}
+use Rattle.std.proofs.lemmas.Bool.Decides.{nat_tests}
+use Rattle.std.specs.Prelude.{false}
+use Rattle.model.specs.declared.loops.Loop.{Loop}
+use Rattle.machine.specs.Loops.{no_loop, open_in, after_turn}
+
+-- a cell above those of the open loops
+open_in-set : (cells : List Loop) (n m : ℕ) (l : Loop) → n ≤ m → open_in (set cells m l) n ≡ open_in cells n
+open_in-set cells zero m l le = refl
+open_in-set cells (suc n) m l le =
+    let ne : n ≢ m = omega arith in
+    rw (get_or-set_other cells m n l no_loop ne) (ap (λ ls. get_or cells n no_loop ∷ ls) (open_in-set cells n m l (omega arith)))
+
+leb-no : (a b : ℕ) → b < a → leb a b ≡ false
+leb-no a b e = grind (arith, nat_tests)
+
+-- the innermost loop is another
+turned : (cells : List Loop) (m : ℕ) (l : Loop) → m < length cells → open_in (set cells m l) (suc m) ≡ l ∷ open_in cells m
+turned cells m l less =
+    ap (λ (x : Loop). x ∷ open_in (set cells m l) m) (get_or-set_same cells m l no_loop less)
+    ∙ ap (λ (ls : List Loop). l ∷ ls) (open_in-set cells m m l (omega arith))
+
+after_less : (l : Loop) (ls : List Loop) → 1 < l.left → after_turn (l ∷ ls) ≡ record l { left = l.left - 1 } ∷ ls
+after_less l ls more = rw (leb-no l.left 1 more) refl
+
+-- the innermost loop has one turn less
+pub one_turn_less : (cells : List Loop) (n : ℕ) (old : List Loop) → open_in cells n ≡ old → (n ≡ 0 → ⊥) → n ≤ length cells → 1 < (get_or cells (n - 1) no_loop).left
+    → open_in (set cells (n - 1) (record (get_or cells (n - 1) no_loop) { left = (get_or cells (n - 1) no_loop).left - 1 })) n ≡ after_turn old
+one_turn_less cells zero old is some fits more = absurd (some refl)
+one_turn_less cells (suc m) old is some fits more =
+    let e : suc m - 1 ≡ m = omega arith in
+    let L : ℕ → Loop = λ k. get_or cells k no_loop in
+    let P : ℕ → Type 0 = λ k. open_in (set cells k (record (L k) { left = (L k).left - 1 })) (suc m) ≡ after_turn old in
+    let Q : ℕ → Type 0 = λ k. 1 < (L k).left in
+    subst P (sym e)
+    (turned cells m (record (L m) { left = (L m).left - 1 }) (omega arith) ∙ sym (after_less (L m) (open_in cells m) (subst Q e more)) ∙ ap after_turn is)

@@ -1,0 +1,84 @@
+-- Steps and events are another's: what that makes of the states that the kernel stands for.
+use Rattle.std.proofs.Common.{◌≡◌, ℕ, List, [], ◌∷◌, ◌++◌, Some, None, refl, ap, ◌∙◌}
+use Rattle.model.specs.declared.event.Event.{Event}
+use Rattle.model.specs.State.{State, printed}
+use Rattle.model.specs.Switching.{write}
+use Rattle.model.specs.declared.call.WaitList.{WaitList}
+use Rattle.model.specs.Step.{step}
+use Rattle.model.specs.Invariant.{IsTable}
+use Rattle.groups.proofs.Standing as on_groups
+use Rattle.groups.proofs.Kept as bits_kept
+use Rattle.machine.specs.declared.machine.Machine.{Machine}
+use Rattle.machine.specs.StandsFor.{StandsFor, StandsBefore, Stands, AtAny, DoesAny, decider}
+use Rattle.machine.specs.Logged.{Logged}
+use Rattle.machine.specs.Can.{StandsForSome}
+use Rattle.machine.specs.StandsFor.Stands.{Placed, Placing}
+use Rattle.objects.specs.Queues.{SameWaits}
+use Rattle.objects.proofs.Kept.{stands_same}
+use Rattle.objects.proofs.Awake.{at_locked_same}
+use Rattle.machine.proofs.Parts.{clock-same, same_parts}
+use Rattle.machine.proofs.Either.{steps_are, now_is}
+
+begun_before : (k : Machine) (s : State) (task : ℕ) (list : WaitList) → StandsBefore task list k s → (log : List Event) (steps : ℕ) (n : ℕ) → n ≡ steps → StandsBefore task list (record k { steps = n }) (record s { log = log; steps = steps })
+begun_before k s task list b log steps n e =
+    let new : State = record s { log = log; steps = steps } in
+    let table : IsTable new = record { tickets = b.sched.table.tickets; few = b.sched.table.few; current = b.sched.table.current; holders = b.sched.table.holders } in
+    let same : SameWaits s new = same_parts s new refl refl refl in
+    record {
+      sched = record { ready = b.sched.ready; still = b.sched.still; current = b.sched.current; priorities = b.sched.priorities; base_priorities = b.sched.base_priorities; depth = b.sched.depth; suspended = b.sched.suspended; table = table };
+      clock = record { now = b.clock.now; age = b.clock.age; held = b.clock.held; sorted = b.clock.sorted; once = b.clock.once; delayed = b.clock.delayed; awake = b.clock.awake; table = table };
+      queues = stands_same s new same k.queues (Some (decider task list s)) b.queues table;
+      groups = on_groups.stands_same k.groups s new b.groups (bits_kept.same_parts s new refl refl) table;
+      suspensions = b.suspensions;
+      awake = at_locked_same (Some (decider task list s)) s new same b.awake;
+      progress = b.progress;
+      full = b.full;
+      steps = e;
+      stopped = b.stopped;
+      current = b.current;
+      held = b.held;
+      phase = b.phase;
+      wait_list = b.wait_list;
+      placed = b.placed;
+    }
+
+begun_at : (k : Machine) (s : State) → StandsFor k s → (log : List Event) (steps : ℕ) (n : ℕ) → n ≡ steps → StandsFor (record k { steps = n }) (record s { log = log; steps = steps })
+begun_at k s h log steps n e =
+    let new : State = record s { log = log; steps = steps } in
+    let table : IsTable new = record { tickets = h.sched.table.tickets; few = h.sched.table.few; current = h.sched.table.current; holders = h.sched.table.holders } in
+    let same : SameWaits s new = same_parts s new refl refl refl in
+    record {
+      sched = record { ready = h.sched.ready; current = h.sched.current; priorities = h.sched.priorities; base_priorities = h.sched.base_priorities; depth = h.sched.depth; suspended = h.sched.suspended; table = table };
+      rest = record {
+        progress = h.rest.progress;
+        full = h.rest.full;
+        clock = clock-same k.clock s new h.rest.clock refl refl refl table;
+        queues = stands_same s new same k.queues None h.rest.queues table;
+        groups = on_groups.stands_same k.groups s new h.rest.groups (bits_kept.same_parts s new refl refl) table;
+        suspensions = h.rest.suspensions;
+        awake = at_locked_same None s new same h.rest.awake;
+        steps = e;
+        stopped = h.rest.stopped;
+        placed = h.rest.placed;
+      };
+    }
+
+-- steps and events are another's
+pub renewed : (k : Machine) (s : State) → Stands k s → (log : List Event) (steps : ℕ) (n : ℕ) → n ≡ steps → Stands (record k { steps = n }) (record s { log = log; steps = steps })
+renewed k s (Placed h) log steps n e = Placed (begun_at k s h log steps n e)
+renewed k s (Placing task list b) log steps n e = Placing task list (begun_before k s task list b log steps n e)
+
+-- an event is told
+pub any_written : (k : Machine) (log new_log : List Event) (s : State) (e : Event) → AtAny k log s → new_log ≡ log ++ e ∷ [] → e.step ≡ k.steps → e.tick ≡ printed k.clock.now → AtAny k new_log (write e.what s)
+any_written k log new_log s e h told step tick = record {
+  stands = renewed k s h.stands (write e.what s).log s.steps k.steps (steps_are k s h.stands);
+  log = told ∙ rw h.log (ap (λ (x : Event). s.log ++ x ∷ []) (event_same e s.steps (printed s.time) (step ∙ steps_are k s h.stands) (tick ∙ ap printed (now_is k s h.stands))));
+} where
+  event_same : (e : Event) (n m : ℕ) → e.step ≡ n → e.tick ≡ m → e ≡ record { step = n; tick = m; what = e.what }
+  event_same e n m a b = ap (λ (x : ℕ). record e { step = x }) a ∙ ap (λ (x : ℕ). record e { step = n; tick = x }) b
+
+-- It stands for some state after a deed, as before it.
+pub stood_after : (count : ℕ) (old new : Machine) (old_log new_log : Logged) (deed : State → State) → StandsForSome old → DoesAny count old old_log new new_log deed → StandsForSome new
+stood_after count old new old_log new_log deed h d =
+    let s : State = record (h.0) { log = old_log.told } in
+    (deed s, (d.at s (record { stands = renewed old h.0 h.1 old_log.told (h.0).steps old.steps (steps_are old h.0 h.1); log = refl })).stands)

@@ -1,0 +1,6 @@
+use Rattle.std.proofs.Common.{arith}
+use Rattle.machine.proofs.Looping.{one_turn_less}
+use Rattle.machine.proofs.loops.Loops.end_turn.Goals as goal
+
+pub returns-clause-loops : goal.returns-clause-loops
+returns-clause-loops c = one_turn_less c.self.inside.cells c.self.inside.nesting c.args.self.now c.self.view_is c.if-self-eq0.false (let n = c.self.invariant in omega arith) c.if-turn-le1.false

@@ -1,0 +1,67 @@
+-- What a deed of the kernel asks of it: that the numbers of the code suffice, and that the parts agree.
+use Rattle.std.specs.Prelude.{◌≡◌, ◌≢◌, ◌<◌, ℕ, ◌+◌, ◌^◌, true, false, List, [], ◌∷◌, Option, Some, None, IfSome, length}
+use Rattle.std.specs.List.{AllByRecursion}
+use Rattle.model.specs.declared.op.Access.{Access}
+use Rattle.model.specs.declared.plan.Point.{Point}
+use Rattle.model.specs.Application.{Application, Limits}
+use Rattle.model.specs.State.{State, status_at}
+use Rattle.model.specs.Suspension.{can_resume}
+use Rattle.model.specs.Run.{end_of, state_after}
+use Rattle.sched.specs.Schedule.{Schedule, is_ready}
+use Rattle.objects.specs.Queues as objects
+use Rattle.machine.specs.declared.machine.Machine.{Machine}
+use Rattle.machine.specs.StandsFor.{StandsFor, Stands, progress_in}
+
+-- The parts of the kernel agree: it stands for some state, in which each task is in its lists.
+abbrev pub Agrees : Machine → Type 0
+Agrees k = (s : State) × StandsFor k s
+
+-- It stands for some state, in which a task may be still to be placed.
+abbrev pub StandsForSome : Machine → Type 0
+StandsForSome k = (s : State) × Stands k s
+
+-- The task is the running one, and Ready; it is at one of 256 ops at most.
+pub record Runs (k : Machine) (task : ℕ) : Type 0 where
+  pub current : k.sched.current ≡ Some task
+  pub ready : is_ready k.sched task ≡ true
+  pub op_index : (progress_in k.progress task).op_index < 256
+
+-- The object is there, and has room for what the call puts in, where nothing is in it.
+abbrev pub HasRoom : Machine → ℕ → Access → Type 0
+HasRoom k object access = objects.HasRoom k.queues object access
+
+-- The time can rise by a tick.
+pub record CanAdvance (k : Machine) : Type 0 where
+  pub agrees : Agrees k
+  pub free : k.queues.lock ≡ None
+  pub age : k.clock.age < 2 ^ 62
+  pub awake : k.suspensions ≡ 0
+
+-- The task is the running one, and each task is in its lists.
+pub record IsInCall (k : Machine) (task : ℕ) : Type 0 where
+  pub current : k.sched.current ≡ Some task
+  pub agrees : Agrees k
+
+-- A deadline, if there is one, is still to come, less than 2^32 ticks away.
+abbrev pub IsAhead : ℕ → Option ℕ → Type 0
+IsAhead now deadline = IfSome deadline (λ time. (now < time) × (time < now + 2 ^ 32))
+
+-- A run of which so many steps are done is under way: the kernel stands for the state after them, and none of them came
+-- after the end.
+pub record IsUnderWay (app : Application) (plan : List Point) (limits : Limits) (k : Machine) : Type 0 where
+  pub stands : Stands k (state_after app plan k.steps)
+  pub goes_on : (n : ℕ) → n < k.steps → end_of app limits (state_after app plan n) ≡ None
+
+-- What a call leaves as it is: how often the scheduler is held, and which objects have room for what a call puts in.
+pub record Leaves (old new : Machine) : Type 0 where
+  pub depth : new.sched.depth ≡ old.sched.depth
+  pub objects : (object : ℕ) (access : Access) → HasRoom old object access → HasRoom new object access
+
+-- These tasks are there, and none is suspended.
+abbrev pub AreThere : State → List ℕ → Type 0
+AreThere s tasks = AllByRecursion (λ task. (task < length s.tasks) × (can_resume (status_at s task) ≡ false)) tasks
+
+-- These tasks can become Ready: none is so already, and none comes twice.
+abbrev pub AreToWake : Schedule → List ℕ → Type 0
+AreToWake v [] = Unit {0}
+AreToWake v (task ∷ tasks) = (is_ready v task ≡ false) × AllByRecursion (λ other. other ≢ task) tasks × AreToWake v tasks

@@ -1,0 +1,6 @@
+pub mod Logged
+pub mod Loops
+pub mod StandsFor
+pub mod Can
+pub mod Boot
+pub mod Keeping

@@ -1,0 +1,106 @@
+-- What a kernel stands for: a state of the definitions, whose tickets it doesn't have.
+use Rattle.std.specs.Prelude.{◌≡◌, ◌≢◌, ℕ, ◌+◌, ◌≤◌, true, List, [], ◌∷◌, Option, Some, None, length, slice_index_or, slice_set, if◌then◌else◌}
+use Rattle.model.specs.declared.call.Phase.TheVariants.{Place}
+use Rattle.model.specs.declared.call.WaitList.{WaitList}
+use Rattle.model.specs.declared.event.Event.{Event}
+use Rattle.model.specs.declared.event.What.TheVariants as what
+use Rattle.model.specs.State.{State, Progress, no_progress, task_at, progress_at, call_at, printed}
+use Rattle.model.specs.Switching.{is_same}
+use Rattle.sched.specs.StandsFor as sched
+use Rattle.clock.specs.StandsFor as clock
+use Rattle.objects.specs.WaitersStand.{Decider, AtLocked}
+use Rattle.objects.specs.Queues as queues
+use Rattle.groups.specs.StandsFor as groups
+use Rattle.machine.specs.declared.machine.Machine.{Machine}
+use Rattle.machine.specs.Logged.{Logged}
+
+-- the progress that the kernel keeps of this task
+abbrev pub progress_in : List Progress → ℕ → Progress
+progress_in ps task = slice_index_or ps task no_progress
+
+-- all but the scheduler, where no task has begun to wait without being in its lists yet
+pub record RestStandsFor (k : Machine) (s : State) : Type 0 where
+  pub progress : (task : ℕ) → progress_in k.progress task ≡ progress_at s task
+  pub full : length k.progress ≡ 32
+  pub clock : clock.StandsFor k.clock s
+  pub queues : queues.StandsFor k.queues None s
+  pub groups : groups.StandsFor k.groups s
+  pub suspensions : k.suspensions ≡ s.suspensions
+  pub awake : AtLocked None s
+  pub steps : k.steps ≡ s.steps
+  pub stopped : k.stopped ≡ s.stopped
+  pub placed : (task : ℕ) → (progress_in k.progress task).call.phase ≢ Place
+
+-- Where each task is in its script is kept as it is; the scheduler stands for who is Ready and who runs, the clock for
+-- the time and who wakes when, the queues for what they hold, who waits at them, and which one is locked, the groups for
+-- their bits and who waits for them; how many `suspend_all` are in force is kept as it is.
+pub record StandsFor (k : Machine) (s : State) : Type 0 where
+  pub sched : sched.StandsFor k.sched s
+  pub rest : RestStandsFor k s
+
+-- what the queues have still to place: the task, with the priority that it has
+abbrev pub decider : ℕ → WaitList → State → Decider
+decider task list s = record { task = task; list = list; priority = (task_at s task).priority }
+
+-- The same, but that the running task has begun to wait in this list, and is not placed yet: it is still among the
+-- scheduler's Ready tasks, and neither in its waiting list nor among those who wake by themselves.
+pub record StandsBefore (task : ℕ) (list : WaitList) (k : Machine) (s : State) : Type 0 where
+  pub sched : sched.StandsBefore task k.sched s
+  pub clock : clock.StandsBefore task (call_at s task).deadline k.clock s
+  pub queues : queues.StandsFor k.queues (Some (decider task list s)) s
+  pub groups : groups.StandsFor k.groups s
+  pub suspensions : k.suspensions ≡ s.suspensions
+  pub awake : AtLocked (Some (decider task list s)) s
+  pub progress : (other : ℕ) → progress_in k.progress other ≡ progress_at s other
+  pub full : length k.progress ≡ 32
+  pub steps : k.steps ≡ s.steps
+  pub stopped : k.stopped ≡ s.stopped
+  pub current : s.current ≡ Some task
+  pub held : s.call_hold ≡ true
+  pub phase : (call_at s task).phase ≡ Place
+  pub wait_list : k.wait_list ≡ list
+  pub placed : (other : ℕ) → other ≢ task → (progress_in k.progress other).call.phase ≢ Place
+
+-- The kernel stands for the state, in which each task is in its lists, or one is still to be placed there.
+pub data Stands (k : Machine) (s : State) : Type 0 where
+  Placed : StandsFor k s → Stands k s
+  Placing : (task : ℕ) → (list : WaitList) → StandsBefore task list k s → Stands k s
+
+-- It stands for the state, and the step has told these events so far.
+pub record At (k : Machine) (told : List Event) (s : State) : Type 0 where
+  pub stands : StandsFor k s
+  pub log : told ≡ s.log
+
+-- the same, where a task may be still to be placed
+pub record AtAny (k : Machine) (told : List Event) (s : State) : Type 0 where
+  pub stands : Stands k s
+  pub log : told ≡ s.log
+
+-- The deed is done and at most so many events are told, each of which takes room of the log: for every state that the
+-- old kernel stands for, the new one stands for what the deed makes of it. The events before this step stay.
+pub record Does (count : ℕ) (old : Machine) (old_log : Logged) (new : Machine) (new_log : Logged) (deed : State → State) : Type 0 where
+  pub at : (s : State) → At old old_log.told s → At new new_log.told (deed s)
+  pub few : old_log.room ≤ new_log.room + count
+  pub before : new_log.before ≡ old_log.before
+
+-- the same, where a task may be still to be placed, before the deed or after it
+pub record DoesAny (count : ℕ) (old : Machine) (old_log : Logged) (new : Machine) (new_log : Logged) (deed : State → State) : Type 0 where
+  pub at : (s : State) → AtAny old old_log.told s → AtAny new new_log.told (deed s)
+  pub few : old_log.room ≤ new_log.room + count
+  pub before : new_log.before ≡ old_log.before
+
+-- the same of a deed that tells nothing
+abbrev pub Moves : Machine → Machine → (State → State) → Type 0
+Moves old new deed = (log : List Event) (s : State) → At old log s → At new log (deed s)
+
+abbrev pub MovesAny : Machine → Machine → (State → State) → Type 0
+MovesAny old new deed = (log : List Event) (s : State) → AtAny old log s → AtAny new log (deed s)
+
+-- the event that says who runs now, where that is a change
+abbrev pub change : ℕ → ℕ → Option ℕ → Option ℕ → List Event
+change step time before now =
+    if is_same now before then [] else record { step = step; tick = printed time; what = what.Run now } ∷ []
+
+-- The kernel keeps this as the task's progress.
+abbrev pub with_progress : ℕ → Progress → Machine → Machine
+with_progress task p k = record k { progress = slice_set k.progress task p }

@@ -1,0 +1,99 @@
+//! An op is complete, or is a misuse: the task goes on, and its call answers.
+ghost use Rattle.std.specs.Prelude.{◌≡◌, ◌<◌, ◌≤◌, ◌+◌, Some, None};
+ghost use Rattle.model.specs.State.{progress_at};
+ghost use Rattle.model.specs.Ops.{go_to, complete, called, answer, one_if};
+ghost use Rattle.model.specs.Step.{misuse, misused};
+ghost use Rattle.machine.specs.StandsFor.{Does, Moves};
+ghost use Rattle.machine.specs.Can.{Runs};
+
+use crate::log::Log;
+use crate::machine::Machine;
+use model::{App, End, Misuse, TaskId, What};
+
+// What a complete call tells.
+fn called(task: TaskId, op_index: u16, given: Option<u32>) -> What
+    ensures { result ≡ called task op_index given }
+{
+    match given {
+        Some(answer) => What::Call(task, op_index, answer),
+        None => What::CallNone(task, op_index),
+    }
+}
+
+/// What a call answers that did something, or did nothing.
+pub fn one_if(did: bool) -> u32
+    ensures { Some result ≡ one_if did }
+{
+    u32::from(did)
+}
+
+impl Machine {
+    /// The running task goes on at this op; past its last one it is Ended.
+    pub fn go_to(&mut self, app: &App, task: TaskId, op_index: u16)
+        requires { Runs self.old task }
+        ensures does { Moves self.old self.new
+            (λ s. go_to app.now task op_index (progress_at s task) s) }
+        ensures depth { self.new.sched.depth ≡ self.old.sched.depth }
+        ensures clock { self.new.clock ≡ self.old.clock }
+        ensures queues { self.new.queues ≡ self.old.queues }
+        ensures suspensions { self.new.suspensions ≡ self.old.suspensions }
+    {
+        self.set_op_index(task, op_index);
+        if op_index as usize == app.op_count(task) {
+            self.sched.block(task);
+        }
+    }
+
+    /// The op that the running task is at is complete.
+    pub fn complete(&mut self, app: &App, task: TaskId)
+        requires { Runs self.old task }
+        ensures does { Moves self.old self.new
+            (λ s. complete app.now task (progress_at s task) s) }
+        ensures depth { self.new.sched.depth ≡ self.old.sched.depth }
+        ensures clock { self.new.clock ≡ self.old.clock }
+        ensures queues { self.new.queues ≡ self.old.queues }
+        ensures suspensions { self.new.suspensions ≡ self.old.suspensions }
+    {
+        let next = self.progress(task).op_index + 1;
+        self.go_to(app, task, next);
+    }
+
+    /// A call of the running task is complete with this answer, or with `none`.
+    // Apart from `answer`, since most calls answer a number, and the step is faster where that is known.
+    #[inline(always)]
+    pub fn answer_given<L: Log>(&mut self, app: &App, task: TaskId, given: Option<u32>, log: &mut L)
+        requires room { 1 ≤ (L.logged log.old).room }
+        requires runs { Runs self.old task }
+        ensures does { Does 1 self.old (L.logged log.old) self.new (L.logged log.new)
+            (answer app.now task given) }
+        ensures depth { self.new.sched.depth ≡ self.old.sched.depth }
+        ensures clock { self.new.clock ≡ self.old.clock }
+        ensures queues { self.new.queues ≡ self.old.queues }
+    {
+        let op_index = self.progress(task).op_index;
+        self.write(log, called(task, op_index, given));
+        self.set_answer(task, given);
+        self.complete(app, task);
+    }
+
+    /// A call of the running task is complete with this number as its answer.
+    pub fn answer<L: Log>(&mut self, app: &App, task: TaskId, number: u32, log: &mut L)
+        requires room { 1 ≤ (L.logged log.old).room }
+        requires runs { Runs self.old task }
+        ensures does { Does 1 self.old (L.logged log.old) self.new (L.logged log.new)
+            (answer app.now task (Some number)) }
+        ensures depth { self.new.sched.depth ≡ self.old.sched.depth }
+        ensures clock { self.new.clock ≡ self.old.clock }
+        ensures queues { self.new.queues ≡ self.old.queues }
+    {
+        self.answer_given(app, task, Some(number), log);
+    }
+
+    /// The op of a task is a misuse, which ends the run.
+    pub fn misuse(&mut self, task: TaskId, misuse: Misuse)
+        ensures { Moves self.old self.new (λ s. misused task (progress_at s task).op_index misuse s) }
+    {
+        let op_index = self.progress(task).op_index;
+        self.stopped = Some(End::Misuse(task, op_index, misuse));
+    }
+}

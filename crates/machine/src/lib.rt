@@ -1,0 +1,21 @@
+//! The state of the kernel, and what every call is made of.
+#![tactic(auto)]
+
+mod answering;
+mod boot;
+mod deadlines;
+mod log;
+mod loops;
+mod machine;
+mod progress;
+mod snapshot;
+mod switching;
+
+pub use answering::one_if;
+pub use deadlines::place_sleeper;
+pub use log::{Log, StepLog};
+pub use loops::Loops;
+pub use machine::Machine;
+pub use progress::Progress;
+pub use snapshot::Snapshot;
+pub use switching::wake_all;

@@ -1,0 +1,69 @@
+//! Where a task is in its script.
+use crate::loops::Loops;
+use model::CallProgress;
+use std::marker::Model;
+
+/// Where a task is in its script, and what it keeps there.
+#[derive(Drop)]
+pub struct Progress {
+    /// The index of the op that the task is at.
+    pub op_index: u16,
+    /// How much of a `work` is used up.
+    pub used: u32,
+    pub loops: Loops,
+    /// The last answer.
+    pub answer: Option<u32>,
+    /// The time from which `delay_until` counts, in ticks without bound.
+    pub previous_wake: u64,
+    /// How far the call of this op has come, if it is one that may wait.
+    pub call: CallProgress,
+}
+
+// Clauses see the definitions' progress.
+impl Model for Progress {
+    ghost use Rattle.model.specs.State as state;
+
+    ghost Value = { state.Progress };
+
+    ghost view = { λ p. record { op_index = p.op_index; used = p.used; loops = p.loops; answer = p.answer; previous_wake = p.previous_wake; call = p.call } };
+}
+
+impl Progress {
+    ghost use Rattle.std.specs.Prelude.{◌≡◌};
+    ghost use Rattle.model.specs.State.{no_progress};
+
+    /// At the first op, of which nothing is done, and counting from this time.
+    pub(crate) fn new(start: u64) -> Progress
+        ensures { result ≡ record no_progress { previous_wake = start } }
+    {
+        Progress {
+            op_index: 0,
+            used: 0,
+            loops: Loops::new(),
+            answer: None,
+            previous_wake: start,
+            call: CallProgress::default(),
+        }
+    }
+
+    /// A copy.
+    pub(crate) fn copy(&self) -> Progress
+        ensures { result ≡ self.now }
+    {
+        let mut copy = Progress::new(0);
+        copy.set_from(self);
+        copy
+    }
+
+    /// Becomes a copy of the other, in place.
+    pub(crate) fn set_from(&mut self, other: &Self)
+        ensures { self.new ≡ other.now }
+    {
+        self.op_index = other.op_index;
+        self.used = other.used;
+        self.loops.set_from(&other.loops);
+        self.answer = other.answer;
+        self.previous_wake = other.previous_wake;
+        self.call = other.call;
+    }
+}
