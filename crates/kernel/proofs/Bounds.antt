@@ -34,7 +34,8 @@ use Rattle.machine.specs.declared.machine.Machine.{Machine}
 use Rattle.machine.specs.StandsFor.{StandsFor, StandsBefore, Stands, decider, progress_in}
 use Rattle.machine.specs.StandsFor.Stands.{Placed, Placing}
 use Rattle.machine.specs.Can.{Runs, HasRoom, Agrees, IsAhead, IsInCall, StandsForSome}
-use Rattle.kernel.specs.Can.{HasLoopRoom, HasObject, HasObjects, CanTick, Can, CanTry, IsShort, CanDecide, CanPlace, CanLeave, CanGoOn, CanSetBits, CanWaitBits, CanOp, CanHold, CanAct, CanStep}
+use Rattle.ops.specs.Can.{HasLoopRoom, HasObject, HasObjects, CanTick, Can, CanTry, IsShort, CanDecide, CanPlace, CanLeave, CanGoOn, CanSetBits, CanWaitBits, CanHold}
+use Rattle.kernel.specs.Can.{CanOp, CanAct, CanStep}
 use Rattle.machine.proofs.Either.{elapsed_is, now_is, current_is, progress_is, suspensions_are}
 
 leb-less : (a b : ℕ) → leb a b ≡ false → b < a

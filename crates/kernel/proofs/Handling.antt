@@ -1,5 +1,5 @@
 -- Handlers: what their ops, and one handler after another, make of a state.
-use Rattle.std.proofs.Common.{◌≡◌, ◌<◌, ◌≤◌, ◌+◌, ℕ, zero, suc, List, [], ◌∷◌, ◌++◌, length, map, get_or, take, false, true, Option, None, refl, ap, sym, subst, ◌∙◌, arith}
+use Rattle.std.proofs.Common.{◌≡◌, ◌<◌, ◌≤◌, ◌+◌, ℕ, zero, suc, List, [], ◌∷◌, ◌++◌, length, map, get_or, take, false, true, Option, None, ap, sym, subst, ◌∙◌, arith, Some}
 use Rattle.std.specs.List.{AllByRecursion}
 use Rattle.std.proofs.lemmas.List.{length-take-le, take_more}
 use Rattle.model.specs.declared.event.What.{What}
@@ -10,7 +10,7 @@ use Rattle.model.specs.declared.op.Access.{Access}
 use Rattle.std.specs.Prelude.{option_map, slice_get, unwrap_or}
 use Rattle.model.specs.Application.{Application, Handler, ops_of}
 use Rattle.model.specs.Scripts.{fits_object, IsHandler, IsWellFormed, knows_isr}
-use Rattle.model.specs.State.{State, for_each}
+use Rattle.model.specs.State.{State, for_each, status_at, bits_at}
 use Rattle.model.specs.declared.event.Event.{Event}
 use Rattle.model.specs.Switching.{is_held, preempt, write}
 use Rattle.soundness.proofs.Settled.{when_free, when_held, held_by_call}
@@ -22,8 +22,14 @@ use Rattle.machine.specs.declared.machine.Machine.{Machine}
 use Rattle.machine.specs.StandsFor.{Stands, At, AtAny}
 use Rattle.machine.proofs.Either.{any, either}
 use Rattle.soundness.proofs.Handled.{and_left}
-use Rattle.kernel.specs.Can.{HasIsrObject, HasObjects}
+use Rattle.ops.specs.Can.{HasIsrObject, HasObjects}
 use Rattle.machine.specs.Can.{Leaves}
+use Rattle.std.specs.Option.{option_map}
+use Rattle.model.specs.Suspension.{can_resume, resume}
+use Rattle.objects.proofs.Kept.{same}
+use Rattle.groups.specs.StandsFor as groups
+use Rattle.machine.specs.StandsFor.Stands.{Placed, Placing}
+use Rattle.model.specs.Ops.{answer, one_if}
 
 -- ---- an op
 
@@ -80,14 +86,6 @@ one_more {A} deed P xs s i x l e h =
     let more : take (i + 1) xs ≡ take i xs ++ x ∷ [] = take_more xs i x l ∙ ap (λ (y : A). take i xs ++ y ∷ []) (sym e) in
     rw (more, each-end deed s (take i xs) x) h
 
--- ---- what is left as it was
-
-pub leaves_same : (k : Machine) → Leaves k k
-leaves_same k = record { depth = refl; objects = λ o a h. h }
-
-pub leaves_both : (a b c : Machine) → Leaves a b → Leaves b c → Leaves a c
-leaves_both a b c h g = record { depth = g.depth ∙ h.depth; objects = λ o a room. g.objects o a (h.objects o a room) }
-
 pub room_after : (app : Application) (old new : Machine) → HasObjects app old → Leaves old new → HasObjects app new
 room_after app old new room h o a fit = h.objects o a (room o a fit)
 
@@ -136,3 +134,22 @@ guessed k n log s h = record {
   };
   log = h.log;
 }
+
+-- ---- the bits of a group
+
+-- The groups stand for the state, whether or not a task is still to be placed.
+pub groups_stand : (k : Machine) (s : State) → Stands k s → groups.StandsFor k.groups s
+groups_stand k s (Placed h) = h.rest.groups
+groups_stand k s (Placing task list b) = b.groups
+
+-- ---- in a handler
+
+pub told_bits : (P : State → Type 0) (s : State) (handler op_index : ℕ) (op : IsrOp) (group bits : ℕ) (what : What) → op ≡ GetBits group → what ≡ isr_told handler op_index (Some bits) → bits ≡ bits_at s group → P (write what s) → P (isr handler op_index op s)
+told_bits P s handler op_index op group bits what is told same h =
+    let one : what ≡ isr_told handler op_index (Some (bits_at s group)) = told ∙ ap (λ (n : ℕ). isr_told handler op_index (Some n)) same in
+    rw is (subst (λ (w : What). P (write w s)) one h)
+
+pub told_resume : (P : State → Type 0) (s : State) (handler op_index : ℕ) (op : IsrOp) (i n : ℕ) (what : What) → op ≡ Resume i → what ≡ isr_told handler op_index (Some n) → Some n ≡ one_if (can_resume (status_at s i)) → P (write what (resume i s)) → P (isr handler op_index op s)
+told_resume P s handler op_index op i n what is told same h =
+    let one : what ≡ isr_told handler op_index (one_if (can_resume (status_at s i))) = told ∙ ap (isr_told handler op_index) same in
+    rw is (subst (λ (w : What). P (write w (resume i s))) one h)

@@ -19,26 +19,18 @@ use Rattle.sched.proofs.Standing.{held_by_depth}
 use Rattle.machine.specs.declared.machine.Machine.{Machine}
 use Rattle.machine.specs.Logged.{Logged}
 use Rattle.machine.specs.StandsFor.{Stands, AtAny, Does, DoesAny, progress_in}
-use Rattle.kernel.specs.Can.{CanLeave}
-use Rattle.kernel.specs.InCall.{IsSilent, IsInPhase, IsLeaving, Remains}
+use Rattle.ops.specs.Can.{CanLeave}
+use Rattle.ops.specs.InCall.{IsSilent, Remains}
+use Rattle.kernel.specs.InCall.{IsInPhase, IsLeaving}
 use Rattle.machine.proofs.Either.{any, either, does_any, does_more, steps_are}
-use Rattle.kernel.proofs.Acted.{freely, in_phase}
+use Rattle.kernel.proofs.Acted.{freely}
+use Rattle.ops.proofs.Calling.{in_phase}
 use Rattle.kernel.proofs.Counting.{steps_still}
 use Rattle.machine.proofs.Switches.{settled_before, settled_held}
 use Rattle.kernel.proofs.Ending.{begun, handled_before, stepped}
 use Rattle.kernel.proofs.Running.{acts}
 
--- There are three such phases,
-pub none_else : (phase : Phase) → IsSilent phase → phase ≢ Decide → phase ≢ Place → phase ≢ Unlock → ⊥
-none_else Start s a b c = s
-none_else Try s a b c = s
-none_else Decide s a b c = a refl
-none_else Place s a b c = b refl
-none_else Unlock s a b c = c refl
-none_else Leave s a b c = s
-none_else Final s a b c = s
-
--- and in all but the first the scheduler is held before it too.
+-- A call tells nothing in three phases: in all but the first the scheduler is held before it too.
 pub holds_silently : (phase : Phase) → IsSilent phase → phase ≢ Decide → holds phase ≡ true
 holds_silently Start s a = absurd s
 holds_silently Try s a = absurd s

@@ -33,7 +33,7 @@ use Rattle.machine.specs.declared.machine.Machine.{Machine}
 use Rattle.machine.specs.StandsFor.{StandsFor, Stands, At, AtAny, progress_in, with_progress}
 use Rattle.machine.specs.StandsFor.Stands.{Placed, Placing}
 use Rattle.kernel.specs.Quiet.{IsQuiet, Passes, WorksOn, used_by}
-use Rattle.kernel.proofs.Working.{used_more}
+use Rattle.ops.proofs.Working.{used_more}
 use Rattle.machine.proofs.Acting.{within}
 use Rattle.machine.proofs.Either.{any, current_is, elapsed_is, steps_are, stopped_is}
 use Rattle.kernel.proofs.Ending.{begun, ends_not, not_over_by, on_by, stepped, stuck_by}

@@ -3,17 +3,10 @@ use Rattle.std.specs.Prelude.{◌≡◌, ℕ, Option, Some}
 use Rattle.model.specs.declared.op.Access.{Access}
 use Rattle.model.specs.declared.op.Op.TheVariants.{Await}
 use Rattle.model.specs.declared.call.Phase.{Phase}
-use Rattle.model.specs.declared.call.Phase.TheVariants.{Decide, Place, Unlock, Leave}
+use Rattle.model.specs.declared.call.Phase.TheVariants.{Leave}
 use Rattle.model.specs.Application.{Application, op_at}
 use Rattle.machine.specs.declared.machine.Machine.{Machine}
 use Rattle.machine.specs.StandsFor.{progress_in}
-
--- In these phases a call tells nothing, and holds the scheduler after each.
-abbrev pub IsSilent : Phase → Type 0
-IsSilent Decide = Unit {0}
-IsSilent Place = Unit {0}
-IsSilent Unlock = Unit {0}
-IsSilent _ = ⊥
 
 -- The running task is in this phase of a call on this object, and no `suspend_all` is in force.
 pub record IsInPhase (app : Application) (k : Machine) (task object : ℕ) (access : Access) (phase : Phase) : Type 0 where
@@ -26,9 +19,3 @@ pub record IsInPhase (app : Application) (k : Machine) (task object : ℕ) (acce
 -- The running task's call lets go of the scheduler next.
 abbrev pub IsLeaving : Application → Machine → ℕ → Type 0
 IsLeaving app k task = (object : ℕ) × (access : Access) × IsInPhase app k task object access Leave
-
--- Such a phase leaves it as it is who runs, and at which op the task is.
-pub record Remains (old new : Machine) (task : ℕ) : Type 0 where
-  pub current : new.sched.current ≡ old.sched.current
-  pub op_index : (progress_in new.progress task).op_index ≡ (progress_in old.progress task).op_index
-  pub suspensions : new.suspensions ≡ old.suspensions

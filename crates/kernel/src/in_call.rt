@@ -10,15 +10,16 @@ ghost use Rattle.machine.specs.Logged.{all_of};
 ghost use Rattle.machine.specs.StandsFor.{Stands, progress_in};
 ghost use Rattle.machine.specs.Can.{IsUnderWay};
 ghost use Rattle.kernel.specs.Can.{CanStep};
-ghost use Rattle.kernel.specs.InCall.{IsInPhase, IsLeaving, IsSilent};
+ghost use Rattle.ops.specs.InCall.{IsSilent};
+ghost use Rattle.kernel.specs.InCall.{IsInPhase, IsLeaving};
 ghost use Rattle.kernel.specs.Over.{is_over};
 ghost use Rattle.kernel.specs.Rows.{events_from};
 
-use crate::ops::calls::{go_on_silently, leave_call};
 use crate::steps::{is_over, op_of};
 use crate::trail::Trail;
 use machine::{Log, Machine};
 use model::{Access, App, Limits, ObjectId, Op, Phase, Point, TaskId};
+use ops::calls::{go_on_silently, leave_call};
 
 /// Whether a call tells nothing in this phase, and holds the scheduler after it.
 fn is_silent(phase: Phase) -> bool

@@ -1,13 +1,14 @@
 //! The kernel: its steps, and whole runs.
 #![tactic(auto)]
 
+mod acting;
 mod handlers;
 mod in_call;
 mod kernel;
-mod ops;
 mod quiet;
 mod rows;
 mod steps;
+mod suspended;
 mod trail;
 
 pub use kernel::Kernel;

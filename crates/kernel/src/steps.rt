@@ -17,12 +17,12 @@ ghost use Rattle.machine.specs.Can.{IsUnderWay};
 ghost use Rattle.kernel.specs.Can.{CanAct, CanStep};
 ghost use Rattle.kernel.specs.Rows.{events_from, Extends};
 
+use crate::acting::act;
 use crate::handlers::{inject_all, tick_interrupt};
 use crate::in_call::pass_leave;
 use crate::kernel::Kernel;
-use crate::ops::act;
-use crate::ops::suspension::act_while_suspended;
 use crate::quiet::{free_until, next_point, pass_on};
+use crate::suspended::act_while_suspended;
 use crate::trail::Trail;
 use arrayvec::ArrayVec;
 use machine::{Log, Machine, StepLog};

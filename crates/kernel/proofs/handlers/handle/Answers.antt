@@ -3,7 +3,8 @@ use Rattle.model.specs.declared.op.IsrOp.{IsrOp}
 use Rattle.model.specs.Handlers.{isr_each, handle}
 use Rattle.machine.specs.StandsFor.{At, AtAny}
 use Rattle.machine.proofs.Renewed.{stood_after}
-use Rattle.kernel.proofs.Handling.{handler_short, leaves_both, room_after, op_fits, op_more}
+use Rattle.kernel.proofs.Handling.{handler_short, room_after, op_fits, op_more}
+use Rattle.ops.proofs.Calling.{leaves_both}
 use Rattle.kernel.proofs.handlers.handle.Goals as goal
 
 pub isr-requires-clause-stands : goal.isr-requires-clause-stands

@@ -2,7 +2,7 @@ use Rattle.std.proofs.Common.{◌*◌, take}
 use Rattle.model.specs.State.{for_each}
 use Rattle.model.specs.Handlers.{inject}
 use Rattle.machine.specs.StandsFor.{DoesAny}
-use Rattle.kernel.specs.Can.{HasObjects}
+use Rattle.ops.specs.Can.{HasObjects}
 use Rattle.kernel.proofs.handlers.inject_all.Given as goal
 
 abbrev pub invariant-loop-handler : goal.invariant-loop-handler

@@ -6,7 +6,8 @@ use Rattle.model.specs.Handlers.{handle, interrupt}
 use Rattle.machine.specs.StandsFor.{At}
 use Rattle.machine.specs.StandsFor.Stands.{Placed}
 use Rattle.machine.proofs.Acting.{agrees_after}
-use Rattle.kernel.proofs.Handling.{leaves_both, room_after, mapped_at, one_more}
+use Rattle.ops.proofs.Calling.{leaves_both}
+use Rattle.kernel.proofs.Handling.{room_after, mapped_at, one_more}
 use Rattle.kernel.proofs.handlers.interrupt_at_tick.Goals as goal
 
 pub handle-requires-clause-room : goal.handle-requires-clause-room

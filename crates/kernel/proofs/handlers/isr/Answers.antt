@@ -2,9 +2,7 @@ use Rattle.std.proofs.Common.{ap, ◌∙◌}
 use Rattle.model.specs.Ops.{one_if}
 use Rattle.machine.specs.StandsFor.{At, AtAny}
 use Rattle.machine.specs.StandsFor.Stands.{Placed}
-use Rattle.kernel.proofs.Handling.{did_op, did_mark}
-use Rattle.kernel.proofs.EventBits.{groups_stand, told_bits}
-use Rattle.kernel.proofs.Suspending.{told_resume}
+use Rattle.kernel.proofs.Handling.{did_op, did_mark, groups_stand, told_bits, told_resume}
 use Rattle.kernel.proofs.handlers.isr.Goals as goal
 
 pub returns-in-Do-clause-does : goal.returns-in-Do-clause-does

@@ -1,5 +1,5 @@
 use Rattle.std.proofs.Common.{subst, arith}
-use Rattle.kernel.specs.Can.{CanGoOn}
+use Rattle.ops.specs.Can.{CanGoOn}
 use Rattle.kernel.proofs.Bounds.{below_limits, can_go_on, held_in_call}
 use Rattle.machine.proofs.Either.{steps_are}
 use Rattle.kernel.proofs.InCall.{holds_silently, steps_held, still_in_call, stepped_held, told_nothing}

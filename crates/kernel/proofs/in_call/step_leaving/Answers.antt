@@ -1,6 +1,6 @@
 use Rattle.std.proofs.Common.{[], ◌∙◌, subst, arith}
 use Rattle.model.specs.Step.{step}
-use Rattle.kernel.specs.Can.{CanGoOn}
+use Rattle.ops.specs.Can.{CanGoOn}
 use Rattle.kernel.proofs.Bounds.{below_limits, can_go_on}
 use Rattle.kernel.proofs.Counting.{steps_still}
 use Rattle.machine.proofs.Either.{steps_are}

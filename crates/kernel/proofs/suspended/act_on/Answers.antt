@@ -1,0 +1,42 @@
+use Rattle.std.proofs.Common.{arith}
+use Rattle.kernel.proofs.Held.{does_up, moves_up, no_other}
+use Rattle.kernel.proofs.suspended.act_on.Goals as goal
+
+pub returns-in-Work : goal.returns-in-Work
+returns-in-Work g c = rw c.in-Work.is c.work_on.ensures
+
+pub returns-in-Time : goal.returns-in-Time
+returns-in-Time g c = rw c.in-Time.is (does_up 1 64 _ _ _ _ _ (omega arith) c.time.ensures)
+
+pub returns-in-Mark : goal.returns-in-Mark
+returns-in-Mark g c = rw c.in-Mark.is (does_up 1 64 _ _ _ _ _ (omega arith) c.mark.ensures)
+
+pub returns-in-Expect : goal.returns-in-Expect
+returns-in-Expect g c = rw c.in-Expect.is (moves_up 64 _ _ (g.L.Log.logged c.args.log.now) _ c.expect.ensures)
+
+pub returns-in-Repeat : goal.returns-in-Repeat
+returns-in-Repeat g c = rw c.in-Repeat.is (moves_up 64 _ _ (g.L.Log.logged c.args.log.now) _ c.open_loop.ensures)
+
+pub returns-in-End : goal.returns-in-End
+returns-in-End g c = rw c.in-End.is (moves_up 64 _ _ (g.L.Log.logged c.args.log.now) _ c.close_turn.ensures)
+
+pub returns-in-MessagesWaiting : goal.returns-in-MessagesWaiting
+returns-in-MessagesWaiting g c = rw c.in-MessagesWaiting.is (does_up 1 64 _ _ _ _ _ (omega arith) c.messages_waiting.ensures)
+
+pub returns-in-SpacesAvailable : goal.returns-in-SpacesAvailable
+returns-in-SpacesAvailable g c = rw c.in-SpacesAvailable.is (does_up 1 64 _ _ _ _ _ (omega arith) c.spaces_available.ensures)
+
+pub returns-in-ClearBits : goal.returns-in-ClearBits
+returns-in-ClearBits g c = rw c.in-ClearBits.is (does_up 1 64 _ _ _ _ _ (omega arith) c.clear_bits.ensures)
+
+pub returns-in-GetBits : goal.returns-in-GetBits
+returns-in-GetBits g c = rw c.in-GetBits.is (does_up 1 64 _ _ _ _ _ (omega arith) c.get_bits.ensures)
+
+pub returns-in-SuspendAll : goal.returns-in-SuspendAll
+returns-in-SuspendAll g c = rw c.in-SuspendAll.is (does_up 1 64 _ _ _ _ _ (omega arith) c.suspend_all.ensures)
+
+pub returns-in-ResumeAll : goal.returns-in-ResumeAll
+returns-in-ResumeAll g c = rw c.in-ResumeAll.is (does_up 2 64 _ _ _ _ _ (omega arith) c.resume_all.ensures)
+
+pub returns-in_default : goal.returns-in_default
+returns-in_default g c = let not = c.in_default in no_other c.args.op c.requires.stays not.not-Work not.not-Time not.not-Mark not.not-Expect not.not-Repeat not.not-End not.not-MessagesWaiting not.not-SpacesAvailable not.not-ClearBits not.not-GetBits not.not-SuspendAll not.not-ResumeAll

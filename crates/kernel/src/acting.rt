@@ -1,0 +1,71 @@
+//! What the running task's op does.
+ghost use Rattle.std.specs.Prelude.{◌≡◌, ◌<◌, ◌≤◌};
+ghost use Rattle.model.specs.Step.{act_unless, misuse, act};
+ghost use Rattle.machine.specs.StandsFor.{DoesAny, Does};
+ghost use Rattle.kernel.specs.Can.{CanOp};
+ghost use Rattle.model.specs.declared.op.Op.TheVariants as op;
+ghost use Rattle.model.specs.Ops.{use_up};
+ghost use Rattle.ops.specs.Can.{Can};
+
+use crate::handlers::tick_interrupt;
+use crate::suspended::call_suspend_all;
+use machine::{Log, Machine};
+use model::{App, Misuse, Op, TaskId};
+use ops::calls::go_on_waiting;
+use ops::event_groups::{clear_bits, get_bits, set_bits, wait_bits};
+use ops::mutexes::give_mutex;
+use ops::queues::{do_now, messages_waiting, spaces_available};
+use ops::script::{close_turn, expect, mark, open_loop};
+use ops::suspension::{call_resume, call_suspend};
+use ops::time::{call_yield, delay, delay_until, time, use_up};
+
+/// `work`: a tick of it is used up, and the tick passes.
+#[inline(always)]
+pub(crate) fn work<L: Log>(machine: &mut Machine, app: &App, task: TaskId, ticks: u32, log: &mut L)
+    requires room { 65 ≤ (L.logged log.old).room }
+    requires can { Can app.now machine.old task (op.Work ticks) }
+    ensures { Does 65 machine.old (L.logged log.old) machine.new (L.logged log.new)
+        (act app.now task (op.Work ticks)) }
+{
+    use_up(machine, app, task, ticks);
+    tick_interrupt(machine, app, log);
+}
+
+/// What the running task's op does, where no `suspend_all` is in force; a misuse ends the run, and does nothing else.
+#[inline(always)]
+pub(crate) fn act<L: Log>(machine: &mut Machine, app: &App, task: TaskId, op: &Op, log: &mut L)
+    requires room { 65 ≤ (L.logged log.old).room }
+    requires can { CanOp app.now machine.old task op.now }
+    requires awake { machine.old.suspensions ≡ 0 }
+    ensures { DoesAny 65 machine.old (L.logged log.old) machine.new (L.logged log.new)
+        (λ s. act_unless app.now task (misuse s task op.now) op.now s) }
+{
+    match *op {
+        Op::Work(ticks) => work(machine, app, task, ticks, log),
+        Op::Delay(ticks) => delay(machine, app, task, ticks, log),
+        Op::DelayUntil(ticks) => delay_until(machine, app, task, ticks, log),
+        Op::Yield => call_yield(machine, app, task, log),
+        Op::Time => time(machine, app, task, log),
+        Op::Mark(number) => mark(machine, app, task, number, log),
+        Op::Expect(wanted) => expect(machine, app, task, wanted),
+        Op::Repeat(turns) => open_loop(machine, app, task, turns),
+        Op::End => close_turn(machine, app, task),
+        Op::Await(object, access, ticks) => {
+            go_on_waiting(machine, app, task, object, access, ticks, log)
+        }
+        Op::Do(object, access) => do_now(machine, app, task, object, access, log),
+        Op::GiveMutex(object) => give_mutex(machine, app, task, object, log),
+        Op::MessagesWaiting(object) => messages_waiting(machine, app, task, object, log),
+        Op::SpacesAvailable(object) => spaces_available(machine, app, task, object, log),
+        Op::SetBits(group, mask) => set_bits(machine, app, task, group, mask, log),
+        Op::ClearBits(group, mask) => clear_bits(machine, app, task, group, mask, log),
+        Op::GetBits(group) => get_bits(machine, app, task, group, log),
+        Op::WaitBits(group, condition, ticks) => {
+            wait_bits(machine, app, task, group, condition, ticks, log)
+        }
+        Op::Suspend(other) => call_suspend(machine, app, task, other, log),
+        Op::Resume(other) => call_resume(machine, app, task, other, log),
+        Op::SuspendAll => call_suspend_all(machine, app, task, log),
+        Op::ResumeAll => machine.misuse(task, Misuse::NotSuspended),
+    }
+}

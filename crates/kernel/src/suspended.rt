@@ -1,0 +1,169 @@
+//! What is done while a `suspend_all` is in force.
+ghost use Rattle.std.specs.Prelude.{◌≡◌, ◌<◌, ◌≤◌, false, Some};
+ghost use Rattle.model.specs.declared.op.Op.{Op};
+ghost use Rattle.model.specs.declared.op.Op.TheVariants as op;
+ghost use Rattle.model.specs.Application.{op_at};
+ghost use Rattle.model.specs.State.{State, status_at};
+ghost use Rattle.model.specs.Handlers.{tick_interrupt};
+ghost use Rattle.model.specs.Step.{act, act_current, act_unless, is_ended, judge, may_switch, misuse};
+ghost use Rattle.machine.specs.StandsFor.{Does, DoesAny, Moves, StandsFor, progress_in};
+ghost use Rattle.machine.specs.Can.{Agrees};
+ghost use Rattle.ops.specs.Can.{Can, CanHold, HasObjects};
+
+use crate::handlers::interrupt;
+use machine::{Log, Machine};
+use model::{App, End, Misuse, Op, TaskId};
+use ops::event_groups::{clear_bits, get_bits};
+use ops::queues::{messages_waiting, spaces_available};
+use ops::script::{close_turn, expect, mark, open_loop};
+use ops::suspension::{can_suspend, resume_all, suspend_all};
+use ops::time::{time, use_up};
+
+/// Whether an op may switch, or wait.
+fn may_switch(op: &Op) -> bool
+    ensures { result ≡ may_switch op.now }
+{
+    matches!(
+        op,
+        Op::Delay(_)
+            | Op::DelayUntil(_)
+            | Op::Yield
+            | Op::Await(_, _, _)
+            | Op::Do(_, _)
+            | Op::GiveMutex(_)
+            | Op::SetBits(_, _)
+            | Op::WaitBits(_, _, _)
+            | Op::Suspend(_)
+            | Op::Resume(_)
+    )
+}
+
+/// Whether a task's script is done.
+fn is_ended(machine: &Machine, task: TaskId) -> bool
+    ensures { (s : State) → StandsFor machine.now s → result ≡ is_ended (status_at s task) }
+{
+    !can_suspend(machine, task) && !machine.sched.is_suspended(task)
+}
+
+/// A task that came to the end of its script with the op of this index, while a `suspend_all` is in force, has misused the
+/// scheduler.
+fn judge(machine: &mut Machine, task: TaskId, op_index: u16)
+    ensures { Moves machine.old machine.new (judge task op_index) }
+{
+    if machine.suspensions > 0 && is_ended(machine, task) {
+        machine.stopped = Some(End::Misuse(task, op_index, Misuse::EndedSuspended));
+    }
+}
+
+/// `suspend_all` where none is in force, at the end of which the task is judged.
+#[cold]
+pub(crate) fn call_suspend_all<L: Log>(machine: &mut Machine, app: &App, task: TaskId, log: &mut L)
+    requires room { 1 ≤ (L.logged log.old).room }
+    requires can { Can app.now machine.old task op.SuspendAll }
+    ensures { Does 1 machine.old (L.logged log.old) machine.new (L.logged log.new)
+        (λ s. act_unless app.now task (misuse s task op.SuspendAll) op.SuspendAll s) }
+{
+    let op_index = machine.progress(task).op_index;
+    suspend_all(machine, app, task, log);
+    judge(machine, task, op_index);
+}
+
+/// The tick interrupt while a `suspend_all` is in force: the tick is held, its base interrupts come, and nothing switches.
+fn held_tick_interrupt<L: Log>(machine: &mut Machine, app: &App, log: &mut L)
+    requires room { 64 ≤ (L.logged log.old).room }
+    requires agrees { Agrees machine.old }
+    requires objects { HasObjects app.now machine.old }
+    requires some { 0 < machine.old.suspensions }
+    requires few { machine.old.clock.held < 4294967295 }
+    ensures { Does 64 machine.old (L.logged log.old) machine.new (L.logged log.new)
+        (tick_interrupt app.now) }
+{
+    machine.clock.hold_tick();
+    interrupt(machine, app, log);
+}
+
+/// `work` while a `suspend_all` is in force: a tick of it is used up, and the tick that comes is held.
+fn work_on<L: Log>(machine: &mut Machine, app: &App, task: TaskId, ticks: u32, log: &mut L)
+    requires room { 64 ≤ (L.logged log.old).room }
+    requires can { CanHold app.now machine.old task (op.Work ticks) }
+    requires some { 0 < machine.old.suspensions }
+    ensures { Does 64 machine.old (L.logged log.old) machine.new (L.logged log.new)
+        (act app.now task (op.Work ticks)) }
+{
+    use_up(machine, app, task, ticks);
+    held_tick_interrupt(machine, app, log);
+}
+
+/// What an op that doesn't switch does while a `suspend_all` is in force.
+fn act_on<L: Log>(machine: &mut Machine, app: &App, task: TaskId, op: Op, log: &mut L)
+    requires room { 64 ≤ (L.logged log.old).room }
+    requires can { CanHold app.now machine.old task op }
+    requires some { 0 < machine.old.suspensions }
+    requires stays { may_switch op ≡ false }
+    ensures { Does 64 machine.old (L.logged log.old) machine.new (L.logged log.new)
+        (act app.now task op) }
+{
+    match op {
+        Op::Work(ticks) => work_on(machine, app, task, ticks, log),
+        Op::Time => time(machine, app, task, log),
+        Op::Mark(number) => mark(machine, app, task, number, log),
+        Op::Expect(wanted) => expect(machine, app, task, wanted),
+        Op::Repeat(turns) => open_loop(machine, app, task, turns),
+        Op::End => close_turn(machine, app, task),
+        Op::MessagesWaiting(object) => messages_waiting(machine, app, task, object, log),
+        Op::SpacesAvailable(object) => spaces_available(machine, app, task, object, log),
+        Op::ClearBits(group, mask) => clear_bits(machine, app, task, group, mask, log),
+        Op::GetBits(group) => get_bits(machine, app, task, group, log),
+        Op::SuspendAll => suspend_all(machine, app, task, log),
+        Op::ResumeAll => resume_all(machine, app, task, log),
+        // Every other may switch.
+        _ => {}
+    }
+}
+
+/// What an op does while a `suspend_all` is in force: one that may switch is a misuse.
+fn act_unless_it_switches<L: Log>(
+    machine: &mut Machine,
+    app: &App,
+    task: TaskId,
+    op: Op,
+    log: &mut L,
+)
+    requires room { 64 ≤ (L.logged log.old).room }
+    requires can { CanHold app.now machine.old task op }
+    requires some { 0 < machine.old.suspensions }
+    ensures { Does 64 machine.old (L.logged log.old) machine.new (L.logged log.new)
+        (λ s. act_unless app.now task (misuse s task op) op s) }
+{
+    if may_switch(&op) {
+        machine.misuse(task, Misuse::WhileSuspended);
+        return;
+    }
+    let op_index = machine.progress(task).op_index;
+    act_on(machine, app, task, op, log);
+    judge(machine, task, op_index);
+}
+
+/// What the running task does while a `suspend_all` is in force: its op, if it has one.
+// It finds the op by itself, so that the usual path needs it nowhere in memory.
+#[cold]
+#[inline(never)]
+pub(crate) fn act_while_suspended<L: Log>(
+    machine: &mut Machine,
+    app: &App,
+    task: TaskId,
+    log: &mut L,
+)
+    requires room { 65 ≤ (L.logged log.old).room }
+    requires runs { machine.old.sched.current ≡ Some task }
+    requires can { (op : Op) → op_at app.now task (progress_in machine.old.progress task).op_index ≡ Some op
+        → CanHold app.now machine.old task op }
+    requires some { 0 < machine.old.suspensions }
+    ensures { DoesAny 65 machine.old (L.logged log.old) machine.new (L.logged log.new)
+        (λ s. act_current app.now s.current s) }
+{
+    let op_index = machine.progress(task).op_index;
+    if let Some(op) = app.op(task, op_index) {
+        act_unless_it_switches(machine, app, task, op, log);
+    }
+}

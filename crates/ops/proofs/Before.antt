@@ -1,0 +1,234 @@
+-- A task is still to be placed: what the calls of handlers make of the states that the kernel stands for then.
+use Rattle.std.proofs.Common.{◌≡◌, ◌≢◌, ◌<◌, ℕ, zero, suc, true, false, eqb, ltb, set, List, [], ◌∷◌, length, get_or, get_or-set_other, Option, Some, None, refl, ap, sym, subst, ◌∙◌}
+use Rattle.std.specs.Prelude.{if◌then◌else◌}
+use Rattle.std.specs.List.{AllByRecursion}
+use Rattle.std.specs.Option.{option_map, option_and_then}
+use Rattle.model.specs.declared.call.Phase.TheVariants.{Place}
+use Rattle.model.specs.declared.call.WaitList.{WaitList}
+use Rattle.model.specs.State.{State, Task, Progress, Status, Object, Ready, Awake, Waiting, Asleep, WaitingForBits, Suspended, Ended, wait_if_waiting, task_at, status_at, progress_at, call_at, with_object, for_one, no_task}
+use Rattle.model.specs.Order.{Key, Entry, first, task_of}
+use Rattle.model.specs.Switching.{make_ready}
+use Rattle.model.specs.Waiting.{wait_key, same_list, awake_status, awaken, is_locked, waiters, wake_one, wake_best}
+use Rattle.model.specs.Invariant.{IsTable, wait_of}
+use Rattle.model.proofs.Sorting.{by_test}
+use Rattle.model.proofs.Lists.{HasKey, eqb-refl, eqb-same, list_has}
+use Rattle.model.proofs.Members.{has_task}
+use Rattle.lists.specs.Lists.{has_node, without}
+use Rattle.lists.proofs.Entries.{has_node-without_other}
+use Rattle.task_lists.specs.Priorities.{with_priorities}
+use Rattle.task_lists.proofs.Priorities.{has_node-with_priorities}
+use Rattle.sched.specs.StandsFor as sched
+use Rattle.sched.specs.Schedule as schedule
+use Rattle.sched.specs.Schedule.{Schedule, lined_up}
+use Rattle.sched.proofs.Standing as on_sched
+use Rattle.clock.specs.StandsFor as clock
+use Rattle.clock.specs.Timeline.{Timeline}
+use Rattle.clock.proofs.Standing as on_clock
+use Rattle.objects.specs.WaitingLists.{waiting_in}
+use Rattle.task_lists.specs.Tasks.{insert_by_priority}
+use Rattle.objects.specs.WaitersStand.{AtLocked, Decider, standing}
+use Rattle.objects.specs.Queues as queues
+use Rattle.objects.specs.Queues.{Exchange}
+use Rattle.objects.proofs.Keys.{same_list-true, same_list-refl}
+use Rattle.objects.proofs.Awake.{at_locked-stored, at_locked-wake_best}
+use Rattle.groups.specs.StandsFor.{SameBitWaits}
+use Rattle.groups.proofs.Standing as on_groups
+use Rattle.groups.proofs.Kept as bits_kept
+use Rattle.groups.proofs.Elsewhere as bits_elsewhere
+use Rattle.machine.specs.declared.machine.Machine.{Machine}
+use Rattle.machine.specs.StandsFor.{StandsBefore, Stands, decider}
+use Rattle.machine.specs.StandsFor.Stands.{Placed, Placing}
+use Rattle.machine.proofs.Waking.{progress-ready}
+use Rattle.ops.proofs.Waits.{awake_unready, awake_resumes, awake_alike, best, woken_free, waits_there, opened, wakes_it, Unwoken, unwoken}
+use Rattle.ops.proofs.Waits.Unwoken.{Nobody, Counted}
+
+-- ---- a status changes, and nothing else
+
+progress-kept : (ts : List Task) (i j : ℕ) (t : Task) → t.progress ≡ (get_or ts i no_task).progress → (get_or (set ts i t) j no_task).progress ≡ (get_or ts j no_task).progress
+progress-kept [] i j t e = refl
+progress-kept (u ∷ us) zero zero t e = e
+progress-kept (u ∷ us) zero (suc j) t e = refl
+progress-kept (u ∷ us) (suc i) zero t e = refl
+progress-kept (u ∷ us) (suc i) (suc j) t e = progress-kept us i j t e
+
+priority-kept : (ts : List Task) (i j : ℕ) (t : Task) → t.priority ≡ (get_or ts i no_task).priority → (get_or (set ts i t) j no_task).priority ≡ (get_or ts j no_task).priority
+priority-kept [] i j t e = refl
+priority-kept (u ∷ us) zero zero t e = e
+priority-kept (u ∷ us) zero (suc j) t e = refl
+priority-kept (u ∷ us) (suc i) zero t e = refl
+priority-kept (u ∷ us) (suc i) (suc j) t e = priority-kept us i j t e
+
+-- ---- it waits in its list, or was woken there
+
+has_node-inserted : (i p : ℕ) (es : List (ℕ × ℕ)) → has_node i (insert_by_priority (i, p) es) ≡ true
+has_node-inserted i p [] = rw (eqb-refl i) refl
+has_node-inserted i p (f ∷ fs) = by_test (ltb f.1 p)
+    (λ t. rw (t, eqb-refl i) refl)
+    (λ t. rw t (by_test (eqb f.0 i) (λ u. rw u refl) (λ u. rw u (has_node-inserted i p fs))))
+
+keyed_at : (key : Task → Option Key) (ts : List Task) (i : ℕ) (es : List Entry) → AllByRecursion (HasKey key ts) es → has_task i es ≡ true → (k : Key) × (key (get_or ts i no_task) ≡ Some k)
+keyed_at key ts i [] has t = absurd (cc)
+keyed_at key ts i (e ∷ es) has t = by_test (eqb e.task i)
+    (λ u. (e.key, subst (λ (j : ℕ). key (get_or ts j no_task) ≡ Some e.key) (eqb-same e.task i u) has.0.key))
+    (λ u. keyed_at key ts i es has.1 (rw u at t))
+
+-- who waits in one list, and stands in another: they are one list
+one_list : (a b : WaitList) (k m : Key) (u : Status) → option_and_then (wait_key a) (wait_if_waiting u) ≡ Some k → option_and_then (wait_key b) (wait_of u) ≡ Some m → a ≡ b
+one_list a b k m (Ready n) e f = absurd (cc)
+one_list a b k m (Awake w) e f = absurd (cc)
+one_list a b k m (Waiting w) e f = by_test (same_list w.list a)
+    (λ t. by_test (same_list w.list b)
+    (λ u. sym (same_list-true w.list a t) ∙ same_list-true w.list b u)
+    (λ u. let g = rw u at f in absurd (cc)))
+    (λ t. let g = rw t at e in absurd (cc))
+one_list a b k m (Asleep w n) e f = absurd (cc)
+one_list a b k m (WaitingForBits g n d) e f = absurd (cc)
+one_list a b k m Suspended e f = absurd (cc)
+one_list a b k m Ended e f = absurd (cc)
+
+module _ (task : ℕ) (list : WaitList) (k : Machine) (s : State) (b : StandsBefore task list k s) where
+  pub stands_there : (m : Key) × (option_and_then (wait_key list) (wait_of (status_at s task)) ≡ Some m)
+  stands_there =
+      let own : same_list list list ≡ true = same_list-refl list in
+      let joined : insert_by_priority (task, (task_at s task).priority) (waiting_in k.queues.waiting list) ≡ with_priorities (standing s list) = rw own at (b.queues.waiters.lists list) in
+      let node : has_task task (standing s list) ≡ true =
+      sym (has_node-with_priorities task (standing s list)) ∙ ap (has_node task) (sym joined) ∙ has_node-inserted task (task_at s task).priority (waiting_in k.queues.waiting list) in
+      keyed_at (λ (t : Task). option_and_then (wait_key list) (wait_of t.status)) s.tasks task (standing s list) (list_has (λ (t : Task). option_and_then (wait_key list) (wait_of t.status)) s.tasks) node
+
+  -- Who is woken from a list that isn't locked is another.
+  pub woken_apart : (i : ℕ) (other : WaitList) (n : Key) → is_locked s.locked other ≡ false → option_and_then (wait_key other) (wait_if_waiting (status_at s i)) ≡ Some n → task ≢ i
+  woken_apart i other n off e same =
+      let there : option_and_then (wait_key other) (wait_if_waiting (status_at s task)) ≡ Some n = subst (λ (j : ℕ). option_and_then (wait_key other) (wait_if_waiting (status_at s j)) ≡ Some n) (sym same) e in
+      let one : other ≡ list = one_list other list n stands_there.0 (status_at s task) there stands_there.1 in
+      let on : is_locked s.locked list ≡ true = b.awake.to_place in
+      let f : false ≡ true = sym off ∙ ap (is_locked s.locked) one ∙ on in
+      absurd (cc)
+
+  -- an object changes
+  pub stored_before : (o : ℕ) (x : Object) (q : Exchange) → queues.StandsFor q (Some (decider task list s)) (with_object o x s) → StandsBefore task list (record k { queues = q }) (with_object o x s)
+  stored_before o x q there =
+      let table : IsTable (with_object o x s) = there.waiters.table in
+      record {
+        sched = record { ready = b.sched.ready; still = b.sched.still; current = b.sched.current; priorities = b.sched.priorities; base_priorities = b.sched.base_priorities; depth = b.sched.depth; suspended = b.sched.suspended; table = table };
+        clock = record { now = b.clock.now; age = b.clock.age; held = b.clock.held; sorted = b.clock.sorted; once = b.clock.once; delayed = b.clock.delayed; awake = b.clock.awake; table = table };
+        queues = there;
+        groups = on_groups.stands_same k.groups s (with_object o x s) b.groups (bits_kept.same_object o x s) table;
+        suspensions = b.suspensions;
+        awake = at_locked-stored (Some (decider task list s)) o x s b.awake;
+        progress = b.progress;
+        full = b.full;
+        steps = b.steps;
+        stopped = b.stopped;
+        current = b.current;
+        held = b.held;
+        phase = b.phase;
+        wait_list = b.wait_list;
+        placed = b.placed;
+      }
+
+  -- another becomes Ready
+  module _ (i : ℕ) (ne : task ≢ i) where
+    own_task : task_at (make_ready i s) task ≡ task_at s task
+    own_task = get_or-set_other s.tasks i task (record (task_at s i) { status = Ready s.next_ticket }) no_task ne
+
+    pub readied_before : (v : Schedule) (t : Timeline) (q : Exchange) → sched.StandsBefore task v (make_ready i s) → clock.StandsBefore task (call_at s task).deadline t (make_ready i s) → queues.StandsFor q (Some (decider task list s)) (make_ready i s) → AtLocked (Some (decider task list s)) (make_ready i s) → SameBitWaits s (make_ready i s)
+        → StandsBefore task list (record k { sched = v; clock = t; queues = q }) (make_ready i s)
+    readied_before v t q on awake there locked bits =
+        record {
+          sched = on;
+          clock = subst (λ (u : Task). clock.StandsBefore task u.progress.call.deadline t (make_ready i s)) (sym own_task) awake;
+          queues = subst (λ (u : Task). queues.StandsFor q (Some (record { task = task; list = list; priority = u.priority })) (make_ready i s)) (sym own_task) there;
+          groups = on_groups.stands_same k.groups s (make_ready i s) b.groups bits on.table;
+          suspensions = b.suspensions;
+          awake = subst (λ (u : Task). AtLocked (Some (record { task = task; list = list; priority = u.priority })) (make_ready i s)) (sym own_task) locked;
+          progress = λ j. b.progress j ∙ sym (progress-ready s i j);
+          full = b.full;
+          steps = b.steps;
+          stopped = b.stopped;
+          current = b.current;
+          held = b.held;
+          phase = subst (λ (u : Task). u.progress.call.phase ≡ Place) (sym own_task) b.phase;
+          wait_list = b.wait_list;
+          placed = b.placed;
+        }
+
+  -- someone is Awake, perhaps itself
+  pub awakened_before : (i : ℕ) → i < length s.tasks → (q : Exchange) → queues.StandsFor q (Some (decider task list s)) (awaken i s) → AtLocked (Some (decider task list s)) (awaken i s) → SameBitWaits s (awaken i s) → StandsBefore task list (record k { queues = q }) (awaken i s)
+  awakened_before i l q there locked bits =
+      let t : Task = record (task_at s i) { status = awake_status (status_at s i) } in
+      let table : IsTable (awaken i s) = there.waiters.table in
+      let same_progress : (j : ℕ) → progress_at (awaken i s) j ≡ progress_at s j = λ j. progress-kept s.tasks i j t refl in
+      let same_priority : (task_at (awaken i s) task).priority ≡ (task_at s task).priority = priority-kept s.tasks i task t refl in
+      record {
+        sched = on_sched.stands_before_kept k.sched s (awaken i s) task i t b.sched l refl refl refl (ap (λ (o : Option ℕ). option_map (λ n. record { priority = (task_at s i).priority; ticket = n }) o) (awake_unready (status_at s i))) refl refl table (awake_resumes (status_at s i));
+        clock = subst (λ (p : Progress). clock.StandsBefore task p.call.deadline k.clock (awaken i s)) (sym (same_progress task)) (on_clock.stands_before_kept k.clock s (awaken i s) task i (call_at s task).deadline t b.clock l refl refl refl (awake_alike (status_at s i)) table);
+        queues = subst (λ (n : ℕ). queues.StandsFor q (Some (record { task = task; list = list; priority = n })) (awaken i s)) (sym same_priority) there;
+        groups = on_groups.stands_same k.groups s (awaken i s) b.groups bits table;
+        suspensions = b.suspensions;
+        awake = subst (λ (n : ℕ). AtLocked (Some (record { task = task; list = list; priority = n })) (awaken i s)) (sym same_priority) locked;
+        progress = λ j. b.progress j ∙ sym (same_progress j);
+        full = b.full;
+        steps = b.steps;
+        stopped = b.stopped;
+        current = b.current;
+        held = b.held;
+        phase = subst (λ (p : Progress). p.call.phase ≡ Place) (sym (same_progress task)) b.phase;
+        wait_list = b.wait_list;
+        placed = b.placed;
+      }
+
+-- who is woken becomes Ready
+module _ (task : ℕ) (tl : WaitList) (k : Machine) (s : State) (b : StandsBefore task tl k s) (list : WaitList) (i : ℕ) (is : Some i ≡ (if is_locked s.locked list then None else best s list)) where
+  apart_there : task ≢ i
+  apart_there = woken_apart task tl k s b i list (waits_there s list i is).key (opened s list i is) (waits_there s list i is).there
+
+  pub free_before : schedule.is_ready k.sched i ≡ false
+  free_before =
+      let gone : Schedule = record k.sched { ready = without task (lined_up k.sched); pending = [] } in
+      let stands : sched.StandsFor gone s = record { ready = b.sched.ready; current = b.sched.current; priorities = b.sched.priorities; base_priorities = b.sched.base_priorities; depth = b.sched.depth; suspended = b.sched.suspended; table = b.sched.table } in
+      sym (has_node-without_other task i (lined_up k.sched) (λ e. apart_there (sym e))) ∙ on_sched.ready_same gone s i stands ∙ (waits_there s list i is).unready
+
+  pub woken_before : (v : Schedule) (t : Timeline) (q : Exchange) → (task ≢ i → i < length s.tasks → sched.StandsBefore task v (make_ready i s)) → (task ≢ i → i < length s.tasks → clock.StandsBefore task (call_at s task).deadline t (make_ready i s)) → queues.StandsFor q (Some (decider task tl s)) (wake_best list s)
+      → StandsBefore task tl (record k { sched = v; clock = t; queues = q }) (wake_best list s)
+  woken_before v t q on awake there =
+      let l = (waits_there s list i is).within in
+      let one = wakes_it s list i is in
+      subst (StandsBefore task tl (record k { sched = v; clock = t; queues = q })) (sym one)
+      (readied_before task tl k s b i apart_there v t q (on apart_there l) (awake apart_there l) (subst (queues.StandsFor q (Some (decider task tl s))) one there) (subst (AtLocked (Some (decider task tl s))) one (at_locked-wake_best (Some (decider task tl s)) list s b.awake)) (subst (SameBitWaits s) one (bits_elsewhere.same_wake_best list s)))
+
+-- in either case whoever is woken isn't Ready in the scheduler
+pub woken_free_any : (k : Machine) (s : State) (list : WaitList) (i : ℕ) → Stands k s → ((d : Option Decider) → queues.StandsFor k.queues d s → AtLocked d s → Some i ≡ (if is_locked s.locked list then None else best s list)) → schedule.is_ready k.sched i ≡ false
+woken_free_any k s list i (Placed h) is = woken_free k s h list i (is None h.rest.queues h.rest.awake)
+woken_free_any k s list i (Placing task tl b) is = free_before task tl k s b list i (is (Some (decider task tl s)) b.queues b.awake)
+
+-- or nobody does
+module _ (task : ℕ) (tl : WaitList) (k : Machine) (s : State) (b : StandsBefore task tl k s) (list : WaitList) (is : None ≡ (if is_locked s.locked list then None else best s list)) (q : Exchange) (there : queues.StandsFor q (Some (decider task tl s)) (wake_best list s)) where
+  pub unwoken_before : StandsBefore task tl (record k { queues = q }) (wake_best list s)
+  unwoken_before = by_case (unwoken s list is) where
+    by_case : Unwoken s list → StandsBefore task tl (record k { queues = q }) (wake_best list s)
+    by_case (Nobody one) = subst (StandsBefore task tl (record k { queues = q })) (sym one) (record {
+      sched = b.sched;
+      clock = b.clock;
+      queues = subst (queues.StandsFor q (Some (decider task tl s))) one there;
+      groups = b.groups;
+      suspensions = b.suspensions;
+      awake = b.awake;
+      progress = b.progress;
+      full = b.full;
+      steps = b.steps;
+      stopped = b.stopped;
+      current = b.current;
+      held = b.held;
+      phase = b.phase;
+      wait_list = b.wait_list;
+      placed = b.placed;
+    })
+    by_case (Counted i l one) = subst (StandsBefore task tl (record k { queues = q })) (sym one) (awakened_before task tl k s b i l q (subst (queues.StandsFor q (Some (decider task tl s))) one there) (subst (AtLocked (Some (decider task tl s))) one (at_locked-wake_best (Some (decider task tl s)) list s b.awake)) (subst (SameBitWaits s) one (bits_elsewhere.same_wake_best list s)))
+
+-- what a wake tells: nothing
+pub log-wake_best : (list : WaitList) (s : State) → (wake_best list s).log ≡ s.log
+unfolding wake_best
+log-wake_best list s = by_first (task_of (first (waiters s list))) where
+  by_first : (o : Option ℕ) → (for_one (λ task. wake_one task list) o s).log ≡ s.log
+  by_first None = refl
+  by_first (Some i) = by_test (is_locked s.locked list) (λ t. rw t refl) (λ t. rw t refl)

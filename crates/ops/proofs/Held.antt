@@ -1,0 +1,167 @@
+-- While a `suspend_all` is in force: what its calls make of the states that the kernel stands for.
+use Rattle.std.proofs.Common.{◌≡◌, ◌≢◌, ◌<◌, ◌+◌, ◌-◌, ℕ, zero, suc, true, false, List, Option, Some, None, refl, ap, sym, subst, ◌∙◌, arith}
+use Rattle.std.proofs.lemmas.Bool.{eq-eqb, ne_eqb, lt-ltb}
+use Rattle.model.specs.declared.event.Event.{Event}
+use Rattle.model.specs.Application.{Application}
+use Rattle.model.specs.State.{State}
+use Rattle.model.specs.Switching.{is_held, is_scheduler_suspended, preempt}
+use Rattle.model.specs.Time.{increment_tick, advance, apply_one, apply_held}
+use Rattle.model.specs.Ops.{answer}
+use Rattle.model.specs.Suspension.{resume_scheduler, resume_all}
+use Rattle.model.specs.Invariant.{Hold, Suspension}
+use Rattle.soundness.proofs.Frames.{keeps-answer}
+use Rattle.soundness.proofs.Settled.{when_free, when_held}
+use Rattle.soundness.proofs.Passing.{applies}
+use Rattle.soundness.proofs.Going.{current-resumed, resumed_apart, suspended_held}
+use Rattle.sched.specs.StandsFor as sched
+use Rattle.sched.specs.Schedule.{Schedule}
+use Rattle.clock.specs.StandsFor as clock
+use Rattle.clock.specs.StandsFor.{before_held}
+use Rattle.clock.specs.Timeline.{Timeline}
+use Rattle.objects.specs.declared.lock.Lock.{Lock}
+use Rattle.objects.specs.Queues.{SameWaits, locked_by}
+use Rattle.objects.proofs.Kept.{stands_same}
+use Rattle.objects.proofs.Awake.{at_locked_same}
+use Rattle.groups.proofs.Standing as on_groups
+use Rattle.groups.proofs.Kept as bits_kept
+use Rattle.machine.specs.declared.machine.Machine.{Machine}
+use Rattle.machine.specs.StandsFor.{StandsFor, At, Moves}
+use Rattle.ops.specs.Can.{CanApply}
+use Rattle.machine.specs.Can.{Runs}
+use Rattle.machine.proofs.Parts.{clock-same, same_parts}
+use Rattle.ops.proofs.Suspending.{ready_by, runs_by}
+
+-- ---- how many `suspend_all` are in force
+
+module _ (k : Machine) (log : List Event) (s : State) (h : At k log s) where
+  -- another number of them
+  pub with_suspensions : (v : Schedule) (n m : ℕ) → n ≡ m → sched.StandsFor v (record s { suspensions = m }) → At (record k { sched = v; suspensions = n }) log (record s { suspensions = m })
+  with_suspensions v n m e on =
+      let new : State = record s { suspensions = m } in
+      let same : SameWaits s new = same_parts s new refl refl refl in
+      record {
+        stands = record {
+          sched = on;
+          rest = record {
+            progress = h.stands.rest.progress;
+            full = h.stands.rest.full;
+            clock = clock-same k.clock s new h.stands.rest.clock refl refl refl on.table;
+            queues = stands_same s new same k.queues None h.stands.rest.queues on.table;
+            groups = on_groups.stands_same k.groups s new h.stands.rest.groups (bits_kept.same_parts s new refl refl) on.table;
+            suspensions = e;
+            awake = at_locked_same None s new same h.stands.rest.awake;
+            steps = h.stands.rest.steps;
+            stopped = h.stands.rest.stopped;
+            placed = h.stands.rest.placed;
+          };
+        };
+        log = h.log;
+      }
+
+  -- the clock, and how many ticks have come and are held
+  pub with_ticks : (t : Timeline) (elapsed held : ℕ) → clock.StandsFor t (record s { elapsed = elapsed; held_ticks = held }) → At (record k { clock = t }) log (record s { elapsed = elapsed; held_ticks = held })
+  with_ticks t elapsed held on =
+      let new : State = record s { elapsed = elapsed; held_ticks = held } in
+      let same : SameWaits s new = same_parts s new refl refl refl in
+      let v = h.stands.sched in
+      record {
+        stands = record {
+          sched = record { ready = v.ready; current = v.current; priorities = v.priorities; base_priorities = v.base_priorities; depth = v.depth; suspended = v.suspended; table = on.table };
+          rest = record {
+            progress = h.stands.rest.progress;
+            full = h.stands.rest.full;
+            clock = on;
+            queues = stands_same s new same k.queues None h.stands.rest.queues on.table;
+            groups = on_groups.stands_same k.groups s new h.stands.rest.groups (bits_kept.same_parts s new refl refl) on.table;
+            suspensions = h.stands.rest.suspensions;
+            awake = at_locked_same None s new same h.stands.rest.awake;
+            steps = h.stands.rest.steps;
+            stopped = h.stands.rest.stopped;
+            placed = h.stands.rest.placed;
+          };
+        };
+        log = h.log;
+      }
+
+  -- A held tick is released: the state is as before it came.
+  pub released : (t : Timeline) → clock.StandsFor t (before_held s) → At (record k { clock = t }) log (before_held s)
+  released t on = with_ticks t (s.elapsed - 1) (s.held_ticks - 1) on
+
+-- and when it comes now, it is applied
+pub applied_now : (new : Machine) (log : List Event) (s : State) → s.suspensions ≡ 0 → 0 < s.elapsed → At new log (increment_tick (before_held s)) → At new log (apply_one s)
+unfolding increment_tick apply_one
+applied_now new log s none some h =
+    let off : is_scheduler_suspended s ≡ false = rw none refl in
+    let same : s.elapsed - 1 + 1 ≡ s.elapsed = omega arith in
+    let come : At new log (advance (record s { elapsed = s.elapsed - 1 + 1; held_ticks = s.held_ticks - 1 })) = rw off at h in
+    subst (λ (n : ℕ). At new log (advance (record s { elapsed = n; held_ticks = s.held_ticks - 1 }))) same come
+
+-- ---- the held ticks are applied one after another
+
+unlocked : (lock : Option Lock) → locked_by lock ≡ None → lock ≡ None
+unlocked None e = refl
+unlocked (Some l) e = absurd (cc)
+
+module _ (k now : Machine) (can : CanApply k) (n : ℕ) (does : Moves k now (λ s. apply_held n s)) where
+  abbrev first : State
+  first = can.agrees.0
+
+  there : At now first.log (apply_held n first)
+  there = does first.log first (record { stands = can.agrees.1; log = refl })
+
+  -- of those that were held so many fewer are
+  pub held_left : now.clock.held ≡ k.clock.held - n
+  held_left = let a = (applies n first).held in let b = there.stands.rest.clock.held in let c = can.agrees.1.rest.clock.held in omega arith
+
+  pub can_apply : CanApply now
+  can_apply = record {
+    agrees = (apply_held n first, there.stands);
+    free =
+        let same : (apply_held n first).locked ≡ first.locked = ap (λ (x : Hold). x.locked) (applies n first).hold in
+        let none : locked_by k.queues.lock ≡ None = ap locked_by can.free in
+        unlocked now.queues.lock (there.stands.rest.queues.locked ∙ same ∙ sym can.agrees.1.rest.queues.locked ∙ none);
+    age = let a = (applies n first).elapsed in let b = there.stands.rest.clock.age in let c = can.agrees.1.rest.clock.age in let d = can.age in omega arith;
+    awake = there.stands.rest.suspensions ∙ (applies n first).suspensions ∙ sym can.agrees.1.rest.suspensions ∙ can.awake;
+  }
+
+one_later : (n : ℕ) (s : State) → apply_one (apply_held n s) ≡ apply_held (suc n) s
+one_later zero s = refl
+one_later (suc n) s = one_later n (apply_one s)
+
+pub applied_more : (now : Machine) (log : List Event) (n : ℕ) (s : State) → At now log (apply_one (apply_held n s)) → At now log (apply_held (n + 1) s)
+applied_more now log n s h = let same : n + 1 ≡ suc n = omega arith in rw same (subst (At now log) (one_later n s) h)
+
+-- ---- `resume_all`
+
+module _ (app : Application) (new : Machine) (log : List Event) (s : State) where
+  -- after the last
+  pub last_resumed : s.suspensions ≡ 1 → At new log (apply_held s.held_ticks (record s { suspensions = s.suspensions - 1 })) → At new log (resume_scheduler s)
+  unfolding resume_scheduler
+  last_resumed e h = rw (eq-eqb s.suspensions 1 e) h
+
+  -- or after another
+  pub more_resumed : s.suspensions ≢ 1 → At new log (record s { suspensions = s.suspensions - 1 }) → At new log (resume_scheduler s)
+  unfolding resume_scheduler
+  more_resumed ne h = rw (ne_eqb s.suspensions 1 ne) h
+
+  module _ (i : ℕ) where
+    abbrev t : State
+    t = answer app i (Some 0) (resume_scheduler s)
+
+    pub resumed_free : is_held t ≡ false → At new log (preempt (answer app i (Some 0) (resume_scheduler s))) → At new log (resume_all app i s)
+    unfolding resume_all
+    resumed_free free h = subst (At new log) (sym (when_free preempt t free)) h
+
+    pub resumed_held : is_held t ≡ true → At new log (answer app i (Some 0) (resume_scheduler s)) → At new log (resume_all app i s)
+    unfolding resume_all
+    resumed_held held h = subst (At new log) (sym (when_held preempt t held)) h
+
+-- where some are in force still, the scheduler is held
+pub still_held : (app : Application) (i : ℕ) (mid : Machine) (log : List Event) (u : State) → At mid log u → mid.suspensions ≢ 0 → is_held (answer app i (Some 0) u) ≡ true
+still_held app i mid log u h ne =
+    let kept : (answer app i (Some 0) u).suspensions ≡ u.suspensions = ap (λ (x : Suspension). x.suspensions) (keeps-answer app i (Some 0) u).suspension in
+    let n = h.stands.rest.suspensions in
+    suspended_held (answer app i (Some 0) u) (lt-ltb 0 (answer app i (Some 0) u).suspensions (omega arith))
+
+pub runs_after_all : (k new : Machine) (i : ℕ) (s : State) → Runs k i → StandsFor k s → StandsFor new (resume_scheduler s) → Runs new i
+runs_after_all k new i s r h g = runs_by k new i s (resume_scheduler s) r h g (current-resumed s) (resumed_apart s i (ready_by k s i r h))

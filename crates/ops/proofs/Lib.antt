@@ -1,0 +1,10 @@
+pub mod Working
+pub mod Waits
+pub mod Ranking
+pub mod Deciding
+pub mod Unlocking
+pub mod EventBits
+pub mod Before
+pub mod Calling
+pub mod Suspending
+pub mod Held

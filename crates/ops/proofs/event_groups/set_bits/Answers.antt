@@ -1,0 +1,16 @@
+use Rattle.std.proofs.Common.{ap, sym, subst, ◌∙◌}
+use Rattle.model.specs.declared.call.Phase.TheVariants.{Start}
+use Rattle.model.specs.State.{Progress}
+use Rattle.ops.specs.Can.{CanSetBits}
+use Rattle.machine.proofs.Either.{moves_any}
+use Rattle.ops.proofs.EventBits.{set_in_phase}
+use Rattle.ops.proofs.event_groups.set_bits.Goals as goal
+
+pub returns-in-Start : goal.returns-in-Start
+returns-in-Start g c =
+    let k = c.args.machine.now in
+    let log = g.L.Log.logged c.args.log.now in
+    let e = ap (λ (p : Progress). p.call.phase) (sym (c.behind-machine.view_is ∙ c.progress.ensures)) ∙ c.in-Start.is in
+    let can = subst (CanSetBits k c.args.task) e c.requires.can in
+    set_in_phase c.args.app.now k c.begin_set.new.machine log log c.args.task c.args.group c.args.mask Start e
+    (moves_any 2 k c.begin_set.new.machine log _ can.agrees c.begin_set.ensures)

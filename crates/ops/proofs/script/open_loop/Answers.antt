@@ -1,0 +1,9 @@
+use Rattle.std.proofs.Common.{◌+◌, ◌∷◌, ap, sym, ◌∙◌}
+use Rattle.model.specs.State.{Progress}
+use Rattle.machine.specs.StandsFor.{with_progress}
+use Rattle.machine.specs.contracts.progress.Progress.{the_view}
+use Rattle.ops.proofs.Working.{loop_opened}
+use Rattle.ops.proofs.script.open_loop.Goals as goal
+
+pub returns : goal.returns
+returns c = λ log s h. loop_opened c.args.app.now c.args.machine.now c.complete.new.self log s h c.args.task c.requires.runs.current (the_view c.behind-machine.inside) (c.behind-machine.view_is ∙ c.progress.ensures) c.push_loop.new.self c.args.turns (c.push_loop.ensures ∙ ap (λ (p : Progress). with_progress c.args.task (record p { loops = record { start = c.behind-machine.inside.op_index + 1; left = c.args.turns } ∷ p.loops }) c.args.machine.now) (sym (c.behind-machine.view_is ∙ c.progress.ensures))) c.complete.ensures.does

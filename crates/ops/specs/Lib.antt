@@ -1,0 +1,2 @@
+pub mod Can
+pub mod InCall

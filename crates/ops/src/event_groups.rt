@@ -1,0 +1,262 @@
+//! Calls on event groups, phase by phase.
+ghost use Rattle.std.specs.Prelude.{◌≡◌, ◌≢◌, ◌<◌, ◌≤◌, ◌+◌, ◌^◌, ◌||◌, false, nat_eq, Some};
+ghost use Rattle.std.specs.Option.{option_eq};
+ghost use Rattle.model.specs.declared.op.Op.TheVariants as op;
+ghost use Rattle.model.specs.declared.call.Phase.TheVariants as phase;
+ghost use Rattle.model.specs.State.{State, bits_at, call_at, for_each};
+ghost use Rattle.model.specs.Groups as definitions;
+ghost use Rattle.model.specs.Ops.{answer};
+ghost use Rattle.model.specs.Switching.{choose, make_ready, preempt};
+ghost use Rattle.model.specs.Waiting.{end_hold};
+ghost use Rattle.model.specs.Step.{act};
+ghost use Rattle.sched.specs.StandsFor.{StandsFor as ScheduleStandsFor};
+ghost use Rattle.clock.specs.StandsFor.{StandsFor as ClockStandsFor};
+ghost use Rattle.machine.specs.StandsFor.{StandsFor, Does, DoesAny, Moves, progress_in};
+ghost use Rattle.machine.specs.Keeping.{kept_by};
+ghost use Rattle.machine.specs.Can.{AreThere, AreToWake, Runs};
+ghost use Rattle.ops.specs.Can.{CanDecide, CanLeave, CanSetBits, CanWaitBits, IsShort};
+
+use groups::Met;
+use machine::{Log, Machine, place_sleeper, wake_all};
+use model::{App, Condition, GroupId, Phase, TaskId};
+
+/// The bits of a group are the answer of the task's call; where they meet its condition it may clear them.
+fn answer_bits<L: Log>(
+    machine: &mut Machine,
+    app: &App,
+    task: TaskId,
+    group: GroupId,
+    condition: &Condition,
+    log: &mut L,
+)
+    requires room { 1 ≤ (L.logged log.old).room }
+    requires runs { Runs machine.old task }
+    ensures { Does 1 machine.old (L.logged log.old) machine.new (L.logged log.new)
+        (definitions.answer_bits app.now task group condition.now) }
+{
+    let bits = machine.groups.final_bits(group, condition);
+    machine.answer(app, task, bits, log);
+}
+
+/// `clear`: the mask's bits are cleared; the bits before are the answer.
+pub fn clear_bits<L: Log>(
+    machine: &mut Machine,
+    app: &App,
+    task: TaskId,
+    group: GroupId,
+    mask: u32,
+    log: &mut L,
+)
+    requires room { 1 ≤ (L.logged log.old).room }
+    requires runs { Runs machine.old task }
+    ensures { Does 1 machine.old (L.logged log.old) machine.new (L.logged log.new)
+        (act app.now task (op.ClearBits group mask)) }
+{
+    let bits = machine.groups.clear(group, mask);
+    machine.answer(app, task, bits, log);
+}
+
+/// `bits`: the bits of a group are the answer.
+pub fn get_bits<L: Log>(machine: &mut Machine, app: &App, task: TaskId, group: GroupId, log: &mut L)
+    requires room { 1 ≤ (L.logged log.old).room }
+    requires runs { Runs machine.old task }
+    ensures { Does 1 machine.old (L.logged log.old) machine.new (L.logged log.new)
+        (act app.now task (op.GetBits group)) }
+{
+    let bits = machine.groups.bits(group);
+    machine.answer(app, task, bits, log);
+}
+
+/// These bits are kept as the answer of each of these tasks' calls.
+fn keep_answers(machine: &mut Machine, tasks: &[TaskId], bits: u32)
+    ensures { machine.new ≡ record machine.old { progress = kept_by bits tasks.now machine.old.progress } }
+{
+    for task in tasks {
+        machine.keep_answer(*task, bits);
+    }
+}
+
+/// Those whom a set has met are woken, with the bits that met them.
+fn wake_met(machine: &mut Machine, met: &Met)
+    requires free { AreToWake machine.old.sched met.now.tasks.items }
+    ensures kept { machine.new ≡ record machine.old {
+      progress = kept_by met.now.bits met.now.tasks.items machine.old.progress;
+      sched = machine.new.sched;
+      clock = machine.new.clock;
+    } }
+    ensures ready { (s : State) → ScheduleStandsFor machine.old.sched s
+        → AreThere s met.now.tasks.items
+        → ScheduleStandsFor machine.new.sched (for_each make_ready met.now.tasks.items s) }
+    ensures woken { (s : State) → ClockStandsFor machine.old.clock s
+        → AreThere s met.now.tasks.items
+        → ClockStandsFor machine.new.clock (for_each make_ready met.now.tasks.items s) }
+{
+    let tasks = met.tasks.as_slice();
+    keep_answers(machine, tasks, met.bits);
+    wake_all(&mut machine.sched, &mut machine.clock, tasks);
+}
+
+/// The scheduler is held, and the bits are set; what is left of them will be the answer.
+fn begin_set(machine: &mut Machine, task: TaskId, group: GroupId, mask: u32)
+    requires { CanDecide machine.old task }
+    ensures { Moves machine.old machine.new (definitions.begin_set task group mask) }
+{
+    machine.sched.hold();
+    let met = machine.groups.set(group, mask);
+    wake_met(machine, &met);
+    machine.keep_answer(task, met.left);
+    machine.set_phase(task, Phase::Leave);
+}
+
+/// The hold ends, and the set answers the bits that are kept.
+fn end_set<L: Log>(machine: &mut Machine, app: &App, task: TaskId, log: &mut L)
+    requires room { 2 ≤ (L.logged log.old).room }
+    requires runs { Runs machine.old task }
+    requires can { CanLeave machine.old task }
+    ensures { Does 2 machine.old (L.logged log.old) machine.new (L.logged log.new)
+        (λ s. preempt (answer app.now task (call_at s task).kept (end_hold task phase.Start s))) }
+{
+    machine.sched.unhold();
+    let left = machine.progress(task).call.kept;
+    machine.set_wait(task, Phase::Start, false);
+    machine.answer_given(app, task, left, log);
+    machine.preempt(log);
+}
+
+/// The next phase of a set.
+pub fn set_bits<L: Log>(
+    machine: &mut Machine,
+    app: &App,
+    task: TaskId,
+    group: GroupId,
+    mask: u32,
+    log: &mut L,
+)
+    requires room { 2 ≤ (L.logged log.old).room }
+    requires can { CanSetBits machine.old task (progress_in machine.old.progress task).call.phase }
+    ensures { DoesAny 2 machine.old (L.logged log.old) machine.new (L.logged log.new)
+        (act app.now task (op.SetBits group mask)) }
+{
+    match machine.progress(task).call.phase {
+        Phase::Start => begin_set(machine, task, group, mask),
+        _ => end_set(machine, app, task, log),
+    }
+}
+
+/// The scheduler is held, and the task waits for bits of a group, for so many ticks at most.
+fn begin_bits_wait(
+    machine: &mut Machine,
+    task: TaskId,
+    group: GroupId,
+    condition: Condition,
+    ticks: Option<u32>,
+)
+    requires can { CanDecide machine.old task }
+    requires short { IsShort ticks }
+    requires some { ticks ≢ Some 0 }
+    requires time { machine.old.clock.now + 2 ^ 32 < 2 ^ 63 }
+    ensures { Moves machine.old machine.new (definitions.begin_bits_wait task group condition ticks) }
+{
+    machine.sched.hold();
+    machine.set_deadline(task, ticks);
+    machine.want(task, condition);
+    machine.sched.block(task);
+    machine.groups.place(task, group, condition);
+    let deadline = machine.progress(task).call.deadline;
+    place_sleeper(&mut machine.clock, deadline, task);
+    machine.set_phase(task, Phase::Leave);
+}
+
+/// Whether the bits of a group meet a condition by now, or there are no ticks to wait for them.
+fn need_not_wait_for_bits(
+    machine: &Machine,
+    group: GroupId,
+    condition: &Condition,
+    ticks: Option<u32>,
+) -> bool
+    ensures needs { (s : State) → StandsFor machine.now s
+        → result ≡ (definitions.is_met (bits_at s group) condition.now
+        || option_eq nat_eq ticks (Some 0)) }
+    ensures some { result ≡ false → ticks ≢ Some 0 }
+{
+    machine.groups.check(group, condition) || ticks == Some(0)
+}
+
+/// A wait whose condition is met, or that has no ticks to wait, answers. Else the task waits.
+fn check_bits<L: Log>(
+    machine: &mut Machine,
+    app: &App,
+    task: TaskId,
+    group: GroupId,
+    condition: Condition,
+    ticks: Option<u32>,
+    log: &mut L,
+)
+    requires room { 1 ≤ (L.logged log.old).room }
+    requires can { CanDecide machine.old task }
+    requires short { IsShort ticks }
+    requires time { machine.old.clock.now + 2 ^ 32 < 2 ^ 63 }
+    ensures { Does 1 machine.old (L.logged log.old) machine.new (L.logged log.new)
+        (definitions.check app.now task group condition ticks) }
+{
+    if need_not_wait_for_bits(machine, group, &condition, ticks) {
+        answer_bits(machine, app, task, group, &condition, log);
+    } else {
+        begin_bits_wait(machine, task, group, condition, ticks);
+    }
+}
+
+/// The hold ends, and the choice runs.
+fn leave_bits_wait<L: Log>(machine: &mut Machine, task: TaskId, log: &mut L)
+    requires room { 1 ≤ (L.logged log.old).room }
+    requires can { CanLeave machine.old task }
+    ensures { Does 1 machine.old (L.logged log.old) machine.new (L.logged log.new)
+        (λ s. choose (end_hold task phase.Final s)) }
+{
+    machine.sched.unhold();
+    machine.set_wait(task, Phase::Final, false);
+    machine.choose(log);
+}
+
+/// Woken, the task answers the bits that are kept for it, or else those of now.
+fn finish_wait<L: Log>(
+    machine: &mut Machine,
+    app: &App,
+    task: TaskId,
+    group: GroupId,
+    condition: &Condition,
+    log: &mut L,
+)
+    requires room { 1 ≤ (L.logged log.old).room }
+    requires runs { Runs machine.old task }
+    ensures { Does 1 machine.old (L.logged log.old) machine.new (L.logged log.new)
+        (λ s. definitions.final_bits app.now task group condition.now (call_at s task).kept s) }
+{
+    match machine.progress(task).call.kept {
+        None => answer_bits(machine, app, task, group, condition, log),
+        Some(bits) => machine.answer(app, task, bits, log),
+    }
+}
+
+/// The next phase of a wait for bits.
+pub fn wait_bits<L: Log>(
+    machine: &mut Machine,
+    app: &App,
+    task: TaskId,
+    group: GroupId,
+    condition: Condition,
+    ticks: Option<u32>,
+    log: &mut L,
+)
+    requires room { 2 ≤ (L.logged log.old).room }
+    requires can { CanWaitBits machine.old task ticks
+        (progress_in machine.old.progress task).call.phase }
+    ensures { DoesAny 2 machine.old (L.logged log.old) machine.new (L.logged log.new)
+        (act app.now task (op.WaitBits group condition ticks)) }
+{
+    match machine.progress(task).call.phase {
+        Phase::Start => check_bits(machine, app, task, group, condition, ticks, log),
+        Phase::Leave => leave_bits_wait(machine, task, log),
+        _ => finish_wait(machine, app, task, group, &condition, log),
+    }
+}

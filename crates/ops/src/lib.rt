@@ -1,0 +1,13 @@
+//! What the ops of a script do, a file for each family.
+//!
+//! Each function asks that the running task can do the op (`Can`), and that the log has room for the events that it tells
+//! at most; it does the deed of the definitions.
+#![tactic(auto)]
+
+pub mod calls;
+pub mod event_groups;
+pub mod mutexes;
+pub mod queues;
+pub mod script;
+pub mod suspension;
+pub mod time;
