@@ -181,10 +181,13 @@ impl Clock {
             → StandsFor self.new s }
     {
         match self.tick.checked_add(ticks) {
-            Some(wake_tick) => self.lists.insert_sorted(self.current, task, wake_tick),
+            Some(wake_tick) => self
+                .lists
+                .insert_sorted_from_back(self.current, task, wake_tick),
             None => {
                 let wake_tick = self.tick.wrapping_add(ticks);
-                self.lists.insert_sorted(self.overflow, task, wake_tick);
+                self.lists
+                    .insert_sorted_from_back(self.overflow, task, wake_tick);
             }
         }
     }

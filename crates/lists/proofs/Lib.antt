@@ -3,4 +3,5 @@ pub mod Laws
 pub mod Links
 pub mod Rotating
 pub mod Search
+pub mod SearchBack
 pub mod Spelled

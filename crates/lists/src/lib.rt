@@ -2,7 +2,8 @@
 //!
 //! A table has `L` lists and `N` nodes. A node is named by its number, stands in one list at most,
 //! and has a value there. Each call takes constant time, but for `Table::new` and `Table::set_from`,
-//! which write the whole table, and for `Table::insert_sorted`, which walks along its list.
+//! which write the whole table, and for `Table::insert_sorted` and `Table::insert_sorted_from_back`,
+//! which walk along their list, from its first node and from its last.
 #![tactic(auto)]
 
 mod ids;

@@ -2,7 +2,7 @@
 ghost use Rattle.std.specs.Prelude.{◌≡◌, ℕ, ◌+◌, ◌<◌, ◌≤◌, ◌↔◌, List, [], ◌∷◌, ◌++◌, length, replicate, slice_set, slice_index_or, map, option_map, IsTrue, IsNone};
 ghost use Rattle.std.specs.Option.{ForSome};
 ghost use Rattle.lists.specs.Links.{lists_of, IsLinkedTable, SplitsBefore, at_link, put_link, put_end, upper};
-ghost use Rattle.lists.specs.Lists.{entries_of, first_of, has_node, insert_sorted, next_of, place_of, rotated, second_of, value_of, without, IsSound};
+ghost use Rattle.lists.specs.Lists.{entries_of, first_of, has_node, insert_sorted, next_of, place_of, rotated, second_of, value_of, without, IsSorted, IsSound};
 
 use crate::ids::{ListId, NodeId};
 use std::marker::Model;
@@ -245,6 +245,23 @@ impl<const L: usize, const N: usize> Table<L, N> {
         self.put_before(list, after, node, value);
     }
 
+    /// As `insert_sorted`, into a list in which no value is smaller than one before it. It walks from the last node, so it
+    /// takes constant time where no value is greater.
+    ///
+    /// FreeRTOS's `vListInsert` walks from the first. That this one doesn't is profile: the place found is the same.
+    pub fn insert_sorted_from_back(&mut self, list: ListId, node: NodeId, value: u32)
+        requires list { list.number < L }
+        requires node { node.number < N }
+        requires free { place_of self.old node.number ≡ None }
+        requires sorted { IsSorted (entries_of self.old list.number) }
+        ensures put { self.new ≡ slice_set self.old list.number
+            (insert_sorted (node.number, value) (entries_of self.old list.number)) }
+        ensures sound { IsSound L N self.new }
+    {
+        let after = self.first_greater_from_back(list, value);
+        self.put_before(list, after, node, value);
+    }
+
     /// Puts a node into a list before another, or last.
     fn put_before(&mut self, list: ListId, after: Option<u16>, node: NodeId, value: u32)
         requires list { list.number < L }
@@ -281,5 +298,23 @@ impl<const L: usize, const N: usize> Table<L, N> {
             at = self.next[node as usize];
         }
         None
+    }
+
+    /// The same of a list in which no value is smaller than one before it, found from its last node.
+    fn first_greater_from_back(&self, list: ListId, value: u32) -> Option<u16>
+        requires list { list.number < L }
+        requires sorted { IsSorted (entries_of self.now list.number) }
+        ensures found { result ≡ first_of (upper value (entries_of self.now list.number)) }
+    {
+        let mut after = None;
+        let mut at = self.lasts[list.number as usize];
+        while let Some(node) = at {
+            if self.values[node as usize] <= value {
+                return after;
+            }
+            after = at;
+            at = self.prev[node as usize];
+        }
+        after
     }
 }

@@ -1,7 +1,7 @@
 //! Lists of tasks, by their typed numbers.
 ghost use Rattle.std.specs.Prelude.{◌≡◌, ℕ, ◌<◌, ◌≤◌, ◌↔◌, List, [], ◌∷◌, ◌++◌, replicate, slice_set, map, option_map, IsTrue, IsNone};
 ghost use Rattle.std.specs.Option.{ForSome, is_some};
-ghost use Rattle.lists.specs.Lists.{entries_of, first_of, has_node, insert_sorted, next_of, place_of, rotated, second_of, value_of, without, IsSound};
+ghost use Rattle.lists.specs.Lists.{entries_of, first_of, has_node, insert_sorted, next_of, place_of, rotated, second_of, value_of, without, IsSorted, IsSound};
 
 use lists::{ListId, NodeId, Table};
 use model::TaskId;
@@ -154,6 +154,21 @@ impl<const L: usize> TaskLists<L> {
         ensures sound { IsSound L 32 self.new }
     {
         self.table.insert_sorted(list, node_of(task), value);
+    }
+
+    /// As `insert_sorted`, into a list in which no value is smaller than one before it. It takes constant time where no value
+    /// is greater.
+    #[inline]
+    pub fn insert_sorted_from_back(&mut self, list: ListId, task: TaskId, value: u32)
+        requires list { list.number < L }
+        requires free { place_of self.old task ≡ None }
+        requires sorted { IsSorted (entries_of self.old list.number) }
+        ensures put { self.new ≡ slice_set self.old list.number
+            (insert_sorted (task, value) (entries_of self.old list.number)) }
+        ensures sound { IsSound L 32 self.new }
+    {
+        self.table
+            .insert_sorted_from_back(list, node_of(task), value);
     }
 
     /// Puts the first task of a list last, with the value that it has. Answers the second task, which is the first from
