@@ -16,8 +16,7 @@ ghost use Rattle.kernel.specs.Over.{is_over};
 ghost use Rattle.kernel.specs.Rows.{events_from};
 
 use crate::steps::{is_over, op_of};
-use crate::trail::Trail;
-use machine::{Log, Machine};
+use machine::{Log, Machine, Trail};
 use model::{Access, App, Limits, ObjectId, Op, Phase, Point, TaskId};
 use ops::calls::{go_on_silently, leave_call};
 

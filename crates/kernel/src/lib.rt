@@ -9,10 +9,8 @@ mod quiet;
 mod rows;
 mod steps;
 mod suspended;
-mod trail;
 
 pub use kernel::Kernel;
-pub use machine::{Snapshot, StepLog};
+pub use machine::{Snapshot, StepLog, Trail};
 pub use rows::{RowEnding, run_row};
 pub use steps::{follow, run};
-pub use trail::Trail;

@@ -9,8 +9,7 @@ ghost use Rattle.kernel.specs.Rows.{IsRowFrom, Extends};
 use crate::kernel::Kernel;
 use crate::quiet::pass_on;
 use crate::steps::{count_steps, finish};
-use crate::trail::Trail;
-use machine::{Machine, StepLog};
+use machine::{Machine, StepLog, Trail};
 use model::{App, End, Limits, Memory, Meter, Point};
 
 /// What is said of a row but its events.

@@ -23,9 +23,8 @@ use crate::in_call::pass_leave;
 use crate::kernel::Kernel;
 use crate::quiet::{free_until, next_point, pass_on};
 use crate::suspended::act_while_suspended;
-use crate::trail::Trail;
 use arrayvec::ArrayVec;
-use machine::{Log, Machine, StepLog};
+use machine::{Log, Machine, StepLog, Trail};
 use model::{App, End, HandlerId, Limits, Memory, Meter, Op, Plan, Point, Run, TaskId};
 use std::alloc::Global;
 

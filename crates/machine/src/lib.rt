@@ -10,6 +10,7 @@ mod machine;
 mod progress;
 mod snapshot;
 mod switching;
+mod trail;
 
 pub use answering::one_if;
 pub use deadlines::place_sleeper;
@@ -19,3 +20,4 @@ pub use machine::Machine;
 pub use progress::Progress;
 pub use snapshot::Snapshot;
 pub use switching::wake_all;
+pub use trail::Trail;

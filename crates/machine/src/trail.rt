@@ -1,8 +1,8 @@
 //! The events of a run, or of several, with room for those of one more step.
-ghost use Rattle.std.specs.Prelude.{◌≡◌, ◌<◌, ◌≤◌, ◌++◌, [], OnOk, OnErr, length, take};
+ghost use Rattle.std.specs.Prelude.{◌≡◌, ◌<◌, ◌≤◌, ◌↔◌, ◌++◌, [], OnOk, OnErr, length, take, IsTrue};
 ghost use Rattle.machine.specs.Logged.{all_of};
 
-use machine::Log;
+use crate::log::Log;
 use model::{Event, Memory};
 use std::alloc::Global;
 use std::marker::Model;
@@ -57,14 +57,16 @@ impl Trail {
 
     /// Whether this step has told nothing.
     #[inline]
-    pub(crate) fn is_silent(&self) -> bool {
+    pub fn is_silent(&self) -> bool
+        ensures { IsTrue result ↔ (length self.now.told ≡ 0) }
+    {
         self.events.len() == self.start
     }
 
     /// The next step begins, of which nothing is told yet, and there is room for 128 events of it. At `Err(Memory)`, where
     /// the growth was refused, there is less room.
     #[inline]
-    pub(crate) fn begin(&mut self) -> Result<(), Memory>
+    pub fn begin(&mut self) -> Result<(), Memory>
         ensures before { self.new.before ≡ all_of self.old }
         ensures told { self.new.told ≡ [] }
         ensures room { OnOk result (128 ≤ self.new.room) }
@@ -79,7 +81,7 @@ impl Trail {
 
     /// This step tells these events too, whatever room there is. At `Err(Memory)`, where there was less room and the growth was
     /// refused, it has told none of them.
-    pub(crate) fn append(&mut self, events: &[Event]) -> Result<(), Memory>
+    pub fn append(&mut self, events: &[Event]) -> Result<(), Memory>
         ensures before { self.new.before ≡ self.old.before }
         ensures told { OnOk result (self.new.told ≡ self.old.told ++ events.now) }
         ensures refused { OnErr result (self.new.told ≡ self.old.told) }
