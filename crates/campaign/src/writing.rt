@@ -23,7 +23,7 @@ use std::thread::Threads;
 // How long the text of a piece is at least that a thread spells, in bytes, and how long those of a round are together.
 const LEAST_PIECE: usize = 1 << 16;
 
-const MOST_ROUND: usize = 1 << 23;
+const MOST_ROUND: usize = 1 << 22;
 
 // No text that is longer than this is kept in memory, in bytes.
 const MOST_TEXT: usize = 1 << 24;
@@ -230,7 +230,7 @@ pub fn write_report<W: Sink>(app: &App, report: &Report, writer: &mut W) -> Resu
 }
 
 // How many bytes of text a speller spells in a round, where there are so many: some 64 kB, and where the rows take much memory,
-// more: with all spellers together a twelfth of it, since a row takes 48 bytes and each of its own events 16, and at most 8 MB.
+// more: with all spellers together a sixteenth of it, since a row takes 48 bytes and each of its own events 16, and at most 4 MB.
 fn length_of_pieces(rows: &Rows, spellers: usize) -> usize
     requires some { 0 < spellers }
     requires sound { IsSound rows.now }
@@ -240,7 +240,7 @@ fn length_of_pieces(rows: &Rows, spellers: usize) -> usize
     for part in &rows.parts {
         events = events.saturating_add(part.trail.len());
     }
-    let bytes = (events / 3).saturating_add(rows.count()).saturating_mul(4);
+    let bytes = events.saturating_add(rows.count().saturating_mul(3));
     (bytes.min(MOST_ROUND) / spellers).max(LEAST_PIECE)
 }
 
