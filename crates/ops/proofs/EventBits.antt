@@ -6,16 +6,16 @@ use Rattle.std.specs.Option.{is_some, option_eq, option_map}
 use Rattle.std.proofs.Math.ListN.{length-set}
 use Rattle.model.specs.declared.call.Condition.{Condition}
 use Rattle.model.specs.declared.call.Phase.{Phase}
-use Rattle.model.specs.declared.call.Phase.TheVariants.{Place}
+use Rattle.model.specs.declared.call.Phase.TheVariants.{Start, Try, Decide, Place, Unlock, Leave, Final}
 use Rattle.model.specs.declared.event.Event.{Event}
-use Rattle.model.specs.declared.op.Op.TheVariants.{SetBits}
+use Rattle.model.specs.declared.op.Op.TheVariants.{SetBits, WaitBits}
 use Rattle.model.specs.Application.{Application}
 use Rattle.model.specs.State.{State, Task, Progress, Status, Ready, Awake, Waiting, WaitingForBits, Asleep, Suspended, Ended, no_task, ticket_if_ready, ticket_if_for_bits, task_at, status_at, progress_at, call_at, bits_at, with_bits, for_each}
 use Rattle.model.specs.Order.{Key, Entry, key, tasks_of}
 use Rattle.model.specs.Switching.{is_ready, make_ready}
 use Rattle.model.specs.Suspension.{can_resume}
 use Rattle.model.specs.Waiting.{set_deadline}
-use Rattle.model.specs.Groups.{is_met, is_met_for, bits_left, bits_key, bits_set, bits_after_set, waiters_for_bits, met_by, want, keep_answer, wake_with_bits, wait_for_bits, answer_bits, begin_bits_wait, check, set_bits, set as set_in_group}
+use Rattle.model.specs.Groups.{is_met, is_met_for, bits_left, bits_key, bits_set, bits_after_set, waiters_for_bits, met_by, want, keep_answer, wake_with_bits, wait_for_bits, answer_bits, begin_bits_wait, check, final_bits, set_bits, wait_bits, set as set_in_group}
 use Rattle.model.specs.Step.{act}
 use Rattle.model.specs.Invariant.{Suspension, wait_of}
 use Rattle.model.proofs.Sorting.{by_test}
@@ -43,7 +43,7 @@ use Rattle.machine.specs.StandsFor.{StandsFor, At, AtAny, DoesAny, Moves, progre
 use Rattle.machine.specs.Logged.{Logged}
 use Rattle.machine.specs.Keeping.{keep_in, kept_by}
 use Rattle.machine.specs.Can.{AreThere, AreToWake, IsAhead}
-use Rattle.ops.specs.Can.{CanDecide, IsShort}
+use Rattle.ops.specs.Can.{CanDecide, CanWaitBits, IsShort}
 use Rattle.machine.proofs.Parts.{apart, clock-same, not_for_bits, progress-same, same_parts}
 use Rattle.machine.proofs.Acting.{within, changed}
 use Rattle.machine.proofs.Continuing.{not_placing, recalled}
@@ -413,6 +413,16 @@ left_at k new log s h i r left bits e is =
     recalled k new log s h i r (record (progress_in k.progress i).call { kept = Some left }) (record (call_at s i) { kept = Some bits }) is
     (ap (λ (p : Progress). record p.call { kept = Some left }) (h.stands.rest.progress i) ∙ ap (λ (n : ℕ). record (call_at s i) { kept = Some n }) e) (not_placing k new log s h i r) (λ _. refl)
 
+-- Past Start and Leave, a wait for bits can decide.
+pub decides_at_last : (k : Machine) (task : ℕ) (ticks : Option ℕ) (phase : Phase) → phase ≢ Start → phase ≢ Leave → CanWaitBits k task ticks phase → CanDecide k task
+decides_at_last k task ticks Start off on can = absurd (off refl)
+decides_at_last k task ticks Try off on can = can
+decides_at_last k task ticks Decide off on can = can
+decides_at_last k task ticks Place off on can = can
+decides_at_last k task ticks Unlock off on can = can
+decides_at_last k task ticks Leave off on can = absurd (on refl)
+decides_at_last k task ticks Final off on can = can
+
 -- ---- the phases
 
 module _ (app : Application) (old new : Machine) (old_log new_log : Logged) (task group : ℕ) where
@@ -425,3 +435,26 @@ module _ (app : Application) (old new : Machine) (old_log new_log : Logged) (tas
     few = d.few;
     before = d.before;
   }
+
+  -- of a wait
+  pub wait_in_phase : (condition : Condition) (ticks : Option ℕ) (phase : Phase) → (progress_in old.progress task).call.phase ≡ phase → DoesAny 2 old old_log new new_log (wait_bits app task group condition ticks phase) → DoesAny 2 old old_log new new_log (act app task (WaitBits group condition ticks))
+  wait_in_phase condition ticks phase e d = record {
+    at = λ s h.
+        let now : (call_at s task).phase ≡ phase = ap (λ (p : Progress). p.call.phase) (sym (progress_is old s h.stands task)) ∙ e in
+        subst (λ (p : Phase). AtAny new new_log.told (wait_bits app task group condition ticks p s)) (sym now) (d.at s h);
+    few = d.few;
+    before = d.before;
+  }
+
+  waits_at_last : (condition : Condition) (ticks : Option ℕ) (phase : Phase) → phase ≢ Start → phase ≢ Leave → DoesAny 2 old old_log new new_log (λ s. final_bits app task group condition (call_at s task).kept s) → DoesAny 2 old old_log new new_log (wait_bits app task group condition ticks phase)
+  waits_at_last condition ticks Start off on d = absurd (off refl)
+  waits_at_last condition ticks Try off on d = d
+  waits_at_last condition ticks Decide off on d = d
+  waits_at_last condition ticks Place off on d = d
+  waits_at_last condition ticks Unlock off on d = d
+  waits_at_last condition ticks Leave off on d = absurd (on refl)
+  waits_at_last condition ticks Final off on d = d
+
+  -- past Start and Leave
+  pub wait_at_last : (condition : Condition) (ticks : Option ℕ) (phase : Phase) → (progress_in old.progress task).call.phase ≡ phase → phase ≢ Start → phase ≢ Leave → DoesAny 2 old old_log new new_log (λ s. final_bits app task group condition (call_at s task).kept s) → DoesAny 2 old old_log new new_log (act app task (WaitBits group condition ticks))
+  wait_at_last condition ticks phase e off on d = wait_in_phase condition ticks phase e (waits_at_last condition ticks phase off on d)
