@@ -71,6 +71,25 @@ pub reading_failed : (input : Option (List ℕ)) (e : ReadFault) → (e ≡ read
 reading_failed input read.Failed some = let k = some_text input in (k.0, k.1, tt)
 reading_failed input read.Memory some = some_bytes input (some refl)
 
+-- A fault is one of the same side, whatever would be answered.
+pub same_read : (A B : Type 0) (f : ServeFault) → is_read_fault {A = A} (Err f) ≡ is_read_fault {A = B} (Err f)
+same_read A B Read = refl
+same_read A B NotToml = refl
+same_read A B (Load fault) = refl
+same_read A B UnknownHandler = refl
+same_read A B TooManyPoints = refl
+same_read A B Memory = refl
+same_read A B Write = refl
+
+pub same_write : (A B : Type 0) (f : ServeFault) → is_write_fault {A = A} (Err f) ≡ is_write_fault {A = B} (Err f)
+same_write A B Read = refl
+same_write A B NotToml = refl
+same_write A B (Load fault) = refl
+same_write A B UnknownHandler = refl
+same_write A B TooManyPoints = refl
+same_write A B Memory = refl
+same_write A B Write = refl
+
 -- ---- whatever is asked for
 
 module _ {A : Type 0} (IsReport : (bytes report : List ℕ) → A → Type 0) (HasFaultOf : (bytes : List ℕ) → ServeFault → Type 0) (input : Option (List ℕ)) (rf wf : Bool) where

@@ -1,7 +1,7 @@
 -- Rows counted one after the other.
 use Rattle.std.specs.Prelude.{slice_get, Some, Option}
-use Rattle.std.specs.List.{flat_map}
-use Rattle.std.proofs.Common.{◌≡◌, ◌<◌, ◌≤◌, ◌+◌, ◌-◌, ℕ, zero, suc, List, [], ◌∷◌, ◌++◌, length, take, drop, slice_index_or, refl, sym, ap, ap₂, ◌∙◌, append_assoc, append-nil, length-append, add-one, arith}
+use Rattle.std.specs.List.{AllByRecursion, flat_map}
+use Rattle.std.proofs.Common.{◌≡◌, ◌<◌, ◌≤◌, ◌+◌, ◌-◌, ℕ, zero, suc, List, [], ◌∷◌, ◌++◌, length, take, drop, slice_index_or, refl, sym, subst, ap, ap₂, ◌∙◌, append_assoc, append-nil, length-append, add-one, arith}
 use Rattle.std.proofs.lemmas.List.{length-take, length-drop, length-map, take_all, take_more, map-append}
 use Rattle.model.specs.declared.event.Event.{Event}
 use Rattle.model.specs.Run.{Run}
@@ -10,7 +10,7 @@ use Rattle.machine.specs.Logged.{all_of}
 use Rattle.campaign.specs.declared.rows.KeptRow.{KeptRow}
 use Rattle.campaign.specs.declared.rows.Part.{Part}
 use Rattle.campaign.specs.declared.rows.Place.{Place}
-use Rattle.campaign.specs.Report.{row_of, rows_of, rows_in, rows_in_some, rows_at, IsPlace}
+use Rattle.campaign.specs.Report.{row_of, rows_of, rows_in, rows_in_some, rows_at, AreKept, IsPlace}
 
 -- ---- the rows of a part
 
@@ -62,6 +62,15 @@ pub within_list : {X : Type 0} (xs : List X) (i : ℕ) (x : X) → slice_get xs 
 within_list [] i x e = absurd (cc)
 within_list (y ∷ xs) zero x e = omega arith
 within_list (y ∷ xs) (suc i) x e = let l = within_list xs i x e in omega arith
+
+pub same_part : (a b : Part) → Some a ≡ Some b → a ≡ b
+same_part a b e = cc e
+
+-- a part of kept rows
+pub parts_kept : (base : Run) (parts : List Part) (i : ℕ) (part : Part) → slice_get parts i ≡ Some part → AllByRecursion (AreKept base) parts → AreKept base part
+parts_kept base [] i part e all = absurd (cc e)
+parts_kept base (p ∷ parts) zero part e all = subst (AreKept base) (same_part p part e) all.0
+parts_kept base (p ∷ parts) (suc i) part e all = parts_kept base parts i part e all.1
 
 pub flat_few : {X A : Type 0} (f : X → List A) (xs : List X) (index : ℕ) (x : X) → index < length xs → x ≡ slice_index_or xs index x → length (flat_map f (take index xs)) + length (f x) ≤ length (flat_map f xs)
 flat_few f [] index x l is = absurd (omega arith)

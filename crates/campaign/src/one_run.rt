@@ -1,7 +1,8 @@
 //! From the bytes of a file to the text of one run.
-ghost use Rattle.std.specs.Prelude.{◌≡◌, [], false, IfOk, MatchResult};
+ghost use Rattle.std.specs.Prelude.{◌≡◌, ℕ, List, [], Option, false, IfOk, MatchResult};
 ghost use Rattle.model.specs.Run.{IsRun, IsRow};
 ghost use Rattle.campaign.specs.OneRun.{IsAsked, IsRunFault, ServesRun};
+ghost use Rattle.campaign.specs.Serving.{IsFileOf, Known};
 
 use crate::at::At;
 use crate::file::{ServeFault, app_of};
@@ -10,19 +11,12 @@ use model::{App, End, Limits, Memory, Meter, Plan, Point, Run};
 use report::{Title, write_run};
 use std::alloc::Global;
 
-// The run with this plan.
-fn run_with(alloc: Global, app: &App, plan: &Plan, limits: Limits) -> Result<Run, Memory>
-    ensures { IfOk result (λ run. IsRun app.now plan.now limits run) }
-{
-    kernel::run(alloc, app, plan, limits, &mut Meter::new())
-}
-
 /// The base run: nothing is injected.
 pub(crate) fn base_run(alloc: Global, app: &App, limits: Limits) -> Result<Run, Memory>
     ensures { IfOk result (λ run. IsRun app.now [] limits run) }
 {
     let plan = Plan::none(alloc);
-    run_with(alloc, app, &plan, limits)
+    kernel::run(alloc, app, &plan, limits, &mut Meter::new())
 }
 
 // Whether the point is reached, and its row. The base run comes first, and is the row where it ends before the point's step.
@@ -34,7 +28,7 @@ fn row_of(alloc: Global, app: &App, point: Point) -> Result<(bool, Run), Memory>
         return Ok((false, base));
     }
     let plan = Plan::of(alloc, point)?;
-    let run = run_with(alloc, app, &plan, app.limits())?;
+    let run = kernel::run(alloc, app, &plan, app.limits(), &mut Meter::new())?;
     Ok((true, run))
 }
 
@@ -62,12 +56,28 @@ fn asked_run(alloc: Global, app: &App, at: Option<At<'_>>) -> Result<(Title, Run
     Ok((title, run))
 }
 
+// Runs an application as it is asked for, and writes the report of the run, as its last deed.
+fn serve_app<W: Sink>(
+    alloc: Global,
+    app: &App,
+    writer: &mut W,
+    at: Option<At<'_>>,
+) -> Result<End, ServeFault>
+    requires { W.has_failed writer.old ≡ false }
+    ensures { (input : Option (List ℕ)) (bytes : List ℕ) → Known input bytes → IsFileOf bytes app.now
+        → ServesRun at.entry input false (W.held writer.old) (W.held writer.new)
+        (W.has_failed writer.new) result }
+{
+    let (title, run) = asked_run(alloc, app, at)?;
+    write_run(writer, app, title, &run)?;
+    Ok(run.end)
+}
+
 /// Reads a file, runs the application that it names under its own limits, and writes the report of the run, as its
 /// last deed: the base run, or where an injection is asked for, row 0. Answers how the run that it wrote ends.
 ///
 /// At `Write` a beginning of the report is written. At every other error nothing is. `UnknownHandler` comes after every
 /// fault of the file, and before any run.
-#[tactic(auto, using(crate::proofs::Faulty::serves_file_fault, crate::proofs::Faulty::serves_run_fault))]
 pub fn serve_run<R: Source, W: Sink>(
     alloc: Global,
     reader: &mut R,
@@ -80,7 +90,5 @@ pub fn serve_run<R: Source, W: Sink>(
         (W.held writer.old) (W.held writer.new) (W.has_failed writer.new) result }
 {
     let app = app_of(alloc, reader)?;
-    let (title, run) = asked_run(alloc, &app, at)?;
-    write_run(writer, &app, title, &run)?;
-    Ok(run.end)
+    serve_app(alloc, &app, writer, at)
 }

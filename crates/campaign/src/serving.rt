@@ -1,8 +1,9 @@
 //! From the bytes of a file to the report of its campaign.
-ghost use Rattle.std.specs.Prelude.{◌≡◌, ◌<◌, ◌≤◌, false, length, IfOk, MatchResult};
+ghost use Rattle.std.specs.Prelude.{◌≡◌, ◌≤◌, ℕ, List, Option, false, length, IfOk, MatchResult};
 ghost use Rattle.model.specs.Campaign.{AreRows};
 ghost use Rattle.model.specs.Scripts.{most_points};
 ghost use Rattle.campaign.specs.Campaigns.{AreRowsOf, IsCampaignFault, ServesCampaign};
+ghost use Rattle.campaign.specs.Serving.{IsFileOf, Known};
 ghost use Rattle.shelf.specs.Shelves.{IsShelf};
 
 use crate::campaign_report::Report;
@@ -33,14 +34,6 @@ impl From<ExpandFault> for ServeFault {
     }
 }
 
-// How many workers there are.
-fn workers_of(options: &Options) -> usize
-    ensures some { 0 < result }
-    ensures few { result ≤ 64 }
-{
-    options.workers.clamp(1, Options::MOST_WORKERS) as usize
-}
-
 // The report of these points, whose rows are counted by a tally of its own.
 fn report_from<R: Threads + Wait + Sync, G: Gate + Sync>(
     rt: &R,
@@ -55,7 +48,7 @@ fn report_from<R: Threads + Wait + Sync, G: Gate + Sync>(
     requires few { length points.now ≤ most_points }
     ensures { IfOk result (λ report. AreRows app.now shelf.limits points.now report) }
 {
-    let workers = workers_of(&options);
+    let workers = options.workers.clamp(1, Options::MOST_WORKERS) as usize;
     let block = options.block.clamp(1, Options::MOST_BLOCK) as usize;
     let Ok(division) = Division::even(alloc, points.len(), block) else {
         return Err(Memory);
@@ -86,13 +79,34 @@ fn report_of<R: Threads + Wait + Sync, G: Gate + Sync>(
     Ok(report)
 }
 
+// Makes the rows of an application, and writes the report of them, as its last deed.
+fn serve_app<T: Threads + Wait + Sync, W: Sink, G: Gate + Sync>(
+    rt: &T,
+    alloc: Global,
+    app: &App,
+    writer: &mut W,
+    options: Options,
+    gate: &G,
+) -> Result<Totals, ServeFault>
+    requires { W.has_failed writer.old ≡ false }
+    ensures { (input : Option (List ℕ)) (bytes : List ℕ) → Known input bytes → IsFileOf bytes app.now
+        → ServesCampaign input false (W.held writer.old) (W.held writer.new)
+        (W.has_failed writer.new) result }
+{
+    let threads = options.workers.clamp(1, Options::MOST_WORKERS) as usize;
+    let report = report_of(rt, alloc, app, options, gate)?;
+    write_report_in(rt, alloc, app, &report, threads, writer)?;
+    let totals = report.totals();
+    report.free(rt);
+    Ok(totals)
+}
+
 /// Reads a file, runs the application that it names once for each of its points, under its own limits, and writes the report of
 /// the rows, as its last deed: so all rows are made before the first byte goes out. Answers the totals that it wrote. The
 /// report doesn't depend on the options. The gate is told what the workers do. It waits for them.
 ///
 /// At `Write` a beginning of the report is written. At every other error nothing is. `TooManyPoints` comes after every fault of
 /// the file; `UnknownHandler` never does.
-#[tactic(auto, using(crate::proofs::Faulty::campaign_serves_file_fault, crate::proofs::Faulty::campaign_serves_rows_fault))]
 pub fn serve_watched<T: Threads + Wait + Sync, R: Source, W: Sink, G: Gate + Sync>(
     rt: &T,
     alloc: Global,
@@ -107,11 +121,7 @@ pub fn serve_watched<T: Threads + Wait + Sync, R: Source, W: Sink, G: Gate + Syn
         (W.held writer.old) (W.held writer.new) (W.has_failed writer.new) result }
 {
     let app = app_of(alloc, reader)?;
-    let report = report_of(rt, alloc, &app, options, gate)?;
-    write_report_in(rt, alloc, &app, &report, workers_of(&options), writer)?;
-    let totals = report.totals();
-    report.free(rt);
-    Ok(totals)
+    serve_app(rt, alloc, &app, writer, options, gate)
 }
 
 /// The same as `serve_watched`, with a gate that does nothing.

@@ -1,18 +1,20 @@
-use Rattle.std.proofs.Common.{◌≡◌, refl, rules, Err}
-use Rattle.report.specs.Text.{run_text}
-use Rattle.campaign.specs.declared.file.ServeFault.TheVariants.{Write}
-use Rattle.campaign.specs.OneRun.{IsReportOf}
-use Rattle.campaign.proofs.Faulty.{serves_front}
+use Rattle.std.proofs.Common.{◌≡◌, ◌∙◌, Bool, sym, subst, rules, Err}
+use Rattle.model.specs.Application.{Application}
+use Rattle.model.specs.declared.event.End.{End}
+use Rattle.campaign.specs.OneRun.{ServesRun}
+use Rattle.campaign.proofs.Faulty.{same_read, same_write, serves_file_fault}
 use Rattle.campaign.proofs.one_run.serve_run.Goals as goal
 
-pub returns-in_err-write_run : goal.returns-in_err-write_run
-returns-in_err-write_run g c =
-    let file = c.in_ok-app.ensures.app in
-    let app = c.in_ok-app.app in
-    let title = c.in_ok-title.title in
-    let run = c.in_ok-title.run' in
-    let is : IsReportOf c.args.at file.0 (run_text app title run) run.end =
-    record { app = app; file = file.2; title = title; run = run; runs = c.in_ok-title.ensures; ends = refl; text = refl } in
-    let told : c.from_residual-in_err-write_run.result ≡ Err Write = search rules in
+pub returns-in_err-app : goal.returns-in_err-app
+returns-in_err-app g c =
+    let fault = c.in_err-app.field-0.0 in
+    let told : c.from_residual.result ≡ Err fault = search rules in
     rw told
-    (serves_front _ _ _ _ _ _ _ file.0 _ _ file.1 is c.in_err-write_run.ensures.text c.in_ok-app.ensures.read c.in_err-write_run.ensures.failed)
+    (serves_file_fault c.args.at (g.R.Source.left c.args.reader.now) _ _ _ fault c.in_err-app.ensures.app (c.in_err-app.ensures.read ∙ same_read Application End fault) (same_write Application End fault ∙ c.in_err-app.ensures.write) c.requires.writes)
+
+pub returns : goal.returns
+returns g c =
+    let file = c.in_ok-app.ensures.app in
+    let input = g.R.Source.left c.args.reader.now in
+    subst (λ (failed : Bool). ServesRun c.args.at input failed (g.W.Sink.held c.args.writer.now) (g.W.Sink.held c.serve_app.new.writer) (g.W.Sink.has_failed c.serve_app.new.writer) c.serve_app.result)
+    (sym c.in_ok-app.ensures.read) (c.serve_app.ensures input file.0 file.1 file.2)

@@ -1,18 +1,20 @@
-use Rattle.std.proofs.Common.{◌≡◌, refl, rules, Err}
-use Rattle.model.specs.Campaign.{totals_of}
-use Rattle.report.specs.Text.{campaign_text}
-use Rattle.campaign.specs.declared.file.ServeFault.TheVariants.{Write}
-use Rattle.campaign.specs.Campaigns.{IsCampaignOf}
-use Rattle.campaign.proofs.Faulty.{serves_front}
+use Rattle.std.proofs.Common.{◌≡◌, ◌∙◌, Bool, sym, subst, rules, Err}
+use Rattle.model.specs.Application.{Application}
+use Rattle.model.specs.declared.totals.Totals.{Totals}
+use Rattle.campaign.specs.Campaigns.{ServesCampaign}
+use Rattle.campaign.proofs.Faulty.{campaign_serves_file_fault, same_read, same_write}
 use Rattle.campaign.proofs.serving.serve_watched.Goals as goal
 
-pub returns-in_err-write_report_in : goal.returns-in_err-write_report_in
-returns-in_err-write_report_in g c =
-    let file = c.in_ok-app.ensures.app in
-    let app = c.in_ok-app.app in
-    let rows = c.in_ok-report.report in
-    let is : IsCampaignOf file.0 (campaign_text app rows) (totals_of rows) =
-    record { app = app; file = file.2; rows = rows; runs = c.in_ok-report.ensures; adds_up = refl; text = refl } in
-    let told : c.from_residual-in_err-write_report_in.result ≡ Err Write = search rules in
+pub returns-in_err-app : goal.returns-in_err-app
+returns-in_err-app g c =
+    let fault = c.in_err-app.field-0.0 in
+    let told : c.from_residual.result ≡ Err fault = search rules in
     rw told
-    (serves_front _ _ _ _ _ _ _ file.0 _ _ file.1 is c.in_err-write_report_in.ensures.text c.in_ok-app.ensures.read c.in_err-write_report_in.ensures.failed)
+    (campaign_serves_file_fault (g.R.Source.left c.args.reader.now) _ _ _ fault c.in_err-app.ensures.app (c.in_err-app.ensures.read ∙ same_read Application Totals fault) (same_write Application Totals fault ∙ c.in_err-app.ensures.write) c.requires.writes)
+
+pub returns : goal.returns
+returns g c =
+    let file = c.in_ok-app.ensures.app in
+    let input = g.R.Source.left c.args.reader.now in
+    subst (λ (failed : Bool). ServesCampaign input failed (g.W.Sink.held c.args.writer.now) (g.W.Sink.held c.serve_app.new.writer) (g.W.Sink.has_failed c.serve_app.new.writer) c.serve_app.result)
+    (sym c.in_ok-app.ensures.read) (c.serve_app.ensures input file.0 file.1 file.2)

@@ -1,12 +1,13 @@
-use Rattle.std.proofs.Common.{◌≡◌, ◌≤◌, ◌∙◌, ◌+◌, ◌++◌, List, sym, subst, arith}
+use Rattle.std.proofs.Common.{◌≡◌, ◌≤◌, ◌∙◌, ◌+◌, ◌-◌, ◌++◌, List, length, sym, subst, arith}
 use Rattle.std.proofs.lemmas.Result.{MatchResult-from_err}
 use Rattle.byte_io.specs.Bytes.{Sent, SentFront}
 use Rattle.model.specs.Campaign.{Row}
 use Rattle.report.specs.Text.{rows_text}
+use Rattle.campaign.specs.declared.rows.Part.{Part}
 use Rattle.campaign.specs.Report.{whole, rows_in}
 use Rattle.campaign.specs.Pieces.{some_of}
 use Rattle.campaign.proofs.Pieces.{some_sent, some_stopped}
-use Rattle.campaign.proofs.Totalling.{got, rows_there, within_list}
+use Rattle.campaign.proofs.Totalling.{got, parts_kept, rows_there, same_part, within_list}
 use Rattle.campaign.proofs.writing.add_piece.Goals as goal
 
 pub loop-cursor-preserved : goal.loop-cursor-preserved
@@ -51,3 +52,42 @@ returns-in_err-add_place-clause-text g c =
     let high : number + place.count ≤ piece.from.number + piece.count = omega (arith, e.few, c.loop-cursor-test.true) in
     MatchResult-from_err c.from_residual.result _ _ c.from_residual.ensures.0
     (λ y. some_stopped app (whole rows) piece.from.number number place.count piece.count i.low high c.requires.piece.within _ _ _ c.args.text.now.page _ i.sent text)
+
+pub take-place-requires : goal.take-place-requires
+take-place-requires g c =
+    let i = c.loop-cursor.invariant in
+    record {
+      sound = c.requires.sound;
+      at = i.at;
+      more = omega (arith, c.loop-cursor-test.true, c.requires.piece.within);
+      some = omega (arith, c.loop-cursor-test.true);
+    }
+
+pub index-part-requires : goal.index-part-requires
+index-part-requires g c = let e = c.take-place.ensures in omega (arith, c.args.rows.now.parts.ok, within_list c.args.rows.now.parts.items c.take-place.result.part e.place.part e.place.at_part)
+
+pub add_place-requires : goal.add_place-requires
+add_place-requires g c =
+    let i = c.loop-cursor.invariant in
+    let e = c.take-place.ensures in
+    let rows = c.args.rows.now in
+    let place = c.take-place.result in
+    let part = c.index-part.result.now in
+    let there = got rows.parts.items place.part part (within_list rows.parts.items place.part e.place.part e.place.at_part) c.index-part.ensures in
+    record {
+      working = i.working;
+      app = c.requires.app ∙ sym i.app;
+      base = c.requires.base;
+      few = omega (arith, e.few, c.loop-cursor-test.true, c.requires.piece.within, c.requires.sound.few);
+      kept = parts_kept rows.base rows.parts.items place.part part there c.requires.sound.kept;
+      within = subst (λ (p : Part). place.first + place.count ≤ length p.kept.items) (same_part e.place.part part (sym e.place.at_part ∙ there)) e.place.within;
+    }
+
+pub returns-clause-text : goal.returns-clause-text
+returns-clause-text g c =
+    let i = c.loop-cursor.invariant in
+    let piece = c.args.piece in
+    let app = c.args.text.now.app in
+    let all : c.loop-cursor.cursor.number - piece.from.number ≡ piece.count = omega (arith, i.low, i.high, c.loop-cursor-test.false) in
+    subst (λ n. Sent (g.W.Sink.held c.args.writer.now) (g.W.Sink.held c.loop-cursor.writer) (c.args.text.now.page ++ rows_text app piece.from.number (some_of (whole c.args.rows.now) piece.from.number n)) c.loop-cursor.text.page)
+    all i.sent
