@@ -1,6 +1,7 @@
 //! The words of the command line.
-ghost use Rattle.std.specs.Prelude.{◌≡◌, IfOk, IfErr, IfSome, IsNone, MatchResult, true, map, option_map};
-ghost use Rattle.clap.specs.Words.{takes, kind_of, subcommand_of, first_of, one_of, found_of, rows_of, subcommand_rows_of, fault_of, FailsBy};
+ghost use Rattle.std.specs.Prelude.{◌≡◌, Some, IfOk, IfErr, IfSome, IsNone, MatchResult, true, map, option_map};
+ghost use Rattle.clap.specs.declared.builder.ArgAction.TheVariants.{Set};
+ghost use Rattle.clap.specs.Words.{new_rule, with_subcommand, takes, kind_of, subcommand_of, first_of, one_of, found_of, rows_of, subcommand_rows_of, fault_of, FailsBy};
 ghost use Rattle.clap.specs.declared.error.kind.ErrorKind.TheVariants.{OutOfMemory};
 ghost use Rattle.jobs.specs.Words.{file_rule, at_rule, handler_rule, quiet_rule, workers_rule, stride_rule, block_rule, run_app, campaign_app, rtosim_top, rtosim_app, texts_of, number_of, is_given, IsCommandOf, IsArgOf, IsRunOf, AreOptionsOf, IsCampaignOf, IsJobOf, IsNoNumber, NamesNoRun, NamesNoOptions, NamesNoCampaign, NamesNoJob};
 
@@ -29,13 +30,20 @@ fn file_argument<'a>(alloc: Global) -> Arg<'a>
         .help("The application, a TOML file")
 }
 
+// An argument of this name that takes a value.
+fn valued_argument<'a>(alloc: Global, name: &'a str, value: &'a str) -> Arg<'a>
+    ensures { IsArgOf (record (new_rule name.now) { long = Some name.now; value_names = 1; action = Some Set }) result }
+{
+    Arg::new(alloc, name)
+        .long(name)
+        .value_name(value)
+        .action(ArgAction::Set)
+}
+
 fn at_argument<'a>(alloc: Global) -> Arg<'a>
     ensures { IsArgOf at_rule result }
 {
-    Arg::new(alloc, "at")
-        .long("at")
-        .value_name("STEP")
-        .action(ArgAction::Set)
+    valued_argument(alloc, "at", "STEP")
         .value_parser(value_parser!(u32).range(..=1_000_000))
         .help("The step, 0 to 1000000, before which the handler is injected")
 }
@@ -43,11 +51,9 @@ fn at_argument<'a>(alloc: Global) -> Arg<'a>
 fn handler_argument<'a>(alloc: Global) -> Arg<'a>
     ensures { IsArgOf handler_rule result }
 {
-    Arg::new(alloc, "handler")
-        .long("handler")
-        .value_name("HANDLER")
-        .action(ArgAction::Set)
-        .help("The handler that is injected, by its name in the file")
+    valued_argument(alloc, "handler", "HANDLER").help(
+        "The handler that is injected, by its name in the file",
+    )
 }
 
 fn quiet_argument<'a>(alloc: Global) -> Arg<'a>
@@ -62,10 +68,7 @@ fn quiet_argument<'a>(alloc: Global) -> Arg<'a>
 fn workers_argument<'a>(alloc: Global) -> Arg<'a>
     ensures { IsArgOf workers_rule result }
 {
-    Arg::new(alloc, "workers")
-        .long("workers")
-        .value_name("N")
-        .action(ArgAction::Set)
+    valued_argument(alloc, "workers", "N")
         .value_parser(value_parser!(u32).range(1..=64))
         .default_value("1")
         .help("Threads that work on the campaign, 1 to 64, or auto: one a processor")
@@ -74,10 +77,7 @@ fn workers_argument<'a>(alloc: Global) -> Arg<'a>
 fn stride_argument<'a>(alloc: Global) -> Arg<'a>
     ensures { IsArgOf stride_rule result }
 {
-    Arg::new(alloc, "stride")
-        .long("stride")
-        .value_name("S")
-        .action(ArgAction::Set)
+    valued_argument(alloc, "stride", "S")
         .value_parser(value_parser!(u32).range(1..=65_536))
         .default_value("64")
         .help("Steps between two kept states of the base run, 1 to 65536")
@@ -86,10 +86,7 @@ fn stride_argument<'a>(alloc: Global) -> Arg<'a>
 fn block_argument<'a>(alloc: Global) -> Arg<'a>
     ensures { IsArgOf block_rule result }
 {
-    Arg::new(alloc, "block")
-        .long("block")
-        .value_name("B")
-        .action(ArgAction::Set)
+    valued_argument(alloc, "block", "B")
         .value_parser(value_parser!(u32).range(1..=1_000_000))
         .default_value("16")
         .help("Points that a worker takes at once, 1 to 1000000")
@@ -98,25 +95,31 @@ fn block_argument<'a>(alloc: Global) -> Arg<'a>
 fn run_command<'a>(alloc: Global) -> Result<Command<'a>, AllocError>
     ensures { IfOk result (λ command. IsCommandOf run_app command) }
 {
+    let arguments = vec![in alloc;
+        file_argument(alloc),
+        at_argument(alloc),
+        handler_argument(alloc),
+    ]?;
     Command::new(alloc, "run")
         .about("Runs an application from reset to its end, and writes the trace")
         .after_help(STATUSES)
-        .arg(file_argument(alloc))?
-        .arg(at_argument(alloc))?
-        .arg(handler_argument(alloc))
+        .args(arguments)
 }
 
 fn campaign_command<'a>(alloc: Global) -> Result<Command<'a>, AllocError>
     ensures { IfOk result (λ command. IsCommandOf campaign_app command) }
 {
+    let arguments = vec![in alloc;
+        file_argument(alloc),
+        workers_argument(alloc),
+        stride_argument(alloc),
+        block_argument(alloc),
+        quiet_argument(alloc),
+    ]?;
     Command::new(alloc, "campaign")
         .about("Runs an application once for each of its points, and writes the report")
         .after_help(STATUSES)
-        .arg(file_argument(alloc))?
-        .arg(workers_argument(alloc))?
-        .arg(stride_argument(alloc))?
-        .arg(block_argument(alloc))?
-        .arg(quiet_argument(alloc))
+        .args(arguments)
 }
 
 // The program without its commands.
@@ -130,12 +133,20 @@ fn program<'a>(alloc: Global) -> Command<'a>
         .subcommand_required(true)
 }
 
+// The program with the command `run`.
+fn program_with_run<'a>(alloc: Global) -> Result<Command<'a>, AllocError>
+    ensures { IfOk result (λ command. IsCommandOf (with_subcommand rtosim_top run_app.top) command) }
+{
+    let run = run_command(alloc)?;
+    program(alloc).subcommand(run)
+}
+
 fn command<'a>(alloc: Global) -> Result<Command<'a>, AllocError>
     ensures { IfOk result (λ command. IsCommandOf rtosim_app command) }
 {
-    program(alloc)
-        .subcommand(run_command(alloc)?)?
-        .subcommand(campaign_command(alloc)?)
+    let program = program_with_run(alloc)?;
+    let campaign = campaign_command(alloc)?;
+    program.subcommand(campaign)
 }
 
 fn text<'a>(matches: &ArgMatches<'a>, id: &str) -> Option<&'a str>

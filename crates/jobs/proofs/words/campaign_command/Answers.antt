@@ -1,14 +1,13 @@
-use Rattle.std.proofs.Common.{rules, codes}
-use Rattle.clap.specs.Words.{new_app}
-use Rattle.jobs.specs.Words.{IsCommandOf}
-use Rattle.jobs.proofs.Commands.{with_one_argument, with_argument}
+use Rattle.std.proofs.Common.{List, [], ◌∷◌, rules, codes, subst}
+use Rattle.clap.specs.declared.builder.arg.Arg.{Arg}
+use Rattle.clap.specs.Words.{Rule, new_app}
+use Rattle.jobs.specs.Words.{IsCommandOf, file_rule, workers_rule, stride_rule, block_rule, quiet_rule}
+use Rattle.jobs.proofs.Commands.{AreArgsOf, with_arguments}
 use Rattle.jobs.proofs.words.campaign_command.Goals as goal
 
 pub returns : goal.returns
 returns c =
     let none : IsCommandOf (new_app (codes "campaign")) c.after_help.result = record { reads = search rules; is_local = search rules } in
-    let file = with_one_argument _ _ _ _ _ none c.file_argument.ensures c.in_ok-arg.ensures in
-    let workers = with_one_argument _ _ _ _ _ file c.workers_argument.ensures c.in_ok-arg-2.ensures in
-    let stride = with_one_argument _ _ _ _ _ workers c.stride_argument.ensures c.in_ok-arg-3.ensures in
-    let block = with_one_argument _ _ _ _ _ stride c.block_argument.ensures c.in_ok-arg-4.ensures in
-    with_argument _ _ _ _ _ block c.quiet_argument.ensures c.arg-5.ensures
+    let arguments : List Rule = file_rule ∷ workers_rule ∷ stride_rule ∷ block_rule ∷ quiet_rule ∷ [] in
+    let are : AreArgsOf arguments c.in_ok-arguments.arguments.items = rw c.in_ok-arguments.ensures.items (c.file_argument.ensures, (c.workers_argument.ensures, (c.stride_argument.ensures, (c.block_argument.ensures, (c.quiet_argument.ensures, tt))))) in
+    with_arguments _ _ arguments _ _ none are c.args-2.ensures
