@@ -1,5 +1,5 @@
 -- What an op did, whether or not a task is still to be placed.
-use Rattle.std.proofs.Common.{◌≡◌, ◌≢◌, ◌∙◌, ◌≤◌, ℕ, None, ap, sym, subst, [], arith}
+use Rattle.std.proofs.Common.{◌≡◌, ◌≢◌, ◌∙◌, ◌≤◌, ℕ, Bool, true, false, None, ap, sym, subst, true≢false, [], arith}
 use Rattle.model.specs.declared.op.Op.{Op}
 use Rattle.model.specs.declared.op.Op.TheVariants.{SuspendAll}
 use Rattle.model.specs.Application.{Application}
@@ -25,9 +25,33 @@ freely app old new old_log new_log task op none fine ne d = record {
   before = d.before;
 }
 
--- What an op that doesn't wait does
-pub acted : (count : ℕ) (app : Application) (old new : Machine) (old_log new_log : Logged) (task : ℕ) (op : Op) → count ≤ 65 → Agrees old → Does count old old_log new new_log (act app task op) → DoesAny 65 old old_log new new_log (act app task op)
-acted count app old new old_log new_log task op l a d = does_more count 65 old new old_log new_log (act app task op) l (does_any count old new old_log new_log (act app task op) a d)
+-- numbers of events that are within the room of an op
+pub one_within : 1 ≤ 65
+one_within = omega arith
+
+pub two_within : 2 ≤ 65
+two_within = omega arith
+
+pub all_within : 65 ≤ 65
+all_within = omega arith
+
+-- Only one op holds what other tasks do back.
+abbrev pub is_suspend_all : Op → Bool
+is_suspend_all SuspendAll = true
+is_suspend_all op = false
+
+other_op : (op : Op) → is_suspend_all op ≡ false → op ≢ SuspendAll
+other_op op other e = true≢false (ap is_suspend_all (sym e) ∙ other)
+
+-- the same of an op that is told by its form
+module _ (app : Application) (old new : Machine) (old_log new_log : Logged) (task : ℕ) (op form : Op) (is : op ≡ form) (none : old.suspensions ≡ 0) (fine : (s : State) → own_misuse s task form ≡ None) (other : is_suspend_all form ≡ false) where
+  pub any_by_form : (count : ℕ) → count ≤ 65 → DoesAny count old old_log new new_log (act app task form) → DoesAny 65 old old_log new new_log (λ s. act_unless app task (misuse s task op) op s)
+  any_by_form count within d =
+      subst (λ (o : Op). DoesAny 65 old old_log new new_log (λ s. act_unless app task (misuse s task o) o s)) (sym is)
+      (freely app old new old_log new_log task form none fine (other_op form other) (does_more count 65 old new old_log new_log (act app task form) within d))
+
+  pub does_by_form : (count : ℕ) → count ≤ 65 → Agrees old → Does count old old_log new new_log (act app task form) → DoesAny 65 old old_log new new_log (λ s. act_unless app task (misuse s task op) op s)
+  does_by_form count within agrees d = any_by_form count within (does_any count old new old_log new_log (act app task form) agrees d)
 
 pub can_tick_still : (app : Application) (k new : Machine) → CanTick app k → new.sched.depth ≡ k.sched.depth → new.clock ≡ k.clock → new.queues ≡ k.queues → new.suspensions ≡ k.suspensions → (deed : State → State) → Moves k new deed → CanTick app new
 can_tick_still app k new c depth clock queues suspensions deed does = record {

@@ -1,10 +1,10 @@
-use Rattle.std.proofs.Common.{◌≡◌, ◌<◌, List, get_or, length, arith, ap, subst, ◌∙◌, take_all}
+use Rattle.std.proofs.Common.{refl, ◌≡◌, ◌<◌, List, get_or, length, arith, ap, subst, ◌∙◌, take_all}
 use Rattle.model.specs.declared.op.IsrOp.{IsrOp}
 use Rattle.model.specs.Handlers.{isr_each, handle}
 use Rattle.machine.specs.StandsFor.{At, AtAny}
 use Rattle.machine.proofs.Renewed.{stood_after}
 use Rattle.kernel.proofs.Handling.{handler_short, room_after, op_fits, op_more}
-use Rattle.ops.proofs.Calling.{leaves_both}
+use Rattle.ops.proofs.Calling.{leaves_both, leaves_same}
 use Rattle.kernel.proofs.handlers.handle.Goals as goal
 
 pub isr-requires-clause-stands : goal.isr-requires-clause-stands
@@ -53,3 +53,16 @@ returns-clause-any g c =
       few = let a = so.any.few in let l = c.loop-op_index.auto.op_index-end in let m = handler_short c.args.app.now c.well_formed-2.ensures c.args.handler in let e = c.handler_ops-ops.ensures in omega (arith, ap (λ (ops : List IsrOp). length ops) e);
       before = so.any.before;
     }
+
+pub isr-requires-clause-room : goal.isr-requires-clause-room
+isr-requires-clause-room g c = omega (arith, c.requires.room, c.loop-op_index.invariant.does.few, c.loop-op_index-test.true, handler_short c.args.app.now c.well_formed-2.ensures c.args.handler, ap (λ (ops : List IsrOp). length ops) c.handler_ops-ops.ensures)
+
+pub loop-op_index-init : goal.loop-op_index-init
+loop-op_index-init g c = record {
+  does = record { at = λ s h. h; few = omega arith; before = refl };
+  any = record { at = λ s h. h; few = omega arith; before = refl };
+  leaves = leaves_same c.args.machine.now;
+}
+
+pub overflow_cast-op_index : goal.overflow_cast-op_index
+overflow_cast-op_index g c = omega (arith, c.loop-op_index-test.true, handler_short c.args.app.now c.well_formed-2.ensures c.args.handler, ap (λ (ops : List IsrOp). length ops) c.handler_ops-ops.ensures)

@@ -130,3 +130,36 @@ returns-then-until-kernel-clause-events c = more_from c.args.app.now c.args.poin
 
 pub returns-then-is_over-clause-events : goal.returns-then-is_over-clause-events
 returns-then-is_over-clause-events c = more_from c.args.app.now c.args.points.now c.args.kernel.now.steps c.steps.kernel.steps c.go_on_in_room.new.kernel.steps c.steps.invariant.on c.go_on_in_room.ensures.on (all_of c.args.trail.now) (all_of c.steps.trail) (all_of c.go_on_in_room.new.trail) c.steps.invariant.events c.go_on_in_room.ensures.events
+
+pub count_steps-requires : goal.count_steps-requires
+count_steps-requires c = omega (arith, c.steps.invariant.meter, c.requires.meter, c.go_on_in_room.ensures.on)
+
+pub step_along-requires-clause-meter : goal.step_along-requires-clause-meter
+step_along-requires-clause-meter c = omega (arith, c.count_steps.ensures, c.steps.invariant.meter, c.requires.meter, c.if-until-kernel.false)
+
+pub returns-then-until-kernel-clause-on : goal.returns-then-until-kernel-clause-on
+returns-then-until-kernel-clause-on c = omega (arith, c.steps.invariant.on, c.go_on_in_room.ensures.on)
+
+pub returns-then-until-kernel-clause-far : goal.returns-then-until-kernel-clause-far
+returns-then-until-kernel-clause-far c = c.go_on_in_room.ensures.far c.steps.invariant.far
+
+pub returns-then-until-kernel-clause-there : goal.returns-then-until-kernel-clause-there
+returns-then-until-kernel-clause-there c = λ short. absurd (omega (arith, short, c.if-until-kernel.true))
+
+pub returns-then-until-kernel-clause-meter : goal.returns-then-until-kernel-clause-meter
+returns-then-until-kernel-clause-meter c = omega (arith, c.count_steps.ensures, c.steps.invariant.meter, c.go_on_in_room.ensures.on)
+
+pub returns-then-is_over-clause-on : goal.returns-then-is_over-clause-on
+returns-then-is_over-clause-on c = omega (arith, c.steps.invariant.on, c.go_on_in_room.ensures.on)
+
+pub returns-then-is_over-clause-far : goal.returns-then-is_over-clause-far
+returns-then-is_over-clause-far c = c.go_on_in_room.ensures.far c.steps.invariant.far
+
+pub returns-then-is_over-clause-meter : goal.returns-then-is_over-clause-meter
+returns-then-is_over-clause-meter c = omega (arith, c.count_steps.ensures, c.steps.invariant.meter, c.go_on_in_room.ensures.on)
+
+pub returns-in_err-step_along-clause-kept : goal.returns-in_err-step_along-clause-kept
+returns-in_err-step_along-clause-kept c =
+    let p = err_from_is_err_and c.from_residual.result c.from_residual.ensures.1 in
+    let there : all_of c.go_on_in_room.new.trail ≡ all_of c.args.trail.now ++ events_from c.args.app.now c.args.points.now c.args.kernel.now.steps c.go_on_in_room.new.kernel.steps = more_from c.args.app.now c.args.points.now c.args.kernel.now.steps c.steps.kernel.steps c.go_on_in_room.new.kernel.steps c.steps.invariant.on c.go_on_in_room.ensures.on (all_of c.args.trail.now) (all_of c.steps.trail) (all_of c.go_on_in_room.new.trail) c.steps.invariant.events c.go_on_in_room.ensures.events in
+    rw p.1 (events_from c.args.app.now c.args.points.now c.args.kernel.now.steps c.go_on_in_room.new.kernel.steps, c.in_err-step_along.ensures.kept ∙ there)
