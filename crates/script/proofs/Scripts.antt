@@ -1,21 +1,24 @@
 -- What the checks of a script give, where none finds a fault.
-use Rattle.std.proofs.Common.{◌≡◌, ◌+◌, ◌≤◌, ℕ, true, false, Bool, List, [], ◌∷◌, map, Option, Some, None, refl, subst, arith}
+use Rattle.std.proofs.Common.{◌≡◌, ◌+◌, ◌≤◌, ℕ, true, false, Bool, List, [], ◌∷◌, map, Option, Some, None, refl, ap, sym, subst, ◌∙◌, ◌++◌, arith}
 use Rattle.std.specs.Prelude.{not, is_none, nat_lt}
 use Rattle.std.specs.List.{AllByRecursion, cons_option, fold}
-use Rattle.std.specs.Option.{option_map_or}
+use Rattle.std.specs.Option.{option_map_or, option_and_then}
 use Rattle.std.proofs.lemmas.Bool.{ltb-false}
 use Rattle.toml.specs.Data.{Data}
 use Rattle.model.specs.declared.op.Op.{Op}
 use Rattle.model.specs.Application.{Definition}
-use Rattle.model.specs.Scripts.{Nests, nesting_past}
+use Rattle.model.specs.Scripts.{InRange, Nests, may_stand, nesting_past, nesting_after}
+use Rattle.model.proofs.Nesting.{nesting_after-append}
 use Rattle.script.specs.Arrays.{each_fault}
 use Rattle.script.specs.declared.fault.FaultKind.TheVariants.{BadOp, UnknownName, OverwriteLength, BadNesting}
 use Rattle.script.specs.declared.place.Place.{Place}
 use Rattle.script.specs.Faults.{fault_at, fails_if, need}
 use Rattle.script.specs.Entries.{Raw, Entries}
+use Rattle.grammar.specs.Grammar.{Word, Naming, Spells, words_of, op_of}
 use Rattle.grammar.specs.Finding.{any_name}
 use Rattle.script.specs.Finding.{among}
 use Rattle.script.specs.Ops.{Ops, task_ops, op_in, standing_fault, op_fault, op_elements, nesting_with, script_fault, script_named, task_scripts, scripts_fault, with_script}
+use Rattle.grammar.proofs.Reading.{sound}
 use Rattle.script.proofs.Checks.{none_fails, passes}
 
 pub not_false : (b : Bool) → not b ≡ false → b ≡ true
@@ -83,3 +86,23 @@ module _ (entries : Entries) where
   pub tasks_nest : scripts_fault entries ≡ None → AllByRecursion (λ (d : Definition). Nests 0 d.script) (map (with_script entries) entries.tasks)
   unfolding scripts_fault
   tasks_nest none = scripts_nest 0 entries.tasks none
+
+-- ---- the ranges of ops
+
+in_range : (named : Naming) (ws : List Word) (op : Op) → Spells named op ws → InRange op
+in_range named [] op h = absurd h
+in_range named (w ∷ ws) op h = h.2
+
+pub spelled_in_range : (named : Naming) (text : Option (List ℕ)) (op : Op)
+    → option_and_then (λ text. op_of named (words_of text)) text ≡ Some op → InRange op
+spelled_in_range named None op e = cc
+spelled_in_range named (Some text) op e = in_range named (words_of text) op (sound named (words_of text) op e)
+
+-- The next op may stand there, and the others after it.
+pub next_stands : (before after : List Op) (op : Op) (rest others : List Op) → rest ≡ op ∷ others → Nests (nesting_after 0 before) rest
+    → after ≡ before ++ op ∷ [] → (may_stand (nesting_after 0 before) op ≡ true) × Nests (nesting_after 0 after) others
+next_stands before after op rest others is nests new =
+    let here = subst (Nests (nesting_after 0 before)) is nests in
+    let past : nesting_after 0 after ≡ nesting_past (nesting_after 0 before) op =
+    ap (nesting_after 0) new ∙ nesting_after-append 0 before op in
+    (here.0, subst (λ n. Nests n others) (sym past) here.1)

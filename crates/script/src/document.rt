@@ -1,14 +1,21 @@
 //! An application from a document.
-ghost use Rattle.std.specs.Prelude.{◌≡◌, Option, option_and_then};
+ghost use Rattle.std.specs.Prelude.{◌≡◌, ◌≤◌, ◌∷◌, [], Option, map, length, option_and_then, IfOk};
+ghost use Rattle.std.specs.List.{AllByRecursion};
 ghost use Rattle.toml.specs.Data.{Members};
 ghost use Rattle.toml.specs.View.{table_view};
 ghost use Rattle.script.specs.declared.fault.Fault.{Fault};
 ghost use Rattle.script.specs.declared.place.Section.TheVariants as section;
-ghost use Rattle.script.specs.Faults.{Judges, Loads, at_section};
-ghost use Rattle.script.specs.Values.{number_fault, number_or};
+ghost use Rattle.model.specs.Application.{Handler, Definition};
+ghost use Rattle.model.specs.Scripts.{IsObjectKind, IsDefinition, Nests, most_objects, most_handlers, most_handler_ops, most_name_bytes, most_tasks};
+ghost use Rattle.script.specs.Faults.{Judges, Loads, first_fault};
+ghost use Rattle.script.specs.Entries.{ObjectEntry, isr_names, entries_view};
 ghost use Rattle.script.specs.Sections.{data_at};
+ghost use Rattle.script.specs.Ops.{handler_ops_fault, scripts_fault, with_isr_ops, with_script};
+ghost use Rattle.script.specs.Interrupts.{interrupts_fault, interrupts_named};
+ghost use Rattle.script.specs.Points.{campaign_fault, campaign_named};
 ghost use Rattle.script.specs.Load.{limits_fault, limits_named, load_fault, app_named};
 
+use crate::entries::NamedEntries;
 use crate::fault::{Fault, FaultKind, LoadError};
 use crate::interrupts::interrupts;
 use crate::objects::kinds_of;
@@ -17,19 +24,11 @@ use crate::place::{Key, Place, Section};
 use crate::points::points;
 use crate::readers::named_entries;
 use crate::values::{at_key, at_section, optional_number};
-use model::{App, BaseInterrupts, Limits};
-use std::alloc::Global;
+use model::{
+    App, BaseInterrupts, HandlerDefinition, Interrupt, Limits, ObjectKind, TaskDefinition,
+};
+use std::alloc::{AllocError, Global};
 use toml::Table;
-
-// The time at reset.
-fn start(document: &Table) -> Result<u32, Fault>
-    ensures { Judges result
-        (option_and_then (number_fault 0 4294967295 (at_section section.Start)) (data_at section.Start (table_view document.now)))
-        (number_or 0 (data_at section.Start (table_view document.now))) }
-{
-    let value = at_section(document, Section::Start);
-    optional_number(value, Place::section(Section::Start), 0, u32::MAX, 0)
-}
 
 fn limits(document: &Table) -> Result<Limits, Fault>
     ensures { Judges result
@@ -54,6 +53,95 @@ fn limits(document: &Table) -> Result<Limits, Fault>
     Ok(Limits { ticks, steps })
 }
 
+// The parts of an application that its entries and its interrupts give.
+#[derive(Drop)]
+struct Parts {
+    objects: Vec<ObjectKind>,
+    handlers: Vec<HandlerDefinition>,
+    interrupts: BaseInterrupts,
+    tasks: Vec<TaskDefinition>,
+}
+
+// The parts that these entries, whose loops are closed, and interrupts give. Only memory may be wanting.
+fn parts_of(
+    alloc: Global,
+    entries: &NamedEntries<'_>,
+    listed: &[Interrupt],
+) -> Result<Parts, AllocError>
+    requires { AllByRecursion (λ (t : Definition). Nests 0 t.script)
+        (map (with_script (entries_view entries.now)) (entries_view entries.now).tasks) }
+    ensures objects { IfOk result (λ parts. parts.objects.items
+        ≡ map (λ (o : ObjectEntry). o.kind) (entries_view entries.now).objects) }
+    ensures formed_objects { IfOk result (λ parts. AllByRecursion IsObjectKind parts.objects.items) }
+    ensures few_objects { IfOk result (λ parts. length parts.objects.items ≤ most_objects) }
+    ensures handlers { IfOk result (λ parts. parts.handlers.items
+        ≡ map (with_isr_ops (entries_view entries.now)) (entries_view entries.now).handlers) }
+    ensures formed_handlers { IfOk result (λ parts. AllByRecursion (λ (h : Handler).
+        (length h.name ≤ most_name_bytes) × (length h.ops ≤ most_handler_ops)) parts.handlers.items) }
+    ensures few_handlers { IfOk result (λ parts. length parts.handlers.items ≤ most_handlers) }
+    ensures interrupts { IfOk result (λ parts. parts.interrupts ≡ listed.now) }
+    ensures tasks { IfOk result (λ parts. parts.tasks.items
+        ≡ map (with_script (entries_view entries.now)) (entries_view entries.now).tasks) }
+    ensures formed_tasks { IfOk result (λ parts. AllByRecursion IsDefinition parts.tasks.items) }
+    ensures few_tasks { IfOk result (λ parts. length parts.tasks.items ≤ most_tasks) }
+{
+    let objects = kinds_of(alloc, entries.objects.as_slice())?;
+    let handlers = handlers_of(alloc, entries)?;
+    let interrupts = BaseInterrupts::new(alloc, listed)?;
+    let tasks = tasks_of(alloc, entries)?;
+    Ok(Parts {
+        objects,
+        handlers,
+        interrupts,
+        tasks,
+    })
+}
+
+// The application of these entries, or the fault of its ops, its interrupts or its points.
+fn app_of(
+    alloc: Global,
+    document: &Table,
+    start: u32,
+    limits: Limits,
+    entries: &NamedEntries<'_>,
+) -> Result<App, LoadError>
+    requires { 1 ≤ length entries.now.tasks.items }
+    ensures { Loads result
+        (first_fault (
+        handler_ops_fault (entries_view entries.now)
+        ∷ scripts_fault (entries_view entries.now)
+        ∷ interrupts_fault (isr_names (entries_view entries.now)) (table_view document.now)
+        ∷ campaign_fault (isr_names (entries_view entries.now)) (table_view document.now)
+        ∷ []))
+        (record {
+          start = start;
+          limits = limits;
+          objects = map (λ (o : ObjectEntry). o.kind) (entries_view entries.now).objects;
+          group_count = length (entries_view entries.now).groups;
+          handlers = map (with_isr_ops (entries_view entries.now)) (entries_view entries.now).handlers;
+          interrupts = interrupts_named (isr_names (entries_view entries.now)) (table_view document.now);
+          tasks = map (with_script (entries_view entries.now)) (entries_view entries.now).tasks;
+          points = campaign_named (isr_names (entries_view entries.now)) (table_view document.now);
+        }) }
+{
+    check_handlers(entries)?;
+    check_scripts(entries)?;
+    let listed = interrupts(document, entries)?;
+    let points = points(alloc, document, entries)?;
+    // No check fails, so that only memory may be wanting.
+    let parts = parts_of(alloc, entries, listed.as_slice())?;
+    Ok(App::new(
+        start,
+        limits,
+        parts.objects,
+        entries.group_count(),
+        parts.handlers,
+        parts.interrupts,
+        parts.tasks,
+        points,
+    ))
+}
+
 /// What a document describes.
 pub trait FromDocument: Sized {
     // The fault of the first check of a document that fails.
@@ -75,27 +163,10 @@ impl FromDocument for App {
     ghost named_by = { app_named };
 
     fn from_document(alloc: Global, document: &Table) -> Result<App, LoadError> {
-        let start = start(document)?;
+        let value = at_section(document, Section::Start);
+        let start = optional_number(value, Place::section(Section::Start), 0, u32::MAX, 0)?;
         let limits = limits(document)?;
         let entries = named_entries(document)?;
-        check_handlers(&entries)?;
-        check_scripts(&entries)?;
-        let listed = interrupts(document, &entries)?;
-        let points = points(alloc, document, &entries)?;
-        // No check fails, so that only memory may be wanting.
-        let kinds = kinds_of(alloc, entries.objects.as_slice())?;
-        let handlers = handlers_of(alloc, &entries)?;
-        let interrupts = BaseInterrupts::new(alloc, listed.as_slice())?;
-        let tasks = tasks_of(alloc, &entries)?;
-        Ok(App::new(
-            start,
-            limits,
-            kinds,
-            entries.group_count(),
-            handlers,
-            interrupts,
-            tasks,
-            points,
-        ))
+        app_of(alloc, document, start, limits, &entries)
     }
 }

@@ -1,18 +1,19 @@
 //! Pass two: the ops of handlers and of tasks.
-ghost use Rattle.std.specs.Prelude.{◌≡◌, ◌≤◌, ◌<◌, ◌++◌, ◌∷◌, [], true, map, length, IfOk, IfSome, OnOk};
+ghost use Rattle.std.specs.Prelude.{◌≡◌, ◌≤◌, ◌<◌, ◌++◌, ◌∷◌, [], true, map, length, IfOk, OnOk};
 ghost use Rattle.std.specs.List.{AllByRecursion};
 ghost use Rattle.toml.specs.View.{view};
 ghost use Rattle.model.specs.Application.{Handler, Definition};
 ghost use Rattle.model.specs.Scripts.{InRange, IsScript, IsDefinition, Nests, may_stand, nesting_after, most_tasks, most_ops, most_handlers, most_handler_ops, most_name_bytes};
 ghost use Rattle.script.specs.Faults.{Judges};
-ghost use Rattle.script.specs.Finding.{among};
-ghost use Rattle.script.specs.Entries.{object_view, entries_view};
+ghost use Rattle.script.specs.Entries.{object_view, isr_view, raw_view, entries_view};
 ghost use Rattle.script.specs.Ops.{allows, task_ops, handler_ops, op_in, op_fault, nesting_with, script_fault, script_named, handler_ops_fault, scripts_fault, with_isr_ops, with_script};
 
 use crate::entries::NamedEntries;
 use crate::fault::{Fault, FaultKind};
 use crate::named_object::NamedObject;
 use crate::place::{Key, Place, Section};
+use crate::raw_handler::RawHandler;
+use crate::raw_task::RawTask;
 use grammar::{AnyName, Finding, isr_op_of, op_of};
 use model::{
     Access, HandlerDefinition, IsrOp, NestingFault, ObjectId, Op, Script, ScriptBuilder,
@@ -189,11 +190,26 @@ fn ops_of(
 {
     let mut ops = Vec::new(alloc);
     for text in texts {
-        if let Some(op) = op_in::<IsrOp, NamedEntries<'_>>(text, entries) {
-            ops.push(op)?;
-        }
+        let Some(op) = op_in::<IsrOp, NamedEntries<'_>>(text, entries) else {
+            continue;
+        };
+        ops.push(op)?;
     }
     Ok(ops)
+}
+
+// A handler with its ops.
+fn handler_of(
+    alloc: Global,
+    entries: &NamedEntries<'_>,
+    handler: &RawHandler<'_>,
+) -> Result<HandlerDefinition, AllocError>
+    ensures handler { IfOk result (λ h. h ≡ with_isr_ops (entries_view entries.now) (isr_view handler.now)) }
+    ensures formed { IfOk result (λ h. (length h.name ≤ most_name_bytes) × (length h.ops ≤ most_handler_ops)) }
+{
+    let ops = ops_of(alloc, entries, handler.ops)?;
+    let name = String::from_str(alloc, handler.name)?;
+    Ok(HandlerDefinition::new(name, ops))
 }
 
 /// The handlers with their ops.
@@ -209,19 +225,10 @@ pub(crate) fn handlers_of(
 {
     let mut definitions = Vec::new(alloc);
     for handler in entries.handlers.as_slice() {
-        let ops = ops_of(alloc, entries, handler.ops)?;
-        let name = String::from_str(alloc, handler.name)?;
-        definitions.push(HandlerDefinition::new(name, ops))?;
+        let definition = handler_of(alloc, entries, handler)?;
+        definitions.push(definition)?;
     }
     Ok(definitions)
-}
-
-// The op of a task that a value spells, where its names are those of these entries.
-fn op_among(value: &Value, entries: &NamedEntries<'_>) -> Option<Op>
-    ensures op { result ≡ op_in task_ops (among (entries_view entries.now)) (view value.now) }
-    ensures range { IfSome result InRange }
-{
-    op_of(value.as_str()?.as_bytes(), entries)
 }
 
 // Appends an op, which may stand there.
@@ -252,14 +259,30 @@ fn script_of(
 {
     let mut builder = ScriptBuilder::new(alloc);
     for text in texts {
-        if let Some(op) = op_among(text, entries) {
-            push(&mut builder, op)?;
-        }
+        let Some(op) = op_in::<Op, NamedEntries<'_>>(text, entries) else {
+            continue;
+        };
+        push(&mut builder, op)?;
     }
     match builder.finish() {
         Some(script) => Ok(script),
         None => unreachable!(),
     }
+}
+
+// A task with its script, whose loops are closed.
+fn task_of(
+    alloc: Global,
+    entries: &NamedEntries<'_>,
+    task: &RawTask<'_>,
+) -> Result<TaskDefinition, AllocError>
+    requires { Nests 0 (script_named task_ops (entries_view entries.now) (map view task.now.script.now)) }
+    ensures task { IfOk result (λ t. t ≡ with_script (entries_view entries.now) (raw_view task.now)) }
+    ensures formed { IfOk result IsDefinition }
+{
+    let script = script_of(alloc, entries, task.script)?;
+    let name = String::from_str(alloc, task.name)?;
+    Ok(TaskDefinition::new(name, task.priority, script))
 }
 
 /// The tasks with their scripts, whose loops are closed.
@@ -276,9 +299,8 @@ pub(crate) fn tasks_of(
 {
     let mut definitions = Vec::new(alloc);
     for task in entries.tasks.as_slice() {
-        let script = script_of(alloc, entries, task.script)?;
-        let name = String::from_str(alloc, task.name)?;
-        definitions.push(TaskDefinition::new(name, task.priority, script))?;
+        let definition = task_of(alloc, entries, task)?;
+        definitions.push(definition)?;
     }
     Ok(definitions)
 }

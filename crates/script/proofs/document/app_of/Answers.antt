@@ -13,42 +13,40 @@ use Rattle.script.specs.Points.{campaign_named}
 use Rattle.script.proofs.Known.{known_tasks, known_handlers}
 use Rattle.script.proofs.Scripts.{tasks_nest}
 use Rattle.script.proofs.Formed.{AreInterrupts, ArePoints, taken_interrupts, are_interrupts, few_come, taken_points, are_entries}
-use Rattle.script.proofs.document.AppFromDocument.from_document.Goals as goal
+use Rattle.script.proofs.document.app_of.Goals as goal
 
 abbrev HasFewOps : Handler → Type 0
 HasFewOps h = (length h.name ≤ most_name_bytes) × (length h.ops ≤ most_handler_ops)
 
-pub tasks_of-requires : goal.tasks_of-requires
-tasks_of-requires c = tasks_nest (entries_view c.in_ok-entries.entries) c.in_ok-check_scripts.ensures.0
+pub parts_of-requires : goal.parts_of-requires
+parts_of-requires c = tasks_nest (entries_view c.args.entries.now) c.in_ok-check_scripts.ensures.0
 
-pub new-requires-2 : goal.new-requires-2
-new-requires-2 c =
-    let entries : Entries = entries_view c.in_ok-entries.entries in
+pub new-requires : goal.new-requires
+new-requires c =
+    let entries : Entries = entries_view c.args.entries.now in
+    let parts = c.in_ok-parts.ensures in
     let app : Application = record {
-      start = c.in_ok-start.start;
-      limits = c.in_ok-limits.limits;
-      objects = c.in_ok-kinds.kinds.items;
+      start = c.args.start;
+      limits = c.args.limits;
+      objects = c.in_ok-parts.parts.objects.items;
       group_count = c.group_count.result;
-      handlers = c.in_ok-handlers.handlers.items;
-      interrupts = c.in_ok-interrupts.interrupts;
-      tasks = c.in_ok-tasks.tasks.items;
+      handlers = c.in_ok-parts.parts.handlers.items;
+      interrupts = c.in_ok-parts.parts.interrupts;
+      tasks = c.in_ok-parts.parts.tasks.items;
       points = c.in_ok-points.points.items;
     } in
     let document = table_view c.args.document.now in
     let names = isr_names entries in
-    let kinds = λ (xs : List NamedObject). map (λ (o : ObjectEntry). o.kind) (map object_view xs) in
-    let of_kinds : app.objects ≡ kinds c.in_ok-entries.entries.objects.items =
-    c.in_ok-kinds.ensures.kinds ∙ ap kinds c.as_slice.ensures.value in
-    let of_handlers : app.handlers ≡ map (with_isr_ops entries) entries.handlers = c.in_ok-handlers.ensures.handlers in
-    let of_tasks : app.tasks ≡ map (with_script entries) entries.tasks = c.in_ok-tasks.ensures.tasks in
+    let of_handlers : app.handlers ≡ map (with_isr_ops entries) entries.handlers = parts.handlers in
+    let of_tasks : app.tasks ≡ map (with_script entries) entries.tasks = parts.tasks in
     let of_interrupts : app.interrupts ≡ interrupts_named names document =
-    c.in_ok-interrupts.ensures ∙ c.as_slice-2.ensures.value ∙ c.in_ok-listed.ensures.1 in
+    parts.interrupts ∙ c.as_slice.ensures.value ∙ c.in_ok-listed.ensures.1 in
     let of_points : app.points ≡ campaign_named names document = c.in_ok-points.ensures.1 in
     let count : length names ≡ length app.handlers =
     length-map entries.handlers (λ (h : RawIsr). h.name)
     ∙ sym (ap length of_handlers ∙ length-map entries.handlers (with_isr_ops entries)) in
     let has : HasEntries app entries = record {
-      objects = of_kinds;
+      objects = parts.objects;
       groups = c.group_count.ensures.count;
       tasks = ap length of_tasks ∙ length-map entries.tasks (with_script entries);
     } in
@@ -59,25 +57,21 @@ new-requires-2 c =
     subst (λ n. ArePoints n app.points) count
     (subst (ArePoints (length names)) (sym of_points) (taken_points names document c.in_ok-points.ensures.0)) in
     let few : AllByRecursion HasFewOps (map (with_isr_ops entries) entries.handlers) =
-    subst (AllByRecursion HasFewOps) of_handlers c.in_ok-handlers.ensures.formed in
-    let objects = c.in_ok-entries.entries.objects.items in
-    let few_objects : length objects ≤ 32 = subst (λ (xs : List NamedObject). length xs ≤ 32) c.as_slice.ensures.value c.as_slice.ensures.fits in
-    let object_count : length app.objects ≡ length objects =
-    ap length of_kinds ∙ (length-map (map object_view objects) (λ (o : ObjectEntry). o.kind) ∙ length-map objects object_view) in
-    let task_count : length app.tasks ≡ length c.in_ok-entries.entries.tasks.items =
-    ap length of_tasks ∙ (length-map entries.tasks (with_script entries) ∙ length-map c.in_ok-entries.entries.tasks.items raw_view) in
-    let some = c.in_ok-entries.ensures.some in
+    subst (AllByRecursion HasFewOps) of_handlers parts.formed_handlers in
+    let task_count : length app.tasks ≡ length c.args.entries.now.tasks.items =
+    ap length of_tasks ∙ (length-map entries.tasks (with_script entries) ∙ length-map c.args.entries.now.tasks.items raw_view) in
+    let some = c.requires in
     record {
       some = omega (arith, task_count, some);
-      few = c.in_ok-tasks.ensures.few;
-      tasks = c.in_ok-tasks.ensures.formed;
-      objects = c.in_ok-kinds.ensures.formed;
-      few_objects = omega (arith, object_count, few_objects);
+      few = parts.few_tasks;
+      tasks = parts.formed_tasks;
+      objects = parts.formed_objects;
+      few_objects = parts.few_objects;
       few_groups = c.group_count.ensures.few;
       handlers =
           subst (AllByRecursion (IsHandler app)) (sym of_handlers)
           (known_handlers app entries has c.in_ok-check_handlers.ensures.0 few);
-      few_handlers = c.in_ok-handlers.ensures.few;
+      few_handlers = parts.few_handlers;
       interrupts = are_interrupts app app.interrupts interrupts.first interrupts.last interrupts.known;
       few_interrupts = interrupts.few;
       few_at_once = λ tick. few_come app tick (interrupts.few_at_once tick);

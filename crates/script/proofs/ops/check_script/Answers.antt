@@ -1,0 +1,31 @@
+use Rattle.std.proofs.Common.{◌≡◌, ◌+◌, ◌∙◌, map, drop, None, ap, sym, subst}
+use Rattle.std.specs.List.{fold}
+use Rattle.toml.specs.View.{view}
+use Rattle.script.specs.Arrays.{each_fault}
+use Rattle.script.specs.Entries.{entries_view}
+use Rattle.script.specs.Ops.{op_elements, op_fault, nesting_with}
+use Rattle.script.proofs.Steps.{left, goes_on}
+use Rattle.script.proofs.ops.check_script.Goals as goal
+
+pub loop-index-preserved : goal.loop-index-preserved
+loop-index-preserved g c =
+    let ops = g.O.TextOp.ops in
+    let entries = entries_view c.args.entries.now in
+    let texts = c.args.texts.now in
+    let i = c.loop-index.index in
+    let nesting = c.loop-index.nesting in
+    let text = c.index-texts-index.result in
+    let turn = left texts i text c.loop-index-test.true c.index-texts-index.is in
+    let taken = c.in_ok-nesting.ensures in
+    let others = map view (drop (i + 1) texts) in
+    record {
+      checks =
+          goes_on (op_elements ops entries c.args.place) nesting i (view text) (map view (drop i texts)) others (ap (map view) turn)
+          (each_fault (op_elements ops entries c.args.place) 0 0 (map view texts)) c.loop-index.invariant.checks
+          (subst (λ p. op_fault ops entries nesting p (view text) ≡ None) c.element.ensures taken.0)
+          ∙ ap (λ n. each_fault (op_elements ops entries c.args.place) n (i + 1) others) (sym taken.1);
+      nesting =
+          c.loop-index.invariant.nesting
+          ∙ ap (λ xs. fold (nesting_with ops entries) nesting (map view xs)) turn
+          ∙ ap (λ n. fold (nesting_with ops entries) n others) (sym taken.1);
+    }
