@@ -1,12 +1,13 @@
 -- Labels.
-use Rattle.std.proofs.Common.{◌≡◌, ℕ, List, get_or, inl, inr, arith, replicate, refl}
+use Rattle.std.proofs.Common.{◌≡◌, ◌++◌, ℕ, zero, suc, List, [], ◌∷◌, length, get_or, set, drop, ap, ◌∙◌, inl, inr, arith, replicate, refl}
+use Rattle.std.proofs.Math.Seq.{drop-append_seam}
 use Rattle.std.proofs.lemmas.List.{get_or-replicate, get_or_past, length-replicate}
 use Rattle.std.proofs.lemmas.Bool.{cases_lt}
 use Rattle.model.specs.Application.{Application}
 use Rattle.report.specs.declared.label.Label.{Label}
 use Rattle.report.specs.declared.label.OpLabel.{OpLabel}
 use Rattle.report.specs.Text.{call_front, isr_front}
-use Rattle.report.specs.Fronts.{IsLabel, AreLabels, blank, blank_op, mark_front, run_front}
+use Rattle.report.specs.Fronts.{IsLabel, IsCallLabel, IsIsrLabel, AreLabels, blank, blank_op, mark_front, run_front}
 
 -- A label without text fits every front.
 none_fits : (label : Label) (front : List ℕ) → label.len ≡ 0 → IsLabel label front
@@ -36,3 +37,51 @@ labels_at_first app run mark call isr m n k run_is mark_is call_is isr_is = reco
   of_calls = λ place. none_of_op (λ (op : OpLabel). call_front app op.owner op.op_index) call n place call_is;
   of_isrs = λ place. none_of_op (λ (op : OpLabel). isr_front app op.owner op.op_index) isr k place isr_is;
 }
+
+-- What holds at each place holds still where one is set to what it holds of.
+set_kept : {X : Type 0} (P : ℕ → X → Type 0) (d x : X) (xs : List X) (i : ℕ) → P i x → ((place : ℕ) → P place (get_or xs place d))
+    → (place : ℕ) → P place (get_or (set xs i x) place d)
+set_kept P d x [] i here holds place = holds place
+set_kept P d x (y ∷ ys) zero here holds zero = here
+set_kept P d x (y ∷ ys) zero here holds (suc place) = holds (suc place)
+set_kept P d x (y ∷ ys) (suc i) here holds zero = holds zero
+set_kept P d x (y ∷ ys) (suc i) here holds (suc place) =
+    set_kept (λ p. P (suc p)) d x ys i here (λ p. holds (suc p)) place
+
+-- what the bytes after the beginning of a page are
+pub spelled : (page start bytes front : List ℕ) → start ≡ page → bytes ≡ page ++ front → drop (length start) bytes ≡ front
+spelled page start bytes front begins ends =
+    ap (λ xs. drop (length xs) bytes) begins ∙ ap (drop (length page)) ends ∙ drop-append_seam page front
+
+module _ (app : Application) (runs marks : List Label) (calls isrs : List OpLabel) (right : AreLabels app runs marks calls isrs) where
+  pub run_kept : (task : ℕ) (label : Label) → IsLabel label (run_front app task) → AreLabels app (set runs task label) marks calls isrs
+  run_kept task label here = record {
+    of_runs = set_kept (λ place l. IsLabel l (run_front app place)) blank label runs task here right.of_runs;
+    of_marks = right.of_marks;
+    of_calls = right.of_calls;
+    of_isrs = right.of_isrs;
+  }
+
+  pub mark_kept : (task : ℕ) (label : Label) → IsLabel label (mark_front app task) → AreLabels app runs (set marks task label) calls isrs
+  mark_kept task label here = record {
+    of_runs = right.of_runs;
+    of_marks = set_kept (λ place l. IsLabel l (mark_front app place)) blank label marks task here right.of_marks;
+    of_calls = right.of_calls;
+    of_isrs = right.of_isrs;
+  }
+
+  pub call_kept : (place : ℕ) (call : OpLabel) → IsCallLabel app call → AreLabels app runs marks (set calls place call) isrs
+  call_kept place call here = record {
+    of_runs = right.of_runs;
+    of_marks = right.of_marks;
+    of_calls = set_kept (λ p c. IsCallLabel app c) blank_op call calls place here right.of_calls;
+    of_isrs = right.of_isrs;
+  }
+
+  pub isr_kept : (place : ℕ) (isr : OpLabel) → IsIsrLabel app isr → AreLabels app runs marks calls (set isrs place isr)
+  isr_kept place isr here = record {
+    of_runs = right.of_runs;
+    of_marks = right.of_marks;
+    of_calls = right.of_calls;
+    of_isrs = set_kept (λ p i. IsIsrLabel app i) blank_op isr isrs place here right.of_isrs;
+  }

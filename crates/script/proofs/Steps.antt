@@ -1,11 +1,12 @@
 -- One more turn of a loop over a list.
-use Rattle.std.proofs.Common.{◌≡◌, ◌+◌, ◌<◌, ◌≤◌, ◌++◌, ℕ, suc, List, [], ◌∷◌, length, get_or, map, drop, Option, Some, None, refl, ap, sym, subst, ◌∙◌, append_assoc, add-one, arith, length-append, drop-cons}
+use Rattle.std.proofs.Common.{◌≡◌, ◌+◌, ◌<◌, ◌≤◌, ◌++◌, ℕ, suc, List, [], ◌∷◌, length, get_or, map, drop, Option, Some, None, Result, Ok, Err, refl, ap, sym, subst, ◌∙◌, append_assoc, add-one, arith, length-append, drop-cons}
 use Rattle.std.specs.List.{AllByRecursion, filter_map, cons_option}
+use Rattle.std.specs.Result.{IsErrAnd}
 use Rattle.std.proofs.Math.ListN.{drop_of_length-le}
 use Rattle.std.proofs.lemmas.List.{append-nil}
 use Rattle.model.proofs.Nesting.{all-append}
 use Rattle.script.specs.declared.fault.Fault.{Fault}
-use Rattle.script.specs.Faults.{first_fault}
+use Rattle.script.specs.Faults.{Judges, first_fault}
 use Rattle.script.specs.Arrays.{Elements, each_fault}
 
 -- What is left from an index on, where this element stands there.
@@ -137,3 +138,9 @@ room count i n most few below fits = omega arith
 -- an index further on
 pub further : (n i : ℕ) → (n + i) + 1 ≡ n + (i + 1)
 further n i = omega arith
+
+-- what is judged where a check finds a fault
+pub refused : {X : Type 0} (result : Result X Fault) (check : Option Fault) (value : X) (fault : Fault) → IsErrAnd result (λ e. e ≡ fault)
+    → check ≡ Some fault → Judges result check value
+refused (Ok x) check value fault is finds = absurd is
+refused (Err e) check value fault is finds = finds ∙ ap (λ f. Some f) (sym is)
