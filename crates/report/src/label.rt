@@ -1,5 +1,5 @@
 //! The front of a line, kept.
-ghost use Rattle.std.specs.Prelude.{◌≡◌, ◌≤◌, ◌+◌, drop, length};
+ghost use Rattle.std.specs.Prelude.{◌≡◌, ◌<◌, ◌≤◌, ◌+◌, drop, length, true};
 ghost use Rattle.report.specs.Fronts.{IsLabel};
 
 /// The front of a line: none yet, or so many bytes at the front of these.
@@ -54,5 +54,14 @@ impl OpLabel {
             op_index: 0,
             label: Label::none(),
         }
+    }
+
+    /// Whether it is that of the op of this index, of this owner.
+    #[inline]
+    pub(crate) fn is_of(&self, owner: u8, op_index: u16) -> bool
+        ensures { result ≡ true
+            → (0 < self.now.label.len) × (self.now.owner ≡ owner) × (self.now.op_index ≡ op_index) }
+    {
+        self.label.len != 0 && self.owner == owner && self.op_index == op_index
     }
 }

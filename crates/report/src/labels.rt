@@ -120,10 +120,10 @@ impl<'a> Labels<'a> {
         ensures size { length page.new ≤ length page.old + 48 }
     {
         let call = &self.calls[call_place(task, op_index)];
-        if call.label.len == 0 || call.owner != task.number || call.op_index != op_index {
-            self.spell_call(page, task, op_index);
-        } else {
+        if call.is_of(task.number, op_index) {
             page.push_front(&call.label.text, call.label.len as usize);
+        } else {
+            self.spell_call(page, task, op_index);
         }
     }
 
@@ -136,10 +136,10 @@ impl<'a> Labels<'a> {
         ensures size { length page.new ≤ length page.old + 48 }
     {
         let isr = &self.isrs[isr_place(handler, op_index)];
-        if isr.label.len == 0 || isr.owner != handler.number || isr.op_index != op_index {
-            self.spell_isr(page, handler, op_index);
-        } else {
+        if isr.is_of(handler.number, op_index) {
             page.push_front(&isr.label.text, isr.label.len as usize);
+        } else {
+            self.spell_isr(page, handler, op_index);
         }
     }
 
