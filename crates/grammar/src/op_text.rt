@@ -1,16 +1,30 @@
 //! Which text spells which op.
-ghost use Rattle.std.specs.Prelude.{◌≡◌, List, ℕ, drop, None, Some, IfSome, MatchOption, option_and_then};
+ghost use Rattle.std.specs.Prelude.{◌≡◌, List, ℕ, drop, None, Some, IfSome, MatchOption, option_and_then, if◌then◌else◌};
 ghost use Rattle.std.specs.Str.{bytes_eq};
 ghost use Rattle.model.specs.declared.op.Op.{Op};
-ghost use Rattle.model.specs.declared.op.Op.TheVariants.{Await, Do, WaitBits};
+ghost use Rattle.model.specs.declared.op.Op.TheVariants.{Await, Do, SetBits, ClearBits, WaitBits};
+ghost use Rattle.model.specs.declared.op.Access.TheVariants.{Send, SendFront};
+ghost use Rattle.model.specs.declared.op.IsrOp.TheVariants as isr;
 ghost use Rattle.model.specs.declared.op.IsrOp.{IsrOp};
 ghost use Rattle.model.specs.Scripts.{InRange};
-ghost use Rattle.grammar.specs.Grammar.{Naming, words_of, Done, ObjectName, GroupName, Bits, WaitTime, forms, object_forms, semaphore_forms, group_forms, suspension_forms, isr_forms, read, read_by, if_in_range, op_of, isr_op_of, Spells, SpellsIsr};
+ghost use Rattle.grammar.specs.declared.object_sort.ObjectSort.TheVariants.{Queue};
+ghost use Rattle.grammar.specs.Grammar.{Naming, words_of, Done, Number, ObjectName, GroupName, Bits, WaitTime, forms, object_forms, semaphore_forms, group_forms, suspension_forms, isr_forms, read, read_by, if_in_range, op_of, isr_op_of, Spells, SpellsIsr};
 
 use crate::finding::Finding;
 use crate::object_sort::ObjectSort;
 use crate::words::Words;
 use model::{Access, Condition, IsrOp, Op};
+
+// The call that sends an item to the front or the back of a queue.
+fn sending(to_front: bool, item: u32) -> Access
+    ensures { result ≡ (if to_front then SendFront item else Send item) }
+{
+    if to_front {
+        Access::SendFront(item)
+    } else {
+        Access::Send(item)
+    }
+}
 
 fn is(word: &[u8], name: &str) -> bool
     ensures { result ≡ bytes_eq word.now name.now }
@@ -48,6 +62,38 @@ fn await_op<F: Finding>(
     let object = words.object(sort, finding)?;
     let ticks = words.number_unless("forever")?;
     Some(Op::Await(object, access, ticks))
+}
+
+// The op that sends the number that the word after the next says to the front or the back of the queue that the next word
+// names, and waits as long as the word after these says.
+fn send_op<F: Finding>(to_front: bool, words: &mut Words<'_>, finding: &F) -> Option<Op>
+    // What is still to be read is whether the text ends here.
+    ensures { let form = ObjectName Queue (λ queue. Number (λ n. WaitTime (λ ticks.
+        Done (Await queue (if to_front then SendFront n else Send n) ticks)))) in MatchOption result
+        (read (F.naming finding.now) form words.old ≡ None)
+        (λ op. read (F.naming finding.now) form words.old ≡ read (F.naming finding.now) (Done op) words.new) }
+{
+    let queue = words.object(ObjectSort::Queue, finding)?;
+    let item = words.number()?;
+    let ticks = words.number_unless("forever")?;
+    Some(Op::Await(queue, sending(to_front, item), ticks))
+}
+
+// The op that sets or clears the bits that the word after the next says of the group that the next word names.
+fn change_op<F: Finding>(to_set: bool, words: &mut Words<'_>, finding: &F) -> Option<Op>
+    // What is still to be read is whether the text ends here.
+    ensures { let form = GroupName (λ group. Number (λ mask.
+        Done (if to_set then SetBits group mask else ClearBits group mask))) in MatchOption result
+        (read (F.naming finding.now) form words.old ≡ None)
+        (λ op. read (F.naming finding.now) form words.old ≡ read (F.naming finding.now) (Done op) words.new) }
+{
+    let group = words.group(finding)?;
+    let mask = words.number()?;
+    if to_set {
+        Some(Op::SetBits(group, mask))
+    } else {
+        Some(Op::ClearBits(group, mask))
+    }
 }
 
 // The op that waits for bits of the group that the next word names, as the words after it say.
@@ -95,11 +141,9 @@ fn group_op_after<F: Finding>(word: &[u8], words: &mut Words<'_>, finding: &F) -
         ≡ read (F.naming finding.now) (Done op) words.new) }
 {
     if is(word, "set") {
-        let group = words.group(finding)?;
-        Some(Op::SetBits(group, words.number()?))
+        change_op(true, words, finding)
     } else if is(word, "clear") {
-        let group = words.group(finding)?;
-        Some(Op::ClearBits(group, words.number()?))
+        change_op(false, words, finding)
     } else if is(word, "bits") {
         Some(Op::GetBits(words.group(finding)?))
     } else if is(word, "wait") {
@@ -161,13 +205,9 @@ fn object_op_after<F: Finding>(word: &[u8], words: &mut Words<'_>, finding: &F) 
         ≡ read (F.naming finding.now) (Done op) words.new) }
 {
     if is(word, "send") {
-        let queue = words.object(ObjectSort::Queue, finding)?;
-        let access = Access::Send(words.number()?);
-        Some(Op::Await(queue, access, words.number_unless("forever")?))
+        send_op(false, words, finding)
     } else if is(word, "send_front") {
-        let queue = words.object(ObjectSort::Queue, finding)?;
-        let access = Access::SendFront(words.number()?);
-        Some(Op::Await(queue, access, words.number_unless("forever")?))
+        send_op(true, words, finding)
     } else if is(word, "overwrite") {
         let queue = words.object(ObjectSort::Queue, finding)?;
         Some(Op::Do(queue, Access::Overwrite(words.number()?)))
@@ -235,6 +275,35 @@ pub fn op_of<F: Finding>(text: &[u8], finding: &F) -> Option<Op>
     }
 }
 
+// The op of a handler that is a call on the object of this sort that the next word names.
+fn isr_do_op<F: Finding>(
+    access: Access,
+    sort: ObjectSort,
+    words: &mut Words<'_>,
+    finding: &F,
+) -> Option<IsrOp>
+    // What is still to be read is whether the text ends here.
+    ensures { let form = ObjectName sort (λ object. Done (isr.Do object access)) in MatchOption result
+        (read (F.naming finding.now) form words.old ≡ None)
+        (λ op. read (F.naming finding.now) form words.old ≡ read (F.naming finding.now) (Done op) words.new) }
+{
+    Some(IsrOp::Do(words.object(sort, finding)?, access))
+}
+
+// The op of a handler that sends the number that the word after the next says to the front or the back of the queue that the
+// next word names.
+fn isr_send_op<F: Finding>(to_front: bool, words: &mut Words<'_>, finding: &F) -> Option<IsrOp>
+    // What is still to be read is whether the text ends here.
+    ensures { let form = ObjectName Queue (λ queue. Number (λ n.
+        Done (isr.Do queue (if to_front then SendFront n else Send n)))) in MatchOption result
+        (read (F.naming finding.now) form words.old ≡ None)
+        (λ op. read (F.naming finding.now) form words.old ≡ read (F.naming finding.now) (Done op) words.new) }
+{
+    let queue = words.object(ObjectSort::Queue, finding)?;
+    let item = words.number()?;
+    Some(IsrOp::Do(queue, sending(to_front, item)))
+}
+
 // The op of a handler of this word that is none of the five on a queue, whose arguments are the next words.
 fn other_isr_op_after<F: Finding>(word: &[u8], words: &mut Words<'_>, finding: &F) -> Option<IsrOp>
     // What is still to be read is whether the text ends here.
@@ -244,8 +313,7 @@ fn other_isr_op_after<F: Finding>(word: &[u8], words: &mut Words<'_>, finding: &
         ≡ read (F.naming finding.now) (Done op) words.new) }
 {
     if is(word, "give") {
-        let semaphore = words.object(ObjectSort::Semaphore, finding)?;
-        Some(IsrOp::Do(semaphore, Access::Give))
+        isr_do_op(Access::Give, ObjectSort::Semaphore, words, finding)
     } else if is(word, "resume") {
         Some(IsrOp::Resume(words.task(finding)?))
     } else if is(word, "bits") {
@@ -266,18 +334,16 @@ fn isr_op_after<F: Finding>(word: &[u8], words: &mut Words<'_>, finding: &F) -> 
         ≡ read (F.naming finding.now) (Done op) words.new) }
 {
     if is(word, "send") {
-        let queue = words.object(ObjectSort::Queue, finding)?;
-        Some(IsrOp::Do(queue, Access::Send(words.number()?)))
+        isr_send_op(false, words, finding)
     } else if is(word, "send_front") {
-        let queue = words.object(ObjectSort::Queue, finding)?;
-        Some(IsrOp::Do(queue, Access::SendFront(words.number()?)))
+        isr_send_op(true, words, finding)
     } else if is(word, "overwrite") {
         let queue = words.object(ObjectSort::Queue, finding)?;
         Some(IsrOp::Do(queue, Access::Overwrite(words.number()?)))
     } else if is(word, "receive") {
-        Some(IsrOp::Do(words.object(ObjectSort::Queue, finding)?, Access::Receive))
+        isr_do_op(Access::Receive, ObjectSort::Queue, words, finding)
     } else if is(word, "peek") {
-        Some(IsrOp::Do(words.object(ObjectSort::Queue, finding)?, Access::Peek))
+        isr_do_op(Access::Peek, ObjectSort::Queue, words, finding)
     } else {
         other_isr_op_after(word, words, finding)
     }
