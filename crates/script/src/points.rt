@@ -82,26 +82,6 @@ fn points_of(
     Ok(push_all(points, values, place, entries)?)
 }
 
-// The entries that stand in an array, 1,000,000 at most.
-fn few_points(
-    alloc: Global,
-    value: &Value,
-    place: Place,
-    entries: &NamedEntries<'_>,
-) -> Result<Vec<PointEntry>, LoadError>
-    ensures { Loads (seen (λ v. v.items) result)
-        (points_fault (isr_names (entries_view entries.now)) place (view value.now))
-        (filter_map (entry_named (isr_names (entries_view entries.now))) (elements_of (Some (view value.now)))) }
-{
-    let Some(values) = array(value) else {
-        return Err(FaultKind::WrongKind.at(place).into());
-    };
-    if values.len() > App::MOST_POINTS {
-        return Err(FaultKind::TooMany.at(place).into());
-    }
-    points_of(alloc, values, place, entries)
-}
-
 /// The points of a document, in its order. Each text is read once. Where memory is refused, they are still checked.
 #[tactic(auto, unfolding(crate::specs::Points::campaign_fault, crate::specs::Points::campaign_named))]
 pub(crate) fn points(
@@ -124,5 +104,11 @@ pub(crate) fn points(
     let Some(points) = at_key(table, Key::Points) else {
         return Err(FaultKind::Missing.at(place).into());
     };
-    few_points(alloc, points, place, entries)
+    let Some(values) = array(points) else {
+        return Err(FaultKind::WrongKind.at(place).into());
+    };
+    if values.len() > App::MOST_POINTS {
+        return Err(FaultKind::TooMany.at(place).into());
+    }
+    points_of(alloc, values, place, entries)
 }

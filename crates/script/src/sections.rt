@@ -86,28 +86,6 @@ fn read_each<'a, R: EntryReader<'a>, const N: usize>(
     Ok(())
 }
 
-// Reads these entries, where they and those before are no more than there may be.
-fn read_few<'a, R: EntryReader<'a>, const N: usize>(
-    reader: &R,
-    section: Section,
-    values: &'a [Value],
-    read: &mut ArrayVec<R::Entry, N>,
-) -> Result<(), Fault>
-    ensures checks { Judges result
-        (first_fault (
-        fails_if (nat_lt (N - length (map R.shown read.old.items)) (length (map view values.now))) (fault_at TooMany (at_section section))
-        ∷ each_fault (tables section (R.named reader.now) (R.keys reader.now))
-        (map R.shown read.old.items) 0 (map view values.now)
-        ∷ [])) tt }
-    ensures added { OnOk result (map R.shown read.new.items ≡ map R.shown read.old.items
-        ++ map (λ d. R.named reader.now (as_table d)) (map view values.now)) }
-{
-    if values.len() > read.remaining_capacity() {
-        return Err(FaultKind::TooMany.at(Place::section(section)));
-    }
-    read_each(reader, section, values, read)
-}
-
 /// Reads the entries of a section, which may be left out, after those before: together no more than there may be.
 pub(crate) fn read_section<'a, R: EntryReader<'a>, const N: usize>(
     reader: &R,
@@ -127,7 +105,10 @@ pub(crate) fn read_section<'a, R: EntryReader<'a>, const N: usize>(
     let Some(values) = array(value) else {
         return Err(FaultKind::WrongKind.at(Place::section(section)));
     };
-    read_few(reader, section, values, read)
+    if values.len() > read.remaining_capacity() {
+        return Err(FaultKind::TooMany.at(Place::section(section)));
+    }
+    read_each(reader, section, values, read)
 }
 
 /// All entries of a section, which may be left out.
