@@ -1,8 +1,12 @@
-use Rattle.std.proofs.Common.{◌≡◌, List, length, vec_len, sym, ap, ◌∙◌, subst, arith}
+use Rattle.std.proofs.Common.{◌≡◌, ◌<◌, ◌≤◌, ◌^◌, [], List, length, replicate, false, vec_len, vec_capacity, sym, ap, ap₂, ◌∙◌, subst, arith, rules}
+use Rattle.atomic_table.specs.Table.{Me}
+use Rattle.deal.specs.Totals.{range}
+use Rattle.deal.specs.Marks.{mark}
 use Rattle.deal.specs.Dealing.{AreHands}
+use Rattle.deal.specs.declared.count.Mark.{Mark}
 use Rattle.deal.specs.declared.count.Size.{Size}
 use Rattle.deal.specs.declared.shared.Shared.{Shared}
-use Rattle.deal.specs.Lanes.{game}
+use Rattle.deal.specs.Lanes.{IsDealer, IsShared, game}
 use Rattle.deal.specs.Sharing.{Game, Sight, AreLanesOf}
 use Rattle.deal.proofs.Gathering.{fresh_are, fresh_many}
 use Rattle.deal.proofs.deal.Deal.new.Goals as goal
@@ -32,3 +36,59 @@ returns-clause-many c =
     let g : Game = game s.count.shared.table_id s.count.shared.key.lanes s.division in
     let workers : s.count.shared.key.lanes ≡ c.args.workers = ap (λ (t : Shared). t.count.shared.key.lanes) c.in_ok-shared.ensures.ok ∙ ap (λ (k : Size). k.lanes) c.in_ok-count.ensures.5 in
     omega (arith, c.in_ok-lanes.lanes.ok, ap (λ (l : List Sight). length l) c.in_ok-lanes.ensures.lanes, fresh_many g, workers)
+
+pub make_hands-requires-clause-dealer : goal.make_hands-requires-clause-dealer
+make_hands-requires-clause-dealer c =
+    let e = c.in_ok-count.ensures in
+    let blocks = c.count-blocks.result in
+    let first : c.in_ok-count.dealer.me.0 ≡ mark blocks c.args.workers c.args.workers 0 0 (range 0 blocks) = ap (λ (m : Me (Unit {0}) Mark). m.0) e.4 in (
+      (e.2, ap (λ (m : Me (Unit {0}) Mark). m.1) e.4, e.0),
+      first ∙ ap₂ (λ lanes parts. mark blocks lanes parts 0 0 (range 0 blocks)) (sym (ap (λ (m : Mark). m.lanes) first)) (sym (ap (λ (m : Mark). m.parts) first)),
+    )
+
+pub lanes_of-requires-clause-shared : goal.lanes_of-requires-clause-shared
+lanes_of-requires-clause-shared c =
+    let e = c.in_ok-count.ensures in
+    subst (λ (t : Shared). IsShared t.count.shared.key t.division t.starts.items) (sym c.in_ok-shared.ensures.ok) (
+      ap (λ (k : Size). k.blocks) e.5 ∙ c.count-blocks.ensures,
+      omega (arith, c.count-blocks.ensures),
+      omega (arith, ap (λ (k : Size). k.lanes) e.5, c.requires.0),
+      c.in_ok-starts.ensures,
+    )
+
+pub lanes_of-requires-clause-dealer : goal.lanes_of-requires-clause-dealer
+lanes_of-requires-clause-dealer c =
+    let e = c.in_ok-count.ensures in
+    let d = c.in_ok-hands.ensures.dealer in
+    let blocks = c.count-blocks.result in
+    let first = ap (λ (m : Me (Unit {0}) Mark). m.0) e.4 in
+    let all : c.make_hands.new.dealer.me.0 ≡ mark blocks c.args.workers c.args.workers 0 0 [] =
+    d.1 ∙ ap₂ (λ lanes parts. mark blocks lanes parts 0 0 []) (ap (λ (m : Mark). m.lanes) first) (ap (λ (m : Mark). m.parts) first) in
+    subst (λ (t : Shared). IsDealer t.count.shared.key t.count.shared.table_id t.count.shared.key.lanes c.make_hands.new.dealer) (sym c.in_ok-shared.ensures.ok)
+    (d.0, subst (λ (k : Size). c.make_hands.new.dealer.me.0 ≡ mark k.blocks k.lanes k.lanes 0 0 []) (sym e.5) all)
+
+pub invariant_of-deal : goal.invariant_of-deal
+invariant_of-deal c =
+    let e = c.in_ok-count.ensures in
+    let s = c.in_ok-shared.shared.value in
+    let blocks : length s.division ≡ c.count-blocks.result = ap (λ (t : Shared). length t.division) c.in_ok-shared.ensures.ok ∙ sym c.count-blocks.ensures in
+    let key = ap (λ (t : Shared). t.count.shared.key) c.in_ok-shared.ensures.ok ∙ e.5 in
+    let lanes : s.count.shared.key.lanes ≡ c.args.workers = ap (λ (k : Size). k.lanes) key in
+    let marks : c.in_ok-marks.marks.items ≡ replicate c.count-blocks.result false = search rules in (
+      ap (λ (k : Size). k.blocks) key ∙ sym blocks,
+      c.in_ok-lanes.ensures.dealer,
+      c.in_ok-lists.ensures.items,
+      omega (arith, lanes, c.in_ok-lists.ensures.capacity),
+      marks ∙ ap (λ n. replicate n false) (sym blocks),
+      c.in_ok-rest.ensures.items,
+      omega (arith, blocks, c.in_ok-rest.ensures.capacity),
+    )
+
+pub returns-clause-deal : goal.returns-clause-deal
+returns-clause-deal c = (
+  ap (λ (t : Shared). t.count.shared.key.lanes) c.in_ok-shared.ensures.ok ∙ ap (λ (k : Size). k.lanes) c.in_ok-count.ensures.5,
+  ap (λ (t : Shared). t.division) c.in_ok-shared.ensures.ok,
+)
+
+pub returns-clause-lanes : goal.returns-clause-lanes
+returns-clause-lanes c = c.in_ok-lanes.ensures.lanes
