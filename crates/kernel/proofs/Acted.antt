@@ -35,6 +35,13 @@ two_within = omega arith
 pub all_within : 65 ≤ 65
 all_within = omega arith
 
+-- Where there is room for an op, there is for a few events.
+pub room_for_one : (room : ℕ) → 65 ≤ room → 1 ≤ room
+room_for_one room enough = omega arith
+
+pub room_for_two : (room : ℕ) → 65 ≤ room → 2 ≤ room
+room_for_two room enough = omega arith
+
 -- Only one op holds what other tasks do back.
 abbrev pub is_suspend_all : Op → Bool
 is_suspend_all SuspendAll = true

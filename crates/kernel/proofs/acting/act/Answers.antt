@@ -3,7 +3,7 @@ use Rattle.model.specs.declared.op.Op.TheVariants.{Work, Delay, DelayUntil, Yiel
 use Rattle.model.specs.declared.event.Misuse.TheVariants.{NotSuspended}
 use Rattle.kernel.specs.Can.{CanOp}
 use Rattle.kernel.proofs.Held.{misused_at, not_suspended}
-use Rattle.kernel.proofs.Acted.{all_within, any_by_form, does_by_form, one_within, two_within}
+use Rattle.kernel.proofs.Acted.{all_within, any_by_form, does_by_form, one_within, room_for_one, room_for_two, two_within}
 use Rattle.machine.proofs.Either.{does_any, does_more, moves_any}
 use Rattle.kernel.proofs.acting.act.Goals as goal
 
@@ -117,3 +117,77 @@ returns-in-ResumeAll g c =
       few = omega arith;
       before = refl;
     }))
+
+pub delay-requires : goal.delay-requires
+delay-requires g c =
+    record { room = room_for_two (g.L.Log.logged c.args.log.now).room c.requires.room; can = subst (CanOp c.args.app.now c.args.machine.now c.args.task) c.in-Delay.is c.requires.can }
+
+pub delay_until-requires : goal.delay_until-requires
+delay_until-requires g c =
+    record { room = room_for_one (g.L.Log.logged c.args.log.now).room c.requires.room; can = subst (CanOp c.args.app.now c.args.machine.now c.args.task) c.in-DelayUntil.is c.requires.can }
+
+pub call_yield-requires : goal.call_yield-requires
+call_yield-requires g c =
+    record { room = room_for_two (g.L.Log.logged c.args.log.now).room c.requires.room; can = subst (CanOp c.args.app.now c.args.machine.now c.args.task) c.in-Yield.is c.requires.can }
+
+pub time-requires : goal.time-requires
+time-requires g c =
+    let can = subst (CanOp c.args.app.now c.args.machine.now c.args.task) c.in-Time.is c.requires.can in
+    record { room = room_for_one (g.L.Log.logged c.args.log.now).room c.requires.room; runs = can.runs }
+
+pub mark-requires : goal.mark-requires
+mark-requires g c =
+    let can = subst (CanOp c.args.app.now c.args.machine.now c.args.task) c.in-Mark.is c.requires.can in
+    record { room = room_for_one (g.L.Log.logged c.args.log.now).room c.requires.room; runs = can.runs }
+
+pub go_on_waiting-requires : goal.go_on_waiting-requires
+go_on_waiting-requires g c =
+    record { room = room_for_two (g.L.Log.logged c.args.log.now).room c.requires.room; can = subst (CanOp c.args.app.now c.args.machine.now c.args.task) c.in-Await.is c.requires.can }
+
+pub do_now-requires : goal.do_now-requires
+do_now-requires g c =
+    record { room = room_for_two (g.L.Log.logged c.args.log.now).room c.requires.room; can = subst (CanOp c.args.app.now c.args.machine.now c.args.task) c.in-Do.is c.requires.can }
+
+pub give_mutex-requires : goal.give_mutex-requires
+give_mutex-requires g c =
+    record { room = room_for_two (g.L.Log.logged c.args.log.now).room c.requires.room; can = subst (CanOp c.args.app.now c.args.machine.now c.args.task) c.in-GiveMutex.is c.requires.can }
+
+pub messages_waiting-requires : goal.messages_waiting-requires
+messages_waiting-requires g c =
+    let can = subst (CanOp c.args.app.now c.args.machine.now c.args.task) c.in-MessagesWaiting.is c.requires.can in
+    record { room = room_for_one (g.L.Log.logged c.args.log.now).room c.requires.room; runs = can.runs }
+
+pub spaces_available-requires : goal.spaces_available-requires
+spaces_available-requires g c =
+    let can = subst (CanOp c.args.app.now c.args.machine.now c.args.task) c.in-SpacesAvailable.is c.requires.can in
+    record { room = room_for_one (g.L.Log.logged c.args.log.now).room c.requires.room; runs = can.runs }
+
+pub set_bits-requires : goal.set_bits-requires
+set_bits-requires g c =
+    record { room = room_for_two (g.L.Log.logged c.args.log.now).room c.requires.room; can = subst (CanOp c.args.app.now c.args.machine.now c.args.task) c.in-SetBits.is c.requires.can }
+
+pub clear_bits-requires : goal.clear_bits-requires
+clear_bits-requires g c =
+    let can = subst (CanOp c.args.app.now c.args.machine.now c.args.task) c.in-ClearBits.is c.requires.can in
+    record { room = room_for_one (g.L.Log.logged c.args.log.now).room c.requires.room; runs = can.runs }
+
+pub get_bits-requires : goal.get_bits-requires
+get_bits-requires g c =
+    let can = subst (CanOp c.args.app.now c.args.machine.now c.args.task) c.in-GetBits.is c.requires.can in
+    record { room = room_for_one (g.L.Log.logged c.args.log.now).room c.requires.room; runs = can.runs }
+
+pub wait_bits-requires : goal.wait_bits-requires
+wait_bits-requires g c =
+    record { room = room_for_two (g.L.Log.logged c.args.log.now).room c.requires.room; can = subst (CanOp c.args.app.now c.args.machine.now c.args.task) c.in-WaitBits.is c.requires.can }
+
+pub call_suspend-requires : goal.call_suspend-requires
+call_suspend-requires g c =
+    record { room = room_for_two (g.L.Log.logged c.args.log.now).room c.requires.room; can = subst (CanOp c.args.app.now c.args.machine.now c.args.task) c.in-Suspend.is c.requires.can }
+
+pub call_resume-requires : goal.call_resume-requires
+call_resume-requires g c =
+    record { room = room_for_two (g.L.Log.logged c.args.log.now).room c.requires.room; can = subst (CanOp c.args.app.now c.args.machine.now c.args.task) c.in-Resume.is c.requires.can }
+
+pub call_suspend_all-requires : goal.call_suspend_all-requires
+call_suspend_all-requires g c =
+    record { room = room_for_one (g.L.Log.logged c.args.log.now).room c.requires.room; can = subst (CanOp c.args.app.now c.args.machine.now c.args.task) c.in-SuspendAll.is c.requires.can }

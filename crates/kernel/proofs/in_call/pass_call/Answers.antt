@@ -46,3 +46,51 @@ phases-smaller c =
 
 pub returns-in-Leave-clause-leaving : goal.returns-in-Leave-clause-leaving
 returns-in-Leave-clause-leaving c = (c.in-Await.object, c.in-Await.access, c.phases.invariant.call Leave (sym c.phase-phase.ensures ∙ c.in-Leave.is))
+
+pub returns-in-Leave-clause-way : goal.returns-in-Leave-clause-way
+returns-in-Leave-clause-way c = c.phases.invariant.way
+
+pub returns-in-Leave-clause-on : goal.returns-in-Leave-clause-on
+returns-in-Leave-clause-on c = c.phases.invariant.on
+
+pub returns-in-Leave-clause-far : goal.returns-in-Leave-clause-far
+returns-in-Leave-clause-far c = c.phases.invariant.far
+
+pub returns-in-Leave-clause-silent : goal.returns-in-Leave-clause-silent
+returns-in-Leave-clause-silent c = c.phases.invariant.silent
+
+pub returns-then-not-is_silent-clause-way : goal.returns-then-not-is_silent-clause-way
+returns-then-not-is_silent-clause-way c = c.phases.invariant.way
+
+pub returns-then-not-is_silent-clause-on : goal.returns-then-not-is_silent-clause-on
+returns-then-not-is_silent-clause-on c = c.phases.invariant.on
+
+pub returns-then-not-is_silent-clause-far : goal.returns-then-not-is_silent-clause-far
+returns-then-not-is_silent-clause-far c = c.phases.invariant.far
+
+pub returns-then-not-is_silent-clause-silent : goal.returns-then-not-is_silent-clause-silent
+returns-then-not-is_silent-clause-silent c = c.phases.invariant.silent
+
+pub returns-then-is_over-clause-way : goal.returns-then-is_over-clause-way
+returns-then-is_over-clause-way c = c.phases.invariant.way
+
+pub returns-then-is_over-clause-on : goal.returns-then-is_over-clause-on
+returns-then-is_over-clause-on c = c.phases.invariant.on
+
+pub returns-then-is_over-clause-far : goal.returns-then-is_over-clause-far
+returns-then-is_over-clause-far c = c.phases.invariant.far
+
+pub returns-then-is_over-clause-silent : goal.returns-then-is_over-clause-silent
+returns-then-is_over-clause-silent c = c.phases.invariant.silent
+
+pub returns-clause-way : goal.returns-clause-way
+returns-clause-way c = c.phases.invariant.way
+
+pub returns-clause-on : goal.returns-clause-on
+returns-clause-on c = c.phases.invariant.on
+
+pub returns-clause-far : goal.returns-clause-far
+returns-clause-far c = c.phases.invariant.far
+
+pub returns-clause-silent : goal.returns-clause-silent
+returns-clause-silent c = c.phases.invariant.silent
