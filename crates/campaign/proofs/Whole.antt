@@ -1,7 +1,7 @@
 -- What all workers made together.
 use Rattle.std.specs.Prelude.{Bool, true, false, ◌||◌, slice_get, Some, nat_lt}
 use Rattle.std.specs.List.{AllByRecursion, concat, flat_map, list_any}
-use Rattle.std.proofs.Common.{◌≡◌, ◌≢◌, ◌<◌, ◌≤◌, ◌+◌, ℕ, zero, suc, List, [], ◌∷◌, ◌++◌, length, cond, map, take, drop, sum, replicate, set, slice_index, slice_index_or, get_or-set_same, get_or-set_other, refl, sym, ap, subst, ◌∙◌, append_assoc, append-nil, length-append, add-one, add-zero, inl, ⊎_elim, arith}
+use Rattle.std.proofs.Common.{Result, Ok, Err, IfOk, ◌≡◌, ◌≢◌, ◌<◌, ◌≤◌, ◌+◌, ℕ, zero, suc, List, [], ◌∷◌, ◌++◌, length, cond, map, take, drop, sum, replicate, set, slice_index, slice_index_or, get_or-set_same, get_or-set_other, refl, sym, ap, subst, ◌∙◌, append_assoc, append-nil, length-append, add-one, add-zero, inl, ⊎_elim, arith}
 use Rattle.std.proofs.lemmas.List.{take_all, length-set, length-map, length-replicate}
 use Rattle.std.proofs.lemmas.Bool.Decides.{nat_tests}
 use Rattle.std.proofs.lemmas.List.Sums.{sum_by_more}
@@ -16,6 +16,7 @@ use Rattle.deal.proofs.Sums.{total_append}
 use Rattle.deal.proofs.Members.{all_of_each}
 use Rattle.campaign.proofs.Multiplicity.{total_each}
 use Rattle.deal.proofs.Once.{same_or, elsewhere}
+use Rattle.campaign.specs.declared.gathering.Apart.{Apart}
 use Rattle.campaign.specs.declared.rows.KeptBlock.{KeptBlock}
 use Rattle.campaign.specs.declared.rows.Part.{Part}
 use Rattle.campaign.specs.declared.rows.Place.{Place}
@@ -353,3 +354,10 @@ module _ (work : Work) (tally : Sheet) (old : List Tallied) (made : Made) (is : 
 
   pub rise_made : (report : List Row) → report ≡ whole_rows (record { base = base; parts = made.parts; places = made.places; totals = made.totals }) → RiseBy (totals_of report) old made.seats.items
   rise_made report e = subst (λ rs. RiseBy (totals_of rs) old made.seats.items) (sym (rows_same report e)) is.rise
+
+-- What holds of the kinds apart holds of what was taken apart, if it was.
+pub all_apart : {E : Type 0} (r : Result Apart E) (P : Apart → Type 0) (dones : List Done)
+    → IfOk r (λ (a : Apart). a.lanes.items ≡ lanes_in dones) → IfOk r (λ (a : Apart). a.seats.items ≡ seats_in dones) → IfOk r (λ (a : Apart). a.parts.items ≡ parts_in dones)
+    → ((a : Apart) → a.lanes.items ≡ lanes_in dones → a.seats.items ≡ seats_in dones → a.parts.items ≡ parts_in dones → P a) → IfOk r P
+all_apart (Ok a) P dones lanes seats parts so = so a lanes seats parts
+all_apart (Err e) P dones lanes seats parts so = tt

@@ -88,9 +88,9 @@ impl Apart {
             part,
             refused: _,
         } = done;
-        self.lanes.push(lane).map_err(|_| Memory)?;
-        self.seats.push(seat).map_err(|_| Memory)?;
-        self.parts.push(part).map_err(|_| Memory)?;
+        self.lanes.push(lane)?;
+        self.seats.push(seat)?;
+        self.parts.push(part)?;
         Ok(())
     }
 }

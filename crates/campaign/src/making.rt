@@ -2,7 +2,7 @@
 ghost use Rattle.std.specs.Prelude.{◌≡◌, ◌<◌, ◌≤◌, List, length, sum, vec_len, All, IfOk};
 ghost use Rattle.model.specs.Scripts.{most_points};
 ghost use Rattle.model.specs.Campaign.{AreRows, totals_of};
-ghost use Rattle.deal.specs.Sharing.{Game};
+ghost use Rattle.deal.specs.Sharing.{Game, fresh_lanes};
 ghost use Rattle.deal.specs.Tallies.{Sheet, Tallied};
 ghost use Rattle.campaign.specs.declared.worker.Job as declared;
 ghost use Rattle.shelf.specs.Shelves.{IsShelf};
@@ -17,7 +17,7 @@ use crate::gathering::{Apart, is_refused, jobs_of, take_apart};
 use crate::placing::{count_all, places_of};
 use crate::rows::{Part, Place};
 use crate::worker::{Done, Job, Setup, work};
-use deal::{Deal, Division, Tally, TallySeat};
+use deal::{Deal, Division, Lane, Tally, TallySeat};
 use model::{App, Limits, Memory, Point, Run, Totals};
 use shelf::Shelf;
 use std::alloc::Global;
@@ -70,13 +70,36 @@ fn run_all<R: Threads + Wait + Sync, G: Gate + Sync>(
     }
 }
 
-// For how many of these rows each of so many workers gets room: an eighth more than if all made as many, since who is faster
-// makes more.
-fn share_of(rows: usize, workers: usize) -> usize
-    requires { 0 < workers }
+// Lets so many workers, each with one of these lanes and a seat, work off what was dealt, and takes apart what they bring.
+fn work_off<R: Threads + Wait + Sync, G: Gate + Sync>(
+    rt: &R,
+    alloc: Global,
+    setup: &Setup<'_>,
+    gate: &G,
+    workers: usize,
+    lanes: Vec<Lane>,
+    seats: Vec<TallySeat>,
+) -> Result<Apart, Memory>
+    requires shelf { IsShelf setup.now.app.now setup.now.shelf.now }
+    requires workers { 0 < workers }
+    requires lanes { (deal : Game) × (lanes.items ≡ fresh_lanes deal) × (sum deal.lengths ≡ length setup.now.points.now) }
+    requires many { vec_len lanes ≡ workers }
+    requires seats { (vec_len seats ≡ workers)
+        × AreReady setup.now.tally.now (length setup.now.points.now) seats.items }
+    ensures { IfOk result (λ apart. (deal : Game) → lanes.items ≡ fresh_lanes deal → deal.lanes ≡ workers
+        → IsBrought (work_of setup.now deal.lengths) deal setup.now.tally.now seats.items
+        apart.lanes.items apart.seats.items apart.parts.items) }
 {
+    // Each worker gets room for an eighth more rows than if all made as many, since who is faster makes more.
+    let rows = setup.points.len();
     let share = rows / workers;
-    rows.min(share.saturating_add(share / 8))
+    let room = rows.min(share.saturating_add(share / 8));
+    let jobs = jobs_of(alloc, lanes, seats, room)?;
+    let dones = run_all(rt, alloc, setup, gate, jobs)?;
+    if is_refused(&dones) {
+        return Err(Memory);
+    }
+    take_apart(alloc, dones)
 }
 
 // Deals the blocks among so many workers, each with a seat, and lets them work.
@@ -101,13 +124,7 @@ fn bring_all<R: Threads + Wait + Sync, G: Gate + Sync>(
     let Ok((deal, lanes)) = Deal::new(alloc, division, workers) else {
         return Err(Memory);
     };
-    let rows = share_of(setup.points.len(), workers);
-    let jobs = jobs_of(alloc, lanes, seats, rows)?;
-    let dones = run_all(rt, alloc, setup, gate, jobs)?;
-    if is_refused(&dones) {
-        return Err(Memory);
-    }
-    let apart = take_apart(alloc, dones)?;
+    let apart = work_off(rt, alloc, setup, gate, workers, lanes, seats)?;
     Ok(Brought { deal, apart })
 }
 

@@ -47,7 +47,8 @@ fn count_points(entries: &[PointEntry], steps: u32) -> Option<usize>
 fn push_point(points: &mut Vec<Point>, point: Point) -> Result<(), Memory>
     ensures { OnOk result (points.new.items ≡ points.old.items ++ point ∷ []) }
 {
-    points.push(point).map_err(|_| Memory)
+    points.push(point)?;
+    Ok(())
 }
 
 // Appends the points of a handler before each step.
