@@ -1,12 +1,13 @@
 -- One more turn of a loop over a list.
-use Rattle.std.proofs.Common.{◌≡◌, ◌+◌, ◌<◌, ◌≤◌, ◌++◌, ℕ, suc, List, [], ◌∷◌, length, get_or, map, drop, Option, Some, None, Result, Ok, Err, refl, ap, sym, subst, ◌∙◌, append_assoc, add-one, arith, length-append, drop-cons}
-use Rattle.std.specs.List.{AllByRecursion, filter_map, cons_option}
-use Rattle.std.specs.Result.{IsErrAnd}
+use Rattle.std.proofs.Common.{◌≡◌, ◌+◌, ◌<◌, ◌≤◌, ◌++◌, ℕ, suc, Bool, true, false, List, [], ◌∷◌, length, get_or, map, drop, Option, Some, None, Result, Ok, Err, refl, ap, sym, subst, ◌∙◌, append_assoc, add-one, arith, length-append, drop-cons}
+use Rattle.std.specs.List.{AllByRecursion, filter_map, cons_option, list_any, position_from}
+use Rattle.std.specs.Prelude.{◌||◌, if◌then◌else◌}
+use Rattle.std.specs.Result.{IsErrAnd, IfOk}
 use Rattle.std.proofs.Math.ListN.{drop_of_length-le}
 use Rattle.std.proofs.lemmas.List.{append-nil}
 use Rattle.model.proofs.Nesting.{all-append}
 use Rattle.script.specs.declared.fault.Fault.{Fault}
-use Rattle.script.specs.Faults.{Judges, first_fault}
+use Rattle.script.specs.Faults.{Judges, seen, first_fault}
 use Rattle.script.specs.Arrays.{Elements, each_fault}
 
 -- What is left from an index on, where this element stands there.
@@ -76,6 +77,23 @@ module _ {Z : Type 0} (z : Z) (before after : List Z) (is : after ≡ before ++ 
 pub kept : (count i : ℕ) → count ≤ i → count ≤ i + 1
 kept count i few = omega arith
 
+-- ---- one of which something is true
+
+module _ {Y : Type 0} (test : Y → Bool) (y : Y) (rest more : List Y) (turn : rest ≡ y ∷ more) where
+  pub any_here : test y ≡ true → list_any test rest ≡ true
+  any_here is = ap (list_any test) turn ∙ ap (λ b. b || list_any test more) is
+
+  pub any_later : test y ≡ false → list_any test rest ≡ list_any test more
+  any_later is = ap (list_any test) turn ∙ ap (λ b. b || list_any test more) is
+
+  pub position_here : (i : ℕ) → test y ≡ true → position_from test i rest ≡ Some i
+  position_here i is =
+      ap (position_from test i) turn ∙ ap (λ b. if b then Some i else position_from test (i + 1) more) is
+
+  pub position_later : (i : ℕ) → test y ≡ false → position_from test i rest ≡ position_from test (i + 1) more
+  position_later i is =
+      ap (position_from test i) turn ∙ ap (λ b. if b then Some i else position_from test (i + 1) more) is
+
 -- ---- checks
 
 -- one check alone
@@ -144,3 +162,14 @@ pub refused : {X : Type 0} (result : Result X Fault) (check : Option Fault) (val
     → check ≡ Some fault → Judges result check value
 refused (Ok x) check value fault is finds = absurd is
 refused (Err e) check value fault is finds = finds ∙ ap (λ f. Some f) (sym is)
+
+-- the same of a result that is seen as another
+pub refused_seen : {X Y : Type 0} (view : X → Y) (result : Result X Fault) (check : Option Fault) (value : Y) (fault : Fault)
+    → IsErrAnd result (λ e. e ≡ fault) → check ≡ Some fault → Judges (seen view result) check value
+refused_seen view (Ok x) check value fault is finds = absurd is
+refused_seen view (Err e) check value fault is finds = finds ∙ ap (λ f. Some f) (sym is)
+
+-- Nothing is said of what there isn't.
+pub of_none : {X : Type 0} (result : Result X Fault) (fault : Fault) (P : X → Type 0) → IsErrAnd result (λ e. e ≡ fault) → IfOk result P
+of_none (Ok x) fault P is = absurd is
+of_none (Err e) fault P is = tt

@@ -1,0 +1,73 @@
+-- What is told of a key or an array, where a check finds a fault or none.
+use Rattle.std.proofs.Common.{◌≡◌, ◌<◌, ◌≤◌, ℕ, Bool, List, [], ◌∷◌, length, Option, Some, None, refl, ap, sym, ◌∙◌}
+use Rattle.std.specs.Prelude.{nat_lt, not}
+use Rattle.std.specs.List.{list_any}
+use Rattle.std.specs.Str.{bytes_eq}
+use Rattle.std.proofs.lemmas.Bool.{lt-ltb, le-ltb}
+use Rattle.toml.specs.Data.{Data, Members, get_member, as_str}
+use Rattle.script.specs.declared.fault.Fault.{Fault}
+use Rattle.script.specs.declared.fault.FaultKind.TheVariants.{Missing, WrongKind, OutOfRange, DoubleName, TooMany}
+use Rattle.script.specs.declared.place.Place.{Place}
+use Rattle.script.specs.declared.place.Key.{Key}
+use Rattle.script.specs.Faults.{key_word, at_key, fault_at, first_fault, fails_if, need, required}
+use Rattle.grammar.specs.Names.{is_name}
+use Rattle.script.specs.Values.{name_fault}
+use Rattle.script.specs.Arrays.{Elements, each_fault, array_of, array_fault}
+use Rattle.script.proofs.Steps.{alone}
+
+-- a key, which stands at this place
+module _ (place : Place) (key : Key) (check : Place → Data → Option Fault) (ms : Members) (here : Place) (is : here ≡ at_key place key) where
+  pub missing : (fault : Fault) → None ≡ get_member (key_word key) ms → fault ≡ fault_at Missing here
+      → required place key check ms ≡ Some fault
+  missing fault none told =
+      ap (λ o. need (fault_at Missing (at_key place key)) o (check (at_key place key))) (sym none)
+      ∙ ap (λ p. Some (fault_at Missing p)) (sym is)
+      ∙ ap (λ f. Some f) (sym told)
+
+  pub there : (d : Data) (found : Option Fault) → Some d ≡ get_member (key_word key) ms → check here d ≡ found
+      → required place key check ms ≡ found
+  there d found some finds =
+      ap (λ o. need (fault_at Missing (at_key place key)) o (check (at_key place key))) (sym some)
+      ∙ ap (λ p. check p d) (sym is)
+      ∙ finds
+
+-- an array of so many elements at most
+module _ {S : Type 0} (most : ℕ) (elements : Elements S Data) (s : S) (p : Place) (d : Data) where
+  pub no_array : None ≡ array_of d → array_fault most elements s p d ≡ Some (fault_at WrongKind p)
+  no_array none =
+      ap (λ o. need (fault_at WrongKind p) o (λ ds.
+      first_fault (fails_if (nat_lt most (length ds)) (fault_at TooMany p) ∷ each_fault elements s 0 ds ∷ []))) (sym none)
+
+  pub too_many : (ds : List Data) → Some ds ≡ array_of d → most < length ds → array_fault most elements s p d ≡ Some (fault_at TooMany p)
+  too_many ds some many =
+      ap (λ o. need (fault_at WrongKind p) o (λ ds.
+      first_fault (fails_if (nat_lt most (length ds)) (fault_at TooMany p) ∷ each_fault elements s 0 ds ∷ []))) (sym some)
+      ∙ ap (λ b. first_fault (fails_if b (fault_at TooMany p) ∷ each_fault elements s 0 ds ∷ [])) (lt-ltb most (length ds) many)
+
+  pub few_enough : (ds : List Data) (found : Option Fault) → Some ds ≡ array_of d → length ds ≤ most → each_fault elements s 0 ds ≡ found
+      → array_fault most elements s p d ≡ found
+  few_enough ds found some few finds =
+      ap (λ o. need (fault_at WrongKind p) o (λ ds.
+      first_fault (fails_if (nat_lt most (length ds)) (fault_at TooMany p) ∷ each_fault elements s 0 ds ∷ []))) (sym some)
+      ∙ ap (λ b. first_fault (fails_if b (fault_at TooMany p) ∷ each_fault elements s 0 ds ∷ [])) (le-ltb most (length ds) few)
+      ∙ alone (each_fault elements s 0 ds)
+      ∙ finds
+
+-- a name, which none of these is
+module _ (names : List (List ℕ)) (p : Place) (d : Data) where
+  pub no_text : None ≡ as_str d → name_fault names p d ≡ Some (fault_at WrongKind p)
+  no_text none =
+      ap (λ o. need (fault_at WrongKind p) o (λ name. first_fault (
+      fails_if (not (is_name name)) (fault_at OutOfRange p)
+      ∷ fails_if (list_any (bytes_eq name) names) (fault_at DoubleName p)
+      ∷ []))) (sym none)
+
+  pub text : (name : List ℕ) (is double : Bool) → Some name ≡ as_str d → is_name name ≡ is → list_any (bytes_eq name) names ≡ double
+      → name_fault names p d ≡ first_fault (fails_if (not is) (fault_at OutOfRange p) ∷ fails_if double (fault_at DoubleName p) ∷ [])
+  text name is double some named found =
+      ap (λ o. need (fault_at WrongKind p) o (λ name. first_fault (
+      fails_if (not (is_name name)) (fault_at OutOfRange p)
+      ∷ fails_if (list_any (bytes_eq name) names) (fault_at DoubleName p)
+      ∷ []))) (sym some)
+      ∙ ap (λ b. first_fault (fails_if (not b) (fault_at OutOfRange p) ∷ fails_if (list_any (bytes_eq name) names) (fault_at DoubleName p) ∷ [])) named
+      ∙ ap (λ b. first_fault (fails_if (not is) (fault_at OutOfRange p) ∷ fails_if b (fault_at DoubleName p) ∷ [])) found
