@@ -1,5 +1,5 @@
 -- What is told of a key or an array, where a check finds a fault or none.
-use Rattle.std.proofs.Common.{◌≡◌, ◌<◌, ◌≤◌, ℕ, Bool, List, [], ◌∷◌, length, Option, Some, None, refl, ap, sym, ◌∙◌}
+use Rattle.std.proofs.Common.{◌≡◌, ◌+◌, ◌-◌, ◌<◌, ◌≤◌, ℕ, Bool, List, [], ◌∷◌, length, Option, Some, None, refl, ap, sym, ◌∙◌, arith}
 use Rattle.std.specs.Prelude.{nat_lt, not}
 use Rattle.std.specs.List.{list_any}
 use Rattle.std.specs.Str.{bytes_eq}
@@ -71,3 +71,11 @@ module _ (names : List (List ℕ)) (p : Place) (d : Data) where
       ∷ []))) (sym some)
       ∙ ap (λ b. first_fault (fails_if (not b) (fault_at OutOfRange p) ∷ fails_if (list_any (bytes_eq name) names) (fault_at DoubleName p) ∷ [])) named
       ∙ ap (λ b. first_fault (fails_if (not is) (fault_at OutOfRange p) ∷ fails_if b (fault_at DoubleName p) ∷ [])) found
+
+-- ---- how many fit
+
+pub too_many_left : (left used most count : ℕ) → left + used ≡ most → left < count → most - used < count
+too_many_left left used most count all over = omega arith
+
+pub few_left : (left used most count : ℕ) → left + used ≡ most → count ≤ left → count ≤ most - used
+few_left left used most count all fits = omega arith
