@@ -70,20 +70,17 @@ fn parts_of(
 ) -> Result<Parts, AllocError>
     requires { AllByRecursion (λ (t : Definition). Nests 0 t.script)
         (map (with_script (entries_view entries.now)) (entries_view entries.now).tasks) }
-    ensures objects { IfOk result (λ parts. parts.objects.items
-        ≡ map (λ (o : ObjectEntry). o.kind) (entries_view entries.now).objects) }
-    ensures formed_objects { IfOk result (λ parts. AllByRecursion IsObjectKind parts.objects.items) }
-    ensures few_objects { IfOk result (λ parts. length parts.objects.items ≤ most_objects) }
-    ensures handlers { IfOk result (λ parts. parts.handlers.items
-        ≡ map (with_isr_ops (entries_view entries.now)) (entries_view entries.now).handlers) }
-    ensures formed_handlers { IfOk result (λ parts. AllByRecursion (λ (h : Handler).
-        (length h.name ≤ most_name_bytes) × (length h.ops ≤ most_handler_ops)) parts.handlers.items) }
-    ensures few_handlers { IfOk result (λ parts. length parts.handlers.items ≤ most_handlers) }
+    ensures objects { IfOk result (λ parts.
+        (parts.objects.items ≡ map (λ (o : ObjectEntry). o.kind) (entries_view entries.now).objects)
+        × AllByRecursion IsObjectKind parts.objects.items × (length parts.objects.items ≤ most_objects)) }
+    ensures handlers { IfOk result (λ parts.
+        (parts.handlers.items ≡ map (with_isr_ops (entries_view entries.now)) (entries_view entries.now).handlers)
+        × AllByRecursion (λ (h : Handler). (length h.name ≤ most_name_bytes) × (length h.ops ≤ most_handler_ops)) parts.handlers.items
+        × (length parts.handlers.items ≤ most_handlers)) }
     ensures interrupts { IfOk result (λ parts. parts.interrupts ≡ listed.now) }
-    ensures tasks { IfOk result (λ parts. parts.tasks.items
-        ≡ map (with_script (entries_view entries.now)) (entries_view entries.now).tasks) }
-    ensures formed_tasks { IfOk result (λ parts. AllByRecursion IsDefinition parts.tasks.items) }
-    ensures few_tasks { IfOk result (λ parts. length parts.tasks.items ≤ most_tasks) }
+    ensures tasks { IfOk result (λ parts.
+        (parts.tasks.items ≡ map (with_script (entries_view entries.now)) (entries_view entries.now).tasks)
+        × AllByRecursion IsDefinition parts.tasks.items × (length parts.tasks.items ≤ most_tasks)) }
 {
     let objects = kinds_of(alloc, entries.objects.as_slice())?;
     let handlers = handlers_of(alloc, entries)?;

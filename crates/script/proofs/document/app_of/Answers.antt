@@ -37,8 +37,8 @@ new-requires c =
     } in
     let document = table_view c.args.document.now in
     let names = isr_names entries in
-    let of_handlers : app.handlers ≡ map (with_isr_ops entries) entries.handlers = parts.handlers in
-    let of_tasks : app.tasks ≡ map (with_script entries) entries.tasks = parts.tasks in
+    let of_handlers : app.handlers ≡ map (with_isr_ops entries) entries.handlers = parts.handlers.0 in
+    let of_tasks : app.tasks ≡ map (with_script entries) entries.tasks = parts.tasks.0 in
     let of_interrupts : app.interrupts ≡ interrupts_named names document =
     parts.interrupts ∙ c.as_slice.ensures.value ∙ c.in_ok-listed.ensures.1 in
     let of_points : app.points ≡ campaign_named names document = c.in_ok-points.ensures.1 in
@@ -46,7 +46,7 @@ new-requires c =
     length-map entries.handlers (λ (h : RawIsr). h.name)
     ∙ sym (ap length of_handlers ∙ length-map entries.handlers (with_isr_ops entries)) in
     let has : HasEntries app entries = record {
-      objects = parts.objects;
+      objects = parts.objects.0;
       groups = c.group_count.ensures.count;
       tasks = ap length of_tasks ∙ length-map entries.tasks (with_script entries);
     } in
@@ -57,21 +57,21 @@ new-requires c =
     subst (λ n. ArePoints n app.points) count
     (subst (ArePoints (length names)) (sym of_points) (taken_points names document c.in_ok-points.ensures.0)) in
     let few : AllByRecursion HasFewOps (map (with_isr_ops entries) entries.handlers) =
-    subst (AllByRecursion HasFewOps) of_handlers parts.formed_handlers in
+    subst (AllByRecursion HasFewOps) of_handlers parts.handlers.1 in
     let task_count : length app.tasks ≡ length c.args.entries.now.tasks.items =
     ap length of_tasks ∙ (length-map entries.tasks (with_script entries) ∙ length-map c.args.entries.now.tasks.items raw_view) in
     let some = c.requires in
     record {
       some = omega (arith, task_count, some);
-      few = parts.few_tasks;
-      tasks = parts.formed_tasks;
-      objects = parts.formed_objects;
-      few_objects = parts.few_objects;
+      few = parts.tasks.2;
+      tasks = parts.tasks.1;
+      objects = parts.objects.1;
+      few_objects = parts.objects.2;
       few_groups = c.group_count.ensures.few;
       handlers =
           subst (AllByRecursion (IsHandler app)) (sym of_handlers)
           (known_handlers app entries has c.in_ok-check_handlers.ensures.0 few);
-      few_handlers = parts.few_handlers;
+      few_handlers = parts.handlers.2;
       interrupts = are_interrupts app app.interrupts interrupts.first interrupts.last interrupts.known;
       few_interrupts = interrupts.few;
       few_at_once = λ tick. few_come app tick (interrupts.few_at_once tick);
