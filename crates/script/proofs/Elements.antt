@@ -1,9 +1,9 @@
 -- What is told of a key or an array, where a check finds a fault or none.
 use Rattle.std.proofs.Common.{◌≡◌, ◌+◌, ◌-◌, ◌<◌, ◌≤◌, ℕ, Bool, List, [], ◌∷◌, length, Option, Some, None, refl, ap, sym, ◌∙◌, arith}
-use Rattle.std.specs.Prelude.{nat_lt, not}
+use Rattle.std.specs.Prelude.{nat_lt, nat_le, not}
 use Rattle.std.specs.List.{list_any}
 use Rattle.std.specs.Str.{bytes_eq}
-use Rattle.std.proofs.lemmas.Bool.{lt-ltb, le-ltb}
+use Rattle.std.proofs.lemmas.Bool.{lt-ltb, le-ltb, lt-leb}
 use Rattle.toml.specs.Data.{Data, Members, get_member, as_str}
 use Rattle.script.specs.declared.fault.Fault.{Fault}
 use Rattle.script.specs.declared.fault.FaultKind.TheVariants.{Missing, WrongKind, OutOfRange, DoubleName, TooMany}
@@ -79,3 +79,13 @@ too_many_left left used most count all over = omega arith
 
 pub few_left : (left used most count : ℕ) → left + used ≡ most → count ≤ left → count ≤ most - used
 few_left left used most count all fits = omega arith
+
+-- ---- three checks
+
+-- None of two finds a fault, and there are not too many yet.
+pub none_of_three : (first second : Option Fault) (most count : ℕ) (fault : Fault) → first ≡ None → second ≡ None → count < most
+    → first_fault (first ∷ second ∷ fails_if (nat_le most count) fault ∷ []) ≡ None
+none_of_three first second most count fault none_first none_second few =
+    ap (λ o. first_fault (o ∷ second ∷ fails_if (nat_le most count) fault ∷ [])) none_first
+    ∙ ap (λ o. first_fault (o ∷ fails_if (nat_le most count) fault ∷ [])) none_second
+    ∙ ap (λ b. first_fault (fails_if b fault ∷ [])) (lt-leb most count few)
