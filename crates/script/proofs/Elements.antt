@@ -13,7 +13,7 @@ use Rattle.script.specs.Faults.{key_word, at_key, fault_at, first_fault, fails_i
 use Rattle.grammar.specs.Names.{is_name}
 use Rattle.script.specs.Values.{name_fault}
 use Rattle.script.specs.Arrays.{Elements, each_fault, array_of, array_fault}
-use Rattle.script.proofs.Steps.{alone}
+use Rattle.script.proofs.Steps.{alone, passed}
 
 -- a key, which stands at this place
 module _ (place : Place) (key : Key) (check : Place → Data → Option Fault) (ms : Members) (here : Place) (is : here ≡ at_key place key) where
@@ -89,3 +89,13 @@ none_of_three first second most count fault none_first none_second few =
     ap (λ o. first_fault (o ∷ second ∷ fails_if (nat_le most count) fault ∷ [])) none_first
     ∙ ap (λ o. first_fault (o ∷ fails_if (nat_le most count) fault ∷ [])) none_second
     ∙ ap (λ b. first_fault (fails_if b fault ∷ [])) (lt-leb most count few)
+
+-- ---- the end of a script
+
+-- No op's check finds a fault, and no loop is open.
+pub closed : (check : Option Fault) (open_loops left : ℕ) (fault : Fault) → check ≡ None → open_loops ≡ left → left ≤ 0
+    → first_fault (check ∷ fails_if (nat_lt 0 open_loops) fault ∷ []) ≡ None
+closed check open_loops left fault none is few =
+    passed check (fails_if (nat_lt 0 open_loops) fault ∷ []) none
+    ∙ ap (λ n. first_fault (fails_if (nat_lt 0 n) fault ∷ [])) is
+    ∙ ap (λ b. first_fault (fails_if b fault ∷ [])) (le-ltb 0 left few)

@@ -173,3 +173,7 @@ refused_seen view (Err e) check value fault is finds = finds ∙ ap (λ f. Some 
 pub of_none : {X : Type 0} (result : Result X Fault) (fault : Fault) (P : X → Type 0) → IsErrAnd result (λ e. e ≡ fault) → IfOk result P
 of_none (Ok x) fault P is = absurd is
 of_none (Err e) fault P is = tt
+
+-- A check that finds nothing is passed over.
+pub passed : (check : Option Fault) (checks : List (Option Fault)) → check ≡ None → first_fault (check ∷ checks) ≡ first_fault checks
+passed check checks none = ap (λ o. first_fault (o ∷ checks)) none

@@ -1,10 +1,13 @@
-use Rattle.std.proofs.Common.{◌≡◌, ◌+◌, ◌∙◌, map, drop, None, ap, sym, subst}
+use Rattle.std.proofs.Common.{◌≡◌, ◌+◌, ◌∙◌, map, drop, length, None, ap, sym, subst, refl}
 use Rattle.std.specs.List.{fold}
 use Rattle.toml.specs.View.{view}
+use Rattle.script.specs.declared.fault.FaultKind.TheVariants.{BadNesting}
+use Rattle.script.specs.Faults.{fault_at, at_element}
 use Rattle.script.specs.Arrays.{each_fault}
 use Rattle.script.specs.Entries.{entries_view}
 use Rattle.script.specs.Ops.{op_elements, op_fault, nesting_with}
-use Rattle.script.proofs.Steps.{left, goes_on}
+use Rattle.script.proofs.Steps.{left, goes_on, none_left, all_pass}
+use Rattle.script.proofs.Elements.{closed}
 use Rattle.script.proofs.ops.check_script.Goals as goal
 
 pub loop-index-preserved : goal.loop-index-preserved
@@ -29,3 +32,20 @@ loop-index-preserved g c =
           ∙ ap (λ xs. fold (nesting_with ops entries) nesting (map view xs)) turn
           ∙ ap (λ n. fold (nesting_with ops entries) n others) (sym taken.1);
     }
+
+pub returns : goal.returns
+returns g c =
+    let ops = g.O.TextOp.ops in
+    let entries = entries_view c.args.entries.now in
+    let elements = op_elements ops entries c.args.place in
+    let texts = c.args.texts.now in
+    let i = c.loop-index.index in
+    let nesting = c.loop-index.nesting in
+    let none = none_left texts texts refl i c.loop-index-test.false in (
+      closed (each_fault elements 0 0 (map view texts)) (fold (nesting_with ops entries) 0 (map view texts)) nesting
+          (fault_at BadNesting (at_element c.args.place (length (map view texts))))
+          (all_pass elements nesting i (map view (drop i texts)) (each_fault elements 0 0 (map view texts)) c.loop-index.invariant.checks
+          (ap (map view) none))
+          (c.loop-index.invariant.nesting ∙ ap (λ xs. fold (nesting_with ops entries) nesting (map view xs)) none) c.if-nesting-gt0.false,
+      refl,
+    )
