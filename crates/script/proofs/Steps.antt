@@ -1,7 +1,7 @@
 -- One more turn of a loop over a list.
 use Rattle.std.proofs.Common.{◌≡◌, ◌+◌, ◌<◌, ◌≤◌, ◌++◌, ℕ, suc, Bool, true, false, List, [], ◌∷◌, length, get_or, map, drop, Option, Some, None, Result, Ok, Err, refl, ap, sym, subst, ◌∙◌, append_assoc, add-one, arith, length-append, drop-cons}
 use Rattle.std.specs.List.{AllByRecursion, filter_map, cons_option, list_any, position_from}
-use Rattle.std.specs.Prelude.{◌||◌, if◌then◌else◌}
+use Rattle.std.specs.Prelude.{◌||◌, if◌then◌else◌, OnOk}
 use Rattle.std.specs.Result.{IsErrAnd, IfOk}
 use Rattle.std.proofs.Math.ListN.{drop_of_length-le}
 use Rattle.std.proofs.lemmas.List.{append-nil}
@@ -102,7 +102,7 @@ alone None = refl
 alone (Some fault) = refl
 
 -- a check that finds a fault, and what follows
-found : (check : Option Fault) (checks : List (Option Fault)) (fault : Fault) → check ≡ Some fault → first_fault (check ∷ checks) ≡ Some fault
+pub found : (check : Option Fault) (checks : List (Option Fault)) (fault : Fault) → check ≡ Some fault → first_fault (check ∷ checks) ≡ Some fault
 found check checks fault is = ap (λ o. first_fault (o ∷ checks)) is
 
 -- Elements are checked one after the other.
@@ -177,3 +177,8 @@ of_none (Err e) fault P is = tt
 -- A check that finds nothing is passed over.
 pub passed : (check : Option Fault) (checks : List (Option Fault)) → check ≡ None → first_fault (check ∷ checks) ≡ first_fault checks
 passed check checks none = ap (λ o. first_fault (o ∷ checks)) none
+
+-- Nothing is said of what was not done.
+pub not_done : {X : Type 0} (result : Result X Fault) (fault : Fault) (P : Type 0) → IsErrAnd result (λ e. e ≡ fault) → OnOk result P
+not_done (Ok x) fault P is = absurd is
+not_done (Err e) fault P is = tt

@@ -1,10 +1,10 @@
-use Rattle.std.proofs.Common.{◌≡◌, ◌≤◌, ◌+◌, None, length, map, drop, refl, ap, sym, subst}
+use Rattle.std.proofs.Common.{◌≡◌, ◌≤◌, ◌+◌, Some, None, length, map, drop, refl, ap, sym, subst}
 use Rattle.std.specs.List.{filter_map}
 use Rattle.toml.specs.View.{view}
 use Rattle.script.specs.Arrays.{each_fault}
 use Rattle.script.specs.Entries.{isr_names, entries_view}
 use Rattle.script.specs.Points.{point_elements, entry_fault, entry_named}
-use Rattle.script.proofs.Steps.{left, named, counted, goes_on, none_left, all_pass, all_named}
+use Rattle.script.proofs.Steps.{left, named, counted, goes_on, stops, refused_seen, none_left, all_pass, all_named}
 use Rattle.script.proofs.points.push_all.Goals as goal
 
 pub loop-index-preserved : goal.loop-index-preserved
@@ -42,3 +42,17 @@ returns c =
       all_named (entry_named names) view (drop i values) (filter_map (entry_named names) (map view values)) c.loop-index.points.items
           c.loop-index.invariant.named none,
     )
+
+pub returns-in_err-entry : goal.returns-in_err-entry
+returns-in_err-entry c =
+    let names = isr_names (entries_view c.args.entries.now) in
+    let elements = point_elements names c.args.place in
+    let values = c.args.values.now in
+    let i = c.loop-index.index in
+    let value = c.index-values-index.result in
+    let fault = c.in_err-entry.field-0.0 in
+    let all = each_fault elements tt 0 (map view values) in
+    refused_seen (λ v. v.items) c.from_residual.result all (filter_map (entry_named names) (map view values)) fault c.from_residual.ensures.1
+    (stops elements tt i (view value) (map view (drop i values)) (map view (drop (i + 1) values))
+    (ap (map view) (left values i value c.loop-index-test.true c.index-values-index.is)) all fault c.loop-index.invariant.checks
+    (subst (λ p. entry_fault names p (view value) ≡ Some fault) c.element.ensures c.in_err-entry.ensures))

@@ -1,4 +1,4 @@
-use Rattle.std.proofs.Common.{◌≡◌, ◌+◌, ◌++◌, List, [], ◌∷◌, None, map, drop, length, refl, ap, sym, subst, ◌∙◌}
+use Rattle.std.proofs.Common.{◌≡◌, ◌+◌, ◌++◌, List, [], ◌∷◌, Some, None, map, drop, length, refl, ap, sym, subst, ◌∙◌}
 use Rattle.std.proofs.lemmas.List.{map-append}
 use Rattle.toml.specs.Data.{Data, as_table}
 use Rattle.toml.specs.View.{view}
@@ -6,7 +6,7 @@ use Rattle.script.specs.declared.place.Place.{Place}
 use Rattle.script.specs.declared.fault.FaultKind.TheVariants.{WrongKind}
 use Rattle.script.specs.Faults.{at_entry, fault_at, need}
 use Rattle.script.specs.Arrays.{each_fault, tables}
-use Rattle.script.proofs.Steps.{left, goes_on, one_made, counted, further, none_left, all_pass, all_made}
+use Rattle.script.proofs.Steps.{left, goes_on, stops, refused, not_done, one_made, counted, further, none_left, all_pass, all_made}
 use Rattle.script.proofs.sections.read_each.Goals as goal
 
 pub loop-index-preserved : goal.loop-index-preserved
@@ -62,4 +62,30 @@ returns g c =
           all_made (λ (d : Data). named (as_table d)) view (drop i values)
           (map r.shown c.args.read.now.items ++ map (λ (d : Data). named (as_table d)) (map view values)) (map r.shown c.loop-index.read.items)
           c.loop-index.invariant.named none;
+    }
+
+pub returns-in_err-entry : goal.returns-in_err-entry
+returns-in_err-entry g c =
+    let r = g.R.EntryReader in
+    let keys = r.keys c.args.reader.now in
+    let named = r.named c.args.reader.now in
+    let elements = tables c.args.section named keys in
+    let values = c.args.values.now in
+    let i = c.loop-index.index in
+    let value = c.index-values-index.result in
+    let before = c.loop-index.read.items in
+    let fault = c.in_err-entry.field-0.0 in
+    let all = each_fault elements (map r.shown c.args.read.now.items) 0 (map view values) in
+    record {
+      checks =
+          refused c.from_residual.result all tt fault c.from_residual.ensures.1
+          (stops elements (map r.shown before) i (view value) (map view (drop i values)) (map view (drop (i + 1) values))
+          (ap (map view) (left values i value c.loop-index-test.true c.index-values-index.is)) all fault c.loop-index.invariant.checks
+          (subst (λ p. need (fault_at WrongKind p) (as_table (view value)) (keys (map r.shown before) p) ≡ Some fault) c.entry.ensures
+          (subst (λ xs. need (fault_at WrongKind c.entry.result) (as_table (view value)) (keys (map r.shown xs) c.entry.result) ≡ Some fault)
+          c.as_slice.ensures.value c.in_err-entry.ensures)));
+      added =
+          not_done c.from_residual.result fault
+          (map r.shown before ≡ map r.shown c.args.read.now.items ++ map (λ (d : Data). named (as_table d)) (map view values))
+          c.from_residual.ensures.1;
     }

@@ -81,3 +81,22 @@ returns-then-has_name g c =
           (text (earlier ++ before) here d name true true c.in-Some-as_str.ensures is double ∙ ap (λ f. Some f) (sym c.at-then-has_name.ensures));
       length = tt;
     }
+
+pub returns-clause-checks : goal.returns-clause-checks
+returns-clause-checks g c =
+    let r = g.E.Named in
+    let earlier = names_of (entries_view c.args.earlier.now) in
+    let before = map r.name_of (map r.shown c.args.before.now) in
+    let here = c.key-place.result in
+    let d = view c.in-Some.value.now in
+    let name = c.in-Some-as_str.name.now in
+    let is = ap is_name (sym c.as_bytes.ensures.value) ∙ sym c.is_name.ensures ∙ c.if-not-is_name.false in
+    let single : list_any (bytes_eq name) (earlier ++ before) ≡ false =
+    list_any-append (bytes_eq name) earlier before
+    ∙ ap (λ b. b || list_any (bytes_eq name) before) (sym c.has_name.ensures ∙ c.if-has_name.false)
+    ∙ sym c.has_name-else-has_name.ensures
+    ∙ c.if-has_name-2.false in (
+      there c.args.place key.Name (name_fault (earlier ++ before)) (table_view c.args.table.now) here c.key-place.ensures d None c.in-Some.ensures
+          (text (earlier ++ before) here d name true false c.in-Some-as_str.ensures is single),
+      ap (λ o. unwrap_or o []) c.in-Some-as_str.ensures ∙ ap (λ o. unwrap_or (option_and_then as_str o) []) c.in-Some.ensures,
+    )
