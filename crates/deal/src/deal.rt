@@ -74,9 +74,6 @@ impl Deal {
     {
         let blocks = division.count();
         let starts = division.starts(alloc)?;
-        let lists = Vec::with_capacity(alloc, workers)?;
-        let marks = vec![in alloc; false; blocks]?;
-        let rest = Vec::with_capacity(alloc, blocks)?;
         let size = Size {
             blocks: blocks as u64,
             lanes: workers as u64,
@@ -92,6 +89,7 @@ impl Deal {
             },
         )?;
         let lanes = lanes_of(alloc, &shared, &mut dealer, hands)?;
+        let (lists, marks, rest) = make_room(alloc, workers, blocks)?;
         let deal = Deal {
             shared,
             dealer,
@@ -125,6 +123,22 @@ impl Deal {
         keep_unmarked(marks, &mut rest);
         Closed { lists, rest }
     }
+}
+
+// Room for the lists of so many lanes, and for the marks and the numbers of so many blocks; none is marked.
+fn make_room(
+    alloc: Global,
+    workers: usize,
+    blocks: usize,
+) -> Result<(Vec<Vec<usize>>, Vec<bool>, Vec<usize>), Memory>
+    ensures { IfOk result (λ room. (room.0.items ≡ []) × (workers ≤ vec_capacity room.0)
+        × (room.1.items ≡ replicate blocks false) × (room.2.items ≡ [])
+        × (blocks ≤ vec_capacity room.2)) }
+{
+    let lists = Vec::with_capacity(alloc, workers)?;
+    let marks = vec![in alloc; false; blocks]?;
+    let rest = Vec::with_capacity(alloc, blocks)?;
+    Ok((lists, marks, rest))
 }
 
 // The lanes come back, and with each the list of its blocks. The deal's seat then has the blocks of

@@ -1,4 +1,4 @@
-use Rattle.std.proofs.Common.{◌≡◌, ◌<◌, ◌≤◌, ◌^◌, [], List, length, replicate, false, vec_len, vec_capacity, sym, ap, ap₂, ◌∙◌, subst, arith, rules}
+use Rattle.std.proofs.Common.{◌≡◌, ◌<◌, ◌≤◌, ◌^◌, [], List, length, replicate, false, vec_len, vec_capacity, sym, ap, ap₂, ◌∙◌, subst, arith}
 use Rattle.atomic_table.specs.Table.{Me}
 use Rattle.deal.specs.Totals.{range}
 use Rattle.deal.specs.Marks.{mark}
@@ -74,14 +74,14 @@ invariant_of-deal c =
     let blocks : length s.division ≡ c.count-blocks.result = ap (λ (t : Shared). length t.division) c.in_ok-shared.ensures.ok ∙ sym c.count-blocks.ensures in
     let key = ap (λ (t : Shared). t.count.shared.key) c.in_ok-shared.ensures.ok ∙ e.5 in
     let lanes : s.count.shared.key.lanes ≡ c.args.workers = ap (λ (k : Size). k.lanes) key in
-    let marks : c.in_ok-marks.marks.items ≡ replicate c.count-blocks.result false = search rules in (
+    let room = c.in_ok-lists.ensures in (
       ap (λ (k : Size). k.blocks) key ∙ sym blocks,
       c.in_ok-lanes.ensures.dealer,
-      c.in_ok-lists.ensures.items,
-      omega (arith, lanes, c.in_ok-lists.ensures.capacity),
-      marks ∙ ap (λ n. replicate n false) (sym blocks),
-      c.in_ok-rest.ensures.items,
-      omega (arith, blocks, c.in_ok-rest.ensures.capacity),
+      room.0,
+      omega (arith, lanes, room.1),
+      room.2 ∙ ap (λ n. replicate n false) (sym blocks),
+      room.3,
+      omega (arith, blocks, room.4),
     )
 
 pub returns-clause-deal : goal.returns-clause-deal
