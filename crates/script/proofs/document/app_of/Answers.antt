@@ -1,12 +1,11 @@
-use Rattle.std.proofs.Common.{◌≡◌, ◌≤◌, List, length, map, ap, subst, sym, arith, ◌∙◌}
+use Rattle.std.proofs.Common.{◌≡◌, ◌≤◌, length, map, ap, subst, sym, arith, ◌∙◌}
 use Rattle.std.specs.List.{AllByRecursion}
 use Rattle.std.proofs.lemmas.Grind.{common_steps}
 use Rattle.std.proofs.lemmas.List.{length-map}
 use Rattle.model.specs.Application.{Application, Handler}
 use Rattle.model.specs.Scripts.{IsHandler, KnowsAll, most_name_bytes, most_handler_ops}
 use Rattle.toml.specs.View.{table_view}
-use Rattle.script.specs.declared.named_object.NamedObject.{NamedObject}
-use Rattle.script.specs.Entries.{ObjectEntry, RawIsr, Entries, HasEntries, isr_names, object_view, raw_view, entries_view}
+use Rattle.script.specs.Entries.{RawIsr, Entries, HasEntries, isr_names, raw_view, entries_view}
 use Rattle.script.specs.Ops.{with_script, with_isr_ops}
 use Rattle.script.specs.Interrupts.{interrupts_named}
 use Rattle.script.specs.Points.{campaign_named}

@@ -1,4 +1,4 @@
-use Rattle.std.proofs.Common.{◌≡◌, ◌+◌, ◌∙◌, false, map, drop, ap, sym, refl}
+use Rattle.std.proofs.Common.{◌+◌, ◌∙◌, map, drop, ap, sym, refl}
 use Rattle.std.specs.List.{list_any}
 use Rattle.std.specs.Str.{bytes_eq}
 use Rattle.script.proofs.Steps.{left, none_left, any_here, any_later}

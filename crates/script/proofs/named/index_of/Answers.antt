@@ -1,4 +1,4 @@
-use Rattle.std.proofs.Common.{◌≡◌, ◌+◌, ◌∙◌, ℕ, List, map, drop, ap, sym, refl}
+use Rattle.std.proofs.Common.{◌+◌, ◌∙◌, ℕ, List, map, drop, ap, sym, refl}
 use Rattle.std.specs.List.{position_from}
 use Rattle.std.specs.Str.{bytes_eq}
 use Rattle.script.proofs.Steps.{left, none_left, position_here, position_later}

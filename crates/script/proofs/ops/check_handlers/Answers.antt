@@ -1,7 +1,6 @@
-use Rattle.std.proofs.Common.{◌≡◌, ◌+◌, ◌∙◌, None, map, drop, sym, ap, refl, subst}
+use Rattle.std.proofs.Common.{◌≡◌, ◌+◌, ◌∙◌, None, map, drop, ap, refl, subst}
 use Rattle.toml.specs.View.{view}
 use Rattle.script.specs.declared.place.Place.{Place}
-use Rattle.script.specs.declared.place.Section.TheVariants as section
 use Rattle.script.specs.declared.place.Key.TheVariants as key
 use Rattle.script.specs.Faults.{at_key}
 use Rattle.script.specs.Entries.{RawIsr, isr_view, entries_view}

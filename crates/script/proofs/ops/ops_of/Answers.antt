@@ -1,4 +1,4 @@
-use Rattle.std.proofs.Common.{◌∙◌, ◌+◌, sym, map, drop, List, length}
+use Rattle.std.proofs.Common.{◌∙◌, ◌+◌, sym, map, drop, length}
 use Rattle.toml.specs.View.{view}
 use Rattle.script.specs.Finding.{among}
 use Rattle.script.specs.Entries.{entries_view}

@@ -1,4 +1,4 @@
-use Rattle.std.proofs.Common.{◌≡◌, ◌+◌, ◌<◌, ◌≤◌, ◌++◌, List, [], ◌∷◌, Some, None, map, drop, length, refl, sym, subst, ◌∙◌}
+use Rattle.std.proofs.Common.{◌+◌, ◌++◌, [], ◌∷◌, Some, None, map, drop, length, refl, sym, subst, ◌∙◌}
 use Rattle.toml.specs.View.{view}
 use Rattle.toml.specs.Data.{as_str}
 use Rattle.model.specs.Scripts.{Nests, nesting_after, most_ops}

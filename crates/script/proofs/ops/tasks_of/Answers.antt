@@ -1,6 +1,5 @@
-use Rattle.std.proofs.Common.{◌≡◌, ◌++◌, ◌+◌, List, [], length, map, drop, sym, ap, subst, ◌∙◌, ◌≤◌}
+use Rattle.std.proofs.Common.{◌+◌, map, drop, sym, subst, ◌≤◌}
 use Rattle.std.proofs.Math.Nat.{le_trans}
-use Rattle.std.specs.List.{AllByRecursion}
 use Rattle.model.specs.Application.{Definition}
 use Rattle.model.specs.Scripts.{Nests, IsDefinition, most_tasks}
 use Rattle.script.specs.Entries.{raw_view, entries_view}

@@ -1,10 +1,9 @@
-use Rattle.std.proofs.Common.{◌≡◌, ◌+◌, ◌++◌, List, [], ◌∷◌, Some, None, map, drop, length, refl, ap, sym, subst, ◌∙◌}
+use Rattle.std.proofs.Common.{◌≡◌, ◌+◌, ◌++◌, [], ◌∷◌, Some, None, map, drop, length, refl, ap, sym, subst, ◌∙◌}
 use Rattle.std.proofs.lemmas.List.{map-append}
 use Rattle.toml.specs.Data.{Data, as_table}
 use Rattle.toml.specs.View.{view}
-use Rattle.script.specs.declared.place.Place.{Place}
 use Rattle.script.specs.declared.fault.FaultKind.TheVariants.{WrongKind}
-use Rattle.script.specs.Faults.{at_entry, fault_at, need}
+use Rattle.script.specs.Faults.{fault_at, need}
 use Rattle.script.specs.Arrays.{each_fault, tables}
 use Rattle.script.proofs.Steps.{left, goes_on, stops, refused, not_done, one_made, counted, further, none_left, all_pass, all_made}
 use Rattle.script.proofs.sections.read_each.Goals as goal

@@ -1,4 +1,4 @@
-use Rattle.std.proofs.Common.{◌≡◌, ◌++◌, ◌∙◌, [], Bool, true, false, Some, None, map, ap, sym, subst, refl}
+use Rattle.std.proofs.Common.{◌≡◌, ◌++◌, ◌∙◌, [], true, false, Some, None, map, ap, sym, refl}
 use Rattle.std.specs.Prelude.{◌||◌, unwrap_or}
 use Rattle.std.specs.Option.{option_and_then}
 use Rattle.std.specs.List.{list_any}

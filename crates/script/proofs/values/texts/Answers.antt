@@ -1,10 +1,9 @@
-use Rattle.std.proofs.Common.{◌≡◌, ◌<◌, ◌≤◌, ◌∙◌, [], Some, None, map, length, ap, sym, subst, refl}
+use Rattle.std.proofs.Common.{◌<◌, ◌≤◌, ◌∙◌, [], Some, None, map, length, ap, sym, subst}
 use Rattle.std.specs.Prelude.{unwrap_or}
 use Rattle.std.proofs.lemmas.List.{length-map}
 use Rattle.toml.specs.View.{view, table_view}
-use Rattle.script.specs.declared.fault.FaultKind.TheVariants.{WrongKind, TooMany}
-use Rattle.script.specs.Faults.{fault_at, required}
-use Rattle.script.specs.Arrays.{array_of, elements_of}
+use Rattle.script.specs.Faults.{required}
+use Rattle.script.specs.Arrays.{elements_of}
 use Rattle.script.specs.Values.{text_elements, texts_fault, texts_named}
 use Rattle.script.proofs.Steps.{refused_seen, of_none}
 use Rattle.script.proofs.Elements.{missing, there, no_array, too_many, few_enough}
