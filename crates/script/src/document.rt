@@ -104,12 +104,9 @@ fn app_of(
 ) -> Result<App, LoadError>
     requires { 1 ≤ length entries.now.tasks.items }
     ensures { Loads result
-        (first_fault (
-        handler_ops_fault (entries_view entries.now)
-        ∷ scripts_fault (entries_view entries.now)
+        (first_fault (handler_ops_fault (entries_view entries.now) ∷ scripts_fault (entries_view entries.now)
         ∷ interrupts_fault (isr_names (entries_view entries.now)) (table_view document.now)
-        ∷ campaign_fault (isr_names (entries_view entries.now)) (table_view document.now)
-        ∷ []))
+        ∷ campaign_fault (isr_names (entries_view entries.now)) (table_view document.now) ∷ []))
         (record {
           start = start;
           limits = limits;
