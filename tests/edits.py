@@ -51,14 +51,26 @@ class Edit:
             made[path] = text.replace(old, new)
         return made
 
-    def functions(self, texts):
-        """The functions that it changes."""
-        found, made = set(), dict(texts)
+    def places(self, texts):
+        """For each pair the functions that it changes."""
+        found, made = [], dict(texts)
         for path, old, new in self.pairs:
             line = made[path][: made[path].index(old)].count("\n")
-            found |= {it for it, (first, last) in functions_in(path, made[path]).items() if first <= line <= last}
+            found.append({it for it, (first, last) in functions_in(path, made[path]).items() if first <= line <= last})
             made[path] = made[path].replace(old, new)
         return found
+
+    def functions(self, texts):
+        """The functions that it changes."""
+        return set().union(*self.places(texts))
+
+    def copied(self, texts):
+        """The function that it changes, where it changes nothing else, and a copy of it can stand beside it: it is no trait's."""
+        places = self.places(texts)
+        function = next(iter(places[0]), None)
+        if any(it != {function} for it in places) or is_of_a_trait(function, texts[function.path]):
+            return None
+        return function
 
 
 def read_edit(crate, file):
@@ -102,6 +114,53 @@ def functions_in(path, text):
                          and it == at), len(lines) - 1)
             found[Function(path, owner if head[1] else module, head[2])] = at, last
     return found
+
+
+def is_of_a_trait(function, text):
+    """Whether the function stands in a trait, or in an implementation of one."""
+    lines = text.split("\n")
+    first, _ = functions_in(function.path, text)[function]
+    if not lines[first].startswith(" "):
+        return False
+    head = next(it for it in reversed(lines[:first]) if IMPL.match(it) or TRAIT.match(it))
+    return bool(TRAIT.match(head) or IMPL.match(head)[1])
+
+
+def text_of(function, text):
+    """The lines of a function, with the attributes and comments above it."""
+    lines = text.split("\n")
+    first, last = functions_in(function.path, text)[function]
+    while first > 0 and re.match(r"\s*(?:#\[|//)", lines[first - 1]):
+        first -= 1
+    return lines[first : last + 1]
+
+
+def with_beside(text, function, wrong, name):
+    """The text of a file with one more function, of this name, behind the function: as it is in the wrong text."""
+    copy = [re.sub(rf"\bfn {function.name}\b", f"fn {name}", it, count=1) if FUNCTION.match(it) else it for it in text_of(function, wrong)]
+    lines = text.split("\n")
+    _, last = functions_in(function.path, text)[function]
+    return "\n".join([*lines[: last + 1], "", *copy, *lines[last + 1 :]])
+
+
+def copy_proofs(folder, crate, function, name):
+    """Copies what is written of the function's proof for that of this name, and returns the folders that it makes."""
+    made = []
+    for at, folders, _ in os.walk(f"{folder}/proofs"):
+        owner = os.path.basename(at) if at != f"{folder}/proofs" else "lib"
+        if function.name not in folders or owner != function.owner:
+            continue
+        above = os.path.relpath(at, folder).replace(os.sep, ".")
+        to = f"{at}/{name}"
+        os.mkdir(to)
+        made.append(to)
+        for file in sorted(it for it in os.listdir(f"{at}/{function.name}") if it.endswith(".antt")):
+            with open(f"{at}/{function.name}/{file}", encoding="utf-8") as it:
+                text = re.sub(rf"(\bRattle\.{crate}\.{re.escape(above)}\.){function.name}(?=[.\s])", rf"\g<1>{name}", it.read())
+            with open(f"{to}/{file}", "w", encoding="utf-8") as it:
+                it.write(text)
+        folders.clear()
+    return made
 
 
 def sources(folder):
