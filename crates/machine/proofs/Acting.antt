@@ -1,5 +1,5 @@
 -- A task goes on, and its call answers: what that makes of the states that the kernel stands for.
-use Rattle.std.proofs.Common.{◌≡◌, ◌≢◌, ◌<◌, ◌+◌, ℕ, true, set, List, length, get_or-set_same, Option, Some, None, refl, ap, sym, subst, ◌∙◌}
+use Rattle.std.proofs.Common.{◌≡◌, ◌≢◌, ◌<◌, ◌+◌, ℕ, true, set, List, length, get_or-set_same, Option, Some, refl, ap, sym, subst, ◌∙◌}
 use Rattle.std.specs.Option.{is_some, IfSome}
 use Rattle.std.proofs.lemmas.Bool.{eq-eqb, ne_eqb}
 use Rattle.std.proofs.lemmas.List.{set-set}
@@ -15,16 +15,10 @@ use Rattle.model.specs.Ops.{go_to, moved_to, complete, called, answer}
 use Rattle.machine.specs.declared.machine.Machine.{Machine}
 use Rattle.sched.specs.Schedule.{Schedule, block}
 use Rattle.sched.proofs.Standing as on_sched
-use Rattle.objects.specs.Queues.{SameWaits}
-use Rattle.objects.proofs.Kept.{stands_same}
-use Rattle.objects.proofs.Awake.{at_locked_same}
 use Rattle.groups.specs.StandsFor.{bits_wait}
-use Rattle.groups.proofs.Standing as on_groups
-use Rattle.groups.proofs.Kept as bits_kept
-use Rattle.model.specs.Invariant.{IsTable}
 use Rattle.machine.specs.StandsFor.{progress_in, At, with_progress}
 use Rattle.machine.specs.Can.{Agrees, Runs}
-use Rattle.machine.proofs.Parts.{clock-same, same_parts, stands-changed, stands-gone, stands-ended, stands-told}
+use Rattle.machine.proofs.Parts.{stands-changed, stands-gone, stands-ended, stands-unseen, stands-told}
 
 -- the kernel's running task is a task
 pub within : (k : Machine) (log : List Event) (s : State) → At k log s → (i : ℕ) → k.sched.current ≡ Some i → i < length s.tasks
@@ -81,28 +75,7 @@ answered app k mid new log told s h i r v e a w one written is g =
 
 -- the step brings about an end
 pub stopped_at : (k : Machine) (log : List Event) (s : State) → At k log s → (end same : End) → end ≡ same → At (record k { stopped = Some end }) log (record s { stopped = Some same })
-stopped_at k log s h end same e =
-    let new : State = record s { stopped = Some same } in
-    let table : IsTable new = record { tickets = h.stands.sched.table.tickets; few = h.stands.sched.table.few; current = h.stands.sched.table.current; holders = h.stands.sched.table.holders } in
-    let alike : SameWaits s new = same_parts s new refl refl refl in
-    record {
-      stands = record {
-        sched = record { ready = h.stands.sched.ready; current = h.stands.sched.current; priorities = h.stands.sched.priorities; base_priorities = h.stands.sched.base_priorities; depth = h.stands.sched.depth; suspended = h.stands.sched.suspended; table = table };
-        rest = record {
-          progress = h.stands.rest.progress;
-          full = h.stands.rest.full;
-          clock = clock-same k.clock s new h.stands.rest.clock refl refl refl table;
-          queues = stands_same s new alike k.queues None h.stands.rest.queues table;
-          groups = on_groups.stands_same k.groups s new h.stands.rest.groups (bits_kept.same_parts s new refl refl) table;
-          suspensions = h.stands.rest.suspensions;
-          awake = at_locked_same None s new alike h.stands.rest.awake;
-          steps = h.stands.rest.steps;
-          stopped = ap Some e;
-          placed = h.stands.rest.placed;
-        };
-      };
-      log = h.log;
-    }
+stopped_at k log s h end same e = record { stands = stands-unseen k s h.stands s.log s.steps k.steps (Some same) (Some end) h.stands.rest.steps (ap Some e); log = h.log }
 
 -- ---- the parts agree after a deed too
 

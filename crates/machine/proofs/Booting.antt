@@ -32,12 +32,11 @@ use Rattle.soundness.proofs.Reached.{with_ops_within}
 use Rattle.machine.specs.declared.machine.Machine.{Machine}
 use Rattle.machine.specs.StandsFor.{progress_in, StandsFor, Stands}
 use Rattle.machine.specs.Boot.{priorities_in, HasNoneFrom}
-use Rattle.machine.proofs.Parts.{clock-same, ready_alike}
+use Rattle.machine.proofs.Parts.{clock-same, ready_alike, rest_with_clock}
 use Rattle.sched.proofs.LinedUp.{ready_made}
-use Rattle.machine.proofs.Waking.{progress-all_ready, still_awake}
+use Rattle.machine.proofs.Waking.{kept-all_ready, progress-all_ready, still_awake}
 use Rattle.model.specs.Suspension.{can_resume}
 use Rattle.groups.specs.StandsFor.{bits_wait, SameBitWaits}
-use Rattle.groups.proofs.Standing as on_groups
 use Rattle.groups.proofs.Kept as bits_kept
 use Rattle.model.specs.Invariant.{Hold, Suspension, IsTable}
 use Rattle.model.proofs.Resets.{call-reset}
@@ -45,7 +44,7 @@ use Rattle.model.proofs.Statuses.{free_unwoken}
 use Rattle.objects.specs.Queues as queues
 use Rattle.objects.specs.Queues.{Exchange, SameWaits}
 use Rattle.objects.specs.WaitersStand.{AtLocked}
-use Rattle.objects.proofs.Awake.{at_locked-nobody, at_locked_same}
+use Rattle.objects.proofs.Awake.{at_locked-nobody}
 use Rattle.objects.proofs.Kept.{stands_same}
 use Rattle.objects.proofs.Locking.{objects-all_ready}
 use Rattle.objects.proofs.Resetting.{nobody_waits-reset}
@@ -284,24 +283,9 @@ booted app formed k v w h ready chooses =
     let awake : (i : ℕ) → wake_time_of (status_at none i) ≡ None = ended_at_reset app.start app.tasks in
     let keep = keeps-all_ready is none in
     let on = sched_chosen w s (chooses s ready (held_by_none s (ap (λ (h : Hold). h.held) keep.hold) (ap (λ (x : Suspension). x.suspensions) keep.suspension))) in
-    let same : SameWaits none (reset app) = same_at_reset app in
     let bits : SameBitWaits none (reset app) = bits_kept.same_both none s (reset app) (bits_kept.same_all_ready is none (nobody_waits is)) (bits_kept.same_parts s (reset app) refl refl) in
-    let c : clock.StandsFor k.clock s = clock-all_ready k.clock is none h.rest.clock awake low in
-    record {
-      sched = on;
-      rest = record {
-        progress = λ i. h.rest.progress i ∙ sym (progress-all_ready is none i);
-        full = h.rest.full;
-        clock = clock-same k.clock s (record s { current = choice s }) c refl refl refl on.table;
-        queues = stands_same none (reset app) same k.queues None h.rest.queues on.table;
-        groups = on_groups.stands_same k.groups none (reset app) h.rest.groups bits on.table;
-        suspensions = h.rest.suspensions ∙ sym (ap (λ (x : Suspension). x.suspensions) keep.suspension);
-        awake = at_locked_same None none (reset app) same h.rest.awake;
-        steps = h.rest.steps ∙ sym keep.steps;
-        stopped = h.rest.stopped ∙ sym keep.stopped;
-        placed = h.rest.placed;
-      };
-    } where
+    let c = clock-same k.clock s (record s { current = choice s }) (clock-all_ready k.clock is none h.rest.clock awake low) refl refl refl on.table in
+    record { sched = on; rest = rest_with_clock h.rest c (progress-all_ready is none) (kept-all_ready is none) (same_at_reset app) bits } where
       nobody_waits : (js : List ℕ) → AllByRecursion (λ i. bits_wait (status_at (nobody_ready app) i) ≡ None) js
       nobody_waits [] = tt
       nobody_waits (j ∷ js) = (ap bits_wait (ended_reset app.start j app.tasks), nobody_waits js)

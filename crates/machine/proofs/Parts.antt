@@ -1,21 +1,26 @@
 -- What the parts of the kernel make of the states that it stands for.
-use Rattle.std.proofs.Common.{◌≡◌, ◌≢◌, ◌<◌, ℕ, zero, suc, Bool, true, false, eqb, List, [], ◌∷◌, ◌++◌, length, get_or, set, Option, Some, None, refl, ap, sym, subst, ◌∙◌, arith, get_or-set_same, get_or-set_other}
+use Rattle.std.proofs.Common.{◌≡◌, ◌≢◌, ◌<◌, ◌≤◌, ℕ, zero, suc, Bool, true, false, eqb, List, [], ◌∷◌, ◌++◌, length, get_or, set, Option, Some, None, refl, ap, sym, subst, ◌∙◌, arith, get_or-set_same, get_or-set_other}
 use Rattle.std.specs.List.{filter}
 use Rattle.std.specs.Option.{option_eq, is_some}
 use Rattle.std.proofs.Math.ListN.{length-set}
 use Rattle.model.specs.declared.call.Phase.TheVariants.{Place}
 use Rattle.model.specs.declared.event.Event.{Event}
-use Rattle.model.specs.State.{State, Task, Progress, Status, Ready, Awake, Waiting, Asleep, WaitingForBits, Suspended, Ended, Object, ticket_if_ready, wait_if_awake, wake_time_of, no_call, no_task, no_progress, task_at, status_at, call_at, with_task, printed}
+use Rattle.model.specs.declared.event.End.{End}
+use Rattle.model.specs.State.{State, Task, Progress, Status, Ready, Awake, Waiting, Asleep, WaitingForBits, Suspended, Ended, Object, ticket_if_ready, wait_if_awake, wake_time_of, no_call, no_task, no_progress, task_at, status_at, progress_at, call_at, with_task, printed}
 use Rattle.model.specs.State as state
 use Rattle.model.specs.Order.{Entry, list_by, tasks_of}
-use Rattle.model.specs.Switching.{is_ready, make_ready, write}
+use Rattle.model.specs.Switching.{is_ready, make_ready, ready_key, write}
 use Rattle.model.specs.Time.{delayed_key, sleep}
 use Rattle.model.specs.Ops.{moved_to}
+use Rattle.model.specs.Suspension.{can_resume}
 use Rattle.model.specs.Invariant.{IsTable, wait_of}
 use Rattle.model.proofs.Sorting.{by_test}
 use Rattle.model.proofs.Lists.{eqb-refl, eqb-same}
-use Rattle.model.proofs.Tables.{ticket_at, table-set, table-taken, table-make_ready, each-set}
+use Rattle.model.proofs.Tables.{ticket_at, table-set, table-make_ready, each-set}
 use Rattle.model.proofs.Statuses.{ready_awake, ready_free}
+use Rattle.task_lists.specs.Priorities.{with_priorities}
+use Rattle.sched.specs.StandsFor as sched
+use Rattle.sched.specs.StandsFor.{depth_of}
 use Rattle.sched.specs.Schedule.{Schedule, block}
 use Rattle.sched.specs.Schedule as schedule
 use Rattle.sched.proofs.Standing as on_sched
@@ -23,10 +28,14 @@ use Rattle.clock.specs.StandsFor as clock
 use Rattle.clock.specs.Timeline.{Timeline, is_asleep}
 use Rattle.clock.proofs.Standing as on_clock
 use Rattle.clock.proofs.Standing.{SleepsAlike, asleep_same, ticks_of}
-use Rattle.objects.specs.Queues.{SameWaits}
+use Rattle.objects.specs.WaitersStand.{AtLocked}
+use Rattle.objects.specs.Queues as queues
+use Rattle.objects.specs.Queues.{Exchange, SameWaits}
 use Rattle.objects.proofs.Kept.{stands_same, same_free, same_ticket, same_progress, same_ready}
 use Rattle.objects.proofs.Awake.{at_locked_same}
-use Rattle.groups.specs.StandsFor.{bits_wait}
+use Rattle.groups.specs.EventGroups.{EventGroups}
+use Rattle.groups.specs.StandsFor as groups
+use Rattle.groups.specs.StandsFor.{SameBitWaits, bits_wait}
 use Rattle.groups.proofs.Standing as on_groups
 use Rattle.groups.proofs.Kept as bits_kept
 use Rattle.groups.proofs.Kept.{ready_waits_not}
@@ -44,12 +53,25 @@ progress-set ps ts i t h l m j = by_test (eqb j i)
     rw (get_or-set_other ps i j t.progress no_progress apart, get_or-set_other ts i j t no_task apart) (h j))
 
 -- A task changes, but not its progress.
+pub progress-kept : (ts : List Task) (i : ℕ) (t : Task) → t.progress ≡ (get_or ts i no_task).progress → (j : ℕ) → (get_or (set ts i t) j no_task).progress ≡ (get_or ts j no_task).progress
+progress-kept ts i t e = each-set no_task (λ j (u : Task). u.progress ≡ (get_or ts j no_task).progress) ts i t e (λ j. refl)
+
 pub progress-same : (ps : List Progress) (ts : List Task) (i : ℕ) (t : Task) → ((j : ℕ) → progress_in ps j ≡ (get_or ts j no_task).progress) → i < length ts → t.progress ≡ (get_or ts i no_task).progress → (j : ℕ) → progress_in ps j ≡ (get_or (set ts i t) j no_task).progress
-progress-same ps ts i t h m e j = by_test (eqb j i)
-    (λ u. let same : j ≡ i = eqb-same j i u in
-    rw (same, get_or-set_same ts i t no_task m) (h i ∙ sym e))
-    (λ u. let apart : j ≢ i = (λ q. let w : eqb j i ≡ true = rw q (eqb-refl i) in absurd (cc)) in
-    rw (get_or-set_other ts i j t no_task apart) (h j))
+progress-same ps ts i t h m e j = h j ∙ sym (progress-kept ts i t e j)
+
+-- ---- the scheduler
+
+-- The scheduler stands for each state of the same tasks, where the same one runs and it is held as often.
+pub sched-same : {v : Schedule} {s new : State} → sched.StandsFor v s → IsTable new → new.tasks ≡ s.tasks → new.current ≡ s.current → depth_of new ≡ depth_of s → sched.StandsFor v new
+sched-same h table tasks current depth = record {
+  ready = h.ready ∙ sym (ap (λ ts. with_priorities (list_by ready_key ts)) tasks);
+  current = h.current ∙ sym current;
+  priorities = λ i. h.priorities i ∙ sym (ap (λ ts. (get_or ts i no_task).priority) tasks);
+  base_priorities = λ i. h.base_priorities i ∙ sym (ap (λ ts. (get_or ts i no_task).base_priority) tasks);
+  depth = h.depth ∙ sym depth;
+  suspended = λ i. h.suspended i ∙ sym (ap (λ ts. can_resume (get_or ts i no_task).status) tasks);
+  table = table;
+}
 
 -- ---- the clock
 
@@ -116,26 +138,102 @@ same_parts s new tasks objects locked = record {
   locked = locked;
 }
 
--- what tasks share, and how many `suspend_all` are in force
-abbrev pub shared_of : State → List Object × (ℕ → ℕ) × ℕ
-shared_of s = (s.objects, s.group_bits, s.suspensions)
+-- what the kernel keeps of a state beside its parts
+abbrev pub Kept : Type 0
+Kept = ℕ × ℕ × Option End
 
-pub rest_same : (k : Machine) (s new : State) → RestStandsFor k s → new.tasks ≡ s.tasks → new.time ≡ s.time → ticks_of new ≡ ticks_of s → new.steps ≡ s.steps → new.stopped ≡ s.stopped → shared_of new ≡ shared_of s → new.locked ≡ s.locked → IsTable new → RestStandsFor k new
-rest_same k s new h tasks time ticks steps stopped shared locked table =
-    let same = same_parts s new tasks (ap (λ (x : List Object × (ℕ → ℕ) × ℕ). x.0) shared) locked in
-    let bits = bits_kept.same_parts s new tasks (ap (λ (x : List Object × (ℕ → ℕ) × ℕ). x.1) shared) in
+abbrev pub kept_of : State → Kept
+kept_of s = (s.suspensions, s.steps, s.stopped)
+
+-- The clock stands for the new state; each task is where it was in its script, and what is kept beside the parts stays.
+module _ {k : Machine} {s new : State} {v : Schedule} {t : Timeline} (h : RestStandsFor k s) (on : clock.StandsFor t new) (progress : (i : ℕ) → progress_at new i ≡ progress_at s i) (kept : kept_of new ≡ kept_of s) where
+  -- the queues and the groups are given too; the guess at the next interrupt may be another
+  pub rest_with : {q : Exchange} {g : EventGroups} {next : ℕ} → queues.StandsFor q None new → AtLocked None new → groups.StandsFor g new → RestStandsFor (record k { sched = v; clock = t; queues = q; groups = g; next_interrupt = next }) new
+  rest_with left locked there = record {
+    progress = λ i. h.progress i ∙ sym (progress i);
+    full = h.full;
+    clock = on;
+    queues = left;
+    groups = there;
+    suspensions = h.suspensions ∙ sym (ap (λ (x : Kept). x.0) kept);
+    awake = locked;
+    steps = h.steps ∙ sym (ap (λ (x : Kept). x.1) kept);
+    stopped = h.stopped ∙ sym (ap (λ (x : Kept). x.2) kept);
+    placed = h.placed;
+  }
+
+  -- the queues are given, and the same tasks wait for bits
+  pub rest_with_queues : {q : Exchange} → queues.StandsFor q None new → AtLocked None new → SameBitWaits s new → RestStandsFor (record k { sched = v; clock = t; queues = q }) new
+  rest_with_queues left locked bits = rest_with left locked (on_groups.stands_same k.groups s new h.groups bits on.table)
+
+  -- the groups are given, and the same tasks wait at objects
+  pub rest_with_groups : {g : EventGroups} → SameWaits s new → groups.StandsFor g new → RestStandsFor (record k { sched = v; clock = t; groups = g }) new
+  rest_with_groups waits there = rest_with (stands_same s new waits k.queues None h.queues on.table) (at_locked_same None s new waits h.awake) there
+
+  -- the same tasks wait
+  pub rest_with_clock : SameWaits s new → SameBitWaits s new → RestStandsFor (record k { sched = v; clock = t }) new
+  rest_with_clock waits bits = rest_with_groups waits (on_groups.stands_same k.groups s new h.groups bits on.table)
+
+-- Other parts stand for the same state, and the guess may be another.
+pub rest_again : {k : Machine} {s : State} {v : Schedule} {t : Timeline} {q : Exchange} {g : EventGroups} {next : ℕ} → RestStandsFor k s → clock.StandsFor t s → queues.StandsFor q None s → groups.StandsFor g s → RestStandsFor (record k { sched = v; clock = t; queues = q; groups = g; next_interrupt = next }) s
+rest_again h on left there = rest_with h on (λ _. refl) refl left h.awake there
+
+-- A task's progress changes, in the kernel and in its state, and is not in Place; the same tasks wait.
+pub rest_moved : {k : Machine} {s new : State} {v : Schedule} → RestStandsFor k s → clock.StandsFor k.clock new → kept_of new ≡ kept_of s → (i : ℕ) (t : Task) → i < length s.tasks → length s.tasks ≤ 32 → new.tasks ≡ set s.tasks i t → t.progress.call.phase ≢ Place → SameWaits s new → SameBitWaits s new
+    → RestStandsFor (record k { progress = set k.progress i t.progress; sched = v }) new
+rest_moved {k} {s} {new} h on kept i t l few is off waits bits =
+    let n = h.full in
+    let m : i < length k.progress = omega arith in
+    record {
+      progress = λ j. progress-set k.progress s.tasks i t h.progress m l j ∙ sym (ap (λ ts. (get_or ts j no_task).progress) is);
+      full = rw length-set h.full;
+      clock = on;
+      queues = stands_same s new waits k.queues None h.queues on.table;
+      groups = on_groups.stands_same k.groups s new h.groups bits on.table;
+      suspensions = h.suspensions ∙ sym (ap (λ (x : Kept). x.0) kept);
+      awake = at_locked_same None s new waits h.awake;
+      steps = h.steps ∙ sym (ap (λ (x : Kept). x.1) kept);
+      stopped = h.stopped ∙ sym (ap (λ (x : Kept). x.2) kept);
+      placed = each-set no_progress (λ _ (p : Progress). p.call.phase ≢ Place) k.progress i t.progress off h.placed;
+    }
+
+-- what the clock, the queues and the groups see of a state
+abbrev pub Seen : Type 0
+Seen = List Task × ℕ × (ℕ × ℕ) × List Object × (ℕ → ℕ) × Option ℕ
+
+abbrev pub seen : State → Seen
+seen s = (s.tasks, s.time, ticks_of s, s.objects, s.group_bits, s.locked)
+
+-- Nothing changes that they see.
+pub rest_unseen : {k : Machine} {s new : State} {v : Schedule} {n m : ℕ} {e : Option End} → RestStandsFor k s → IsTable new → seen new ≡ seen s → n ≡ new.suspensions → m ≡ new.steps → e ≡ new.stopped
+    → RestStandsFor (record k { sched = v; suspensions = n; steps = m; stopped = e }) new
+rest_unseen {k} {s} {new} h table same suspended steps stopped =
+    let tasks = ap (λ (x : Seen). x.0) same in
+    let waits = same_parts s new tasks (ap (λ (x : Seen). x.3) same) (ap (λ (x : Seen). x.5) same) in
     record {
       progress = λ i. h.progress i ∙ ap (λ ts. (get_or ts i no_task).progress) (sym tasks);
       full = h.full;
-      clock = clock-same k.clock s new h.clock tasks time ticks table;
-      queues = stands_same s new same k.queues None h.queues table;
-      groups = on_groups.stands_same k.groups s new h.groups bits table;
-      suspensions = h.suspensions ∙ sym (ap (λ (x : List Object × (ℕ → ℕ) × ℕ). x.2) shared);
-      awake = at_locked_same None s new same h.awake;
-      steps = h.steps ∙ sym steps;
-      stopped = h.stopped ∙ sym stopped;
+      clock = clock-same k.clock s new h.clock tasks (ap (λ (x : Seen). x.1) same) (ap (λ (x : Seen). x.2) same) table;
+      queues = stands_same s new waits k.queues None h.queues table;
+      groups = on_groups.stands_same k.groups s new h.groups (bits_kept.same_parts s new tasks (ap (λ (x : Seen). x.4) same)) table;
+      suspensions = suspended;
+      awake = at_locked_same None s new waits h.awake;
+      steps = steps;
+      stopped = stopped;
       placed = h.placed;
     }
+
+-- No part sees which events were told, how many steps are done, and which end one has brought about.
+pub stands-unseen : (k : Machine) (s : State) → StandsFor k s → (log : List Event) (steps n : ℕ) (stopped end : Option End) → n ≡ steps → end ≡ stopped → StandsFor (record k { steps = n; stopped = end }) (record s { log = log; steps = steps; stopped = stopped })
+stands-unseen k s h log steps n stopped end same same_end =
+    let new : State = record s { log = log; steps = steps; stopped = stopped } in
+    let old = h.sched.table in
+    let table : IsTable new = record { tickets = old.tickets; few = old.few; current = old.current; holders = old.holders } in
+    record { sched = sched-same h.sched table refl refl refl; rest = rest_unseen h.rest table refl h.rest.suspensions same same_end }
+
+-- other events alone
+pub stands-told : (k : Machine) (s : State) → StandsFor k s → (log : List Event) → StandsFor k (record s { log = log })
+stands-told k s h log = stands-unseen k s h log s.steps k.steps s.stopped k.stopped h.rest.steps h.rest.stopped
 
 -- who has such a status is a task, if a task that isn't there hasn't
 pub there_if : (p : Status → Bool) → p Ended ≡ false → (s : State) (i : ℕ) → p (status_at s i) ≡ true → i < length s.tasks
@@ -154,27 +252,14 @@ pub not_for_bits : {X : Type 0} (s : State) (i : ℕ) → is_ready s i ≡ true 
 not_for_bits s i ready some = let none = ready_waits_not s i ready in let f : false ≡ true = sym (ap (λ o. is_some o) none) ∙ some in absurd (cc)
 
 module _ (k : Machine) (s : State) (h : StandsFor k s) (i : ℕ) (l : i < length s.tasks) where
-  pub in_table : i < length k.progress
-  in_table = let n = h.rest.full in let m = h.sched.table.few in omega arith
-
   -- a Ready task goes behind its equals
   pub rest-made_ready : is_ready s i ≡ true → RestStandsFor k (make_ready i s)
   rest-made_ready on =
+      let u : Status = status_at s i in
       let t : Task = record (task_at s i) { status = Ready s.next_ticket } in
-      let table : IsTable (make_ready i s) = table-make_ready s i h.sched.table in
-      let same = same_ready i s (ready_free (status_at s i) on) in
-      record {
-        progress = progress-same k.progress s.tasks i t h.rest.progress l refl;
-        full = h.rest.full;
-        clock = on_clock.stands_kept k.clock s (make_ready i s) i t h.rest.clock l refl refl refl (ready_alike (status_at s i) s.next_ticket (ready_awake (status_at s i) on)) table;
-        queues = stands_same s (make_ready i s) same k.queues None h.rest.queues table;
-        groups = on_groups.stands_same k.groups s (make_ready i s) h.rest.groups (bits_kept.same_ready i s (ready_waits_not s i on)) table;
-        suspensions = h.rest.suspensions;
-        awake = at_locked_same None s (make_ready i s) same h.rest.awake;
-        steps = h.rest.steps;
-        stopped = h.rest.stopped;
-        placed = h.rest.placed;
-      }
+      let alike : SleepsAlike t.status u = ready_alike u s.next_ticket (ready_awake u on) in
+      let c = on_clock.stands_kept k.clock s (make_ready i s) i t h.rest.clock l refl refl refl alike (table-make_ready s i h.sched.table) in
+      rest_with_clock h.rest c (progress-kept s.tasks i t refl) refl (same_ready i s (ready_free u on)) (bits_kept.same_ready i s (ready_waits_not s i on))
 
   -- a Ready task begins to sleep
   pub stands-slept : (wake_time : ℕ) → is_ready s i ≡ true → (v : Schedule) → v ≡ block i k.sched → (t : Timeline) → clock.StandsFor t (sleep i wake_time s) → StandsFor (record k { sched = v; clock = t }) (sleep i wake_time s)
@@ -182,49 +267,22 @@ module _ (k : Machine) (s : State) (h : StandsFor k s) (i : ℕ) (l : i < length
   stands-slept wake_time on v blocks t slept =
       let u : Task = record (task_at s i) { status = Asleep wake_time s.next_ticket } in
       let new : State = state.take_ticket i (Asleep wake_time) s in
-      let table : IsTable new = table-taken s i (Asleep wake_time) h.sched.table (omega arith) in
       let c : clock.StandsFor t new = rw on at slept in
-      let same = same_ticket i (Asleep wake_time) s refl (ready_free (status_at s i) on) in
       rw on (record {
-        sched = rw blocks (on_sched.stands_blocked k.sched s new i u h.sched l refl refl refl refl refl refl table (sym (on_sched.ready_unsuspended (status_at s i) on)));
-        rest = record {
-          progress = progress-same k.progress s.tasks i u h.rest.progress l refl;
-          full = h.rest.full;
-          clock = c;
-          queues = stands_same s new same k.queues None h.rest.queues table;
-          groups = on_groups.stands_same k.groups s new h.rest.groups (bits_kept.same_ticket i (Asleep wake_time) s refl (ready_waits_not s i on)) table;
-          suspensions = h.rest.suspensions;
-          awake = at_locked_same None s new same h.rest.awake;
-          steps = h.rest.steps;
-          stopped = h.rest.stopped;
-          placed = h.rest.placed;
-        };
+        sched = rw blocks (on_sched.stands_blocked k.sched s new i u h.sched l refl refl refl refl refl refl c.table (sym (on_sched.ready_unsuspended (status_at s i) on)));
+        rest = rest_with_clock h.rest c (progress-kept s.tasks i u refl) refl (same_ticket i (Asleep wake_time) s refl (ready_free (status_at s i) on)) (bits_kept.same_ticket i (Asleep wake_time) s refl (ready_waits_not s i on));
       })
-
-  -- no other progress is in Place than before
-  pub still_placed : (p : Progress) → p.call.phase ≢ Place → (j : ℕ) → (progress_in (set k.progress i p) j).call.phase ≢ Place
-  still_placed p off j = each-set no_progress (λ _ (q : Progress). q.call.phase ≢ Place) k.progress i p off h.rest.placed j
 
   -- a task's progress changes
   pub stands-changed : (p : Progress) → p.call.phase ≢ Place → (is_some (bits_wait (status_at s i)) ≡ true → p.call.wants ≡ (call_at s i).wants) → StandsFor (with_progress i p k) (state.with_progress i p s)
   stands-changed p off wants =
       let t : Task = record (task_at s i) { progress = p } in
-      let table : IsTable (with_task i t s) = table-set s i t h.sched.table (ticket_at s.next_ticket i s.tasks h.sched.table.tickets) in
-      let same = same_progress i p s in
+      let new : State = with_task i t s in
+      let table : IsTable new = table-set s i t h.sched.table (ticket_at s.next_ticket i s.tasks h.sched.table.tickets) in
+      let c = on_clock.stands_kept k.clock s new i t h.rest.clock l refl refl refl (same_alike (status_at s i) (status_at s i) refl) table in
       record {
-        sched = on_sched.stands_kept k.sched s (with_task i t s) i t h.sched l refl refl refl refl refl refl table refl;
-        rest = record {
-          progress = progress-set k.progress s.tasks i t h.rest.progress in_table l;
-          full = rw length-set h.rest.full;
-          clock = on_clock.stands_kept k.clock s (with_task i t s) i t h.rest.clock l refl refl refl (same_alike (status_at s i) (status_at s i) refl) table;
-          queues = stands_same s (with_task i t s) same k.queues None h.rest.queues table;
-          groups = on_groups.stands_same k.groups s (with_task i t s) h.rest.groups (bits_kept.same_task i t s refl wants) table;
-          suspensions = h.rest.suspensions;
-          awake = at_locked_same None s (with_task i t s) same h.rest.awake;
-          steps = h.rest.steps;
-          stopped = h.rest.stopped;
-          placed = still_placed p off;
-        };
+        sched = on_sched.stands_kept k.sched s new i t h.sched l refl refl refl refl refl refl table refl;
+        rest = rest_moved h.rest c refl i t l h.sched.table.few refl off (same_progress i p s) (bits_kept.same_task i t s refl wants);
       }
 
   -- it goes on at an op of so many, which isn't past the last one
@@ -234,45 +292,21 @@ module _ (k : Machine) (s : State) (h : StandsFor k s) (i : ℕ) (l : i < length
   -- or is Ended
   pub stands-ended : (count op_index : ℕ) (p : Progress) → eqb op_index count ≡ true → is_ready s i ≡ true → (v : Schedule) → v ≡ block i k.sched → StandsFor (record k { progress = set k.progress i (record p { op_index = op_index; used = 0; call = no_call }); sched = v }) (with_task i (moved_to count op_index p (task_at s i)) s)
   stands-ended count op_index p on ready v blocks =
-      let q : Progress = record p { op_index = op_index; used = 0; call = no_call } in
-      let t : Task = record (task_at s i) { progress = q; status = Ended } in
-      let table : IsTable (with_task i t s) = table-set s i t h.sched.table tt in
-      let same = same_free i t s refl (ready_free (status_at s i) ready) in
+      let u : Status = status_at s i in
+      let t : Task = record (task_at s i) { progress = record p { op_index = op_index; used = 0; call = no_call }; status = Ended } in
+      let new : State = with_task i t s in
+      let table : IsTable new = table-set s i t h.sched.table tt in
+      let c = on_clock.stands_kept k.clock s new i t h.rest.clock l refl refl refl (ended_alike u (ready_awake u ready)) table in
       rw on (record {
-        sched = rw blocks (on_sched.stands_blocked k.sched s (with_task i t s) i t h.sched l refl refl refl refl refl refl table (sym (on_sched.ready_unsuspended (status_at s i) ready)));
-        rest = record {
-          progress = progress-set k.progress s.tasks i t h.rest.progress in_table l;
-          full = rw length-set h.rest.full;
-          clock = on_clock.stands_kept k.clock s (with_task i t s) i t h.rest.clock l refl refl refl (ended_alike (status_at s i) (ready_awake (status_at s i) ready)) table;
-          queues = stands_same s (with_task i t s) same k.queues None h.rest.queues table;
-          groups = on_groups.stands_same k.groups s (with_task i t s) h.rest.groups (bits_kept.same_free i t s refl (ready_waits_not s i ready)) table;
-          suspensions = h.rest.suspensions;
-          awake = at_locked_same None s (with_task i t s) same h.rest.awake;
-          steps = h.rest.steps;
-          stopped = h.rest.stopped;
-          placed = still_placed q (λ e. absurd (cc));
-        };
+        sched = rw blocks (on_sched.stands_blocked k.sched s new i t h.sched l refl refl refl refl refl refl table (sym (on_sched.ready_unsuspended u ready)));
+        rest = rest_moved h.rest c refl i t l h.sched.table.few refl (λ e. absurd (cc)) (same_free i t s refl (ready_free u ready)) (bits_kept.same_free i t s refl (ready_waits_not s i ready));
       })
 
 -- An event is told.
 pub at_written : (k : Machine) (log new_log : List Event) (s : State) (e : Event) → At k log s → new_log ≡ log ++ e ∷ [] → e.step ≡ k.steps → e.tick ≡ printed k.clock.now → At k new_log (write e.what s)
-at_written k log new_log s e h told step tick =
-    let table : IsTable (write e.what s) = record { tickets = h.stands.sched.table.tickets; few = h.stands.sched.table.few; current = h.stands.sched.table.current; holders = h.stands.sched.table.holders } in
-    record {
-      stands = record {
-        sched = record { ready = h.stands.sched.ready; current = h.stands.sched.current; priorities = h.stands.sched.priorities; base_priorities = h.stands.sched.base_priorities; depth = h.stands.sched.depth; suspended = h.stands.sched.suspended; table = table };
-        rest = rest_same k s (write e.what s) h.stands.rest refl refl refl refl refl refl refl table;
-      };
-      log = told ∙ rw h.log (ap (λ (x : Event). s.log ++ x ∷ []) (event_same e s.steps (printed s.time) (step ∙ h.stands.rest.steps) (tick ∙ ap printed h.stands.rest.clock.now)));
-    } where
-      event_same : (e : Event) (n m : ℕ) → e.step ≡ n → e.tick ≡ m → e ≡ record { step = n; tick = m; what = e.what }
-      event_same e n m a b = ap (λ (x : ℕ). record e { step = x }) a ∙ ap (λ (x : ℕ). record e { step = n; tick = x }) b
-
--- What was told doesn't matter to the parts.
-pub stands-told : (k : Machine) (s : State) → StandsFor k s → (log : List Event) → StandsFor k (record s { log = log })
-stands-told k s h log =
-    let table : IsTable (record s { log = log }) = record { tickets = h.sched.table.tickets; few = h.sched.table.few; current = h.sched.table.current; holders = h.sched.table.holders } in
-    record {
-      sched = record { ready = h.sched.ready; current = h.sched.current; priorities = h.sched.priorities; base_priorities = h.sched.base_priorities; depth = h.sched.depth; suspended = h.sched.suspended; table = table };
-      rest = rest_same k s (record s { log = log }) h.rest refl refl refl refl refl refl refl table;
-    }
+at_written k log new_log s e h told step tick = record {
+  stands = stands-told k s h.stands (write e.what s).log;
+  log = told ∙ rw h.log (ap (λ (x : Event). s.log ++ x ∷ []) (event_same e s.steps (printed s.time) (step ∙ h.stands.rest.steps) (tick ∙ ap printed h.stands.rest.clock.now)));
+} where
+  event_same : (e : Event) (n m : ℕ) → e.step ≡ n → e.tick ≡ m → e ≡ record { step = n; tick = m; what = e.what }
+  event_same e n m a b = ap (λ (x : ℕ). record e { step = x }) a ∙ ap (λ (x : ℕ). record e { step = n; tick = x }) b

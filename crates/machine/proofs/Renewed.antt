@@ -1,5 +1,5 @@
 -- Steps and events are another's: what that makes of the states that the kernel stands for.
-use Rattle.std.proofs.Common.{◌≡◌, ℕ, List, [], ◌∷◌, ◌++◌, Some, None, refl, ap, ◌∙◌}
+use Rattle.std.proofs.Common.{◌≡◌, ℕ, List, [], ◌∷◌, ◌++◌, Some, refl, ap, ◌∙◌}
 use Rattle.model.specs.declared.event.Event.{Event}
 use Rattle.model.specs.State.{State, printed}
 use Rattle.model.specs.Switching.{write}
@@ -9,14 +9,14 @@ use Rattle.model.specs.Invariant.{IsTable}
 use Rattle.groups.proofs.Standing as on_groups
 use Rattle.groups.proofs.Kept as bits_kept
 use Rattle.machine.specs.declared.machine.Machine.{Machine}
-use Rattle.machine.specs.StandsFor.{StandsFor, StandsBefore, Stands, AtAny, DoesAny, decider}
+use Rattle.machine.specs.StandsFor.{StandsBefore, Stands, AtAny, DoesAny, decider}
 use Rattle.machine.specs.Logged.{Logged}
 use Rattle.machine.specs.Can.{StandsForSome}
 use Rattle.machine.specs.StandsFor.Stands.{Placed, Placing}
 use Rattle.objects.specs.Queues.{SameWaits}
 use Rattle.objects.proofs.Kept.{stands_same}
 use Rattle.objects.proofs.Awake.{at_locked_same}
-use Rattle.machine.proofs.Parts.{clock-same, same_parts}
+use Rattle.machine.proofs.Parts.{same_parts, stands-unseen}
 use Rattle.machine.proofs.Either.{steps_are, now_is}
 
 begun_before : (k : Machine) (s : State) (task : ℕ) (list : WaitList) → StandsBefore task list k s → (log : List Event) (steps : ℕ) (n : ℕ) → n ≡ steps → StandsBefore task list (record k { steps = n }) (record s { log = log; steps = steps })
@@ -42,30 +42,9 @@ begun_before k s task list b log steps n e =
       placed = b.placed;
     }
 
-begun_at : (k : Machine) (s : State) → StandsFor k s → (log : List Event) (steps : ℕ) (n : ℕ) → n ≡ steps → StandsFor (record k { steps = n }) (record s { log = log; steps = steps })
-begun_at k s h log steps n e =
-    let new : State = record s { log = log; steps = steps } in
-    let table : IsTable new = record { tickets = h.sched.table.tickets; few = h.sched.table.few; current = h.sched.table.current; holders = h.sched.table.holders } in
-    let same : SameWaits s new = same_parts s new refl refl refl in
-    record {
-      sched = record { ready = h.sched.ready; current = h.sched.current; priorities = h.sched.priorities; base_priorities = h.sched.base_priorities; depth = h.sched.depth; suspended = h.sched.suspended; table = table };
-      rest = record {
-        progress = h.rest.progress;
-        full = h.rest.full;
-        clock = clock-same k.clock s new h.rest.clock refl refl refl table;
-        queues = stands_same s new same k.queues None h.rest.queues table;
-        groups = on_groups.stands_same k.groups s new h.rest.groups (bits_kept.same_parts s new refl refl) table;
-        suspensions = h.rest.suspensions;
-        awake = at_locked_same None s new same h.rest.awake;
-        steps = e;
-        stopped = h.rest.stopped;
-        placed = h.rest.placed;
-      };
-    }
-
 -- steps and events are another's
 pub renewed : (k : Machine) (s : State) → Stands k s → (log : List Event) (steps : ℕ) (n : ℕ) → n ≡ steps → Stands (record k { steps = n }) (record s { log = log; steps = steps })
-renewed k s (Placed h) log steps n e = Placed (begun_at k s h log steps n e)
+renewed k s (Placed h) log steps n e = Placed (stands-unseen k s h log steps n s.stopped k.stopped e h.rest.stopped)
 renewed k s (Placing task list b) log steps n e = Placing task list (begun_before k s task list b log steps n e)
 
 -- an event is told

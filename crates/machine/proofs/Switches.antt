@@ -19,7 +19,7 @@ use Rattle.sched.proofs.LinedUp.{ready_if_listed}
 use Rattle.sched.proofs.Standing.{held_by_depth}
 use Rattle.machine.specs.declared.machine.Machine.{Machine}
 use Rattle.machine.specs.StandsFor.{RestStandsFor, StandsFor, StandsBefore, At, AtAny, change}
-use Rattle.machine.proofs.Parts.{rest_same, rest-made_ready}
+use Rattle.machine.proofs.Parts.{rest_again, rest_unseen, rest-made_ready}
 
 -- The scheduler isn't held where its depth is 0.
 pub unheld_by : (v : Schedule) (s : State) → sched.StandsFor v s → v.depth ≡ 0 → is_held s ≡ false
@@ -84,7 +84,7 @@ rest-choose : (k : Machine) (s : State) → RestStandsFor k s → IsTable (choos
 unfolding choose dispatch
 rest-choose k s h table = by_test (is_same (choice s) s.current)
     (λ t. rw t h)
-    (λ t. rw t (rest_same k s (write (what.Run (choice s)) (record s { current = choice s })) h refl refl refl refl refl refl refl (rw t at table)))
+    (λ t. let ordered : IsTable (write (what.Run (choice s)) (record s { current = choice s })) = rw t at table in rw t (rest_unseen h ordered refl h.suspensions h.steps h.stopped))
 
 rest-back : (k : Machine) (s : State) (r : Option ℕ) → StandsFor k s → IfSome r (λ i. i < length s.tasks) → RestStandsFor k (for_one to_back r s)
 unfolding to_back
@@ -111,7 +111,7 @@ rest-preempt k s h table = by_test (is_outranked s)
 module _ (k : Machine) (log new_log : List Event) (s : State) (v : Schedule) (before : Option ℕ) (h : At k log s) (b : before ≡ k.sched.current) (told : new_log ≡ log ++ change k.steps k.clock.now before v.current) where
   changed : (new : State) → sched.StandsFor v new → RestStandsFor k new → Tells s new → At (record k { sched = v }) new_log new
   changed new on rest tells = record {
-    stands = record { sched = on; rest = record { progress = rest.progress; full = rest.full; clock = rest.clock; steps = rest.steps; stopped = rest.stopped; queues = rest.queues; groups = rest.groups; suspensions = rest.suspensions; awake = rest.awake; placed = rest.placed } };
+    stands = record { sched = on; rest = rest_again rest rest.clock rest.queues rest.groups };
     log = told ∙ rw (h.log, b, h.stands.sched.current, h.stands.rest.steps, h.stands.rest.clock.now, on.current) (sym tells);
   }
 

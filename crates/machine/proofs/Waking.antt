@@ -1,5 +1,5 @@
 -- Who is due becomes Ready, one after the other.
-use Rattle.std.proofs.Common.{None, Some, ◌≡◌, ◌≢◌, ◌<◌, ◌+◌, ℕ, zero, suc, true, false, eqb, List, [], ◌∷◌, ◌++◌, length, get_or, set, take, drop, refl, ap, sym, subst, ◌∙◌, arith}
+use Rattle.std.proofs.Common.{None, Some, ◌≡◌, ◌≢◌, ◌<◌, ◌+◌, ℕ, zero, suc, true, false, eqb, List, [], ◌∷◌, ◌++◌, length, get_or, take, drop, refl, ap, sym, subst, ◌∙◌, arith}
 use Rattle.std.specs.List.{AllByRecursion, IsDistinct, filter}
 use Rattle.std.specs.Option.{option_eq}
 use Rattle.std.proofs.lemmas.List.{take_more}
@@ -32,11 +32,11 @@ use Rattle.groups.specs.StandsFor as groups
 use Rattle.groups.specs.EventGroups.{EventGroups}
 use Rattle.groups.proofs.Standing as on_groups
 use Rattle.groups.proofs.Kept as bits_kept
-use Rattle.model.specs.Invariant.{Suspension}
+use Rattle.model.specs.Invariant.{IsTable}
 use Rattle.machine.specs.declared.machine.Machine.{Machine}
 use Rattle.machine.specs.StandsFor.{StandsFor, At}
 use Rattle.machine.specs.Can.{AreThere, AreToWake}
-use Rattle.machine.proofs.Parts.{apart_back, same_parts}
+use Rattle.machine.proofs.Parts.{apart_back, kept_of, progress-kept, rest_with, same_parts, sched-same}
 
 -- ---- the tasks that are to wake
 
@@ -134,13 +134,7 @@ ready_more P s ts j i l e there goes =
 
 -- A task's progress stays as it becomes Ready.
 pub progress-ready : (s : State) (i j : ℕ) → progress_at (make_ready i s) j ≡ progress_at s j
-progress-ready s i j = by_index s.tasks i j (record (task_at s i) { status = Ready s.next_ticket }) refl where
-  by_index : (ts : List Task) (i j : ℕ) (t : Task) → t.progress ≡ (get_or ts i no_task).progress → (get_or (set ts i t) j no_task).progress ≡ (get_or ts j no_task).progress
-  by_index [] i j t e = refl
-  by_index (u ∷ us) zero zero t e = e
-  by_index (u ∷ us) zero (suc j) t e = refl
-  by_index (u ∷ us) (suc i) zero t e = refl
-  by_index (u ∷ us) (suc i) (suc j) t e = by_index us i j t e
+progress-ready s i j = progress-kept s.tasks i (record (task_at s i) { status = Ready s.next_ticket }) refl j
 
 pub progress-all_ready : (is : List ℕ) (s : State) (j : ℕ) → progress_at (for_each make_ready is s) j ≡ progress_at s j
 progress-all_ready [] s j = refl
@@ -150,6 +144,10 @@ pub log-all_ready : (is : List ℕ) (s : State) → (for_each make_ready is s).l
 log-all_ready [] s = refl
 log-all_ready (i ∷ is) s = log-all_ready is (make_ready i s)
 
+pub kept-all_ready : (is : List ℕ) (s : State) → kept_of (for_each make_ready is s) ≡ kept_of s
+kept-all_ready [] s = refl
+kept-all_ready (i ∷ is) s = kept-all_ready is (make_ready i s)
+
 -- Where no `suspend_all` is in force the scheduler isn't suspended.
 pub unsuspended_by : (s : State) → s.suspensions ≡ 0 → is_scheduler_suspended s ≡ false
 unsuspended_by s none = rw none refl
@@ -157,15 +155,10 @@ unsuspended_by s none = rw none refl
 -- The scheduler and the clock have done their part.
 module _ (k : Machine) (log : List Event) (s : State) (h : At k log s) where
   pub sched-ticked : sched.StandsFor k.sched (at_next_tick s)
-  sched-ticked = record {
-    ready = h.stands.sched.ready;
-    current = h.stands.sched.current;
-    priorities = h.stands.sched.priorities;
-    base_priorities = h.stands.sched.base_priorities;
-    depth = h.stands.sched.depth;
-    suspended = h.stands.sched.suspended;
-    table = record { tickets = h.stands.sched.table.tickets; few = h.stands.sched.table.few; current = h.stands.sched.table.current; holders = h.stands.sched.table.holders };
-  }
+  sched-ticked =
+      let old = h.stands.sched.table in
+      let table : IsTable (at_next_tick s) = record { tickets = old.tickets; few = old.few; current = old.current; holders = old.holders } in
+      sched-same h.stands.sched table refl refl refl
 
   pub groups-ticked : groups.StandsFor k.groups (at_next_tick s)
   groups-ticked = on_groups.stands_same k.groups s (at_next_tick s) h.stands.rest.groups (bits_kept.same_parts s (at_next_tick s) refl refl) sched-ticked.table
@@ -177,26 +170,11 @@ module _ (k : Machine) (log : List Event) (s : State) (h : At k log s) where
   unfolding increment_tick advance wake_due
   woken ds v q t g is ready left bits awake none =
       let next : State = at_next_tick s in
-      let due_ones : List ℕ = tasks_of (due next) in
-      let keep = keeps-all_ready due_ones next in
       let ticked : AtLocked None next = record { awake = h.stands.rest.awake.awake; to_place = tt } in
-      let come : increment_tick s ≡ for_each make_ready due_ones next = rw none refl in
-      let new : Machine = record k { sched = v; clock = t; queues = q; groups = g } in
-      subst (λ (x : State). At new log x) (sym come) (record {
-        stands = record {
-          sched = let P : List ℕ → Type 0 = λ ds. sched.StandsFor v (for_each make_ready ds next) in subst P is ready;
-          rest = record {
-            progress = λ i. h.stands.rest.progress i ∙ sym (progress-all_ready due_ones next i);
-            full = h.stands.rest.full;
-            clock = subst (clock.StandsFor t) come awake;
-            groups = let P : List ℕ → Type 0 = λ ds. groups.StandsFor g (for_each make_ready ds next) in subst P is bits;
-            suspensions = h.stands.rest.suspensions ∙ sym (ap (λ (x : Suspension). x.suspensions) keep.suspension);
-            queues = let P : List ℕ → Type 0 = λ ds. queues.StandsFor q None (for_each make_ready ds next) in subst P is left;
-            awake = at_locked-all_ready None due_ones next ticked;
-            steps = h.stands.rest.steps ∙ sym keep.steps;
-            stopped = h.stands.rest.stopped ∙ sym keep.stopped;
-            placed = h.stands.rest.placed;
-          };
-        };
-        log = h.log ∙ sym (log-all_ready due_ones next);
+      let now : increment_tick s ≡ for_each make_ready (tasks_of (due next)) next = rw none refl in
+      let come : increment_tick s ≡ for_each make_ready ds next = now ∙ ap (λ (x : List ℕ). for_each make_ready x next) (sym is) in
+      let on : clock.StandsFor t (for_each make_ready ds next) = subst (clock.StandsFor t) come awake in
+      subst (At (record k { sched = v; clock = t; queues = q; groups = g }) log) (sym come) (record {
+        stands = record { sched = ready; rest = rest_with h.stands.rest on (progress-all_ready ds next) (kept-all_ready ds next) left (at_locked-all_ready None ds next ticked) bits };
+        log = h.log ∙ sym (log-all_ready ds next);
       })
