@@ -19,16 +19,13 @@ use Rattle.clock.specs.StandsFor as clock
 use Rattle.clock.specs.StandsFor.{before_held}
 use Rattle.clock.specs.Timeline.{Timeline}
 use Rattle.objects.specs.declared.lock.Lock.{Lock}
-use Rattle.objects.specs.Queues.{SameWaits, locked_by}
-use Rattle.objects.proofs.Kept.{stands_same}
-use Rattle.objects.proofs.Awake.{at_locked_same}
-use Rattle.groups.proofs.Standing as on_groups
+use Rattle.objects.specs.Queues.{locked_by}
 use Rattle.groups.proofs.Kept as bits_kept
 use Rattle.machine.specs.declared.machine.Machine.{Machine}
 use Rattle.machine.specs.StandsFor.{StandsFor, At, Moves}
 use Rattle.ops.specs.Can.{CanApply}
 use Rattle.machine.specs.Can.{Runs}
-use Rattle.machine.proofs.Parts.{clock-same, same_parts}
+use Rattle.machine.proofs.Parts.{rest_unseen, rest_with_clock, same_parts, sched-same}
 use Rattle.ops.proofs.Suspending.{ready_by, runs_by}
 
 -- ---- how many `suspend_all` are in force
@@ -36,49 +33,16 @@ use Rattle.ops.proofs.Suspending.{ready_by, runs_by}
 module _ (k : Machine) (log : List Event) (s : State) (h : At k log s) where
   -- another number of them
   pub with_suspensions : (v : Schedule) (n m : ℕ) → n ≡ m → sched.StandsFor v (record s { suspensions = m }) → At (record k { sched = v; suspensions = n }) log (record s { suspensions = m })
-  with_suspensions v n m e on =
-      let new : State = record s { suspensions = m } in
-      let same : SameWaits s new = same_parts s new refl refl refl in
-      record {
-        stands = record {
-          sched = on;
-          rest = record {
-            progress = h.stands.rest.progress;
-            full = h.stands.rest.full;
-            clock = clock-same k.clock s new h.stands.rest.clock refl refl refl on.table;
-            queues = stands_same s new same k.queues None h.stands.rest.queues on.table;
-            groups = on_groups.stands_same k.groups s new h.stands.rest.groups (bits_kept.same_parts s new refl refl) on.table;
-            suspensions = e;
-            awake = at_locked_same None s new same h.stands.rest.awake;
-            steps = h.stands.rest.steps;
-            stopped = h.stands.rest.stopped;
-            placed = h.stands.rest.placed;
-          };
-        };
-        log = h.log;
-      }
+  with_suspensions v n m e on = record { stands = record { sched = on; rest = rest_unseen h.stands.rest on.table refl e h.stands.rest.steps h.stands.rest.stopped }; log = h.log }
 
   -- the clock, and how many ticks have come and are held
   pub with_ticks : (t : Timeline) (elapsed held : ℕ) → clock.StandsFor t (record s { elapsed = elapsed; held_ticks = held }) → At (record k { clock = t }) log (record s { elapsed = elapsed; held_ticks = held })
   with_ticks t elapsed held on =
       let new : State = record s { elapsed = elapsed; held_ticks = held } in
-      let same : SameWaits s new = same_parts s new refl refl refl in
-      let v = h.stands.sched in
       record {
         stands = record {
-          sched = record { ready = v.ready; current = v.current; priorities = v.priorities; base_priorities = v.base_priorities; depth = v.depth; suspended = v.suspended; table = on.table };
-          rest = record {
-            progress = h.stands.rest.progress;
-            full = h.stands.rest.full;
-            clock = on;
-            queues = stands_same s new same k.queues None h.stands.rest.queues on.table;
-            groups = on_groups.stands_same k.groups s new h.stands.rest.groups (bits_kept.same_parts s new refl refl) on.table;
-            suspensions = h.stands.rest.suspensions;
-            awake = at_locked_same None s new same h.stands.rest.awake;
-            steps = h.stands.rest.steps;
-            stopped = h.stands.rest.stopped;
-            placed = h.stands.rest.placed;
-          };
+          sched = sched-same h.stands.sched on.table refl refl refl;
+          rest = rest_with_clock h.stands.rest on (λ _. refl) refl (same_parts s new refl refl refl) (bits_kept.same_parts s new refl refl);
         };
         log = h.log;
       }

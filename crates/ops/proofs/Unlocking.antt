@@ -9,10 +9,9 @@ use Rattle.model.specs.State.{State, Task, Status, Ready, Awake, Waiting, Asleep
 use Rattle.model.specs.Order.{Key, Entry, tasks_of}
 use Rattle.model.specs.Switching.{is_ready, make_ready}
 use Rattle.model.specs.Waiting.{awakened, wait_key, unlock, unlock_object}
-use Rattle.model.specs.Invariant.{Suspension}
+use Rattle.model.specs.Invariant.{IsTable}
 use Rattle.model.proofs.Lists.{HasKey, list_has}
 use Rattle.model.proofs.Unlocking.{current-all_ready}
-use Rattle.soundness.proofs.Frames.{keeps-all_ready}
 use Rattle.sched.specs.StandsFor as sched
 use Rattle.sched.specs.Schedule as schedule
 use Rattle.sched.specs.Schedule.{Schedule}
@@ -26,13 +25,12 @@ use Rattle.objects.proofs.Awake.{at_locked-unlock}
 use Rattle.objects.proofs.Unlocking.{each_append}
 use Rattle.objects.proofs.Counting.{Distinct, distinct_from}
 use Rattle.groups.specs.StandsFor.{SameBitWaits}
-use Rattle.groups.proofs.Standing as on_groups
 use Rattle.groups.proofs.Elsewhere as bits_elsewhere
 use Rattle.machine.specs.declared.machine.Machine.{Machine}
 use Rattle.machine.specs.StandsFor.{StandsFor, At}
 use Rattle.machine.specs.Can.{AreThere, AreToWake}
-use Rattle.machine.proofs.Parts.{clock-same}
-use Rattle.machine.proofs.Waking.{progress-all_ready, log-all_ready}
+use Rattle.machine.proofs.Parts.{clock-same, rest_again, rest_with_queues, sched-same}
+use Rattle.machine.proofs.Waking.{kept-all_ready, progress-all_ready, log-all_ready}
 use Rattle.ops.proofs.Waits.{unready_awake, awake_unsuspended}
 
 -- ---- those who are Awake can all become Ready
@@ -109,7 +107,10 @@ module _ (k : Machine) (s : State) (h : StandsFor k s) (o : ℕ) where
 
 module _ (k : Machine) (log : List Event) (s : State) (h : At k log s) where
   pub sched_opened : sched.StandsFor k.sched (opened s)
-  sched_opened = record { ready = h.stands.sched.ready; current = h.stands.sched.current; priorities = h.stands.sched.priorities; base_priorities = h.stands.sched.base_priorities; depth = h.stands.sched.depth; suspended = h.stands.sched.suspended; table = record { tickets = h.stands.sched.table.tickets; few = h.stands.sched.table.few; current = h.stands.sched.table.current; holders = h.stands.sched.table.holders } }
+  sched_opened =
+      let old = h.stands.sched.table in
+      let table : IsTable (opened s) = record { tickets = old.tickets; few = old.few; current = old.current; holders = old.holders } in
+      sched-same h.stands.sched table refl refl refl
 
   pub clock_opened : clock.StandsFor k.clock (opened s)
   clock_opened = clock-same k.clock s (opened s) h.stands.rest.clock refl refl refl sched_opened.table
@@ -118,25 +119,11 @@ module _ (k : Machine) (log : List Event) (s : State) (h : At k log s) where
   pub unlocked_at : (is : List ℕ) (v : Schedule) (t : Timeline) (q : Exchange) → unlock s ≡ for_each make_ready is (opened s) → sched.StandsFor v (for_each make_ready is (opened s)) → clock.StandsFor t (for_each make_ready is (opened s)) → queues.StandsFor q None (unlock s)
       → At (record k { sched = v; clock = t; queues = q }) log (unlock s)
   unlocked_at is v t q e on awake there =
-      let keep = keeps-all_ready is (opened s) in
-      let new : State = for_each make_ready is (opened s) in
-      let k2 : Machine = record k { sched = v; clock = t; queues = q } in
-      subst (λ (x : State). At k2 log x) (sym e) (record {
-        stands = record {
-          sched = on;
-          rest = record {
-            progress = λ i. h.stands.rest.progress i ∙ sym (progress-all_ready is (opened s) i);
-            full = h.stands.rest.full;
-            clock = awake;
-            queues = subst (λ (x : State). queues.StandsFor q None x) e there;
-            groups = on_groups.stands_same k.groups s new h.stands.rest.groups (subst (SameBitWaits s) e (bits_elsewhere.same_unlock s)) on.table;
-            suspensions = h.stands.rest.suspensions ∙ sym (ap (λ (x : Suspension). x.suspensions) keep.suspension);
-            awake = subst (λ (x : State). AtLocked None x) e (at_locked-unlock None s h.stands.rest.awake);
-            steps = h.stands.rest.steps ∙ sym keep.steps;
-            stopped = h.stands.rest.stopped ∙ sym keep.stopped;
-            placed = h.stands.rest.placed;
-          };
-        };
+      let left = subst (queues.StandsFor q None) e there in
+      let locked = subst (AtLocked None) e (at_locked-unlock None s h.stands.rest.awake) in
+      let bits = subst (SameBitWaits s) e (bits_elsewhere.same_unlock s) in
+      subst (At (record k { sched = v; clock = t; queues = q }) log) (sym e) (record {
+        stands = record { sched = on; rest = rest_with_queues h.stands.rest awake (progress-all_ready is (opened s)) (kept-all_ready is (opened s)) left locked bits };
         log = h.log ∙ sym (log-all_ready is (opened s));
       })
 
@@ -148,10 +135,7 @@ module _ (k : Machine) (log : List Event) (s : State) (h : At k log s) where
       let back : queues.StandsFor q None s = subst (λ (o : Option ℕ). queues.StandsFor q None (for_one unlock_object o s)) (sym is) there in
       let k2 : Machine = record k { queues = q } in
       subst (λ (o : Option ℕ). At k2 log (for_one unlock_object o s)) is (record {
-        stands = record {
-          sched = h.stands.sched;
-          rest = record { progress = h.stands.rest.progress; full = h.stands.rest.full; clock = h.stands.rest.clock; queues = back; groups = h.stands.rest.groups; suspensions = h.stands.rest.suspensions; awake = h.stands.rest.awake; steps = h.stands.rest.steps; stopped = h.stands.rest.stopped; placed = h.stands.rest.placed };
-        };
+        stands = record { sched = h.stands.sched; rest = rest_again h.stands.rest h.stands.rest.clock back h.stands.rest.groups };
         log = h.log;
       })
 
