@@ -17,11 +17,10 @@ use Rattle.model.specs.Suspension.{can_resume}
 use Rattle.model.specs.Waiting.{set_deadline}
 use Rattle.model.specs.Groups.{is_met, is_met_for, bits_left, bits_key, bits_set, bits_after_set, waiters_for_bits, met_by, want, keep_answer, wake_with_bits, wait_for_bits, answer_bits, begin_bits_wait, check, final_bits, set_bits, wait_bits, set as set_in_group}
 use Rattle.model.specs.Step.{act}
-use Rattle.model.specs.Invariant.{Suspension, wait_of}
+use Rattle.model.specs.Invariant.{wait_of}
 use Rattle.model.proofs.Sorting.{by_test}
 use Rattle.model.proofs.Lists.{HasKey, list_has}
 use Rattle.model.proofs.Statuses.{ready_free}
-use Rattle.soundness.proofs.Frames.{keeps-all_ready}
 use Rattle.lists.specs.Lists.{place_of}
 use Rattle.sched.specs.StandsFor as sched
 use Rattle.sched.specs.Schedule.{Schedule, IsCalm}
@@ -31,8 +30,7 @@ use Rattle.clock.specs.StandsFor as clock
 use Rattle.clock.specs.Timeline.{Timeline, is_asleep}
 use Rattle.clock.proofs.Standing as on_clock
 use Rattle.objects.specs.Queues.{SameWaits}
-use Rattle.objects.proofs.Kept.{stands_same, same, same_both, same_ready, same_ticket}
-use Rattle.objects.proofs.Awake.{at_locked_same}
+use Rattle.objects.proofs.Kept.{same, same_both, same_ready, same_ticket}
 use Rattle.objects.proofs.Counting.{Distinct, distinct_from}
 use Rattle.groups.specs.EventGroups.{EventGroups}
 use Rattle.groups.specs.StandsFor as groups
@@ -44,12 +42,12 @@ use Rattle.machine.specs.Logged.{Logged}
 use Rattle.machine.specs.Keeping.{keep_in, kept_by}
 use Rattle.machine.specs.Can.{AreThere, AreToWake, IsAhead}
 use Rattle.ops.specs.Can.{CanDecide, CanWaitBits, IsShort}
-use Rattle.machine.proofs.Parts.{apart, clock-same, not_for_bits, progress-same, same_parts}
+use Rattle.machine.proofs.Parts.{apart, clock-same, not_for_bits, progress-kept, rest_again, rest_with_groups, same_parts, sched-same}
 use Rattle.machine.proofs.Acting.{within, changed}
 use Rattle.machine.proofs.Continuing.{not_placing, recalled}
 use Rattle.ops.proofs.Deciding.{not_held, hold_at}
 use Rattle.machine.proofs.Either.{progress_is}
-use Rattle.machine.proofs.Waking.{progress-all_ready, log-all_ready}
+use Rattle.machine.proofs.Waking.{kept-all_ready, progress-all_ready, log-all_ready}
 
 -- ---- the bits of a group
 
@@ -58,22 +56,11 @@ module _ (k : Machine) (log : List Event) (s : State) (h : At k log s) (group : 
   pub put_at : (bits : ℕ) → groups.StandsFor g (with_bits group bits s) → At (record k { groups = g }) log (with_bits group bits s)
   put_at bits there =
       let new : State = with_bits group bits s in
-      let same : SameWaits s new = same_parts s new refl refl refl in
+      let c = clock-same k.clock s new h.stands.rest.clock refl refl refl there.table in
       record {
         stands = record {
-          sched = record { ready = h.stands.sched.ready; current = h.stands.sched.current; priorities = h.stands.sched.priorities; base_priorities = h.stands.sched.base_priorities; depth = h.stands.sched.depth; suspended = h.stands.sched.suspended; table = there.table };
-          rest = record {
-            progress = h.stands.rest.progress;
-            full = h.stands.rest.full;
-            clock = clock-same k.clock s new h.stands.rest.clock refl refl refl there.table;
-            queues = stands_same s new same k.queues None h.stands.rest.queues there.table;
-            groups = there;
-            suspensions = h.stands.rest.suspensions;
-            awake = at_locked_same None s new same h.stands.rest.awake;
-            steps = h.stands.rest.steps;
-            stopped = h.stands.rest.stopped;
-            placed = h.stands.rest.placed;
-          };
+          sched = sched-same h.stands.sched there.table refl refl refl;
+          rest = rest_with_groups h.stands.rest c (λ _. refl) refl (same_parts s new refl refl refl) there;
         };
         log = h.log;
       }
@@ -81,10 +68,7 @@ module _ (k : Machine) (log : List Event) (s : State) (h : At k log s) (group : 
   -- It has the same.
   unput_at : groups.StandsFor g s → At (record k { groups = g }) log s
   unput_at there = record {
-    stands = record {
-      sched = h.stands.sched;
-      rest = record { progress = h.stands.rest.progress; full = h.stands.rest.full; clock = h.stands.rest.clock; queues = h.stands.rest.queues; groups = there; suspensions = h.stands.rest.suspensions; awake = h.stands.rest.awake; steps = h.stands.rest.steps; stopped = h.stands.rest.stopped; placed = h.stands.rest.placed };
-    };
+    stands = record { sched = h.stands.sched; rest = rest_again h.stands.rest h.stands.rest.clock h.stands.rest.queues there };
     log = h.log;
   }
 
@@ -155,21 +139,11 @@ module _ (k : Machine) (log : List Event) (s : State) (h : At k log s) (i : ℕ)
       let u : Task = record (task_at s i) { status = WaitingForBits group s.next_ticket until_then } in
       let same : SameWaits s new = same_ticket i (λ ticket. WaitingForBits group ticket until_then) s refl (ready_free (status_at s i) ready) in
       let same_deadline : deadline ≡ until_then = until ∙ ap (λ (p : Progress). p.call.deadline) (h.stands.rest.progress i) in
+      let c = sleeps (subst (λ (d : Option ℕ). clock.StandsBefore i d k.clock new) (sym same_deadline) (on_clock.stands_waiting_bits k.clock s i group h.stands.rest.clock l ready)) in
       record {
         stands = record {
           sched = blocks (on_sched.stands_waiting_bits k.sched s i group calm h.stands.sched l ready);
-          rest = record {
-            progress = progress-same k.progress s.tasks i u h.stands.rest.progress l refl;
-            full = h.stands.rest.full;
-            clock = sleeps (subst (λ (d : Option ℕ). clock.StandsBefore i d k.clock new) (sym same_deadline) (on_clock.stands_waiting_bits k.clock s i group h.stands.rest.clock l ready));
-            queues = stands_same s new same k.queues None h.stands.rest.queues there.table;
-            groups = there;
-            suspensions = h.stands.rest.suspensions;
-            awake = at_locked_same None s new same h.stands.rest.awake;
-            steps = h.stands.rest.steps;
-            stopped = h.stands.rest.stopped;
-            placed = h.stands.rest.placed;
-          };
+          rest = rest_with_groups h.stands.rest c (progress-kept s.tasks i u refl) refl same there;
         };
         log = h.log;
       }
@@ -385,24 +359,13 @@ module _ (k : Machine) (log : List Event) (s : State) (h : At k log s) (group ma
       → At (record k { progress = kept_by bits is k.progress; sched = v; clock = t; groups = g }) log (set_in_group group mask s)
   set_at v t g on awake there =
       let before = kept_before.stands in
-      let keep = keeps-all_ready is kept in
       let shown : groups.StandsFor g left = subst (groups.StandsFor g) set_is there in
       let waits : SameWaits kept left = same_both kept woken left (all_waits_same is kept (waits_nowhere kept is still_all)) (same_parts woken left refl refl refl) in
+      let c = clock-same t woken left awake refl refl refl shown.table in
       subst (At (record k { progress = kept_by bits is k.progress; sched = v; clock = t; groups = g }) log) (sym set_is) (record {
         stands = record {
-          sched = record { ready = on.ready; current = on.current; priorities = on.priorities; base_priorities = on.base_priorities; depth = on.depth; suspended = on.suspended; table = shown.table };
-          rest = record {
-            progress = λ j. before.rest.progress j ∙ sym (progress-all_ready is kept j);
-            full = before.rest.full;
-            clock = clock-same t woken left awake refl refl refl shown.table;
-            queues = stands_same kept left waits k.queues None before.rest.queues shown.table;
-            groups = shown;
-            suspensions = before.rest.suspensions ∙ sym (ap (λ (x : Suspension). x.suspensions) keep.suspension);
-            awake = at_locked_same None kept left waits before.rest.awake;
-            steps = before.rest.steps ∙ sym keep.steps;
-            stopped = before.rest.stopped ∙ sym keep.stopped;
-            placed = before.rest.placed;
-          };
+          sched = sched-same on shown.table refl refl refl;
+          rest = rest_with_groups before.rest c (progress-all_ready is kept) (kept-all_ready is kept) waits shown;
         };
         log = kept_before.log ∙ sym (log-all_ready is kept);
       })

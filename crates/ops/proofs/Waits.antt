@@ -33,13 +33,12 @@ use Rattle.objects.specs.Queues as queues
 use Rattle.objects.specs.Queues.{Exchange}
 use Rattle.objects.proofs.Awake.{at_locked-stored, at_locked-wake_best}
 use Rattle.groups.specs.StandsFor.{SameBitWaits}
-use Rattle.groups.proofs.Standing as on_groups
 use Rattle.groups.proofs.Kept as bits_kept
 use Rattle.groups.proofs.Elsewhere as bits_elsewhere
 use Rattle.machine.specs.declared.machine.Machine.{Machine}
 use Rattle.machine.specs.StandsFor.{StandsFor, At, progress_in}
 use Rattle.machine.specs.Can.{Runs}
-use Rattle.machine.proofs.Parts.{clock-same, progress-same}
+use Rattle.machine.proofs.Parts.{clock-same, progress-kept, rest_again, rest_with_queues, sched-same}
 use Rattle.sched.proofs.LinedUp.{ready_woken}
 use Rattle.machine.proofs.Waking.{progress-ready}
 
@@ -148,23 +147,12 @@ module _ (k : Machine) (s : State) (h : StandsFor k s) (list : WaitList) (i : �
       → At (record k { sched = v; clock = t; queues = q }) log (wake_best list s)
   woken_at log same v t q on awake left =
       let l = (waits_there s list i is).within in
-      let P : State → Type 0 = λ x. At (record k { sched = v; clock = t; queues = q }) log x in
-      subst P (sym (wakes_it s list i is)) (record {
-        stands = record {
-          sched = on l;
-          rest = record {
-            progress = λ j. h.rest.progress j ∙ sym (progress-ready s i j);
-            full = h.rest.full;
-            clock = awake l;
-            queues = subst (queues.StandsFor q None) (wakes_it s list i is) left;
-            groups = on_groups.stands_same k.groups s (make_ready i s) h.rest.groups (subst (SameBitWaits s) (wakes_it s list i is) (bits_elsewhere.same_wake_best list s)) (on l).table;
-            suspensions = h.rest.suspensions;
-            awake = subst (AtLocked None) (wakes_it s list i is) (at_locked-wake_best None list s h.rest.awake);
-            steps = h.rest.steps;
-            stopped = h.rest.stopped;
-            placed = h.rest.placed;
-          };
-        };
+      let one = wakes_it s list i is in
+      let there = subst (queues.StandsFor q None) one left in
+      let locked = subst (AtLocked None) one (at_locked-wake_best None list s h.rest.awake) in
+      let bits = subst (SameBitWaits s) one (bits_elsewhere.same_wake_best list s) in
+      subst (At (record k { sched = v; clock = t; queues = q }) log) (sym one) (record {
+        stands = record { sched = on l; rest = rest_with_queues h.rest (awake l) (progress-ready s i) refl there locked bits };
         log = same;
       })
 
@@ -223,21 +211,11 @@ module _ (k : Machine) (log : List Event) (s : State) (h : At k log s) (list : W
   awakened_at i l there locked bits =
       let t : Task = record (task_at s i) { status = awake_status (status_at s i) } in
       let table : IsTable (awaken i s) = there.waiters.table in
+      let c = on_clock.stands_kept k.clock s (awaken i s) i t h.stands.rest.clock l refl refl refl (awake_alike (status_at s i)) table in
       record {
         stands = record {
           sched = on_sched.stands_kept k.sched s (awaken i s) i t h.stands.sched l refl refl refl (ap (λ (o : Option ℕ). option_map (λ n. record { priority = (task_at s i).priority; ticket = n }) o) (awake_unready (status_at s i))) refl refl table (awake_resumes (status_at s i));
-          rest = record {
-            progress = progress-same k.progress s.tasks i t h.stands.rest.progress l refl;
-            full = h.stands.rest.full;
-            clock = on_clock.stands_kept k.clock s (awaken i s) i t h.stands.rest.clock l refl refl refl (awake_alike (status_at s i)) table;
-            queues = there;
-            groups = on_groups.stands_same k.groups s (awaken i s) h.stands.rest.groups bits table;
-            suspensions = h.stands.rest.suspensions;
-            awake = locked;
-            steps = h.stands.rest.steps;
-            stopped = h.stands.rest.stopped;
-            placed = h.stands.rest.placed;
-          };
+          rest = rest_with_queues h.stands.rest c (progress-kept s.tasks i t refl) refl there locked bits;
         };
         log = h.log;
       }
@@ -246,10 +224,7 @@ module _ (k : Machine) (log : List Event) (s : State) (h : At k log s) (list : W
   unwoken_at = by_case (unwoken s list is) where
     by_case : Unwoken s list → At (record k { queues = q }) log (wake_best list s)
     by_case (Nobody one) = subst (At (record k { queues = q }) log) (sym one) (record {
-      stands = record {
-        sched = h.stands.sched;
-        rest = record { progress = h.stands.rest.progress; full = h.stands.rest.full; clock = h.stands.rest.clock; queues = subst (queues.StandsFor q None) one left; groups = h.stands.rest.groups; suspensions = h.stands.rest.suspensions; awake = h.stands.rest.awake; steps = h.stands.rest.steps; stopped = h.stands.rest.stopped; placed = h.stands.rest.placed };
-      };
+      stands = record { sched = h.stands.sched; rest = rest_again h.stands.rest h.stands.rest.clock (subst (queues.StandsFor q None) one left) h.stands.rest.groups };
       log = h.log;
     })
     by_case (Counted i l one) = subst (At (record k { queues = q }) log) (sym one) (awakened_at i l (subst (queues.StandsFor q None) one left) (subst (AtLocked None) one (at_locked-wake_best None list s h.stands.rest.awake)) (subst (SameBitWaits s) one (bits_elsewhere.same_wake_best list s)))
@@ -271,21 +246,11 @@ pub stored_at : (k : Machine) (log : List Event) (s : State) → At k log s → 
 stored_at k log s h o x q there =
     let new : State = with_object o x s in
     let table : IsTable new = there.waiters.table in
+    let c = clock-same k.clock s new h.stands.rest.clock refl refl refl table in
     record {
       stands = record {
-        sched = record { ready = h.stands.sched.ready; current = h.stands.sched.current; priorities = h.stands.sched.priorities; base_priorities = h.stands.sched.base_priorities; depth = h.stands.sched.depth; suspended = h.stands.sched.suspended; table = table };
-        rest = record {
-          progress = h.stands.rest.progress;
-          full = h.stands.rest.full;
-          clock = clock-same k.clock s new h.stands.rest.clock refl refl refl table;
-          queues = there;
-          groups = on_groups.stands_same k.groups s new h.stands.rest.groups (bits_kept.same_object o x s) table;
-          suspensions = h.stands.rest.suspensions;
-          awake = at_locked-stored None o x s h.stands.rest.awake;
-          steps = h.stands.rest.steps;
-          stopped = h.stands.rest.stopped;
-          placed = h.stands.rest.placed;
-        };
+        sched = sched-same h.stands.sched table refl refl refl;
+        rest = rest_with_queues h.stands.rest c (λ _. refl) refl there (at_locked-stored None o x s h.stands.rest.awake) (bits_kept.same_object o x s);
       };
       log = h.log;
     }
