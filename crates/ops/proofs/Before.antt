@@ -1,18 +1,18 @@
 -- A task is still to be placed: what the calls of handlers make of the states that the kernel stands for then.
-use Rattle.std.proofs.Common.{◌≡◌, ◌≢◌, ◌<◌, ℕ, zero, suc, true, false, eqb, ltb, set, List, [], ◌∷◌, length, get_or, get_or-set_other, Option, Some, None, refl, ap, sym, subst, ◌∙◌}
+use Rattle.std.proofs.Common.{◌≡◌, ◌≢◌, ◌<◌, ℕ, true, false, eqb, ltb, set, List, [], ◌∷◌, length, get_or, Option, Some, None, refl, ap, sym, subst, ◌∙◌}
 use Rattle.std.specs.Prelude.{if◌then◌else◌}
 use Rattle.std.specs.List.{AllByRecursion}
 use Rattle.std.specs.Option.{option_map, option_and_then}
-use Rattle.model.specs.declared.call.Phase.TheVariants.{Place}
 use Rattle.model.specs.declared.call.WaitList.{WaitList}
 use Rattle.model.specs.State.{State, Task, Progress, Status, Object, Ready, Awake, Waiting, Asleep, WaitingForBits, Suspended, Ended, wait_if_waiting, task_at, status_at, progress_at, call_at, with_object, for_one, no_task}
 use Rattle.model.specs.Order.{Key, Entry, first, task_of}
-use Rattle.model.specs.Switching.{make_ready}
+use Rattle.model.specs.Switching.{is_ready, make_ready}
 use Rattle.model.specs.Waiting.{wait_key, same_list, awake_status, awaken, is_locked, waiters, wake_one, wake_best}
 use Rattle.model.specs.Invariant.{IsTable, wait_of}
 use Rattle.model.proofs.Sorting.{by_test}
 use Rattle.model.proofs.Lists.{HasKey, eqb-refl, eqb-same, list_has}
 use Rattle.model.proofs.Members.{has_task}
+use Rattle.model.proofs.Tables.{each-set}
 use Rattle.lists.specs.Lists.{has_node, without}
 use Rattle.lists.proofs.Entries.{has_node-without_other}
 use Rattle.task_lists.specs.Priorities.{with_priorities}
@@ -38,25 +38,37 @@ use Rattle.groups.proofs.Elsewhere as bits_elsewhere
 use Rattle.machine.specs.declared.machine.Machine.{Machine}
 use Rattle.machine.specs.StandsFor.{StandsBefore, Stands, decider}
 use Rattle.machine.specs.StandsFor.Stands.{Placed, Placing}
+use Rattle.machine.proofs.Parts.{Kept, kept_of, progress-kept}
 use Rattle.machine.proofs.Waking.{progress-ready}
 use Rattle.ops.proofs.Waits.{awake_unready, awake_resumes, awake_alike, best, woken_free, waits_there, opened, wakes_it, Unwoken, unwoken}
 use Rattle.ops.proofs.Waits.Unwoken.{Nobody, Counted}
 
--- ---- a status changes, and nothing else
+-- ---- what isn't changed stays
 
-progress-kept : (ts : List Task) (i j : ℕ) (t : Task) → t.progress ≡ (get_or ts i no_task).progress → (get_or (set ts i t) j no_task).progress ≡ (get_or ts j no_task).progress
-progress-kept [] i j t e = refl
-progress-kept (u ∷ us) zero zero t e = e
-progress-kept (u ∷ us) zero (suc j) t e = refl
-progress-kept (u ∷ us) (suc i) zero t e = refl
-progress-kept (u ∷ us) (suc i) (suc j) t e = progress-kept us i j t e
+-- A task changes, but not its priority.
+priority-kept : (ts : List Task) (i : ℕ) (t : Task) → t.priority ≡ (get_or ts i no_task).priority → (j : ℕ) → (get_or (set ts i t) j no_task).priority ≡ (get_or ts j no_task).priority
+priority-kept ts i t e = each-set no_task (λ j (u : Task). u.priority ≡ (get_or ts j no_task).priority) ts i t e (λ j. refl)
 
-priority-kept : (ts : List Task) (i j : ℕ) (t : Task) → t.priority ≡ (get_or ts i no_task).priority → (get_or (set ts i t) j no_task).priority ≡ (get_or ts j no_task).priority
-priority-kept [] i j t e = refl
-priority-kept (u ∷ us) zero zero t e = e
-priority-kept (u ∷ us) zero (suc j) t e = refl
-priority-kept (u ∷ us) (suc i) zero t e = refl
-priority-kept (u ∷ us) (suc i) (suc j) t e = priority-kept us i j t e
+-- The scheduler, the clock and the queues are given, and the same tasks wait for bits; each task is where it was in its script, and what is kept beside the parts stays.
+before_with : {task : ℕ} {list : WaitList} {k : Machine} {s new : State} {v : Schedule} {t : Timeline} {q : Exchange} → StandsBefore task list k s → sched.StandsBefore task v new → clock.StandsBefore task (call_at s task).deadline t new → queues.StandsFor q (Some (decider task list s)) new → AtLocked (Some (decider task list s)) new → SameBitWaits s new
+    → ((i : ℕ) → progress_at new i ≡ progress_at s i) → (task_at new task).priority ≡ (task_at s task).priority → kept_of new ≡ kept_of s → new.current ≡ s.current → new.call_hold ≡ s.call_hold → StandsBefore task list (record k { sched = v; clock = t; queues = q }) new
+before_with {task} {list} {k} {s} {new} {v} {t} {q} b on awake there locked bits progress priority kept current held = record {
+  sched = on;
+  clock = subst (λ (p : Progress). clock.StandsBefore task p.call.deadline t new) (sym (progress task)) awake;
+  queues = subst (λ (n : ℕ). queues.StandsFor q (Some (record { task = task; list = list; priority = n })) new) (sym priority) there;
+  groups = on_groups.stands_same k.groups s new b.groups bits on.table;
+  suspensions = b.suspensions ∙ sym (ap (λ (x : Kept). x.0) kept);
+  awake = subst (λ (n : ℕ). AtLocked (Some (record { task = task; list = list; priority = n })) new) (sym priority) locked;
+  progress = λ i. b.progress i ∙ sym (progress i);
+  full = b.full;
+  steps = b.steps ∙ sym (ap (λ (x : Kept). x.1) kept);
+  stopped = b.stopped ∙ sym (ap (λ (x : Kept). x.2) kept);
+  current = current ∙ b.current;
+  held = held ∙ b.held;
+  phase = ap (λ (p : Progress). p.call.phase) (progress task) ∙ b.phase;
+  wait_list = b.wait_list;
+  placed = b.placed;
+}
 
 -- ---- it waits in its list, or was woken there
 
@@ -104,78 +116,29 @@ module _ (task : ℕ) (list : WaitList) (k : Machine) (s : State) (b : StandsBef
       let f : false ≡ true = sym off ∙ ap (is_locked s.locked) one ∙ on in
       absurd (cc)
 
+  -- Another is Ready in the scheduler where it is in the state.
+  pub ready_beside : (i : ℕ) → task ≢ i → schedule.is_ready k.sched i ≡ is_ready s i
+  ready_beside i ne =
+      let gone : Schedule = record k.sched { ready = without task (lined_up k.sched); pending = [] } in
+      let stands : sched.StandsFor gone s = record { ready = b.sched.ready; current = b.sched.current; priorities = b.sched.priorities; base_priorities = b.sched.base_priorities; depth = b.sched.depth; suspended = b.sched.suspended; table = b.sched.table } in
+      sym (has_node-without_other task i (lined_up k.sched) (λ e. ne (sym e))) ∙ on_sched.ready_same gone s i stands
+
   -- an object changes
   pub stored_before : (o : ℕ) (x : Object) (q : Exchange) → queues.StandsFor q (Some (decider task list s)) (with_object o x s) → StandsBefore task list (record k { queues = q }) (with_object o x s)
   stored_before o x q there =
       let table : IsTable (with_object o x s) = there.waiters.table in
-      record {
-        sched = record { ready = b.sched.ready; still = b.sched.still; current = b.sched.current; priorities = b.sched.priorities; base_priorities = b.sched.base_priorities; depth = b.sched.depth; suspended = b.sched.suspended; table = table };
-        clock = record { now = b.clock.now; age = b.clock.age; held = b.clock.held; sorted = b.clock.sorted; once = b.clock.once; delayed = b.clock.delayed; awake = b.clock.awake; table = table };
-        queues = there;
-        groups = on_groups.stands_same k.groups s (with_object o x s) b.groups (bits_kept.same_object o x s) table;
-        suspensions = b.suspensions;
-        awake = at_locked-stored (Some (decider task list s)) o x s b.awake;
-        progress = b.progress;
-        full = b.full;
-        steps = b.steps;
-        stopped = b.stopped;
-        current = b.current;
-        held = b.held;
-        phase = b.phase;
-        wait_list = b.wait_list;
-        placed = b.placed;
-      }
-
-  -- another becomes Ready
-  module _ (i : ℕ) (ne : task ≢ i) where
-    own_task : task_at (make_ready i s) task ≡ task_at s task
-    own_task = get_or-set_other s.tasks i task (record (task_at s i) { status = Ready s.next_ticket }) no_task ne
-
-    pub readied_before : (v : Schedule) (t : Timeline) (q : Exchange) → sched.StandsBefore task v (make_ready i s) → clock.StandsBefore task (call_at s task).deadline t (make_ready i s) → queues.StandsFor q (Some (decider task list s)) (make_ready i s) → AtLocked (Some (decider task list s)) (make_ready i s) → SameBitWaits s (make_ready i s)
-        → StandsBefore task list (record k { sched = v; clock = t; queues = q }) (make_ready i s)
-    readied_before v t q on awake there locked bits =
-        record {
-          sched = on;
-          clock = subst (λ (u : Task). clock.StandsBefore task u.progress.call.deadline t (make_ready i s)) (sym own_task) awake;
-          queues = subst (λ (u : Task). queues.StandsFor q (Some (record { task = task; list = list; priority = u.priority })) (make_ready i s)) (sym own_task) there;
-          groups = on_groups.stands_same k.groups s (make_ready i s) b.groups bits on.table;
-          suspensions = b.suspensions;
-          awake = subst (λ (u : Task). AtLocked (Some (record { task = task; list = list; priority = u.priority })) (make_ready i s)) (sym own_task) locked;
-          progress = λ j. b.progress j ∙ sym (progress-ready s i j);
-          full = b.full;
-          steps = b.steps;
-          stopped = b.stopped;
-          current = b.current;
-          held = b.held;
-          phase = subst (λ (u : Task). u.progress.call.phase ≡ Place) (sym own_task) b.phase;
-          wait_list = b.wait_list;
-          placed = b.placed;
-        }
+      let on : sched.StandsBefore task k.sched (with_object o x s) = record { ready = b.sched.ready; still = b.sched.still; current = b.sched.current; priorities = b.sched.priorities; base_priorities = b.sched.base_priorities; depth = b.sched.depth; suspended = b.sched.suspended; table = table } in
+      let awake : clock.StandsBefore task (call_at s task).deadline k.clock (with_object o x s) = record { now = b.clock.now; age = b.clock.age; held = b.clock.held; sorted = b.clock.sorted; once = b.clock.once; delayed = b.clock.delayed; awake = b.clock.awake; table = table } in
+      before_with b on awake there (at_locked-stored (Some (decider task list s)) o x s b.awake) (bits_kept.same_object o x s) (λ _. refl) refl refl refl refl
 
   -- someone is Awake, perhaps itself
   pub awakened_before : (i : ℕ) → i < length s.tasks → (q : Exchange) → queues.StandsFor q (Some (decider task list s)) (awaken i s) → AtLocked (Some (decider task list s)) (awaken i s) → SameBitWaits s (awaken i s) → StandsBefore task list (record k { queues = q }) (awaken i s)
   awakened_before i l q there locked bits =
       let t : Task = record (task_at s i) { status = awake_status (status_at s i) } in
       let table : IsTable (awaken i s) = there.waiters.table in
-      let same_progress : (j : ℕ) → progress_at (awaken i s) j ≡ progress_at s j = λ j. progress-kept s.tasks i j t refl in
-      let same_priority : (task_at (awaken i s) task).priority ≡ (task_at s task).priority = priority-kept s.tasks i task t refl in
-      record {
-        sched = on_sched.stands_before_kept k.sched s (awaken i s) task i t b.sched l refl refl refl (ap (λ (o : Option ℕ). option_map (λ n. record { priority = (task_at s i).priority; ticket = n }) o) (awake_unready (status_at s i))) refl refl table (awake_resumes (status_at s i));
-        clock = subst (λ (p : Progress). clock.StandsBefore task p.call.deadline k.clock (awaken i s)) (sym (same_progress task)) (on_clock.stands_before_kept k.clock s (awaken i s) task i (call_at s task).deadline t b.clock l refl refl refl (awake_alike (status_at s i)) table);
-        queues = subst (λ (n : ℕ). queues.StandsFor q (Some (record { task = task; list = list; priority = n })) (awaken i s)) (sym same_priority) there;
-        groups = on_groups.stands_same k.groups s (awaken i s) b.groups bits table;
-        suspensions = b.suspensions;
-        awake = subst (λ (n : ℕ). AtLocked (Some (record { task = task; list = list; priority = n })) (awaken i s)) (sym same_priority) locked;
-        progress = λ j. b.progress j ∙ sym (same_progress j);
-        full = b.full;
-        steps = b.steps;
-        stopped = b.stopped;
-        current = b.current;
-        held = b.held;
-        phase = subst (λ (p : Progress). p.call.phase ≡ Place) (sym (same_progress task)) b.phase;
-        wait_list = b.wait_list;
-        placed = b.placed;
-      }
+      let on = on_sched.stands_before_kept k.sched s (awaken i s) task i t b.sched l refl refl refl (ap (λ (o : Option ℕ). option_map (λ n. record { priority = (task_at s i).priority; ticket = n }) o) (awake_unready (status_at s i))) refl refl table (awake_resumes (status_at s i)) in
+      let awake = on_clock.stands_before_kept k.clock s (awaken i s) task i (call_at s task).deadline t b.clock l refl refl refl (awake_alike (status_at s i)) table in
+      before_with b on awake there locked bits (progress-kept s.tasks i t refl) (priority-kept s.tasks i t refl task) refl refl refl
 
 -- who is woken becomes Ready
 module _ (task : ℕ) (tl : WaitList) (k : Machine) (s : State) (b : StandsBefore task tl k s) (list : WaitList) (i : ℕ) (is : Some i ≡ (if is_locked s.locked list then None else best s list)) where
@@ -183,18 +146,20 @@ module _ (task : ℕ) (tl : WaitList) (k : Machine) (s : State) (b : StandsBefor
   apart_there = woken_apart task tl k s b i list (waits_there s list i is).key (opened s list i is) (waits_there s list i is).there
 
   pub free_before : schedule.is_ready k.sched i ≡ false
-  free_before =
-      let gone : Schedule = record k.sched { ready = without task (lined_up k.sched); pending = [] } in
-      let stands : sched.StandsFor gone s = record { ready = b.sched.ready; current = b.sched.current; priorities = b.sched.priorities; base_priorities = b.sched.base_priorities; depth = b.sched.depth; suspended = b.sched.suspended; table = b.sched.table } in
-      sym (has_node-without_other task i (lined_up k.sched) (λ e. apart_there (sym e))) ∙ on_sched.ready_same gone s i stands ∙ (waits_there s list i is).unready
+  free_before = ready_beside task tl k s b i apart_there ∙ (waits_there s list i is).unready
 
   pub woken_before : (v : Schedule) (t : Timeline) (q : Exchange) → (task ≢ i → i < length s.tasks → sched.StandsBefore task v (make_ready i s)) → (task ≢ i → i < length s.tasks → clock.StandsBefore task (call_at s task).deadline t (make_ready i s)) → queues.StandsFor q (Some (decider task tl s)) (wake_best list s)
       → StandsBefore task tl (record k { sched = v; clock = t; queues = q }) (wake_best list s)
   woken_before v t q on awake there =
       let l = (waits_there s list i is).within in
       let one = wakes_it s list i is in
+      let d : Option Decider = Some (decider task tl s) in
+      let left = subst (queues.StandsFor q d) one there in
+      let locked = subst (AtLocked d) one (at_locked-wake_best d list s b.awake) in
+      let bits = subst (SameBitWaits s) one (bits_elsewhere.same_wake_best list s) in
+      let priority = priority-kept s.tasks i (record (task_at s i) { status = Ready s.next_ticket }) refl task in
       subst (StandsBefore task tl (record k { sched = v; clock = t; queues = q })) (sym one)
-      (readied_before task tl k s b i apart_there v t q (on apart_there l) (awake apart_there l) (subst (queues.StandsFor q (Some (decider task tl s))) one there) (subst (AtLocked (Some (decider task tl s))) one (at_locked-wake_best (Some (decider task tl s)) list s b.awake)) (subst (SameBitWaits s) one (bits_elsewhere.same_wake_best list s)))
+      (before_with b (on apart_there l) (awake apart_there l) left locked bits (progress-ready s i) priority refl refl refl)
 
 -- in either case whoever is woken isn't Ready in the scheduler
 pub woken_free_any : (k : Machine) (s : State) (list : WaitList) (i : ℕ) → Stands k s → ((d : Option Decider) → queues.StandsFor k.queues d s → AtLocked d s → Some i ≡ (if is_locked s.locked list then None else best s list)) → schedule.is_ready k.sched i ≡ false
@@ -206,23 +171,8 @@ module _ (task : ℕ) (tl : WaitList) (k : Machine) (s : State) (b : StandsBefor
   pub unwoken_before : StandsBefore task tl (record k { queues = q }) (wake_best list s)
   unwoken_before = by_case (unwoken s list is) where
     by_case : Unwoken s list → StandsBefore task tl (record k { queues = q }) (wake_best list s)
-    by_case (Nobody one) = subst (StandsBefore task tl (record k { queues = q })) (sym one) (record {
-      sched = b.sched;
-      clock = b.clock;
-      queues = subst (queues.StandsFor q (Some (decider task tl s))) one there;
-      groups = b.groups;
-      suspensions = b.suspensions;
-      awake = b.awake;
-      progress = b.progress;
-      full = b.full;
-      steps = b.steps;
-      stopped = b.stopped;
-      current = b.current;
-      held = b.held;
-      phase = b.phase;
-      wait_list = b.wait_list;
-      placed = b.placed;
-    })
+    by_case (Nobody one) = subst (StandsBefore task tl (record k { queues = q })) (sym one)
+        (before_with b b.sched b.clock (subst (queues.StandsFor q (Some (decider task tl s))) one there) b.awake (bits_kept.same s) (λ _. refl) refl refl refl refl)
     by_case (Counted i l one) = subst (StandsBefore task tl (record k { queues = q })) (sym one) (awakened_before task tl k s b i l q (subst (queues.StandsFor q (Some (decider task tl s))) one there) (subst (AtLocked (Some (decider task tl s))) one (at_locked-wake_best (Some (decider task tl s)) list s b.awake)) (subst (SameBitWaits s) one (bits_elsewhere.same_wake_best list s)))
 
 -- what a wake tells: nothing

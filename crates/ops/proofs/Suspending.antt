@@ -18,11 +18,9 @@ use Rattle.model.specs.Invariant.{IsTable, wait_of}
 use Rattle.model.proofs.Sorting.{by_test}
 use Rattle.model.proofs.Lists.{eqb-refl, eqb-same}
 use Rattle.model.proofs.Tables.{each-set}
-use Rattle.lists.specs.Lists.{without}
-use Rattle.lists.proofs.Entries.{has_node-without_other}
 use Rattle.sched.specs.StandsFor as sched
 use Rattle.sched.specs.Schedule as schedule
-use Rattle.sched.specs.Schedule.{Schedule, lined_up}
+use Rattle.sched.specs.Schedule.{Schedule}
 use Rattle.sched.proofs.Standing as on_sched
 use Rattle.clock.specs.StandsFor as clock
 use Rattle.clock.specs.Timeline.{Timeline}
@@ -41,9 +39,9 @@ use Rattle.machine.specs.declared.machine.Machine.{Machine}
 use Rattle.machine.specs.StandsFor.{StandsFor, StandsBefore, Stands, At, AtAny, progress_in, with_progress}
 use Rattle.machine.specs.StandsFor.Stands.{Placed, Placing}
 use Rattle.machine.specs.Can.{Runs}
-use Rattle.machine.proofs.Parts.{there_if, progress-same, progress-set, ready_alike}
+use Rattle.machine.proofs.Parts.{there_if, progress-kept, progress-set, ready_alike, rest_moved, rest_with}
 use Rattle.machine.proofs.Either.{any, either}
-use Rattle.ops.proofs.Before.{stands_there}
+use Rattle.ops.proofs.Before.{ready_beside, stands_there}
 
 -- ---- whom a suspend changes
 
@@ -101,22 +99,9 @@ module _ (k : Machine) (log : List Event) (s : State) (h : At k log s) (i : ℕ)
   suspended_at can v t q g on awake left gone =
       let u : Task = record (task_at s i) { status = Suspended } in
       let A : ℕ → Task → Type 0 = λ _ x. IfSome (wait_if_awake x.status) (λ w. is_locked s.locked w.list ≡ true) in
+      let locked : AtLocked None (with_status i Suspended s) = record { awake = each-set no_task A s.tasks i u tt h.stands.rest.awake.awake; to_place = tt } in
       rw can (record {
-        stands = record {
-          sched = on;
-          rest = record {
-            progress = progress-same k.progress s.tasks i u h.stands.rest.progress (within_if s i can) refl;
-            full = h.stands.rest.full;
-            clock = awake;
-            queues = left;
-            groups = gone;
-            suspensions = h.stands.rest.suspensions;
-            awake = record { awake = each-set no_task A s.tasks i u tt h.stands.rest.awake.awake; to_place = tt };
-            steps = h.stands.rest.steps;
-            stopped = h.stands.rest.stopped;
-            placed = h.stands.rest.placed;
-          };
-        };
+        stands = record { sched = on; rest = rest_with h.stands.rest awake (progress-kept s.tasks i u refl) refl left locked gone };
         log = h.log;
       })
 
@@ -241,26 +226,14 @@ module _ (k : Machine) (s : State) (i : ℕ) (t : can_resume (status_at s i) ≡
       let new : State = with_resumed s i in
       let one : resume i s ≡ new = is_resumed s i t l in
       let on_new : sched.StandsFor v new = subst (sched.StandsFor v) one on in
-      let table : IsTable new = on_new.table in
-      let p : Progress = (resumed_task s i).progress in
-      let many : i < length k.progress = (let n = h.rest.full in let m = h.sched.table.few in let q = l in omega arith) in
-      let same = same_resume s i t in
-      let off : p.call.phase ≢ Place = not_resumed_place (call_at s i).phase (λ e. h.rest.placed i (ap (λ (x : Progress). x.call.phase) (h.rest.progress i) ∙ e)) in
+      let alike = ready_alike (status_at s i) s.next_ticket (ap wake_time_of (is_suspended (status_at s i) t)) in
+      let c = on_clock.stands_kept k.clock s new i (resumed_task s i) h.rest.clock l refl refl refl alike on_new.table in
+      let bits = subst (groups.SameBitWaits s) one (bits_kept.same_resume i s) in
+      let off : phase_resumed (call_at s i).phase ≢ Place = not_resumed_place (call_at s i).phase (λ e. h.rest.placed i (ap (λ (x : Progress). x.call.phase) (h.rest.progress i) ∙ e)) in
       subst (StandsFor (kernel_resumed k v now i)) (sym one)
       (subst (λ (x : Progress). StandsFor (with_progress i x (record k { sched = v })) new) (sym (progress_is h.rest.progress)) (record {
         sched = on_new;
-        rest = record {
-          progress = progress-set k.progress s.tasks i (resumed_task s i) h.rest.progress many l;
-          full = rw length-set h.rest.full;
-          clock = on_clock.stands_kept k.clock s new i (resumed_task s i) h.rest.clock l refl refl refl (ready_alike (status_at s i) s.next_ticket (ap wake_time_of (is_suspended (status_at s i) t))) table;
-          queues = stands_same s new same k.queues None h.rest.queues table;
-          groups = on_groups.stands_same k.groups s new h.rest.groups (subst (groups.SameBitWaits s) one (bits_kept.same_resume i s)) table;
-          suspensions = h.rest.suspensions;
-          awake = at_locked_same None s new same h.rest.awake;
-          steps = h.rest.steps;
-          stopped = h.rest.stopped;
-          placed = λ j. each-set state.no_progress (λ _ (x : Progress). x.call.phase ≢ Place) k.progress i p off h.rest.placed j;
-        };
+        rest = rest_moved h.rest c refl i (resumed_task s i) l h.sched.table.few refl off (same_resume s i t) bits;
       }))
 
   -- the same while another is still to be placed
@@ -328,10 +301,7 @@ unready_in k s st i t = by_stands st where
 
   by_stands : Stands k s → schedule.is_ready k.sched i ≡ false
   by_stands (Placed h) = on_sched.ready_same k.sched s i h.sched ∙ unready_suspended (status_at s i) can
-  by_stands (Placing task list b) =
-      let gone : Schedule = record k.sched { ready = without task (lined_up k.sched); pending = [] } in
-      let stands : sched.StandsFor gone s = record { ready = b.sched.ready; current = b.sched.current; priorities = b.sched.priorities; base_priorities = b.sched.base_priorities; depth = b.sched.depth; suspended = b.sched.suspended; table = b.sched.table } in
-      sym (has_node-without_other task i (lined_up k.sched) (λ e. apart_from k s i can task list b (sym e))) ∙ on_sched.ready_same gone s i stands ∙ unready_suspended (status_at s i) can
+  by_stands (Placing task list b) = ready_beside task list k s b i (apart_from k s i can task list b) ∙ unready_suspended (status_at s i) can
 
 -- ---- the resume in either case
 
