@@ -41,7 +41,7 @@ use Rattle.machine.specs.declared.machine.Machine.{Machine}
 use Rattle.machine.specs.StandsFor.{StandsBefore, At, AtAny, decider, progress_in, with_progress}
 use Rattle.machine.specs.StandsFor.Stands.{Placing}
 use Rattle.ops.specs.Can.{CanDecide, CanLeave}
-use Rattle.machine.proofs.Parts.{clock-same, progress-set, same_parts, same_alike}
+use Rattle.machine.proofs.Parts.{clock-same, progress-set, rest_unseen, rest_with_queues, same_parts, same_alike, sched-same}
 use Rattle.machine.proofs.Acting.{within}
 use Rattle.machine.proofs.Continuing.{recalled}
 use Rattle.ops.specs.InCall.{IsSilent}
@@ -182,21 +182,12 @@ module _ (k : Machine) (log : List Event) (s : State) (h : At k log s) (i o : �
       let table : IsTable shut = record { tickets = on.table.tickets; few = on.table.few; current = on.table.current; holders = on.table.holders } in
       let there : State = record s { locked = Some o } in
       let same : SameWaits there shut = same_parts there shut refl refl refl in
+      let c = clock-same k.clock s shut h.stands.rest.clock refl refl refl table in
+      let locked = at_locked_same None there shut same (at_locked-locked s o unlocked h.stands.rest.awake) in
       record {
         stands = record {
-          sched = record { ready = on.ready; current = on.current; priorities = on.priorities; base_priorities = on.base_priorities; depth = on.depth; suspended = on.suspended; table = table };
-          rest = record {
-            progress = h.stands.rest.progress;
-            full = h.stands.rest.full;
-            clock = clock-same k.clock s shut h.stands.rest.clock refl refl refl table;
-            queues = stands_same there shut same q None locking table;
-            groups = on_groups.stands_same k.groups s shut h.stands.rest.groups (bits_kept.same_parts s shut refl refl) table;
-            suspensions = h.stands.rest.suspensions;
-            awake = at_locked_same None there shut same (at_locked-locked s o unlocked h.stands.rest.awake);
-            steps = h.stands.rest.steps;
-            stopped = h.stands.rest.stopped;
-            placed = h.stands.rest.placed;
-          };
+          sched = sched-same on table refl refl refl;
+          rest = rest_with_queues h.stands.rest c (λ _. refl) refl (stands_same there shut same q None locking table) locked (bits_kept.same_parts s shut refl refl);
         };
         log = h.log;
       }
@@ -362,27 +353,7 @@ module _ (k : Machine) (log : List Event) (s : State) (i : ℕ) (list : WaitList
 -- ---- a hold begins, or ends
 
 pub hold_at : (b : Bool) (k : Machine) (log : List Event) (s : State) → At k log s → (v : Schedule) → sched.StandsFor v (record s { call_hold = b }) → At (record k { sched = v }) log (record s { call_hold = b })
-hold_at b k log s h v on =
-    let new : State = record s { call_hold = b } in
-    let same : SameWaits s new = same_parts s new refl refl refl in
-    record {
-      stands = record {
-        sched = on;
-        rest = record {
-          progress = h.stands.rest.progress;
-          full = h.stands.rest.full;
-          clock = clock-same k.clock s new h.stands.rest.clock refl refl refl on.table;
-          queues = stands_same s new same k.queues None h.stands.rest.queues on.table;
-          groups = on_groups.stands_same k.groups s new h.stands.rest.groups (bits_kept.same_parts s new refl refl) on.table;
-          suspensions = h.stands.rest.suspensions;
-          awake = at_locked_same None s new same h.stands.rest.awake;
-          steps = h.stands.rest.steps;
-          stopped = h.stands.rest.stopped;
-          placed = h.stands.rest.placed;
-        };
-      };
-      log = h.log;
-    }
+hold_at b k log s h v on = record { stands = record { sched = on; rest = rest_unseen h.stands.rest on.table refl h.stands.rest.suspensions h.stands.rest.steps h.stands.rest.stopped }; log = h.log }
 
 -- The task's call has let go of the scheduler, and goes on with this phase.
 module _ (k new : Machine) (log : List Event) (s : State) (h : At k log s) (i : ℕ) (c : CanLeave k i) (w : Schedule) (unhold : s.call_hold ≡ true → sched.StandsFor w (record s { call_hold = false })) (runs : w.current ≡ k.sched.current)

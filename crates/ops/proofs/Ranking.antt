@@ -5,10 +5,8 @@ use Rattle.model.specs.declared.event.Misuse.{Misuse}
 use Rattle.model.specs.State.{State, Task, task_at, progress_at, call_at, object_at, with_task, for_one, no_task, with_object}
 use Rattle.model.specs.Switching.{is_ready, to_back, preempt}
 use Rattle.model.specs.Mutexes.{set_priority, mutexes_held, lend, inherit_from, inherit, best_priority, fall_back, after_timeout, disinherit, give_mutex}
-use Rattle.model.specs.Invariant.{Suspension}
 use Rattle.model.proofs.Sorting.{by_test}
 use Rattle.model.proofs.Tables.{each-set}
-use Rattle.soundness.proofs.Frames.{keeps-set_priority}
 use Rattle.model.specs.declared.call.WaitList.TheVariants.{ToReceive}
 use Rattle.model.specs.declared.op.Op.TheVariants.{GiveMutex}
 use Rattle.model.specs.Application.{Application}
@@ -22,12 +20,12 @@ use Rattle.objects.proofs.Ranking.{stands_ranked, at_locked-ranked}
 use Rattle.clock.proofs.Unmoved.{stands_prioritised}
 use Rattle.sched.specs.StandsFor as sched
 use Rattle.sched.specs.Schedule.{Schedule}
-use Rattle.groups.proofs.Standing as on_groups
 use Rattle.groups.proofs.Kept as bits_kept
 use Rattle.machine.specs.declared.machine.Machine.{Machine}
 use Rattle.machine.specs.StandsFor.{At}
 use Rattle.machine.specs.Can.{Agrees, Runs}
 use Rattle.ops.specs.Can.{CanDecide, Reranks}
+use Rattle.machine.proofs.Parts.{kept_of, rest_with_queues}
 use Rattle.machine.proofs.Waking.{progress-ready}
 
 -- ---- a task has another priority
@@ -54,26 +52,20 @@ log-set_priority s i priority = by_test (eqb (task_at s i).priority priority)
     (λ t. rw t refl)
     (λ t. rw t (log-to_back (with_task i (record (task_at s i) { priority = priority }) s) i))
 
+kept-set_priority : (s : State) (i priority : ℕ) → kept_of (set_priority i priority s) ≡ kept_of s
+unfolding set_priority to_back
+kept-set_priority s i priority = by_test (eqb (task_at s i).priority priority)
+    (λ t. rw t refl)
+    (λ t. rw t (by_test (is_ready (with_task i (record (task_at s i) { priority = priority }) s) i) (λ u. rw u refl) (λ u. rw u refl)))
+
 -- The scheduler has done its part.
 pub ranked_at : (k : Machine) (log : List Event) (s : State) → At k log s → (i priority : ℕ) (v : Schedule) → sched.StandsFor v (set_priority i priority s) → At (record k { sched = v }) log (set_priority i priority s)
 ranked_at k log s h i priority v on =
-    let keep = keeps-set_priority i priority s in
+    let c = stands_prioritised k.clock s i priority h.stands.rest.clock in
+    let left = stands_ranked k.queues None s i priority h.stands.rest.queues in
+    let locked = at_locked-ranked None s i priority h.stands.rest.awake in
     record {
-      stands = record {
-        sched = on;
-        rest = record {
-          progress = λ j. h.stands.rest.progress j ∙ sym (progress-set_priority s i priority j);
-          full = h.stands.rest.full;
-          clock = stands_prioritised k.clock s i priority h.stands.rest.clock;
-          queues = stands_ranked k.queues None s i priority h.stands.rest.queues;
-          groups = on_groups.stands_same k.groups s (set_priority i priority s) h.stands.rest.groups (bits_kept.same_set_priority i priority s) on.table;
-          suspensions = h.stands.rest.suspensions ∙ sym (ap (λ (x : Suspension). x.suspensions) keep.suspension);
-          awake = at_locked-ranked None s i priority h.stands.rest.awake;
-          steps = h.stands.rest.steps ∙ sym keep.steps;
-          stopped = h.stands.rest.stopped ∙ sym keep.stopped;
-          placed = h.stands.rest.placed;
-        };
-      };
+      stands = record { sched = on; rest = rest_with_queues h.stands.rest c (progress-set_priority s i priority) (kept-set_priority s i priority) left locked (bits_kept.same_set_priority i priority s) };
       log = h.log ∙ sym (log-set_priority s i priority);
     }
 
