@@ -20,6 +20,7 @@ use Rattle.model.proofs.Chosen.{each-end}
 use Rattle.soundness.proofs.InScripts.{isr_known}
 use Rattle.machine.specs.declared.machine.Machine.{Machine}
 use Rattle.machine.specs.StandsFor.{Stands, At, AtAny}
+use Rattle.machine.proofs.Parts.{rest_again}
 use Rattle.machine.proofs.Either.{any, either}
 use Rattle.soundness.proofs.Handled.{and_left}
 use Rattle.ops.specs.Can.{HasIsrObject, HasObjects}
@@ -116,24 +117,7 @@ mapped_at f (y ∷ ys) (suc i) x l e = mapped_at f ys i x (omega arith) e
 -- ---- the guess at the next base interrupt is nothing that the kernel stands for
 
 pub guessed : (k : Machine) (n : ℕ) (log : List Event) (s : State) → At k log s → At (record k { next_interrupt = n }) log s
-guessed k n log s h = record {
-  stands = record {
-    sched = h.stands.sched;
-    rest = record {
-      progress = h.stands.rest.progress;
-      full = h.stands.rest.full;
-      clock = h.stands.rest.clock;
-      queues = h.stands.rest.queues;
-      groups = h.stands.rest.groups;
-      suspensions = h.stands.rest.suspensions;
-      awake = h.stands.rest.awake;
-      steps = h.stands.rest.steps;
-      stopped = h.stands.rest.stopped;
-      placed = h.stands.rest.placed;
-    };
-  };
-  log = h.log;
-}
+guessed k n log s h = record { stands = record { sched = h.stands.sched; rest = rest_again h.stands.rest h.stands.rest.clock h.stands.rest.queues h.stands.rest.groups }; log = h.log }
 
 -- ---- the bits of a group
 
