@@ -56,9 +56,6 @@ progress-set ps ts i t h l m j = by_test (eqb j i)
 pub progress-kept : (ts : List Task) (i : ℕ) (t : Task) → t.progress ≡ (get_or ts i no_task).progress → (j : ℕ) → (get_or (set ts i t) j no_task).progress ≡ (get_or ts j no_task).progress
 progress-kept ts i t e = each-set no_task (λ j (u : Task). u.progress ≡ (get_or ts j no_task).progress) ts i t e (λ j. refl)
 
-pub progress-same : (ps : List Progress) (ts : List Task) (i : ℕ) (t : Task) → ((j : ℕ) → progress_in ps j ≡ (get_or ts j no_task).progress) → i < length ts → t.progress ≡ (get_or ts i no_task).progress → (j : ℕ) → progress_in ps j ≡ (get_or (set ts i t) j no_task).progress
-progress-same ps ts i t h m e j = h j ∙ sym (progress-kept ts i t e j)
-
 -- ---- the scheduler
 
 -- The scheduler stands for each state of the same tasks, where the same one runs and it is held as often.
