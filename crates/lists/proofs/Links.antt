@@ -1,10 +1,14 @@
 -- A node that is linked into a list, or taken out of it.
-use Rattle.std.proofs.Common.{◌≡◌, ◌≢◌, ℕ, ◌<◌, Option, Some, None, List, [], ◌∷◌, ◌++◌, get_or, length, sym, ◌∙◌, ap, subst, refl}
-use Rattle.std.proofs.lemmas.List.{get_or-set_same, get_or-set_other, length-set}
+use Rattle.std.proofs.Common.{◌≡◌, ◌≢◌, ℕ, ◌<◌, Option, Some, None, List, [], ◌∷◌, ◌++◌, get_or, length, sym, ◌∙◌, ap, subst, refl, arith}
+use Rattle.std.proofs.lemmas.List.{get_or_default, get_or-set_same, get_or-set_other, length-set}
 use Rattle.std.proofs.lemmas.Option.{same_Some}
 use Rattle.lists.specs.Lists.{Each, EachOnce, Apart, first_of}
 use Rattle.lists.specs.Links.{at_link, put_link, put_end, Linked}
 use Rattle.lists.proofs.Entries.{none-some, Each-left, Each-right, Each-imp}
+
+-- a link that is there is read alike whatever stands for those that aren't
+pub read_link : (links : List (Option ℕ)) (i : ℕ) (r : Option ℕ) {n : ℕ} → length links ≡ n → i < n → get_or links i r ≡ get_or links i None
+read_link links i r e l = get_or_default links i r None (omega (arith, e, l))
 
 -- the last entry's node, or `a` where there is none
 abbrev pub last_of : Option ℕ → List (ℕ × ℕ) → Option ℕ

@@ -1,6 +1,15 @@
 -- How the arrays of a table spell its lists.
-use Rattle.std.specs.Prelude.{◌≡◌, ℕ, zero, suc, ◌<◌, ◌≤◌, nat_lt, if◌then◌else◌, Option, Some, None, List, [], ◌∷◌, ◌++◌, get_or, set, length, map}
+use Rattle.std.specs.Prelude.{◌≡◌, ℕ, zero, suc, ◌<◌, ◌≤◌, nat_lt, ◌==◌, if◌then◌else◌, Option, Some, None, List, [], ◌∷◌, ◌++◌, get_or, set, length, map}
 use Rattle.lists.specs.Lists.{Each, Apart, EachOnce, first_of}
+
+-- where the number in a link leads: 65535 leads nowhere
+abbrev pub led_to : ℕ → Option ℕ
+led_to number = if number == 65535 then None else Some number
+
+-- and back
+abbrev pub number_of : Option ℕ → ℕ
+number_of None = 65535
+number_of (Some number) = number
 
 -- the entries from `start` on: each node with its value, at most `fuel` of them
 abbrev pub walk : List (Option ℕ) → List ℕ → ℕ → Option ℕ → List (ℕ × ℕ)

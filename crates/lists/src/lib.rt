@@ -7,6 +7,7 @@
 #![tactic(auto)]
 
 mod ids;
+mod link;
 mod table;
 
 pub use ids::{ListId, NodeId};

@@ -5,6 +5,7 @@ ghost use Rattle.lists.specs.Links.{lists_of, IsLinkedTable, SplitsBefore, at_li
 ghost use Rattle.lists.specs.Lists.{entries_of, first_of, has_node, insert_sorted, next_of, place_of, rotated, second_of, value_of, without, IsSorted, IsSound};
 
 use crate::ids::{ListId, NodeId};
+use crate::link::Link;
 use std::marker::Model;
 
 /// `L` lists over `N` nodes, where `L` and `N` are 4096 at most. A node is in one list at most, and there once. In
@@ -14,12 +15,12 @@ use std::marker::Model;
 /// the nodes stand in one table of a fixed size is profile.
 #[derive(Drop)]
 pub struct Table<const L: usize, const N: usize> {
-    next: [Option<u16>; N],
-    prev: [Option<u16>; N],
-    place: [Option<u16>; N],
+    next: [Link; N],
+    prev: [Link; N],
+    place: [Link; N],
     values: [u32; N],
-    firsts: [Option<u16>; L],
-    lasts: [Option<u16>; L],
+    firsts: [Link; L],
+    lasts: [Link; L],
 }
 
 // Clauses see for each list its entries in order, each a node and its value.
@@ -32,58 +33,47 @@ impl<const L: usize, const N: usize> Model for Table<L, N> {
 }
 
 /// Reads a link of a list: that of a node, or that of the list's end.
-fn link_at(
-    ends: &[Option<u16>],
-    links: &[Option<u16>],
-    list: ListId,
-    at: Option<u16>,
-) -> Option<u16>
+fn link_at(ends: &[Link], links: &[Link], list: ListId, at: Link) -> Link
     requires list { list.number < length ends.now }
     requires at { ForSome at (λ node. node < length links.now) }
     ensures link { result ≡ at_link links.now (slice_index_or ends.now list.number None) at }
 {
-    match at {
+    match at.number() {
         None => ends[list.number as usize],
         Some(node) => links[node as usize],
     }
 }
 
 /// Writes a link of a list: that of a node, or that of the list's end.
-fn set_link(
-    ends: &mut [Option<u16>],
-    links: &mut [Option<u16>],
-    list: ListId,
-    at: Option<u16>,
-    to: Option<u16>,
-)
+fn set_link(ends: &mut [Link], links: &mut [Link], list: ListId, at: Link, to: Link)
     requires list { list.number < length ends.old }
     requires at { ForSome at (λ node. node < length links.old) }
     ensures ends { ends.new ≡ put_end ends.old list.number at to }
     ensures links { links.new ≡ put_link links.old at to }
 {
-    match at {
+    match at.number() {
         None => ends[list.number as usize] = to,
         Some(node) => links[node as usize] = to,
     }
 }
 
 /// The node that a link leads to.
-fn node_of(link: Option<u16>) -> Option<NodeId>
+fn node_of(link: Link) -> Option<NodeId>
     requires { ForSome link (λ node. node < 4096) }
     ensures node { option_map (λ node. node.number) result ≡ link }
 {
-    match link {
+    match link.number() {
         None => None,
         Some(number) => Some(NodeId { number }),
     }
 }
 
 /// The list that a node's place names.
-fn list_of(place: Option<u16>) -> Option<ListId>
+fn list_of(place: Link) -> Option<ListId>
     requires { ForSome place (λ list. list < 4096) }
     ensures list { option_map (λ list. list.number) result ≡ place }
 {
-    match place {
+    match place.number() {
         None => None,
         Some(number) => Some(ListId { number }),
     }
@@ -98,12 +88,12 @@ impl<const L: usize, const N: usize> Table<L, N> {
         ensures sound { IsSound L N result }
     {
         Table {
-            next: [None; N],
-            prev: [None; N],
-            place: [None; N],
+            next: [Link::none(); N],
+            prev: [Link::none(); N],
+            place: [Link::none(); N],
             values: [0; N],
-            firsts: [None; L],
-            lasts: [None; L],
+            firsts: [Link::none(); L],
+            lasts: [Link::none(); L],
         }
     }
 
@@ -186,7 +176,7 @@ impl<const L: usize, const N: usize> Table<L, N> {
             let after = self.next[node.number as usize];
             set_link(&mut self.firsts, &mut self.next, list, before, after);
             set_link(&mut self.lasts, &mut self.prev, list, after, before);
-            self.place[node.number as usize] = None;
+            self.place[node.number as usize] = Link::none();
         }
     }
 
@@ -202,15 +192,18 @@ impl<const L: usize, const N: usize> Table<L, N> {
         ensures sound { IsSound L N self.new }
     {
         let list = list.number as usize;
-        if let Some(first) = self.firsts[list] {
-            if let Some(second) = self.next[first as usize] {
-                if let Some(last) = self.lasts[list] {
-                    self.firsts[list] = Some(second);
-                    self.prev[second as usize] = None;
-                    self.next[first as usize] = None;
-                    self.prev[first as usize] = Some(last);
-                    self.next[last as usize] = Some(first);
-                    self.lasts[list] = Some(first);
+        let to_first = self.firsts[list];
+        if let Some(first) = to_first.number() {
+            let to_second = self.next[first as usize];
+            if let Some(second) = to_second.number() {
+                let to_last = self.lasts[list];
+                if let Some(last) = to_last.number() {
+                    self.firsts[list] = to_second;
+                    self.prev[second as usize] = Link::none();
+                    self.next[first as usize] = Link::none();
+                    self.prev[first as usize] = to_last;
+                    self.next[last as usize] = to_first;
+                    self.lasts[list] = to_first;
                     return Some(NodeId { number: second });
                 }
             }
@@ -228,7 +221,7 @@ impl<const L: usize, const N: usize> Table<L, N> {
             (entries_of self.old list.number ++ (node.number, value) ∷ []) }
         ensures sound { IsSound L N self.new }
     {
-        self.put_before(list, None, node, value);
+        self.put_before(list, Link::none(), node, value);
     }
 
     /// Puts a node below `N`, which is in no list (`place` tells), into a list below `L`, with a value of 0 to
@@ -263,7 +256,7 @@ impl<const L: usize, const N: usize> Table<L, N> {
     }
 
     /// Puts a node into a list before another, or last.
-    fn put_before(&mut self, list: ListId, after: Option<u16>, node: NodeId, value: u32)
+    fn put_before(&mut self, list: ListId, after: Link, node: NodeId, value: u32)
         requires list { list.number < L }
         requires node { node.number < N }
         requires free { place_of self.old node.number ≡ None }
@@ -278,37 +271,37 @@ impl<const L: usize, const N: usize> Table<L, N> {
         let before = link_at(&self.lasts, &self.prev, list, after);
         self.next[node.number as usize] = after;
         self.prev[node.number as usize] = before;
-        self.place[node.number as usize] = Some(list.number);
+        self.place[node.number as usize] = Link::to(list.number);
         self.values[node.number as usize] = value;
-        let linked = Some(node.number);
+        let linked = Link::to(node.number);
         set_link(&mut self.firsts, &mut self.next, list, before, linked);
         set_link(&mut self.lasts, &mut self.prev, list, after, linked);
     }
 
     /// The first node of a list whose value is greater.
-    fn first_greater(&self, list: ListId, value: u32) -> Option<u16>
+    fn first_greater(&self, list: ListId, value: u32) -> Link
         requires { list.number < L }
         ensures found { result ≡ first_of (upper value (entries_of self.now list.number)) }
     {
         let mut at = self.firsts[list.number as usize];
-        while let Some(node) = at {
+        while let Some(node) = at.number() {
             if value < self.values[node as usize] {
                 return at;
             }
             at = self.next[node as usize];
         }
-        None
+        at
     }
 
     /// The same of a list in which no value is smaller than one before it, found from its last node.
-    fn first_greater_from_back(&self, list: ListId, value: u32) -> Option<u16>
+    fn first_greater_from_back(&self, list: ListId, value: u32) -> Link
         requires list { list.number < L }
         requires sorted { IsSorted (entries_of self.now list.number) }
         ensures found { result ≡ first_of (upper value (entries_of self.now list.number)) }
     {
-        let mut after = None;
+        let mut after = Link::none();
         let mut at = self.lasts[list.number as usize];
-        while let Some(node) = at {
+        while let Some(node) = at.number() {
             if self.values[node as usize] <= value {
                 return after;
             }

@@ -37,7 +37,7 @@ impl Model for Snapshot {
 }
 
 impl Machine {
-    /// The kernel as it stands now. It takes some 7.5 kB, and four bytes of memory for each item that the queues can hold.
+    /// The kernel as it stands now. It takes some 6 kB, and four bytes of memory for each item that the queues can hold.
     ///
     /// `Memory` is answered only where a growth was refused.
     pub fn snapshot(&self, alloc: Global) -> Result<Snapshot, Memory>

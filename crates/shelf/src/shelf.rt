@@ -34,7 +34,7 @@ impl Model for Shelf {
 
 impl Shelf {
     /// Runs an application to its end under these limits, without injections, and keeps the kernel as it stands before every
-    /// `stride`-th step: 1 to 65,536. Each of these snapshots takes some 7.5 kB and four bytes for each item that the queues of
+    /// `stride`-th step: 1 to 65,536. Each of these snapshots takes some 6 kB and four bytes for each item that the queues of
     /// the application can hold.
     ///
     /// `Memory` is answered only where a growth was refused.

@@ -29,7 +29,7 @@ invariant_of-self g c =
     let p = c.requires.split in
     let h = seen c.self.invariant.spells c.self.view_is in
     let free = place_is h c.args.node.number ∙ c.requires.free in
-    rw (c.set_link.ensures.links, c.set_link.ensures.ends, c.set_link-2.ensures.links, c.set_link-2.ensures.ends)
+    rw (c.set_link.ensures.links, c.set_link.ensures.ends, c.set_link-2.ensures.links, c.set_link-2.ensures.ends, c.to.ensures.to, c.to-linked.ensures.to)
     (linked_table c.self.invariant.lists_fit c.self.invariant.nodes_fit
     (put_spells h c.args.list.number c.args.node.number c.args.value p.before p.rest _ _ c.requires.list c.requires.node free p.whole p.here c.link_at-before.ensures.link))
 
@@ -37,7 +37,7 @@ pub returns-clause-put : goal.returns-clause-put
 returns-clause-put g c = λ before rest whole here.
     let h = seen c.self.invariant.spells c.self.view_is in
     let free = place_is h c.args.node.number ∙ c.requires.free in
-    rw (c.set_link.ensures.links, c.set_link.ensures.ends)
+    rw (c.set_link.ensures.links, c.set_link.ensures.ends, c.to-linked.ensures.to)
     (lists_of-Spells (put_spells h c.args.list.number c.args.node.number c.args.value before rest _ _ c.requires.list c.requires.node free whole here c.link_at-before.ensures.link))
 
 pub returns-clause-sound : goal.returns-clause-sound
@@ -45,5 +45,5 @@ returns-clause-sound g c =
     let p = c.requires.split in
     let h = seen c.self.invariant.spells c.self.view_is in
     let free = place_is h c.args.node.number ∙ c.requires.free in
-    rw (c.set_link.ensures.links, c.set_link.ensures.ends)
+    rw (c.set_link.ensures.links, c.set_link.ensures.ends, c.to-linked.ensures.to)
     (sound_view (put_spells h c.args.list.number c.args.node.number c.args.value p.before p.rest _ _ c.requires.list c.requires.node free p.whole p.here c.link_at-before.ensures.link))
