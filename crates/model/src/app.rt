@@ -1,6 +1,6 @@
 //! An application: its objects, its event groups, its handlers and base interrupts, its tasks, its limits, the time at reset,
 //! and the points of its campaign.
-ghost use Rattle.std.specs.Prelude.{◌≡◌, ◌<◌, ◌≤◌, length, map, nat_lt, string_bytes};
+ghost use Rattle.std.specs.Prelude.{◌≡◌, ◌<◌, ◌≤◌, true, [], length, map, nat_lt, string_bytes};
 ghost use Rattle.std.specs.List.{list_any};
 ghost use Rattle.model.specs.Application as application;
 ghost use Rattle.model.specs.Application.{op_at, op_count, interrupts_at, ops_of};
@@ -282,11 +282,23 @@ impl App {
         self.interrupts.coming()
     }
 
-    /// The base interrupts at an elapsed tick, in the order of the file. Found by bisection.
-    pub fn interrupts_at(&self, tick: u64) -> &[Interrupt]
-        ensures { map (λ (i : application.Interrupt). i.handler) result.now ≡ interrupts_at self.now tick }
+    /// Whether no base interrupt comes at an elapsed tick, as far as the one tells that stands at the index `next` in the order
+    /// in which they come: it does where it is the next after this tick.
+    #[inline]
+    pub fn is_none_due(&self, tick: u64, next: usize) -> bool
+        ensures { result ≡ true → interrupts_at self.now tick ≡ [] }
     {
-        self.interrupts.at(tick)
+        self.interrupts.is_none_due(tick, next)
+    }
+
+    /// The base interrupts at an elapsed tick, in the order of the file, and how many come up to this tick. The first of them
+    /// stands at the index `taken` in the order in which they come; where it doesn't, it is found by bisection.
+    #[inline]
+    pub fn interrupts_at(&self, tick: u64, taken: usize) -> (&[Interrupt], usize)
+        ensures due { map (λ (i : application.Interrupt). i.handler) result.0.now ≡ interrupts_at self.now tick }
+        ensures few { result.1 ≤ length self.now.interrupts }
+    {
+        self.interrupts.at(tick, taken)
     }
 
     /// Whether a base interrupt comes after this elapsed tick.

@@ -1,4 +1,4 @@
-use Rattle.std.proofs.Common.{◌≡◌, ℕ, List, length, map, take, arith, ap, sym, subst, ◌∙◌, take_all}
+use Rattle.std.proofs.Common.{◌≡◌, ◌+◌, ℕ, List, length, map, take, arith, ap, sym, subst, ◌∙◌, take_all}
 use Rattle.std.proofs.lemmas.List.{length-map}
 use Rattle.model.specs.Application.{Interrupt, interrupts_at}
 use Rattle.model.specs.State.{for_each}
@@ -8,15 +8,15 @@ use Rattle.machine.specs.StandsFor.Stands.{Placed}
 use Rattle.machine.proofs.Acting.{agrees_after}
 use Rattle.ops.proofs.Calling.{leaves_both}
 use Rattle.kernel.proofs.Handling.{room_after, mapped_at, one_more}
-use Rattle.kernel.proofs.handlers.interrupt_at_tick.Goals as goal
+use Rattle.kernel.proofs.handlers.interrupt_by.Goals as goal
 
 pub handle-requires-clause-room : goal.handle-requires-clause-room
 handle-requires-clause-room g c =
     let a = c.loop-interrupt.invariant.does.few in
     let room = c.requires.room in
     let one = c.loop-interrupt-test.true in
-    let few = c.well_formed-2.ensures.few_at_once c.elapsed.result in
-    let many : length c.interrupts_at-interrupts.result.now ≡ length (interrupts_at c.args.app.now c.elapsed.result) = sym (length-map c.interrupts_at-interrupts.result.now (λ (i : Interrupt). i.handler)) ∙ ap (λ (hs : List ℕ). length hs) c.interrupts_at-interrupts.ensures in
+    let few = c.well_formed-2.ensures.few_at_once (c.args.machine.now.clock.age + c.args.machine.now.clock.held) in
+    let many : length c.args.due.now ≡ length (interrupts_at c.args.app.now (c.args.machine.now.clock.age + c.args.machine.now.clock.held)) = sym (length-map c.args.due.now (λ (i : Interrupt). i.handler)) ∙ ap (λ (hs : List ℕ). length hs) c.requires.due in
     omega arith
 
 pub handle-requires-clause-stands : goal.handle-requires-clause-stands
@@ -30,7 +30,7 @@ handle-requires-clause-objects g c = room_after c.args.app.now c.args.machine.no
 pub loop-interrupt-preserved : goal.loop-interrupt-preserved
 loop-interrupt-preserved g c =
     let so = c.loop-interrupt.invariant in
-    let xs : List Interrupt = c.interrupts_at-interrupts.result.now in
+    let xs : List Interrupt = c.args.due.now in
     record {
       does = record {
         at = λ s h. one_more (handle c.args.app.now) (At c.handle.new.machine (g.L.Log.logged c.handle.new.log).told) (map (λ (i : Interrupt). i.handler) xs) s c.loop-interrupt.interrupt-index c.interrupt-item.result.handler
@@ -47,13 +47,13 @@ unfolding interrupt
 returns-clause-does g c =
     let so = c.loop-interrupt.invariant in
     let app = c.args.app.now in
-    let many : length c.interrupts_at-interrupts.result.now ≡ length (interrupts_at app c.elapsed.result) = sym (length-map c.interrupts_at-interrupts.result.now (λ (i : Interrupt). i.handler)) ∙ ap (λ (hs : List ℕ). length hs) c.interrupts_at-interrupts.ensures in
+    let many : length c.args.due.now ≡ length (interrupts_at app (c.args.machine.now.clock.age + c.args.machine.now.clock.held)) = sym (length-map c.args.due.now (λ (i : Interrupt). i.handler)) ∙ ap (λ (hs : List ℕ). length hs) c.requires.due in
     record {
       at = λ s h.
           let P : List ℕ → Type 0 = λ hs. At c.loop-interrupt.machine (g.L.Log.logged c.loop-interrupt.log).told (for_each (handle app) hs s) in
-          let all : take c.loop-interrupt.interrupt-index (map (λ (i : Interrupt). i.handler) c.interrupts_at-interrupts.result.now) ≡ interrupts_at app s.elapsed =
-          take_all _ _ (rw length-map c.loop-interrupt-test.false) ∙ c.interrupts_at-interrupts.ensures ∙ ap (interrupts_at app) (c.elapsed.ensures.elapsed ∙ h.stands.rest.clock.age) in
+          let all : take c.loop-interrupt.interrupt-index (map (λ (i : Interrupt). i.handler) c.args.due.now) ≡ interrupts_at app s.elapsed =
+          take_all _ _ (rw length-map c.loop-interrupt-test.false) ∙ c.requires.due ∙ ap (interrupts_at app) h.stands.rest.clock.age in
           subst P all (so.does.at s h);
-      few = let a = so.does.few in let l = c.loop-interrupt.auto.interrupt-index-end in let few = c.well_formed-2.ensures.few_at_once c.elapsed.result in omega (arith, many);
+      few = let a = so.does.few in let l = c.loop-interrupt.auto.interrupt-index-end in let few = c.well_formed-2.ensures.few_at_once (c.args.machine.now.clock.age + c.args.machine.now.clock.held) in omega (arith, many);
       before = so.does.before;
     }
