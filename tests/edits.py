@@ -102,17 +102,21 @@ def owner_of(line):
 
 
 def functions_in(path, text):
-    """The functions of a file, each with the numbers of its first and its last line."""
+    """The functions of a file, each with the numbers of its first and its last line; of a trait only those that have a body."""
     lines, found = text.split("\n"), {}
     module = os.path.basename(path)[: -len(".rt")]
-    owner = module
+    owner, is_in_a_trait = module, False
     for at, line in enumerate(lines):
-        owner = owner_of(line) or (module if line == "}" else owner)
+        if named := owner_of(line):
+            owner, is_in_a_trait = named, bool(TRAIT.match(line))
+        elif line == "}":
+            owner, is_in_a_trait = module, False
         if head := FUNCTION.match(line):
             ends = (f"{head[1]}}}", f"{head[1]}{{}}")
             last = next((it for it in range(at, len(lines)) if lines[it] in ends or lines[it].endswith(";")
-                         and it == at), len(lines) - 1)
-            found[Function(path, owner if head[1] else module, head[2])] = at, last
+                         and (it == at or is_in_a_trait)), len(lines) - 1)
+            if not (is_in_a_trait and lines[last].endswith(";")):
+                found[Function(path, owner if head[1] else module, head[2])] = at, last
     return found
 
 
