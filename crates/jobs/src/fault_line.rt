@@ -1,8 +1,9 @@
 //! The line that tells a fault.
-ghost use Rattle.std.specs.Prelude.{◌≡◌, ◌++◌, ◌≤◌, ◌<◌, ◌+◌, codes, false, map, [], option_map};
+ghost use Rattle.std.specs.Prelude.{◌≡◌, ◌∷◌, ◌++◌, ◌≤◌, ◌<◌, ◌+◌, codes, false, map, [], option_map};
 ghost use Rattle.std.specs.List.{cons_option};
 ghost use Rattle.arrayvec.specs.ArrayVec.{array_vec_len};
 ghost use Rattle.byte_io.specs.Line.{piece_text};
+ghost use Rattle.byte_io.specs.Shown.{shown_name};
 ghost use Rattle.script.specs.Faults.{fault_name, place_words, word_text};
 ghost use Rattle.jobs.specs.Acting.{fault_pieces, load_pieces, Tells, fault_line};
 ghost use Rattle.jobs.specs.declared.acting.JobFault.TheVariants as job_fault;
@@ -67,38 +68,50 @@ fn push_place(pieces: &mut Pieces<'_>, place: Place)
     }
 }
 
-// Appends the pieces of a load fault.
-fn push_load<'a>(pieces: &mut Pieces<'a>, fault: Fault)
-    requires { pieces.old.items ≡ [] }
-    ensures { map piece_text pieces.new.items ≡ load_pieces fault }
+// The pieces of a load fault.
+fn load_pieces<'a>(fault: Fault) -> Pieces<'a>
+    ensures { map piece_text result.items ≡ load_pieces fault }
 {
+    let mut pieces = Pieces::new();
     pieces.push(Piece::Text("rtosim:"));
     pieces.push(Piece::Number(u64::from(fault.kind.code())));
     pieces.push(Piece::Text(label(fault.kind)));
-    push_place(pieces, fault.place);
+    push_place(&mut pieces, fault.place);
+    pieces
+}
+
+// The pieces of a line of these words.
+fn words_alone<'a>(words: &'a str) -> Pieces<'a>
+    ensures { map piece_text result.items ≡ words.entry.now ∷ [] }
+{
+    let mut pieces = Pieces::new();
+    pieces.push(Piece::Text(words));
+    pieces
+}
+
+// The pieces of a line of these words and a name.
+fn words_and_name<'a>(words: &'a str, name: &'a str) -> Pieces<'a>
+    ensures { map piece_text result.items ≡ words.entry.now ∷ shown_name name.entry.now ∷ [] }
+{
+    let mut pieces = Pieces::new();
+    pieces.push(Piece::Text(words));
+    pieces.push(Piece::Name(name));
+    pieces
 }
 
 // The pieces of the line of a fault in serving.
 fn serve_pieces<'a>(name: &'a str, fault: ServeFault) -> Pieces<'a>
     ensures { map piece_text result.items ≡ fault_pieces name.entry.now (job_fault.Serve fault) }
 {
-    let mut pieces = Pieces::new();
     match fault {
-        ServeFault::Read => {
-            pieces.push(Piece::Text("rtosim: cannot read"));
-            pieces.push(Piece::Name(name));
-        }
-        ServeFault::NotToml => pieces.push(Piece::Text("rtosim: not TOML")),
-        ServeFault::Load(fault) => push_load(&mut pieces, fault),
-        ServeFault::UnknownHandler => {
-            pieces.push(Piece::Text("rtosim: unknown handler"));
-            pieces.push(Piece::Name(name));
-        }
-        ServeFault::TooManyPoints => pieces.push(Piece::Text("rtosim: too many points")),
-        ServeFault::Memory => pieces.push(Piece::Text("rtosim: out of memory")),
-        ServeFault::Write => pieces.push(Piece::Text("rtosim: cannot write")),
+        ServeFault::Read => words_and_name("rtosim: cannot read", name),
+        ServeFault::NotToml => words_alone("rtosim: not TOML"),
+        ServeFault::Load(fault) => load_pieces(fault),
+        ServeFault::UnknownHandler => words_and_name("rtosim: unknown handler", name),
+        ServeFault::TooManyPoints => words_alone("rtosim: too many points"),
+        ServeFault::Memory => words_alone("rtosim: out of memory"),
+        ServeFault::Write => words_alone("rtosim: cannot write"),
     }
-    pieces
 }
 
 // The pieces of a fault's line.
@@ -106,11 +119,7 @@ fn pieces_of<'a>(name: &'a str, fault: JobFault) -> Pieces<'a>
     ensures { map piece_text result.items ≡ fault_pieces name.entry.now fault }
 {
     match fault {
-        JobFault::Unpaired => {
-            let mut pieces = Pieces::new();
-            pieces.push(Piece::Text("rtosim: --at and --handler go together"));
-            pieces
-        }
+        JobFault::Unpaired => words_alone("rtosim: --at and --handler go together"),
         JobFault::TooLarge => {
             let mut pieces = Pieces::new();
             pieces.push(Piece::Text("rtosim: cannot read"));
