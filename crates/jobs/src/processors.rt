@@ -22,19 +22,19 @@ fn workers_for(processors: Option<NonZeroUsize>) -> usize
 // What a word means, after the one before it; itself where it is verbatim.
 fn word_meant(
     alloc: Global,
-    workers: &str,
+    workers: usize,
     before: &str,
     word: &str,
     is_verbatim: bool,
 ) -> Result<String, AllocError>
     ensures { IfOk result (λ text. string_bytes text
-        ≡ (if is_verbatim then word.now else word_meant workers.now before.now word.now)) }
+        ≡ (if is_verbatim then word.now else word_meant (decimal workers) before.now word.now)) }
 {
     if is_verbatim {
         return String::from_str(alloc, word);
     }
     if before == "--workers" && word == "auto" {
-        return String::from_str(alloc, workers);
+        return workers.to_string(alloc);
     }
     if word == "--workers=auto" {
         return format!(in alloc; "--workers={workers}");
@@ -46,12 +46,12 @@ fn word_meant(
 #[tactic(auto, using(crate::proofs::Meaning::meant_all))]
 fn push_meant(
     alloc: Global,
-    workers: &str,
+    workers: usize,
     words: &[String],
     meant: &mut Vec<String>,
 ) -> Result<(), AllocError>
     ensures { IfOk result (λ _. map string_bytes meant.new.items
-        ≡ map string_bytes meant.old.items ++ meant_after workers.now [] (map string_bytes words.now)) }
+        ≡ map string_bytes meant.old.items ++ meant_after (decimal workers) [] (map string_bytes words.now)) }
 {
     let mut before = "";
     let mut is_verbatim = false;
@@ -77,8 +77,7 @@ pub(crate) fn meant(
     let Some((program, others)) = words.split_first() else {
         return Ok(meant);
     };
-    let workers = workers_for(processors).to_string(alloc)?;
     meant.push(program.clone()?)?;
-    push_meant(alloc, workers.as_str(), others, &mut meant)?;
+    push_meant(alloc, workers_for(processors), others, &mut meant)?;
     Ok(meant)
 }

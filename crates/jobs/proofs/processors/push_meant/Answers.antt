@@ -1,4 +1,4 @@
-use Rattle.std.proofs.Common.{◌≡◌, ◌∙◌, ◌∷◌, ◌++◌, ◌+◌, ℕ, [], List, drop, map, rules, string_bytes, ap, sym}
+use Rattle.std.proofs.Common.{◌≡◌, ◌∙◌, ◌∷◌, ◌++◌, ◌+◌, ℕ, [], List, decimal, drop, map, rules, string_bytes, ap, sym}
 use Rattle.std.proofs.lemmas.List.{at_drop_all, at_drop_more, map-append}
 use Rattle.jobs.proofs.Meaning.{meant_end, meant_next}
 use Rattle.jobs.proofs.processors.push_meant.Goals as goal
@@ -16,7 +16,7 @@ loop-word-preserved c =
     ∙ ap (λ (t : List ℕ). t ∷ rest) (ap string_bytes (sym c.word-item.is) ∙ sym c.as_str-word.ensures.value) in
     record {
       is_text = search rules;
-      meant = rw pushed (meant_next c.loop-word.is_verbatim c.eq.result c.args.workers.now c.loop-word.before.now c.as_str-word.result.now (string_bytes text)
+      meant = rw pushed (meant_next c.loop-word.is_verbatim c.eq.result (decimal c.args.workers) c.loop-word.before.now c.as_str-word.result.now (string_bytes text)
           (map string_bytes c.loop-word.meant.items) (map string_bytes (drop index words)) rest _ c.eq.ensures left c.in_ok-word_meant.ensures c.loop-word.invariant.meant);
     }
 

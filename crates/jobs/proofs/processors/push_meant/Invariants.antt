@@ -1,6 +1,6 @@
 use denote.Shadow.{shadow}
 use denote.Text.{Utf8}
-use Rattle.std.proofs.Common.{◌≡◌, ◌++◌, [], drop, map, string_bytes}
+use Rattle.std.proofs.Common.{◌≡◌, ◌++◌, [], decimal, drop, map, string_bytes}
 use Rattle.jobs.specs.Processors.{meant_after}
 use Rattle.jobs.proofs.Meaning.{meant_from}
 use Rattle.jobs.proofs.processors.push_meant.Given as goal
@@ -9,6 +9,6 @@ abbrev pub invariant-loop-word : goal.invariant-loop-word
 invariant-loop-word l = record {
   is_text : shadow (Utf8 l.before);
   meant : map string_bytes l.meant.items
-      ++ meant_from l.is_verbatim l.workers l.before (map string_bytes (drop l.word-index l.words))
-      ≡ map string_bytes l.fn.meant.items ++ meant_after l.workers [] (map string_bytes l.words);
+      ++ meant_from l.is_verbatim (decimal l.workers) l.before (map string_bytes (drop l.word-index l.words))
+      ≡ map string_bytes l.fn.meant.items ++ meant_after (decimal l.workers) [] (map string_bytes l.words);
 }
