@@ -1,9 +1,9 @@
 //! The words of the command line.
 ghost use Rattle.std.specs.Prelude.{◌≡◌, Some, IfOk, IfErr, IfSome, IsNone, MatchResult, true, map, option_map};
 ghost use Rattle.clap.specs.declared.builder.ArgAction.TheVariants.{Set};
-ghost use Rattle.clap.specs.Words.{new_rule, with_subcommand, takes, kind_of, subcommand_of, first_of, one_of, found_of, rows_of, subcommand_rows_of, fault_of, FailsBy};
+ghost use Rattle.clap.specs.Words.{new_app, new_rule, with_subcommand, takes, kind_of, subcommand_of, first_of, one_of, found_of, rows_of, subcommand_rows_of, fault_of, FailsBy};
 ghost use Rattle.clap.specs.declared.error.kind.ErrorKind.TheVariants.{OutOfMemory};
-ghost use Rattle.jobs.specs.Words.{file_rule, at_rule, handler_rule, quiet_rule, workers_rule, stride_rule, block_rule, run_app, campaign_app, rtosim_top, rtosim_app, texts_of, number_of, is_given, IsCommandOf, IsArgOf, IsRunOf, AreOptionsOf, IsCampaignOf, IsJobOf, IsNoNumber, NamesNoRun, NamesNoOptions, NamesNoCampaign, NamesNoJob};
+ghost use Rattle.jobs.specs.Words.{file_rule, at_rule, handler_rule, quiet_rule, option_rule, workers_rule, stride_rule, block_rule, run_app, campaign_app, rtosim_top, rtosim_app, texts_of, number_of, is_given, IsCommandOf, IsArgOf, IsRunOf, AreOptionsOf, IsCampaignOf, IsJobOf, IsNoNumber, NamesNoRun, NamesNoOptions, NamesNoCampaign, NamesNoJob};
 
 use crate::acting::Job;
 use campaign::Options;
@@ -40,6 +40,21 @@ fn valued_argument<'a>(alloc: Global, name: &'a str, value: &'a str) -> Arg<'a>
         .action(ArgAction::Set)
 }
 
+// An argument of this name that takes a number from 1 to this one, and has this value where it isn't given.
+fn number_argument<'a>(
+    alloc: Global,
+    name: &'a str,
+    value: &'a str,
+    most: u32,
+    default: &'a str,
+) -> Arg<'a>
+    ensures { IsArgOf (option_rule name.now default.now 1 most) result }
+{
+    valued_argument(alloc, name, value)
+        .value_parser(value_parser!(u32).range(1..=i64::from(most)))
+        .default_value(default)
+}
+
 fn at_argument<'a>(alloc: Global) -> Arg<'a>
     ensures { IsArgOf at_rule result }
 {
@@ -68,28 +83,32 @@ fn quiet_argument<'a>(alloc: Global) -> Arg<'a>
 fn workers_argument<'a>(alloc: Global) -> Arg<'a>
     ensures { IsArgOf workers_rule result }
 {
-    valued_argument(alloc, "workers", "N")
-        .value_parser(value_parser!(u32).range(1..=64))
-        .default_value("1")
-        .help("Threads that work on the campaign, 1 to 64, or auto: one a processor")
+    number_argument(alloc, "workers", "N", 64, "1").help(
+        "Threads that work on the campaign, 1 to 64, or auto: one a processor",
+    )
 }
 
 fn stride_argument<'a>(alloc: Global) -> Arg<'a>
     ensures { IsArgOf stride_rule result }
 {
-    valued_argument(alloc, "stride", "S")
-        .value_parser(value_parser!(u32).range(1..=65_536))
-        .default_value("64")
-        .help("Steps between two kept states of the base run, 1 to 65536")
+    number_argument(alloc, "stride", "S", 65_536, "64").help(
+        "Steps between two kept states of the base run, 1 to 65536",
+    )
 }
 
 fn block_argument<'a>(alloc: Global) -> Arg<'a>
     ensures { IsArgOf block_rule result }
 {
-    valued_argument(alloc, "block", "B")
-        .value_parser(value_parser!(u32).range(1..=1_000_000))
-        .default_value("16")
-        .help("Points that a worker takes at once, 1 to 1000000")
+    number_argument(alloc, "block", "B", 1_000_000, "16").help(
+        "Points that a worker takes at once, 1 to 1000000",
+    )
+}
+
+// A command of this name without arguments, whose help says what it is about and ends with the statuses.
+fn described_command<'a>(alloc: Global, name: &'a str, about: &'a str) -> Command<'a>
+    ensures { IsCommandOf (new_app name.now) result }
+{
+    Command::new(alloc, name).about(about).after_help(STATUSES)
 }
 
 fn run_command<'a>(alloc: Global) -> Result<Command<'a>, AllocError>
@@ -100,10 +119,12 @@ fn run_command<'a>(alloc: Global) -> Result<Command<'a>, AllocError>
         at_argument(alloc),
         handler_argument(alloc),
     ]?;
-    Command::new(alloc, "run")
-        .about("Runs an application from reset to its end, and writes the trace")
-        .after_help(STATUSES)
-        .args(arguments)
+    described_command(
+        alloc,
+        "run",
+        "Runs an application from reset to its end, and writes the trace",
+    )
+    .args(arguments)
 }
 
 fn campaign_command<'a>(alloc: Global) -> Result<Command<'a>, AllocError>
@@ -116,21 +137,25 @@ fn campaign_command<'a>(alloc: Global) -> Result<Command<'a>, AllocError>
         block_argument(alloc),
         quiet_argument(alloc),
     ]?;
-    Command::new(alloc, "campaign")
-        .about("Runs an application once for each of its points, and writes the report")
-        .after_help(STATUSES)
-        .args(arguments)
+    described_command(
+        alloc,
+        "campaign",
+        "Runs an application once for each of its points, and writes the report",
+    )
+    .args(arguments)
 }
 
 // The program without its commands.
 fn program<'a>(alloc: Global) -> Command<'a>
     ensures { IsCommandOf rtosim_top result }
 {
-    Command::new(alloc, "rtosim")
-        .version("0.1.0")
-        .about("Simulates the scheduling of a FreeRTOS-style kernel, step by step")
-        .after_help(STATUSES)
-        .subcommand_required(true)
+    described_command(
+        alloc,
+        "rtosim",
+        "Simulates the scheduling of a FreeRTOS-style kernel, step by step",
+    )
+    .version("0.1.0")
+    .subcommand_required(true)
 }
 
 // The program with the command `run`.
