@@ -1,9 +1,11 @@
 -- What the matches of the words say of the job.
-use Rattle.std.proofs.Common.{◌≡◌, ◌∙◌, ap, refl, sym, subst, true, codes, inr, List, ℕ, Option, Some, None, Result, Ok, Err, option_map, IsNone}
-use Rattle.std.specs.Prelude.{MatchResult}
+use Rattle.std.proofs.Common.{◌≡◌, ◌∙◌, ap, refl, sym, subst, true, codes, inl, inr, List, [], ℕ, Option, Some, None, Result, Ok, Err, option_map, IsNone}
+use Rattle.std.specs.Prelude.{MatchResult, IfOk, IfSome, ok_or}
 use Rattle.std.specs.Result.{result_ok}
 use Rattle.std.specs.Str.Parse.{ParsesUnsigned}
-use Rattle.clap.specs.Words.{TriesOne, App, Row, is_simple, takes, fault_of, is_simple_and_free, Kinds, subcommand_of, subcommand_rows_of, HasMatchesOf}
+use Rattle.clap.specs.Words.{TriesOne, App, Row, is_simple, takes, fault_of, is_simple_and_free, Kinds, subcommand_of, subcommand_rows_of, HasMatchesOf, FailsBy, kind_of}
+use Rattle.clap.specs.declared.error.Error.{Error}
+use Rattle.clap.specs.declared.error.kind.ErrorKind.TheVariants.{OutOfMemory}
 use Rattle.clap.specs.declared.parser.matches.ArgMatches.{ArgMatches}
 use Rattle.clap.proofs.OnLiterals.{clap_on_literals}
 use Rattle.campaign.specs.declared.options.BadOption.{BadOption}
@@ -19,9 +21,10 @@ is_simple-rtosim : is_simple rtosim_app ≡ true
 unfolding rtosim_app clap_on_literals
 is_simple-rtosim = refl
 
-pub job_as : (a : App) (words : List (List ℕ)) (m : ArgMatches) (job : Job) → a ≡ rtosim_app → HasMatchesOf a words m
-    → IsJobOf (subcommand_rows_of m) job → IsJobOf (subcommand_of rtosim_app words) job
-job_as a words m job same has is =
+pub job_as : (a : App) (words : List (List ℕ)) (m : ArgMatches) (job : Option Job) (e : Error) → a ≡ rtosim_app → HasMatchesOf a words m
+    → IfSome job (IsJobOf (subcommand_rows_of m)) → IfOk (ok_or job e) (IsJobOf (subcommand_of rtosim_app words))
+job_as a words m None e same has is = tt
+job_as a words m (Some job) e same has is =
     let found : subcommand_rows_of m ≡ subcommand_of rtosim_app words =
     (has (ap is_simple same ∙ is_simple-rtosim)).1 ∙ ap (λ (x : App). subcommand_of x words) same in
     subst (λ (s : Option (List ℕ × List Row)). IsJobOf s job) found is
@@ -33,6 +36,11 @@ is_free-rtosim = refl
 pub kinds_as : (a : App) (words : List (List ℕ)) (P : Kinds → Type 0) → a ≡ rtosim_app
     → (is_simple_and_free a ≡ true → P (fault_of a words)) → P (fault_of rtosim_app words)
 kinds_as a words P same gives = subst (λ (x : App). is_simple_and_free x ≡ true → P (fault_of x words)) same gives is_free-rtosim
+
+pub kinds_of_job : (a : App) (words : List (List ℕ)) (job : Option Job) (e : Error) → a ≡ rtosim_app → kind_of e ≡ OutOfMemory
+    → (is_simple_and_free a ≡ true → fault_of a words ≡ []) → FailsBy (fault_of rtosim_app words) (ok_or job e)
+kinds_of_job a words None e same memory gives = inl memory
+kinds_of_job a words (Some job) e same memory gives = kinds_as a words (λ kinds. kinds ≡ []) same gives
 
 -- A text that is read as a number is one.
 pub number_read : {E : Type 0} (gives : List ℕ → Result ℕ E → Type 0) (text : Option (List ℕ)) (r : Result (Option ℕ) E)

@@ -267,14 +267,9 @@ pub fn job_named<'a, S: AsStr>(alloc: Global, words: &'a [S]) -> Result<Job<'a>,
     // `Ok` comes only where the command takes the words, and an error is of a kind that they have, or memory.
     ensures kinds { FailsBy (fault_of rtosim_app (map S.text words.entry.now)) result }
 {
-    let command = command(alloc)?;
-    let matches = match command.try_get_matches_from(words) {
-        Ok(matches) => matches,
-        Err(error) => return Err(error),
-    };
-    match job_of(&matches) {
-        Some(job) => Ok(job),
+    match command(alloc)?.try_get_matches_from(words) {
         // No matches are without a job.
-        None => Err(Error::from(AllocError)),
+        Ok(matches) => job_of(&matches).ok_or(Error::from(AllocError)),
+        Err(error) => Err(error),
     }
 }
