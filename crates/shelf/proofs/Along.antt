@@ -1,6 +1,6 @@
 -- Stops along a base run, and rows from them on.
-use Rattle.std.proofs.Common.{◌≡◌, ◌+◌, ◌-◌, ◌*◌, ◌/◌, ◌%◌, ◌<◌, ◌≤◌, ℕ, suc, inl, inr, List, [], ◌∷◌, ◌++◌, None, Some, get_or, take, length, length-append, ap, sym, subst, ◌∙◌, ap₂, arith, refl, true}
-use Rattle.std.specs.Prelude.{IfSome, nat_lt}
+use Rattle.std.proofs.Common.{◌≡◌, ◌+◌, ◌-◌, ◌*◌, ◌/◌, ◌%◌, ◌<◌, ◌≤◌, ℕ, suc, inl, inr, List, [], ◌∷◌, ◌++◌, None, Some, get_or, take, length, length-append, ap, sym, subst, ◌∙◌, ap₂, arith, refl, true, false, Bool, Result, Ok, Err}
+use Rattle.std.specs.Prelude.{IfSome, OnErr, nat_lt}
 use Rattle.std.proofs.lemmas.List.{get_or_append_left, length-take}
 use Rattle.std.proofs.lemmas.Bool.{cases_lt, lt-ltb}
 use Rattle.std.proofs.lemmas.Option.{slice_get-get_or, slice_get_past}
@@ -10,7 +10,8 @@ use Rattle.model.specs.declared.event.Event.{Event}
 use Rattle.model.specs.declared.plan.Point.{Point}
 use Rattle.model.specs.Application.{Application, Limits}
 use Rattle.model.specs.State.{State}
-use Rattle.model.specs.Run.{Run, IsRun, end_of, state_after, events_after}
+use Rattle.model.specs.Run.{Run, IsRun, IsRow, end_of, state_after, events_after}
+use Rattle.model.proofs.OneRun.{one_row}
 use Rattle.model.proofs.Injected.{same_state, begins_with}
 use Rattle.kernel.specs.declared.rows.RowEnding.{RowEnding}
 use Rattle.kernel.specs.Rows.{IsRowFrom}
@@ -164,3 +165,15 @@ module _ (app : Application) (shelf : Shelved) (h : IsShelf app shelf) (point : 
       let own = ap length is_own in
       let all = length-append (events_after app [] point.step) row.own in
       (rw steps (omega (arith, risen)), omega (arith, events, own, all, some, before))
+
+-- ---- a point that the base run doesn't reach
+
+-- Its row is the base run.
+pub missed_few : {X E : Type 0} (app : Application) (shelf : Shelved) (point : Point) (from : ℕ) → IsShelf app shelf → false ≡ nat_lt point.step shelf.base.steps
+    → (r : Result X E) → OnErr r (0 < length shelf.base.events)
+    → OnErr r ((reached : Bool) (run : Run) → IsRow app shelf.limits point reached run → (from ≤ from + cost_of shelf point run.steps) × (0 < length run.events))
+missed_few app shelf point from h missed (Ok x) some = tt
+missed_few app shelf point from h missed (Err e) some = λ reached run is.
+    let row : IsRow app shelf.limits point false shelf.base = record { base = shelf.base; is_base = h.is_base; is_reached = missed; is_row = h.is_base } in
+    let same = (one_row app shelf.limits point reached false run shelf.base is row).1 in
+    (omega arith, rw same some)
