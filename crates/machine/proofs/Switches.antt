@@ -75,6 +75,10 @@ log-preempt s = by_test (is_outranked s)
 pub none_above : (v new : Schedule) → new ≡ schedule.preempt v → schedule.is_outranked v ≡ false → new.current ≡ v.current
 none_above v new is none = ap (λ (w : Schedule). w.current) is ∙ rw none refl
 
+-- So it is at the end of a tick where no other of its priority is Ready either.
+pub none_in_turn : (v new : Schedule) → new ≡ schedule.slice v → schedule.is_outranked v || schedule.is_sharing v ≡ false → new.current ≡ v.current
+none_in_turn v new is none = ap (λ (w : Schedule). w.current) is ∙ rw none refl
+
 pub nothing_told : (log : List Event) (step time : ℕ) (before now : Option ℕ) → now ≡ before → log ≡ log ++ change step time before now
 nothing_told log step time before now e = rw (e, same_self before) (sym (append-nil log))
 

@@ -122,8 +122,9 @@ impl Machine {
         ensures { Does 1 self.old (L.logged log.old) self.new (L.logged log.new) slice }
     {
         let before = self.sched.current();
-        self.sched.slice();
-        self.write_change(before, log);
+        if self.sched.slice() {
+            self.write_change(before, log);
+        }
     }
 
     /// A task above the running one runs, if there is one.
