@@ -14,6 +14,8 @@ pub struct Trail {
     events: Vec<Event>,
     /// How many events stand before this step.
     start: usize,
+    /// Where there are fewer events than so many, there is room for those of a step.
+    roomy_below: usize,
 }
 
 // Clauses see the events before this step, those of this step, and the room that is left.
@@ -26,7 +28,7 @@ impl Model for Trail {
 
     ghost view = { λ t. record { before = take t.start t.events.items; told = drop t.start t.events.items; room = vec_capacity t.events - length t.events.items } };
 
-    ghost invariant = { λ t. t.start ≤ length t.events.items };
+    ghost invariant = { λ t. (t.start ≤ length t.events.items) × (t.roomy_below ≤ vec_capacity t.events - 127) };
 }
 
 impl Trail {
@@ -38,6 +40,7 @@ impl Trail {
         Trail {
             events: Vec::new(alloc),
             start: 0,
+            roomy_below: 0,
         }
     }
 
@@ -73,9 +76,25 @@ impl Trail {
         ensures refused { OnErr result (self.new.room < 128) }
     {
         self.start = self.events.len();
+        if self.start < self.roomy_below {
+            return Ok(());
+        }
+        self.make_room()
+    }
+
+    /// Makes room for 128 events more. At `Err(Memory)`, where the growth was refused, there is less room.
+    #[cold]
+    #[inline(never)]
+    fn make_room(&mut self) -> Result<(), Memory>
+        ensures before { self.new.before ≡ self.old.before }
+        ensures told { self.new.told ≡ self.old.told }
+        ensures room { OnOk result (128 ≤ self.new.room) }
+        ensures refused { OnErr result (self.new.room < 128) }
+    {
         if self.events.reserve(128).is_err() {
             return Err(Memory);
         }
+        self.roomy_below = self.events.capacity() - 127;
         Ok(())
     }
 
