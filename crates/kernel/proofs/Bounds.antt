@@ -19,7 +19,7 @@ use Rattle.model.specs.Application.{Application, Limits, script_of, op_at}
 use Rattle.model.specs.Scripts.{may_stand, fits_object, is_in_range, is_wait, knows, IsWellFormed}
 use Rattle.model.specs.State.{State, Progress, Wait, task_at, progress_at, call_at, status_at}
 use Rattle.model.specs.Run.{end_of, are_all_ended, is_stuck}
-use Rattle.model.specs.Invariant.{IsState, IsUsedBy, IsRunning, IsPlacing, IsWaitOf, RunsIn, InOne, ToSetBits, course, IsPhaseOf, hold_of, holds, Suspension, wait_of}
+use Rattle.model.specs.Invariant.{Hold, IsSound, IsState, IsUsedBy, IsRunning, IsPlacing, IsWaitOf, RunsIn, InOne, ToSetBits, course, IsPhaseOf, hold_of, holds, Suspension, wait_of}
 use Rattle.soundness.proofs.InScripts.{script_formed, stands_at, known_at, range_at}
 use Rattle.soundness.proofs.Sound.{ready_reckoned}
 use Rattle.soundness.proofs.Frames.{keeps-before_step}
@@ -400,6 +400,12 @@ module _ (app : Application) (formed : IsWellFormed app) (k : Machine) (state : 
   pub can_act : state.suspensions < 1000000 → CanAct app k
   can_act few = record { tick = λ idle. can_tick (idle_awake idle) (idle_free idle); op = λ task op runs is. ((λ awake. can_op task runs awake op is), (λ some. can_hold task runs some few op is)) }
 
+-- The running task is one of those that there are.
+pub runs_there : (app : Application) (k : Machine) (s : State) (hold : Hold) → Stands k s → IsSound app hold s → IfSome k.sched.current (λ task. task < length app.tasks)
+runs_there app k s hold h sound =
+    let within : IfSome s.current (λ task. task < length app.tasks) = subst (λ (n : ℕ). IfSome s.current (λ task. task < n)) sound.tasks sound.table.current in
+    subst (λ (o : Option ℕ). IfSome o (λ task. task < length app.tasks)) (sym (current_is k s h)) within
+
 -- ---- before a step, and after the handlers that come before it
 
 module _ (app : Application) (formed : IsWellFormed app) (k : Machine) (c : CanStep app k) where
@@ -421,6 +427,10 @@ module _ (app : Application) (formed : IsWellFormed app) (k : Machine) (c : CanS
       let low : (before_step app handlers now).elapsed < 1000000 = (let l = early_now in omega arith) in
       let few : (before_step app handlers now).suspensions < 1000000 = (let e = ap (λ (x : Suspension). x.suspensions) (keeps-before_step app handlers now).suspension in let n = c.suspended in let l = (below_limits app c.limits now c.goes_on).1 in let o = c.step_limit in omega arith) in
       can_act app formed new (before_step app handlers now) (reached_before_step app formed handlers now c.sound) h low few
+
+  -- and the task that runs then is there
+  pub there_after : (handlers : List ℕ) (new : Machine) → Stands new (before_step app handlers now) → IfSome new.sched.current (λ task. task < length app.tasks)
+  there_after handlers new h = runs_there app new (before_step app handlers now) (hold_of (before_step app handlers now)) h (reached_before_step app formed handlers now c.sound).sound
 
   pub can_go_on : (task : TaskId) → k.sched.current ≡ Some task → (object : ℕ) (access : Access) (ticks : Option ℕ) → op_at app task (progress_in k.progress task).op_index ≡ Some (Await object access ticks) → k.suspensions ≡ 0
       → CanGoOn k task object access ticks (progress_in k.progress task).call.phase

@@ -211,6 +211,10 @@ pub stuck_by : (app : Application) (k : Machine) (s : State) (idle q later : Boo
 stuck_by app k s idle q later (Placed h) n is come = is_stuck_by k s h idle q later app n is come
 stuck_by app k s idle q later (Placing task list b) n is come = let e : idle ≡ false = n ∙ ap is_none (b.sched.current ∙ b.current) in rw e (runs_before app k s task list b)
 
+-- Where a task runs, the run isn't stuck.
+pub runs_on : (app : Application) (s : State) (task : ℕ) → s.current ≡ Some task → is_stuck app s ≡ false
+runs_on app s task e = rw e refl
+
 pub idle_by : (o : Option ℕ) → is_some o ≡ false → true ≡ is_none o
 idle_by None e = refl
 idle_by (Some i) e = absurd (cc)
@@ -310,6 +314,12 @@ pub any_second : (a b c x : Bool) → (a || b || c) ≡ x → a ≡ false → b 
 any_second true b c x e t u = absurd (cc)
 any_second false true c x e t u = e
 any_second false false c x e t u = absurd (cc)
+
+pub any_middle : (a b c x : Bool) → (a || b || c) ≡ x → a ≡ false → c ≡ false → b ≡ x
+any_middle true b c x e t u = absurd (cc)
+any_middle false true c x e t u = e
+any_middle false false true x e t u = absurd (cc)
+any_middle false false false x e t u = e
 
 pub any_third : (a b c x : Bool) → (a || b || c) ≡ x → a ≡ false → b ≡ false → c ≡ x
 any_third true b c x e t u = absurd (cc)

@@ -1,5 +1,6 @@
 -- Steps of a call that waits, from where it decides to where it lets go of the scheduler.
-use Rattle.std.proofs.Common.{◌≡◌, ◌≢◌, ◌<◌, ◌+◌, ℕ, true, List, [], refl, ap, sym, ◌∙◌, arith}
+use denote.Enum.Bare.{sameb, same_true}
+use Rattle.std.proofs.Common.{◌≡◌, ◌≢◌, ◌<◌, ◌+◌, ℕ, Bool, true, false, not, rules, List, [], refl, ap, sym, ◌∙◌, arith}
 use Rattle.std.specs.Prelude.{nat_lt}
 use Rattle.std.proofs.lemmas.Bool.{lt-ltb}
 use Rattle.model.specs.declared.op.Access.{Access}
@@ -7,6 +8,7 @@ use Rattle.model.specs.declared.op.Op.TheVariants.{Await}
 use Rattle.model.specs.declared.call.Phase.{Phase}
 use Rattle.model.specs.declared.call.Phase.TheVariants.{Start, Try, Decide, Place, Unlock, Leave, Final}
 use Rattle.model.specs.Invariant.{holds}
+use Rattle.model.specs.contracts.call.Phase.{the_type}
 use Rattle.model.specs.declared.event.Event.{Event}
 use Rattle.model.specs.Application.{Application, op_at}
 use Rattle.model.specs.State.{State}
@@ -39,6 +41,13 @@ holds_silently Place s a = refl
 holds_silently Unlock s a = refl
 holds_silently Leave s a = absurd s
 holds_silently Final s a = absurd s
+
+-- A phase that isn't another than this one.
+pub same_phase : (a b : Phase) → false ≡ not (sameb the_type a b) → a ≡ b
+same_phase a b e = same_true the_type (search rules) a b (unequal (sameb the_type a b) e) where
+  unequal : (x : Bool) → false ≡ not x → x ≡ true
+  unequal true e = refl
+  unequal false e = absurd (cc)
 
 held_by : (v : Schedule) (s : State) → sched.StandsFor v s → 0 < v.depth → is_held s ≡ true
 held_by v s h some = held_by_depth s ∙ ap (λ (n : ℕ). nat_lt 0 n) (sym h.depth) ∙ lt-ltb 0 v.depth some

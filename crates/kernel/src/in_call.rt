@@ -15,17 +15,10 @@ ghost use Rattle.kernel.specs.InCall.{IsInPhase, IsLeaving};
 ghost use Rattle.kernel.specs.Over.{is_over};
 ghost use Rattle.kernel.specs.Rows.{events_from};
 
-use crate::steps::{is_over, op_of};
+use crate::steps::{is_over_running, op_of};
 use machine::{Log, Machine, Trail};
 use model::{Access, App, Limits, ObjectId, Op, Phase, Point, TaskId};
 use ops::calls::{go_on_silently, leave_call};
-
-/// Whether a call tells nothing in this phase, and holds the scheduler after it.
-fn is_silent(phase: Phase) -> bool
-    ensures { result ≡ true → IsSilent phase }
-{
-    matches!(phase, Phase::Decide | Phase::Place | Phase::Unlock)
-}
 
 /// The phase that is next of a task's call.
 fn phase(machine: &Machine, task: TaskId) -> Phase
@@ -34,13 +27,16 @@ fn phase(machine: &Machine, task: TaskId) -> Phase
     machine.progress(task).call.phase
 }
 
-/// Whether the running task's call has come to decide.
+/// The running task, where its call has come to decide.
 #[inline(always)]
-pub(crate) fn is_deciding(machine: &Machine) -> bool {
-    match machine.sched.current() {
-        None => false,
-        Some(task) => phase(machine, task) == Phase::Decide,
+pub(crate) fn deciding(machine: &Machine) -> Option<TaskId>
+    ensures { IfSome result (λ task. machine.now.sched.current ≡ Some task) }
+{
+    let task = machine.sched.current()?;
+    if phase(machine, task) != Phase::Decide {
+        return None;
     }
+    Some(task)
 }
 
 /// One step of the run, in which the running task's call goes on in such a phase. While it holds the scheduler nothing
@@ -85,15 +81,52 @@ fn step_leaving<L: Log>(machine: &mut Machine, app: &App, task: TaskId, log: &mu
     machine.steps += 1;
 }
 
-/// Does the steps of the running task's call as long as it tells nothing and holds the scheduler, where it has come to decide:
-/// none of a step of this number, where the plan may have a point or a limit may be reached, nor later. It answers the task
-/// where its call lets go of the scheduler next.
+/// One step along a run that is under way, in which the running task's call on an object goes on in this phase, if it has come to it
+/// and the run isn't over. Neither has the plan a point at that step, nor is a limit reached before it.
+#[inline(always)]
+fn pass_phase(
+    kernel: &mut Machine,
+    app: &App,
+    points: &[Point],
+    task: TaskId,
+    call: &(ObjectId, Access),
+    next: Phase,
+    limits: &Limits,
+)
+    requires way { IsUnderWay app.now points.now limits.now kernel.old }
+    requires alone { injected points.now kernel.old.steps ≡ [] }
+    requires free { is_over app.now (state_after app.now points.now kernel.old.steps) ≡ false
+        → end_of app.now limits.now (state_after app.now points.now kernel.old.steps) ≡ None }
+    requires silent { IsSilent next }
+    requires call { (reached : declared.Phase) → (progress_in kernel.old.progress task).call.phase ≡ reached
+        → IsInPhase app.now kernel.old task call.now.0 call.now.1 reached }
+    ensures way { IsUnderWay app.now points.now limits.now kernel.new }
+    ensures on { kernel.old.steps ≤ kernel.new.steps }
+    ensures one { kernel.new.steps ≤ kernel.old.steps + 1 }
+    ensures silent { events_from app.now points.now kernel.old.steps kernel.new.steps ≡ [] }
+    ensures call { (reached : declared.Phase) → (progress_in kernel.new.progress task).call.phase ≡ reached
+        → IsInPhase app.now kernel.new task call.now.0 call.now.1 reached }
+{
+    app.well_formed();
+    limits.well_formed();
+    if phase(kernel, task) != next {
+        return;
+    }
+    if is_over_running(kernel) {
+        return;
+    }
+    step_in_call(kernel, app, task, call.0, call.1, next);
+}
+
+/// Does the steps of the running task's call, which has come to decide, until it lets go of the scheduler next, and answers the task
+/// where it has come to that: none where the plan may have a point, or a limit may be reached, before three steps are done.
 #[inline(never)]
 pub(crate) fn pass_call(
     kernel: &mut Machine,
     app: &App,
     points: &[Point],
     until: u32,
+    task: TaskId,
     limits: &Limits,
 ) -> Option<TaskId>
     requires way { IsUnderWay app.now points.now limits.now kernel.old }
@@ -101,6 +134,7 @@ pub(crate) fn pass_call(
     requires free { (n : ℕ) → kernel.old.steps ≤ n → n < until
         → is_over app.now (state_after app.now points.now n) ≡ false
         → end_of app.now limits.now (state_after app.now points.now n) ≡ None }
+    requires runs { kernel.old.sched.current ≡ Some task }
     ensures way { IsUnderWay app.now points.now limits.now kernel.new }
     ensures on { kernel.old.steps ≤ kernel.new.steps }
     ensures far { kernel.old.steps ≤ until → kernel.new.steps ≤ until }
@@ -108,29 +142,21 @@ pub(crate) fn pass_call(
     ensures leaving { IfSome result (λ task. IsLeaving app.now kernel.new task) }
 {
     app.well_formed();
-    limits.well_formed();
-    if kernel.suspensions > 0 {
+    if kernel.suspensions > 0 || until.saturating_sub(kernel.steps) < 3 {
         return None;
     }
-    let task = kernel.sched.current()?;
     let op = op_of(app, task, kernel.progress(task).op_index)?;
     let Op::Await(object, access, _) = *op else {
         return None;
     };
-    'phases: while kernel.steps < until {
-        let phase = phase(kernel, task);
-        if let Phase::Leave = phase {
-            return Some(task);
-        }
-        if !is_silent(phase) {
-            return None;
-        }
-        if is_over(kernel, app) {
-            return None;
-        }
-        step_in_call(kernel, app, task, object, access, phase);
+    let call = (object, access);
+    pass_phase(kernel, app, points, task, &call, Phase::Decide, limits);
+    pass_phase(kernel, app, points, task, &call, Phase::Place, limits);
+    pass_phase(kernel, app, points, task, &call, Phase::Unlock, limits);
+    if phase(kernel, task) != Phase::Leave {
+        return None;
     }
-    None
+    Some(task)
 }
 
 /// Does the step in which the running task's call lets go of the scheduler, where it has come to that (`pass_call` tells), but for a
@@ -165,7 +191,7 @@ pub(crate) fn pass_leave(
     if until <= kernel.steps {
         return;
     }
-    if is_over(kernel, app) {
+    if is_over_running(kernel) {
         return;
     }
     if trail.begin().is_err() {

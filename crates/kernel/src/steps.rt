@@ -1,7 +1,7 @@
 //! Steps, and whole runs.
 ghost use Rattle.std.specs.Prelude.{◌≡◌, true, false, ℕ, ◌<◌, ◌≤◌, ◌+◌, ◌^◌, ◌++◌, [], Some, None, ◌||◌, IfSome, IsNone, IfOk, OnOk, OnErr, drop, length};
 ghost use Rattle.std.specs.List.{AllByRecursion, list_any};
-ghost use Rattle.model.specs.Application.{op_at};
+ghost use Rattle.model.specs.Application.{Application, op_at};
 ghost use Rattle.model.specs.State.{State};
 ghost use Rattle.model.specs.Step.{act_current, step};
 ghost use Rattle.model.specs.Run as definition;
@@ -31,14 +31,15 @@ use std::alloc::Global;
 /// The handlers that come before a step: three at most (profile).
 type Injected = ArrayVec<HandlerId, 3>;
 
-/// The op of this index in a task's script; `None` past its end.
+/// The op of this index in the script of a task that is there; `None` past its end.
 // By a reference, so that of an op no more is read than what it does needs.
 #[inline(always)]
 pub(crate) fn op_of(app: &App, task: TaskId, op_index: u16) -> Option<&Op>
+    requires { task < length app.now.tasks }
     ensures some { IfSome result (λ op. op_at app.now task op_index ≡ Some op.now) }
     ensures none { IsNone result → op_at app.now task op_index ≡ None }
 {
-    let definition = app.tasks().get(task.number as usize)?;
+    let definition = &app.tasks()[task.number as usize];
     definition.ops().get(op_index as usize)
 }
 
@@ -46,6 +47,7 @@ pub(crate) fn op_of(app: &App, task: TaskId, op_index: u16) -> Option<&Op>
 #[inline(always)]
 fn act_current<L: Log>(machine: &mut Machine, app: &App, log: &mut L)
     requires room { 65 ≤ (L.logged log.old).room }
+    requires there { IfSome machine.old.sched.current (λ task. task < length app.now.tasks) }
     requires can { CanAct app.now machine.old }
     ensures { DoesAny 65 machine.old (L.logged log.old) machine.new (L.logged log.new)
         (λ s. act_current app.now s.current s) }
@@ -152,6 +154,18 @@ pub(crate) fn is_over(machine: &Machine, app: &App) -> bool
         return true;
     }
     is_stuck(machine, app)
+}
+
+/// The same where a task runs: then the run isn't stuck.
+#[inline(always)]
+pub(crate) fn is_over_running(machine: &Machine) -> bool
+    requires { (task : ℕ) × (machine.now.sched.current ≡ Some task) }
+    ensures { (app : Application) (s : State) → Stands machine.now s → result ≡ is_over app s }
+{
+    if machine.stopped.is_some() {
+        return true;
+    }
+    are_all_ended(machine)
 }
 
 /// The end of the run before its next step, under these limits: the first that holds of a failed `expect` or a misuse,

@@ -1,8 +1,12 @@
-use Rattle.std.proofs.Common.{◌≡◌, Some, None, refl, sym, subst, ◌∙◌, arith}
+use Rattle.std.proofs.Common.{◌≡◌, ◌<◌, ℕ, Option, Some, None, length, refl, sym, subst, ◌∙◌, arith}
+use Rattle.std.specs.Option.{IfSome}
 use Rattle.model.specs.State.{Progress}
 use Rattle.model.specs.Application.{op_at}
 use Rattle.kernel.proofs.Running.{acts, rests}
 use Rattle.kernel.proofs.steps.act_current.Goals as goal
+
+pub op_of-requires : goal.op_of-requires
+op_of-requires g c = subst (λ (o : Option ℕ). IfSome o (λ task. task < length c.args.app.now.tasks)) (sym c.current.ensures.current ∙ c.in-Some.is) c.requires.there
 
 pub act_while_suspended-requires-clause-can : goal.act_while_suspended-requires-clause-can
 act_while_suspended-requires-clause-can g c = λ op at. (c.requires.can.op c.in-Some.task op (sym c.current.ensures.current ∙ c.in-Some.is) at).1 c.if-machine-gt0.true

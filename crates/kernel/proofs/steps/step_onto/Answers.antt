@@ -1,5 +1,5 @@
 use Rattle.model.specs.Step.{step}
-use Rattle.kernel.proofs.Bounds.{below_limits, can_act_after, has_objects, stood}
+use Rattle.kernel.proofs.Bounds.{below_limits, can_act_after, has_objects, stood, there_after}
 use Rattle.std.proofs.Common.{◌∙◌, arith}
 use Rattle.kernel.proofs.Counting.{steps_still}
 use Rattle.machine.proofs.Either.{steps_are}
@@ -11,6 +11,12 @@ inject_all-requires-clause-stands g c = stood c.args.app.now c.well_formed-2.ens
 
 pub inject_all-requires-clause-objects : goal.inject_all-requires-clause-objects
 inject_all-requires-clause-objects g c = has_objects c.args.app.now c.well_formed-2.ensures c.args.machine.now c.requires.going
+
+pub act_current-requires-clause-there : goal.act_current-requires-clause-there
+act_current-requires-clause-there g c =
+    let going = c.requires.going in
+    there_after c.args.app.now c.well_formed-2.ensures c.args.machine.now going c.args.handlers.now c.inject_all.new.machine
+    (handled_before c.args.app.now c.args.handlers.now _ c.inject_all.new.machine _ (c.inject_all.ensures.at _ (begun c.args.machine.now (g.L.Log.logged c.args.log.now).told _ going.stands c.requires.begun))).stands
 
 pub act_current-requires-clause-can : goal.act_current-requires-clause-can
 act_current-requires-clause-can g c =
