@@ -29,6 +29,8 @@ pub fn one_if(did: bool) -> u32
 
 impl Machine {
     /// The running task goes on at this op; past its last one it is Ended.
+    // Most ops end so, and a call would cost a third of it.
+    #[inline(always)]
     pub fn go_to(&mut self, app: &App, task: TaskId, op_index: u16)
         requires { Runs self.old task }
         ensures does { Moves self.old self.new
@@ -45,6 +47,7 @@ impl Machine {
     }
 
     /// The op that the running task is at is complete.
+    #[inline(always)]
     pub fn complete(&mut self, app: &App, task: TaskId)
         requires { Runs self.old task }
         ensures does { Moves self.old self.new
@@ -77,6 +80,7 @@ impl Machine {
     }
 
     /// A call of the running task is complete with this number as its answer.
+    #[inline(always)]
     pub fn answer<L: Log>(&mut self, app: &App, task: TaskId, number: u32, log: &mut L)
         requires room { 1 ≤ (L.logged log.old).room }
         requires runs { Runs self.old task }

@@ -437,6 +437,7 @@ impl Queues {
 
     /// Puts a task that has begun to wait, and is in no list (`is_waiting` tells), into its list, with its priority of 0 to
     /// 31 (`vTaskPlaceOnEventList`): behind all that are not of lower priority.
+    #[inline(always)]
     pub fn place(&mut self, list: WaitList, task: TaskId, priority: u8)
         requires priority { priority < 32 }
         requires free { place_of self.old.waiting task ≡ None }

@@ -105,6 +105,7 @@ impl WaitingLists {
 
     /// Puts a task that is in no list (`is_waiting` tells) into a list, with its priority of 0 to 31: behind all that are
     /// not of lower priority.
+    #[inline(always)]
     pub(crate) fn wait(&mut self, list: WaitList, task: TaskId, priority: u8)
         requires priority { priority < 32 }
         requires free { place_of self.old task ≡ None }

@@ -68,6 +68,7 @@ fn try_call<L: Log>(
 }
 
 /// Whether a call is possible by now, or its deadline has come.
+#[inline(always)]
 fn need_not_wait(machine: &Machine, task: TaskId, object: ObjectId, access: Access) -> bool
     ensures { (s : State) → StandsFor machine.now s
         → result ≡ definitions.possible s object access || waiting.is_expired s task }
@@ -162,6 +163,7 @@ fn unlock_and_wake(machine: &mut Machine)
 }
 
 /// The queue is unlocked, and who was woken meanwhile, if anyone was, becomes Ready.
+#[inline(always)]
 fn unlock(machine: &mut Machine, task: TaskId)
     requires { IsInCall machine.old task }
     ensures does { Moves machine.old machine.new (λ s. go_on task phase.Leave (unlock s)) }

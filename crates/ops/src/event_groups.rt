@@ -21,6 +21,7 @@ use machine::{Log, Machine, place_sleeper, wake_all};
 use model::{App, Condition, GroupId, Phase, TaskId};
 
 /// The bits of a group are the answer of the task's call; where they meet its condition it may clear them.
+#[inline(always)]
 fn answer_bits<L: Log>(
     machine: &mut Machine,
     app: &App,

@@ -13,6 +13,7 @@ use machine::{Log, Machine};
 use model::{App, TaskId};
 
 /// One more of a `work` is used up.
+#[inline(always)]
 pub fn use_up(machine: &mut Machine, app: &App, task: TaskId, ticks: u32)
     requires runs { Runs machine.old task }
     requires used { IsUsedBy (progress_in machine.old.progress task).used (Some (op.Work ticks)) }
