@@ -42,10 +42,10 @@ use Rattle.machine.specs.StandsFor.Stands.{Placed, Placing}
 use Rattle.machine.proofs.Either.{steps_are}
 use Rattle.machine.proofs.Renewed.{renewed}
 
-leb-yes : (a b : ℕ) → a ≤ b → leb a b ≡ true
+pub leb-yes : (a b : ℕ) → a ≤ b → leb a b ≡ true
 leb-yes a b e = grind (arith, nat_tests)
 
-leb-no : (a b : ℕ) → b < a → leb a b ≡ false
+pub leb-no : (a b : ℕ) → b < a → leb a b ≡ false
 leb-no a b e = grind (arith, nat_tests)
 
 some : (n : ℕ) → eqb (suc n) 0 ≡ false
