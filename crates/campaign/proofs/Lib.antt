@@ -1,6 +1,7 @@
 mod Blocks
 pub mod Counters
 mod Cursors
+mod Desks
 mod Determined
 mod Ends
 pub mod Faulty

@@ -1,15 +1,19 @@
--- Pieces of a report's rows: rows that stand one after the other.
-use Rattle.std.specs.Prelude.{◌≡◌, ℕ, ◌+◌, ◌≤◌, false, List, [], ◌∷◌, length, take, drop}
+-- Pieces of a report's rows: rows that stand one after the other, and their texts.
+use Rattle.std.specs.Prelude.{◌≡◌, ℕ, ◌+◌, ◌≤◌, false, List, [], ◌∷◌, length, take, drop, slice_index_or}
 use Rattle.std.specs.List.{AllByRecursion, flat_map}
+use Rattle.rtrb.specs.Ring.{sent, received, IsPair, SameConsumer}
 use Rattle.byte_io.specs.Buffers.{bytes_of, buffer_failed}
 use Rattle.model.specs.Application.{Application}
 use Rattle.model.specs.Campaign.{Row}
 use Rattle.report.specs.Text.{rows_text}
 use Rattle.campaign.specs.declared.campaign_report.Rows.{Rows}
 use Rattle.campaign.specs.declared.cursor.Cursor.{Cursor}
+use Rattle.campaign.specs.declared.desk.Desk.{Desk}
 use Rattle.campaign.specs.declared.piece.Piece.{Piece}
+use Rattle.campaign.specs.declared.speller.Spelled.{Spelled}
 use Rattle.campaign.specs.declared.speller.Speller.{Speller}
-use Rattle.campaign.specs.Report.{rows_at, whole}
+use Rattle.campaign.specs.declared.speller.Spelling.{Spelling}
+use Rattle.campaign.specs.Report.{rows_at, whole, IsSound}
 
 -- The rows behind the cursor are those of its place, but for so many, and those of the places after it.
 pub record IsAt (rows : Rows) (cursor : Cursor) : Type 0 where
@@ -34,21 +38,63 @@ piece_rows rows piece = some_of (whole rows) piece.from.number piece.count
 abbrev pub piece_text : Application → Rows → Piece → List ℕ
 piece_text app rows piece = rows_text app piece.from.number (piece_rows rows piece)
 
--- ---- spellers
+-- The pieces come one after the other, from the row of this number on, up to that one.
+abbrev pub ArePieces : Rows → (first last : ℕ) → List Piece → Type 0
+ArePieces rows first last [] = first ≡ last
+ArePieces rows first last (piece ∷ others) =
+    IsPiece rows piece × (piece.from.number ≡ first) × ArePieces rows (first + piece.count) last others
 
--- The buffer has the text of the piece, unless it failed.
-abbrev pub IsSpelled : Application → Rows → Speller → Type 0
-IsSpelled app rows speller = buffer_failed speller.buffer ≡ false → bytes_of speller.buffer ≡ piece_text app rows speller.piece
+-- ---- texts that spellers hand on
 
-abbrev pub AreSpelled : Application → Rows → List Speller → Type 0
-AreSpelled app rows spellers = AllByRecursion (IsSpelled app rows) spellers
+-- The events are those of the base run, and the pieces are pieces of the rows.
+pub record IsSpelling (spelling : Spelling) : Type 0 where
+  pub base : spelling.events.events ≡ spelling.rows.now.base.events
+  pub sound : IsSound spelling.rows.now
+  pub pieces : AllByRecursion (IsPiece spelling.rows.now) spelling.pieces.items
 
--- spellers of rows of this application
+-- the text of a piece
+abbrev pub text_of : Spelling → Piece → List ℕ
+text_of spelling piece = piece_text spelling.events.app spelling.rows.now piece
+
+-- The buffer has the text of the piece of its number, unless it failed.
+abbrev pub IsRight : Spelling → Spelled → Type 0
+IsRight spelling text = (piece : Piece) → piece ≡ slice_index_or spelling.pieces.items text.number piece
+    → buffer_failed text.buffer ≡ false → bytes_of text.buffer ≡ text_of spelling piece
+
+-- All texts that a speller has handed on are right, and all that have arrived at a desk.
+abbrev pub HasSent : Spelling → Speller → Type 0
+HasSent spelling speller = AllByRecursion (IsRight spelling) (sent speller.spelled)
+
+abbrev pub HasReceived : Spelling → Desk → Type 0
+HasReceived spelling desk = AllByRecursion (IsRight spelling) (received desk.spelled)
+
+abbrev pub HaveSent : Spelling → List Speller → Type 0
+HaveSent spelling spellers = AllByRecursion (HasSent spelling) spellers
+
+abbrev pub HaveReceived : Spelling → List Desk → Type 0
+HaveReceived spelling desks = AllByRecursion (HasReceived spelling) desks
+
+-- Spellers of rows of this application.
 abbrev pub AreOf : Application → List Speller → Type 0
 AreOf app spellers = AllByRecursion (λ (speller : Speller). speller.text.app ≡ app) spellers
 
--- The pieces of these spellers come one after the other, from the row of this number on, up to that one.
-abbrev pub ArePieces : Rows → (first last : ℕ) → List Speller → Type 0
-ArePieces rows first last [] = first ≡ last
-ArePieces rows first last (speller ∷ others) =
-    IsPiece rows speller.piece × (speller.piece.from.number ≡ first) × ArePieces rows (first + speller.piece.count) last others
+-- Spellers that have handed nothing on.
+abbrev pub AreFresh : List Speller → Type 0
+AreFresh spellers = AllByRecursion (λ (speller : Speller). sent speller.spelled ≡ []) spellers
+
+-- Each desk is that of the speller of its place.
+abbrev pub ArePairs : List Speller → List Desk → Type 0
+ArePairs [] [] = Unit {0}
+ArePairs [] (desk ∷ desks) = ⊥
+ArePairs (speller ∷ spellers) [] = ⊥
+ArePairs (speller ∷ spellers) (desk ∷ desks) = IsPair speller.spelled desk.spelled × ArePairs spellers desks
+
+-- What becomes of a desk: it stays with its speller, and what has arrived there has arrived.
+pub record GoesOn (old new : Desk) : Type 0 where
+  pub ring : SameConsumer old.spelled new.spelled
+  pub received : (spelling : Spelling) → HasReceived spelling new → HasReceived spelling old
+
+-- the same of several
+pub record GoOn (old new : List Desk) : Type 0 where
+  pub pairs : (spellers : List Speller) → ArePairs spellers old → ArePairs spellers new
+  pub received : (spelling : Spelling) → HaveReceived spelling new → HaveReceived spelling old

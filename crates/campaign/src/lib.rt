@@ -5,9 +5,11 @@
 mod at;
 mod campaign_report;
 mod cursor;
+mod desk;
 mod file;
 mod gate;
 mod gathering;
+mod lanes;
 mod making;
 mod one_run;
 mod options;

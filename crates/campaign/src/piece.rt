@@ -1,11 +1,13 @@
 //! A piece of a report's rows.
-ghost use Rattle.std.specs.Prelude.{◌≡◌, ◌≤◌, ◌<◌, ◌+◌, length};
+ghost use Rattle.std.specs.Prelude.{◌≡◌, ◌≤◌, ◌<◌, ◌+◌, length, IfOk};
 ghost use Rattle.campaign.specs.Report.{whole, IsPlace, IsSound};
-ghost use Rattle.campaign.specs.Pieces.{piece_rows, IsAt, IsPiece};
+ghost use Rattle.campaign.specs.Pieces.{piece_rows, ArePieces, IsAt, IsPiece};
 
 use crate::campaign_report::Rows;
 use crate::cursor::Cursor;
 use crate::rows::Place;
+use model::Memory;
+use std::alloc::Global;
 
 // At most so many rows are taken for as long as the first of them, where the text of a piece is guessed.
 const MOST_ALIKE: usize = 16;
@@ -30,14 +32,6 @@ fn guess(rows: &Rows, place: &Place) -> usize
 }
 
 impl Piece {
-    /// No row.
-    pub(crate) fn none() -> Piece {
-        Piece {
-            from: Cursor::start(),
-            count: 0,
-        }
-    }
-
     /// All rows.
     pub(crate) fn all(rows: &Rows) -> Piece
         requires { IsSound rows.now }
@@ -78,4 +72,19 @@ impl Piece {
             count: cursor.number - from.number,
         }
     }
+}
+
+/// All rows, in pieces whose texts take some so many bytes each.
+pub(crate) fn pieces_of(alloc: Global, rows: &Rows, bytes: usize) -> Result<Vec<Piece>, Memory>
+    requires sound { IsSound rows.now }
+    requires some { 0 < bytes }
+    ensures { IfOk result (λ pieces. ArePieces rows.now 0 (length (whole rows.now)) pieces.items) }
+{
+    let total = rows.count();
+    let mut pieces = Vec::new(alloc);
+    let mut cursor = Cursor::start();
+    while cursor.number < total {
+        pieces.push(Piece::next(&mut cursor, rows, bytes))?;
+    }
+    Ok(pieces)
 }

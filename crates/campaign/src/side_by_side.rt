@@ -1,148 +1,231 @@
 //! The rows of a report, spelled by several threads side by side, and written in their order.
-ghost use Rattle.std.specs.Prelude.{◌≡◌, ◌≤◌, ◌<◌, ℕ, [], false, length, vec_len, All, IfOk, OnOk};
+ghost use Rattle.std.specs.Prelude.{◌≡◌, List, [], ◌∷◌, false, OnOk};
 ghost use Rattle.std.specs.List.{flat_map};
 ghost use Rattle.std.specs.Result.{is_err};
+ghost use Rattle.std.specs.Thread.{IsSync};
+ghost use Rattle.rtrb.specs.Ring.{SameProducer};
+ghost use Rattle.byte_io.specs.Buffers.{bytes_of, buffer_failed};
 ghost use Rattle.byte_io.specs.Bytes.{Writes};
-ghost use Rattle.report.specs.Text.{rows_text};
-ghost use Rattle.model.specs.Application.{Application};
-ghost use Rattle.campaign.specs.declared.speller.Speller as declared;
-ghost use Rattle.campaign.specs.Report.{whole, IsSound};
-ghost use Rattle.campaign.specs.Pieces.{piece_text, AreOf, ArePieces, AreSpelled, IsAt, IsPiece, IsSpelled};
+ghost use Rattle.campaign.specs.declared.desk.Desk as desk;
+ghost use Rattle.campaign.specs.declared.speller.Spelling as declared;
+ghost use Rattle.campaign.specs.Pieces.{text_of, AreFresh, AreOf, ArePairs, GoOn, HasSent, HaveReceived, HaveSent, IsPiece, IsSpelling};
 
-use crate::campaign_report::Rows;
-use crate::cursor::Cursor;
+use crate::desk::{Desk, give_back, take_from};
 use crate::piece::Piece;
-use crate::speller::Speller;
-use byte_io::{Sink, WriteFault};
-use model::{App, Memory};
-use report::{BaseEvents, ReportWriter};
-use std::alloc::Global;
+use crate::speller::{Spelled, Speller, Spelling};
+use crate::writing::write_piece;
+use byte_io::{Sink, WriteFault, put_all};
+use report::ReportWriter;
+use std::sync::Wait;
 use std::thread;
-use std::thread::Threads;
+use std::thread::{Threads, join_mut};
 
-/// So many spellers of rows of this application, of texts of at most so many bytes.
-pub(crate) fn spellers_of(
-    alloc: Global,
-    app: &App,
-    count: usize,
-    most: usize,
-) -> Result<Vec<Speller<'_>>, Memory>
-    ensures count { IfOk result (λ spellers. vec_len spellers ≡ count) }
-    ensures app { IfOk result (λ spellers. AreOf app.now spellers.items) }
+// Writes the text of this piece: what was spelled, or where the buffer has failed, by way of this report.
+fn put<W: Sink>(
+    text: &Spelled,
+    piece: Piece,
+    spelling: &Spelling<'_>,
+    writer: &mut W,
+    report: &mut ReportWriter<'_>,
+) -> Result<(), WriteFault>
+    requires spelling { IsSpelling spelling.now }
+    requires piece { IsPiece spelling.now.rows.now piece }
+    requires working { W.has_failed writer.old ≡ false }
+    requires app { spelling.now.events.app ≡ report.old.app }
+    requires empty { report.old.page ≡ [] }
+    ensures app { report.new.app ≡ report.old.app }
+    ensures text { (buffer_failed text.now.buffer ≡ false → bytes_of text.now.buffer ≡ text_of spelling.now piece)
+        → Writes (W.held writer.old) (W.held writer.new) result (text_of spelling.now piece) }
+    ensures empty { OnOk result (report.new.page ≡ []) }
+    ensures failed { W.has_failed writer.new ≡ is_err result }
 {
-    let mut spellers = Vec::new(alloc);
-    while spellers.len() < count {
-        if spellers.push(Speller::new(alloc, app, most)).is_err() {
-            return Err(Memory);
+    if text.buffer.has_failed() {
+        return write_piece(writer, report, spelling.rows, &spelling.events, piece);
+    }
+    put_all(writer, text.buffer.bytes())
+}
+
+// Writes the texts of all pieces in their order, as they arrive at the desks, and spells pieces as long as the next text isn't
+// there. What a speller has no memory for is spelled by way of this report, of which nothing is still to go out.
+//
+// What others hand on is right is known only when they are done, so that is a premise.
+fn write_arriving<R: Wait, W: Sink>(
+    rt: &R,
+    spelling: &Spelling<'_>,
+    own: &mut Speller<'_>,
+    desks: &mut [Desk],
+    writer: &mut W,
+    report: &mut ReportWriter<'_>,
+) -> Result<(), WriteFault>
+    requires spelling { IsSpelling spelling.now }
+    requires own { own.old.text.app ≡ spelling.now.events.app }
+    requires working { W.has_failed writer.old ≡ false }
+    requires app { spelling.now.events.app ≡ report.old.app }
+    requires empty { report.old.page ≡ [] }
+    ensures ring { SameProducer own.old.spelled own.new.spelled }
+    ensures sent { HasSent spelling.now own.old → HasSent spelling.now own.new }
+    ensures desks { GoOn desks.old desks.new }
+    ensures app { report.new.app ≡ report.old.app }
+    ensures text { HaveReceived spelling.now desks.new
+        → Writes (W.held writer.old) (W.held writer.new) result (flat_map (text_of spelling.now) spelling.now.pieces.items) }
+    ensures empty { OnOk result (report.new.page ≡ []) }
+    ensures failed { W.has_failed writer.new ≡ is_err result }
+{
+    let mut number = 0;
+    for _ in rt.forever() {
+        if number >= spelling.pieces.len() {
+            return Ok(());
+        }
+        match take_from(desks, number) {
+            Some(arrived) => {
+                let piece = spelling.pieces[number];
+                put(&arrived.text, piece, spelling, writer, report)?;
+                give_back(desks, arrived.desk, arrived.text.buffer);
+                number += 1;
+            }
+            None => {
+                if !own.spell_next(rt, spelling) {
+                    thread::yield_now();
+                }
+            }
         }
     }
-    Ok(spellers)
+    unreachable!()
 }
 
-// Hands out the next pieces, one to each speller, with texts of some so many bytes. The cursor goes over them.
-fn hand_out(spellers: &mut [Speller<'_>], cursor: &mut Cursor, rows: &Rows, bytes: usize)
-    requires sound { IsSound rows.now }
-    requires at { IsAt rows.now cursor.old }
-    requires some { 0 < bytes }
-    ensures at { IsAt rows.now cursor.new }
-    ensures pieces { ArePieces rows.now cursor.old.number cursor.new.number spellers.new }
-    ensures count { length spellers.new ≡ length spellers.old }
-    ensures app { (app : Application) → AreOf app spellers.old → AreOf app spellers.new }
-    ensures more { cursor.old.number < length (whole rows.now) → 0 < length spellers.old → cursor.old.number < cursor.new.number }
-{
-    for index in 0..spellers.len() {
-        spellers[index].piece = Piece::next(cursor, rows, bytes);
-    }
-}
-
-// Spells the pieces, each in a thread of its own where one can be started.
-fn spell_all<R: Threads + Sync>(
+// Spells pieces until none is left, by each speller in a thread of its own where one can be started.
+fn spell_all<R: Threads + Wait + Sync>(
     rt: &R,
+    spelling: &Spelling<'_>,
     spellers: &mut [Speller<'_>],
-    rows: &Rows,
-    events: &BaseEvents<'_>,
 )
-    requires some { 0 < length spellers.old }
-    requires app { AreOf events.now.app spellers.old }
-    requires base { events.now.events ≡ rows.now.base.events }
-    requires sound { IsSound rows.now }
-    requires pieces { All (λ (speller : declared.Speller). IsPiece rows.now speller.piece) spellers.old }
-    ensures count { length spellers.new ≡ length spellers.old }
-    ensures app { AreOf events.now.app spellers.new }
-    ensures pieces { (first last : ℕ) → ArePieces rows.now first last spellers.old → ArePieces rows.now first last spellers.new }
-    ensures spelled { AreSpelled events.now.app rows.now spellers.new }
+    requires spelling { IsSpelling spelling.now }
+    requires app { AreOf spelling.now.events.app spellers.old }
+    ensures pairs { (desks : List desk.Desk) → ArePairs spellers.old desks → ArePairs spellers.new desks }
+    ensures sent { HaveSent spelling.now spellers.old → HaveSent spelling.now spellers.new }
 {
+    if spellers.is_empty() {
+        return;
+    }
     let threads = spellers.len();
     let each = |_index: usize, speller: &mut Speller<'_>|
-        requires app { events.now.app ≡ speller.now.text.app }
-        requires base { events.now.events ≡ rows.now.base.events }
-        requires sound { IsSound rows.now }
-        requires piece { IsPiece rows.now speller.now.piece }
-        ensures app { speller.exit.now.text.app ≡ speller.entry.now.text.app }
-        ensures piece { speller.exit.now.piece ≡ speller.entry.now.piece }
-        ensures spelled { IsSpelled speller.entry.now.text.app rows.entry.now speller.exit.now }
-    { speller.spell(rows, events) };
+        requires spelling { IsSpelling spelling.now }
+        requires app { speller.now.text.app ≡ spelling.now.events.app }
+        ensures ring { SameProducer speller.entry.now.spelled speller.exit.now.spelled }
+        ensures sent { HasSent spelling.entry.now speller.entry.now → HasSent spelling.entry.now speller.exit.now }
+    { speller.spell_all(rt, spelling) };
     thread::for_each_mut(rt, spellers, threads, &each);
 }
 
-// Writes the texts of the pieces, one after the other.
-fn put_all_pieces<W: Sink>(
-    spellers: &[Speller<'_>],
+// Spells pieces in the threads of the other spellers, while this one spells too, and writes the texts.
+fn write_beside<R: Threads + Wait + Sync, W: Sink>(
+    rt: &R,
+    spelling: &Spelling<'_>,
+    own: &mut Speller<'_>,
+    others: &mut [Speller<'_>],
+    desks: &mut [Desk],
     writer: &mut W,
-    text: &mut ReportWriter<'_>,
-    rows: &Rows,
-    events: &BaseEvents<'_>,
+    report: &mut ReportWriter<'_>,
 ) -> Result<(), WriteFault>
+    requires spelling { IsSpelling spelling.now }
+    requires own { own.old.text.app ≡ spelling.now.events.app }
+    requires others { AreOf spelling.now.events.app others.old }
     requires working { W.has_failed writer.old ≡ false }
-    requires app { events.now.app ≡ text.old.app }
-    requires base { events.now.events ≡ rows.now.base.events }
-    requires sound { IsSound rows.now }
-    requires pieces { All (λ (speller : declared.Speller). IsPiece rows.now speller.piece) spellers.now }
-    requires spelled { AreSpelled text.old.app rows.now spellers.now }
-    requires empty { text.old.page ≡ [] }
-    ensures app { text.new.app ≡ text.old.app }
-    ensures text { Writes (W.held writer.old) (W.held writer.new) result
-        (flat_map (λ (speller : declared.Speller). piece_text text.old.app rows.now speller.piece) spellers.now) }
-    ensures empty { OnOk result (text.new.page ≡ []) }
+    requires app { spelling.now.events.app ≡ report.old.app }
+    requires empty { report.old.page ≡ [] }
+    ensures ring { SameProducer own.old.spelled own.new.spelled }
+    ensures own { HasSent spelling.now own.old → HasSent spelling.now own.new }
+    ensures pairs { (desks : List desk.Desk) → ArePairs others.old desks → ArePairs others.new desks }
+    ensures others { HaveSent spelling.now others.old → HaveSent spelling.now others.new }
+    ensures desks { GoOn desks.old desks.new }
+    ensures app { report.new.app ≡ report.old.app }
+    ensures text { HaveReceived spelling.now desks.new
+        → Writes (W.held writer.old) (W.held writer.new) result (flat_map (text_of spelling.now) spelling.now.pieces.items) }
+    ensures empty { OnOk result (report.new.page ≡ []) }
     ensures failed { W.has_failed writer.new ≡ is_err result }
 {
-    for speller in spellers {
-        speller.put(writer, text, rows, events)?;
-    }
-    Ok(())
+    let mut theirs = ||
+        requires spelling { IsSpelling spelling.now }
+        requires app { AreOf spelling.now.events.app others.now }
+        requires sync { IsSync R.row }
+        ensures pairs { (desks : List desk.Desk) → ArePairs others.entry.now desks → ArePairs others.exit.now desks }
+        ensures sent { HaveSent spelling.entry.now others.entry.now → HaveSent spelling.entry.now others.exit.now }
+    { spell_all(rt, spelling, others) };
+    let mut mine = || -> Result<(), WriteFault>
+        requires spelling { IsSpelling spelling.now }
+        requires own { own.now.text.app ≡ spelling.now.events.app }
+        requires working { W.has_failed writer.now ≡ false }
+        requires app { spelling.now.events.app ≡ report.now.app }
+        requires empty { report.now.page ≡ [] }
+        ensures ring { SameProducer own.entry.now.spelled own.exit.now.spelled }
+        ensures sent { HasSent spelling.entry.now own.entry.now → HasSent spelling.entry.now own.exit.now }
+        ensures desks { GoOn desks.entry.now desks.exit.now }
+        ensures app { report.exit.now.app ≡ report.entry.now.app }
+        ensures text { HaveReceived spelling.entry.now desks.exit.now
+            → Writes (W.held writer.entry.now) (W.held writer.exit.now) result (flat_map (text_of spelling.entry.now) spelling.entry.now.pieces.items) }
+        ensures empty { OnOk result (report.exit.now.page ≡ []) }
+        ensures failed { W.has_failed writer.exit.now ≡ is_err result }
+    {
+        let written = write_arriving(rt, spelling, own, desks, writer, report);
+        spelling.stop();
+        written
+    };
+    let (_, written) = join_mut(rt, &mut theirs, &mut mine);
+    written
 }
 
-/// Writes all rows, in rounds: each speller spells one of the next pieces, all at the same time, and then the texts are written
-/// in the order of the pieces. A text is of some so many bytes. What a speller has no memory for is spelled by this thread, by
-/// way of this report, of which nothing is still to go out.
-pub(crate) fn write_in_rounds<R: Threads + Sync, W: Sink>(
+// What has arrived at the desks was handed on.
+fn compare(spellers: &mut [Speller<'_>], desks: &mut [Desk])
+    requires { ArePairs spellers.old desks.old }
+    ensures { (spelling : declared.Spelling) → HaveSent spelling spellers.old → HaveReceived spelling desks.old }
+{
+    let Some((speller, spellers)) = spellers.split_first_mut() else {
+        return;
+    };
+    let Some((desk, desks)) = desks.split_first_mut() else {
+        return;
+    };
+    desk.spelled.slots_beside(&mut speller.spelled);
+    compare(spellers, desks);
+}
+
+// The same of this speller and the others.
+fn compare_all(own: &mut Speller<'_>, others: &mut [Speller<'_>], desks: &mut [Desk])
+    requires { ArePairs (own.old ∷ others.old) desks.old }
+    ensures { (spelling : declared.Spelling) → HaveSent spelling (own.old ∷ others.old) → HaveReceived spelling desks.old }
+{
+    let Some((desk, desks)) = desks.split_first_mut() else {
+        return;
+    };
+    desk.spelled.slots_beside(&mut own.spelled);
+    compare(others, desks);
+}
+
+/// Writes the texts of all pieces, in their order. The other spellers spell in threads of their own where they can be started, and
+/// this one in this thread, which writes. What a speller has no memory for is spelled by way of this report, of which nothing is
+/// still to go out. It waits for them.
+pub(crate) fn write_side_by_side<R: Threads + Wait + Sync, W: Sink>(
     rt: &R,
-    spellers: &mut [Speller<'_>],
-    bytes: usize,
+    spelling: &Spelling<'_>,
+    own: &mut Speller<'_>,
+    others: &mut [Speller<'_>],
+    desks: &mut [Desk],
     writer: &mut W,
-    text: &mut ReportWriter<'_>,
-    rows: &Rows,
-    events: &BaseEvents<'_>,
+    report: &mut ReportWriter<'_>,
 ) -> Result<(), WriteFault>
-    requires some { 0 < length spellers.old }
-    requires bytes { 0 < bytes }
+    requires spelling { IsSpelling spelling.now }
+    requires its { AreOf spelling.now.events.app (own.old ∷ others.old) }
+    requires pairs { ArePairs (own.old ∷ others.old) desks.old }
+    requires fresh { AreFresh (own.old ∷ others.old) }
     requires working { W.has_failed writer.old ≡ false }
-    requires app { events.now.app ≡ text.old.app }
-    requires its { AreOf text.old.app spellers.old }
-    requires base { events.now.events ≡ rows.now.base.events }
-    requires sound { IsSound rows.now }
-    requires empty { text.old.page ≡ [] }
-    ensures app { text.new.app ≡ text.old.app }
-    ensures text { Writes (W.held writer.old) (W.held writer.new) result (rows_text text.old.app 0 (whole rows.now)) }
-    ensures empty { OnOk result (text.new.page ≡ []) }
+    requires app { spelling.now.events.app ≡ report.old.app }
+    requires empty { report.old.page ≡ [] }
+    ensures app { report.new.app ≡ report.old.app }
+    ensures text { Writes (W.held writer.old) (W.held writer.new) result (flat_map (text_of spelling.now) spelling.now.pieces.items) }
+    ensures empty { OnOk result (report.new.page ≡ []) }
     ensures failed { W.has_failed writer.new ≡ is_err result }
 {
-    let total = rows.count();
-    let mut cursor = Cursor::start();
-    while cursor.number < total {
-        hand_out(spellers, &mut cursor, rows, bytes);
-        spell_all(rt, spellers, rows, events);
-        put_all_pieces(spellers, writer, text, rows, events)?;
-    }
-    Ok(())
+    let written = write_beside(rt, spelling, own, others, desks, writer, report);
+    compare_all(own, others, desks);
+    written
 }

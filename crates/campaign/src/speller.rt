@@ -1,77 +1,115 @@
-//! A piece of a report, spelled in memory.
-ghost use Rattle.std.specs.Prelude.{◌≡◌, [], false, OnOk};
-ghost use Rattle.std.specs.Result.{is_err};
-ghost use Rattle.byte_io.specs.Bytes.{Writes};
-ghost use Rattle.campaign.specs.Report.{IsSound};
-ghost use Rattle.campaign.specs.Pieces.{piece_text, IsPiece, IsSpelled};
+//! Who spells pieces of a report, and the texts that are handed on.
+ghost use Rattle.std.specs.Prelude.{◌≡◌, ◌∷◌, ◌++◌, []};
+ghost use Rattle.rtrb.specs.Ring.{sent, SameProducer};
+ghost use Rattle.campaign.specs.Pieces.{HasSent, IsSpelling};
 
 use crate::campaign_report::Rows;
 use crate::piece::Piece;
 use crate::writing::write_piece;
-use byte_io::{Buffer, Sink, WriteFault, put_all};
-use model::App;
+use byte_io::Buffer;
 use report::{BaseEvents, ReportWriter};
-use std::alloc::Global;
+use rtrb::{Consumer, Producer, PushError};
+use std::sync::Wait;
+use std::sync::atomic::{AtomicU64, Ordering};
+use std::thread;
 
-/// A piece of a report's rows, and its text in memory, which one thread spells.
+/// What all share who spell: the rows, the events of their base run, the pieces, and how many of these are taken, from the
+/// first on.
+#[derive(Drop)]
+pub(crate) struct Spelling<'a> {
+    pub(crate) rows: &'a Rows,
+    pub(crate) events: BaseEvents<'a>,
+    pub(crate) pieces: Vec<Piece>,
+    pub(crate) taken: AtomicU64,
+}
+
+impl<'a> Spelling<'a> {
+    /// Whether no piece is left to be taken.
+    pub(crate) fn is_over(&self) -> bool {
+        self.taken.load(Ordering::SeqCst) as usize >= self.pieces.len()
+    }
+
+    /// From now on no piece is left to be taken.
+    pub(crate) fn stop(&self) {
+        self.taken.store(self.pieces.len() as u64, Ordering::SeqCst);
+    }
+}
+
+/// The text of the piece of this number, unless there was no memory for it: then the buffer has failed.
+#[derive(Drop)]
+pub(crate) struct Spelled {
+    pub(crate) number: usize,
+    pub(crate) buffer: Buffer,
+}
+
+/// Spells pieces one after the other, in buffers that come back from its desk when their texts are written.
 #[derive(Drop)]
 pub(crate) struct Speller<'a> {
     pub(crate) text: ReportWriter<'a>,
-    pub(crate) buffer: Buffer,
-    pub(crate) piece: Piece,
+    pub(crate) empty: Consumer<Buffer>,
+    pub(crate) spelled: Producer<Spelled>,
+}
+
+// Hands a text on. There is room for all buffers of a speller, so this doesn't wait.
+fn hand_on<R: Wait>(rt: &R, spelled: &mut Producer<Spelled>, text: Spelled)
+    ensures ring { SameProducer spelled.old spelled.new }
+    ensures sent { sent spelled.new ≡ sent spelled.old ++ text ∷ [] }
+{
+    let mut text = text;
+    for _ in rt.forever() {
+        match spelled.push(text) {
+            Ok(()) => return,
+            Err(PushError::Full(back)) => text = back,
+        }
+        thread::yield_now();
+    }
+    unreachable!()
 }
 
 impl<'a> Speller<'a> {
-    /// A speller of rows of this application, of texts of at most so many bytes.
-    pub(crate) fn new(alloc: Global, app: &'a App, most: usize) -> Speller<'a>
-        ensures { result.text.app ≡ app.now }
-    {
-        Speller {
-            text: ReportWriter::new(app),
-            buffer: Buffer::new(alloc, most),
-            piece: Piece::none(),
-        }
-    }
-
-    /// Spells the piece. Where there is no memory for its text, the buffer has failed.
-    pub(crate) fn spell(&mut self, rows: &Rows, events: &BaseEvents<'_>)
-        requires app { events.now.app ≡ self.old.text.app }
-        requires base { events.now.events ≡ rows.now.base.events }
-        requires sound { IsSound rows.now }
-        requires piece { IsPiece rows.now self.old.piece }
+    /// Takes the next piece, spells it and hands its text on, if a buffer is empty and a piece is left. Answers whether it did.
+    pub(crate) fn spell_next<R: Wait>(&mut self, rt: &R, spelling: &Spelling<'_>) -> bool
+        requires spelling { IsSpelling spelling.now }
+        requires app { self.old.text.app ≡ spelling.now.events.app }
         ensures app { self.new.text.app ≡ self.old.text.app }
-        ensures piece { self.new.piece ≡ self.old.piece }
-        ensures spelled { IsSpelled self.old.text.app rows.now self.new }
+        ensures ring { SameProducer self.old.spelled self.new.spelled }
+        ensures sent { HasSent spelling.now self.old → HasSent spelling.now self.new }
     {
-        self.buffer.clear();
+        let Ok(mut buffer) = self.empty.pop() else {
+            return false;
+        };
+        let number = spelling.taken.fetch_add(1, Ordering::SeqCst) as usize;
+        let Some(piece) = spelling.pieces.get(number) else {
+            return false;
+        };
+        buffer.clear();
         self.text.clear();
         // The buffer itself tells whether it has failed.
-        let _written = write_piece(&mut self.buffer, &mut self.text, rows, events, self.piece);
+        let _written = write_piece(
+            &mut buffer,
+            &mut self.text,
+            spelling.rows,
+            &spelling.events,
+            *piece,
+        );
+        hand_on(rt, &mut self.spelled, Spelled { number, buffer });
+        true
     }
 
-    /// Writes the text of the piece: what was spelled, or where the buffer has failed, by way of this report.
-    pub(crate) fn put<W: Sink>(
-        &self,
-        writer: &mut W,
-        text: &mut ReportWriter<'_>,
-        rows: &Rows,
-        events: &BaseEvents<'_>,
-    ) -> Result<(), WriteFault>
-        requires working { W.has_failed writer.old ≡ false }
-        requires app { events.now.app ≡ text.old.app }
-        requires base { events.now.events ≡ rows.now.base.events }
-        requires sound { IsSound rows.now }
-        requires piece { IsPiece rows.now self.now.piece }
-        requires spelled { IsSpelled text.old.app rows.now self.now }
-        requires empty { text.old.page ≡ [] }
-        ensures app { text.new.app ≡ text.old.app }
-        ensures text { Writes (W.held writer.old) (W.held writer.new) result (piece_text text.old.app rows.now self.now.piece) }
-        ensures empty { OnOk result (text.new.page ≡ []) }
-        ensures failed { W.has_failed writer.new ≡ is_err result }
+    /// Spells pieces until none is left.
+    pub(crate) fn spell_all<R: Wait>(&mut self, rt: &R, spelling: &Spelling<'_>)
+        requires spelling { IsSpelling spelling.now }
+        requires app { self.old.text.app ≡ spelling.now.events.app }
+        ensures ring { SameProducer self.old.spelled self.new.spelled }
+        ensures sent { HasSent spelling.now self.old → HasSent spelling.now self.new }
     {
-        if self.buffer.has_failed() {
-            return write_piece(writer, text, rows, events, self.piece);
+        for _ in rt.forever() {
+            if spelling.is_over() {
+                return;
+            }
+            if !self.spell_next(rt, spelling) {
+                thread::yield_now();
+            }
         }
-        put_all(writer, self.buffer.bytes())
     }
 }

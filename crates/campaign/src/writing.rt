@@ -1,5 +1,5 @@
 //! The text of a campaign's report, to a sink.
-ghost use Rattle.std.specs.Prelude.{◌≡◌, ◌≤◌, ◌<◌, ◌+◌, false, [], length, OnOk};
+ghost use Rattle.std.specs.Prelude.{◌≡◌, ◌≤◌, ◌<◌, ◌+◌, false, [], ◌∷◌, length, OnOk};
 ghost use Rattle.std.specs.Result.{is_err};
 ghost use Rattle.byte_io.specs.Bytes.{Adds, Writes};
 ghost use Rattle.machine.specs.Logged.{all_of};
@@ -7,23 +7,26 @@ ghost use Rattle.model.specs.Scripts.{most_points};
 ghost use Rattle.model.specs.Campaign.{totals_of};
 ghost use Rattle.report.specs.Text.{row_text, rows_text, total_text, campaign_text};
 ghost use Rattle.campaign.specs.Report.{row_of, rows_in, whole, AreKept, IsKept, IsSound};
-ghost use Rattle.campaign.specs.Pieces.{piece_text, AreOf, IsPiece};
+ghost use Rattle.campaign.specs.Pieces.{piece_text, AreFresh, AreOf, ArePairs, ArePieces, IsPiece, IsSpelling};
 
 use crate::campaign_report::{Report, Rows};
-use crate::piece::Piece;
+use crate::lanes::{Lanes, lanes_of};
+use crate::piece::{Piece, pieces_of};
 use crate::rows::{KeptRow, Part};
-use crate::side_by_side::{spellers_of, write_in_rounds};
-use crate::speller::Speller;
+use crate::side_by_side::write_side_by_side;
+use crate::speller::Spelling;
 use byte_io::{Sink, WriteFault};
 use model::{App, Ending, Event, Run};
 use report::{BaseEvents, ReportWriter, Title};
 use std::alloc::Global;
+use std::sync::Wait;
+use std::sync::atomic::AtomicU64;
 use std::thread::Threads;
 
-// How long the text of a piece is at least that a thread spells, in bytes, and how long those of a round are together.
-const LEAST_PIECE: usize = 1 << 16;
+// How long the text of a piece is that a thread spells, in bytes, at least and at most.
+const LEAST_PIECE: usize = 1 << 14;
 
-const MOST_ROUND: usize = 1 << 22;
+const MOST_PIECE: usize = 1 << 18;
 
 // No text that is longer than this is kept in memory, in bytes.
 const MOST_TEXT: usize = 1 << 24;
@@ -190,30 +193,36 @@ fn write_rows<W: Sink>(
     write_totals(writer, &mut text, rows)
 }
 
-// The same, with pieces of some so many bytes that these spellers spell.
-fn write_rows_in_rounds<R: Threads + Sync, W: Sink>(
+// The same, by several spellers.
+fn write_rows_by<R: Threads + Wait + Sync, W: Sink>(
     rt: &R,
     app: &App,
-    rows: &Rows,
-    events: &BaseEvents<'_>,
-    spellers: &mut [Speller<'_>],
-    bytes: usize,
+    spelling: &Spelling<'_>,
+    lanes: &mut Lanes<'_>,
     writer: &mut W,
 ) -> Result<(), WriteFault>
-    requires some { 0 < length spellers.old }
-    requires bytes { 0 < bytes }
+    requires spelling { IsSpelling spelling.now }
+    requires app { spelling.now.events.app ≡ app.now }
+    requires its { AreOf app.now (lanes.old.own ∷ lanes.old.others.items) }
+    requires pairs { ArePairs (lanes.old.own ∷ lanes.old.others.items) lanes.old.desks.items }
+    requires fresh { AreFresh (lanes.old.own ∷ lanes.old.others.items) }
+    requires pieces { ArePieces spelling.now.rows.now 0 (length (whole spelling.now.rows.now)) spelling.now.pieces.items }
     requires working { W.has_failed writer.old ≡ false }
-    requires app { events.now.app ≡ app.now }
-    requires its { AreOf app.now spellers.old }
-    requires base { events.now.events ≡ rows.now.base.events }
-    requires sound { IsSound rows.now }
     ensures text { Writes (W.held writer.old) (W.held writer.new) result
-        (campaign_text app.now (whole rows.now)) }
+        (campaign_text app.now (whole spelling.now.rows.now)) }
     ensures failed { W.has_failed writer.new ≡ is_err result }
 {
     let mut text = ReportWriter::new(app);
-    write_in_rounds(rt, spellers, bytes, writer, &mut text, rows, events)?;
-    write_totals(writer, &mut text, rows)
+    write_side_by_side(
+        rt,
+        spelling,
+        &mut lanes.own,
+        &mut lanes.others,
+        &mut lanes.desks,
+        writer,
+        &mut text,
+    )?;
+    write_totals(writer, &mut text, spelling.rows)
 }
 
 /// Writes the report of a campaign: its rows, numbered from 0, and the line of their totals. The report is of this application.
@@ -229,8 +238,9 @@ pub fn write_report<W: Sink>(app: &App, report: &Report, writer: &mut W) -> Resu
     write_rows(app, rows, &events, writer)
 }
 
-// How many bytes of text a speller spells in a round, where there are so many: some 64 kB, and where the rows take much memory,
-// more: with all spellers together a sixteenth of it, since a row takes 48 bytes and each of its own events 16, and at most 4 MB.
+// How long the text of a piece is, in bytes: all that are in memory at a time take some sixteenth of the rows' memory at most,
+// where a row takes 48 bytes and each of its own events 16. They are neither so short that handing them on takes time, nor too
+// long for a processor's own cache.
 fn length_of_pieces(rows: &Rows, spellers: usize) -> usize
     requires some { 0 < spellers }
     requires sound { IsSound rows.now }
@@ -241,13 +251,13 @@ fn length_of_pieces(rows: &Rows, spellers: usize) -> usize
         events = events.saturating_add(part.trail.len());
     }
     let bytes = events.saturating_add(rows.count().saturating_mul(3));
-    (bytes.min(MOST_ROUND) / spellers).max(LEAST_PIECE)
+    (bytes / spellers / 4).clamp(LEAST_PIECE, MOST_PIECE)
 }
 
 /// Writes the report of a campaign as `write_report` does, and faster: it takes memory for the text of the base run's events,
 /// with which rows begin, and has so many threads spell rows, where that are several. What it gets no memory for is spelled for
 /// each row, and on this thread.
-pub(crate) fn write_report_in<R: Threads + Sync, W: Sink>(
+pub(crate) fn write_report_in<R: Threads + Wait + Sync, W: Sink>(
     rt: &R,
     alloc: Global,
     app: &App,
@@ -265,9 +275,17 @@ pub(crate) fn write_report_in<R: Threads + Sync, W: Sink>(
     if threads < 2 {
         return write_rows(app, rows, &events, writer);
     }
-    let bytes = length_of_pieces(rows, threads);
-    let Ok(mut spellers) = spellers_of(alloc, app, threads, MOST_TEXT) else {
+    let Ok(mut lanes) = lanes_of(alloc, app, threads, MOST_TEXT) else {
         return write_rows(app, rows, &events, writer);
     };
-    write_rows_in_rounds(rt, app, rows, &events, &mut spellers, bytes, writer)
+    let Ok(pieces) = pieces_of(alloc, rows, length_of_pieces(rows, threads)) else {
+        return write_rows(app, rows, &events, writer);
+    };
+    let spelling = Spelling {
+        rows,
+        events,
+        pieces,
+        taken: AtomicU64::new(0),
+    };
+    write_rows_by(rt, app, &spelling, &mut lanes, writer)
 }
