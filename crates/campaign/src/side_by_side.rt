@@ -72,6 +72,7 @@ fn write_arriving<R: Wait, W: Sink>(
     ensures failed { W.has_failed writer.new ≡ is_err result }
 {
     let mut number = 0;
+    let mut idle: u32 = 0;
     for _ in rt.forever() {
         if number >= spelling.pieces.len() {
             return Ok(());
@@ -82,12 +83,9 @@ fn write_arriving<R: Wait, W: Sink>(
                 put(&arrived.text, piece, spelling, writer, report)?;
                 give_back(desks, arrived.desk, arrived.text.buffer);
                 number += 1;
+                idle = 0;
             }
-            None => {
-                if !own.spell_next(rt, spelling) {
-                    thread::yield_now();
-                }
-            }
+            None => idle = spelling.rest_unless(rt, own.spell_next(rt, spelling), idle),
         }
     }
     unreachable!()

@@ -12,6 +12,13 @@ use rtrb::{Consumer, Producer, PushError};
 use std::sync::Wait;
 use std::sync::atomic::{AtomicU64, Ordering};
 use std::thread;
+use std::time::Duration;
+
+// So many times in vain a thread only lets others go on before it sleeps, for so many microseconds at most: where the writer is slow,
+// those who wait for it keep no processor busy.
+const MOST_YIELDS: u32 = 1000;
+
+const SLEEP: u64 = 200;
 
 /// What all share who spell: the rows, the events of their base run, the pieces, and how many of these are taken, from the
 /// first on.
@@ -27,6 +34,21 @@ impl<'a> Spelling<'a> {
     /// Whether no piece is left to be taken.
     pub(crate) fn is_over(&self) -> bool {
         self.taken.load(Ordering::SeqCst) as usize >= self.pieces.len()
+    }
+
+    /// Lets others go on where this thread was not busy, and has not been so many times before. Answers how many times that is now.
+    pub(crate) fn rest_unless<R: Wait>(&self, rt: &R, busy: bool, idle: u32) -> u32 {
+        if busy {
+            return 0;
+        }
+        if idle < MOST_YIELDS {
+            thread::yield_now();
+        } else {
+            let seen = self.taken.load(Ordering::SeqCst) % (1 << 32);
+            self.taken
+                .park_timeout(rt, seen as u32, Duration::from_micros(SLEEP));
+        }
+        idle.saturating_add(1)
     }
 
     /// From now on no piece is left to be taken.
@@ -103,13 +125,12 @@ impl<'a> Speller<'a> {
         ensures ring { SameProducer self.old.spelled self.new.spelled }
         ensures sent { HasSent spelling.now self.old → HasSent spelling.now self.new }
     {
+        let mut idle: u32 = 0;
         for _ in rt.forever() {
             if spelling.is_over() {
                 return;
             }
-            if !self.spell_next(rt, spelling) {
-                thread::yield_now();
-            }
+            idle = spelling.rest_unless(rt, self.spell_next(rt, spelling), idle);
         }
     }
 }

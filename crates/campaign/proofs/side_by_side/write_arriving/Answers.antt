@@ -49,22 +49,6 @@ loop-preserved-in-Some-take_from g c =
       working = put.failed;
     }
 
-pub loop-preserved-then-not-spell_next : goal.loop-preserved-then-not-spell_next
-loop-preserved-then-not-spell_next g c =
-    let i = c.loop.invariant in
-    let own = c.spell_next.ensures in
-    record {
-      few = i.few;
-      own = own.app ∙ i.own;
-      ring = same_producer c.args.own.now.spelled c.loop.own.spelled c.spell_next.new.self.spelled i.ring own.ring;
-      handed = λ h. own.sent (i.handed h);
-      desks = go_further _ _ _ i.desks c.take_from.ensures.desks;
-      app = i.app;
-      empty = i.empty;
-      sent = λ h. i.sent (c.take_from.ensures.desks.received c.args.spelling.now h);
-      working = i.working;
-    }
-
 pub loop-preserved : goal.loop-preserved
 loop-preserved g c =
     let i = c.loop.invariant in
