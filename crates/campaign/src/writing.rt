@@ -26,7 +26,7 @@ use std::thread::Threads;
 // How long the text of a piece is that a thread spells, in bytes, at least and at most.
 const LEAST_PIECE: usize = 1 << 14;
 
-const MOST_PIECE: usize = 1 << 18;
+const MOST_PIECE: usize = 1 << 16;
 
 // No text that is longer than this is kept in memory, in bytes.
 const MOST_TEXT: usize = 1 << 24;
