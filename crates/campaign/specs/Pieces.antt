@@ -46,8 +46,9 @@ ArePieces rows first last (piece ∷ others) =
 
 -- ---- texts that spellers hand on
 
--- The events are those of the base run, and the pieces are pieces of the rows.
+-- The events are those of the base run, of this application, and the pieces are pieces of the rows.
 pub record IsSpelling (spelling : Spelling) : Type 0 where
+  pub app : spelling.events.app ≡ spelling.app.now
   pub base : spelling.events.events ≡ spelling.rows.now.base.events
   pub sound : IsSound spelling.rows.now
   pub pieces : AllByRecursion (IsPiece spelling.rows.now) spelling.pieces.items
@@ -73,10 +74,6 @@ HaveSent spelling spellers = AllByRecursion (HasSent spelling) spellers
 
 abbrev pub HaveReceived : Spelling → List Desk → Type 0
 HaveReceived spelling desks = AllByRecursion (HasReceived spelling) desks
-
--- Spellers of rows of this application.
-abbrev pub AreOf : Application → List Speller → Type 0
-AreOf app spellers = AllByRecursion (λ (speller : Speller). speller.text.app ≡ app) spellers
 
 -- Spellers that have handed nothing on.
 abbrev pub AreFresh : List Speller → Type 0

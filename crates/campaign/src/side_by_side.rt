@@ -8,7 +8,7 @@ ghost use Rattle.byte_io.specs.Buffers.{bytes_of, buffer_failed};
 ghost use Rattle.byte_io.specs.Bytes.{Writes};
 ghost use Rattle.campaign.specs.declared.desk.Desk as desk;
 ghost use Rattle.campaign.specs.declared.speller.Spelling as declared;
-ghost use Rattle.campaign.specs.Pieces.{text_of, AreFresh, AreOf, ArePairs, GoOn, HasSent, HaveReceived, HaveSent, IsPiece, IsSpelling};
+ghost use Rattle.campaign.specs.Pieces.{text_of, AreFresh, ArePairs, GoOn, HasSent, HaveReceived, HaveSent, IsPiece, IsSpelling};
 
 use crate::desk::{Desk, give_back, take_from};
 use crate::piece::Piece;
@@ -46,19 +46,18 @@ fn put<W: Sink>(
 }
 
 // Writes the texts of all pieces in their order, as they arrive at the desks, and spells pieces as long as the next text isn't
-// there. What a speller has no memory for is spelled by way of this report, of which nothing is still to go out.
+// there. It spells by way of this report, of which nothing is still to go out, also what a speller had no memory for.
 //
 // What others hand on is right is known only when they are done, so that is a premise.
 fn write_arriving<R: Wait, W: Sink>(
     rt: &R,
     spelling: &Spelling<'_>,
-    own: &mut Speller<'_>,
+    own: &mut Speller,
     desks: &mut [Desk],
     writer: &mut W,
     report: &mut ReportWriter<'_>,
 ) -> Result<(), WriteFault>
     requires spelling { IsSpelling spelling.now }
-    requires own { own.old.text.app ≡ spelling.now.events.app }
     requires working { W.has_failed writer.old ≡ false }
     requires app { spelling.now.events.app ≡ report.old.app }
     requires empty { report.old.page ≡ [] }
@@ -85,20 +84,18 @@ fn write_arriving<R: Wait, W: Sink>(
                 number += 1;
                 idle = 0;
             }
-            None => idle = spelling.rest_unless(rt, own.spell_next(rt, spelling), idle),
+            None => {
+                let busy = own.spell_next(rt, spelling, report);
+                idle = spelling.rest_unless(rt, busy, idle);
+            }
         }
     }
     unreachable!()
 }
 
 // Spells pieces until none is left, by each speller in a thread of its own where one can be started.
-fn spell_all<R: Threads + Wait + Sync>(
-    rt: &R,
-    spelling: &Spelling<'_>,
-    spellers: &mut [Speller<'_>],
-)
+fn spell_all<R: Threads + Wait + Sync>(rt: &R, spelling: &Spelling<'_>, spellers: &mut [Speller])
     requires spelling { IsSpelling spelling.now }
-    requires app { AreOf spelling.now.events.app spellers.old }
     ensures pairs { (desks : List desk.Desk) → ArePairs spellers.old desks → ArePairs spellers.new desks }
     ensures sent { HaveSent spelling.now spellers.old → HaveSent spelling.now spellers.new }
 {
@@ -106,9 +103,8 @@ fn spell_all<R: Threads + Wait + Sync>(
         return;
     }
     let threads = spellers.len();
-    let each = |_index: usize, speller: &mut Speller<'_>|
+    let each = |_index: usize, speller: &mut Speller|
         requires spelling { IsSpelling spelling.now }
-        requires app { speller.now.text.app ≡ spelling.now.events.app }
         ensures ring { SameProducer speller.entry.now.spelled speller.exit.now.spelled }
         ensures sent { HasSent spelling.entry.now speller.entry.now → HasSent spelling.entry.now speller.exit.now }
     { speller.spell_all(rt, spelling) };
@@ -119,15 +115,13 @@ fn spell_all<R: Threads + Wait + Sync>(
 fn write_beside<R: Threads + Wait + Sync, W: Sink>(
     rt: &R,
     spelling: &Spelling<'_>,
-    own: &mut Speller<'_>,
-    others: &mut [Speller<'_>],
+    own: &mut Speller,
+    others: &mut [Speller],
     desks: &mut [Desk],
     writer: &mut W,
     report: &mut ReportWriter<'_>,
 ) -> Result<(), WriteFault>
     requires spelling { IsSpelling spelling.now }
-    requires own { own.old.text.app ≡ spelling.now.events.app }
-    requires others { AreOf spelling.now.events.app others.old }
     requires working { W.has_failed writer.old ≡ false }
     requires app { spelling.now.events.app ≡ report.old.app }
     requires empty { report.old.page ≡ [] }
@@ -144,14 +138,12 @@ fn write_beside<R: Threads + Wait + Sync, W: Sink>(
 {
     let mut theirs = ||
         requires spelling { IsSpelling spelling.now }
-        requires app { AreOf spelling.now.events.app others.now }
         requires sync { IsSync R.row }
         ensures pairs { (desks : List desk.Desk) → ArePairs others.entry.now desks → ArePairs others.exit.now desks }
         ensures sent { HaveSent spelling.entry.now others.entry.now → HaveSent spelling.entry.now others.exit.now }
     { spell_all(rt, spelling, others) };
     let mut mine = || -> Result<(), WriteFault>
         requires spelling { IsSpelling spelling.now }
-        requires own { own.now.text.app ≡ spelling.now.events.app }
         requires working { W.has_failed writer.now ≡ false }
         requires app { spelling.now.events.app ≡ report.now.app }
         requires empty { report.now.page ≡ [] }
@@ -173,7 +165,7 @@ fn write_beside<R: Threads + Wait + Sync, W: Sink>(
 }
 
 // What has arrived at the desks was handed on.
-fn compare(spellers: &mut [Speller<'_>], desks: &mut [Desk])
+fn compare(spellers: &mut [Speller], desks: &mut [Desk])
     requires { ArePairs spellers.old desks.old }
     ensures { (spelling : declared.Spelling) → HaveSent spelling spellers.old → HaveReceived spelling desks.old }
 {
@@ -188,7 +180,7 @@ fn compare(spellers: &mut [Speller<'_>], desks: &mut [Desk])
 }
 
 // The same of this speller and the others.
-fn compare_all(own: &mut Speller<'_>, others: &mut [Speller<'_>], desks: &mut [Desk])
+fn compare_all(own: &mut Speller, others: &mut [Speller], desks: &mut [Desk])
     requires { ArePairs (own.old ∷ others.old) desks.old }
     ensures { (spelling : declared.Spelling) → HaveSent spelling (own.old ∷ others.old) → HaveReceived spelling desks.old }
 {
@@ -205,14 +197,13 @@ fn compare_all(own: &mut Speller<'_>, others: &mut [Speller<'_>], desks: &mut [D
 pub(crate) fn write_side_by_side<R: Threads + Wait + Sync, W: Sink>(
     rt: &R,
     spelling: &Spelling<'_>,
-    own: &mut Speller<'_>,
-    others: &mut [Speller<'_>],
+    own: &mut Speller,
+    others: &mut [Speller],
     desks: &mut [Desk],
     writer: &mut W,
     report: &mut ReportWriter<'_>,
 ) -> Result<(), WriteFault>
     requires spelling { IsSpelling spelling.now }
-    requires its { AreOf spelling.now.events.app (own.old ∷ others.old) }
     requires pairs { ArePairs (own.old ∷ others.old) desks.old }
     requires fresh { AreFresh (own.old ∷ others.old) }
     requires working { W.has_failed writer.old ≡ false }

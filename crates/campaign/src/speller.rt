@@ -7,6 +7,7 @@ use crate::campaign_report::Rows;
 use crate::piece::Piece;
 use crate::writing::write_piece;
 use byte_io::Buffer;
+use model::App;
 use report::{BaseEvents, ReportWriter};
 use rtrb::{Consumer, Producer, PushError};
 use std::sync::Wait;
@@ -20,10 +21,11 @@ const MOST_YIELDS: u32 = 1000;
 
 const SLEEP: u64 = 200;
 
-/// What all share who spell: the rows, the events of their base run, the pieces, and how many of these are taken, from the
-/// first on.
+/// What all share who spell: the application, the rows, the events of their base run, the pieces, and how many of these are taken,
+/// from the first on.
 #[derive(Drop)]
 pub(crate) struct Spelling<'a> {
+    pub(crate) app: &'a App,
     pub(crate) rows: &'a Rows,
     pub(crate) events: BaseEvents<'a>,
     pub(crate) pieces: Vec<Piece>,
@@ -66,8 +68,7 @@ pub(crate) struct Spelled {
 
 /// Spells pieces one after the other, in buffers that come back from its desk when their texts are written.
 #[derive(Drop)]
-pub(crate) struct Speller<'a> {
-    pub(crate) text: ReportWriter<'a>,
+pub(crate) struct Speller {
     pub(crate) empty: Consumer<Buffer>,
     pub(crate) spelled: Producer<Spelled>,
 }
@@ -88,12 +89,20 @@ fn hand_on<R: Wait>(rt: &R, spelled: &mut Producer<Spelled>, text: Spelled)
     unreachable!()
 }
 
-impl<'a> Speller<'a> {
-    /// Takes the next piece, spells it and hands its text on, if a buffer is empty and a piece is left. Answers whether it did.
-    pub(crate) fn spell_next<R: Wait>(&mut self, rt: &R, spelling: &Spelling<'_>) -> bool
+impl Speller {
+    /// Takes the next piece, spells it and hands its text on, if a buffer is empty and a piece is left. It spells by way of this
+    /// report, of which nothing is still to go out, neither before nor afterwards. Answers whether it did.
+    pub(crate) fn spell_next<R: Wait>(
+        &mut self,
+        rt: &R,
+        spelling: &Spelling<'_>,
+        report: &mut ReportWriter<'_>,
+    ) -> bool
         requires spelling { IsSpelling spelling.now }
-        requires app { self.old.text.app ≡ spelling.now.events.app }
-        ensures app { self.new.text.app ≡ self.old.text.app }
+        requires app { spelling.now.events.app ≡ report.old.app }
+        requires empty { report.old.page ≡ [] }
+        ensures app { report.new.app ≡ report.old.app }
+        ensures empty { report.new.page ≡ [] }
         ensures ring { SameProducer self.old.spelled self.new.spelled }
         ensures sent { HasSent spelling.now self.old → HasSent spelling.now self.new }
     {
@@ -105,32 +114,28 @@ impl<'a> Speller<'a> {
             return false;
         };
         buffer.clear();
-        self.text.clear();
         // The buffer itself tells whether it has failed.
-        let _written = write_piece(
-            &mut buffer,
-            &mut self.text,
-            spelling.rows,
-            &spelling.events,
-            *piece,
-        );
+        let _written = write_piece(&mut buffer, report, spelling.rows, &spelling.events, *piece);
+        report.clear();
         hand_on(rt, &mut self.spelled, Spelled { number, buffer });
         true
     }
 
     /// Spells pieces until none is left.
+    #[inline(never)]
     pub(crate) fn spell_all<R: Wait>(&mut self, rt: &R, spelling: &Spelling<'_>)
         requires spelling { IsSpelling spelling.now }
-        requires app { self.old.text.app ≡ spelling.now.events.app }
         ensures ring { SameProducer self.old.spelled self.new.spelled }
         ensures sent { HasSent spelling.now self.old → HasSent spelling.now self.new }
     {
+        let mut report = ReportWriter::new(spelling.app);
         let mut idle: u32 = 0;
         for _ in rt.forever() {
             if spelling.is_over() {
                 return;
             }
-            idle = spelling.rest_unless(rt, self.spell_next(rt, spelling), idle);
+            let busy = self.spell_next(rt, spelling, &mut report);
+            idle = spelling.rest_unless(rt, busy, idle);
         }
     }
 }

@@ -7,7 +7,7 @@ ghost use Rattle.model.specs.Scripts.{most_points};
 ghost use Rattle.model.specs.Campaign.{totals_of};
 ghost use Rattle.report.specs.Text.{row_text, rows_text, total_text, campaign_text};
 ghost use Rattle.campaign.specs.Report.{row_of, rows_in, whole, AreKept, IsKept, IsSound};
-ghost use Rattle.campaign.specs.Pieces.{piece_text, AreFresh, AreOf, ArePairs, ArePieces, IsPiece, IsSpelling};
+ghost use Rattle.campaign.specs.Pieces.{piece_text, AreFresh, ArePairs, ArePieces, IsPiece, IsSpelling};
 
 use crate::campaign_report::{Report, Rows};
 use crate::lanes::{Lanes, lanes_of};
@@ -194,25 +194,23 @@ fn write_rows<W: Sink>(
 }
 
 // The same, by several spellers.
+#[inline(never)]
 fn write_rows_by<R: Threads + Wait + Sync, W: Sink>(
     rt: &R,
-    app: &App,
     spelling: &Spelling<'_>,
-    lanes: &mut Lanes<'_>,
+    lanes: &mut Lanes,
     writer: &mut W,
 ) -> Result<(), WriteFault>
     requires spelling { IsSpelling spelling.now }
-    requires app { spelling.now.events.app ≡ app.now }
-    requires its { AreOf app.now (lanes.old.own ∷ lanes.old.others.items) }
     requires pairs { ArePairs (lanes.old.own ∷ lanes.old.others.items) lanes.old.desks.items }
     requires fresh { AreFresh (lanes.old.own ∷ lanes.old.others.items) }
     requires pieces { ArePieces spelling.now.rows.now 0 (length (whole spelling.now.rows.now)) spelling.now.pieces.items }
     requires working { W.has_failed writer.old ≡ false }
     ensures text { Writes (W.held writer.old) (W.held writer.new) result
-        (campaign_text app.now (whole spelling.now.rows.now)) }
+        (campaign_text spelling.now.app.now (whole spelling.now.rows.now)) }
     ensures failed { W.has_failed writer.new ≡ is_err result }
 {
-    let mut text = ReportWriter::new(app);
+    let mut text = ReportWriter::new(spelling.app);
     write_side_by_side(
         rt,
         spelling,
@@ -275,17 +273,18 @@ pub(crate) fn write_report_in<R: Threads + Wait + Sync, W: Sink>(
     if threads < 2 {
         return write_rows(app, rows, &events, writer);
     }
-    let Ok(mut lanes) = lanes_of(alloc, app, threads, MOST_TEXT) else {
+    let Ok(mut lanes) = lanes_of(alloc, threads, MOST_TEXT) else {
         return write_rows(app, rows, &events, writer);
     };
     let Ok(pieces) = pieces_of(alloc, rows, length_of_pieces(rows, threads)) else {
         return write_rows(app, rows, &events, writer);
     };
     let spelling = Spelling {
+        app,
         rows,
         events,
         pieces,
         taken: AtomicU64::new(0),
     };
-    write_rows_by(rt, app, &spelling, &mut lanes, writer)
+    write_rows_by(rt, &spelling, &mut lanes, writer)
 }

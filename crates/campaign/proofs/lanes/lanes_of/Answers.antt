@@ -2,7 +2,7 @@ use Rattle.std.proofs.Common.{List, [], ◌∷◌, ◌++◌, sym, subst, arith}
 use Rattle.deal.proofs.Members.{each_last}
 use Rattle.campaign.specs.declared.desk.Desk.{Desk}
 use Rattle.campaign.specs.declared.speller.Speller.{Speller}
-use Rattle.campaign.specs.Pieces.{AreFresh, AreOf, ArePairs}
+use Rattle.campaign.specs.Pieces.{AreFresh, ArePairs}
 use Rattle.campaign.proofs.Desks.{pairs_more}
 use Rattle.campaign.proofs.lanes.lanes_of.Goals as goal
 
@@ -17,7 +17,6 @@ loop-alloc-preserved c =
     let desks = c.in_ok-push-2.ensures.items in
     record {
       few = omega (arith, c.in_ok-push-2.ensures.len, c.len.ensures, c.loop-alloc-test.true);
-      app = (i.app.0, subst (AreOf c.args.app.now) (sym more) (each_last _ others speller i.app.1 lane.app));
       pairs = subst (λ (ss : List Speller). ArePairs (own ∷ ss) c.push-in-loop-alloc.new.self.items) (sym more)
           (subst (λ (ds : List Desk). ArePairs (own ∷ (others ++ speller ∷ [])) ds) (sym desks) (pairs_more (own ∷ others) c.loop-alloc.desks.items speller c.in_ok-speller.desk i.pairs lane.pair));
       fresh = (i.fresh.0, subst AreFresh (sym more) (each_last _ others speller i.fresh.1 lane.fresh));

@@ -1,11 +1,10 @@
 use Rattle.std.proofs.Common.{◌≤◌, ◌-◌, ◌∷◌, vec_len}
-use Rattle.campaign.specs.Pieces.{AreFresh, AreOf, ArePairs}
+use Rattle.campaign.specs.Pieces.{AreFresh, ArePairs}
 use Rattle.campaign.proofs.lanes.lanes_of.Given as goal
 
 abbrev pub invariant-loop-alloc : goal.invariant-loop-alloc
 invariant-loop-alloc l = record {
   few : vec_len l.desks ≤ l.count;
-  app : AreOf l.app (l.own ∷ l.others.items);
   pairs : ArePairs (l.own ∷ l.others.items) l.desks.items;
   fresh : AreFresh (l.own ∷ l.others.items);
 }

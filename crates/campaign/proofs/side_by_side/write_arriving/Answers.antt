@@ -36,7 +36,6 @@ loop-preserved-in-Some-take_from g c =
     let within : c.loop.number < length spelling.pieces.items = omega (arith, c.if-number-len.false, c.len.ensures) in
     record {
       few = omega (arith, within);
-      own = i.own;
       ring = i.ring;
       handed = i.handed;
       desks = go_further _ _ _ (go_further _ _ _ i.desks texts.desks) c.give_back.ensures;
@@ -52,15 +51,14 @@ loop-preserved-in-Some-take_from g c =
 pub loop-preserved : goal.loop-preserved
 loop-preserved g c =
     let i = c.loop.invariant in
-    let own = c.spell_next.ensures in
+    let own = c.spell_next-busy.ensures in
     record {
       few = i.few;
-      own = own.app ∙ i.own;
-      ring = same_producer c.args.own.now.spelled c.loop.own.spelled c.spell_next.new.self.spelled i.ring own.ring;
+      ring = same_producer c.args.own.now.spelled c.loop.own.spelled c.spell_next-busy.new.self.spelled i.ring own.ring;
       handed = λ h. own.sent (i.handed h);
       desks = go_further _ _ _ i.desks c.take_from.ensures.desks;
-      app = i.app;
-      empty = i.empty;
+      app = own.app ∙ i.app;
+      empty = own.empty;
       sent = λ h. i.sent (c.take_from.ensures.desks.received c.args.spelling.now h);
       working = i.working;
     }

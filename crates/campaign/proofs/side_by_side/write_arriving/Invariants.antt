@@ -8,7 +8,6 @@ use Rattle.campaign.proofs.side_by_side.write_arriving.Given as goal
 abbrev pub invariant-loop : goal.invariant-loop
 invariant-loop g l = record {
   few : l.number ≤ length l.spelling.pieces.items;
-  own : l.own.text.app ≡ l.fn.own.text.app;
   ring : SameProducer l.fn.own.spelled l.own.spelled;
   handed : HasSent l.spelling l.fn.own → HasSent l.spelling l.own;
   desks : GoOn l.fn.desks l.desks;
