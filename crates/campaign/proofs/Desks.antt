@@ -1,8 +1,8 @@
 -- What becomes of spellers and their desks.
-use Rattle.std.proofs.Common.{◌≡◌, ◌<◌, ◌+◌, ℕ, zero, suc, List, [], ◌∷◌, ◌++◌, length, set, slice_index_or, refl, sym, ap, subst, ◌∙◌, arith}
+use Rattle.std.proofs.Common.{◌≡◌, ◌<◌, ℕ, zero, suc, List, [], ◌∷◌, ◌++◌, length, set, slice_index_or, refl, sym, subst, ◌∙◌, arith}
 use Rattle.std.specs.List.{AllByRecursion}
 use Rattle.rtrb.specs.Ends.{SameRing}
-use Rattle.rtrb.specs.Ring.{received, sent, IsPair, SameConsumer, SameProducer}
+use Rattle.rtrb.specs.Ring.{received, IsPair, SameConsumer, SameProducer}
 use Rattle.rtrb.specs.declared.end.End.{End}
 use Rattle.rtrb.specs.declared.producer.Producer.{Producer}
 use Rattle.campaign.specs.declared.desk.Desk.{Desk}
@@ -35,9 +35,6 @@ goes_same old new same = record {
   ring = subst (λ (c : _). SameConsumer old.spelled c) (sym same) (same_ring old.spelled.end, refl);
   received = λ spelling h. subst (λ (c : _). AllByRecursion (IsRight spelling) (received c)) same h;
 }
-
-pub go_none : (desks : List Desk) → GoOn desks desks
-go_none desks = record { pairs = λ spellers are. are; received = λ spelling h. h }
 
 pub go_further : (a b c : List Desk) → GoOn a b → GoOn b c → GoOn a c
 go_further a b c first second = record {

@@ -1,17 +1,13 @@
 -- Pieces that come one after the other: their texts joined are the text of all.
 use Rattle.std.specs.Prelude.{Option}
 use Rattle.std.specs.List.{AllByRecursion, flat_map}
-use Rattle.std.specs.Io.KnownBytes.{Appends}
-use Rattle.std.proofs.Common.{◌≡◌, ◌<◌, ◌≤◌, ◌+◌, ◌-◌, ℕ, zero, suc, List, [], ◌∷◌, ◌++◌, length, take, drop, set, slice_index_or, refl, sym, ap, subst, ◌∙◌, arith}
+use Rattle.std.proofs.Common.{◌≡◌, ◌≤◌, ◌+◌, ◌-◌, ℕ, List, [], ◌∷◌, ◌++◌, length, take, drop, sym, ap, subst, ◌∙◌, arith}
 use Rattle.std.proofs.lemmas.List.{drop-drop, drop-take, length-drop, length-take-le, take-append-drop, take-take, take_all}
-use Rattle.std.proofs.KnownBytes.{Appends-trans}
 use Rattle.byte_io.specs.Bytes.{Sent, SentFront}
-use Rattle.byte_io.proofs.Sending.{SentFront_longer, SentFront_then}
 use Rattle.model.specs.Application.{Application}
 use Rattle.model.specs.Campaign.{Row}
 use Rattle.report.proofs.Rows.{rows_text-append}
 use Rattle.report.specs.Text.{rows_text}
-use Rattle.report.specs.Writing.{Report}
 use Rattle.campaign.specs.declared.campaign_report.Rows.{Rows}
 use Rattle.campaign.specs.declared.piece.Piece.{Piece}
 use Rattle.campaign.specs.Report.{whole}

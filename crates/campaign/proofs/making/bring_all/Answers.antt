@@ -1,4 +1,4 @@
-use Rattle.std.proofs.Common.{◌≡◌, ◌∙◌, ap, subst, sum, List, ℕ}
+use Rattle.std.proofs.Common.{◌∙◌, ap, subst, sum, List, ℕ}
 use Rattle.campaign.specs.Made.{IsBrought}
 use Rattle.campaign.specs.Setup.{work_of}
 use Rattle.campaign.proofs.making.bring_all.Goals as goal

@@ -1,4 +1,4 @@
-use Rattle.std.proofs.Common.{◌≡◌, ◌∙◌, false, refl, rules, Err}
+use Rattle.std.proofs.Common.{◌≡◌, false, refl, rules, Err}
 use Rattle.model.specs.Campaign.{totals_of}
 use Rattle.report.specs.Text.{campaign_text}
 use Rattle.campaign.specs.declared.file.ServeFault.TheVariants.{Write}
