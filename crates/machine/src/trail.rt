@@ -7,6 +7,13 @@ use model::{Event, Memory};
 use std::alloc::Global;
 use std::marker::Model;
 
+/// A trail of fewer events than so many takes room little by little.
+const FEW: usize = 4096;
+
+/// One of more takes room for so many at once, of 32 MB: the system takes notice only of the room that is used, and gives that by
+/// large pages where it is asked to.
+const MANY: usize = 2_097_152;
+
 /// Events in the order in which they were told, of which the last are those of the present step. Before each step `begin`
 /// makes room for its events, so that telling one takes no memory and doesn't fail.
 #[derive(Drop)]
@@ -82,7 +89,7 @@ impl Trail {
         self.make_room()
     }
 
-    /// Makes room for 128 events more. At `Err(Memory)`, where the growth was refused, there is less room.
+    /// Makes room for 128 events more, or for many. At `Err(Memory)`, where the growth was refused, there is less room.
     #[cold]
     #[inline(never)]
     fn make_room(&mut self) -> Result<(), Memory>
@@ -91,6 +98,10 @@ impl Trail {
         ensures room { OnOk result (128 ≤ self.new.room) }
         ensures refused { OnErr result (self.new.room < 128) }
     {
+        if self.events.len() >= FEW && self.events.capacity() < MANY {
+            // Where room for so many is refused, there may be room for one step.
+            let _refused = self.events.reserve(MANY).is_err();
+        }
         if self.events.reserve(128).is_err() {
             return Err(Memory);
         }
