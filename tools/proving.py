@@ -1,6 +1,8 @@
 """What the tools know of the repository's crates, and of the machine, and how they run rt."""
+import importlib.util
 import os
 import re
+import shutil
 import signal
 import subprocess
 import threading
@@ -27,6 +29,36 @@ def below(name, stand_on):
     for it in stand_on[name]:
         found.update(dict.fromkeys([*below(it, stand_on), it]))
     return [*found]
+
+
+def copy_crates(parts, folder, root=ROOT):
+    """Makes the folder a repository of some crates alone: of each those of the parts by its name that it has."""
+    os.makedirs(f"{folder}/crates")
+    with open(f"{root}/crates.txt", encoding="utf-8") as file, open(f"{folder}/crates.txt", "w", encoding="utf-8") as to:
+        to.writelines(it for it in file if re.match(r"\w*", it)[0] in parts)
+    shutil.copy(f"{root}/HANDLES", folder)
+    for name in parts:
+        for part in parts[name]:
+            if os.path.isdir(f"{root}/crates/{name}/{part}"):
+                shutil.copytree(f"{root}/crates/{name}/{part}", f"{folder}/crates/{name}/{part}")
+
+
+def are_left_by_ci(names, root=ROOT):
+    """Whether the libraries of these crates are those that `rt ci` has built: they have no stamp, by which rt takes a library."""
+    folders = [f"{root}/crates/{it}/out/rlib" for it in names]
+    return all(os.path.isdir(f"{at}/{it}.rlib") and not os.path.exists(f"{at}/stamp") for at, it in zip(folders, names))
+
+
+def adopt_libraries(folder):
+    """Has rt take the libraries below the crate of this folder as they stand, though it is `rt ci` that has built them. They hold
+    statements and no proofs, and fit one another alone, so rt doesn't take them where others may come to stand among them."""
+    place = f"{os.path.dirname(os.path.realpath(shutil.which('rt')))}/rtlib.py"
+    spec = importlib.util.spec_from_file_location("rtlib", place)
+    rtlib = importlib.util.module_from_spec(spec)
+    spec.loader.exec_module(rtlib)
+    for crate in rtlib.Crate(folder, rtlib.root_above(folder), {}).below():
+        with open(f"{crate.folder}/out/rlib/stamp", "w", encoding="utf-8") as file:
+            file.write(crate.stamp())
 
 
 def processors():
