@@ -32,15 +32,19 @@ def below(name, stand_on):
 
 
 def copy_crates(parts, folder, root=ROOT):
-    """Makes the folder a repository of some crates alone: of each those of the parts by its name that it has."""
+    """Makes the folder a repository of some crates alone: of each those parts, files or folders, that stand at its name, where it has
+    them."""
     os.makedirs(f"{folder}/crates")
     with open(f"{root}/crates.txt", encoding="utf-8") as file, open(f"{folder}/crates.txt", "w", encoding="utf-8") as to:
         to.writelines(it for it in file if re.match(r"\w*", it)[0] in parts)
     shutil.copy(f"{root}/HANDLES", folder)
     for name in parts:
         for part in parts[name]:
-            if os.path.isdir(f"{root}/crates/{name}/{part}"):
-                shutil.copytree(f"{root}/crates/{name}/{part}", f"{folder}/crates/{name}/{part}")
+            here, there = f"{root}/crates/{name}/{part}", f"{folder}/crates/{name}/{part}"
+            if os.path.isdir(here):
+                shutil.copytree(here, there)
+            elif os.path.exists(here):
+                shutil.copy(here, there)
 
 
 def are_left_by_ci(names, root=ROOT):
