@@ -98,6 +98,8 @@ fn wake_met(machine: &mut Machine, met: &Met)
 }
 
 /// The scheduler is held, and the bits are set; what is left of them will be the answer.
+// Inlined, the list of those who are met would be part of every step.
+#[inline(never)]
 fn begin_set(machine: &mut Machine, task: TaskId, group: GroupId, mask: u32)
     requires { CanDecide machine.old task }
     ensures { Moves machine.old machine.new (definitions.begin_set task group mask) }
@@ -125,6 +127,8 @@ fn end_set<L: Log>(machine: &mut Machine, app: &App, task: TaskId, log: &mut L)
 }
 
 /// The next phase of a set.
+// Most steps of a task that sets bits come through here, and a call would cost a third of it.
+#[inline(always)]
 pub fn set_bits<L: Log>(
     machine: &mut Machine,
     app: &App,
@@ -145,6 +149,8 @@ pub fn set_bits<L: Log>(
 }
 
 /// The scheduler is held, and the task waits for bits of a group, for so many ticks at most.
+// Inlined, it would stand in each copy of the step.
+#[inline(never)]
 fn begin_bits_wait(
     machine: &mut Machine,
     task: TaskId,
@@ -240,6 +246,8 @@ fn finish_wait<L: Log>(
 }
 
 /// The next phase of a wait for bits.
+// The step has what it takes at hand, and a call with so many arguments would cost a third of it.
+#[inline(always)]
 pub fn wait_bits<L: Log>(
     machine: &mut Machine,
     app: &App,

@@ -110,6 +110,7 @@ pub fn attempt(
 }
 
 /// `overwrite` and `give`: the call is done if it is possible, and answers.
+#[inline(always)]
 pub fn do_now<L: Log>(
     machine: &mut Machine,
     app: &App,

@@ -10,6 +10,7 @@ use machine::{Log, Machine};
 use model::{App, End, Loop, TaskId, What};
 
 /// `mark`: a mark event is told.
+#[inline(always)]
 pub fn mark<L: Log>(machine: &mut Machine, app: &App, task: TaskId, number: u32, log: &mut L)
     requires room { 1 ≤ (L.logged log.old).room }
     requires runs { Runs machine.old task }

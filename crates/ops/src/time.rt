@@ -44,6 +44,7 @@ fn sleep(machine: &mut Machine, task: TaskId, ticks: u32)
 }
 
 /// `delay`: the task sleeps; for 0 ticks it yields.
+#[inline(always)]
 pub fn delay<L: Log>(machine: &mut Machine, app: &App, task: TaskId, ticks: u32, log: &mut L)
     requires room { 2 ≤ (L.logged log.old).room }
     requires can { Can app.now machine.old task (op.Delay ticks) }
@@ -79,6 +80,7 @@ pub fn delay_until<L: Log>(machine: &mut Machine, app: &App, task: TaskId, ticks
 }
 
 /// `yield`: the task goes behind its equals.
+#[inline(always)]
 pub fn call_yield<L: Log>(machine: &mut Machine, app: &App, task: TaskId, log: &mut L)
     requires room { 2 ≤ (L.logged log.old).room }
     requires can { Can app.now machine.old task op.Yield }
@@ -90,6 +92,7 @@ pub fn call_yield<L: Log>(machine: &mut Machine, app: &App, task: TaskId, log: &
 }
 
 /// `time`: the printed tick is the answer.
+#[inline(always)]
 pub fn time<L: Log>(machine: &mut Machine, app: &App, task: TaskId, log: &mut L)
     requires room { 1 ≤ (L.logged log.old).room }
     requires runs { Runs machine.old task }
