@@ -23,7 +23,7 @@ use task_lists::TaskLists;
 /// too. Sleepers of one wake time wake in the order in which they began to sleep, as there.
 #[derive(Drop)]
 pub struct Clock {
-    lists: TaskLists<2>,
+    lists: TaskLists<2, 34>,
     age: u64,
     /// The ticks that have come and wait to be applied.
     held: u32,

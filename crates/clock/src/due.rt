@@ -12,7 +12,7 @@ use task_lists::TaskLists;
 pub type Due = ArrayVec<TaskId, 32>;
 
 /// The first task of a list, where its value is this one.
-pub(crate) fn first_due(lists: &TaskLists<2>, list: ListId, tick: u32) -> Option<TaskId>
+pub(crate) fn first_due(lists: &TaskLists<2, 34>, list: ListId, tick: u32) -> Option<TaskId>
     requires { list.number < 2 }
     ensures due { result ≡ first_at tick (entries_of lists.now list.number) }
     ensures sound { IsSound 2 32 lists.now }
@@ -26,7 +26,7 @@ pub(crate) fn first_due(lists: &TaskLists<2>, list: ListId, tick: u32) -> Option
 }
 
 /// Takes the entries of this value, which come first, out of a list, into an empty list of those that are due.
-pub(crate) fn take_due(lists: &mut TaskLists<2>, list: ListId, tick: u32, due: &mut Due)
+pub(crate) fn take_due(lists: &mut TaskLists<2, 34>, list: ListId, tick: u32, due: &mut Due)
     requires list { list.number < 2 }
     requires sound { IsSound 2 32 lists.old }
     requires sorted { IsSorted (entries_of lists.old list.number) }

@@ -32,7 +32,7 @@ const NO_CONDITION: Condition = Condition {
 #[derive(Drop)]
 pub struct Groups {
     bits: [u32; 16],
-    lists: TaskLists<16>,
+    lists: TaskLists<16, 48>,
     wants: [Condition; 32],
 }
 

@@ -26,7 +26,7 @@ pub struct Met {
 /// Takes the tasks out of a list that these bits meet. Each is tested against all of the bits, whatever one before it
 /// clears.
 pub(crate) fn take_met(
-    lists: &mut TaskLists<16>,
+    lists: &mut TaskLists<16, 48>,
     list: ListId,
     wants: &[Condition; 32],
     bits: u32,

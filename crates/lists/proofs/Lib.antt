@@ -1,6 +1,7 @@
 pub mod Entries
 pub mod Laws
 pub mod Links
+pub mod Rings
 pub mod Rotating
 pub mod Search
 pub mod SearchBack

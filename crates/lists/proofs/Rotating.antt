@@ -1,19 +1,12 @@
 -- The first node of a list goes last.
-use Rattle.std.proofs.Common.{◌≡◌, ℕ, ◌<◌, Option, Some, None, List, [], ◌∷◌, ◌++◌, get_or, length, set, sym, ◌∙◌, ap, subst, refl, append-nil}
+use Rattle.std.proofs.Common.{◌≡◌, ℕ, ◌+◌, ◌<◌, ◌≤◌, Option, Some, None, List, [], ◌∷◌, ◌++◌, get_or, length, set, sym, ◌∙◌, ap, subst, arith, refl, append-nil}
 use Rattle.std.proofs.lemmas.List.{get_or-set_same, set-set, set-get_or}
 use Rattle.lists.specs.Lists.{Each, rotated, second_of}
-use Rattle.lists.specs.Links.{at_link, Linked, IsStored, Spells}
-use Rattle.lists.proofs.Entries.{first_split, no_first, none-some}
-use Rattle.lists.proofs.Links.{last_of, at_place}
-use Rattle.lists.proofs.Spelled.{around_below, first_is, place_below, put_spells, take_spells}
-
-some_last : (k : ℕ) (xs : List (ℕ × ℕ)) → None ≡ last_of (Some k) xs → ⊥
-some_last k [] e = none-some k e
-some_last k (x ∷ xs) e = some_last x.0 xs e
-
-no_last : (xs : List (ℕ × ℕ)) → None ≡ last_of None xs → xs ≡ []
-no_last [] e = refl
-no_last (x ∷ xs) e = absurd (some_last x.0 xs e)
+use Rattle.lists.specs.Links.{node_at, ends_of, at_link, Linked, IsStored, Spells, SpellsRings}
+use Rattle.lists.proofs.Entries.{first_split, no_first}
+use Rattle.lists.proofs.Links.{at_place}
+use Rattle.lists.proofs.Spelled.{first_is}
+use Rattle.lists.proofs.Rings.{around, end-none, next_room, node-below, node-none, read_end, read_node, ring_out, ring_put, splits, within}
 
 -- a list that stays as its first node goes last
 pub record Stays (ls : List (List (ℕ × ℕ))) (l : ℕ) : Type 0 where
@@ -37,17 +30,9 @@ module _ {L N : ℕ} {next prev place : List (Option ℕ)} {values : List ℕ} {
   pub no_first_stays : get_or firsts l None ≡ None → Stays ls l
   no_first_stays none = stays [] (no_first (get_or ls l []) (sym none ∙ first_is h l hl)) refl refl
 
-  pub no_last_stays : get_or lasts l None ≡ None → Stays ls l
-  no_last_stays none =
-      let whole : Linked forth back None (get_or ls l [] ++ []) = subst (Linked forth back None) (sym (append-nil (get_or ls l []))) (h.linked l hl) in
-      stays [] (no_last (get_or ls l []) (sym none ∙ (at_place forth back None (get_or ls l []) [] whole).1)) refl refl
-
-  pub last_below : (m : ℕ) → get_or lasts l None ≡ Some m → m < N
-  last_below m last = (place_below h l (get_or ls l []) [] None hl (sym (append-nil (get_or ls l []))) refl).1 m last
-
   module _ (n : ℕ) (first : get_or firsts l None ≡ Some n) where
     -- the first entry, and the rest
-    split : (v : ℕ) × (rest : List (ℕ × ℕ)) × (get_or ls l [] ≡ (n, v) ∷ rest)
+    pub split : (v : ℕ) × (rest : List (ℕ × ℕ)) × (get_or ls l [] ≡ (n, v) ∷ rest)
     split = first_split n (get_or ls l []) (sym first ∙ first_is h l hl)
 
     linked : Linked forth back None ((n, split.0) ∷ split.1)
@@ -59,8 +44,14 @@ module _ {L N : ℕ} {next prev place : List (Option ℕ)} {values : List ℕ} {
     pub first_below : n < N
     first_below = stored.0.known
 
-    pub second_below : (q : ℕ) → get_or next n None ≡ Some q → q < N
-    second_below q second = (around_below h n l stored.0.placed).1 q second
+    pub first_placed : get_or place n None ≡ Some l
+    first_placed = stored.0.placed
+
+    pub first_valued : get_or values n 0 ≡ split.0
+    first_valued = stored.0.valued
+
+    pub nobody_before : get_or prev n None ≡ None
+    nobody_before = linked.1
 
     pub no_second_stays : get_or next n None ≡ None → Stays ls l
     no_second_stays none =
@@ -70,22 +61,64 @@ module _ {L N : ℕ} {next prev place : List (Option ℕ)} {values : List ℕ} {
     pub second_is : get_or next n None ≡ second_of (get_or ls l [])
     second_is = (at_place forth back (Some n) [] split.1 linked.2).0 ∙ sym (ap second_of split.2)
 
-    pub rotate_spells : (q m : ℕ) → get_or next n None ≡ Some q → get_or lasts l None ≡ Some m
-        → Spells L N (set (set next n None) m (Some n)) (set (set prev q None) n (Some m)) place values (set firsts l (Some q)) (set lasts l (Some n)) (set ls l (rotated (get_or ls l [])))
-    rotate_spells q m second last =
-        let v = split.0 in
-        let rest = split.1 in
-        let next' = set (set next n None) m (Some n) in
-        let prev' = set (set prev q None) n (Some m) in
-        let firsts' = set firsts l (Some q) in
-        let lasts' = set lasts l (Some n) in
-        let n_place : n < length place = subst (λ (k : ℕ). n < k) (sym h.place_length) first_below in
-        let l_lists : l < length ls = subst (λ (k : ℕ). l < k) (sym h.as_many) hl in
-        let taken = take_spells h l n v [] rest None (Some q) hl first_below split.2 (sym linked.1) (sym second) in
-        let put = put_spells taken l n v rest [] (Some m) None hl first_below (get_or-set_same place n None None n_place) (get_or-set_same ls l rest [] l_lists ∙ sym (append-nil rest)) refl (sym last) in
-        let places : set (set place n None) n (Some l) ≡ place = set-set place n None (Some l) ∙ ap (set place n) (sym stored.0.placed) ∙ set-get_or place n None in
-        let same_values : set values n v ≡ values = ap (set values n) (sym stored.0.valued) ∙ set-get_or values n 0 in
-        let lists : set (set ls l rest) l (rest ++ (n, v) ∷ []) ≡ set ls l (rotated (get_or ls l [])) = set-set ls l rest (rest ++ (n, v) ∷ []) ∙ ap (λ (xs : List (ℕ × ℕ)). set ls l (rotated xs)) (sym split.2) in
-        subst (λ (xs : List (List (ℕ × ℕ))). Spells L N next' prev' place values firsts' lasts' xs) lists
-        (subst (λ (xs : List (Option ℕ)). Spells L N next' prev' xs values firsts' lasts' (set (set ls l rest) l (rest ++ (n, v) ∷ []))) places
-        (subst (λ (xs : List ℕ). Spells L N next' prev' (set (set place n None) n (Some l)) xs firsts' lasts' (set (set ls l rest) l (rest ++ (n, v) ∷ []))) same_values put))
+module _ {L N M : ℕ} {next prev : List ℕ} {place : List (Option ℕ)} {values : List ℕ} {ls : List (List (ℕ × ℕ))} (h : SpellsRings L N M next prev place values ls) (l : ℕ) (hl : l < L) (n : ℕ) (first : get_or next (N + l) 0 ≡ n) (below : n < N) where
+  pub at_first : get_or (ends_of N next) l None ≡ Some n
+  at_first =
+      let room : N + l < length next = subst (λ (k : ℕ). N + l < k) (sym h.next_length) (within h l (N + l) hl (λ past. refl)) in
+      read_end N l next room ∙ ap (node_at N) first ∙ node-below N n below
+
+  -- before the first node stands the end
+  pub end_before : get_or prev n 0 ≡ N + l
+  end_before =
+      let a = around h n l below (first_placed h.spells l hl n at_first) in
+      a.before_end (node-none N (get_or prev n 0) (sym a.before_is ∙ nobody_before h.spells l hl n at_first))
+
+  module _ (q : ℕ) (second : get_or next n 0 ≡ q) where
+    abbrev parts : (v : ℕ) × (rest : List (ℕ × ℕ)) × (get_or ls l [] ≡ (n, v) ∷ rest)
+    parts = split h.spells l hl n at_first
+
+    -- the list without its first node
+    out : SpellsRings L N M (set next (N + l) q) (set prev q (N + l)) (set place n None) values (set ls l parts.1)
+    out =
+        subst (λ (k : ℕ). SpellsRings L N M (set next (N + l) k) (set prev k (N + l)) (set place n None) values (set ls l parts.1)) second
+        (subst (λ (k : ℕ). SpellsRings L N M (set next k (get_or next n 0)) (set prev (get_or next n 0) k) (set place n None) values (set ls l parts.1)) end_before
+        (ring_out h l n parts.0 [] parts.1 below (first_placed h.spells l hl n at_first) parts.2))
+
+    rest_is : get_or (set ls l parts.1) l [] ≡ parts.1 ++ []
+    rest_is =
+        let l_lists : l < length ls = subst (λ (k : ℕ). l < k) (sym h.spells.as_many) hl in
+        get_or-set_same ls l parts.1 [] l_lists ∙ sym (append-nil parts.1)
+
+    at_end : node_at N (N + l) ≡ None
+    at_end = end-none N (N + l) (omega arith)
+
+    pub last_within : get_or (set prev q (N + l)) (N + l) 0 < M
+    last_within = within out l (get_or (set prev q (N + l)) (N + l) 0) hl (splits out l (N + l) parts.1 [] hl rest_is at_end (λ past. refl)).before_end
+
+    pub ring_rotated : SpellsRings L N M (set (set (set next (N + l) q) n (N + l)) (get_or (set prev q (N + l)) (N + l) 0) n) (set (set (set prev q (N + l)) n (get_or (set prev q (N + l)) (N + l) 0)) (N + l) n) place values (set ls l (rotated (get_or ls l [])))
+    ring_rotated =
+        let v = parts.0 in
+        let rest = parts.1 in
+        let last = get_or (set prev q (N + l)) (N + l) 0 in
+        let next' = set (set (set next (N + l) q) n (N + l)) last n in
+        let prev' = set (set (set prev q (N + l)) n last) (N + l) n in
+        let placed = first_placed h.spells l hl n at_first in
+        let n_place : n < length place = subst (λ (k : ℕ). n < k) (sym h.spells.place_length) below in
+        let put = ring_put out l n v (N + l) rest [] hl below (get_or-set_same place n None None n_place) rest_is at_end (λ past. refl) in
+        let places : set (set place n None) n (Some l) ≡ place = set-set place n None (Some l) ∙ ap (set place n) (sym placed) ∙ set-get_or place n None in
+        let same_values : set values n v ≡ values = ap (set values n) (sym (first_valued h.spells l hl n at_first)) ∙ set-get_or values n 0 in
+        let lists : set (set ls l rest) l (rest ++ (n, v) ∷ []) ≡ set ls l (rotated (get_or ls l [])) = set-set ls l rest (rest ++ (n, v) ∷ []) ∙ ap (λ (xs : List (ℕ × ℕ)). set ls l (rotated xs)) (sym parts.2) in
+        subst (λ (xs : List (List (ℕ × ℕ))). SpellsRings L N M next' prev' place values xs) lists
+        (subst (λ (xs : List (Option ℕ)). SpellsRings L N M next' prev' xs values (set (set ls l rest) l (rest ++ (n, v) ∷ []))) places
+        (subst (λ (xs : List ℕ). SpellsRings L N M next' prev' (set (set place n None) n (Some l)) xs (set (set ls l rest) l (rest ++ (n, v) ∷ []))) same_values put))
+
+  pub nobody_second : N ≤ get_or next n 0 → Stays ls l
+  nobody_second past = no_second_stays h.spells l hl n at_first (read_node N next n below (next_room h) ∙ end-none N (get_or next n 0) past)
+
+  pub somebody_second : get_or next n 0 < N → Some (get_or next n 0) ≡ second_of (get_or ls l [])
+  somebody_second q_below = sym (node-below N (get_or next n 0) q_below) ∙ sym (read_node N next n below (next_room h)) ∙ second_is h.spells l hl n at_first
+
+pub nobody_first : {L N M : ℕ} {next prev : List ℕ} {place : List (Option ℕ)} {values : List ℕ} {ls : List (List (ℕ × ℕ))} → SpellsRings L N M next prev place values ls → (l : ℕ) → l < L → N ≤ get_or next (N + l) 0 → Stays ls l
+nobody_first {L} {N} {M} {next} h l hl past =
+    let room : N + l < length next = subst (λ (k : ℕ). N + l < k) (sym h.next_length) (within h l (N + l) hl (λ past. refl)) in
+    no_first_stays h.spells l hl (read_end N l next room ∙ end-none N (get_or next (N + l) 0) past)

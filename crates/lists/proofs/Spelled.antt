@@ -7,7 +7,7 @@ use Rattle.std.specs.List.{position_or_len}
 use Rattle.std.specs.Prelude.{◌==◌, nat_lt}
 use Rattle.std.proofs.lemmas.List.Sums.{position_or_len_is}
 use Rattle.lists.specs.Lists.{Each, EachOnce, Apart, first_of, without, has_node, place_of, value_of, next_of, IsSound}
-use Rattle.lists.specs.Links.{walk, lists_of, at_link, put_link, put_end, Linked, IsStored, Spells, IsLinkedTable}
+use Rattle.lists.specs.Links.{walk, lists_of, at_link, put_link, put_end, Linked, IsStored, Spells}
 use Rattle.lists.proofs.Entries.{none-some, Each-left, Each-right, Each-append, Each-imp, distinct-left, distinct-right, distinct-in, distinct-out, few_entries, has_node-apart, has_node-not_apart, without-apart, without-split}
 use Rattle.lists.proofs.Links.{last_of, last-in, first-in, same_links, at_place, after_place, OnlyAt, linked_in, taken_out, put_same, put_other, put_elsewhere, put_node, put_link_length, put_end_length}
 
@@ -44,14 +44,6 @@ lists_of-Spells {L} {N} {next} {prev} {place} {values} {firsts} {lasts} {ls} h =
     get_or-map (walk next values N) firsts l None d within
     ∙ walk-linked next values (get_or firsts l None) (at_link prev (get_or lasts l None)) N None (get_or ls l []) (h.linked l known) few (Each-imp (IsStored N place values l) (λ e. get_or values e.0 0 ≡ e.1) (get_or ls l []) (λ e i. i.valued) (h.stored l known))
     ∙ get_or_default ls l [] d (omega (arith, as_many, known)))
-
--- the arrays are those of a table
-pub linked_table : {L N : ℕ} {next prev place : List (Option ℕ)} {values : List ℕ} {firsts lasts : List (Option ℕ)} {ls : List (List (ℕ × ℕ))} → L ≤ 4096 → N ≤ 4096 → Spells L N next prev place values firsts lasts ls → IsLinkedTable L N next prev place values firsts lasts
-linked_table {L} {N} {next} {prev} {place} {values} {firsts} {lasts} lists nodes h = record {
-  lists_fit = lists;
-  nodes_fit = nodes;
-  spells = subst (Spells L N next prev place values firsts lasts) (sym (lists_of-Spells h)) h;
-}
 
 -- the lists under another name
 pub seen : {L N : ℕ} {next prev place : List (Option ℕ)} {values : List ℕ} {firsts lasts : List (Option ℕ)} {ls : List (List (ℕ × ℕ))} {seen : List (List (ℕ × ℕ))} → Spells L N next prev place values firsts lasts ls → ls ≡ seen → Spells L N next prev place values firsts lasts seen
@@ -343,30 +335,29 @@ module _ {L N : ℕ} {next prev place : List (Option ℕ)} {values : List ℕ} {
   pub list_below : (n l : ℕ) → get_or place n None ≡ Some l → l < L
   list_below n l at_list = (h.listed n l at_list).0
 
-  -- the neighbours of a node in a list are nodes
-  pub around_below : (n l : ℕ) → get_or place n None ≡ Some l → ((m : ℕ) → get_or prev n None ≡ Some m → m < N) × ((m : ℕ) → get_or next n None ≡ Some m → m < N)
-  around_below n l at_list =
+  -- the neighbours of a node in a list are nodes of it
+  pub around_placed : (n l : ℕ) → get_or place n None ≡ Some l
+      → ((m : ℕ) → get_or prev n None ≡ Some m → (m < N) × (get_or place m None ≡ Some l)) × ((m : ℕ) → get_or next n None ≡ Some m → (m < N) × (get_or place m None ≡ Some l))
+  around_placed n l at_list =
       let m = h.listed n l at_list in
       let s = split_at n (get_or ls l []) m.1 in
       let nx : Option ℕ → Option ℕ = at_link next (get_or firsts l None) in
       let pv : Option ℕ → Option ℕ = at_link prev (get_or lasts l None) in
+      let P : ℕ → Type 0 = λ i. (i < N) × (get_or place i None ≡ Some l) in
       let linked : Linked nx pv None (s.0 ++ (n, s.1) ∷ s.2) = subst (Linked nx pv None) s.3 (h.linked l m.0) in
-      let nodes : Each (λ e. e.0 < N) (s.0 ++ (n, s.1) ∷ s.2) = subst (Each (λ e. e.0 < N)) s.3 (Each-imp (IsStored N place values l) (λ e. e.0 < N) (get_or ls l []) (λ e i. i.known) (h.stored l m.0)) in
+      let nodes : Each (λ e. P e.0) (s.0 ++ (n, s.1) ∷ s.2) = subst (Each (λ e. P e.0)) s.3 (placed_nodes l m.0) in
       let around = after_place nx pv None s.0 ((n, s.1) ∷ s.2) linked in (
-        λ k e. last-in (λ (i : ℕ). i < N) None s.0 k (λ i. absurd (none-some k i)) (Each-left (λ e. e.0 < N) s.0 ((n, s.1) ∷ s.2) nodes) (sym around.1 ∙ e),
-        λ k e. first-in (λ (i : ℕ). i < N) s.2 k (Each-right (λ e. e.0 < N) s.0 ((n, s.1) ∷ s.2) nodes).1 (sym (at_place nx pv (Some n) [] s.2 around.2).0 ∙ e),
+        λ k e. last-in P None s.0 k (λ i. absurd (none-some k i)) (Each-left (λ e. P e.0) s.0 ((n, s.1) ∷ s.2) nodes) (sym around.1 ∙ e),
+        λ k e. first-in P s.2 k (Each-right (λ e. P e.0) s.0 ((n, s.1) ∷ s.2) nodes).1 (sym (at_place nx pv (Some n) [] s.2 around.2).0 ∙ e),
       )
 
   -- so are those of a place in a list
-  pub place_below : (l : ℕ) (fs bs : List (ℕ × ℕ)) (q : Option ℕ) → l < L → get_or ls l [] ≡ fs ++ bs → q ≡ first_of bs → ((m : ℕ) → q ≡ Some m → m < N) × ((m : ℕ) → at_link prev (get_or lasts l None) q ≡ Some m → m < N)
-  place_below l fs bs q hl split hq =
-      let nx : Option ℕ → Option ℕ = at_link next (get_or firsts l None) in
-      let pv : Option ℕ → Option ℕ = at_link prev (get_or lasts l None) in
-      let linked : Linked nx pv None (fs ++ bs) = subst (Linked nx pv None) split (h.linked l hl) in
-      let nodes : Each (λ e. e.0 < N) (fs ++ bs) = subst (Each (λ e. e.0 < N)) split (Each-imp (IsStored N place values l) (λ e. e.0 < N) (get_or ls l []) (λ e i. i.known) (h.stored l hl)) in (
-        λ k e. first-in (λ (i : ℕ). i < N) bs k (Each-right (λ e. e.0 < N) fs bs nodes) (sym hq ∙ e),
-        λ k e. last-in (λ (i : ℕ). i < N) None fs k (λ i. absurd (none-some k i)) (Each-left (λ e. e.0 < N) fs bs nodes) (sym (at_place nx pv None fs bs linked).1 ∙ ap pv (sym hq) ∙ e),
-      )
+  pub place_placed : (l : ℕ) (fs bs : List (ℕ × ℕ)) (q : Option ℕ) → l < L → get_or ls l [] ≡ fs ++ bs → q ≡ first_of bs
+      → (m : ℕ) → q ≡ Some m → (m < N) × (get_or place m None ≡ Some l)
+  place_placed l fs bs q hl split hq =
+      let P : ℕ → Type 0 = λ i. (i < N) × (get_or place i None ≡ Some l) in
+      let nodes : Each (λ e. P e.0) (fs ++ bs) = subst (Each (λ e. P e.0)) split (placed_nodes l hl) in
+      λ k e. first-in P bs k (Each-right (λ e. P e.0) fs bs nodes) (sym hq ∙ e)
 
   -- a list's first node
   pub first_is : (l : ℕ) → l < L → get_or firsts l None ≡ first_of (get_or ls l [])
@@ -458,30 +449,30 @@ module _ {L N : ℕ} {next prev place : List (Option ℕ)} {values : List ℕ} {
         few = λ l. few_entries N (get_or ls l []) (nodes l) (distinct l);
       }
 
-get_or-replicate : {X : Type 0} (n i : ℕ) (x : X) → get_or (replicate n x) i x ≡ x
+pub get_or-replicate : {X : Type 0} (n i : ℕ) (x : X) → get_or (replicate n x) i x ≡ x
 get_or-replicate zero i x = refl
 get_or-replicate (suc n) zero x = refl
 get_or-replicate (suc n) (suc i) x = get_or-replicate n i x
 
-length-blank : {X : Type 0} (n : ℕ) (x : X) → length (replicate n x) ≡ n
+pub length-blank : {X : Type 0} (n : ℕ) (x : X) → length (replicate n x) ≡ n
 length-blank zero x = refl
 length-blank (suc n) x = ap suc (length-blank n x)
 
--- the arrays of a new table
-pub spells_empty : (L N : ℕ) → Spells L N (replicate N None) (replicate N None) (replicate N None) (replicate N 0) (replicate L None) (replicate L None) (replicate L [])
-spells_empty L N =
-    let none : (i : ℕ) → get_or (replicate L (let o : Option ℕ = None in o)) i None ≡ None = λ i. get_or-replicate L i None in
+-- the arrays of a new table, in which no end leads to a node
+pub spells_empty : (L N : ℕ) (next prev firsts lasts : List (Option ℕ)) → length next ≡ N → length prev ≡ N → length firsts ≡ L → length lasts ≡ L
+    → ((l : ℕ) → l < L → get_or firsts l None ≡ None) → ((l : ℕ) → l < L → get_or lasts l None ≡ None)
+    → Spells L N next prev (replicate N None) (replicate N 0) firsts lasts (replicate L [])
+spells_empty L N next prev firsts lasts next_length prev_length firsts_length lasts_length no_first no_last =
     let nil : (i : ℕ) → get_or (replicate L (let xs : List (ℕ × ℕ) = [] in xs)) i [] ≡ [] = λ i. get_or-replicate L i [] in
-    let links : Option ℕ → Option ℕ → Option ℕ = at_link (replicate N None) in
     record {
-      next_length = length-blank N None;
-      prev_length = length-blank N None;
+      next_length = next_length;
+      prev_length = prev_length;
       place_length = length-blank N None;
       values_length = length-blank N 0;
-      firsts_length = length-blank L None;
-      lasts_length = length-blank L None;
+      firsts_length = firsts_length;
+      lasts_length = lasts_length;
       as_many = length-blank L [];
-      linked = λ l hl. subst (Linked (links (get_or (replicate L None) l None)) (links (get_or (replicate L None) l None)) None) (sym (nil l)) (none l, none l);
+      linked = λ l hl. subst (Linked (at_link next (get_or firsts l None)) (at_link prev (get_or lasts l None)) None) (sym (nil l)) (no_first l hl, no_last l hl);
       stored = λ l hl. subst (Each (IsStored N (replicate N None) (replicate N 0) l)) (sym (nil l)) tt;
       distinct = λ l hl. subst EachOnce (sym (nil l)) tt;
       listed = λ n l at_list. absurd (none-some l (sym (get_or-replicate N n None) ∙ at_list));

@@ -1,5 +1,5 @@
 -- How the arrays of a table spell its lists.
-use Rattle.std.specs.Prelude.{◌≡◌, ℕ, zero, suc, ◌<◌, ◌≤◌, nat_lt, ◌==◌, if◌then◌else◌, Option, Some, None, List, [], ◌∷◌, ◌++◌, get_or, set, length, map}
+use Rattle.std.specs.Prelude.{◌≡◌, ◌⊎◌, ℕ, zero, suc, ◌+◌, ◌<◌, ◌≤◌, nat_lt, ◌==◌, if◌then◌else◌, Option, Some, None, List, [], ◌∷◌, ◌++◌, get_or, set, length, map, take, drop}
 use Rattle.lists.specs.Lists.{Each, Apart, EachOnce, first_of}
 
 -- where the number in a link leads: 65535 leads nowhere
@@ -61,11 +61,39 @@ pub record Spells (L N : ℕ) (next prev place : List (Option ℕ)) (values : Li
   pub distinct : (l : ℕ) → l < L → EachOnce (get_or ls l [])
   pub listed : (n l : ℕ) → get_or place n None ≡ Some l → (l < L) × (Apart (Some n) (get_or ls l []) → ⊥)
 
--- the arrays of a table of L lists and N nodes
-pub record IsLinkedTable (L N : ℕ) (next prev place : List (Option ℕ)) (values : List ℕ) (firsts lasts : List (Option ℕ)) : Type 0 where
+-- the node at a link of a table of N nodes: from N on, a link leads to the end of a list
+abbrev pub node_at : ℕ → ℕ → Option ℕ
+node_at N link = if nat_lt link N then Some link else None
+
+-- the links of the nodes, and those of the lists' ends, which come after them
+unfoldable pub links_of : ℕ → List ℕ → List (Option ℕ)
+links_of N links = map (node_at N) (take N links)
+
+unfoldable pub ends_of : ℕ → List ℕ → List (Option ℕ)
+ends_of N links = map (node_at N) (drop N links)
+
+-- a node of list l, or its end
+abbrev pub IsIn : ℕ → List (Option ℕ) → ℕ → ℕ → Type 0
+IsIn N place l at = ((at < N) × (get_or place at None ≡ Some l)) ⊎ (at ≡ N + l)
+
+-- from a node of a list, or from its end, a link that leads to an end leads to that of this list
+abbrev pub StaysIn : ℕ → ℕ → List (Option ℕ) → List ℕ → Type 0
+StaysIn L N place links = (at l : ℕ) → l < L → IsIn N place l at → N ≤ get_or links at 0 → get_or links at 0 ≡ N + l
+
+-- the arrays of a table of L lists, which are rings, and N nodes spell these lists
+pub record SpellsRings (L N M : ℕ) (next prev : List ℕ) (place : List (Option ℕ)) (values : List ℕ) (ls : List (List (ℕ × ℕ))) : Type 0 where
+  pub as_many : M ≡ N + L
+  pub next_length : length next ≡ M
+  pub prev_length : length prev ≡ M
+  pub spells : Spells L N (links_of N next) (links_of N prev) place values (ends_of N next) (ends_of N prev) ls
+  pub forth : StaysIn L N place next
+  pub back : StaysIn L N place prev
+
+-- the arrays of a table of L lists, which are rings, and N nodes
+pub record IsRingTable (L N M : ℕ) (next prev : List ℕ) (place : List (Option ℕ)) (values : List ℕ) : Type 0 where
   pub lists_fit : L ≤ 4096
   pub nodes_fit : N ≤ 4096
-  pub spells : Spells L N next prev place values firsts lasts (lists_of N next values firsts)
+  pub rings : SpellsRings L N M next prev place values (lists_of N (links_of N next) values (ends_of N next))
 
 -- the entries from the first of a greater value on
 abbrev pub upper : ℕ → List (ℕ × ℕ) → List (ℕ × ℕ)

@@ -1,10 +1,10 @@
-//! Links, which lead from node to node.
+//! Where a node is: in which list, or in none.
 ghost use Rattle.std.specs.Prelude.{◌≡◌, ◌<◌, Some, None, not};
 ghost use Rattle.std.specs.Option.{is_some};
 
 use std::marker::Model;
 
-/// The number of a node or of a list, 0 to 65534, or none. It takes two bytes, where an `Option<u16>` takes four.
+/// The number of a list, 0 to 65534, or none. It takes two bytes, where an `Option<u16>` takes four.
 #[derive(Clone, Copy)]
 pub(crate) struct Link {
     // 65535 where there is none.

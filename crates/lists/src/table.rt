@@ -1,7 +1,7 @@
 //! The table: its lists, and their links.
-ghost use Rattle.std.specs.Prelude.{◌≡◌, ℕ, ◌+◌, ◌<◌, ◌≤◌, ◌↔◌, List, [], ◌∷◌, ◌++◌, length, replicate, slice_set, slice_index_or, map, option_map, IsTrue, IsNone};
+ghost use Rattle.std.specs.Prelude.{◌≡◌, ◌≢◌, Some, ℕ, ◌+◌, ◌<◌, ◌≤◌, ◌↔◌, List, [], ◌∷◌, ◌++◌, get_or, length, replicate, slice_set, slice_index_or, map, option_map, IsTrue, IsNone};
 ghost use Rattle.std.specs.Option.{ForSome};
-ghost use Rattle.lists.specs.Links.{lists_of, IsLinkedTable, SplitsBefore, at_link, put_link, put_end, upper};
+ghost use Rattle.lists.specs.Links.{lists_of, links_of, ends_of, node_at, IsRingTable, SplitsBefore, upper};
 ghost use Rattle.lists.specs.Lists.{entries_of, first_of, has_node, insert_sorted, next_of, place_of, rotated, second_of, value_of, without, IsSorted, IsSound};
 
 use crate::ids::{ListId, NodeId};
@@ -13,58 +13,50 @@ use std::marker::Model;
 ///
 /// These are the lists of FreeRTOS's kernel, whose `vListInsert` puts an entry behind those of the same value too. That
 /// the nodes stand in one table of a fixed size is profile.
+///
+/// Each list is a ring, which its end closes: there the link forth is to the first node, and the link back to the last, as
+/// at `xListEnd`. So no node goes in or out in a way of its own. A link is the number of a node, or `N` more than that of the
+/// list whose end it leads to, and `M`, which is `N + L`, counts the links of a direction.
 #[derive(Drop)]
-pub struct Table<const L: usize, const N: usize> {
-    next: [Link; N],
-    prev: [Link; N],
+pub struct Table<const L: usize, const N: usize, const M: usize> {
+    next: [u16; M],
+    prev: [u16; M],
     place: [Link; N],
     values: [u32; N],
-    firsts: [Link; L],
-    lasts: [Link; L],
 }
 
 // Clauses see for each list its entries in order, each a node and its value.
-impl<const L: usize, const N: usize> Model for Table<L, N> {
+impl<const L: usize, const N: usize, const M: usize> Model for Table<L, N, M> {
     ghost Value = { List (List (ℕ × ℕ)) };
 
-    ghost view = { λ t. lists_of N t.next t.values t.firsts };
+    ghost view = { λ t. lists_of N (links_of N t.next) t.values (ends_of N t.next) };
 
-    ghost invariant = { λ t. IsLinkedTable L N t.next t.prev t.place t.values t.firsts t.lasts };
+    ghost invariant = { λ t. IsRingTable L N M t.next t.prev t.place t.values };
 }
 
-/// Reads a link of a list: that of a node, or that of the list's end.
-fn link_at(ends: &[Link], links: &[Link], list: ListId, at: Link) -> Link
-    requires list { list.number < length ends.now }
-    requires at { ForSome at (λ node. node < length links.now) }
-    ensures link { result ≡ at_link links.now (slice_index_or ends.now list.number None) at }
+/// Links of which each leads to itself: a list's end does, where the list is empty.
+fn closed<const M: usize>() -> [u16; M]
+    requires { M ≤ 8192 }
+    ensures length { length result ≡ M }
+    ensures closed { (at : ℕ) → at < M → get_or result at 0 ≡ at }
 {
-    match at.number() {
-        None => ends[list.number as usize],
-        Some(node) => links[node as usize],
+    let mut links = [0; M];
+    for at in 0..M {
+        links[at] = at as u16;
     }
+    links
 }
 
-/// Writes a link of a list: that of a node, or that of the list's end.
-fn set_link(ends: &mut [Link], links: &mut [Link], list: ListId, at: Link, to: Link)
-    requires list { list.number < length ends.old }
-    requires at { ForSome at (λ node. node < length links.old) }
-    ensures ends { ends.new ≡ put_end ends.old list.number at to }
-    ensures links { links.new ≡ put_link links.old at to }
+/// The node at a link of a table of `N` nodes; `None` at the end of a list.
+#[inline(always)]
+fn node_at<const N: usize>(link: u16) -> Option<NodeId>
+    requires { N ≤ 4096 }
+    ensures { option_map (λ node. node.number) result ≡ node_at N link }
 {
-    match at.number() {
-        None => ends[list.number as usize] = to,
-        Some(node) => links[node as usize] = to,
-    }
-}
-
-/// The node that a link leads to.
-fn node_of(link: Link) -> Option<NodeId>
-    requires { ForSome link (λ node. node < 4096) }
-    ensures node { option_map (λ node. node.number) result ≡ link }
-{
-    match link.number() {
-        None => None,
-        Some(number) => Some(NodeId { number }),
+    if (link as usize) < N {
+        Some(NodeId { number: link })
+    } else {
+        None
     }
 }
 
@@ -79,22 +71,31 @@ fn list_of(place: Link) -> Option<ListId>
     }
 }
 
-impl<const L: usize, const N: usize> Table<L, N> {
-    /// `L` empty lists over `N` nodes, none of which is in a list. Each of the two counts is 4096 at most.
+impl<const L: usize, const N: usize, const M: usize> Table<L, N, M> {
+    /// `L` empty lists over `N` nodes, none of which is in a list. Each of the two counts is 4096 at most, and `M` is their sum.
     pub fn new() -> Self
         requires lists { L ≤ 4096 }
         requires nodes { N ≤ 4096 }
+        requires links { M ≡ N + L }
         ensures empty { result ≡ replicate L [] }
         ensures sound { IsSound L N result }
     {
+        let links = closed();
         Table {
-            next: [Link::none(); N],
-            prev: [Link::none(); N],
+            next: links,
+            prev: links,
             place: [Link::none(); N],
             values: [0; N],
-            firsts: [Link::none(); L],
-            lasts: [Link::none(); L],
         }
+    }
+
+    /// The end of a list, which stands before its first node and after its last.
+    #[inline(always)]
+    fn end(&self, list: ListId) -> usize
+        requires { list.number < L }
+        ensures { result ≡ N + list.number }
+    {
+        N + list.number as usize
     }
 
     /// Becomes a copy of the other, in place. It takes no memory.
@@ -105,8 +106,6 @@ impl<const L: usize, const N: usize> Table<L, N> {
         self.prev = other.prev;
         self.place = other.place;
         self.values = other.values;
-        self.firsts = other.firsts;
-        self.lasts = other.lasts;
     }
 
     /// The first node of a list below `L`; `None` where the list is empty.
@@ -116,7 +115,31 @@ impl<const L: usize, const N: usize> Table<L, N> {
             ≡ first_of (entries_of self.now list.number) }
         ensures sound { IsSound L N self.now }
     {
-        node_of(self.firsts[list.number as usize])
+        node_at::<N>(self.next[self.end(list)])
+    }
+
+    /// Whether a node below `N` is the first of a list below `L`.
+    pub fn is_first(&self, list: ListId, node: NodeId) -> bool
+        requires list { list.number < L }
+        requires node { node.number < N }
+        ensures first { IsTrue result
+            ↔ (first_of (entries_of self.now list.number) ≡ Some node.number) }
+        ensures sound { IsSound L N self.now }
+    {
+        self.next[self.end(list)] == node.number
+    }
+
+    /// The first node of a list below `L` that isn't empty.
+    pub fn front(&self, list: ListId) -> NodeId
+        requires list { list.number < L }
+        requires some { entries_of self.now list.number ≢ [] }
+        ensures first { Some result.number ≡ first_of (entries_of self.now list.number) }
+        ensures known { result.number < N }
+        ensures sound { IsSound L N self.now }
+    {
+        NodeId {
+            number: self.next[self.end(list)],
+        }
     }
 
     /// Whether a list below `L` has no node.
@@ -124,7 +147,7 @@ impl<const L: usize, const N: usize> Table<L, N> {
         requires { list.number < L }
         ensures empty { IsTrue result ↔ (entries_of self.now list.number ≡ []) }
     {
-        self.firsts[list.number as usize].is_none()
+        self.first(list).is_none()
     }
 
     /// The list that a node below `N` is in; `None` where it is in no list.
@@ -159,7 +182,7 @@ impl<const L: usize, const N: usize> Table<L, N> {
         ensures sound { IsSound L N self.now }
     {
         if self.place[node.number as usize].is_some() {
-            node_of(self.next[node.number as usize])
+            node_at::<N>(self.next[node.number as usize])
         } else {
             None
         }
@@ -171,11 +194,11 @@ impl<const L: usize, const N: usize> Table<L, N> {
         ensures removed { self.new ≡ map (without node.number) self.old }
         ensures sound { IsSound L N self.new }
     {
-        if let Some(list) = list_of(self.place[node.number as usize]) {
+        if self.place[node.number as usize].is_some() {
             let before = self.prev[node.number as usize];
             let after = self.next[node.number as usize];
-            set_link(&mut self.firsts, &mut self.next, list, before, after);
-            set_link(&mut self.lasts, &mut self.prev, list, after, before);
+            self.next[before as usize] = after;
+            self.prev[after as usize] = before;
             self.place[node.number as usize] = Link::none();
         }
     }
@@ -191,21 +214,19 @@ impl<const L: usize, const N: usize> Table<L, N> {
         ensures known { ForSome (option_map (λ node. node.number) result) (λ node. node < N) }
         ensures sound { IsSound L N self.new }
     {
-        let list = list.number as usize;
-        let to_first = self.firsts[list];
-        if let Some(first) = to_first.number() {
-            let to_second = self.next[first as usize];
-            if let Some(second) = to_second.number() {
-                let to_last = self.lasts[list];
-                if let Some(last) = to_last.number() {
-                    self.firsts[list] = to_second;
-                    self.prev[second as usize] = Link::none();
-                    self.next[first as usize] = Link::none();
-                    self.prev[first as usize] = to_last;
-                    self.next[last as usize] = to_first;
-                    self.lasts[list] = to_first;
-                    return Some(NodeId { number: second });
-                }
+        let end = self.end(list);
+        let first = self.next[end];
+        if (first as usize) < N {
+            let second = self.next[first as usize];
+            if (second as usize) < N {
+                self.next[end] = second;
+                self.prev[second as usize] = end as u16;
+                let last = self.prev[end];
+                self.next[first as usize] = end as u16;
+                self.prev[first as usize] = last;
+                self.next[last as usize] = first;
+                self.prev[end] = first;
+                return Some(NodeId { number: second });
             }
         }
         None
@@ -221,7 +242,7 @@ impl<const L: usize, const N: usize> Table<L, N> {
             (entries_of self.old list.number ++ (node.number, value) ∷ []) }
         ensures sound { IsSound L N self.new }
     {
-        self.put_before(list, Link::none(), node, value);
+        self.put_before(list, self.end(list), node, value);
     }
 
     /// Puts a node below `N`, which is in no list (`place` tells), into a list below `L`, with a value of 0 to
@@ -255,58 +276,62 @@ impl<const L: usize, const N: usize> Table<L, N> {
         self.put_before(list, after, node, value);
     }
 
-    /// Puts a node into a list before another, or last.
-    fn put_before(&mut self, list: ListId, after: Link, node: NodeId, value: u32)
+    /// Puts a node into a list before another, or last: `after` is the other, or the end of the list.
+    #[inline(always)]
+    fn put_before(&mut self, list: ListId, after: usize, node: NodeId, value: u32)
         requires list { list.number < L }
         requires node { node.number < N }
         requires free { place_of self.old node.number ≡ None }
-        requires split { SplitsBefore (entries_of self.old list.number) after }
+        requires split { SplitsBefore (entries_of self.old list.number) (node_at N after) }
+        requires end { N ≤ after → after ≡ N + list.number }
         // Wherever `after` splits the list, the node stands in between.
         ensures put { (before rest : List (ℕ × ℕ))
-            → entries_of self.old list.number ≡ before ++ rest → after ≡ first_of rest
+            → entries_of self.old list.number ≡ before ++ rest → node_at N after ≡ first_of rest
             → self.new
             ≡ slice_set self.old list.number (before ++ (node.number, value) ∷ rest) }
         ensures sound { IsSound L N self.new }
     {
-        let before = link_at(&self.lasts, &self.prev, list, after);
-        self.next[node.number as usize] = after;
+        let before = self.prev[after];
+        self.next[node.number as usize] = after as u16;
         self.prev[node.number as usize] = before;
         self.place[node.number as usize] = Link::to(list.number);
         self.values[node.number as usize] = value;
-        let linked = Link::to(node.number);
-        set_link(&mut self.firsts, &mut self.next, list, before, linked);
-        set_link(&mut self.lasts, &mut self.prev, list, after, linked);
+        self.next[before as usize] = node.number;
+        self.prev[after] = node.number;
     }
 
-    /// The first node of a list whose value is greater.
-    fn first_greater(&self, list: ListId, value: u32) -> Link
+    /// The first node of a list whose value is greater, or the end of the list.
+    fn first_greater(&self, list: ListId, value: u32) -> usize
         requires { list.number < L }
-        ensures found { result ≡ first_of (upper value (entries_of self.now list.number)) }
+        ensures found { node_at N result ≡ first_of (upper value (entries_of self.now list.number)) }
+        ensures end { N ≤ result → result ≡ N + list.number }
     {
-        let mut at = self.firsts[list.number as usize];
-        while let Some(node) = at.number() {
-            if value < self.values[node as usize] {
+        let end = self.end(list);
+        let mut at = self.next[end] as usize;
+        while at < N {
+            if value < self.values[at] {
                 return at;
             }
-            at = self.next[node as usize];
+            at = self.next[at] as usize;
         }
-        at
+        end
     }
 
     /// The same of a list in which no value is smaller than one before it, found from its last node.
-    fn first_greater_from_back(&self, list: ListId, value: u32) -> Link
+    fn first_greater_from_back(&self, list: ListId, value: u32) -> usize
         requires list { list.number < L }
         requires sorted { IsSorted (entries_of self.now list.number) }
-        ensures found { result ≡ first_of (upper value (entries_of self.now list.number)) }
+        ensures found { node_at N result ≡ first_of (upper value (entries_of self.now list.number)) }
+        ensures end { N ≤ result → result ≡ N + list.number }
     {
-        let mut after = Link::none();
-        let mut at = self.lasts[list.number as usize];
-        while let Some(node) = at.number() {
-            if self.values[node as usize] <= value {
+        let mut after = self.end(list);
+        let mut at = self.prev[after] as usize;
+        while at < N {
+            if self.values[at] <= value {
                 return after;
             }
             after = at;
-            at = self.prev[node as usize];
+            at = self.prev[at] as usize;
         }
         after
     }

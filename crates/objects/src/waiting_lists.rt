@@ -37,7 +37,7 @@ pub struct Unlocked {
 /// `vListInsert` puts the highest priority first.
 #[derive(Drop)]
 pub(crate) struct WaitingLists {
-    lists: TaskLists<64>,
+    lists: TaskLists<64, 96>,
 }
 
 // Clauses see for each list its tasks in order, each with its priority.

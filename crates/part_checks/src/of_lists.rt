@@ -7,7 +7,7 @@ use std::process::Abort;
 const LIST: ListId = ListId { number: 0 };
 
 /// Puts a node that is in no list into the list, in order of values.
-fn put(rt: &impl Abort, table: &mut Table<2, 8>, node: NodeId, value: u32)
+fn put(rt: &impl Abort, table: &mut Table<2, 8, 10>, node: NodeId, value: u32)
     requires { node.number < 8 }
 {
     assert!(rt; table.place(node).is_none(), "node {} is free", node.number);
@@ -15,7 +15,7 @@ fn put(rt: &impl Abort, table: &mut Table<2, 8>, node: NodeId, value: u32)
 }
 
 /// Puts a node that is in no list behind all others of the list.
-fn put_last(rt: &impl Abort, table: &mut Table<2, 8>, node: NodeId)
+fn put_last(rt: &impl Abort, table: &mut Table<2, 8, 10>, node: NodeId)
     requires { node.number < 8 }
 {
     assert!(rt; table.place(node).is_none(), "node {} is free", node.number);
@@ -23,7 +23,7 @@ fn put_last(rt: &impl Abort, table: &mut Table<2, 8>, node: NodeId)
 }
 
 /// Compares the nodes of the list, from the first to the last.
-fn has_nodes(rt: &impl Abort, table: &Table<2, 8>, expected: &[u16]) {
+fn has_nodes(rt: &impl Abort, table: &Table<2, 8, 10>, expected: &[u16]) {
     let mut found = table.first(LIST);
     for number in expected {
         assert!(rt; found == NodeId::new(*number), "of {expected:?}");
@@ -33,7 +33,7 @@ fn has_nodes(rt: &impl Abort, table: &Table<2, 8>, expected: &[u16]) {
 }
 
 /// The node behind this one in its list.
-fn after(table: &Table<2, 8>, node: Option<NodeId>) -> Option<NodeId> {
+fn after(table: &Table<2, 8, 10>, node: Option<NodeId>) -> Option<NodeId> {
     let node = node?;
     if node.number < 8 {
         table.next(node)
@@ -43,7 +43,7 @@ fn after(table: &Table<2, 8>, node: Option<NodeId>) -> Option<NodeId> {
 }
 
 /// Puts the first node last, and compares the nodes then. The answer is the one that is first then, where there are two.
-fn rotate(rt: &impl Abort, table: &mut Table<2, 8>, expected: &[u16]) {
+fn rotate(rt: &impl Abort, table: &mut Table<2, 8, 10>, expected: &[u16]) {
     let first = table.rotate(LIST);
     if expected.len() < 2 {
         assert!(rt; first.is_none(), "no turn of {expected:?}");
@@ -55,7 +55,7 @@ fn rotate(rt: &impl Abort, table: &mut Table<2, 8>, expected: &[u16]) {
 
 #[test]
 fn equals_stand_in_the_order_in_which_they_came(rt: HostRuntime) {
-    let mut table: Table<2, 8> = Table::new();
+    let mut table: Table<2, 8, 10> = Table::new();
     put(&rt, &mut table, NodeId { number: 3 }, 20);
     put(&rt, &mut table, NodeId { number: 5 }, 10);
     put(&rt, &mut table, NodeId { number: 2 }, 20);
@@ -69,7 +69,7 @@ fn equals_stand_in_the_order_in_which_they_came(rt: HostRuntime) {
 
 #[test]
 fn a_node_goes_last(rt: HostRuntime) {
-    let mut table: Table<2, 8> = Table::new();
+    let mut table: Table<2, 8, 10> = Table::new();
     put(&rt, &mut table, NodeId { number: 1 }, 9);
     put_last(&rt, &mut table, NodeId { number: 4 });
     has_nodes(&rt, &table, &[1, 4]);
@@ -78,7 +78,7 @@ fn a_node_goes_last(rt: HostRuntime) {
 
 #[test]
 fn the_first_goes_last(rt: HostRuntime) {
-    let mut table: Table<2, 8> = Table::new();
+    let mut table: Table<2, 8, 10> = Table::new();
     rotate(&rt, &mut table, &[]);
     put(&rt, &mut table, NodeId { number: 6 }, 10);
     rotate(&rt, &mut table, &[6]);
@@ -86,4 +86,16 @@ fn the_first_goes_last(rt: HostRuntime) {
     put(&rt, &mut table, NodeId { number: 5 }, 30);
     rotate(&rt, &mut table, &[3, 5, 6]);
     assert!(rt; table.value(NodeId { number: 6 }) == 10);
+}
+
+#[test]
+fn the_first_of_a_list_is_told_from_the_others(rt: HostRuntime) {
+    let mut table: Table<2, 8, 10> = Table::new();
+    put(&rt, &mut table, NodeId { number: 3 }, 20);
+    put(&rt, &mut table, NodeId { number: 5 }, 10);
+    assert!(rt; table.is_first(LIST, NodeId { number: 5 }));
+    assert!(rt; !table.is_first(LIST, NodeId { number: 3 }));
+    table.remove(NodeId { number: 5 });
+    assert!(rt; table.is_first(LIST, NodeId { number: 3 }));
+    assert!(rt; !table.is_first(LIST, NodeId { number: 5 }));
 }

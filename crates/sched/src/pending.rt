@@ -10,7 +10,7 @@ use task_lists::TaskLists;
 /// The tasks that were woken while the scheduler was held, the first woken first: FreeRTOS's `xPendingReadyList`.
 #[derive(Drop)]
 pub(crate) struct PendingReadyList {
-    lists: TaskLists<1>,
+    lists: TaskLists<1, 33>,
 }
 
 // Clauses see the tasks in order.

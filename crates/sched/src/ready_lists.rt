@@ -14,7 +14,7 @@ use task_lists::TaskLists;
 /// empty.
 #[derive(Drop)]
 pub(crate) struct ReadyLists {
-    lists: TaskLists<32>,
+    lists: TaskLists<32, 64>,
     occupied: u32,
 }
 

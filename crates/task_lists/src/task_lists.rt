@@ -1,5 +1,5 @@
 //! Lists of tasks, by their typed numbers.
-ghost use Rattle.std.specs.Prelude.{◌≡◌, ℕ, ◌<◌, ◌≤◌, ◌↔◌, List, [], ◌∷◌, ◌++◌, replicate, slice_set, map, option_map, IsTrue, IsNone};
+ghost use Rattle.std.specs.Prelude.{◌≡◌, ◌≢◌, Some, ℕ, ◌+◌, ◌<◌, ◌≤◌, ◌↔◌, List, [], ◌∷◌, ◌++◌, replicate, slice_set, map, option_map, IsTrue, IsNone};
 ghost use Rattle.std.specs.Option.{ForSome, is_some};
 ghost use Rattle.lists.specs.Lists.{entries_of, first_of, has_node, insert_sorted, next_of, place_of, rotated, second_of, value_of, without, IsSorted, IsSound};
 
@@ -8,16 +8,16 @@ use model::TaskId;
 use std::marker::Model;
 
 /// `L` lists of tasks, where `L` is 4096 at most. A task is in one list at most, and there once, with a value. In every
-/// call the list is one below `L`.
+/// call the list is one below `L`. `M` is 32 more than `L`: so many links the table has.
 ///
 /// These are the lists of FreeRTOS's kernel, whose entries are of a task and `xItemValue`.
 #[derive(Drop)]
-pub struct TaskLists<const L: usize> {
-    table: Table<L, 32>,
+pub struct TaskLists<const L: usize, const M: usize> {
+    table: Table<L, 32, M>,
 }
 
 // Clauses see for each list its tasks in order, each with its value.
-impl<const L: usize> Model for TaskLists<L> {
+impl<const L: usize, const M: usize> Model for TaskLists<L, M> {
     ghost use Rattle.std.specs.Prelude.{ℕ, List};
 
     ghost Value = { List (List (ℕ × ℕ)) };
@@ -50,11 +50,12 @@ fn task_of(node: Option<NodeId>) -> Option<TaskId>
     }
 }
 
-impl<const L: usize> TaskLists<L> {
-    /// `L` empty lists, where `L` is 4096 at most.
+impl<const L: usize, const M: usize> TaskLists<L, M> {
+    /// `L` empty lists, where `L` is 4096 at most, and `M` is 32 more.
     #[inline]
     pub fn new() -> Self
         requires lists { L ≤ 4096 }
+        requires links { M ≡ 32 + L }
         ensures empty { result ≡ replicate L [] }
         ensures sound { IsSound L 32 result }
     {
@@ -79,6 +80,29 @@ impl<const L: usize> TaskLists<L> {
         ensures sound { IsSound L 32 self.now }
     {
         task_of(self.table.first(list))
+    }
+
+    /// Whether a task is the first of a list.
+    #[inline]
+    pub fn is_first(&self, list: ListId, task: TaskId) -> bool
+        requires { list.number < L }
+        ensures first { IsTrue result ↔ (first_of (entries_of self.now list.number) ≡ Some task) }
+        ensures sound { IsSound L 32 self.now }
+    {
+        self.table.is_first(list, node_of(task))
+    }
+
+    /// The first task of a list that isn't empty.
+    #[inline]
+    pub fn front(&self, list: ListId) -> TaskId
+        requires list { list.number < L }
+        requires some { entries_of self.now list.number ≢ [] }
+        ensures first { Some result ≡ first_of (entries_of self.now list.number) }
+        ensures sound { IsSound L 32 self.now }
+    {
+        TaskId {
+            number: self.table.front(list).number as u8,
+        }
     }
 
     /// The task after this one in its list; `None` after the last, and for a task in no list.

@@ -1,43 +1,36 @@
-use Rattle.std.proofs.Common.{ℕ, List, sym, ◌∙◌, ap, arith}
+use Rattle.std.proofs.Common.{◌+◌, ◌<◌, ℕ, List, Option, [], get_or, length, refl, ◌∙◌, ap, subst, arith}
 use Rattle.lists.specs.Lists.{entries_of, first_of}
-use Rattle.lists.specs.Links.{upper}
-use Rattle.lists.proofs.Links.{read_link}
-use Rattle.lists.proofs.Search.{shows}
+use Rattle.lists.specs.Links.{ends_of, links_of, lists_of, node_at, upper, walk}
+use Rattle.lists.proofs.Rings.{next_room, node-below, read_node, ring_first}
+use Rattle.lists.proofs.Search.{Search, shows}
 use Rattle.lists.proofs.table.Table.first_greater.Goals as goal
 
-pub bounds-self-inside-node : goal.bounds-self-inside-node
-bounds-self-inside-node g c =
-    let lengths = c.self.invariant.spells.values_length in
-    let at = shows c.self.invariant.spells c.args.list.number c.requires c.args.value c.in-Some.node c.loop-node.at c.loop-node.invariant (sym c.number.ensures.number ∙ c.in-Some.is) in
-    omega (arith, lengths, at.known)
+pub loop-at-init : goal.loop-at-init
+loop-at-init g c =
+    let h = c.self.invariant.rings in
+    let entries = entries_of (lists_of g.row.N (links_of g.row.N c.self.inside.next) c.self.inside.values (ends_of g.row.N c.self.inside.next)) c.args.list.number in
+    let start : Search c.args.value entries (node_at g.row.N (get_or c.self.inside.next (g.row.N + c.args.list.number) 0)) =
+    record { before = []; rest = entries; whole = refl; here = ring_first h c.args.list.number c.requires; same = refl } in
+    rw c.end-end.ensures start
 
-pub bounds-self-inside-node-in-Some : goal.bounds-self-inside-node-in-Some
-bounds-self-inside-node-in-Some g c =
-    let lengths = c.self.invariant.spells.next_length in
-    let at = shows c.self.invariant.spells c.args.list.number c.requires c.args.value c.in-Some.node c.loop-node.at c.loop-node.invariant (sym c.number.ensures.number ∙ c.in-Some.is) in
-    omega (arith, lengths, at.known)
+pub returns-then-value-self-clause-found : goal.returns-then-value-self-clause-found
+returns-then-value-self-clause-found g c =
+    let is = node-below g.row.N c.loop-at.at c.loop-at-test.true in
+    let at = shows c.self.invariant.rings.spells c.args.list.number c.requires c.args.value c.loop-at.at (node_at g.row.N c.loop-at.at) c.loop-at.invariant is in
+    at.greater (omega arith)
+    ∙ ap (λ (xs : List (List (ℕ × ℕ))). first_of (upper c.args.value (entries_of xs c.args.list.number))) c.self.view_is
 
-pub returns-then-value-self : goal.returns-then-value-self
-returns-then-value-self g c =
-    let at = shows c.self.invariant.spells c.args.list.number c.requires c.args.value c.in-Some.node c.loop-node.at c.loop-node.invariant (sym c.number.ensures.number ∙ c.in-Some.is) in
-    record {
-      found =
-          at.greater (omega arith)
-          ∙ ap (λ (xs : List (List (ℕ × ℕ))). first_of (upper c.args.value (entries_of xs c.args.list.number))) c.self.view_is;
-    }
+pub loop-at-smaller : goal.loop-at-smaller
+loop-at-smaller g c =
+    let links = links_of g.row.N c.self.inside.next in
+    let is = node-below g.row.N c.loop-at.at c.loop-at-test.true in
+    let at = shows c.self.invariant.rings.spells c.args.list.number c.requires c.args.value c.loop-at.at (node_at g.row.N c.loop-at.at) c.loop-at.invariant is in
+    subst (λ (o : Option ℕ). length (walk links c.self.inside.values g.row.N o) < length (walk links c.self.inside.values g.row.N (node_at g.row.N c.loop-at.at)))
+    (read_node g.row.N c.self.inside.next c.loop-at.at c.loop-at-test.true (next_room c.self.invariant.rings)) at.shorter
 
-pub loop-node-preserved : goal.loop-node-preserved
-loop-node-preserved g c =
-    let at = shows c.self.invariant.spells c.args.list.number c.requires c.args.value c.in-Some.node c.loop-node.at c.loop-node.invariant (sym c.number.ensures.number ∙ c.in-Some.is) in
-    rw (read_link c.self.inside.next c.in-Some.node c.index-self-node.result c.self.invariant.spells.next_length at.known) (at.goes_on (omega arith))
-
-pub loop-node-smaller : goal.loop-node-smaller
-loop-node-smaller g c =
-    let at = shows c.self.invariant.spells c.args.list.number c.requires c.args.value c.in-Some.node c.loop-node.at c.loop-node.invariant (sym c.number.ensures.number ∙ c.in-Some.is) in
-    rw (read_link c.self.inside.next c.in-Some.node c.index-self-node.result c.self.invariant.spells.next_length at.known) at.shorter
-
-pub listed-in-Some : goal.listed-in-Some
-listed-in-Some g c =
-    let lengths = c.self.invariant.spells.next_length in
-    let at = shows c.self.invariant.spells c.args.list.number c.requires c.args.value c.in-Some.node c.loop-node.at c.loop-node.invariant (sym c.number.ensures.number ∙ c.in-Some.is) in
-    omega (arith, lengths, at.known)
+pub loop-at-preserved : goal.loop-at-preserved
+loop-at-preserved g c =
+    let entries = entries_of (lists_of g.row.N (links_of g.row.N c.self.inside.next) c.self.inside.values (ends_of g.row.N c.self.inside.next)) c.args.list.number in
+    let is = node-below g.row.N c.loop-at.at c.loop-at-test.true in
+    let at = shows c.self.invariant.rings.spells c.args.list.number c.requires c.args.value c.loop-at.at (node_at g.row.N c.loop-at.at) c.loop-at.invariant is in
+    subst (Search c.args.value entries) (read_node g.row.N c.self.inside.next c.loop-at.at c.loop-at-test.true (next_room c.self.invariant.rings)) (at.goes_on (omega arith))

@@ -1,19 +1,19 @@
 use Rattle.std.proofs.Common.{rules, sym, ◌∙◌, ap, set, List, ℕ}
 use Rattle.lists.specs.Lists.{entries_of}
-use Rattle.lists.specs.Links.{SplitsBefore, upper}
+use Rattle.lists.specs.Links.{SplitsBefore, node_at, upper}
 use Rattle.lists.proofs.Search.{lower, lower-upper, insert_sorted-lower-upper}
 use Rattle.lists.proofs.table.Table.insert_sorted_from_back.Goals as goal
 
 pub put_before-requires : goal.put_before-requires
 put_before-requires g c =
     let entries = entries_of c.args.self.now c.args.list.number in
-    let split : SplitsBefore entries c.first_greater_from_back-after.result = record {
+    let split : SplitsBefore entries (node_at g.row.N c.first_greater_from_back-after.result) = record {
       before = lower c.args.value entries;
       rest = upper c.args.value entries;
       whole = lower-upper c.args.value entries;
       here = c.first_greater_from_back-after.ensures.found;
     } in
-    (search rules, (c.requires.list, (c.requires.node, (c.requires.free, split))))
+    (search rules, (c.requires.list, (c.requires.node, (c.requires.free, (split, c.first_greater_from_back-after.ensures.end)))))
 
 pub returns-clause-put : goal.returns-clause-put
 returns-clause-put g c =

@@ -1,200 +1,72 @@
-use Rattle.std.proofs.Common.{sym, ◌∙◌, arith}
-use Rattle.std.proofs.lemmas.List.{length-set}
-use Rattle.lists.proofs.Links.{read_link}
-use Rattle.lists.proofs.Rotating.{first_below, last_below, no_first_stays, no_last_stays, no_second_stays, rotate_spells, second_below, second_is}
-use Rattle.lists.proofs.Spelled.{linked_table, lists_of-Spells, seen, sound, sound_view}
+use Rattle.std.proofs.Common.{◌<◌, ◌≤◌, ◌+◌, get_or, refl}
+use Rattle.lists.proofs.Rings.{ring_lists, ring_seen, ring_sound, ring_table}
+use Rattle.lists.proofs.Rotating.{last_within, nobody_first, nobody_second, ring_rotated, somebody_second}
+use Rattle.lists.proofs.Spelled.{sound}
 use Rattle.lists.proofs.table.Table.rotate.Goals as goal
-
-pub listed-in-Some : goal.listed-in-Some
-listed-in-Some g c =
-    let first = sym c.number.ensures.number ∙ c.in-Some.is in
-    let at_first = sym (read_link _ _ _ c.self.invariant.spells.firsts_length c.requires) ∙ first in
-    let first_in = first_below c.self.invariant.spells c.args.list.number c.requires c.in-Some.first at_first in
-    let nodes = c.self.invariant.spells.next_length in
-    omega (arith, nodes, first_in)
-
-pub bounds-self-inside-first : goal.bounds-self-inside-first
-bounds-self-inside-first g c =
-    let first = sym c.number.ensures.number ∙ c.in-Some.is in
-    let at_first = sym (read_link _ _ _ c.self.invariant.spells.firsts_length c.requires) ∙ first in
-    let first_in = first_below c.self.invariant.spells c.args.list.number c.requires c.in-Some.first at_first in
-    first_in
-
-pub listed-in-Some-number-2-2 : goal.listed-in-Some-number-2-2
-listed-in-Some-number-2-2 g c =
-    let first = sym c.number.ensures.number ∙ c.in-Some.is in
-    let at_first = sym (read_link _ _ _ c.self.invariant.spells.firsts_length c.requires) ∙ first in
-    let first_in = first_below c.self.invariant.spells c.args.list.number c.requires c.in-Some.first at_first in
-    let second = sym c.number-in-Some.ensures.number ∙ c.in-Some-number.is in
-    let at_second = sym (read_link _ _ _ c.self.invariant.spells.next_length first_in) ∙ second in
-    let second_in = second_below c.self.invariant.spells c.args.list.number c.requires c.in-Some.first at_first c.in-Some-number.second at_second in
-    let nodes = c.self.invariant.spells.prev_length in
-    omega (arith, nodes, second_in)
-
-pub bounds-self-inside-second : goal.bounds-self-inside-second
-bounds-self-inside-second g c =
-    let first = sym c.number.ensures.number ∙ c.in-Some.is in
-    let at_first = sym (read_link _ _ _ c.self.invariant.spells.firsts_length c.requires) ∙ first in
-    let first_in = first_below c.self.invariant.spells c.args.list.number c.requires c.in-Some.first at_first in
-    let second = sym c.number-in-Some.ensures.number ∙ c.in-Some-number.is in
-    let at_second = sym (read_link _ _ _ c.self.invariant.spells.next_length first_in) ∙ second in
-    let second_in = second_below c.self.invariant.spells c.args.list.number c.requires c.in-Some.first at_first c.in-Some-number.second at_second in
-    second_in
-
-pub listed-in-Some-number-2-3 : goal.listed-in-Some-number-2-3
-listed-in-Some-number-2-3 g c =
-    let first = sym c.number.ensures.number ∙ c.in-Some.is in
-    let at_first = sym (read_link _ _ _ c.self.invariant.spells.firsts_length c.requires) ∙ first in
-    let first_in = first_below c.self.invariant.spells c.args.list.number c.requires c.in-Some.first at_first in
-    let nodes = c.self.invariant.spells.next_length in
-    omega (arith, nodes, first_in)
-
-pub bounds-self-inside-first-in-Some-number-2 : goal.bounds-self-inside-first-in-Some-number-2
-bounds-self-inside-first-in-Some-number-2 g c =
-    let first = sym c.number.ensures.number ∙ c.in-Some.is in
-    let at_first = sym (read_link _ _ _ c.self.invariant.spells.firsts_length c.requires) ∙ first in
-    let first_in = first_below c.self.invariant.spells c.args.list.number c.requires c.in-Some.first at_first in
-    first_in
-
-pub listed-in-Some-number-2-4 : goal.listed-in-Some-number-2-4
-listed-in-Some-number-2-4 g c =
-    let first = sym c.number.ensures.number ∙ c.in-Some.is in
-    let at_first = sym (read_link _ _ _ c.self.invariant.spells.firsts_length c.requires) ∙ first in
-    let first_in = first_below c.self.invariant.spells c.args.list.number c.requires c.in-Some.first at_first in
-    let nodes = c.self.invariant.spells.prev_length in
-    omega (arith, nodes, first_in, length-set c.self.inside.prev c.in-Some-number.second c.none.result)
-
-pub bounds-self-inside-first-in-Some-number-2-2 : goal.bounds-self-inside-first-in-Some-number-2-2
-bounds-self-inside-first-in-Some-number-2-2 g c =
-    let first = sym c.number.ensures.number ∙ c.in-Some.is in
-    let at_first = sym (read_link _ _ _ c.self.invariant.spells.firsts_length c.requires) ∙ first in
-    let first_in = first_below c.self.invariant.spells c.args.list.number c.requires c.in-Some.first at_first in
-    first_in
-
-pub listed-in-Some-number-2-5 : goal.listed-in-Some-number-2-5
-listed-in-Some-number-2-5 g c =
-    let last = sym c.number-in-Some-number.ensures.number ∙ c.in-Some-number-2.is in
-    let at_last = sym (read_link _ _ _ c.self.invariant.spells.lasts_length c.requires) ∙ last in
-    let last_in = last_below c.self.invariant.spells c.args.list.number c.requires c.in-Some-number-2.last at_last in
-    let nodes = c.self.invariant.spells.next_length in
-    omega (arith, nodes, last_in, length-set c.self.inside.next c.in-Some.first c.none-in-Some-number-2.result)
 
 pub bounds-self-inside-last : goal.bounds-self-inside-last
 bounds-self-inside-last g c =
-    let last = sym c.number-in-Some-number.ensures.number ∙ c.in-Some-number-2.is in
-    let at_last = sym (read_link _ _ _ c.self.invariant.spells.lasts_length c.requires) ∙ last in
-    let last_in = last_below c.self.invariant.spells c.args.list.number c.requires c.in-Some-number-2.last at_last in
-    last_in
-
-pub invariant_of-result : goal.invariant_of-result
-invariant_of-result g c =
-    let first = sym c.number.ensures.number ∙ c.in-Some.is in
-    let at_first = sym (read_link _ _ _ c.self.invariant.spells.firsts_length c.requires) ∙ first in
-    let first_in = first_below c.self.invariant.spells c.args.list.number c.requires c.in-Some.first at_first in
-    let second = sym c.number-in-Some.ensures.number ∙ c.in-Some-number.is in
-    let at_second = sym (read_link _ _ _ c.self.invariant.spells.next_length first_in) ∙ second in
-    let second_in = second_below c.self.invariant.spells c.args.list.number c.requires c.in-Some.first at_first c.in-Some-number.second at_second in
-    let nodes = c.self.invariant.nodes_fit in
-    omega (arith, nodes, second_in)
+    let h = ring_seen c.self.invariant.rings c.self.view_is in
+    let first : get_or c.self.inside.next (g.row.N + c.args.list.number) 0 < g.row.N = rw c.end-end.ensures at c.if-first.true in
+    rw c.end-end.ensures (last_within h c.args.list.number c.requires _ refl first _ refl)
 
 pub invariant_of-self : goal.invariant_of-self
 invariant_of-self g c =
-    let first = sym c.number.ensures.number ∙ c.in-Some.is in
-    let at_first = sym (read_link _ _ _ c.self.invariant.spells.firsts_length c.requires) ∙ first in
-    let first_in = first_below c.self.invariant.spells c.args.list.number c.requires c.in-Some.first at_first in
-    let second = sym c.number-in-Some.ensures.number ∙ c.in-Some-number.is in
-    let at_second = sym (read_link _ _ _ c.self.invariant.spells.next_length first_in) ∙ second in
-    let last = sym c.number-in-Some-number.ensures.number ∙ c.in-Some-number-2.is in
-    let at_last = sym (read_link _ _ _ c.self.invariant.spells.lasts_length c.requires) ∙ last in
-    rw (first, second, last, c.none.ensures.none, c.none-in-Some-number-2.ensures.none)
-    (linked_table c.self.invariant.lists_fit c.self.invariant.nodes_fit (rotate_spells c.self.invariant.spells c.args.list.number c.requires c.in-Some.first at_first c.in-Some-number.second c.in-Some-number-2.last at_second at_last))
+    let h = ring_seen c.self.invariant.rings c.self.view_is in
+    let first : get_or c.self.inside.next (g.row.N + c.args.list.number) 0 < g.row.N = rw c.end-end.ensures at c.if-first.true in
+    rw c.end-end.ensures (ring_table (ring_rotated h c.args.list.number c.requires _ refl first _ refl) c.self.invariant.lists_fit c.self.invariant.nodes_fit)
 
-pub returns-in-Some-number-2-clause-rotated : goal.returns-in-Some-number-2-clause-rotated
-returns-in-Some-number-2-clause-rotated g c =
-    let first = sym c.number.ensures.number ∙ c.in-Some.is in
-    let at_first = sym (read_link _ _ _ c.self.invariant.spells.firsts_length c.requires) ∙ first in
-    let first_in = first_below c.self.invariant.spells c.args.list.number c.requires c.in-Some.first at_first in
-    let second = sym c.number-in-Some.ensures.number ∙ c.in-Some-number.is in
-    let at_second = sym (read_link _ _ _ c.self.invariant.spells.next_length first_in) ∙ second in
-    let last = sym c.number-in-Some-number.ensures.number ∙ c.in-Some-number-2.is in
-    let at_last = sym (read_link _ _ _ c.self.invariant.spells.lasts_length c.requires) ∙ last in
-    rw (first, second, c.none-in-Some-number-2.ensures.none)
-    (lists_of-Spells (rotate_spells (seen c.self.invariant.spells c.self.view_is) c.args.list.number c.requires c.in-Some.first at_first c.in-Some-number.second c.in-Some-number-2.last at_second at_last))
+pub returns-then-second-clause-rotated : goal.returns-then-second-clause-rotated
+returns-then-second-clause-rotated g c =
+    let h = ring_seen c.self.invariant.rings c.self.view_is in
+    let first : get_or c.self.inside.next (g.row.N + c.args.list.number) 0 < g.row.N = rw c.end-end.ensures at c.if-first.true in
+    rw c.end-end.ensures (ring_lists (ring_rotated h c.args.list.number c.requires _ refl first _ refl))
 
-pub returns-in-Some-number-2-clause-second : goal.returns-in-Some-number-2-clause-second
-returns-in-Some-number-2-clause-second g c =
-    let first = sym c.number.ensures.number ∙ c.in-Some.is in
-    let at_first = sym (read_link _ _ _ c.self.invariant.spells.firsts_length c.requires) ∙ first in
-    let first_in = first_below c.self.invariant.spells c.args.list.number c.requires c.in-Some.first at_first in
-    let second = sym c.number-in-Some.ensures.number ∙ c.in-Some-number.is in
-    let at_second = sym (read_link _ _ _ c.self.invariant.spells.next_length first_in) ∙ second in
-    sym at_second ∙ second_is (seen c.self.invariant.spells c.self.view_is) c.args.list.number c.requires c.in-Some.first at_first
+pub returns-then-second-clause-second : goal.returns-then-second-clause-second
+returns-then-second-clause-second g c =
+    let h = ring_seen c.self.invariant.rings c.self.view_is in
+    let first : get_or c.self.inside.next (g.row.N + c.args.list.number) 0 < g.row.N = rw c.end-end.ensures at c.if-first.true in
+    let second : get_or c.self.inside.next (get_or c.self.inside.next (g.row.N + c.args.list.number) 0) 0 < g.row.N = rw c.end-end.ensures at c.if-second.true in
+    rw c.end-end.ensures (somebody_second h c.args.list.number c.requires _ refl first second)
 
-pub returns-in-Some-number-2-clause-known : goal.returns-in-Some-number-2-clause-known
-returns-in-Some-number-2-clause-known g c =
-    let first = sym c.number.ensures.number ∙ c.in-Some.is in
-    let at_first = sym (read_link _ _ _ c.self.invariant.spells.firsts_length c.requires) ∙ first in
-    let first_in = first_below c.self.invariant.spells c.args.list.number c.requires c.in-Some.first at_first in
-    let second = sym c.number-in-Some.ensures.number ∙ c.in-Some-number.is in
-    let at_second = sym (read_link _ _ _ c.self.invariant.spells.next_length first_in) ∙ second in
-    λ m e. second_below c.self.invariant.spells c.args.list.number c.requires c.in-Some.first at_first m (at_second ∙ e)
+pub returns-then-second-clause-sound : goal.returns-then-second-clause-sound
+returns-then-second-clause-sound g c =
+    let h = ring_seen c.self.invariant.rings c.self.view_is in
+    let first : get_or c.self.inside.next (g.row.N + c.args.list.number) 0 < g.row.N = rw c.end-end.ensures at c.if-first.true in
+    rw c.end-end.ensures (ring_sound (ring_rotated h c.args.list.number c.requires _ refl first _ refl))
 
-pub returns-in-Some-number-2-clause-sound : goal.returns-in-Some-number-2-clause-sound
-returns-in-Some-number-2-clause-sound g c =
-    let first = sym c.number.ensures.number ∙ c.in-Some.is in
-    let at_first = sym (read_link _ _ _ c.self.invariant.spells.firsts_length c.requires) ∙ first in
-    let first_in = first_below c.self.invariant.spells c.args.list.number c.requires c.in-Some.first at_first in
-    let second = sym c.number-in-Some.ensures.number ∙ c.in-Some-number.is in
-    let at_second = sym (read_link _ _ _ c.self.invariant.spells.next_length first_in) ∙ second in
-    let last = sym c.number-in-Some-number.ensures.number ∙ c.in-Some-number-2.is in
-    let at_last = sym (read_link _ _ _ c.self.invariant.spells.lasts_length c.requires) ∙ last in
-    rw (first, second, c.none-in-Some-number-2.ensures.none)
-    (sound_view (rotate_spells (seen c.self.invariant.spells c.self.view_is) c.args.list.number c.requires c.in-Some.first at_first c.in-Some-number.second c.in-Some-number-2.last at_second at_last))
+pub returns-else-second-clause-rotated : goal.returns-else-second-clause-rotated
+returns-else-second-clause-rotated g c =
+    let h = ring_seen c.self.invariant.rings c.self.view_is in
+    let first : get_or c.self.inside.next (g.row.N + c.args.list.number) 0 < g.row.N = rw c.end-end.ensures at c.if-first.true in
+    let second : g.row.N ≤ get_or c.self.inside.next (get_or c.self.inside.next (g.row.N + c.args.list.number) 0) 0 = rw c.end-end.ensures at c.if-second.false in
+    (nobody_second h c.args.list.number c.requires _ refl first second).same
 
-pub returns-in_default-number-2-clause-rotated : goal.returns-in_default-number-2-clause-rotated
-returns-in_default-number-2-clause-rotated g c =
-    let none = sym (read_link _ _ _ c.self.invariant.spells.lasts_length c.requires) ∙ sym c.number-in-Some-number.ensures.number ∙ c.in_default-number-2.is in
-    (no_last_stays (seen c.self.invariant.spells c.self.view_is) c.args.list.number c.requires none).same
+pub returns-else-second-clause-second : goal.returns-else-second-clause-second
+returns-else-second-clause-second g c =
+    let h = ring_seen c.self.invariant.rings c.self.view_is in
+    let first : get_or c.self.inside.next (g.row.N + c.args.list.number) 0 < g.row.N = rw c.end-end.ensures at c.if-first.true in
+    let second : g.row.N ≤ get_or c.self.inside.next (get_or c.self.inside.next (g.row.N + c.args.list.number) 0) 0 = rw c.end-end.ensures at c.if-second.false in
+    (nobody_second h c.args.list.number c.requires _ refl first second).none
 
-pub returns-in_default-number-2-clause-second : goal.returns-in_default-number-2-clause-second
-returns-in_default-number-2-clause-second g c =
-    let none = sym (read_link _ _ _ c.self.invariant.spells.lasts_length c.requires) ∙ sym c.number-in-Some-number.ensures.number ∙ c.in_default-number-2.is in
-    (no_last_stays (seen c.self.invariant.spells c.self.view_is) c.args.list.number c.requires none).none
+pub returns-else-second-clause-sound : goal.returns-else-second-clause-sound
+returns-else-second-clause-sound g c =
+    let h = ring_seen c.self.invariant.rings c.self.view_is in
+    sound h.spells
 
-pub returns-in_default-number-2-clause-sound : goal.returns-in_default-number-2-clause-sound
-returns-in_default-number-2-clause-sound g c =
-    sound (seen c.self.invariant.spells c.self.view_is)
+pub returns-else-first-clause-rotated : goal.returns-else-first-clause-rotated
+returns-else-first-clause-rotated g c =
+    let h = ring_seen c.self.invariant.rings c.self.view_is in
+    let first : g.row.N ≤ get_or c.self.inside.next (g.row.N + c.args.list.number) 0 = rw c.end-end.ensures at c.if-first.false in
+    (nobody_first h c.args.list.number c.requires first).same
 
-pub returns-in_default-number-clause-rotated : goal.returns-in_default-number-clause-rotated
-returns-in_default-number-clause-rotated g c =
-    let first = sym c.number.ensures.number ∙ c.in-Some.is in
-    let at_first = sym (read_link _ _ _ c.self.invariant.spells.firsts_length c.requires) ∙ first in
-    let first_in = first_below c.self.invariant.spells c.args.list.number c.requires c.in-Some.first at_first in
-    let none = sym (read_link _ _ _ c.self.invariant.spells.next_length first_in) ∙ sym c.number-in-Some.ensures.number ∙ c.in_default-number.is in
-    (no_second_stays (seen c.self.invariant.spells c.self.view_is) c.args.list.number c.requires c.in-Some.first at_first none).same
+pub returns-else-first-clause-second : goal.returns-else-first-clause-second
+returns-else-first-clause-second g c =
+    let h = ring_seen c.self.invariant.rings c.self.view_is in
+    let first : g.row.N ≤ get_or c.self.inside.next (g.row.N + c.args.list.number) 0 = rw c.end-end.ensures at c.if-first.false in
+    (nobody_first h c.args.list.number c.requires first).none
 
-pub returns-in_default-number-clause-second : goal.returns-in_default-number-clause-second
-returns-in_default-number-clause-second g c =
-    let first = sym c.number.ensures.number ∙ c.in-Some.is in
-    let at_first = sym (read_link _ _ _ c.self.invariant.spells.firsts_length c.requires) ∙ first in
-    let first_in = first_below c.self.invariant.spells c.args.list.number c.requires c.in-Some.first at_first in
-    let none = sym (read_link _ _ _ c.self.invariant.spells.next_length first_in) ∙ sym c.number-in-Some.ensures.number ∙ c.in_default-number.is in
-    (no_second_stays (seen c.self.invariant.spells c.self.view_is) c.args.list.number c.requires c.in-Some.first at_first none).none
-
-pub returns-in_default-number-clause-sound : goal.returns-in_default-number-clause-sound
-returns-in_default-number-clause-sound g c =
-    sound (seen c.self.invariant.spells c.self.view_is)
-
-pub returns-in_default-clause-rotated : goal.returns-in_default-clause-rotated
-returns-in_default-clause-rotated g c =
-    let none = sym (read_link _ _ _ c.self.invariant.spells.firsts_length c.requires) ∙ sym c.number.ensures.number ∙ c.in_default.is in
-    (no_first_stays (seen c.self.invariant.spells c.self.view_is) c.args.list.number c.requires none).same
-
-pub returns-in_default-clause-second : goal.returns-in_default-clause-second
-returns-in_default-clause-second g c =
-    let none = sym (read_link _ _ _ c.self.invariant.spells.firsts_length c.requires) ∙ sym c.number.ensures.number ∙ c.in_default.is in
-    (no_first_stays (seen c.self.invariant.spells c.self.view_is) c.args.list.number c.requires none).none
-
-pub returns-in_default-clause-sound : goal.returns-in_default-clause-sound
-returns-in_default-clause-sound g c =
-    sound (seen c.self.invariant.spells c.self.view_is)
+pub returns-else-first-clause-sound : goal.returns-else-first-clause-sound
+returns-else-first-clause-sound g c =
+    let h = ring_seen c.self.invariant.rings c.self.view_is in
+    sound h.spells
