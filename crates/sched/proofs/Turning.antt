@@ -5,8 +5,6 @@ use Rattle.std.specs.List.{list_any}
 use Rattle.std.specs.Option.{is_some}
 use Rattle.std.proofs.lemmas.Bool.{cases_eq, le-ltb, eq-eqb, ne_eqb}
 use Rattle.std.proofs.lemmas.List.{get_or_default, get_or-set_other, get_or-set_same, length-map, length-set, same_lists, set-get_or}
-use Rattle.model.specs.Switching.{is_same}
-use Rattle.model.proofs.Chosen.{same_eq}
 use Rattle.lists.specs.Lists.{Apart, Each, EachOnce, IsSound, entries_of, first_of, has_node, rotated, second_of, without}
 use Rattle.lists.proofs.Entries.{first_split, no_first}
 use Rattle.lists.proofs.Laws.{entries_of-set_other, entries_of-set_same, has_first, without-first, without-others}
@@ -38,8 +36,8 @@ pub record IsFirst (lists : List (List (ℕ × ℕ))) (priorities : List ℕ) (t
   pub home : p ≡ priority_in priorities task
   pub known : p < 32
 
-pub first_by : {lists : List (List (ℕ × ℕ))} {priorities : List ℕ} {task p : ℕ} (o : Option ℕ) → o ≡ first_of (entries_of lists p) → true ≡ is_same o (Some task) → p ≡ priority_in priorities task → p < 32 → IsFirst lists priorities task p
-first_by {lists} {priorities} {task} {p} o is same home known = record { first = sym (same_eq o (Some task) (sym same)) ∙ is; home = home; known = known }
+pub first_by : {lists : List (List (ℕ × ℕ))} {priorities : List ℕ} {task p : ℕ} → first_of (entries_of lists p) ≡ Some task → p ≡ priority_in priorities task → p < 32 → IsFirst lists priorities task p
+first_by first home known = record { first = sym first; home = home; known = known }
 
 module _ {lists : List (List (ℕ × ℕ))} {priorities : List ℕ} (h : AreByPriority lists priorities) (task p : ℕ) (is : IsFirst lists priorities task p) where
   split : (v : ℕ) × (rest : List (ℕ × ℕ)) × (entries_of lists p ≡ (task, v) ∷ rest)

@@ -81,15 +81,15 @@ impl ReadyLists {
         ensures first { result ≡ first_of (ready_list_of self.now) }
     {
         let list = self.highest()?;
-        self.first_in(list)
+        Some(self.lists.front(list))
     }
 
-    /// The first task of a list.
-    pub(crate) fn first_in(&self, list: ListId) -> Option<TaskId>
+    /// Whether a task is the first of a list.
+    pub(crate) fn is_first(&self, list: ListId, task: TaskId) -> bool
         requires { list.number < 32 }
-        ensures first { result ≡ first_of (entries_of self.now list.number) }
+        ensures first { IsTrue result ↔ (first_of (entries_of self.now list.number) ≡ Some task) }
     {
-        self.lists.first(list)
+        self.lists.is_first(list, task)
     }
 
     /// Whether a task is in a list.

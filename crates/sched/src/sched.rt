@@ -321,6 +321,7 @@ impl Sched {
 
     /// Sends the running task behind the others of its priority, if it is in a ready list, and lets the
     /// choice run (`taskYIELD`).
+    #[inline(never)]
     pub fn yield_now(&mut self)
         ensures schedule { self.new ≡ yield_now self.old }
         ensures stands { DoesFree self.old self.new switching.yield_now }
@@ -348,6 +349,7 @@ impl Sched {
 
     /// As `preempt`, and yields also where another task in a ready list has the running one's priority:
     /// its turn has come, at the end of a tick (`configUSE_TIME_SLICING`). Answers whether it did.
+    #[inline(always)]
     pub fn slice(&mut self) -> bool
         ensures ended { result ≡ (is_outranked self.old || is_sharing self.old) }
         ensures schedule { self.new ≡ slice self.old }
@@ -356,7 +358,7 @@ impl Sched {
         if let Some(task) = self.current {
             let list = self.list_of(task);
             // Mostly the running task is the first of the highest list, whose second then runs.
-            if self.ready.is_highest(list) && self.ready.first_in(list) == Some(task) {
+            if self.ready.is_highest(list) && self.ready.is_first(list, task) {
                 if let Some(next) = self.ready.rotate(list) {
                     self.current = Some(next);
                     return true;
@@ -415,7 +417,7 @@ impl Sched {
         ensures schedule { self.new ≡ to_back task self.old }
     {
         let list = self.list_of(task);
-        if self.ready.first_in(list) == Some(task) {
+        if self.ready.is_first(list, task) {
             self.ready.rotate(list);
         } else if self.ready.contains(task) {
             self.ready.remove(task);

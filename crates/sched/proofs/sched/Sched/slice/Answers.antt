@@ -15,7 +15,7 @@ invariant_of-self c =
     let p = c.list_of-list.result.number in
     let home = c.list_of-list.ensures.list ∙ ap (λ (s : Schedule). priority_in s.priorities task) (sym c.self.view_is) in
     let highest = c.is_highest.ensures.highest.0 c.if-is_highest.true in
-    let is = first_by c.first_in.result c.first_in.ensures.first c.if-eq.ensures home c.list_of-list.ensures.known in
+    let is = first_by (c.is_first.ensures.first.0 c.if-is_first.true) home c.list_of-list.ensures.known in
     let rotated = c.rotate.ensures.rotated in
     subst (λ (ls : List (List (ℕ × ℕ))). IsSched ls q.pending q.priorities q.base_priorities q.depth) (sym rotated) (sched_turned c.self.invariant.lists_are task p is c.self.invariant (subst (IsSound 32 32) rotated c.rotate.ensures.sound))
 
@@ -26,7 +26,7 @@ returns-in-Some-rotate-clause-ended c =
     let p = c.list_of-list.result.number in
     let home = c.list_of-list.ensures.list ∙ ap (λ (s : Schedule). priority_in s.priorities task) (sym c.self.view_is) in
     let highest = c.is_highest.ensures.highest.0 c.if-is_highest.true in
-    let is = first_by c.first_in.result c.first_in.ensures.first c.if-eq.ensures home c.list_of-list.ensures.known in
+    let is = first_by (c.is_first.ensures.first.0 c.if-is_first.true) home c.list_of-list.ensures.known in
     sym (ended_if c.self.invariant.lists_are task p is q.pending q.base_priorities q.depth q.suspended highest ∙ ap is_some (sym c.in-Some-rotate.ensures.second))
     ∙ ap (λ (o : Option ℕ). let s = schedule_of q.ready q.pending o q.priorities q.base_priorities q.depth q.suspended in is_outranked s || is_sharing s) (sym c.in-Some.is)
     ∙ ap (λ (s : Schedule). is_outranked s || is_sharing s) c.self.view_is
@@ -38,7 +38,7 @@ returns-in-Some-rotate-clause-schedule c =
     let p = c.list_of-list.result.number in
     let home = c.list_of-list.ensures.list ∙ ap (λ (s : Schedule). priority_in s.priorities task) (sym c.self.view_is) in
     let highest = c.is_highest.ensures.highest.0 c.if-is_highest.true in
-    let is = first_by c.first_in.result c.first_in.ensures.first c.if-eq.ensures home c.list_of-list.ensures.known in
+    let is = first_by (c.is_first.ensures.first.0 c.if-is_first.true) home c.list_of-list.ensures.known in
     ap (λ (ls : List (List (ℕ × ℕ))). schedule_of ls q.pending (Some c.in-Some-rotate.next) q.priorities q.base_priorities q.depth q.suspended) c.rotate.ensures.rotated
     ∙ schedule_sliced c.self.invariant.lists_are task p is q.pending q.base_priorities q.depth q.suspended highest c.in-Some-rotate.next c.in-Some-rotate.ensures.second
     ∙ ap (λ (o : Option ℕ). slice (schedule_of q.ready q.pending o q.priorities q.base_priorities q.depth q.suspended)) (sym c.in-Some.is)
@@ -47,34 +47,34 @@ returns-in-Some-rotate-clause-schedule c =
 pub returns-in-Some-rotate-clause-stands : goal.returns-in-Some-rotate-clause-stands
 returns-in-Some-rotate-clause-stands c = does_slice (subst IsCalm c.self.view_is c.self.invariant.calm) (returns-in-Some-rotate-clause-schedule c)
 
-pub returns-then-eq-clause-ended : goal.returns-then-eq-clause-ended
-returns-then-eq-clause-ended c =
+pub returns-then-is_first-clause-ended : goal.returns-then-is_first-clause-ended
+returns-then-is_first-clause-ended c =
     let q = c.self.inside in
     let task = c.in-Some.task in
     let p = c.list_of-list.result.number in
     let home = c.list_of-list.ensures.list ∙ ap (λ (s : Schedule). priority_in s.priorities task) (sym c.self.view_is) in
     let highest = c.is_highest.ensures.highest.0 c.if-is_highest.true in
-    let is = first_by c.first_in.result c.first_in.ensures.first c.if-eq.ensures home c.list_of-list.ensures.known in
+    let is = first_by (c.is_first.ensures.first.0 c.if-is_first.true) home c.list_of-list.ensures.known in
     sym (ended_if c.self.invariant.lists_are task p is q.pending q.base_priorities q.depth q.suspended highest ∙ ap is_some (sym c.in_default-rotate.ensures.second))
     ∙ ap (λ (o : Option ℕ). let s = schedule_of q.ready q.pending o q.priorities q.base_priorities q.depth q.suspended in is_outranked s || is_sharing s) (sym c.in-Some.is)
     ∙ ap (λ (s : Schedule). is_outranked s || is_sharing s) c.self.view_is
 
-pub returns-then-eq-clause-schedule : goal.returns-then-eq-clause-schedule
-returns-then-eq-clause-schedule c =
+pub returns-then-is_first-clause-schedule : goal.returns-then-is_first-clause-schedule
+returns-then-is_first-clause-schedule c =
     let q = c.self.inside in
     let task = c.in-Some.task in
     let p = c.list_of-list.result.number in
     let home = c.list_of-list.ensures.list ∙ ap (λ (s : Schedule). priority_in s.priorities task) (sym c.self.view_is) in
     let highest = c.is_highest.ensures.highest.0 c.if-is_highest.true in
-    let is = first_by c.first_in.result c.first_in.ensures.first c.if-eq.ensures home c.list_of-list.ensures.known in
+    let is = first_by (c.is_first.ensures.first.0 c.if-is_first.true) home c.list_of-list.ensures.known in
     ap (λ (ls : List (List (ℕ × ℕ))). schedule_of ls q.pending q.current q.priorities q.base_priorities q.depth q.suspended) c.rotate.ensures.rotated
     ∙ ap (λ (o : Option ℕ). schedule_of (turn p q.ready) q.pending o q.priorities q.base_priorities q.depth q.suspended) c.in-Some.is
     ∙ schedule_kept c.self.invariant.lists_are task p is q.pending q.base_priorities q.depth q.suspended highest c.in_default-rotate.ensures.second
     ∙ ap (λ (o : Option ℕ). slice (schedule_of q.ready q.pending o q.priorities q.base_priorities q.depth q.suspended)) (sym c.in-Some.is)
     ∙ ap slice c.self.view_is
 
-pub returns-then-eq-clause-stands : goal.returns-then-eq-clause-stands
-returns-then-eq-clause-stands c = does_slice (subst IsCalm c.self.view_is c.self.invariant.calm) (returns-then-eq-clause-schedule c)
+pub returns-then-is_first-clause-stands : goal.returns-then-is_first-clause-stands
+returns-then-is_first-clause-stands c = does_slice (subst IsCalm c.self.view_is c.self.invariant.calm) (returns-then-is_first-clause-schedule c)
 
 pub returns-then-ended-clause-stands : goal.returns-then-ended-clause-stands
 returns-then-ended-clause-stands c = does_slice (subst IsCalm c.self.view_is c.self.invariant.calm) (search rules)

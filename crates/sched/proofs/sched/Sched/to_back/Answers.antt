@@ -12,15 +12,15 @@ pub invariant_of-self : goal.invariant_of-self
 invariant_of-self c =
     let q = c.self.inside in
     let home = c.list_of-list.ensures.list ∙ ap (λ (s : Schedule). priority_in s.priorities c.args.task) (sym c.self.view_is) in
-    let is = first_by c.first_in.result c.first_in.ensures.first c.if-eq.ensures home c.list_of-list.ensures.known in
+    let is = first_by (c.is_first.ensures.first.0 c.if-is_first.true) home c.list_of-list.ensures.known in
     let rotated = c.rotate.ensures.rotated in
     subst (λ (ls : List (List (ℕ × ℕ))). IsSched ls q.pending q.priorities q.base_priorities q.depth) (sym rotated) (sched_turned c.self.invariant.lists_are c.args.task c.list_of-list.result.number is c.self.invariant (subst (IsSound 32 32) rotated c.rotate.ensures.sound))
 
-pub returns-then-eq : goal.returns-then-eq
-returns-then-eq c =
+pub returns-then-is_first : goal.returns-then-is_first
+returns-then-is_first c =
     let q = c.self.inside in
     let home = c.list_of-list.ensures.list ∙ ap (λ (s : Schedule). priority_in s.priorities c.args.task) (sym c.self.view_is) in
-    let is = first_by c.first_in.result c.first_in.ensures.first c.if-eq.ensures home c.list_of-list.ensures.known in
+    let is = first_by (c.is_first.ensures.first.0 c.if-is_first.true) home c.list_of-list.ensures.known in
     record {
       schedule =
           ap (λ (ls : List (List (ℕ × ℕ))). schedule_of ls q.pending q.current q.priorities q.base_priorities q.depth q.suspended) c.rotate.ensures.rotated
