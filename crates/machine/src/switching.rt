@@ -116,6 +116,8 @@ impl Machine {
     }
 
     /// The end of a tick: a task above the running one runs, or else the next of equal priority.
+    // Mostly nothing switches, and the tick that asks has what tells so at hand.
+    #[inline(always)]
     pub fn slice<L: Log>(&mut self, log: &mut L)
         requires room { 0 < (L.logged log.old).room }
         requires free { self.old.sched.depth ≡ 0 }

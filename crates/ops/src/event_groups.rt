@@ -112,6 +112,7 @@ fn begin_set(machine: &mut Machine, task: TaskId, group: GroupId, mask: u32)
 }
 
 /// The hold ends, and the set answers the bits that are kept.
+#[inline(always)]
 fn end_set<L: Log>(machine: &mut Machine, app: &App, task: TaskId, log: &mut L)
     requires room { 2 ≤ (L.logged log.old).room }
     requires runs { Runs machine.old task }
@@ -190,6 +191,7 @@ fn need_not_wait_for_bits(
 }
 
 /// A wait whose condition is met, or that has no ticks to wait, answers. Else the task waits.
+#[inline(always)]
 fn check_bits<L: Log>(
     machine: &mut Machine,
     app: &App,
@@ -214,6 +216,7 @@ fn check_bits<L: Log>(
 }
 
 /// The hold ends, and the choice runs.
+#[inline(always)]
 fn leave_bits_wait<L: Log>(machine: &mut Machine, task: TaskId, log: &mut L)
     requires room { 1 ≤ (L.logged log.old).room }
     requires can { CanLeave machine.old task }
@@ -226,6 +229,7 @@ fn leave_bits_wait<L: Log>(machine: &mut Machine, task: TaskId, log: &mut L)
 }
 
 /// Woken, the task answers the bits that are kept for it, or else those of now.
+#[inline(always)]
 fn finish_wait<L: Log>(
     machine: &mut Machine,
     app: &App,
