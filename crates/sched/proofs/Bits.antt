@@ -1,16 +1,17 @@
 -- The word of bits, one for each list.
-use Rattle.std.proofs.Common.{◌≡◌, ◌≢◌, ℕ, zero, suc, ◌-◌, ◌*◌, ◌/◌, ◌%◌, ◌^◌, ◌<◌, ◌≤◌, inl, inr, List, [], ◌∷◌, ◌++◌, Some, length, map, set, replicate, get_or, sym, ◌∙◌, ap, subst, arith, refl, bit_and, bit_or}
+use Rattle.std.proofs.Common.{◌≡◌, ◌≢◌, ℕ, zero, suc, ◌-◌, ◌*◌, ◌/◌, ◌%◌, ◌^◌, ◌<◌, ◌≤◌, inl, inr, Option, List, [], ◌∷◌, ◌++◌, Some, None, length, map, set, replicate, get_or, sym, ◌∙◌, ap, subst, arith, refl, bit_and, bit_or}
+use Rattle.std.specs.Prelude.{nat_lt}
 use Rattle.std.specs.Int.{bit_at, bit_not, leading_zeros, w32}
-use Rattle.std.proofs.Math.Nat.{div-eq_of_lt-le}
-use Rattle.std.proofs.lemmas.Bool.{cases_eq, cases_lt}
-use Rattle.std.proofs.lemmas.Nat.{leading_top, le-div}
+use Rattle.std.proofs.Math.Nat.{div-eq_of_lt-le, one-le-pow, pow-le-pow_right}
+use Rattle.std.proofs.lemmas.Bool.{cases_eq, cases_lt, le-ltb, lt-ltb}
+use Rattle.std.proofs.lemmas.Nat.{div_below, leading_top, le-div}
 use Rattle.std.proofs.lemmas.Nat.Bits.{bit_at-zero, bit_at_above, bit_at_clear_other, bit_at_clear_same, bit_at_set_other, bit_at_set_same}
 use Rattle.std.proofs.lemmas.List.{get_or_past}
 use Rattle.std.proofs.lemmas.Option.{same_Some}
 use Rattle.lists.specs.Lists.{IsSound, entries_of, place_of, rotated, without}
 use Rattle.lists.proofs.Entries.{has_or_not, apart_from_test, without-apart}
 use Rattle.lists.proofs.Laws.{entries_of-set_other, entries_of-set_same, entries_of-without}
-use Rattle.sched.specs.ReadyLists.{AreReadyLists, IsHighest, bit_of}
+use Rattle.sched.specs.ReadyLists.{AreReadyLists, IsHighest, bit_of, is_below}
 
 -- the place of the highest bit
 highest_bit : (n : ℕ) → 0 < n → n < 2 ^ 32 → (31 - leading_zeros w32 n < 32) × (n / 2 ^ (31 - leading_zeros w32 n) ≡ 1) × ((i : ℕ) → 31 - leading_zeros w32 n < i → bit_at n i ≡ 0)
@@ -90,6 +91,46 @@ bit_of_highest {lists} {occupied} h fits p highest =
         | inr more ↦ absurd (no_one (bit_at occupied p) (bit_at occupied p) here (top.2 p (omega (arith, more, other))) refl)
       ]
     ]
+
+none_by_bits : {lists : List (List (ℕ × ℕ))} {occupied : ℕ} → AreReadyLists lists occupied → occupied ≡ 0 → IsHighest lists None
+none_by_bits {lists} {occupied} h none = λ p. elim (cases_lt p 32) [
+  | inl below ↦ bit_of-empty (entries_of lists p) (sym (h.bits p below) ∙ ap (λ (n : ℕ). bit_at n p) none ∙ bit_at-zero p)
+  | inr past ↦ past_empty h p past
+]
+
+-- whether a bit above one stands
+above_highest : (n p j : ℕ) → n / 2 ^ j ≡ 1 → nat_lt 1 (n / 2 ^ p) ≡ nat_lt p j
+above_highest n p j one =
+    let here : 0 < 2 ^ p = one-le-pow p 2 (omega arith) in
+    let there : 0 < 2 ^ j = one-le-pow j 2 (omega arith) in
+    let twice : 2 ^ suc p ≡ 2 * 2 ^ p = omega arith in
+    let below : n < 2 ^ suc j = only_bit n j one in
+    let from : 2 ^ j ≤ n = elim (cases_lt n (1 * 2 ^ j)) [
+      | inl less ↦ absurd (let none : n / 2 ^ j < 1 = div_below n (2 ^ j) 1 there less in omega (arith, none, one))
+      | inr more ↦ omega (arith, more)
+    ] in
+    elim (cases_lt p j) [
+      | inl less ↦
+          let power : 2 ^ suc p ≤ 2 ^ j = pow-le-pow_right {n = 2} (omega arith) {i = suc p} {j = j} (omega (arith, less)) in
+          let two : 2 ≤ n / 2 ^ p = le-div 2 n (2 ^ p) here (omega (arith, from, power, twice)) in
+          lt-ltb 1 (n / 2 ^ p) (omega (arith, two)) ∙ sym (lt-ltb p j less)
+      | inr more ↦
+          let power : 2 ^ suc j ≤ 2 ^ suc p = pow-le-pow_right {n = 2} (omega arith) {i = suc j} {j = suc p} (omega (arith, more)) in
+          let one_at_most : n / 2 ^ p < 2 = div_below n (2 ^ p) 2 here (omega (arith, below, power, twice)) in
+          le-ltb 1 (n / 2 ^ p) (omega (arith, one_at_most)) ∙ sym (le-ltb p j more)
+    ]
+
+-- whether a list above one is not empty, by the bits above its own
+pub above_by_bits : {lists : List (List (ℕ × ℕ))} {occupied : ℕ} → AreReadyLists lists occupied → occupied < 2 ^ 32 → (p : ℕ) → (top : Option ℕ) × IsHighest lists top × (nat_lt 1 (occupied / 2 ^ p) ≡ is_below p top)
+above_by_bits {lists} {occupied} h fits p = elim (cases_eq occupied 0) [
+  | inl none ↦
+      let some : 0 < 2 ^ p = one-le-pow p 2 (omega arith) in
+      let nothing : 0 / 2 ^ p < 1 = div_below 0 (2 ^ p) 1 some (omega (arith, some)) in
+      (None, none_by_bits h none, ap (λ (n : ℕ). nat_lt 1 (n / 2 ^ p)) none ∙ le-ltb 1 (0 / 2 ^ p) (omega (arith, nothing)))
+  | inr other ↦
+      let top = highest_bit occupied (omega (arith, other)) fits in
+      (Some (31 - leading_zeros w32 occupied), highest_is h other fits, above_highest occupied p (31 - leading_zeros w32 occupied) top.1)
+]
 
 -- a task goes into a list
 pub bit_set : {lists : List (List (ℕ × ℕ))} {occupied : ℕ} → AreReadyLists lists occupied → (list : ℕ) (e : ℕ × ℕ) → list < 32 → IsSound 32 32 (set lists list (entries_of lists list ++ e ∷ [])) → AreReadyLists (set lists list (entries_of lists list ++ e ∷ [])) (bit_or occupied (1 * 2 ^ list % 2 ^ 32))

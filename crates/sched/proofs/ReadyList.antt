@@ -11,7 +11,7 @@ use Rattle.lists.proofs.Laws.{place_of-None}
 use Rattle.sched.specs.Schedule.{is_above, is_beside, priority_in}
 use Rattle.task_lists.specs.Tasks.{insert_by_priority}
 use Rattle.lists.specs.declared.ids.ListId.{ListId}
-use Rattle.sched.specs.ReadyLists.{AtHome, IsHighest, ready_list_of}
+use Rattle.sched.specs.ReadyLists.{is_below, AtHome, IsHighest, ready_list_of}
 
 -- the lists from this priority on have no task of a lower one
 pub none_lower : (k : ℕ) (ls : List (List (ℕ × ℕ))) → AtHome k ls → Each (λ e. k ≤ e.1) (ready_list_of ls)
@@ -194,6 +194,15 @@ any_above_idle priorities ls p h highest = any_in_highest (is_above priorities N
 
 pub none_in_ready_list : (test : ℕ × ℕ → Bool) (ls : List (List (ℕ × ℕ))) → IsHighest ls None → list_any test (ready_list_of ls) ≡ false
 none_in_ready_list test ls h = ap (list_any test) (ready_list_of-empty ls h)
+
+-- the same, whatever the highest list is
+pub any_above_top : (priorities : List ℕ) (ls : List (List (ℕ × ℕ))) (task : ℕ) (top : Option ℕ) → AtHome 0 ls → IsHighest ls top → is_below (priority_in priorities task) top ≡ list_any (is_above priorities (Some task)) (ready_list_of ls)
+any_above_top priorities ls task None h highest = sym (none_in_ready_list (is_above priorities (Some task)) ls highest)
+any_above_top priorities ls task (Some p) h highest = sym (any_above priorities ls p task h highest)
+
+pub any_where_idle : (priorities : List ℕ) (ls : List (List (ℕ × ℕ))) (o : Option ListId) → AtHome 0 ls → IsHighest ls (option_map (λ l. l.number) o) → is_some o ≡ list_any (is_above priorities None) (ready_list_of ls)
+any_where_idle priorities ls None h highest = sym (none_in_ready_list (is_above priorities None) ls highest)
+any_where_idle priorities ls (Some list) h highest = sym (any_above_idle priorities ls list.number h highest)
 
 -- a Ready task is beside the running one where the list of its priority has another
 

@@ -1,5 +1,5 @@
 -- How lists of tasks, one for each priority (`pxReadyTasksLists`), spell the Ready tasks in order.
-use Rattle.std.specs.Prelude.{◌≡◌, ◌≢◌, ℕ, suc, ◌<◌, Bool, true, false, List, [], ◌∷◌, ◌++◌, Option, Some, None}
+use Rattle.std.specs.Prelude.{◌≡◌, ◌≢◌, ℕ, suc, ◌<◌, nat_lt, Bool, true, false, List, [], ◌∷◌, ◌++◌, Option, Some, None}
 use Rattle.std.specs.Int.{bit_at}
 use Rattle.lists.specs.Lists.{Each, IsSound, entries_of, has_node}
 use Rattle.sched.specs.Schedule.{Schedule, priority_in}
@@ -14,6 +14,11 @@ ready_list_of (entries ∷ lists) = ready_list_of lists ++ entries
 abbrev pub IsHighest : List (List (ℕ × ℕ)) → Option ℕ → Type 0
 IsHighest lists None = (p : ℕ) → entries_of lists p ≡ []
 IsHighest lists (Some list) = (list < 32) × (entries_of lists list ≢ []) × ((p : ℕ) → list < p → entries_of lists p ≡ [])
+
+-- whether a list is below this one, if there is one
+abbrev pub is_below : ℕ → Option ℕ → Bool
+is_below list None = false
+is_below list (Some top) = nat_lt list top
 
 -- the bit of a list: 1 where it is not empty
 abbrev pub bit_of : List (ℕ × ℕ) → ℕ

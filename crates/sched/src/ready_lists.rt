@@ -1,9 +1,9 @@
 //! The Ready tasks: a list for each priority.
-ghost use Rattle.std.specs.Prelude.{◌≡◌, ℕ, ◌<◌, ◌==◌, not, List, [], ◌∷◌, ◌++◌, map, option_map, replicate, slice_set, None, Some, IsTrue, ◌↔◌};
+ghost use Rattle.std.specs.Prelude.{◌≡◌, ℕ, ◌<◌, ◌==◌, not, List, [], ◌∷◌, ◌++◌, map, Option, option_map, replicate, slice_set, None, Some, IsTrue, ◌↔◌};
 ghost use Rattle.std.specs.List.{list_any};
 ghost use Rattle.std.specs.Option.{is_some};
 ghost use Rattle.lists.specs.Lists.{entries_of, first_of, place_of, rotated, second_of, without, IsSound};
-ghost use Rattle.sched.specs.ReadyLists.{ready_list_of, IsHighest};
+ghost use Rattle.sched.specs.ReadyLists.{ready_list_of, is_below, IsHighest};
 
 use lists::ListId;
 use model::TaskId;
@@ -67,6 +67,14 @@ impl ReadyLists {
         ensures highest { IsTrue result ↔ IsHighest self.now (Some list.number) }
     {
         self.occupied >> list.number == 1
+    }
+
+    /// Whether a list above this one is not empty.
+    pub(crate) fn has_above(&self, list: ListId) -> bool
+        requires { list.number < 32 }
+        ensures above { (top : Option ℕ) × IsHighest self.now top × (result ≡ is_below list.number top) }
+    {
+        self.occupied >> list.number > 1
     }
 
     /// Whether any list has a task.

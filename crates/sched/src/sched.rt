@@ -430,10 +430,9 @@ impl Sched {
         ensures outranked { result ≡ is_outranked self.now }
         ensures calm { IsCalm self.now }
     {
-        match (self.ready.highest(), self.current) {
-            (None, _) => false,
-            (Some(_), None) => true,
-            (Some(list), Some(task)) => (self.priority(task) as u16) < list.number,
+        match self.current {
+            None => self.ready.highest().is_some(),
+            Some(task) => self.ready.has_above(self.list_of(task)),
         }
     }
 
