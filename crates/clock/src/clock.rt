@@ -253,6 +253,8 @@ impl Clock {
 
     /// Lets one tick pass if nobody's sleep ends with it, and answers whether that is so; else nothing
     /// changes. It makes no list. Before the call the age is below 2^62 ticks.
+    // Most steps are ticks, and a call would cost a tenth of one.
+    #[inline(always)]
     pub fn advance_if_none_due(&mut self) -> bool
         requires { self.old.age < 2 ^ 62 }
         ensures none { IsTrue result

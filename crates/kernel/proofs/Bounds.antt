@@ -436,6 +436,9 @@ module _ (app : Application) (formed : IsWellFormed app) (k : Machine) (c : CanS
       → CanGoOn k task object access ticks (progress_in k.progress task).call.phase
   can_go_on task runs object access ticks is awake = can_op app formed k now c.sound c.stands early_now task runs awake (Await object access ticks) is
 
+  pub can_do : (task : TaskId) → k.sched.current ≡ Some task → k.suspensions ≡ 0 → (op : Op) → op_at app task (progress_in k.progress task).op_index ≡ Some op → CanOp app k task op
+  can_do task runs awake op at = can_op app formed k now c.sound c.stands early_now task runs awake op at
+
   pub held_in_call : (task : TaskId) → k.sched.current ≡ Some task → k.suspensions ≡ 0 → (phase : Phase) → (progress_in k.progress task).call.phase ≡ phase → holds phase ≡ true → k.sched.depth ≡ 1
   held_in_call task runs awake phase e t =
       held_once app formed k now c.sound c.stands early_now awake (held_in app formed k now c.sound c.stands early_now task runs phase (ap (λ (p : Progress). p.call.phase) (sym (progress_is k now c.stands task)) ∙ e) t)

@@ -9,3 +9,4 @@ pub mod Planned
 pub mod Held
 pub mod InCall
 pub mod Counting
+pub mod LettingGo

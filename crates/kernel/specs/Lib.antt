@@ -4,3 +4,4 @@ pub mod Rows
 pub mod Quiet
 pub mod Over
 pub mod InCall
+pub mod Bits

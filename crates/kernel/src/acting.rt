@@ -31,9 +31,16 @@ pub(crate) fn work<L: Log>(machine: &mut Machine, app: &App, task: TaskId, ticks
     tick_interrupt(machine, app, log);
 }
 
-/// What the running task's op does, where no `suspend_all` is in force; a misuse ends the run, and does nothing else.
+/// What the running task's op does, where no `suspend_all` is in force; a misuse ends the run, and does nothing else. It answers whether
+/// steps may come behind it that are done one after another: those of a call, or those of a `work` of which a tick is left before the last.
 #[inline(always)]
-pub(crate) fn act<L: Log>(machine: &mut Machine, app: &App, task: TaskId, op: &Op, log: &mut L)
+pub(crate) fn act<L: Log>(
+    machine: &mut Machine,
+    app: &App,
+    task: TaskId,
+    op: &Op,
+    log: &mut L,
+) -> bool
     requires room { 65 ≤ (L.logged log.old).room }
     requires can { CanOp app.now machine.old task op.now }
     requires awake { machine.old.suspensions ≡ 0 }
@@ -41,7 +48,24 @@ pub(crate) fn act<L: Log>(machine: &mut Machine, app: &App, task: TaskId, op: &O
         (λ s. act_unless app.now task (misuse s task op.now) op.now s) }
 {
     match *op {
-        Op::Work(ticks) => work(machine, app, task, ticks, log),
+        Op::Work(ticks) => {
+            // This tick and the last aren't passed with others.
+            let left = ticks - machine.progress(task).used;
+            work(machine, app, task, ticks, log);
+            return left > 2;
+        }
+        Op::Await(object, access, ticks) => {
+            go_on_waiting(machine, app, task, object, access, ticks, log);
+            return true;
+        }
+        Op::SetBits(group, mask) => {
+            set_bits(machine, app, task, group, mask, log);
+            return true;
+        }
+        Op::WaitBits(group, condition, ticks) => {
+            wait_bits(machine, app, task, group, condition, ticks, log);
+            return true;
+        }
         Op::Delay(ticks) => delay(machine, app, task, ticks, log),
         Op::DelayUntil(ticks) => delay_until(machine, app, task, ticks, log),
         Op::Yield => call_yield(machine, app, task, log),
@@ -50,22 +74,16 @@ pub(crate) fn act<L: Log>(machine: &mut Machine, app: &App, task: TaskId, op: &O
         Op::Expect(wanted) => expect(machine, app, task, wanted),
         Op::Repeat(turns) => open_loop(machine, app, task, turns),
         Op::End => close_turn(machine, app, task),
-        Op::Await(object, access, ticks) => {
-            go_on_waiting(machine, app, task, object, access, ticks, log)
-        }
         Op::Do(object, access) => do_now(machine, app, task, object, access, log),
         Op::GiveMutex(object) => give_mutex(machine, app, task, object, log),
         Op::MessagesWaiting(object) => messages_waiting(machine, app, task, object, log),
         Op::SpacesAvailable(object) => spaces_available(machine, app, task, object, log),
-        Op::SetBits(group, mask) => set_bits(machine, app, task, group, mask, log),
         Op::ClearBits(group, mask) => clear_bits(machine, app, task, group, mask, log),
         Op::GetBits(group) => get_bits(machine, app, task, group, log),
-        Op::WaitBits(group, condition, ticks) => {
-            wait_bits(machine, app, task, group, condition, ticks, log)
-        }
         Op::Suspend(other) => call_suspend(machine, app, task, other, log),
         Op::Resume(other) => call_resume(machine, app, task, other, log),
         Op::SuspendAll => call_suspend_all(machine, app, task, log),
         Op::ResumeAll => machine.misuse(task, Misuse::NotSuspended),
     }
+    false
 }

@@ -21,7 +21,7 @@ use model::{Access, App, Limits, ObjectId, Op, Phase, Point, TaskId};
 use ops::calls::{go_on_silently, leave_call};
 
 /// The phase that is next of a task's call.
-fn phase(machine: &Machine, task: TaskId) -> Phase
+pub(crate) fn phase(machine: &Machine, task: TaskId) -> Phase
     ensures { result ≡ (progress_in machine.now.progress task).call.phase }
 {
     machine.progress(task).call.phase

@@ -2,6 +2,7 @@
 #![tactic(auto)]
 
 mod acting;
+mod bits;
 mod handlers;
 mod in_call;
 mod kernel;

@@ -18,10 +18,10 @@ ghost use Rattle.kernel.specs.Can.{CanAct, CanStep};
 ghost use Rattle.kernel.specs.Rows.{events_from, Extends};
 
 use crate::acting::act;
+use crate::bits::pass_more;
 use crate::handlers::{inject_all, tick_interrupt};
-use crate::in_call::pass_leave;
 use crate::kernel::Kernel;
-use crate::quiet::{free_until, next_point, pass_on};
+use crate::quiet::{free_until, next_point};
 use crate::suspended::act_while_suspended;
 use arrayvec::ArrayVec;
 use machine::{Log, Machine, StepLog, Trail};
@@ -43,9 +43,10 @@ pub(crate) fn op_of(app: &App, task: TaskId, op_index: u16) -> Option<&Op>
     definition.ops().get(op_index as usize)
 }
 
-/// What a step does: the running task's op, or for idle a tick.
+/// What a step does: the running task's op, or for idle a tick. It answers whether steps may come behind it that are done one after
+/// another (`pass_more`).
 #[inline(always)]
-fn act_current<L: Log>(machine: &mut Machine, app: &App, log: &mut L)
+fn act_current<L: Log>(machine: &mut Machine, app: &App, log: &mut L) -> bool
     requires room { 65 ≤ (L.logged log.old).room }
     requires there { IfSome machine.old.sched.current (λ task. task < length app.now.tasks) }
     requires can { CanAct app.now machine.old }
@@ -54,21 +55,23 @@ fn act_current<L: Log>(machine: &mut Machine, app: &App, log: &mut L)
 {
     let Some(task) = machine.sched.current() else {
         tick_interrupt(machine, app, log);
-        return;
+        return true;
     };
     if machine.suspensions > 0 {
         act_while_suspended(machine, app, task, log);
-        return;
+        return false;
     }
     let op_index = machine.progress(task).op_index;
-    if let Some(op) = op_of(app, task, op_index) {
-        act(machine, app, task, op, log);
+    match op_of(app, task, op_index) {
+        Some(op) => act(machine, app, task, op, log),
+        None => false,
     }
 }
 
-/// One step of the run, before which these handlers come, whose events go to a log that has none of this step yet.
+/// One step of the run, before which these handlers come, whose events go to a log that has none of this step yet. It answers whether
+/// steps may come behind it that are done one after another (`pass_more`).
 #[inline(always)]
-fn step_onto<L: Log>(machine: &mut Machine, app: &App, handlers: &[HandlerId], log: &mut L)
+fn step_onto<L: Log>(machine: &mut Machine, app: &App, handlers: &[HandlerId], log: &mut L) -> bool
     requires few { length handlers.now ≤ 3 }
     requires going { CanStep app.now machine.old }
     requires begun { (L.logged log.old).told ≡ [] }
@@ -80,9 +83,15 @@ fn step_onto<L: Log>(machine: &mut Machine, app: &App, handlers: &[HandlerId], l
 {
     app.well_formed();
     inject_all(machine, app, handlers, log);
-    act_current(machine, app, log);
+    // The end of the step stands twice, so that nothing is asked behind an op behind which nothing may follow.
+    if !act_current(machine, app, log) {
+        machine.settle(log);
+        machine.steps += 1;
+        return false;
+    }
     machine.settle(log);
     machine.steps += 1;
+    true
 }
 
 /// One step of the run: these handlers, three at most, and then the running task's op, or a tick of idle (profile). The
@@ -348,9 +357,8 @@ fn go_on_in_room(
         if is_over(kernel, app) {
             return;
         }
-        step_onto(kernel, app, &[], trail);
-        let leaving = pass_on(kernel, app, points, until, trail.is_silent(), limits);
-        pass_leave(kernel, app, points, until, leaving, limits, trail);
+        let may_follow = step_onto(kernel, app, &[], trail);
+        pass_more(kernel, app, points, until, may_follow, limits, trail);
     }
 }
 

@@ -64,6 +64,8 @@ pub fn wake_all(sched: &mut Sched, clock: &mut Clock, tasks: &[TaskId])
 
 impl Machine {
     /// Tells who runs now, where that is a change.
+    // This and the three below end most steps, and stand several times in the program, so the compiler doesn't inline them by itself.
+    #[inline(always)]
     fn write_change<L: Log>(&self, before: Option<TaskId>, log: &mut L)
         requires { 0 < (L.logged log.old).room }
         ensures event { (L.logged log.new).told ≡ (L.logged log.old).told
@@ -94,6 +96,7 @@ impl Machine {
     }
 
     /// The choice runs.
+    #[inline(always)]
     pub fn choose<L: Log>(&mut self, log: &mut L)
         requires room { 0 < (L.logged log.old).room }
         requires free { self.old.sched.depth ≡ 0 }
@@ -145,6 +148,7 @@ impl Machine {
     }
 
     /// The end of a step: where the running task isn't Ready any more, the choice runs, unless the scheduler is held.
+    #[inline(always)]
     pub fn settle<L: Log>(&mut self, log: &mut L)
         requires { 0 < (L.logged log.old).room }
         ensures { DoesAny 1 self.old (L.logged log.old) self.new (L.logged log.new)

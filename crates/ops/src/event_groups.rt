@@ -112,8 +112,9 @@ fn begin_set(machine: &mut Machine, task: TaskId, group: GroupId, mask: u32)
 }
 
 /// The hold ends, and the set answers the bits that are kept.
-#[inline(always)]
-fn end_set<L: Log>(machine: &mut Machine, app: &App, task: TaskId, log: &mut L)
+// Inlined, it would be the half of the main loop that hardly any step goes through.
+#[inline(never)]
+pub fn end_set<L: Log>(machine: &mut Machine, app: &App, task: TaskId, log: &mut L)
     requires room { 2 ≤ (L.logged log.old).room }
     requires runs { Runs machine.old task }
     requires can { CanLeave machine.old task }
@@ -217,7 +218,7 @@ fn check_bits<L: Log>(
 
 /// The hold ends, and the choice runs.
 #[inline(always)]
-fn leave_bits_wait<L: Log>(machine: &mut Machine, task: TaskId, log: &mut L)
+pub fn leave_bits_wait<L: Log>(machine: &mut Machine, task: TaskId, log: &mut L)
     requires room { 1 ≤ (L.logged log.old).room }
     requires can { CanLeave machine.old task }
     ensures { Does 1 machine.old (L.logged log.old) machine.new (L.logged log.new)

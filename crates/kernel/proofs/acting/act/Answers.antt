@@ -1,11 +1,20 @@
-use Rattle.std.proofs.Common.{◌∙◌, arith, refl, subst, sym}
+use Rattle.std.proofs.Common.{◌∙◌, ◌<◌, ap, arith, refl, subst, sym}
 use Rattle.model.specs.declared.op.Op.TheVariants.{Work, Delay, DelayUntil, Yield, Time, Mark, Expect, Repeat, End as EndLoop, Await, Do, MessagesWaiting, SpacesAvailable, SetBits, ClearBits, GetBits, WaitBits, Suspend, Resume, ResumeAll}
 use Rattle.model.specs.declared.event.Misuse.TheVariants.{NotSuspended}
+use Rattle.model.specs.State.{Progress}
+use Rattle.machine.specs.StandsFor.{progress_in}
 use Rattle.kernel.specs.Can.{CanOp}
 use Rattle.kernel.proofs.Held.{misused_at, not_suspended}
 use Rattle.kernel.proofs.Acted.{all_within, any_by_form, does_by_form, one_within, room_for_one, room_for_two, two_within}
 use Rattle.machine.proofs.Either.{does_any, does_more, moves_any}
 use Rattle.kernel.proofs.acting.act.Goals as goal
+
+pub overflow_sub-left : goal.overflow_sub-left
+overflow_sub-left g c =
+    let can = subst (CanOp c.args.app.now c.args.machine.now c.args.task) c.in-Work.is c.requires.can in
+    let used : (progress_in c.args.machine.now.progress c.args.task).used < c.in-Work.ticks = can.used in
+    let same = ap (λ (p : Progress). p.used) (c.behind-machine.view_is ∙ c.progress.ensures) in
+    omega arith
 
 pub returns-in-Work : goal.returns-in-Work
 returns-in-Work g c =

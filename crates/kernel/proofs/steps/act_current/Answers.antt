@@ -17,5 +17,5 @@ act-requires-clause-can g c = let l = c.if-machine-gt0.false in (c.requires.can.
 pub returns-in-Some-op_of : goal.returns-in-Some-op_of
 returns-in-Some-op_of g c = acts c.args.app.now c.args.machine.now c.in-Some.task (sym c.current.ensures.current ∙ c.in-Some.is) c.in-Some-op_of.op.now (let P : Progress → Type 0 = λ p. op_at c.args.app.now c.in-Some.task p.op_index ≡ Some c.in-Some-op_of.op.now in subst P (c.behind-machine.view_is ∙ c.progress.ensures) c.in-Some-op_of.ensures.some) c.act.new.machine _ _ c.act.ensures
 
-pub returns-in_default-op_of : goal.returns-in_default-op_of
-returns-in_default-op_of g c = rests c.args.app.now c.args.machine.now c.in-Some.task (sym c.current.ensures.current ∙ c.in-Some.is) (let P : Progress → Type 0 = λ p. op_at c.args.app.now c.in-Some.task p.op_index ≡ None in subst P (c.behind-machine.view_is ∙ c.progress.ensures) (c.in_default-op_of.ensures.none refl)) _
+pub returns-in-None : goal.returns-in-None
+returns-in-None g c = rests c.args.app.now c.args.machine.now c.in-Some.task (sym c.current.ensures.current ∙ c.in-Some.is) (let P : Progress → Type 0 = λ p. op_at c.args.app.now c.in-Some.task p.op_index ≡ None in subst P (c.behind-machine.view_is ∙ c.progress.ensures) (c.in-None.ensures.none refl)) _

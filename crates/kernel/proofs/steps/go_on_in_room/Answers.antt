@@ -1,16 +1,15 @@
 use Rattle.std.proofs.Common.{◌≡◌, ◌<◌, ◌++◌, ℕ, List, None, [], ap, sym, subst, ◌∙◌, append-nil, arith}
 use Rattle.model.specs.Step.{step}
 use Rattle.model.specs.Run.{end_of, injected, state_after}
-use Rattle.model.specs.declared.event.Event.{Event}
 use Rattle.model.proofs.Injected.{from_here}
 use Rattle.machine.specs.Logged.{all_of}
 use Rattle.kernel.specs.Rows.{events_from}
 use Rattle.kernel.proofs.Planned.{stands_as}
-use Rattle.kernel.proofs.Running.{can_step, goes_on, more_events, more_from, silent_from, steps_more, told_after}
+use Rattle.kernel.proofs.Running.{can_step, goes_on, more_events, more_from, steps_more, told_after}
 use Rattle.kernel.proofs.steps.go_on_in_room.Goals as goal
 
-pub step_onto-requires-clause-going : goal.step_onto-requires-clause-going
-step_onto-requires-clause-going c =
+pub step_onto-may_follow-requires-clause-going : goal.step_onto-may_follow-requires-clause-going
+step_onto-may_follow-requires-clause-going c =
     let on : end_of c.args.app.now c.args.limits.now (state_after c.args.app.now c.args.points.now c.steps.kernel.steps) ≡ None = c.requires.free c.steps.kernel.steps c.steps.invariant.on (omega (arith, c.steps-test.true)) (sym (c.if-is_over.ensures _ c.steps.invariant.way.stands)) in
     can_step c.args.app.now c.well_formed-2.ensures c.args.points.now c.args.limits.now c.well_formed-3.ensures c.steps.kernel c.steps.invariant.way on
 
@@ -19,54 +18,34 @@ steps-smaller c =
     let lt : c.steps.kernel.steps < c.args.until = omega (arith, c.steps-test.true) in
     let on : end_of c.args.app.now c.args.limits.now (state_after c.args.app.now c.args.points.now c.steps.kernel.steps) ≡ None = c.requires.free c.steps.kernel.steps c.steps.invariant.on (omega (arith, c.steps-test.true)) (sym (c.if-is_over.ensures _ c.steps.invariant.way.stands)) in
     let none : [] ≡ injected c.args.points.now c.steps.kernel.steps = sym (c.requires.alone c.steps.kernel.steps c.steps.invariant.on (omega (arith, c.steps-test.true))) in
-    let stands = stands_as c.args.app.now c.steps.kernel c.step_onto.new.machine [] (injected c.args.points.now c.steps.kernel.steps) none c.step_onto.ensures.stands in
-    let m = steps_more c.args.app.now c.well_formed-2.ensures c.args.points.now c.args.limits.now c.well_formed-3.ensures c.steps.kernel c.steps.invariant.way on c.step_onto.new.machine stands in
-    let passed = c.pass_on-leaving.ensures.on in
+    let stands = stands_as c.args.app.now c.steps.kernel c.step_onto-may_follow.new.machine [] (injected c.args.points.now c.steps.kernel.steps) none c.step_onto-may_follow.ensures.stands in
+    let m = steps_more c.args.app.now c.well_formed-2.ensures c.args.points.now c.args.limits.now c.well_formed-3.ensures c.steps.kernel c.steps.invariant.way on c.step_onto-may_follow.new.machine stands in
+    let passed = c.pass_more.ensures.on in
     omega arith
 
-pub pass_on-leaving-requires-clause-way : goal.pass_on-leaving-requires-clause-way
-pass_on-leaving-requires-clause-way c =
+pub pass_more-requires-clause-way : goal.pass_more-requires-clause-way
+pass_more-requires-clause-way c =
     let on : end_of c.args.app.now c.args.limits.now (state_after c.args.app.now c.args.points.now c.steps.kernel.steps) ≡ None = c.requires.free c.steps.kernel.steps c.steps.invariant.on (omega (arith, c.steps-test.true)) (sym (c.if-is_over.ensures _ c.steps.invariant.way.stands)) in
     let none : [] ≡ injected c.args.points.now c.steps.kernel.steps = sym (c.requires.alone c.steps.kernel.steps c.steps.invariant.on (omega (arith, c.steps-test.true))) in
-    let stands = stands_as c.args.app.now c.steps.kernel c.step_onto.new.machine [] (injected c.args.points.now c.steps.kernel.steps) none c.step_onto.ensures.stands in
-    goes_on c.args.app.now c.well_formed-2.ensures c.args.points.now c.args.limits.now c.well_formed-3.ensures c.steps.kernel c.steps.invariant.way on c.step_onto.new.machine stands
+    let stands = stands_as c.args.app.now c.steps.kernel c.step_onto-may_follow.new.machine [] (injected c.args.points.now c.steps.kernel.steps) none c.step_onto-may_follow.ensures.stands in
+    goes_on c.args.app.now c.well_formed-2.ensures c.args.points.now c.args.limits.now c.well_formed-3.ensures c.steps.kernel c.steps.invariant.way on c.step_onto-may_follow.new.machine stands
 
-pub pass_on-leaving-requires-clause-alone : goal.pass_on-leaving-requires-clause-alone
-pass_on-leaving-requires-clause-alone c =
+pub pass_more-requires-clause-alone : goal.pass_more-requires-clause-alone
+pass_more-requires-clause-alone c =
     let on : end_of c.args.app.now c.args.limits.now (state_after c.args.app.now c.args.points.now c.steps.kernel.steps) ≡ None = c.requires.free c.steps.kernel.steps c.steps.invariant.on (omega (arith, c.steps-test.true)) (sym (c.if-is_over.ensures _ c.steps.invariant.way.stands)) in
     let none : [] ≡ injected c.args.points.now c.steps.kernel.steps = sym (c.requires.alone c.steps.kernel.steps c.steps.invariant.on (omega (arith, c.steps-test.true))) in
-    let stands = stands_as c.args.app.now c.steps.kernel c.step_onto.new.machine [] (injected c.args.points.now c.steps.kernel.steps) none c.step_onto.ensures.stands in
-    let m = steps_more c.args.app.now c.well_formed-2.ensures c.args.points.now c.args.limits.now c.well_formed-3.ensures c.steps.kernel c.steps.invariant.way on c.step_onto.new.machine stands in
+    let stands = stands_as c.args.app.now c.steps.kernel c.step_onto-may_follow.new.machine [] (injected c.args.points.now c.steps.kernel.steps) none c.step_onto-may_follow.ensures.stands in
+    let m = steps_more c.args.app.now c.well_formed-2.ensures c.args.points.now c.args.limits.now c.well_formed-3.ensures c.steps.kernel c.steps.invariant.way on c.step_onto-may_follow.new.machine stands in
     let so_far = c.steps.invariant.on in
     λ n from below. c.requires.alone n (omega arith) below
 
-pub pass_on-leaving-requires-clause-free : goal.pass_on-leaving-requires-clause-free
-pass_on-leaving-requires-clause-free c =
+pub pass_more-requires-clause-free : goal.pass_more-requires-clause-free
+pass_more-requires-clause-free c =
     let on : end_of c.args.app.now c.args.limits.now (state_after c.args.app.now c.args.points.now c.steps.kernel.steps) ≡ None = c.requires.free c.steps.kernel.steps c.steps.invariant.on (omega (arith, c.steps-test.true)) (sym (c.if-is_over.ensures _ c.steps.invariant.way.stands)) in
     let none : [] ≡ injected c.args.points.now c.steps.kernel.steps = sym (c.requires.alone c.steps.kernel.steps c.steps.invariant.on (omega (arith, c.steps-test.true))) in
-    let stands = stands_as c.args.app.now c.steps.kernel c.step_onto.new.machine [] (injected c.args.points.now c.steps.kernel.steps) none c.step_onto.ensures.stands in
-    let m = steps_more c.args.app.now c.well_formed-2.ensures c.args.points.now c.args.limits.now c.well_formed-3.ensures c.steps.kernel c.steps.invariant.way on c.step_onto.new.machine stands in
+    let stands = stands_as c.args.app.now c.steps.kernel c.step_onto-may_follow.new.machine [] (injected c.args.points.now c.steps.kernel.steps) none c.step_onto-may_follow.ensures.stands in
+    let m = steps_more c.args.app.now c.well_formed-2.ensures c.args.points.now c.args.limits.now c.well_formed-3.ensures c.steps.kernel c.steps.invariant.way on c.step_onto-may_follow.new.machine stands in
     let so_far = c.steps.invariant.on in
-    λ n from below going. c.requires.free n (omega arith) below going
-
-pub pass_leave-requires-clause-alone : goal.pass_leave-requires-clause-alone
-pass_leave-requires-clause-alone c =
-    let on : end_of c.args.app.now c.args.limits.now (state_after c.args.app.now c.args.points.now c.steps.kernel.steps) ≡ None = c.requires.free c.steps.kernel.steps c.steps.invariant.on (omega (arith, c.steps-test.true)) (sym (c.if-is_over.ensures _ c.steps.invariant.way.stands)) in
-    let none : [] ≡ injected c.args.points.now c.steps.kernel.steps = sym (c.requires.alone c.steps.kernel.steps c.steps.invariant.on (omega (arith, c.steps-test.true))) in
-    let stands = stands_as c.args.app.now c.steps.kernel c.step_onto.new.machine [] (injected c.args.points.now c.steps.kernel.steps) none c.step_onto.ensures.stands in
-    let m = steps_more c.args.app.now c.well_formed-2.ensures c.args.points.now c.args.limits.now c.well_formed-3.ensures c.steps.kernel c.steps.invariant.way on c.step_onto.new.machine stands in
-    let so_far = c.steps.invariant.on in
-    let passed = c.pass_on-leaving.ensures.on in
-    λ n from below. c.requires.alone n (omega arith) below
-
-pub pass_leave-requires-clause-free : goal.pass_leave-requires-clause-free
-pass_leave-requires-clause-free c =
-    let on : end_of c.args.app.now c.args.limits.now (state_after c.args.app.now c.args.points.now c.steps.kernel.steps) ≡ None = c.requires.free c.steps.kernel.steps c.steps.invariant.on (omega (arith, c.steps-test.true)) (sym (c.if-is_over.ensures _ c.steps.invariant.way.stands)) in
-    let none : [] ≡ injected c.args.points.now c.steps.kernel.steps = sym (c.requires.alone c.steps.kernel.steps c.steps.invariant.on (omega (arith, c.steps-test.true))) in
-    let stands = stands_as c.args.app.now c.steps.kernel c.step_onto.new.machine [] (injected c.args.points.now c.steps.kernel.steps) none c.step_onto.ensures.stands in
-    let m = steps_more c.args.app.now c.well_formed-2.ensures c.args.points.now c.args.limits.now c.well_formed-3.ensures c.steps.kernel c.steps.invariant.way on c.step_onto.new.machine stands in
-    let so_far = c.steps.invariant.on in
-    let passed = c.pass_on-leaving.ensures.on in
     λ n from below going. c.requires.free n (omega arith) below going
 
 pub steps-preserved : goal.steps-preserved
@@ -74,20 +53,16 @@ steps-preserved c =
     let lt : c.steps.kernel.steps < c.args.until = omega (arith, c.steps-test.true) in
     let on : end_of c.args.app.now c.args.limits.now (state_after c.args.app.now c.args.points.now c.steps.kernel.steps) ≡ None = c.requires.free c.steps.kernel.steps c.steps.invariant.on (omega (arith, c.steps-test.true)) (sym (c.if-is_over.ensures _ c.steps.invariant.way.stands)) in
     let none : [] ≡ injected c.args.points.now c.steps.kernel.steps = sym (c.requires.alone c.steps.kernel.steps c.steps.invariant.on (omega (arith, c.steps-test.true))) in
-    let stands = stands_as c.args.app.now c.steps.kernel c.step_onto.new.machine [] (injected c.args.points.now c.steps.kernel.steps) none c.step_onto.ensures.stands in
-    let m = steps_more c.args.app.now c.well_formed-2.ensures c.args.points.now c.args.limits.now c.well_formed-3.ensures c.steps.kernel c.steps.invariant.way on c.step_onto.new.machine stands in
+    let stands = stands_as c.args.app.now c.steps.kernel c.step_onto-may_follow.new.machine [] (injected c.args.points.now c.steps.kernel.steps) none c.step_onto-may_follow.ensures.stands in
+    let m = steps_more c.args.app.now c.well_formed-2.ensures c.args.points.now c.args.limits.now c.well_formed-3.ensures c.steps.kernel c.steps.invariant.way on c.step_onto-may_follow.new.machine stands in
     let o = c.steps.invariant.on in
-    let passed = c.pass_on-leaving.ensures.on in
-    let left = c.pass_leave.ensures.on in
-    let whole : all_of c.step_onto.new.log ≡ all_of c.args.trail.now ++ events_from c.args.app.now c.args.points.now c.args.kernel.now.steps c.step_onto.new.machine.steps = more_events c.args.app.now c.well_formed-2.ensures c.args.points.now c.args.limits.now c.well_formed-3.ensures c.steps.kernel c.steps.invariant.way on c.step_onto.new.machine stands c.args.kernel.now.steps c.steps.invariant.on (all_of c.args.trail.now) (all_of c.steps.trail) (all_of c.step_onto.new.log) c.steps.invariant.events (subst (λ (hs : List ℕ). all_of c.step_onto.new.log ≡ all_of c.steps.trail ++ (step c.args.app.now hs (state_after c.args.app.now c.args.points.now c.steps.kernel.steps)).log) none (told_after c.step_onto.new.log _ _ (c.step_onto.ensures.before ∙ c.begin.ensures.before) (c.step_onto.ensures.told _ c.steps.invariant.way.stands))) in
-    let then : all_of c.step_onto.new.log ≡ all_of c.args.trail.now ++ events_from c.args.app.now c.args.points.now c.args.kernel.now.steps c.pass_on-leaving.new.kernel.steps =
-    whole ∙ ap (λ (es : List Event). all_of c.args.trail.now ++ es) (sym (silent_from c.args.app.now c.args.points.now c.step_onto.new.machine.steps c.pass_on-leaving.new.kernel.steps passed c.pass_on-leaving.ensures.silent c.args.kernel.now.steps)) in
-    let far = c.pass_on-leaving.ensures.far (omega arith) in
+    let passed = c.pass_more.ensures.on in
+    let whole : all_of c.step_onto-may_follow.new.log ≡ all_of c.args.trail.now ++ events_from c.args.app.now c.args.points.now c.args.kernel.now.steps c.step_onto-may_follow.new.machine.steps = more_events c.args.app.now c.well_formed-2.ensures c.args.points.now c.args.limits.now c.well_formed-3.ensures c.steps.kernel c.steps.invariant.way on c.step_onto-may_follow.new.machine stands c.args.kernel.now.steps c.steps.invariant.on (all_of c.args.trail.now) (all_of c.steps.trail) (all_of c.step_onto-may_follow.new.log) c.steps.invariant.events (subst (λ (hs : List ℕ). all_of c.step_onto-may_follow.new.log ≡ all_of c.steps.trail ++ (step c.args.app.now hs (state_after c.args.app.now c.args.points.now c.steps.kernel.steps)).log) none (told_after c.step_onto-may_follow.new.log _ _ (c.step_onto-may_follow.ensures.before ∙ c.begin.ensures.before) (c.step_onto-may_follow.ensures.told _ c.steps.invariant.way.stands))) in
     record {
-      way = c.pass_leave.ensures.way;
+      way = c.pass_more.ensures.way;
       on = omega arith;
-      far = λ _. c.pass_leave.ensures.far far;
-      events = more_from c.args.app.now c.args.points.now c.args.kernel.now.steps c.pass_on-leaving.new.kernel.steps c.pass_leave.new.kernel.steps (omega arith) left (all_of c.args.trail.now) (all_of c.step_onto.new.log) (all_of c.pass_leave.new.trail) then c.pass_leave.ensures.events;
+      far = λ _. c.pass_more.ensures.far (omega arith);
+      events = more_from c.args.app.now c.args.points.now c.args.kernel.now.steps c.step_onto-may_follow.new.machine.steps c.pass_more.new.kernel.steps (omega arith) passed (all_of c.args.trail.now) (all_of c.step_onto-may_follow.new.log) (all_of c.pass_more.new.trail) whole c.pass_more.ensures.events;
     }
 
 pub steps-init : goal.steps-init

@@ -1,0 +1,69 @@
+-- Where a call on an event group lets go of the scheduler.
+use Rattle.std.proofs.Common.{◌≡◌, ◌≢◌, ℕ, true, Option, refl, subst, arith}
+use Rattle.model.specs.declared.op.Op.{Op}
+use Rattle.model.specs.declared.op.Op.TheVariants.{Work, Delay, DelayUntil, Yield, Time, Mark, Expect, Repeat, End, Await, Do, GiveMutex, MessagesWaiting, SpacesAvailable, SetBits, ClearBits, GetBits, WaitBits, Suspend, Resume, SuspendAll, ResumeAll}
+use Rattle.model.specs.declared.call.Condition.{Condition}
+use Rattle.model.specs.declared.call.Phase.TheVariants.{Start, Leave, Final}
+use Rattle.model.specs.Application.{Application}
+use Rattle.model.specs.State.{call_at}
+use Rattle.model.specs.Switching.{choose, preempt}
+use Rattle.model.specs.Waiting.{end_hold}
+use Rattle.model.specs.Ops.{answer}
+use Rattle.model.specs.Step.{act_current}
+use Rattle.machine.specs.declared.machine.Machine.{Machine}
+use Rattle.machine.specs.Logged.{Logged}
+use Rattle.machine.specs.StandsFor.{Does, DoesAny}
+use Rattle.machine.proofs.Either.{does_any, does_more}
+use Rattle.ops.specs.Can.{CanLeave, CanSetBits, CanWaitBits}
+use Rattle.machine.specs.Can.{Runs}
+use Rattle.ops.proofs.EventBits.{set_in_phase, wait_in_phase}
+use Rattle.kernel.specs.Bits.{IsLettingGo, is_for_bits}
+use Rattle.kernel.specs.Can.{CanOp}
+use Rattle.kernel.proofs.Acted.{any_by_form, two_within}
+use Rattle.kernel.proofs.Running.{acts}
+
+module _ (app : Application) (k : Machine) (task : ℕ) (op : Op) (l : IsLettingGo app k task op) (can : CanOp app k task op) where
+  module _ (group mask : ℕ) (is : op ≡ SetBits group mask) where
+    pub can_end_set : Runs k task × CanLeave k task
+    can_end_set = subst (CanSetBits k task) l.reached (subst (CanOp app k task) is can)
+
+    pub ends_set : (new : Machine) (old_log new_log : Logged) → Does 2 k old_log new new_log (λ s. preempt (answer app task (call_at s task).kept (end_hold task Start s))) → DoesAny 65 k old_log new new_log (λ s. act_current app s.current s)
+    ends_set new old_log new_log does =
+        acts app k task l.current op l.at new old_log new_log
+        (any_by_form app k new old_log new_log task op (SetBits group mask) is l.awake (λ s. refl) refl 2 two_within
+        (set_in_phase app k new old_log new_log task group mask Leave l.reached (does_any 2 k new old_log new_log _ can_end_set.1.call.agrees does)))
+
+  module _ (group : ℕ) (condition : Condition) (ticks : Option ℕ) (is : op ≡ WaitBits group condition ticks) where
+    pub can_leave_wait : CanLeave k task
+    can_leave_wait = subst (CanWaitBits k task ticks) l.reached (subst (CanOp app k task) is can)
+
+    pub leaves_wait : (new : Machine) (old_log new_log : Logged) → Does 1 k old_log new new_log (λ s. choose (end_hold task Final s)) → DoesAny 65 k old_log new new_log (λ s. act_current app s.current s)
+    leaves_wait new old_log new_log does =
+        acts app k task l.current op l.at new old_log new_log
+        (any_by_form app k new old_log new_log task op (WaitBits group condition ticks) is l.awake (λ s. refl) refl 2 two_within
+        (wait_in_phase app k new old_log new_log task group condition ticks Leave l.reached (does_more 1 2 k new old_log new_log _ (omega arith) (does_any 1 k new old_log new_log _ can_leave_wait.call.agrees does))))
+
+-- No other op is for bits.
+pub no_other : (op : Op) → is_for_bits op ≡ true → ((group mask : ℕ) → op ≢ SetBits group mask) → ((group : ℕ) (condition : Condition) (ticks : Option ℕ) → op ≢ WaitBits group condition ticks) → ⊥
+no_other (Work n) e sets waits = absurd (cc)
+no_other (Delay n) e sets waits = absurd (cc)
+no_other (DelayUntil n) e sets waits = absurd (cc)
+no_other Yield e sets waits = absurd (cc)
+no_other Time e sets waits = absurd (cc)
+no_other (Mark n) e sets waits = absurd (cc)
+no_other (Expect a) e sets waits = absurd (cc)
+no_other (Repeat n) e sets waits = absurd (cc)
+no_other End e sets waits = absurd (cc)
+no_other (Await o a w) e sets waits = absurd (cc)
+no_other (Do o a) e sets waits = absurd (cc)
+no_other (GiveMutex o) e sets waits = absurd (cc)
+no_other (MessagesWaiting o) e sets waits = absurd (cc)
+no_other (SpacesAvailable o) e sets waits = absurd (cc)
+no_other (ClearBits g m) e sets waits = absurd (cc)
+no_other (GetBits g) e sets waits = absurd (cc)
+no_other (Suspend j) e sets waits = absurd (cc)
+no_other (Resume j) e sets waits = absurd (cc)
+no_other SuspendAll e sets waits = absurd (cc)
+no_other ResumeAll e sets waits = absurd (cc)
+no_other (SetBits group mask) e sets waits = sets group mask refl
+no_other (WaitBits group condition ticks) e sets waits = waits group condition ticks refl

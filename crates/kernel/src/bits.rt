@@ -1,0 +1,158 @@
+//! The steps in which a call on an event group lets go of the scheduler. Each comes after a step that told nothing, in which the call
+//! has taken hold of it, and is done with the call in hand.
+ghost use Rattle.std.specs.Prelude.{◌≡◌, true, false, None, Some, ℕ, ◌<◌, ◌≤◌, ◌++◌, [], IfSome};
+ghost use Rattle.model.specs.declared.call.Phase.TheVariants.{Leave};
+ghost use Rattle.model.specs.State.{State};
+ghost use Rattle.model.specs.Step.{act_current, step};
+ghost use Rattle.model.specs.Run.{end_of, injected, state_after};
+ghost use Rattle.machine.specs.Logged.{all_of};
+ghost use Rattle.machine.specs.StandsFor.{DoesAny, Stands, progress_in};
+ghost use Rattle.machine.specs.Can.{IsUnderWay};
+ghost use Rattle.kernel.specs.Bits.{IsLettingGo, is_for_bits};
+ghost use Rattle.kernel.specs.Can.{CanOp, CanStep};
+ghost use Rattle.kernel.specs.Over.{is_over};
+ghost use Rattle.kernel.specs.Rows.{events_from};
+
+use crate::in_call::{pass_leave, phase};
+use crate::quiet::pass_on;
+use crate::steps::{is_over_running, op_of};
+use machine::{Log, Machine, Trail};
+use model::{App, Limits, Op, Phase, Point, TaskId};
+use ops::event_groups::{end_set, leave_bits_wait};
+
+/// Whether an op sets bits, or waits for them.
+#[inline(always)]
+fn is_for_bits(op: &Op) -> bool
+    ensures { result ≡ is_for_bits op.now }
+{
+    matches!(op, Op::SetBits(_, _) | Op::WaitBits(_, _, _))
+}
+
+/// The running task, where its call lets go of the scheduler next.
+#[inline(always)]
+fn letting_go(machine: &Machine) -> Option<TaskId>
+    ensures current { IfSome result (λ task. machine.now.sched.current ≡ Some task) }
+    ensures reached { IfSome result (λ task. (progress_in machine.now.progress task).call.phase ≡ Leave) }
+{
+    let task = machine.sched.current()?;
+    if phase(machine, task) != Phase::Leave {
+        return None;
+    }
+    Some(task)
+}
+
+/// What such an op does where it lets go of the scheduler.
+#[inline(always)]
+fn let_go<L: Log>(machine: &mut Machine, app: &App, task: TaskId, op: &Op, log: &mut L)
+    requires room { 65 ≤ (L.logged log.old).room }
+    requires can { CanOp app.now machine.old task op.now }
+    requires going { IsLettingGo app.now machine.old task op.now }
+    ensures { DoesAny 65 machine.old (L.logged log.old) machine.new (L.logged log.new)
+        (λ s. act_current app.now s.current s) }
+{
+    match *op {
+        Op::WaitBits(_, _, _) => leave_bits_wait(machine, task, log),
+        Op::SetBits(_, _) => end_set(machine, app, task, log),
+        // No other op is for bits.
+        _ => {}
+    }
+}
+
+/// One step of the run, in which the running task's call on an event group lets go of the scheduler. The log has no event of this
+/// step yet.
+#[inline(always)]
+fn step_letting_go<L: Log>(machine: &mut Machine, app: &App, task: TaskId, op: &Op, log: &mut L)
+    requires going { CanStep app.now machine.old }
+    requires letting { IsLettingGo app.now machine.old task op.now }
+    requires begun { (L.logged log.old).told ≡ [] }
+    requires room { 128 ≤ (L.logged log.old).room }
+    ensures stands { (s : State) → Stands machine.old s → Stands machine.new (step app.now [] s) }
+    ensures told { (s : State) → Stands machine.old s
+        → (L.logged log.new).told ≡ (step app.now [] s).log }
+    ensures before { (L.logged log.new).before ≡ (L.logged log.old).before }
+{
+    app.well_formed();
+    let_go(machine, app, task, op, log);
+    machine.settle(log);
+    machine.steps += 1;
+}
+
+/// Does the step in which the running task's call on an event group lets go of the scheduler, where it has come to that; but none where
+/// the plan may have a point or a limit may be reached, of which there are none before this number.
+#[inline(always)]
+fn pass_bits(
+    kernel: &mut Machine,
+    app: &App,
+    points: &[Point],
+    until: u32,
+    task: TaskId,
+    limits: &Limits,
+    trail: &mut Trail,
+)
+    requires way { IsUnderWay app.now points.now limits.now kernel.old }
+    requires alone { (n : ℕ) → kernel.old.steps ≤ n → n < until → injected points.now n ≡ [] }
+    requires free { (n : ℕ) → kernel.old.steps ≤ n → n < until
+        → is_over app.now (state_after app.now points.now n) ≡ false
+        → end_of app.now limits.now (state_after app.now points.now n) ≡ None }
+    requires runs { kernel.old.sched.current ≡ Some task }
+    requires reached { (progress_in kernel.old.progress task).call.phase ≡ Leave }
+    ensures way { IsUnderWay app.now points.now limits.now kernel.new }
+    ensures on { kernel.old.steps ≤ kernel.new.steps }
+    ensures far { kernel.old.steps ≤ until → kernel.new.steps ≤ until }
+    ensures events { all_of trail.new
+        ≡ all_of trail.old ++ events_from app.now points.now kernel.old.steps kernel.new.steps }
+{
+    app.well_formed();
+    limits.well_formed();
+    if kernel.suspensions > 0 || until <= kernel.steps {
+        return;
+    }
+    let Some(op) = op_of(app, task, kernel.progress(task).op_index) else {
+        return;
+    };
+    if !is_for_bits(op) {
+        return;
+    }
+    if is_over_running(kernel) {
+        return;
+    }
+    if trail.begin().is_err() {
+        return;
+    }
+    step_letting_go(kernel, app, task, op, trail);
+}
+
+/// The steps after one that told nothing, if such come as are done one after another (`pass_on` tells which), and the one in which a
+/// call lets go of the scheduler: none where an op is done behind which none may follow.
+#[inline(always)]
+pub(crate) fn pass_more(
+    kernel: &mut Machine,
+    app: &App,
+    points: &[Point],
+    until: u32,
+    may_follow: bool,
+    limits: &Limits,
+    trail: &mut Trail,
+)
+    requires way { IsUnderWay app.now points.now limits.now kernel.old }
+    requires alone { (n : ℕ) → kernel.old.steps ≤ n → n < until → injected points.now n ≡ [] }
+    requires free { (n : ℕ) → kernel.old.steps ≤ n → n < until
+        → is_over app.now (state_after app.now points.now n) ≡ false
+        → end_of app.now limits.now (state_after app.now points.now n) ≡ None }
+    ensures way { IsUnderWay app.now points.now limits.now kernel.new }
+    ensures on { kernel.old.steps ≤ kernel.new.steps }
+    ensures far { kernel.old.steps ≤ until → kernel.new.steps ≤ until }
+    ensures events { all_of trail.new
+        ≡ all_of trail.old ++ events_from app.now points.now kernel.old.steps kernel.new.steps }
+{
+    app.well_formed();
+    if !may_follow || !trail.is_silent() {
+        return;
+    }
+    if let Some(task) = letting_go(kernel) {
+        pass_bits(kernel, app, points, until, task, limits, trail);
+        return;
+    }
+    let leaving = pass_on(kernel, app, points, until, true, limits);
+    pass_leave(kernel, app, points, until, leaving, limits, trail);
+}
