@@ -77,8 +77,8 @@ fn step_letting_go<L: Log>(machine: &mut Machine, app: &App, task: TaskId, op: &
     machine.steps += 1;
 }
 
-/// Does the step in which the running task's call on an event group lets go of the scheduler, where it has come to that; but none where
-/// the plan may have a point or a limit may be reached, of which there are none before this number.
+/// Does the step in which the running task's call on an event group lets go of the scheduler, where it has come to that. It is before
+/// the first of these numbers, where the plan may have a point or a limit may be reached.
 #[inline(always)]
 fn pass_bits(
     kernel: &mut Machine,
@@ -90,6 +90,7 @@ fn pass_bits(
     trail: &mut Trail,
 )
     requires way { IsUnderWay app.now points.now limits.now kernel.old }
+    requires soon { kernel.old.steps < until }
     requires alone { (n : ℕ) → kernel.old.steps ≤ n → n < until → injected points.now n ≡ [] }
     requires free { (n : ℕ) → kernel.old.steps ≤ n → n < until
         → is_over app.now (state_after app.now points.now n) ≡ false
@@ -104,7 +105,7 @@ fn pass_bits(
 {
     app.well_formed();
     limits.well_formed();
-    if kernel.suspensions > 0 || until <= kernel.steps {
+    if kernel.suspensions > 0 {
         return;
     }
     let Some(op) = op_of(app, task, kernel.progress(task).op_index) else {
@@ -135,6 +136,7 @@ pub(crate) fn pass_more(
     trail: &mut Trail,
 )
     requires way { IsUnderWay app.now points.now limits.now kernel.old }
+    requires soon { kernel.old.steps < until }
     requires alone { (n : ℕ) → kernel.old.steps ≤ n → n < until → injected points.now n ≡ [] }
     requires free { (n : ℕ) → kernel.old.steps ≤ n → n < until
         → is_over app.now (state_after app.now points.now n) ≡ false

@@ -326,8 +326,8 @@ pub(crate) fn count_steps(meter: &mut Meter, steps: u32)
     }
 }
 
-/// Goes on as `go_on` does, but counts nothing, and also stops where the trail has less room than a step may need and gets no
-/// more.
+/// Goes on as `go_on` does, but counts nothing, and also stops before the last step, so that two steps may be done at once, and where
+/// the trail has less room than a step may need and gets no more.
 #[inline(never)]
 fn go_on_in_room(
     kernel: &mut Machine,
@@ -350,7 +350,8 @@ fn go_on_in_room(
 {
     app.well_formed();
     limits.well_formed();
-    'steps: while kernel.steps < until {
+    let last = until.saturating_sub(1);
+    'steps: while kernel.steps < last {
         if trail.begin().is_err() {
             return;
         }

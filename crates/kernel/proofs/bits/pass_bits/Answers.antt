@@ -33,38 +33,38 @@ step_letting_go-requires-clause-letting c = record {
 
 pub step_letting_go-requires-clause-going : goal.step_letting_go-requires-clause-going
 step_letting_go-requires-clause-going c =
-    let on : end_of c.args.app.now c.args.limits.now (state_after c.args.app.now c.args.points.now c.args.kernel.now.steps) ≡ None = c.requires.free c.args.kernel.now.steps (omega arith) (omega (arith, c.if-until-kernel.false)) (sym (c.if-is_over_running.ensures c.args.app.now _ c.requires.way.stands)) in
+    let on : end_of c.args.app.now c.args.limits.now (state_after c.args.app.now c.args.points.now c.args.kernel.now.steps) ≡ None = c.requires.free c.args.kernel.now.steps (omega arith) (omega (arith, c.requires.soon)) (sym (c.if-is_over_running.ensures c.args.app.now _ c.requires.way.stands)) in
     can_step c.args.app.now c.well_formed-2.ensures c.args.points.now c.args.limits.now c.well_formed-3.ensures c.args.kernel.now c.requires.way on
 
 pub returns-clause-way : goal.returns-clause-way
 returns-clause-way c =
-    let on : end_of c.args.app.now c.args.limits.now (state_after c.args.app.now c.args.points.now c.args.kernel.now.steps) ≡ None = c.requires.free c.args.kernel.now.steps (omega arith) (omega (arith, c.if-until-kernel.false)) (sym (c.if-is_over_running.ensures c.args.app.now _ c.requires.way.stands)) in
-    let none : [] ≡ injected c.args.points.now c.args.kernel.now.steps = sym (c.requires.alone c.args.kernel.now.steps (omega arith) (omega (arith, c.if-until-kernel.false))) in
+    let on : end_of c.args.app.now c.args.limits.now (state_after c.args.app.now c.args.points.now c.args.kernel.now.steps) ≡ None = c.requires.free c.args.kernel.now.steps (omega arith) (omega (arith, c.requires.soon)) (sym (c.if-is_over_running.ensures c.args.app.now _ c.requires.way.stands)) in
+    let none : [] ≡ injected c.args.points.now c.args.kernel.now.steps = sym (c.requires.alone c.args.kernel.now.steps (omega arith) (omega (arith, c.requires.soon))) in
     let stands = stands_as c.args.app.now c.args.kernel.now c.step_letting_go.new.machine [] (injected c.args.points.now c.args.kernel.now.steps) none c.step_letting_go.ensures.stands in
     let more = steps_more c.args.app.now c.well_formed-2.ensures c.args.points.now c.args.limits.now c.well_formed-3.ensures c.args.kernel.now c.requires.way on c.step_letting_go.new.machine stands in
     goes_on c.args.app.now c.well_formed-2.ensures c.args.points.now c.args.limits.now c.well_formed-3.ensures c.args.kernel.now c.requires.way on c.step_letting_go.new.machine stands
 
 pub returns-clause-on : goal.returns-clause-on
 returns-clause-on c =
-    let on : end_of c.args.app.now c.args.limits.now (state_after c.args.app.now c.args.points.now c.args.kernel.now.steps) ≡ None = c.requires.free c.args.kernel.now.steps (omega arith) (omega (arith, c.if-until-kernel.false)) (sym (c.if-is_over_running.ensures c.args.app.now _ c.requires.way.stands)) in
-    let none : [] ≡ injected c.args.points.now c.args.kernel.now.steps = sym (c.requires.alone c.args.kernel.now.steps (omega arith) (omega (arith, c.if-until-kernel.false))) in
+    let on : end_of c.args.app.now c.args.limits.now (state_after c.args.app.now c.args.points.now c.args.kernel.now.steps) ≡ None = c.requires.free c.args.kernel.now.steps (omega arith) (omega (arith, c.requires.soon)) (sym (c.if-is_over_running.ensures c.args.app.now _ c.requires.way.stands)) in
+    let none : [] ≡ injected c.args.points.now c.args.kernel.now.steps = sym (c.requires.alone c.args.kernel.now.steps (omega arith) (omega (arith, c.requires.soon))) in
     let stands = stands_as c.args.app.now c.args.kernel.now c.step_letting_go.new.machine [] (injected c.args.points.now c.args.kernel.now.steps) none c.step_letting_go.ensures.stands in
     let more = steps_more c.args.app.now c.well_formed-2.ensures c.args.points.now c.args.limits.now c.well_formed-3.ensures c.args.kernel.now c.requires.way on c.step_letting_go.new.machine stands in
     omega arith
 
 pub returns-clause-far : goal.returns-clause-far
 returns-clause-far c =
-    let on : end_of c.args.app.now c.args.limits.now (state_after c.args.app.now c.args.points.now c.args.kernel.now.steps) ≡ None = c.requires.free c.args.kernel.now.steps (omega arith) (omega (arith, c.if-until-kernel.false)) (sym (c.if-is_over_running.ensures c.args.app.now _ c.requires.way.stands)) in
-    let none : [] ≡ injected c.args.points.now c.args.kernel.now.steps = sym (c.requires.alone c.args.kernel.now.steps (omega arith) (omega (arith, c.if-until-kernel.false))) in
+    let on : end_of c.args.app.now c.args.limits.now (state_after c.args.app.now c.args.points.now c.args.kernel.now.steps) ≡ None = c.requires.free c.args.kernel.now.steps (omega arith) (omega (arith, c.requires.soon)) (sym (c.if-is_over_running.ensures c.args.app.now _ c.requires.way.stands)) in
+    let none : [] ≡ injected c.args.points.now c.args.kernel.now.steps = sym (c.requires.alone c.args.kernel.now.steps (omega arith) (omega (arith, c.requires.soon))) in
     let stands = stands_as c.args.app.now c.args.kernel.now c.step_letting_go.new.machine [] (injected c.args.points.now c.args.kernel.now.steps) none c.step_letting_go.ensures.stands in
     let more = steps_more c.args.app.now c.well_formed-2.ensures c.args.points.now c.args.limits.now c.well_formed-3.ensures c.args.kernel.now c.requires.way on c.step_letting_go.new.machine stands in
-    let short = c.if-until-kernel.false in
+    let short = c.requires.soon in
     λ _. omega arith
 
 pub returns-clause-events : goal.returns-clause-events
 returns-clause-events c =
-    let on : end_of c.args.app.now c.args.limits.now (state_after c.args.app.now c.args.points.now c.args.kernel.now.steps) ≡ None = c.requires.free c.args.kernel.now.steps (omega arith) (omega (arith, c.if-until-kernel.false)) (sym (c.if-is_over_running.ensures c.args.app.now _ c.requires.way.stands)) in
-    let none : [] ≡ injected c.args.points.now c.args.kernel.now.steps = sym (c.requires.alone c.args.kernel.now.steps (omega arith) (omega (arith, c.if-until-kernel.false))) in
+    let on : end_of c.args.app.now c.args.limits.now (state_after c.args.app.now c.args.points.now c.args.kernel.now.steps) ≡ None = c.requires.free c.args.kernel.now.steps (omega arith) (omega (arith, c.requires.soon)) (sym (c.if-is_over_running.ensures c.args.app.now _ c.requires.way.stands)) in
+    let none : [] ≡ injected c.args.points.now c.args.kernel.now.steps = sym (c.requires.alone c.args.kernel.now.steps (omega arith) (omega (arith, c.requires.soon))) in
     let stands = stands_as c.args.app.now c.args.kernel.now c.step_letting_go.new.machine [] (injected c.args.points.now c.args.kernel.now.steps) none c.step_letting_go.ensures.stands in
     let more = steps_more c.args.app.now c.well_formed-2.ensures c.args.points.now c.args.limits.now c.well_formed-3.ensures c.args.kernel.now c.requires.way on c.step_letting_go.new.machine stands in
     let told = told_after c.step_letting_go.new.log _ _ (c.step_letting_go.ensures.before ∙ c.begin.ensures.before) (c.step_letting_go.ensures.told _ c.requires.way.stands) in

@@ -10,14 +10,14 @@ use Rattle.kernel.proofs.steps.go_on_in_room.Goals as goal
 
 pub step_onto-may_follow-requires-clause-going : goal.step_onto-may_follow-requires-clause-going
 step_onto-may_follow-requires-clause-going c =
-    let on : end_of c.args.app.now c.args.limits.now (state_after c.args.app.now c.args.points.now c.steps.kernel.steps) ≡ None = c.requires.free c.steps.kernel.steps c.steps.invariant.on (omega (arith, c.steps-test.true)) (sym (c.if-is_over.ensures _ c.steps.invariant.way.stands)) in
+    let on : end_of c.args.app.now c.args.limits.now (state_after c.args.app.now c.args.points.now c.steps.kernel.steps) ≡ None = c.requires.free c.steps.kernel.steps c.steps.invariant.on (omega (arith, c.steps-test.true, c.saturating_sub-last.ensures)) (sym (c.if-is_over.ensures _ c.steps.invariant.way.stands)) in
     can_step c.args.app.now c.well_formed-2.ensures c.args.points.now c.args.limits.now c.well_formed-3.ensures c.steps.kernel c.steps.invariant.way on
 
 pub steps-smaller : goal.steps-smaller
 steps-smaller c =
-    let lt : c.steps.kernel.steps < c.args.until = omega (arith, c.steps-test.true) in
-    let on : end_of c.args.app.now c.args.limits.now (state_after c.args.app.now c.args.points.now c.steps.kernel.steps) ≡ None = c.requires.free c.steps.kernel.steps c.steps.invariant.on (omega (arith, c.steps-test.true)) (sym (c.if-is_over.ensures _ c.steps.invariant.way.stands)) in
-    let none : [] ≡ injected c.args.points.now c.steps.kernel.steps = sym (c.requires.alone c.steps.kernel.steps c.steps.invariant.on (omega (arith, c.steps-test.true))) in
+    let lt : c.steps.kernel.steps < c.args.until = omega (arith, c.steps-test.true, c.saturating_sub-last.ensures) in
+    let on : end_of c.args.app.now c.args.limits.now (state_after c.args.app.now c.args.points.now c.steps.kernel.steps) ≡ None = c.requires.free c.steps.kernel.steps c.steps.invariant.on (omega (arith, c.steps-test.true, c.saturating_sub-last.ensures)) (sym (c.if-is_over.ensures _ c.steps.invariant.way.stands)) in
+    let none : [] ≡ injected c.args.points.now c.steps.kernel.steps = sym (c.requires.alone c.steps.kernel.steps c.steps.invariant.on (omega (arith, c.steps-test.true, c.saturating_sub-last.ensures))) in
     let stands = stands_as c.args.app.now c.steps.kernel c.step_onto-may_follow.new.machine [] (injected c.args.points.now c.steps.kernel.steps) none c.step_onto-may_follow.ensures.stands in
     let m = steps_more c.args.app.now c.well_formed-2.ensures c.args.points.now c.args.limits.now c.well_formed-3.ensures c.steps.kernel c.steps.invariant.way on c.step_onto-may_follow.new.machine stands in
     let passed = c.pass_more.ensures.on in
@@ -25,15 +25,25 @@ steps-smaller c =
 
 pub pass_more-requires-clause-way : goal.pass_more-requires-clause-way
 pass_more-requires-clause-way c =
-    let on : end_of c.args.app.now c.args.limits.now (state_after c.args.app.now c.args.points.now c.steps.kernel.steps) ≡ None = c.requires.free c.steps.kernel.steps c.steps.invariant.on (omega (arith, c.steps-test.true)) (sym (c.if-is_over.ensures _ c.steps.invariant.way.stands)) in
-    let none : [] ≡ injected c.args.points.now c.steps.kernel.steps = sym (c.requires.alone c.steps.kernel.steps c.steps.invariant.on (omega (arith, c.steps-test.true))) in
+    let on : end_of c.args.app.now c.args.limits.now (state_after c.args.app.now c.args.points.now c.steps.kernel.steps) ≡ None = c.requires.free c.steps.kernel.steps c.steps.invariant.on (omega (arith, c.steps-test.true, c.saturating_sub-last.ensures)) (sym (c.if-is_over.ensures _ c.steps.invariant.way.stands)) in
+    let none : [] ≡ injected c.args.points.now c.steps.kernel.steps = sym (c.requires.alone c.steps.kernel.steps c.steps.invariant.on (omega (arith, c.steps-test.true, c.saturating_sub-last.ensures))) in
     let stands = stands_as c.args.app.now c.steps.kernel c.step_onto-may_follow.new.machine [] (injected c.args.points.now c.steps.kernel.steps) none c.step_onto-may_follow.ensures.stands in
     goes_on c.args.app.now c.well_formed-2.ensures c.args.points.now c.args.limits.now c.well_formed-3.ensures c.steps.kernel c.steps.invariant.way on c.step_onto-may_follow.new.machine stands
 
+pub pass_more-requires-clause-soon : goal.pass_more-requires-clause-soon
+pass_more-requires-clause-soon c =
+    let on : end_of c.args.app.now c.args.limits.now (state_after c.args.app.now c.args.points.now c.steps.kernel.steps) ≡ None = c.requires.free c.steps.kernel.steps c.steps.invariant.on (omega (arith, c.steps-test.true, c.saturating_sub-last.ensures)) (sym (c.if-is_over.ensures _ c.steps.invariant.way.stands)) in
+    let none : [] ≡ injected c.args.points.now c.steps.kernel.steps = sym (c.requires.alone c.steps.kernel.steps c.steps.invariant.on (omega (arith, c.steps-test.true, c.saturating_sub-last.ensures))) in
+    let stands = stands_as c.args.app.now c.steps.kernel c.step_onto-may_follow.new.machine [] (injected c.args.points.now c.steps.kernel.steps) none c.step_onto-may_follow.ensures.stands in
+    let m = steps_more c.args.app.now c.well_formed-2.ensures c.args.points.now c.args.limits.now c.well_formed-3.ensures c.steps.kernel c.steps.invariant.way on c.step_onto-may_follow.new.machine stands in
+    let short = c.steps-test.true in
+    let is = c.saturating_sub-last.ensures in
+    omega arith
+
 pub pass_more-requires-clause-alone : goal.pass_more-requires-clause-alone
 pass_more-requires-clause-alone c =
-    let on : end_of c.args.app.now c.args.limits.now (state_after c.args.app.now c.args.points.now c.steps.kernel.steps) ≡ None = c.requires.free c.steps.kernel.steps c.steps.invariant.on (omega (arith, c.steps-test.true)) (sym (c.if-is_over.ensures _ c.steps.invariant.way.stands)) in
-    let none : [] ≡ injected c.args.points.now c.steps.kernel.steps = sym (c.requires.alone c.steps.kernel.steps c.steps.invariant.on (omega (arith, c.steps-test.true))) in
+    let on : end_of c.args.app.now c.args.limits.now (state_after c.args.app.now c.args.points.now c.steps.kernel.steps) ≡ None = c.requires.free c.steps.kernel.steps c.steps.invariant.on (omega (arith, c.steps-test.true, c.saturating_sub-last.ensures)) (sym (c.if-is_over.ensures _ c.steps.invariant.way.stands)) in
+    let none : [] ≡ injected c.args.points.now c.steps.kernel.steps = sym (c.requires.alone c.steps.kernel.steps c.steps.invariant.on (omega (arith, c.steps-test.true, c.saturating_sub-last.ensures))) in
     let stands = stands_as c.args.app.now c.steps.kernel c.step_onto-may_follow.new.machine [] (injected c.args.points.now c.steps.kernel.steps) none c.step_onto-may_follow.ensures.stands in
     let m = steps_more c.args.app.now c.well_formed-2.ensures c.args.points.now c.args.limits.now c.well_formed-3.ensures c.steps.kernel c.steps.invariant.way on c.step_onto-may_follow.new.machine stands in
     let so_far = c.steps.invariant.on in
@@ -41,8 +51,8 @@ pass_more-requires-clause-alone c =
 
 pub pass_more-requires-clause-free : goal.pass_more-requires-clause-free
 pass_more-requires-clause-free c =
-    let on : end_of c.args.app.now c.args.limits.now (state_after c.args.app.now c.args.points.now c.steps.kernel.steps) ≡ None = c.requires.free c.steps.kernel.steps c.steps.invariant.on (omega (arith, c.steps-test.true)) (sym (c.if-is_over.ensures _ c.steps.invariant.way.stands)) in
-    let none : [] ≡ injected c.args.points.now c.steps.kernel.steps = sym (c.requires.alone c.steps.kernel.steps c.steps.invariant.on (omega (arith, c.steps-test.true))) in
+    let on : end_of c.args.app.now c.args.limits.now (state_after c.args.app.now c.args.points.now c.steps.kernel.steps) ≡ None = c.requires.free c.steps.kernel.steps c.steps.invariant.on (omega (arith, c.steps-test.true, c.saturating_sub-last.ensures)) (sym (c.if-is_over.ensures _ c.steps.invariant.way.stands)) in
+    let none : [] ≡ injected c.args.points.now c.steps.kernel.steps = sym (c.requires.alone c.steps.kernel.steps c.steps.invariant.on (omega (arith, c.steps-test.true, c.saturating_sub-last.ensures))) in
     let stands = stands_as c.args.app.now c.steps.kernel c.step_onto-may_follow.new.machine [] (injected c.args.points.now c.steps.kernel.steps) none c.step_onto-may_follow.ensures.stands in
     let m = steps_more c.args.app.now c.well_formed-2.ensures c.args.points.now c.args.limits.now c.well_formed-3.ensures c.steps.kernel c.steps.invariant.way on c.step_onto-may_follow.new.machine stands in
     let so_far = c.steps.invariant.on in
@@ -50,9 +60,9 @@ pass_more-requires-clause-free c =
 
 pub steps-preserved : goal.steps-preserved
 steps-preserved c =
-    let lt : c.steps.kernel.steps < c.args.until = omega (arith, c.steps-test.true) in
-    let on : end_of c.args.app.now c.args.limits.now (state_after c.args.app.now c.args.points.now c.steps.kernel.steps) ≡ None = c.requires.free c.steps.kernel.steps c.steps.invariant.on (omega (arith, c.steps-test.true)) (sym (c.if-is_over.ensures _ c.steps.invariant.way.stands)) in
-    let none : [] ≡ injected c.args.points.now c.steps.kernel.steps = sym (c.requires.alone c.steps.kernel.steps c.steps.invariant.on (omega (arith, c.steps-test.true))) in
+    let lt : c.steps.kernel.steps < c.args.until = omega (arith, c.steps-test.true, c.saturating_sub-last.ensures) in
+    let on : end_of c.args.app.now c.args.limits.now (state_after c.args.app.now c.args.points.now c.steps.kernel.steps) ≡ None = c.requires.free c.steps.kernel.steps c.steps.invariant.on (omega (arith, c.steps-test.true, c.saturating_sub-last.ensures)) (sym (c.if-is_over.ensures _ c.steps.invariant.way.stands)) in
+    let none : [] ≡ injected c.args.points.now c.steps.kernel.steps = sym (c.requires.alone c.steps.kernel.steps c.steps.invariant.on (omega (arith, c.steps-test.true, c.saturating_sub-last.ensures))) in
     let stands = stands_as c.args.app.now c.steps.kernel c.step_onto-may_follow.new.machine [] (injected c.args.points.now c.steps.kernel.steps) none c.step_onto-may_follow.ensures.stands in
     let m = steps_more c.args.app.now c.well_formed-2.ensures c.args.points.now c.args.limits.now c.well_formed-3.ensures c.steps.kernel c.steps.invariant.way on c.step_onto-may_follow.new.machine stands in
     let o = c.steps.invariant.on in
