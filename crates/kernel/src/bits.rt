@@ -77,8 +77,8 @@ fn step_letting_go<L: Log>(machine: &mut Machine, app: &App, task: TaskId, op: &
     machine.steps += 1;
 }
 
-/// Does the step in which the running task's call on an event group lets go of the scheduler, where it has come to that. It is before
-/// the first of these numbers, where the plan may have a point or a limit may be reached.
+/// Does the step in which the running task's call on an event group lets go of the scheduler, where it has come to that. It comes before
+/// the step of this number, and before that one the plan has no point and no limit is reached.
 #[inline(always)]
 fn pass_bits(
     kernel: &mut Machine,

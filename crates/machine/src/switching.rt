@@ -64,7 +64,8 @@ pub fn wake_all(sched: &mut Sched, clock: &mut Clock, tasks: &[TaskId])
 
 impl Machine {
     /// Tells who runs now, where that is a change.
-    // This and the three below end most steps, and stand several times in the program, so the compiler doesn't inline them by itself.
+    // This, the slice and the end of a step come in most steps, and stand several times in the program, so the compiler doesn't inline them
+    // by itself.
     #[inline(always)]
     fn write_change<L: Log>(&self, before: Option<TaskId>, log: &mut L)
         requires { 0 < (L.logged log.old).room }
@@ -96,7 +97,8 @@ impl Machine {
     }
 
     /// The choice runs.
-    #[inline(always)]
+    // Inlined, it would take more from the rest of the step, in registers, than a call costs.
+    #[inline(never)]
     pub fn choose<L: Log>(&mut self, log: &mut L)
         requires room { 0 < (L.logged log.old).room }
         requires free { self.old.sched.depth ≡ 0 }
