@@ -7,7 +7,7 @@ use std::marker::Model;
 /// At most `SIZE` bytes. It stands on the stack and takes no memory.
 #[derive(Drop)]
 pub struct Page {
-    bytes: [u8; 8192],
+    bytes: [u8; 32768],
     used: usize,
 }
 
@@ -18,7 +18,7 @@ impl Model for Page {
 
     ghost view = { λ p. take p.used p.bytes };
 
-    ghost invariant = { λ p. p.used ≤ 8192 };
+    ghost invariant = { λ p. p.used ≤ 32768 };
 }
 
 // Copies the text into the page from `at` on, and answers where it ends.
@@ -84,14 +84,14 @@ fn put_numeral(page: &mut [u8], at: usize, numeral: Numeral<'_>, after: u8) -> u
 
 impl Page {
     /// How many bytes a page holds at most: as many as the buffers of Rust's standard library.
-    pub const SIZE: usize = 8192;
+    pub const SIZE: usize = 32768;
 
     /// A page without bytes.
     pub fn new() -> Page
         ensures { result ≡ [] }
     {
         Page {
-            bytes: [0; 8192],
+            bytes: [0; 32768],
             used: 0,
         }
     }
