@@ -88,6 +88,19 @@ impl Clock {
         self.overflow = other.overflow;
     }
 
+    /// Whether the other clock shows the same time, holds as many ticks, and has the same sleepers.
+    pub fn is_same(&self, other: &Self) -> bool
+        ensures { result ≡ true → self.now ≡ other.now }
+    {
+        self.tick == other.tick
+            && self.overflows == other.overflows
+            && self.age == other.age
+            && self.held == other.held
+            && self.current == other.current
+            && self.overflow == other.overflow
+            && self.lists.is_same(&other.lists)
+    }
+
     /// The time in ticks, without bound: the tick at the start, and one more for each tick that has advanced since.
     pub fn now(&self) -> u64
         ensures now { result ≡ self.now.now }

@@ -1,3 +1,4 @@
+pub mod Compared
 pub mod Keys
 pub mod Waiters
 pub mod Standing

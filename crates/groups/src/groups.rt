@@ -1,5 +1,5 @@
 //! The event groups, and who waits for bits of them.
-ghost use Rattle.std.specs.Prelude.{bit_or, ◌≡◌, ◌<◌, ◌++◌, ◌∷◌, ℕ, List, [], None, Some, Option, length, map, replicate, slice_set, if◌then◌else◌, IsTrue};
+ghost use Rattle.std.specs.Prelude.{bit_or, ◌≡◌, ◌<◌, ◌++◌, ◌∷◌, ℕ, List, [], None, Some, Option, length, map, replicate, slice_set, if◌then◌else◌, true, IsTrue};
 ghost use Rattle.std.specs.List.{list_any};
 ghost use Rattle.std.specs.Option.{is_some};
 ghost use Rattle.lists.specs.Lists.{place_of, without};
@@ -89,6 +89,17 @@ impl Groups {
         self.bits = other.bits;
         self.lists.set_from(&other.lists);
         self.wants = other.wants;
+    }
+
+    /// Whether the other groups have the same bits, and the same tasks wait for bits of them, in the same order and for the
+    /// same. What a task waited for last is compared too.
+    pub fn is_same(&self, other: &Self) -> bool
+        ensures { result ≡ true → self.now ≡ other.now }
+    {
+        if self.bits != other.bits || self.wants != other.wants {
+            return false;
+        }
+        self.lists.is_same(&other.lists)
     }
 
     /// The bits of a group (`xEventGroupGetBits`).

@@ -48,7 +48,7 @@ pub(crate) fn take_met(
     let mut left = bits;
     let mut at = lists.first(list);
     while let Some(task) = at {
-        at = lists.next(task);
+        at = lists.next_in_list(task);
         let condition = &wants[task.number as usize];
         if is_met(bits, condition) {
             lists.remove(task);

@@ -1,8 +1,10 @@
+pub mod Compared
 pub mod Entries
 pub mod Laws
 pub mod Links
 pub mod Rings
 pub mod Rotating
+pub mod Same
 pub mod Search
 pub mod SearchBack
 pub mod Spelled

@@ -1,5 +1,5 @@
 //! The table: its lists, and their links.
-ghost use Rattle.std.specs.Prelude.{◌≡◌, ◌≢◌, Some, ℕ, ◌+◌, ◌<◌, ◌≤◌, ◌↔◌, List, [], ◌∷◌, ◌++◌, get_or, length, replicate, slice_set, slice_index_or, map, option_map, IsTrue, IsNone};
+ghost use Rattle.std.specs.Prelude.{◌≡◌, ◌≢◌, Some, ℕ, ◌+◌, ◌<◌, ◌≤◌, ◌↔◌, List, [], ◌∷◌, ◌++◌, get_or, length, replicate, slice_set, slice_index_or, map, option_map, true, IsTrue, IsNone};
 ghost use Rattle.std.specs.Option.{ForSome};
 ghost use Rattle.lists.specs.Links.{lists_of, links_of, ends_of, node_at, IsRingTable, SplitsBefore, upper};
 ghost use Rattle.lists.specs.Lists.{entries_of, first_of, has_node, insert_sorted, next_of, place_of, rotated, second_of, value_of, without, IsSorted, IsSound};
@@ -108,6 +108,26 @@ impl<const L: usize, const N: usize, const M: usize> Table<L, N, M> {
         self.values = other.values;
     }
 
+    /// Whether the lists of the other table have the same entries in the same order. What a node that is in no list has
+    /// kept from an earlier one tells nothing.
+    pub fn is_same(&self, other: &Self) -> bool
+        ensures { result ≡ true → self.now ≡ other.now }
+    {
+        let (links, other_links) = (&self.next[..], &other.next[..]);
+        if links[N..] != other_links[N..] {
+            return false;
+        }
+        for node in 0..N {
+            if self.place[node].is_none() {
+                continue;
+            }
+            if self.next[node] != other.next[node] || self.values[node] != other.values[node] {
+                return false;
+            }
+        }
+        true
+    }
+
     /// The first node of a list below `L`; `None` where the list is empty.
     pub fn first(&self, list: ListId) -> Option<NodeId>
         requires { list.number < L }
@@ -182,10 +202,23 @@ impl<const L: usize, const N: usize, const M: usize> Table<L, N, M> {
         ensures sound { IsSound L N self.now }
     {
         if self.place[node.number as usize].is_some() {
-            node_at::<N>(self.next[node.number as usize])
+            self.next_in_list(node)
         } else {
             None
         }
+    }
+
+    /// As `next`, for a node below `N` that is in a list. Of a node in no list, any.
+    // It doesn't look where the node is.
+    pub fn next_in_list(&self, node: NodeId) -> Option<NodeId>
+        requires { node.number < N }
+        ensures next { (list : ℕ) → IsTrue (has_node node.number (entries_of self.now list))
+            → option_map (λ node. node.number) result
+            ≡ next_of node.number (entries_of self.now list) }
+        ensures known { ForSome (option_map (λ node. node.number) result) (λ node. node < N) }
+        ensures sound { IsSound L N self.now }
+    {
+        node_at::<N>(self.next[node.number as usize])
     }
 
     /// Takes a node below `N` out of its list. One that is in no list stays so. The other entries keep their order.

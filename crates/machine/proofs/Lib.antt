@@ -1,3 +1,4 @@
+pub mod Compared
 pub mod Looping
 pub mod Parts
 pub mod Either

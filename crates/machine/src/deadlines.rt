@@ -1,5 +1,5 @@
 //! Until when a call waits.
-ghost use Rattle.std.specs.Prelude.{◌≡◌, ◌<◌, ◌+◌, ◌^◌, false, Option, Some};
+ghost use Rattle.std.specs.Prelude.{◌≡◌, ◌≢◌, ◌<◌, ◌+◌, ◌^◌, false, Some};
 ghost use Rattle.std.specs.Option.{option_map};
 ghost use Rattle.model.specs.State.{State};
 ghost use Rattle.model.specs.Waiting.{set_deadline};
@@ -12,28 +12,47 @@ use crate::machine::Machine;
 use clock::Clock;
 use model::TaskId;
 
-/// The time so many ticks after this one; `None` where a call waits for ever.
-fn deadline_after(now: u64, ticks: Option<u32>) -> Option<u64>
-    requires { now + 2 ^ 32 < 2 ^ 63 }
-    ensures { result ≡ option_map (λ n. now + n) ticks }
+/// A task that has begun to wait until this deadline is put among those who wake by themselves.
+// Most waits at objects are for ever, so it isn't inlined into what asks for the deadline.
+#[inline(never)]
+fn sleep_until(clock: &mut Clock, deadline: u64, task: TaskId)
+    requires awake { is_asleep clock.old task ≡ false }
+    requires ahead { IsAhead clock.old.now (Some deadline) }
+    ensures { (s : State) → ClockStandsBefore task (Some deadline) clock.old s → ClockStandsFor clock.new s }
 {
-    Some(now + ticks? as u64)
+    let ticks = deadline - clock.now();
+    clock.sleep(task, ticks as u32);
 }
 
 /// A task that has begun to wait until a deadline, if there is one, is put among those who wake by themselves.
+#[inline(always)]
 pub fn place_sleeper(clock: &mut Clock, deadline: Option<u64>, task: TaskId)
     requires awake { is_asleep clock.old task ≡ false }
     requires ahead { IsAhead clock.old.now deadline }
     ensures { (s : State) → ClockStandsBefore task deadline clock.old s → ClockStandsFor clock.new s }
 {
     if let Some(deadline) = deadline {
-        let ticks = deadline - clock.now();
-        clock.sleep(task, ticks as u32);
+        sleep_until(clock, deadline, task);
+    }
+}
+
+/// A task that has begun to wait for so many ticks, or for ever, is put among those who wake by themselves, where it is not for ever.
+// Where the ticks are still at hand, the time needn't be asked.
+#[inline(always)]
+pub fn place_sleeper_for(clock: &mut Clock, ticks: Option<u32>, task: TaskId)
+    requires awake { is_asleep clock.old task ≡ false }
+    requires some { ticks ≢ Some 0 }
+    ensures { (s : State) → ClockStandsBefore task (option_map (λ n. clock.old.now + n) ticks) clock.old s
+        → ClockStandsFor clock.new s }
+{
+    if let Some(ticks) = ticks {
+        clock.sleep(task, ticks);
     }
 }
 
 impl Machine {
     /// The call of the running task, which begins, may wait for so many ticks from now, or for ever.
+    // Mostly it is for ever, for which the time needn't be asked.
     pub fn set_deadline(&mut self, task: TaskId, ticks: Option<u32>)
         requires can { IsInCall self.old task }
         requires time { self.old.clock.now + 2 ^ 32 < 2 ^ 63 }
@@ -44,7 +63,12 @@ impl Machine {
         ensures deadline { (progress_in self.new.progress task).call.deadline
             ≡ option_map (λ n. self.old.clock.now + n) ticks }
     {
-        let deadline = deadline_after(self.clock.now(), ticks);
-        self.set_call_deadline(task, deadline);
+        match ticks {
+            None => self.set_call_deadline(task, None),
+            Some(ticks) => {
+                let deadline = self.clock.now() + ticks as u64;
+                self.set_call_deadline(task, Some(deadline));
+            }
+        }
     }
 }

@@ -13,7 +13,7 @@ mod switching;
 mod trail;
 
 pub use answering::one_if;
-pub use deadlines::place_sleeper;
+pub use deadlines::{place_sleeper, place_sleeper_for};
 pub use log::{Log, StepLog};
 pub use loops::Loops;
 pub use machine::Machine;

@@ -1,5 +1,5 @@
 //! The open loops of a task.
-ghost use Rattle.std.specs.Prelude.{◌≡◌, ◌<◌, ◌∷◌, [], length};
+ghost use Rattle.std.specs.Prelude.{◌≡◌, ◌<◌, ◌∷◌, [], length, true};
 ghost use Rattle.machine.specs.Loops.{after_turn, next_turn};
 
 use model::Loop;
@@ -42,6 +42,21 @@ impl Loops {
     {
         self.cells = other.cells;
         self.nesting = other.nesting;
+    }
+
+    /// Whether the same loops are open in the other. What a loop that is closed has left tells nothing.
+    pub(crate) fn is_same(&self, other: &Self) -> bool
+        ensures { result ≡ true → self.now ≡ other.now }
+    {
+        if self.nesting != other.nesting {
+            return false;
+        }
+        for level in 0..self.nesting as usize {
+            if self.cells[level] != other.cells[level] {
+                return false;
+            }
+        }
+        true
     }
 
     /// Opens one more, the innermost.

@@ -1,5 +1,5 @@
 //! The kernel's state, and the parts of which each step is made.
-ghost use Rattle.std.specs.Prelude.{◌≡◌, ◌<◌, ◌+◌, ◌++◌, ◌∷◌, [], Some, length};
+ghost use Rattle.std.specs.Prelude.{◌≡◌, ◌<◌, ◌+◌, ◌++◌, ◌∷◌, [], Some, length, true};
 ghost use Rattle.model.specs.State.{no_call, printed};
 ghost use Rattle.model.specs.Switching.{write};
 ghost use Rattle.model.specs.Suspension.{phase_resumed, resumed};
@@ -50,6 +50,18 @@ pub(crate) fn copy_progress(progress: &[Progress; 32]) -> [Progress; 32]
     let mut copy = without_tasks();
     set_progress_from(&mut copy, progress);
     copy
+}
+
+/// Whether each progress is the same as the other at its place.
+pub(crate) fn is_same_progress(progress: &[Progress; 32], other: &[Progress; 32]) -> bool
+    ensures { result ≡ true → progress.now ≡ other.now }
+{
+    for task in 0..32 {
+        if !progress[task].is_same(&other[task]) {
+            return false;
+        }
+    }
+    true
 }
 
 /// The phase in which a resumed task's call goes on: one that was to decide tries again.

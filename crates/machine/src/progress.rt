@@ -29,7 +29,7 @@ impl Model for Progress {
 }
 
 impl Progress {
-    ghost use Rattle.std.specs.Prelude.{◌≡◌};
+    ghost use Rattle.std.specs.Prelude.{◌≡◌, true};
     ghost use Rattle.model.specs.State.{no_progress};
 
     /// At the first op, of which nothing is done, and counting from this time.
@@ -65,5 +65,20 @@ impl Progress {
         self.answer = other.answer;
         self.previous_wake = other.previous_wake;
         self.call = other.call;
+    }
+
+    /// Whether the other is at the same place, and keeps the same.
+    pub(crate) fn is_same(&self, other: &Self) -> bool
+        ensures { result ≡ true → self.now ≡ other.now }
+    {
+        if self.op_index != other.op_index
+            || self.used != other.used
+            || self.answer != other.answer
+            || self.previous_wake != other.previous_wake
+            || self.call != other.call
+        {
+            return false;
+        }
+        self.loops.is_same(&other.loops)
     }
 }

@@ -1,7 +1,7 @@
 //! A kernel as it stood once.
-ghost use Rattle.std.specs.Prelude.{◌≡◌, IfOk};
+ghost use Rattle.std.specs.Prelude.{◌≡◌, true, IfOk};
 
-use crate::machine::{Machine, copy_progress, set_progress_from};
+use crate::machine::{Machine, copy_progress, is_same_progress, set_progress_from};
 use crate::progress::Progress;
 use clock::Clock;
 use groups::Groups;
@@ -34,6 +34,15 @@ impl Model for Snapshot {
     ghost Value = { declared.Machine };
 
     ghost view = { λ s. record { progress = s.progress; sched = s.sched; clock = s.clock; queues = s.queues; groups = s.groups; suspensions = s.suspensions; wait_list = s.wait_list; next_interrupt = s.next_interrupt; steps = s.steps; stopped = s.stopped } };
+}
+
+impl Snapshot {
+    /// How many steps were done, at most 1,000,000 in a run.
+    pub fn steps(&self) -> u32
+        ensures { result ≡ self.now.steps }
+    {
+        self.steps
+    }
 }
 
 impl Machine {
@@ -71,5 +80,25 @@ impl Machine {
         self.next_interrupt = snapshot.next_interrupt;
         self.steps = snapshot.steps;
         self.stopped = snapshot.stopped;
+    }
+
+    /// Whether the kernel stands as it did in this snapshot. What its lists, queues and loops have kept of entries, items and
+    /// turns that are gone tells nothing.
+    pub fn is_at(&self, snapshot: &Snapshot) -> bool
+        ensures { result ≡ true → self.now ≡ snapshot.now }
+    {
+        if self.steps != snapshot.steps
+            || self.suspensions != snapshot.suspensions
+            || self.next_interrupt != snapshot.next_interrupt
+            || self.wait_list != snapshot.wait_list
+            || self.stopped != snapshot.stopped
+        {
+            return false;
+        }
+        self.clock.is_same(&snapshot.clock)
+            && self.sched.is_same(&snapshot.sched)
+            && is_same_progress(&self.progress, &snapshot.progress)
+            && self.queues.is_at(&snapshot.queues)
+            && self.groups.is_same(&snapshot.groups)
     }
 }

@@ -35,7 +35,7 @@ pub struct Condition {
 }
 
 /// A list in which tasks wait at an object.
-#[derive(Clone, Copy)]
+#[derive(Clone, Copy, PartialEq, Eq)]
 pub enum WaitList {
     /// For an item, a count or a mutex (`xTasksWaitingToReceive`).
     ToReceive(ObjectId),
@@ -44,7 +44,7 @@ pub enum WaitList {
 }
 
 /// How far the call that a task is in has come.
-#[derive(Clone, Copy, Default)]
+#[derive(Clone, Copy, Default, PartialEq, Eq)]
 pub struct CallProgress {
     /// The phase that is next.
     pub phase: Phase,

@@ -1,7 +1,7 @@
 //! Loops of a script.
 
 /// A loop that is open (profile).
-#[derive(Clone, Copy, Default)]
+#[derive(Clone, Copy, Default, PartialEq, Eq)]
 pub struct Loop {
     /// The index of the op at which its turns begin.
     pub start: u16,

@@ -1,5 +1,5 @@
 //! The items of the queues: a pool, and a ring in it for each queue.
-ghost use Rattle.std.specs.Prelude.{◌≡◌, ℕ, ◌+◌, ◌-◌, ◌<◌, ◌≤◌, List, [], ◌∷◌, ◌++◌, All, length, map, drop, slice_index_or, slice_set, slice_get, IfOk};
+ghost use Rattle.std.specs.Prelude.{◌≡◌, ℕ, ◌+◌, ◌-◌, ◌<◌, ◌≤◌, List, [], ◌∷◌, ◌++◌, All, length, map, drop, slice_index_or, slice_set, slice_get, true, IfOk};
 ghost use Rattle.std.specs.List.{AllByRecursion};
 ghost use Rattle.model.specs.Scripts.{IsObjectKind};
 ghost use Rattle.model.specs.State.{no_object};
@@ -248,6 +248,47 @@ impl Items {
             heads: self.heads,
             counts: self.counts,
         })
+    }
+
+    /// Whether the queues stand as in a snapshot: each has as many items, the same and in the same order. Where in the pool
+    /// they lie tells nothing.
+    pub(crate) fn is_at(&self, snapshot: &ItemsSnapshot) -> bool
+        ensures { result ≡ true → self.now ≡ snapshot.now }
+    {
+        // Where queues differ, a count mostly does, and all counts are compared at once.
+        if self.counts != snapshot.counts {
+            return false;
+        }
+        for queue in 0..32 {
+            if !self.is_queue_at(queue, snapshot) {
+                return false;
+            }
+        }
+        true
+    }
+
+    /// Whether a queue stands as in a snapshot.
+    fn is_queue_at(&self, queue: usize, snapshot: &ItemsSnapshot) -> bool
+        requires { queue < 32 }
+        ensures { result ≡ true → object_in self.now queue ≡ object_in snapshot.now queue }
+    {
+        let size = self.lengths[queue];
+        let count = self.counts[queue];
+        if size != snapshot.lengths[queue] || count != snapshot.counts[queue] {
+            return false;
+        }
+        let base = self.bases[queue] as usize;
+        let snapshot_base = snapshot.bases[queue] as usize;
+        for index in 0..count {
+            let at = wrapped(size, self.heads[queue] + index);
+            let snapshot_at = wrapped(size, snapshot.heads[queue] + index);
+            if self.pool[base + at as usize]
+                != snapshot.pool[snapshot_base + snapshot_at as usize]
+            {
+                return false;
+            }
+        }
+        true
     }
 
     /// Makes the queues those of a snapshot. It takes no memory.

@@ -6,7 +6,7 @@ ghost use Rattle.objects.specs.Queues.{counted};
 use model::{ObjectId, WaitList};
 
 /// A locked object, and how often a task of each of its lists was woken since (`cTxLock`, `cRxLock`), counted up to 32.
-#[derive(Clone, Copy)]
+#[derive(Clone, Copy, PartialEq, Eq)]
 pub struct Lock {
     pub object: ObjectId,
     pub receivers: u8,

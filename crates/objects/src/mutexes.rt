@@ -1,5 +1,5 @@
 //! Who holds the mutexes.
-ghost use Rattle.std.specs.Prelude.{◌≡◌, ◌<◌, length, replicate, slice_set, Some, None};
+ghost use Rattle.std.specs.Prelude.{◌≡◌, ◌<◌, length, replicate, slice_set, true, Some, None};
 ghost use Rattle.objects.specs.Mutexes.{count_held, holder_in};
 
 use model::TaskId;
@@ -51,6 +51,13 @@ impl Mutexes {
     {
         self.holders.copy_from_slice(&other.holders);
         self.held = other.held;
+    }
+
+    /// Whether each object has the same holder as in the other.
+    pub(crate) fn is_same(&self, other: &Self) -> bool
+        ensures { result ≡ true → self.now ≡ other.now }
+    {
+        self.holders == other.holders
     }
 
     /// The holder of an object; `None` where it has none.

@@ -154,6 +154,18 @@ impl Queues {
         self.lock = snapshot.lock;
     }
 
+    /// Whether the objects stand as in a snapshot, the same tasks wait at them, and the same one is locked.
+    pub fn is_at(&self, snapshot: &QueuesSnapshot) -> bool
+        ensures { result ≡ true → self.now ≡ snapshot.now }
+    {
+        self.number == snapshot.number
+            && self.lock == snapshot.lock
+            && self.mutexes.is_same(&snapshot.mutexes)
+            && self.semaphores.is_same(&snapshot.semaphores)
+            && self.items.is_at(&snapshot.items)
+            && self.waiting.is_same(&snapshot.waiting)
+    }
+
     /// The number of items in a queue (`uxQueueMessagesWaiting`).
     pub fn waiting(&self, queue: ObjectId) -> usize
         ensures waiting { result ≡ length (object_in self.now.objects queue).items }
@@ -185,10 +197,13 @@ impl Queues {
             → result ≡ definitions.possible s object access }
     {
         let number = object.number as usize;
+        // An arm for each, so that the compiler goes from it to that of `carry_out` at once.
         match access {
-            Access::Send(_) | Access::SendFront(_) => self.items.room(number) > 0,
+            Access::Send(_) => self.items.room(number) > 0,
+            Access::SendFront(_) => self.items.room(number) > 0,
             Access::Overwrite(_) => true,
-            Access::Receive | Access::Peek => self.items.len(number) > 0,
+            Access::Receive => self.items.len(number) > 0,
+            Access::Peek => self.items.len(number) > 0,
             Access::Take => self.semaphores.can_take(number),
             Access::Give => self.semaphores.can_give(number),
             Access::Lock => self.mutexes.holder(number).is_none(),

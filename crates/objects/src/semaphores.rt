@@ -1,5 +1,5 @@
 //! The counts of semaphores.
-ghost use Rattle.std.specs.Prelude.{◌≡◌, ℕ, ◌+◌, ◌-◌, ◌<◌, ◌≤◌, nat_lt, length, map, slice_index_or, slice_set};
+ghost use Rattle.std.specs.Prelude.{◌≡◌, ℕ, ◌+◌, ◌-◌, ◌<◌, ◌≤◌, nat_lt, length, map, slice_index_or, slice_set, true};
 ghost use Rattle.std.specs.List.{AllByRecursion};
 ghost use Rattle.model.specs.Scripts.{IsObjectKind};
 ghost use Rattle.model.specs.State.{no_object};
@@ -73,6 +73,13 @@ impl Semaphores {
     {
         self.max_counts = other.max_counts;
         self.counts = other.counts;
+    }
+
+    /// Whether each object has the same counts as in the other.
+    pub(crate) fn is_same(&self, other: &Self) -> bool
+        ensures { result ≡ true → self.now ≡ other.now }
+    {
+        self.counts == other.counts && self.max_counts == other.max_counts
     }
 
     /// Whether one can be taken from a count.

@@ -1,5 +1,5 @@
 //! The tasks that wait at objects, in lists.
-ghost use Rattle.std.specs.Prelude.{◌≡◌, ◌≢◌, ℕ, ◌<◌, [], ◌++◌, map, replicate, slice_set, take, drop, length, false, Option, Some, None};
+ghost use Rattle.std.specs.Prelude.{◌≡◌, ◌≢◌, ℕ, ◌<◌, [], ◌++◌, map, replicate, slice_set, take, drop, length, true, false, Option, Some, None};
 ghost use Rattle.std.specs.Option.{is_some};
 ghost use Rattle.lists.specs.Lists.{first_of, has_node, place_of, without, IsSound};
 ghost use Rattle.model.specs.declared.call.WaitList as definitions;
@@ -93,6 +93,13 @@ impl WaitingLists {
         ensures { self.new ≡ other.now }
     {
         self.lists.set_from(&other.lists);
+    }
+
+    /// Whether the same tasks wait in each list of the other, in the same order and with the same priorities.
+    pub(crate) fn is_same(&self, other: &Self) -> bool
+        ensures { result ≡ true → self.now ≡ other.now }
+    {
+        self.lists.is_same(&other.lists)
     }
 
     /// Whether a task is in a list.

@@ -1,5 +1,5 @@
 -- Event groups: what a change of their bits, and a wait for them, make of the states that the kernel stands for.
-use Rattle.std.proofs.Common.{◌≡◌, ◌≢◌, ◌<◌, ◌+◌, ◌||◌, ℕ, zero, suc, Bool, true, false, eqb, List, [], ◌∷◌, length, get_or, set, Option, Some, None, refl, ap, sym, subst, ◌∙◌, arith}
+use Rattle.std.proofs.Common.{◌≡◌, ◌≢◌, ◌<◌, ◌+◌, ◌||◌, ℕ, zero, suc, Bool, true, false, eqb, List, [], ◌∷◌, length, get_or, set, Option, Some, None, refl, ap, sym, subst, ◌∙◌}
 use Rattle.std.specs.Prelude.{if◌then◌else◌}
 use Rattle.std.specs.List.{AllByRecursion, filter}
 use Rattle.std.specs.Option.{is_some, option_eq, option_map}
@@ -40,8 +40,8 @@ use Rattle.machine.specs.declared.machine.Machine.{Machine}
 use Rattle.machine.specs.StandsFor.{StandsFor, At, AtAny, DoesAny, Moves, progress_in, with_progress}
 use Rattle.machine.specs.Logged.{Logged}
 use Rattle.machine.specs.Keeping.{keep_in, kept_by}
-use Rattle.machine.specs.Can.{AreThere, AreToWake, IsAhead}
-use Rattle.ops.specs.Can.{CanDecide, CanWaitBits, IsShort}
+use Rattle.machine.specs.Can.{AreThere, AreToWake}
+use Rattle.ops.specs.Can.{CanDecide, CanWaitBits}
 use Rattle.machine.proofs.Parts.{apart, clock-same, not_for_bits, progress-kept, rest_again, rest_with_groups, same_parts, sched-same}
 use Rattle.machine.proofs.Acting.{within, changed}
 use Rattle.machine.proofs.Continuing.{not_placing, recalled}
@@ -102,12 +102,6 @@ pub deadline_in : (wants : Option Condition) (ps : List Progress) (i : ℕ) → 
 deadline_in wants [] i = refl
 deadline_in wants (p ∷ ps) zero = refl
 deadline_in wants (p ∷ ps) (suc i) = deadline_in wants ps i
-
--- a deadline that is some ticks away
-pub ahead : (now : ℕ) (ticks : Option ℕ) → IsShort ticks → ticks ≢ Some 0 → IsAhead now (option_map (λ n. now + n) ticks)
-ahead now None short some = tt
-ahead now (Some zero) short some = absurd (some refl)
-ahead now (Some (suc n)) short some = (omega arith, omega arith)
 
 module _ (k : Machine) (log : List Event) (s : State) (h : At k log s) (i : ℕ) (r : k.sched.current ≡ Some i) (on : schedule.is_ready k.sched i ≡ true) where
   ready : is_ready s i ≡ true

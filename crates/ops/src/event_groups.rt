@@ -17,7 +17,7 @@ ghost use Rattle.machine.specs.Can.{AreThere, AreToWake, Runs};
 ghost use Rattle.ops.specs.Can.{CanDecide, CanLeave, CanSetBits, CanWaitBits, IsShort};
 
 use groups::Met;
-use machine::{Log, Machine, place_sleeper, wake_all};
+use machine::{Log, Machine, place_sleeper_for, wake_all};
 use model::{App, Condition, GroupId, Phase, TaskId};
 
 /// The bits of a group are the answer of the task's call; where they meet its condition it may clear them.
@@ -171,8 +171,7 @@ fn begin_bits_wait(
     machine.want(task, condition);
     machine.sched.block(task);
     machine.groups.place(task, group, condition);
-    let deadline = machine.progress(task).call.deadline;
-    place_sleeper(&mut machine.clock, deadline, task);
+    place_sleeper_for(&mut machine.clock, ticks, task);
     machine.set_phase(task, Phase::Leave);
 }
 

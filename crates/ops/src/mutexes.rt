@@ -52,6 +52,8 @@ fn inherits(machine: &Machine, task: TaskId, holder: TaskId) -> bool
 }
 
 /// A task will wait for what this one holds, and lends it its priority.
+// Few waits come to it.
+#[inline(never)]
 fn inherit_from(machine: &mut Machine, task: TaskId, holder: TaskId)
     requires { CanDecide machine.old task }
     ensures does { (log : List Event) (s : State) → At machine.old log s → holder < length s.tasks
@@ -66,6 +68,8 @@ fn inherit_from(machine: &mut Machine, task: TaskId, holder: TaskId)
 }
 
 /// A task will wait for an object, whose holder, if it has one, inherits from it.
+// Mostly nobody holds it, and a call would cost more than to see so.
+#[inline(always)]
 pub(crate) fn inherit(machine: &mut Machine, task: TaskId, object: ObjectId)
     requires { CanDecide machine.old task }
     ensures does { Moves machine.old machine.new (definitions.inherit task object) }

@@ -92,6 +92,8 @@ pub fn call_resume<L: Log>(
 }
 
 /// `suspend_all`: one more is in force.
+// Who calls it does little else.
+#[inline(always)]
 pub fn suspend_all<L: Log>(machine: &mut Machine, app: &App, task: TaskId, log: &mut L)
     requires room { 1 ≤ (L.logged log.old).room }
     requires runs { Runs machine.old task }
@@ -128,6 +130,8 @@ fn apply_held(machine: &mut Machine)
 }
 
 /// One `suspend_all` less is in force; after the last the held ticks are applied.
+// It stands in `resume_all` alone.
+#[inline(always)]
 fn resume_scheduler(machine: &mut Machine, app: &App, task: TaskId)
     requires can { CanHold app.now machine.old task op.ResumeAll }
     requires some { 0 < machine.old.suspensions }

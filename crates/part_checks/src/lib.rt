@@ -1,4 +1,4 @@
-//! Tests of lists, the clock, the scheduler, the objects and the event groups, each by itself. There is nothing here but tests.
+//! Tests of lists, the clock, the scheduler, the objects, the event groups and the kernel's state, each by itself. There is nothing here but tests.
 #![tactic(auto)]
 
 #[cfg(test)]
@@ -7,6 +7,8 @@ mod of_clock;
 mod of_groups;
 #[cfg(test)]
 mod of_lists;
+#[cfg(test)]
+mod of_machine;
 #[cfg(test)]
 mod of_objects;
 #[cfg(test)]

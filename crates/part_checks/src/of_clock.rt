@@ -80,3 +80,17 @@ fn a_held_tick_is_applied_later(rt: HostRuntime) {
     apply_tick(&rt, &mut clock, &[]);
     shows(&rt, &clock, 7, 2, 0);
 }
+
+#[test]
+fn a_sleep_that_is_over_makes_no_difference(rt: HostRuntime) {
+    let mut clock = Clock::new(5);
+    sleep(&rt, &mut clock, TaskId { number: 3 }, 9);
+    let mut other = Clock::new(5);
+    sleep(&rt, &mut other, TaskId { number: 4 }, 2);
+    sleep(&rt, &mut other, TaskId { number: 3 }, 9);
+    assert!(rt; !clock.is_same(&other));
+    other.wake(TaskId { number: 4 });
+    assert!(rt; clock.is_same(&other));
+    hold_tick(&rt, &mut other);
+    assert!(rt; !clock.is_same(&other));
+}

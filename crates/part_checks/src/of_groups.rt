@@ -89,3 +89,20 @@ fn a_wait_that_is_over_clears_only_what_is_met(rt: HostRuntime) {
     assert!(rt; groups.clear(GROUP, 0b0001) == 0b0001);
     has_bits(&rt, &groups, 0);
 }
+
+#[test]
+fn the_order_of_waits_that_are_over_makes_no_difference(rt: HostRuntime) {
+    let any = condition(0b0011, false, false);
+    let mut groups = Groups::new();
+    wait(&rt, &mut groups, 7, any);
+    wait(&rt, &mut groups, 2, any);
+    let mut other = Groups::new();
+    wait(&rt, &mut other, 2, any);
+    other.drop_waiter(TaskId { number: 2 });
+    wait(&rt, &mut other, 7, any);
+    assert!(rt; !groups.is_same(&other));
+    groups.drop_waiter(TaskId { number: 2 });
+    assert!(rt; groups.is_same(&other));
+    set(&rt, &mut other, 0b0100, &[], 0b0100, 0b0100);
+    assert!(rt; !groups.is_same(&other));
+}

@@ -99,3 +99,20 @@ fn the_first_of_a_list_is_told_from_the_others(rt: HostRuntime) {
     assert!(rt; table.is_first(LIST, NodeId { number: 3 }));
     assert!(rt; !table.is_first(LIST, NodeId { number: 5 }));
 }
+
+#[test]
+fn what_a_removed_node_has_kept_makes_no_difference(rt: HostRuntime) {
+    let mut table: Table<2, 8, 10> = Table::new();
+    put(&rt, &mut table, NodeId { number: 3 }, 20);
+    put(&rt, &mut table, NodeId { number: 5 }, 10);
+    let mut other: Table<2, 8, 10> = Table::new();
+    put(&rt, &mut other, NodeId { number: 5 }, 10);
+    put(&rt, &mut other, NodeId { number: 7 }, 15);
+    put(&rt, &mut other, NodeId { number: 3 }, 20);
+    assert!(rt; !table.is_same(&other) && !other.is_same(&table));
+    other.remove(NodeId { number: 7 });
+    assert!(rt; table.is_same(&other) && other.is_same(&table));
+    other.remove(NodeId { number: 3 });
+    put(&rt, &mut other, NodeId { number: 3 }, 21);
+    assert!(rt; !table.is_same(&other));
+}

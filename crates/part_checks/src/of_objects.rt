@@ -181,3 +181,32 @@ fn succeed(
     assert!(rt; queues.possible(object, access));
     assert!(rt; queues.carry_out(caller, object, access) == Some(1));
 }
+
+/// Receives an item from the queue, and compares it.
+fn receive(rt: &impl Abort, queues: &mut Queues, expected: u32)
+    requires { 1 < queues.old.number }
+    ensures { queues.new.number ≡ queues.old.number }
+{
+    assert!(rt; queues.possible(QUEUE, Access::Receive));
+    let item = queues.carry_out(None, QUEUE, Access::Receive);
+    assert!(rt; item == Some(expected), "{expected} is received");
+}
+
+#[test]
+fn where_items_lie_and_who_has_waited_makes_no_difference(rt: HostRuntime) {
+    let mut queues = objects();
+    succeed(&rt, &mut queues, None, QUEUE, Access::Send(8));
+    let snapshot = queues.snapshot(rt.alloc()).ok().expect(&rt, "memory");
+    assert!(rt; queues.is_at(&snapshot));
+    let mut other = objects();
+    succeed(&rt, &mut other, None, QUEUE, Access::Send(9));
+    assert!(rt; !other.is_at(&snapshot));
+    receive(&rt, &mut other, 9);
+    assert!(rt; !other.is_at(&snapshot));
+    succeed(&rt, &mut other, None, QUEUE, Access::Send(8));
+    assert!(rt; other.is_at(&snapshot));
+    put(&rt, &mut other, RECEIVERS, 4, 1);
+    assert!(rt; !other.is_at(&snapshot));
+    other.drop_waiter(TaskId { number: 4 });
+    assert!(rt; other.is_at(&snapshot));
+}

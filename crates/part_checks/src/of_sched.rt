@@ -285,3 +285,19 @@ fn a_suspended_task_is_ready_once_it_is_resumed(rt: HostRuntime) {
         ],
     );
 }
+
+#[test]
+fn the_order_in_which_others_were_ready_makes_no_difference(rt: HostRuntime) {
+    let mut sched = Sched::new(PRIORITIES);
+    wake(&rt, &mut sched, LOW);
+    let mut other = Sched::new(PRIORITIES);
+    wake(&rt, &mut other, OTHER);
+    wake(&rt, &mut other, HIGH);
+    wake(&rt, &mut other, LOW);
+    other.block(OTHER);
+    assert!(rt; !sched.is_same(&other));
+    other.block(HIGH);
+    assert!(rt; sched.is_same(&other));
+    other.choose();
+    assert!(rt; !sched.is_same(&other));
+}

@@ -1,5 +1,5 @@
 //! The tasks that are woken while the scheduler is held.
-ghost use Rattle.std.specs.Prelude.{◌≡◌, ◌↔◌, false, [], ◌∷◌, ◌++◌, drop, slice_get, IfSome, IsTrue};
+ghost use Rattle.std.specs.Prelude.{◌≡◌, ◌↔◌, true, false, [], ◌∷◌, ◌++◌, drop, slice_get, IfSome, IsTrue};
 ghost use Rattle.task_lists.specs.Tasks.{is_among, without_task};
 
 use lists::ListId;
@@ -40,6 +40,13 @@ impl PendingReadyList {
         ensures { self.new ≡ other.now }
     {
         self.lists.set_from(&other.lists);
+    }
+
+    /// Whether the same tasks are pending in the other, in the same order.
+    pub(crate) fn is_same(&self, other: &Self) -> bool
+        ensures { result ≡ true → self.now ≡ other.now }
+    {
+        self.lists.is_same(&other.lists)
     }
 
     /// Whether nobody is pending.

@@ -1,5 +1,5 @@
 //! The Ready tasks: a list for each priority.
-ghost use Rattle.std.specs.Prelude.{◌≡◌, ℕ, ◌<◌, ◌==◌, not, List, [], ◌∷◌, ◌++◌, map, Option, option_map, replicate, slice_set, None, Some, IsTrue, ◌↔◌};
+ghost use Rattle.std.specs.Prelude.{◌≡◌, ℕ, ◌<◌, ◌==◌, not, List, [], ◌∷◌, ◌++◌, map, Option, option_map, replicate, slice_set, None, Some, true, IsTrue, ◌↔◌};
 ghost use Rattle.std.specs.List.{list_any};
 ghost use Rattle.std.specs.Option.{is_some};
 ghost use Rattle.lists.specs.Lists.{entries_of, first_of, place_of, rotated, second_of, without, IsSound};
@@ -47,6 +47,13 @@ impl ReadyLists {
     {
         self.lists.set_from(&other.lists);
         self.occupied = other.occupied;
+    }
+
+    /// Whether the other has the same tasks in the same order.
+    pub(crate) fn is_same(&self, other: &Self) -> bool
+        ensures { result ≡ true → self.now ≡ other.now }
+    {
+        self.occupied == other.occupied && self.lists.is_same(&other.lists)
     }
 
     /// The highest list that is not empty.

@@ -96,6 +96,22 @@ impl Sched {
         self.suspended = other.suspended;
     }
 
+    /// Whether the same task runs in the other, the same tasks are Ready, pending and suspended, in the same order and with the
+    /// same priorities, and it is held as often.
+    pub fn is_same(&self, other: &Self) -> bool
+        ensures { result ≡ true → self.now ≡ other.now }
+    {
+        if self.current != other.current
+            || self.depth != other.depth
+            || self.suspended != other.suspended
+            || self.priorities != other.priorities
+            || self.base_priorities != other.base_priorities
+        {
+            return false;
+        }
+        self.ready.is_same(&other.ready) && self.pending.is_same(&other.pending)
+    }
+
     /// The running task; `None` where idle runs.
     pub fn current(&self) -> Option<TaskId>
         ensures current { result ≡ self.now.current }

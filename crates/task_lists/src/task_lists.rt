@@ -1,5 +1,5 @@
 //! Lists of tasks, by their typed numbers.
-ghost use Rattle.std.specs.Prelude.{◌≡◌, ◌≢◌, Some, ℕ, ◌+◌, ◌<◌, ◌≤◌, ◌↔◌, List, [], ◌∷◌, ◌++◌, replicate, slice_set, map, option_map, IsTrue, IsNone};
+ghost use Rattle.std.specs.Prelude.{◌≡◌, ◌≢◌, Some, ℕ, ◌+◌, ◌<◌, ◌≤◌, ◌↔◌, List, [], ◌∷◌, ◌++◌, replicate, slice_set, map, option_map, true, IsTrue, IsNone};
 ghost use Rattle.std.specs.Option.{ForSome, is_some};
 ghost use Rattle.lists.specs.Lists.{entries_of, first_of, has_node, insert_sorted, next_of, place_of, rotated, second_of, value_of, without, IsSorted, IsSound};
 
@@ -72,6 +72,14 @@ impl<const L: usize, const M: usize> TaskLists<L, M> {
         self.table.set_from(&other.table);
     }
 
+    /// Whether the lists of the other have the same tasks in the same order, each with the same value.
+    #[inline]
+    pub fn is_same(&self, other: &Self) -> bool
+        ensures { result ≡ true → self.now ≡ other.now }
+    {
+        self.table.is_same(&other.table)
+    }
+
     /// The first task of a list; `None` where the list is empty.
     #[inline]
     pub fn first(&self, list: ListId) -> Option<TaskId>
@@ -115,6 +123,16 @@ impl<const L: usize, const M: usize> TaskLists<L, M> {
         ensures sound { IsSound L 32 self.now }
     {
         task_of(self.table.next(node_of(task)))
+    }
+
+    /// As `next`, for a task that is in a list. Of a task in no list, any.
+    #[inline]
+    pub fn next_in_list(&self, task: TaskId) -> Option<TaskId>
+        ensures next { (list : ℕ) → IsTrue (has_node task (entries_of self.now list))
+            → result ≡ next_of task (entries_of self.now list) }
+        ensures sound { IsSound L 32 self.now }
+    {
+        task_of(self.table.next_in_list(node_of(task)))
     }
 
     /// The list that a task is in; `None` where it is in no list.

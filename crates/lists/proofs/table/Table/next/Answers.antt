@@ -2,8 +2,8 @@ use Rattle.std.proofs.Common.{◌≡◌, ℕ, get_or, refl, sym, ◌∙◌, None
 use Rattle.std.specs.Option.{is_some}
 use Rattle.lists.proofs.Entries.{none-some}
 use Rattle.lists.proofs.Links.{read_link}
-use Rattle.lists.proofs.Rings.{next_room, read_node, ring_seen}
-use Rattle.lists.proofs.Spelled.{next_is, place_is, placed_here, sound}
+use Rattle.lists.proofs.Rings.{ring_seen}
+use Rattle.lists.proofs.Spelled.{place_is, placed_here, sound}
 use Rattle.lists.proofs.table.Table.next.Goals as goal
 
 some_list : (o : Option ℕ) (b : Bool) → is_some o ≡ b → b ≡ true → (l : ℕ) × (o ≡ Some l)
@@ -15,9 +15,7 @@ no_list None b l e t i = none-some l i
 no_list (Some k) b l e t i = absurd cc
 
 pub returns-then-is_some-clause-next : goal.returns-then-is_some-clause-next
-returns-then-is_some-clause-next g c = λ l has.
-    let h = ring_seen c.self.invariant.rings c.self.view_is in
-    c.node_at.ensures ∙ sym (read_node _ _ c.args.node.number c.requires (next_room h)) ∙ next_is h.spells c.args.node.number l has
+returns-then-is_some-clause-next g c = λ l has. c.next_in_list.ensures.next l has
 
 pub returns-then-is_some-clause-outside : goal.returns-then-is_some-clause-outside
 returns-then-is_some-clause-outside g c = λ outside.

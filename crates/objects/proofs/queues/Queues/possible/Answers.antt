@@ -1,4 +1,4 @@
-use Rattle.std.proofs.Common.{inl, inr, Option, ℕ, ◌∙◌, ap, length}
+use Rattle.std.proofs.Common.{Option, ℕ, ◌∙◌, ap, length}
 use Rattle.std.specs.Prelude.{nat_lt}
 use Rattle.std.specs.Option.{is_none, is_some}
 use Rattle.model.specs.State.{Object}
@@ -11,19 +11,34 @@ use Rattle.objects.proofs.queues.Queues.possible.Goals as goal
 pub returns-in-Send-clause-possible : goal.returns-in-Send-clause-possible
 returns-in-Send-clause-possible c =
     let queue : Object = object_in c.self.inside.items c.object.inside.number in
-    let room = some_room c.room.result (length queue.items) queue.size c.room.ensures.room ∙ ap (λ (x : Object). nat_lt (length x.items) x.size) (seen c.self.inside c.args.self.now c.self.view_is c.object.inside.number c.args.object c.object.view_is c.object.invariant) in
-    elim c.in-Send.is [ inl is ↦ rw is.1 room | inr is ↦ rw is.1 room ]
+    rw c.in-Send.is
+    (some_room c.room.result (length queue.items) queue.size c.room.ensures.room ∙ ap (λ (x : Object). nat_lt (length x.items) x.size) (seen c.self.inside c.args.self.now c.self.view_is c.object.inside.number c.args.object c.object.view_is c.object.invariant))
+
+pub returns-in-SendFront-clause-possible : goal.returns-in-SendFront-clause-possible
+returns-in-SendFront-clause-possible c =
+    let queue : Object = object_in c.self.inside.items c.object.inside.number in
+    rw c.in-SendFront.is
+    (some_room c.room-in-SendFront.result (length queue.items) queue.size c.room-in-SendFront.ensures.room ∙ ap (λ (x : Object). nat_lt (length x.items) x.size) (seen c.self.inside c.args.self.now c.self.view_is c.object.inside.number c.args.object c.object.view_is c.object.invariant))
 
 pub returns-in-Send-clause-stands : goal.returns-in-Send-clause-stands
 returns-in-Send-clause-stands c = λ s d h. returns-in-Send-clause-possible c ∙ ap (λ (x : Object). allows x c.args.access) (h.objects c.args.object)
 
+pub returns-in-SendFront-clause-stands : goal.returns-in-SendFront-clause-stands
+returns-in-SendFront-clause-stands c = λ s d h. returns-in-SendFront-clause-possible c ∙ ap (λ (x : Object). allows x c.args.access) (h.objects c.args.object)
+
 pub returns-in-Receive-clause-possible : goal.returns-in-Receive-clause-possible
-returns-in-Receive-clause-possible c =
-    let some = ap (nat_lt 0) c.len.ensures.len ∙ ap (λ (x : Object). nat_lt 0 (length x.items)) (seen c.self.inside c.args.self.now c.self.view_is c.object.inside.number c.args.object c.object.view_is c.object.invariant) in
-    elim c.in-Receive.is [ inl is ↦ rw is some | inr is ↦ rw is some ]
+returns-in-Receive-clause-possible c = rw c.in-Receive.is
+    (ap (nat_lt 0) c.len.ensures.len ∙ ap (λ (x : Object). nat_lt 0 (length x.items)) (seen c.self.inside c.args.self.now c.self.view_is c.object.inside.number c.args.object c.object.view_is c.object.invariant))
+
+pub returns-in-Peek-clause-possible : goal.returns-in-Peek-clause-possible
+returns-in-Peek-clause-possible c = rw c.in-Peek.is
+    (ap (nat_lt 0) c.len-in-Peek.ensures.len ∙ ap (λ (x : Object). nat_lt 0 (length x.items)) (seen c.self.inside c.args.self.now c.self.view_is c.object.inside.number c.args.object c.object.view_is c.object.invariant))
 
 pub returns-in-Receive-clause-stands : goal.returns-in-Receive-clause-stands
 returns-in-Receive-clause-stands c = λ s d h. returns-in-Receive-clause-possible c ∙ ap (λ (x : Object). allows x c.args.access) (h.objects c.args.object)
+
+pub returns-in-Peek-clause-stands : goal.returns-in-Peek-clause-stands
+returns-in-Peek-clause-stands c = λ s d h. returns-in-Peek-clause-possible c ∙ ap (λ (x : Object). allows x c.args.access) (h.objects c.args.object)
 
 pub returns-in-Take-clause-possible : goal.returns-in-Take-clause-possible
 returns-in-Take-clause-possible c = rw c.in-Take.is

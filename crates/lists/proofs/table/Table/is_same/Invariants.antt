@@ -1,0 +1,5 @@
+use Rattle.lists.proofs.Same.{AreAlike}
+use Rattle.lists.proofs.table.Table.is_same.Given as goal
+
+abbrev pub invariant-loop-node : goal.invariant-loop-node
+invariant-loop-node g l = AreAlike l.self-inside.place l.self-inside.next l.self-inside.values l.other-inside.next l.other-inside.values l.node

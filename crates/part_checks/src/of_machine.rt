@@ -1,0 +1,30 @@
+//! The kernel against a snapshot of it.
+ghost use Rattle.std.specs.Prelude.{◌≡◌, ℕ, []};
+ghost use Rattle.machine.specs.StandsFor.{progress_in};
+
+use dice::Dice;
+use machine::Machine;
+use model::{App, Loop, TaskId};
+use std::process::Abort;
+
+/// The kernel at reset, where no task has an open loop.
+fn at_reset(app: &App) -> Machine
+    ensures { (task : ℕ) → (progress_in result.progress task).loops ≡ [] }
+{
+    Machine::boot(app)
+}
+
+#[test]
+fn a_loop_that_is_closed_makes_no_difference(rt: HostRuntime) {
+    let app = Dice::new(1).app(rt.alloc()).expect(&rt, "an application");
+    let mut machine = at_reset(&app);
+    let snapshot = machine.snapshot(rt.alloc()).ok().expect(&rt, "memory");
+    assert!(rt; machine.is_at(&snapshot));
+    let task = TaskId { number: 0 };
+    machine.push_loop(task, Loop { start: 0, left: 1 });
+    assert!(rt; !machine.is_at(&snapshot));
+    assert!(rt; machine.end_turn(task).is_none());
+    assert!(rt; machine.is_at(&snapshot));
+    machine.set_used(task, 1);
+    assert!(rt; !machine.is_at(&snapshot));
+}
