@@ -10,3 +10,5 @@ pub mod Held
 pub mod InCall
 pub mod Counting
 pub mod LettingGo
+pub mod Along
+pub mod Resting

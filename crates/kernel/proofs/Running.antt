@@ -130,10 +130,6 @@ module _ (app : Application) (plan : List Point) (n m : ℕ) (l : n ≤ m) (sile
   pub same_events : events_after app plan m ≡ events_after app plan n
   same_events = sym (goes_on_with app plan n m l) ∙ ap (λ (es : List Event). events_after app plan n ++ es) silent ∙ append-nil (events_after app plan n)
 
-  -- the events from any step on are those before them
-  pub silent_from : (first : ℕ) → events_from app plan first m ≡ events_from app plan first n
-  silent_from first = ap (λ (es : List Event). drop (length (events_after app plan first)) es) same_events
-
 -- The ticks of a run, as far as it has gone
 ticks_by : (app : Application) (plan : List Point) (limits : Limits) → AreLimits limits.ticks limits.steps → (n : ℕ) → ((m : ℕ) → m < n → end_of app limits (state_after app plan m) ≡ None) → (state_after app plan n).elapsed ≤ 1000000
 ticks_by app plan limits are zero g = let e = elapsed-reset app in omega arith
@@ -185,10 +181,6 @@ free_before app plan limits first until begin ticks steps n on short going =
     let early = ticks (omega arith) in
     let few = steps (omega arith) in
     goes_if_not_over app limits (state_after app plan n) going (omega arith) (omega arith)
-
-pub goes_on_until : (app : Application) (plan : List Point) (limits : Limits) (first k : Machine) (until : ℕ) → IsUnderWay app plan limits first → IsUnderWay app plan limits k → first.steps ≤ k.steps → k.steps < until
-    → (first.steps < until → first.clock.age + first.clock.held + until ≤ limits.ticks + first.steps) → (first.steps < until → until ≤ limits.steps) → is_over app (state_after app plan k.steps) ≡ false → end_of app limits (state_after app plan k.steps) ≡ None
-goes_on_until app plan limits first k until begin way on short ticks steps going = free_before app plan limits first until begin ticks steps k.steps on short going
 
 -- It comes a step further where it went on.
 pub moves_on : (app : Application) (plan : List Point) (limits : Limits) (k new : Machine) (until : ℕ) → k.steps ≤ new.steps → k.steps < until → end_of app limits (state_after app plan k.steps) ≡ None

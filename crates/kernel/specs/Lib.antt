@@ -1,6 +1,8 @@
 pub mod Blocked
 pub mod Can
 pub mod Rows
+pub mod Rests
+pub mod Along
 pub mod Quiet
 pub mod Over
 pub mod InCall

@@ -1,17 +1,14 @@
 //! The steps in which a call on an event group lets go of the scheduler. Each comes after a step that told nothing, in which the call
 //! has taken hold of it, and is done with the call in hand.
-ghost use Rattle.std.specs.Prelude.{◌≡◌, true, false, None, Some, ℕ, ◌<◌, ◌≤◌, ◌++◌, [], IfSome};
+ghost use Rattle.std.specs.Prelude.{◌≡◌, ◌<◌, ◌≤◌, [], IfSome};
 ghost use Rattle.model.specs.declared.call.Phase.TheVariants.{Leave};
 ghost use Rattle.model.specs.State.{State};
 ghost use Rattle.model.specs.Step.{act_current, step};
-ghost use Rattle.model.specs.Run.{end_of, injected, state_after};
 ghost use Rattle.machine.specs.Logged.{all_of};
 ghost use Rattle.machine.specs.StandsFor.{DoesAny, Stands, progress_in};
-ghost use Rattle.machine.specs.Can.{IsUnderWay};
 ghost use Rattle.kernel.specs.Bits.{IsLettingGo, is_for_bits};
 ghost use Rattle.kernel.specs.Can.{CanOp, CanStep};
-ghost use Rattle.kernel.specs.Over.{is_over};
-ghost use Rattle.kernel.specs.Rows.{events_from};
+ghost use Rattle.kernel.specs.Along.{IsFree, GoesOn};
 
 use crate::in_call::{pass_leave, phase};
 use crate::quiet::pass_on;
@@ -89,19 +86,11 @@ fn pass_bits(
     limits: &Limits,
     trail: &mut Trail,
 )
-    requires way { IsUnderWay app.now points.now limits.now kernel.old }
+    requires free { IsFree app.now limits.now until kernel.old points.now }
     requires soon { kernel.old.steps < until }
-    requires alone { (n : ℕ) → kernel.old.steps ≤ n → n < until → injected points.now n ≡ [] }
-    requires free { (n : ℕ) → kernel.old.steps ≤ n → n < until
-        → is_over app.now (state_after app.now points.now n) ≡ false
-        → end_of app.now limits.now (state_after app.now points.now n) ≡ None }
     requires runs { kernel.old.sched.current ≡ Some task }
     requires reached { (progress_in kernel.old.progress task).call.phase ≡ Leave }
-    ensures way { IsUnderWay app.now points.now limits.now kernel.new }
-    ensures on { kernel.old.steps ≤ kernel.new.steps }
-    ensures far { kernel.old.steps ≤ until → kernel.new.steps ≤ until }
-    ensures events { all_of trail.new
-        ≡ all_of trail.old ++ events_from app.now points.now kernel.old.steps kernel.new.steps }
+    ensures { GoesOn app.now limits.now until kernel.old kernel.new (all_of trail.old) (all_of trail.new) }
 {
     app.well_formed();
     limits.well_formed();
@@ -135,17 +124,9 @@ pub(crate) fn pass_more(
     limits: &Limits,
     trail: &mut Trail,
 )
-    requires way { IsUnderWay app.now points.now limits.now kernel.old }
+    requires free { IsFree app.now limits.now until kernel.old points.now }
     requires soon { kernel.old.steps < until }
-    requires alone { (n : ℕ) → kernel.old.steps ≤ n → n < until → injected points.now n ≡ [] }
-    requires free { (n : ℕ) → kernel.old.steps ≤ n → n < until
-        → is_over app.now (state_after app.now points.now n) ≡ false
-        → end_of app.now limits.now (state_after app.now points.now n) ≡ None }
-    ensures way { IsUnderWay app.now points.now limits.now kernel.new }
-    ensures on { kernel.old.steps ≤ kernel.new.steps }
-    ensures far { kernel.old.steps ≤ until → kernel.new.steps ≤ until }
-    ensures events { all_of trail.new
-        ≡ all_of trail.old ++ events_from app.now points.now kernel.old.steps kernel.new.steps }
+    ensures { GoesOn app.now limits.now until kernel.old kernel.new (all_of trail.old) (all_of trail.new) }
 {
     app.well_formed();
     if !may_follow || !trail.is_silent() {

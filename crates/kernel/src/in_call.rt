@@ -1,19 +1,16 @@
 //! The steps of a call that waits, from where it decides until it has let go of the scheduler. They are done one after another,
 //! with the call in hand, and nothing is looked for in each but whether the run is over.
-ghost use Rattle.std.specs.Prelude.{◌≡◌, true, false, None, ℕ, ◌+◌, ◌<◌, ◌≤◌, ◌++◌, [], IfSome};
+ghost use Rattle.std.specs.Prelude.{◌≡◌, ◌+◌, ◌≤◌, [], IfSome};
 ghost use Rattle.model.specs.declared.call.Phase as declared;
 ghost use Rattle.model.specs.declared.call.Phase.TheVariants.{Leave};
 ghost use Rattle.model.specs.State.{State};
 ghost use Rattle.model.specs.Step.{step};
-ghost use Rattle.model.specs.Run.{end_of, injected, state_after};
 ghost use Rattle.machine.specs.Logged.{all_of};
 ghost use Rattle.machine.specs.StandsFor.{Stands, progress_in};
-ghost use Rattle.machine.specs.Can.{IsUnderWay};
 ghost use Rattle.kernel.specs.Can.{CanStep};
 ghost use Rattle.ops.specs.InCall.{IsSilent};
 ghost use Rattle.kernel.specs.InCall.{IsInPhase, IsLeaving};
-ghost use Rattle.kernel.specs.Over.{is_over};
-ghost use Rattle.kernel.specs.Rows.{events_from};
+ghost use Rattle.kernel.specs.Along.{IsFree, GoesOn};
 
 use crate::steps::{is_over_running, op_of};
 use machine::{Log, Machine, Trail};
@@ -93,17 +90,11 @@ fn pass_phase(
     next: Phase,
     limits: &Limits,
 )
-    requires way { IsUnderWay app.now points.now limits.now kernel.old }
-    requires alone { injected points.now kernel.old.steps ≡ [] }
-    requires free { is_over app.now (state_after app.now points.now kernel.old.steps) ≡ false
-        → end_of app.now limits.now (state_after app.now points.now kernel.old.steps) ≡ None }
+    requires free { IsFree app.now limits.now (kernel.old.steps + 1) kernel.old points.now }
     requires silent { IsSilent next }
     requires call { (reached : declared.Phase) → (progress_in kernel.old.progress task).call.phase ≡ reached
         → IsInPhase app.now kernel.old task call.now.0 call.now.1 reached }
-    ensures way { IsUnderWay app.now points.now limits.now kernel.new }
-    ensures on { kernel.old.steps ≤ kernel.new.steps }
-    ensures one { kernel.new.steps ≤ kernel.old.steps + 1 }
-    ensures silent { events_from app.now points.now kernel.old.steps kernel.new.steps ≡ [] }
+    ensures along { GoesOn app.now limits.now (kernel.old.steps + 1) kernel.old kernel.new [] [] }
     ensures call { (reached : declared.Phase) → (progress_in kernel.new.progress task).call.phase ≡ reached
         → IsInPhase app.now kernel.new task call.now.0 call.now.1 reached }
 {
@@ -129,16 +120,9 @@ pub(crate) fn pass_call(
     task: TaskId,
     limits: &Limits,
 ) -> Option<TaskId>
-    requires way { IsUnderWay app.now points.now limits.now kernel.old }
-    requires alone { (n : ℕ) → kernel.old.steps ≤ n → n < until → injected points.now n ≡ [] }
-    requires free { (n : ℕ) → kernel.old.steps ≤ n → n < until
-        → is_over app.now (state_after app.now points.now n) ≡ false
-        → end_of app.now limits.now (state_after app.now points.now n) ≡ None }
+    requires free { IsFree app.now limits.now until kernel.old points.now }
     requires runs { kernel.old.sched.current ≡ Some task }
-    ensures way { IsUnderWay app.now points.now limits.now kernel.new }
-    ensures on { kernel.old.steps ≤ kernel.new.steps }
-    ensures far { kernel.old.steps ≤ until → kernel.new.steps ≤ until }
-    ensures silent { events_from app.now points.now kernel.old.steps kernel.new.steps ≡ [] }
+    ensures along { GoesOn app.now limits.now until kernel.old kernel.new [] [] }
     ensures leaving { IfSome result (λ task. IsLeaving app.now kernel.new task) }
 {
     app.well_formed();
@@ -171,17 +155,9 @@ pub(crate) fn pass_leave(
     limits: &Limits,
     trail: &mut Trail,
 )
-    requires way { IsUnderWay app.now points.now limits.now kernel.old }
-    requires alone { (n : ℕ) → kernel.old.steps ≤ n → n < until → injected points.now n ≡ [] }
-    requires free { (n : ℕ) → kernel.old.steps ≤ n → n < until
-        → is_over app.now (state_after app.now points.now n) ≡ false
-        → end_of app.now limits.now (state_after app.now points.now n) ≡ None }
+    requires free { IsFree app.now limits.now until kernel.old points.now }
     requires leaving { IfSome leaving (λ task. IsLeaving app.now kernel.old task) }
-    ensures way { IsUnderWay app.now points.now limits.now kernel.new }
-    ensures on { kernel.old.steps ≤ kernel.new.steps }
-    ensures far { kernel.old.steps ≤ until → kernel.new.steps ≤ until }
-    ensures events { all_of trail.new
-        ≡ all_of trail.old ++ events_from app.now points.now kernel.old.steps kernel.new.steps }
+    ensures { GoesOn app.now limits.now until kernel.old kernel.new (all_of trail.old) (all_of trail.new) }
 {
     app.well_formed();
     limits.well_formed();

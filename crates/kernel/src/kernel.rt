@@ -1,5 +1,5 @@
 //! The kernel, as an application runs on it: its state, its steps, and its ends.
-ghost use Rattle.std.specs.Prelude.{◌≡◌, ℕ, ◌<◌, ◌+◌, Some, None, length, ◌≤◌, List, IfOk, ◌^◌};
+ghost use Rattle.std.specs.Prelude.{◌≡◌, true, ℕ, ◌<◌, ◌+◌, Some, None, length, ◌≤◌, List, IfOk, ◌^◌};
 ghost use Rattle.model.specs.declared.call.WaitList as definitions;
 ghost use Rattle.model.specs.State.{State, call_at};
 ghost use Rattle.sched.specs.StandsFor.{StandsFor as ScheduleStandsFor, StandsBefore as ScheduleStandsBefore};
@@ -83,6 +83,14 @@ impl Kernel {
         ensures { self.new ≡ snapshot.now }
     {
         self.machine.restore(snapshot);
+    }
+
+    /// Whether it stands as it did in this snapshot: for the same states, and before the same step. How many places its lists and
+    /// items have gone round tells nothing.
+    pub fn is_at(&self, snapshot: &Snapshot) -> bool
+        ensures { result ≡ true → self.now ≡ snapshot.now }
+    {
+        self.machine.is_at(snapshot)
     }
 
     /// How many steps are done, at most 1,000,000 in a run.

@@ -7,11 +7,13 @@ mod handlers;
 mod in_call;
 mod kernel;
 mod quiet;
+mod rests;
 mod rows;
 mod steps;
 mod suspended;
 
 pub use kernel::Kernel;
 pub use machine::{Snapshot, StepLog, Trail};
-pub use rows::{RowEnding, run_row};
+pub use rests::{RestEnding, run_rest};
+pub use rows::{RowBeginning, RowEnding, begin_row, run_row};
 pub use steps::{follow, run};

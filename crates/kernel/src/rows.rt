@@ -1,14 +1,14 @@
 //! Rows of a campaign: runs with one point each, on a kernel that is used again.
-ghost use Rattle.std.specs.Prelude.{◌≡◌, ◌<◌, ◌≤◌, ◌+◌, ◌^◌, ℕ, [], ◌∷◌, None, IfOk, OnErr, length};
+ghost use Rattle.std.specs.Prelude.{◌≡◌, ◌<◌, ◌≤◌, ◌+◌, ◌^◌, ℕ, [], ◌∷◌, None, IfOk, OnErr, OnOk, length, ◌++◌};
 ghost use Rattle.model.specs.Run as definition;
 ghost use Rattle.model.specs.Run.{end_of, IsRun, state_after, events_after};
 ghost use Rattle.machine.specs.Logged.{all_of};
 ghost use Rattle.machine.specs.Can.{IsUnderWay};
-ghost use Rattle.kernel.specs.Rows.{IsRowFrom, Extends};
+ghost use Rattle.kernel.specs.Rows.{IsRowFrom, Extends, events_from};
 
 use crate::kernel::Kernel;
 use crate::quiet::pass_on;
-use crate::steps::{count_steps, finish};
+use crate::steps::{count_steps, finish, go_to_step, step_along};
 use machine::{Machine, StepLog, Trail};
 use model::{App, End, Limits, Memory, Meter, Point};
 
@@ -23,6 +23,15 @@ pub struct RowEnding {
     pub ticks: u32,
     /// How it ended.
     pub end: End,
+}
+
+/// What is said of the first part of a row but its events.
+#[derive(Clone, Copy)]
+pub struct RowBeginning {
+    /// How many events of the base run come before the row's injection, counted from where the kernel had come.
+    pub before: usize,
+    /// How the row ended, where it did; `None` where it goes on.
+    pub end: Option<End>,
 }
 
 /// Goes along the base run up to this step, and counts the events. It takes no memory.
@@ -98,4 +107,66 @@ pub fn run_row(
         ticks: kernel.machine.clock.elapsed() as u32,
         end,
     })
+}
+
+/// Runs the first part of a row, up to this step or to the row's end before it, on a kernel that has come along the base run: the
+/// steps before the point are the base run's, so their events are only counted; then the point's handler comes before its step, and
+/// the run goes on. The trail gains the events from the injection on, behind those that it has. The log is for the events of a
+/// step; what it has doesn't matter.
+///
+/// The base run gets beyond the point's step, which the kernel hasn't passed, and which comes before this one. The meter, which is
+/// below 2^62, rises by the steps that are done here. At `Err(Memory)`, answered only where a growth was refused, so never where
+/// the row tells nothing, the trail has those events that it had, and some of the row's behind them.
+pub fn begin_row(
+    kernel: &mut Kernel,
+    app: &App,
+    point: Point,
+    until: u32,
+    limits: &Limits,
+    meter: &mut Meter,
+    log: &mut StepLog,
+    trail: &mut Trail,
+) -> Result<RowBeginning, Memory>
+    requires way { IsUnderWay app.now [] limits.now kernel.old }
+    requires ahead { kernel.old.steps ≤ point.step }
+    requires reached { (n : ℕ) → n ≤ point.step → end_of app.now limits.now (state_after app.now [] n) ≡ None }
+    requires beyond { point.step < until }
+    requires meter { meter.old < 2 ^ 62 }
+    ensures way { IsUnderWay app.now (point ∷ []) limits.now kernel.new }
+    ensures past { point.step < kernel.new.steps }
+    ensures far { kernel.new.steps ≤ until }
+    ensures before { IfOk result (λ row. length (events_after app.now [] kernel.old.steps) + row.before
+        ≡ length (events_after app.now [] point.step)) }
+    ensures events { OnOk result
+        (all_of trail.new ≡ all_of trail.old ++ events_from app.now (point ∷ []) point.step kernel.new.steps) }
+    ensures end { IfOk result
+        (λ row. row.end ≡ end_of app.now limits.now (state_after app.now (point ∷ []) kernel.new.steps)) }
+    ensures there { IfOk result (λ row. row.end ≡ None → kernel.new.steps ≡ until) }
+    ensures meter { meter.new + kernel.old.steps ≡ meter.old + kernel.new.steps }
+    ensures kept { OnErr result (Extends (all_of trail.old) (all_of trail.new)) }
+    ensures refused { OnErr result ((run : definition.Run) → IsRun app.now (point ∷ []) limits.now run
+        → (kernel.new.steps ≤ run.steps) × (0 < length run.events)) }
+{
+    app.well_formed();
+    limits.well_formed();
+    let before = advance(&mut kernel.machine, app, point.step, limits, meter, log);
+    step_along(
+        &mut kernel.machine,
+        app,
+        &[point.handler],
+        meter,
+        log,
+        trail,
+    )?;
+    let end = go_to_step(
+        &mut kernel.machine,
+        app,
+        &[point],
+        until,
+        limits,
+        meter,
+        log,
+        trail,
+    )?;
+    Ok(RowBeginning { before, end })
 }

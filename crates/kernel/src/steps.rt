@@ -15,6 +15,7 @@ ghost use Rattle.kernel.specs.Blocked.{is_blocked};
 ghost use Rattle.kernel.specs.Over.{is_over};
 ghost use Rattle.machine.specs.Can.{IsUnderWay};
 ghost use Rattle.kernel.specs.Can.{CanAct, CanStep};
+ghost use Rattle.kernel.specs.Along.{IsFree, GoesTo, GoesOn};
 ghost use Rattle.kernel.specs.Rows.{events_from, Extends};
 
 use crate::acting::act;
@@ -237,7 +238,7 @@ fn step_apart(
 /// One step of the run, after these handlers, whose events go to the end of the trail. At `Err(Memory)`, answered only where a
 /// growth was refused, so never where the step tells nothing, it is done all the same.
 #[inline(always)]
-fn step_along(
+pub(crate) fn step_along(
     kernel: &mut Machine,
     app: &App,
     handlers: &[HandlerId],
@@ -337,16 +338,8 @@ fn go_on_in_room(
     limits: &Limits,
     trail: &mut Trail,
 )
-    requires way { IsUnderWay app.now points.now limits.now kernel.old }
-    requires alone { (n : ℕ) → kernel.old.steps ≤ n → n < until → injected points.now n ≡ [] }
-    requires free { (n : ℕ) → kernel.old.steps ≤ n → n < until
-        → is_over app.now (state_after app.now points.now n) ≡ false
-        → end_of app.now limits.now (state_after app.now points.now n) ≡ None }
-    ensures way { IsUnderWay app.now points.now limits.now kernel.new }
-    ensures on { kernel.old.steps ≤ kernel.new.steps }
-    ensures far { kernel.old.steps ≤ until → kernel.new.steps ≤ until }
-    ensures events { all_of trail.new
-        ≡ all_of trail.old ++ events_from app.now points.now kernel.old.steps kernel.new.steps }
+    requires { IsFree app.now limits.now until kernel.old points.now }
+    ensures { GoesOn app.now limits.now until kernel.old kernel.new (all_of trail.old) (all_of trail.new) }
 {
     app.well_formed();
     limits.well_formed();
@@ -364,8 +357,9 @@ fn go_on_in_room(
 }
 
 /// Goes on along a run that is under way, up to this step or to an end before it, and keeps the events from there on. The plan
-/// has no points before that step, and neither limit is reached before it, so none of this is looked at on the way.
-fn go_on(
+/// has no points before that step, and neither limit is reached before it, so none of this is looked at on the way; and so it does
+/// the same for every such run that comes to this kernel.
+pub(crate) fn go_on(
     kernel: &mut Machine,
     app: &App,
     points: &[Point],
@@ -375,20 +369,14 @@ fn go_on(
     log: &mut StepLog,
     trail: &mut Trail,
 ) -> Result<(), Memory>
-    requires way { IsUnderWay app.now points.now limits.now kernel.old }
-    requires alone { (n : ℕ) → kernel.old.steps ≤ n → n < until → injected points.now n ≡ [] }
+    requires free { IsFree app.now limits.now until kernel.old points.now }
     requires ahead { kernel.old.steps ≤ until }
-    requires ticks { kernel.old.steps < until
-        → kernel.old.clock.age + kernel.old.clock.held + until ≤ limits.now.ticks + kernel.old.steps }
-    requires steps { kernel.old.steps < until → until ≤ limits.now.steps }
     requires meter { meter.old < 2 ^ 62 + kernel.old.steps }
-    ensures way { IsUnderWay app.now points.now limits.now kernel.new }
-    ensures on { kernel.old.steps ≤ kernel.new.steps }
-    ensures far { kernel.new.steps ≤ until }
+    ensures to { GoesTo app.now limits.now until kernel.old kernel.new }
     ensures there { OnOk result (kernel.new.steps < until
         → is_over app.now (state_after app.now points.now kernel.new.steps) ≡ true) }
-    ensures events { OnOk result
-        (all_of trail.new ≡ all_of trail.old ++ events_from app.now points.now kernel.old.steps kernel.new.steps) }
+    ensures along { OnOk result
+        (GoesOn app.now limits.now until kernel.old kernel.new (all_of trail.old) (all_of trail.new)) }
     ensures meter { meter.new + kernel.old.steps ≡ meter.old + kernel.new.steps }
     ensures kept { OnErr result (Extends (all_of trail.old) (all_of trail.new)) }
     ensures memory { OnErr result (0 < length (events_after app.now points.now kernel.new.steps)) }
@@ -448,6 +436,48 @@ pub(crate) fn finish(
     }
 }
 
+/// Goes along a run that is under way, into which nothing is injected before this step, up to this step or to the run's end before
+/// it, and keeps the events from where it is. It answers how the run ends there; `None` where it goes on.
+pub(crate) fn go_to_step(
+    kernel: &mut Machine,
+    app: &App,
+    points: &[Point],
+    step: u32,
+    limits: &Limits,
+    meter: &mut Meter,
+    log: &mut StepLog,
+    trail: &mut Trail,
+) -> Result<Option<End>, Memory>
+    requires way { IsUnderWay app.now points.now limits.now kernel.old }
+    requires alone { (n : ℕ) → kernel.old.steps ≤ n → n < step → injected points.now n ≡ [] }
+    requires ahead { kernel.old.steps ≤ step }
+    requires meter { meter.old < 2 ^ 62 + kernel.old.steps }
+    ensures way { IsUnderWay app.now points.now limits.now kernel.new }
+    ensures on { kernel.old.steps ≤ kernel.new.steps }
+    ensures far { kernel.new.steps ≤ step }
+    ensures events { OnOk result
+        (all_of trail.new ≡ all_of trail.old ++ events_from app.now points.now kernel.old.steps kernel.new.steps) }
+    ensures end { IfOk result
+        (λ end. end ≡ end_of app.now limits.now (state_after app.now points.now kernel.new.steps)) }
+    ensures there { IfOk result (λ end. end ≡ None → kernel.new.steps ≡ step) }
+    ensures meter { meter.new + kernel.old.steps ≡ meter.old + kernel.new.steps }
+    ensures kept { OnErr result (Extends (all_of trail.old) (all_of trail.new)) }
+    ensures memory { OnErr result (0 < length (events_after app.now points.now kernel.new.steps)) }
+{
+    app.well_formed();
+    limits.well_formed();
+    'steps: loop {
+        if let Some(end) = ended(kernel, app, limits) {
+            return Ok(Some(end));
+        }
+        if kernel.steps == step {
+            return Ok(None);
+        }
+        let until = free_until(kernel, step, limits);
+        go_on(kernel, app, points, until, limits, meter, log, trail)?;
+    }
+}
+
 /// Goes along a run without injections up to this step, and keeps the events from where it is. It answers how the run ends
 /// there; `None` where it goes on. Where it ends before, it has come to that end.
 ///
@@ -475,27 +505,16 @@ pub fn follow(
     ensures meter { meter.new + kernel.old.steps ≡ meter.old + kernel.new.steps }
     ensures memory { OnErr result (0 < length (events_after app.now [] kernel.new.steps)) }
 {
-    app.well_formed();
-    limits.well_formed();
-    'steps: loop {
-        if let Some(end) = kernel.ended(app, limits) {
-            return Ok(Some(end));
-        }
-        if kernel.machine.steps == step {
-            return Ok(None);
-        }
-        let until = free_until(&kernel.machine, step, limits);
-        go_on(
-            &mut kernel.machine,
-            app,
-            &[],
-            until,
-            limits,
-            meter,
-            log,
-            trail,
-        )?;
-    }
+    go_to_step(
+        &mut kernel.machine,
+        app,
+        &[],
+        step,
+        limits,
+        meter,
+        log,
+        trail,
+    )
 }
 
 /// The run of an application with this plan, from reset to its end under these limits. A point of the plan past the end of

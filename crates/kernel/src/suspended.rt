@@ -1,5 +1,5 @@
 //! What is done while a `suspend_all` is in force.
-ghost use Rattle.std.specs.Prelude.{◌≡◌, ◌<◌, ◌≤◌, false, Some};
+ghost use Rattle.std.specs.Prelude.{◌≡◌, ◌<◌, ◌≤◌, false, length, Some};
 ghost use Rattle.model.specs.declared.op.Op.{Op};
 ghost use Rattle.model.specs.declared.op.Op.TheVariants as op;
 ghost use Rattle.model.specs.Application.{op_at};
@@ -11,6 +11,7 @@ ghost use Rattle.machine.specs.Can.{Agrees};
 ghost use Rattle.ops.specs.Can.{Can, CanHold, HasObjects};
 
 use crate::handlers::interrupt;
+use crate::steps::op_of;
 use machine::{Log, Machine};
 use model::{App, End, Misuse, Op, TaskId};
 use ops::event_groups::{clear_bits, get_bits};
@@ -95,15 +96,15 @@ fn work_on<L: Log>(machine: &mut Machine, app: &App, task: TaskId, ticks: u32, l
 }
 
 /// What an op that doesn't switch does while a `suspend_all` is in force.
-fn act_on<L: Log>(machine: &mut Machine, app: &App, task: TaskId, op: Op, log: &mut L)
+fn act_on<L: Log>(machine: &mut Machine, app: &App, task: TaskId, op: &Op, log: &mut L)
     requires room { 64 ≤ (L.logged log.old).room }
-    requires can { CanHold app.now machine.old task op }
+    requires can { CanHold app.now machine.old task op.now }
     requires some { 0 < machine.old.suspensions }
-    requires stays { may_switch op ≡ false }
+    requires stays { may_switch op.now ≡ false }
     ensures { Does 64 machine.old (L.logged log.old) machine.new (L.logged log.new)
-        (act app.now task op) }
+        (act app.now task op.now) }
 {
-    match op {
+    match *op {
         Op::Work(ticks) => work_on(machine, app, task, ticks, log),
         Op::Time => time(machine, app, task, log),
         Op::Mark(number) => mark(machine, app, task, number, log),
@@ -126,16 +127,16 @@ fn act_unless_it_switches<L: Log>(
     machine: &mut Machine,
     app: &App,
     task: TaskId,
-    op: Op,
+    op: &Op,
     log: &mut L,
 )
     requires room { 64 ≤ (L.logged log.old).room }
-    requires can { CanHold app.now machine.old task op }
+    requires can { CanHold app.now machine.old task op.now }
     requires some { 0 < machine.old.suspensions }
     ensures { Does 64 machine.old (L.logged log.old) machine.new (L.logged log.new)
-        (λ s. act_unless app.now task (misuse s task op) op s) }
+        (λ s. act_unless app.now task (misuse s task op.now) op.now s) }
 {
-    if may_switch(&op) {
+    if may_switch(op) {
         machine.misuse(task, Misuse::WhileSuspended);
         return;
     }
@@ -155,6 +156,7 @@ pub(crate) fn act_while_suspended<L: Log>(
     log: &mut L,
 )
     requires room { 65 ≤ (L.logged log.old).room }
+    requires there { task < length app.now.tasks }
     requires runs { machine.old.sched.current ≡ Some task }
     requires can { (op : Op) → op_at app.now task (progress_in machine.old.progress task).op_index ≡ Some op
         → CanHold app.now machine.old task op }
@@ -163,7 +165,7 @@ pub(crate) fn act_while_suspended<L: Log>(
         (λ s. act_current app.now s.current s) }
 {
     let op_index = machine.progress(task).op_index;
-    if let Some(op) = app.op(task, op_index) {
+    if let Some(op) = op_of(app, task, op_index) {
         act_unless_it_switches(machine, app, task, op, log);
     }
 }

@@ -1,15 +1,13 @@
-use Rattle.std.proofs.Common.{◌++◌, List, ap, sym, ◌∙◌, append-nil}
-use Rattle.model.specs.declared.event.Event.{Event}
-use Rattle.model.proofs.Injected.{from_here}
+use Rattle.std.proofs.Common.{refl}
 use Rattle.machine.specs.Logged.{all_of}
-use Rattle.kernel.proofs.Running.{more_from}
+use Rattle.kernel.proofs.Along.{behind, free_next, tells_nothing, tells_then}
 use Rattle.kernel.proofs.bits.pass_more.Goals as goal
 
-pub returns-then-not-may_follow-clause-events : goal.returns-then-not-may_follow-clause-events
-returns-then-not-may_follow-clause-events c = sym (append-nil _) ∙ ap (λ (l : List Event). all_of c.args.trail.now ++ l) (sym (from_here c.args.app.now c.args.points.now c.args.kernel.now.steps))
+pub returns-then-not-may_follow : goal.returns-then-not-may_follow
+returns-then-not-may_follow c = tells_nothing refl
 
-pub returns-clause-events : goal.returns-clause-events
-returns-clause-events c =
-    more_from c.args.app.now c.args.points.now c.args.kernel.now.steps c.pass_on-leaving.new.kernel.steps c.pass_leave.new.kernel.steps c.pass_on-leaving.ensures.on c.pass_leave.ensures.on
-    (all_of c.args.trail.now) (all_of c.args.trail.now) (all_of c.pass_leave.new.trail)
-    (sym (append-nil _) ∙ ap (λ (l : List Event). all_of c.args.trail.now ++ l) (sym c.pass_on-leaving.ensures.silent)) c.pass_leave.ensures.events
+pub pass_leave-requires-clause-free : goal.pass_leave-requires-clause-free
+pass_leave-requires-clause-free c = free_next c.pass_on-leaving.ensures.along.to c.requires.free
+
+pub returns : goal.returns
+returns c = tells_then (behind (all_of c.args.trail.now) c.pass_on-leaving.ensures.along) c.pass_leave.ensures

@@ -8,6 +8,9 @@ use Rattle.kernel.proofs.steps.act_current.Goals as goal
 pub op_of-requires : goal.op_of-requires
 op_of-requires g c = subst (λ (o : Option ℕ). IfSome o (λ task. task < length c.args.app.now.tasks)) (sym c.current.ensures.current ∙ c.in-Some.is) c.requires.there
 
+pub act_while_suspended-requires-clause-there : goal.act_while_suspended-requires-clause-there
+act_while_suspended-requires-clause-there g c = subst (λ (o : Option ℕ). IfSome o (λ task. task < length c.args.app.now.tasks)) (sym c.current.ensures.current ∙ c.in-Some.is) c.requires.there
+
 pub act_while_suspended-requires-clause-can : goal.act_while_suspended-requires-clause-can
 act_while_suspended-requires-clause-can g c = λ op at. (c.requires.can.op c.in-Some.task op (sym c.current.ensures.current ∙ c.in-Some.is) at).1 c.if-machine-gt0.true
 

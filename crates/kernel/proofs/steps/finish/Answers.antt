@@ -1,13 +1,37 @@
-use Rattle.std.proofs.Common.{◌^◌, ◌≡◌, ◌<◌, ◌++◌, ℕ, List, None, length, ap, sym, subst, refl, ◌∙◌, append-nil, arith}
+use Rattle.std.proofs.Common.{◌^◌, ◌≡◌, ◌<◌, ◌≤◌, ◌+◌, ◌++◌, ℕ, suc, List, [], None, length, drop, ap, sym, subst, refl, ◌∙◌, append-nil, arith}
 use Rattle.std.proofs.lemmas.Result.{err_from_is_err_and}
-use Rattle.model.specs.Run.{end_of, state_after}
+use Rattle.model.specs.declared.plan.Point.{Point}
+use Rattle.model.specs.Application.{Application, Limits}
+use Rattle.model.specs.Scripts.{AreLimits, IsWellFormed}
+use Rattle.model.specs.State.{State}
+use Rattle.model.specs.Run.{end_of, injected, state_after}
+use Rattle.machine.specs.declared.machine.Machine.{Machine}
+use Rattle.machine.specs.StandsFor.{Stands}
+use Rattle.machine.specs.Can.{IsUnderWay}
+use Rattle.kernel.specs.Along.{IsFree}
 use Rattle.machine.specs.Logged.{all_of}
 use Rattle.kernel.specs.Rows.{events_from}
+use Rattle.kernel.proofs.Along.{free_of_limits}
 use Rattle.kernel.proofs.Running.{can_step, steps_below, steps_more, goes_on, more_events, more_from, extends_on, told_more}
 use Rattle.model.specs.Step.{step}
 use Rattle.model.proofs.Injected.{from_here}
 use Rattle.kernel.proofs.Planned.{few_left, handlers_are, left_first, left_next, left_on, IsLeft, stands_as}
 use Rattle.kernel.proofs.steps.finish.Goals as goal
+
+-- Behind a step the run is free up to where the next of the points that are left is, if no limit comes before.
+module _ (app : Application) (formed : IsWellFormed app) (plan : List Point) (limits : Limits) (are : AreLimits limits.ticks limits.steps) (k next : Machine) (way : IsUnderWay app plan limits k) (on : end_of app limits (state_after app plan k.steps) ≡ None)
+    (points later : List Point) (left : IsLeft plan points k.steps) (is : later ≡ drop (length (injected points k.steps)) points) (stands : (s : State) → Stands k s → Stands next (step app (injected points k.steps) s)) where
+  stands_on : (s : State) → Stands k s → Stands next (step app (injected plan k.steps) s)
+  stands_on = stands_as app k next (injected points k.steps) (injected plan k.steps) (left.same k.steps (omega arith)) stands
+
+  left_then : IsLeft plan later next.steps
+  left_then = let more : next.steps ≡ suc k.steps = steps_more app formed plan limits are k way on next stands_on in rw (is, more) (left_next plan points k.steps left)
+
+  free_then : (until least : ℕ) → ((n : ℕ) → n < least → injected later n ≡ []) → until ≤ least
+      → (next.steps < until → next.clock.age + next.clock.held + until ≤ limits.ticks + next.steps) → (next.steps < until → until ≤ limits.steps) → IsFree app limits until next plan
+  free_then until least alone far ticks steps =
+      free_of_limits app limits until next plan (goes_on app formed plan limits are k way on next stands_on)
+      (λ n from below. sym (left_then.same n from) ∙ alone n (omega arith)) ticks steps
 
 pub steps-init : goal.steps-init
 steps-init c = record {
@@ -77,7 +101,7 @@ steps-smaller c =
     let stands = stands_as c.args.app.now c.steps.kernel c.step_by_plan.new.kernel _ _ (handlers_are c.args.points.now c.steps.left.now c.steps.kernel.steps _ refl c.steps.invariant.left) c.in_ok-left.ensures.stands in
     let low = steps_below c.args.app.now c.well_formed-2.ensures c.args.points.now c.args.limits.now c.well_formed-3.ensures c.steps.kernel c.steps.invariant.way on in
     let m = steps_more c.args.app.now c.well_formed-2.ensures c.args.points.now c.args.limits.now c.well_formed-3.ensures c.steps.kernel c.steps.invariant.way on c.step_by_plan.new.kernel stands in
-    let p = c.go_on.ensures.on in
+    let p = c.go_on.ensures.to.on in
     omega arith
 
 pub free_until-until-requires : goal.free_until-until-requires
@@ -91,20 +115,11 @@ free_until-until-requires c =
     let small : c.step_by_plan.new.kernel.steps < 2 ^ 32 = omega arith in
     c.next_point.ensures.least c.step_by_plan.new.kernel.steps small left.ahead
 
-pub go_on-requires-clause-way : goal.go_on-requires-clause-way
-go_on-requires-clause-way c =
+pub go_on-requires-clause-free : goal.go_on-requires-clause-free
+go_on-requires-clause-free c =
     let on : end_of c.args.app.now c.args.limits.now (state_after c.args.app.now c.args.points.now c.steps.kernel.steps) ≡ None = sym (c.in_default.ensures _ c.steps.invariant.way.stands) in
-    let stands = stands_as c.args.app.now c.steps.kernel c.step_by_plan.new.kernel _ _ (handlers_are c.args.points.now c.steps.left.now c.steps.kernel.steps _ refl c.steps.invariant.left) c.in_ok-left.ensures.stands in
-    goes_on c.args.app.now c.well_formed-2.ensures c.args.points.now c.args.limits.now c.well_formed-3.ensures c.steps.kernel c.steps.invariant.way on c.step_by_plan.new.kernel stands
-
-pub go_on-requires-clause-alone : goal.go_on-requires-clause-alone
-go_on-requires-clause-alone c =
-    let on : end_of c.args.app.now c.args.limits.now (state_after c.args.app.now c.args.points.now c.steps.kernel.steps) ≡ None = sym (c.in_default.ensures _ c.steps.invariant.way.stands) in
-    let stands = stands_as c.args.app.now c.steps.kernel c.step_by_plan.new.kernel _ _ (handlers_are c.args.points.now c.steps.left.now c.steps.kernel.steps _ refl c.steps.invariant.left) c.in_ok-left.ensures.stands in
-    let m = steps_more c.args.app.now c.well_formed-2.ensures c.args.points.now c.args.limits.now c.well_formed-3.ensures c.steps.kernel c.steps.invariant.way on c.step_by_plan.new.kernel stands in
-    let left : IsLeft c.args.points.now c.in_ok-left.left.now c.step_by_plan.new.kernel.steps = rw (c.in_ok-left.ensures.later, m) (left_next c.args.points.now c.steps.left.now c.steps.kernel.steps c.steps.invariant.left) in
-    let far = c.free_until-until.ensures.far in
-    λ n from below. sym (left.same n from) ∙ c.next_point.ensures.alone n (omega arith)
+    let free : IsFree c.args.app.now c.args.limits.now c.free_until-until.result c.step_by_plan.new.kernel c.args.points.now = free_then c.args.app.now c.well_formed-2.ensures c.args.points.now c.args.limits.now c.well_formed-3.ensures c.steps.kernel c.step_by_plan.new.kernel c.steps.invariant.way on c.steps.left.now c.in_ok-left.left.now c.steps.invariant.left c.in_ok-left.ensures.later c.in_ok-left.ensures.stands c.free_until-until.result c.next_point.result c.next_point.ensures.alone c.free_until-until.ensures.far c.free_until-until.ensures.ticks c.free_until-until.ensures.steps in
+    free
 
 pub go_on-requires-clause-meter : goal.go_on-requires-clause-meter
 go_on-requires-clause-meter c =
@@ -125,18 +140,25 @@ steps-preserved c =
     let e = c.in_ok-left.ensures.meter in
     let f = c.steps.invariant.meter in
     let o = c.steps.invariant.on in
-    let passed = c.go_on.ensures.on in
+    let free : IsFree c.args.app.now c.args.limits.now c.free_until-until.result c.step_by_plan.new.kernel c.args.points.now = free_then c.args.app.now c.well_formed-2.ensures c.args.points.now c.args.limits.now c.well_formed-3.ensures c.steps.kernel c.step_by_plan.new.kernel c.steps.invariant.way on c.steps.left.now c.in_ok-left.left.now c.steps.invariant.left c.in_ok-left.ensures.later c.in_ok-left.ensures.stands c.free_until-until.result c.next_point.result c.next_point.ensures.alone c.free_until-until.ensures.far c.free_until-until.ensures.ticks c.free_until-until.ensures.steps in
+    let passed = c.go_on.ensures.to.on in
     let g = c.go_on.ensures.meter in
-    let far = c.go_on.ensures.far in
+    let far = c.go_on.ensures.to.far c.free_until-until.ensures.ahead in
     let until = c.free_until-until.ensures.far in
     let whole : all_of c.step_by_plan.new.trail ≡ all_of c.args.trail.now ++ events_from c.args.app.now c.args.points.now c.args.kernel.now.steps c.step_by_plan.new.kernel.steps = more_events c.args.app.now c.well_formed-2.ensures c.args.points.now c.args.limits.now c.well_formed-3.ensures c.steps.kernel c.steps.invariant.way on c.step_by_plan.new.kernel stands c.args.kernel.now.steps c.steps.invariant.on (all_of c.args.trail.now) (all_of c.steps.trail) (all_of c.step_by_plan.new.trail) c.steps.invariant.events (subst (λ (hs : List ℕ). all_of c.step_by_plan.new.trail ≡ all_of c.steps.trail ++ (step c.args.app.now hs (state_after c.args.app.now c.args.points.now c.steps.kernel.steps)).log) (handlers_are c.args.points.now c.steps.left.now c.steps.kernel.steps _ refl c.steps.invariant.left) (c.in_ok-left.ensures.told _ c.steps.invariant.way.stands)) in
     record {
-      way = c.go_on.ensures.way;
+      way = c.go_on.ensures.to.way c.args.points.now free;
       on = omega arith;
-      events = more_from c.args.app.now c.args.points.now c.args.kernel.now.steps c.step_by_plan.new.kernel.steps c.go_on.new.kernel.steps (omega arith) passed (all_of c.args.trail.now) (all_of c.step_by_plan.new.trail) (all_of c.go_on.new.trail) whole c.in_ok-go_on.ensures.events;
+      events = more_from c.args.app.now c.args.points.now c.args.kernel.now.steps c.step_by_plan.new.kernel.steps c.go_on.new.kernel.steps (omega arith) passed (all_of c.args.trail.now) (all_of c.step_by_plan.new.trail) (all_of c.go_on.new.trail) whole (c.in_ok-go_on.ensures.along.events c.args.points.now free);
       left = left_on c.args.points.now c.in_ok-left.left.now c.step_by_plan.new.kernel.steps c.go_on.new.kernel.steps passed (c.next_point.ensures.ahead c.go_on.new.kernel.steps (omega arith)) left;
       meter = omega arith;
     }
+
+pub returns-in_err-go_on-clause-way : goal.returns-in_err-go_on-clause-way
+returns-in_err-go_on-clause-way c =
+    let on : end_of c.args.app.now c.args.limits.now (state_after c.args.app.now c.args.points.now c.steps.kernel.steps) ≡ None = sym (c.in_default.ensures _ c.steps.invariant.way.stands) in
+    let free : IsFree c.args.app.now c.args.limits.now c.free_until-until.result c.step_by_plan.new.kernel c.args.points.now = free_then c.args.app.now c.well_formed-2.ensures c.args.points.now c.args.limits.now c.well_formed-3.ensures c.steps.kernel c.step_by_plan.new.kernel c.steps.invariant.way on c.steps.left.now c.in_ok-left.left.now c.steps.invariant.left c.in_ok-left.ensures.later c.in_ok-left.ensures.stands c.free_until-until.result c.next_point.result c.next_point.ensures.alone c.free_until-until.ensures.far c.free_until-until.ensures.ticks c.free_until-until.ensures.steps in
+    c.go_on.ensures.to.way c.args.points.now free
 
 pub returns-in_err-go_on-clause-on : goal.returns-in_err-go_on-clause-on
 returns-in_err-go_on-clause-on c =
@@ -144,7 +166,7 @@ returns-in_err-go_on-clause-on c =
     let stands = stands_as c.args.app.now c.steps.kernel c.step_by_plan.new.kernel _ _ (handlers_are c.args.points.now c.steps.left.now c.steps.kernel.steps _ refl c.steps.invariant.left) c.in_ok-left.ensures.stands in
     let m = steps_more c.args.app.now c.well_formed-2.ensures c.args.points.now c.args.limits.now c.well_formed-3.ensures c.steps.kernel c.steps.invariant.way on c.step_by_plan.new.kernel stands in
     let o = c.steps.invariant.on in
-    let passed = c.go_on.ensures.on in
+    let passed = c.go_on.ensures.to.on in
     omega arith
 
 pub returns-in_err-go_on-clause-meter : goal.returns-in_err-go_on-clause-meter

@@ -1,15 +1,11 @@
-use Rattle.std.proofs.Common.{◌≡◌, ◌≤◌, ◌+◌, ◌-◌, ◌++◌}
+use Rattle.std.proofs.Common.{◌≡◌, ◌+◌, ◌-◌}
 use Rattle.machine.specs.Logged.{all_of}
-use Rattle.machine.specs.Can.{IsUnderWay}
-use Rattle.kernel.specs.Rows.{events_from}
+use Rattle.kernel.specs.Along.{GoesOn}
 use Rattle.kernel.proofs.steps.go_on.Given as goal
 
 abbrev pub invariant-steps : goal.invariant-steps
 invariant-steps l = record {
-  way : IsUnderWay l.app l.points l.limits l.kernel;
-  on : l.fn.kernel.steps ≤ l.kernel.steps;
-  far : l.kernel.steps ≤ l.until;
-  events : all_of l.trail ≡ all_of l.fn.trail ++ events_from l.app l.points l.fn.kernel.steps l.kernel.steps;
+  along : GoesOn l.app l.limits l.until l.fn.kernel l.kernel (all_of l.fn.trail) (all_of l.trail);
   meter : l.meter + l.fn.kernel.steps ≡ l.fn.meter + l.kernel.steps;
 }
 

@@ -1,0 +1,132 @@
+-- How the kernel goes on along the runs that come to it, stretch by stretch.
+use Rattle.std.proofs.Common.{◌+◌, ◌≡◌, ◌<◌, ◌≤◌, ℕ, suc, false, List, [], ◌++◌, None, ap, sym, subst, ◌∙◌, arith, append-nil, length}
+use Rattle.model.specs.declared.event.Event.{Event}
+use Rattle.model.specs.declared.plan.Point.{Point}
+use Rattle.model.specs.Application.{Application, Limits}
+use Rattle.model.specs.Scripts.{AreLimits, IsWellFormed}
+use Rattle.model.specs.State.{State}
+use Rattle.model.specs.Step.{step}
+use Rattle.model.specs.Run.{end_of, events_after, injected, state_after}
+use Rattle.model.proofs.Injected.{from_here}
+use Rattle.machine.specs.declared.machine.Machine.{Machine}
+use Rattle.machine.specs.StandsFor.{Stands}
+use Rattle.machine.specs.Can.{IsUnderWay}
+use Rattle.kernel.specs.Along.{IsFree, GoesTo, GoesOn}
+use Rattle.kernel.specs.Over.{is_over}
+use Rattle.kernel.specs.Rows.{events_from}
+use Rattle.kernel.proofs.Planned.{stands_as}
+use Rattle.kernel.proofs.Running.{free_before, goes_on, more_events, more_from, steps_more, told_more}
+
+-- ---- which runs
+
+-- Where the kernel has gone on, those that were so still are.
+pub free_next : {app : Application} {limits : Limits} {until : ℕ} {old new : Machine} {plan : List Point} → GoesTo app limits until old new → IsFree app limits until old plan → IsFree app limits until new plan
+free_next {app} {limits} {until} {old} {new} {plan} g f = record {
+  way = g.way plan f;
+  alone = λ n from below. let on = g.on in f.alone n (omega arith) below;
+  free = λ n from below going. let on = g.on in f.free n (omega arith) below going;
+}
+
+-- So they are up to an earlier step.
+pub free_sooner : {app : Application} {limits : Limits} {until : ℕ} {k : Machine} {plan : List Point} (sooner : ℕ) → ((n : ℕ) → k.steps ≤ n → n < sooner → n < until) → IsFree app limits until k plan → IsFree app limits sooner k plan
+free_sooner {app} {limits} {until} {k} {plan} sooner within f = record {
+  way = f.way;
+  alone = λ n from below. f.alone n from (within n from below);
+  free = λ n from below going. f.free n from (within n from below) going;
+}
+
+-- Up to a step before which no limit is reached, each run without a point is so.
+pub free_of_limits : (app : Application) (limits : Limits) (until : ℕ) (k : Machine) (plan : List Point) → IsUnderWay app plan limits k
+    → ((n : ℕ) → k.steps ≤ n → n < until → injected plan n ≡ [])
+    → (k.steps < until → k.clock.age + k.clock.held + until ≤ limits.ticks + k.steps) → (k.steps < until → until ≤ limits.steps) → IsFree app limits until k plan
+free_of_limits app limits until k plan way alone ticks steps = record {
+  way = way;
+  alone = alone;
+  free = free_before app plan limits k until way ticks steps;
+}
+
+-- Where it isn't over, none of them ends.
+pub going_free : {app : Application} {limits : Limits} {until : ℕ} {k : Machine} → k.steps < until → ((s : State) → Stands k s → false ≡ is_over app s) → (plan : List Point) → IsFree app limits until k plan → end_of app limits (state_after app plan k.steps) ≡ None
+going_free {app} {limits} {until} {k} short going plan f = f.free k.steps (omega arith) short (sym (going (state_after app plan k.steps) f.way.stands))
+
+-- ---- no step
+
+goes_nowhere : {app : Application} {limits : Limits} {until : ℕ} {k : Machine} → GoesTo app limits until k k
+goes_nowhere = record { way = λ plan f. f.way; on = omega arith; far = λ within. within }
+
+pub tells_nothing : {app : Application} {limits : Limits} {until : ℕ} {k : Machine} {before after : List Event} → after ≡ before → GoesOn app limits until k k before after
+tells_nothing {app} {limits} {until} {k} {before} {after} e = record {
+  to = goes_nowhere;
+  events = λ plan f. e ∙ sym (append-nil before) ∙ ap (λ (es : List Event). before ++ es) (sym (from_here app plan k.steps));
+}
+
+-- ---- one step
+
+module _ (app : Application) (formed : IsWellFormed app) (limits : Limits) (are : AreLimits limits.ticks limits.steps) (until : ℕ) (k next : Machine) (short : k.steps < until)
+    (going : (plan : List Point) → IsFree app limits until k plan → end_of app limits (state_after app plan k.steps) ≡ None)
+    (stands : (s : State) → Stands k s → Stands next (step app [] s)) where
+  module _ (plan : List Point) (f : IsFree app limits until k plan) where
+    nothing_injected : [] ≡ injected plan k.steps
+    nothing_injected = sym (f.alone k.steps (omega arith) short)
+
+    stands_by : (s : State) → Stands k s → Stands next (step app (injected plan k.steps) s)
+    stands_by = stands_as app k next [] (injected plan k.steps) nothing_injected stands
+
+    pub one_further : next.steps ≡ suc k.steps
+    one_further = steps_more app formed plan limits are k f.way (going plan f) next stands_by
+
+    way_further : IsUnderWay app plan limits next
+    way_further = goes_on app formed plan limits are k f.way (going plan f) next stands_by
+
+    told_further : (before after : List Event) → ((s : State) → Stands k s → after ≡ before ++ (step app [] s).log) → after ≡ before ++ events_from app plan k.steps next.steps
+    told_further before after told =
+        more_events app formed plan limits are k f.way (going plan f) next stands_by k.steps (omega arith) before before after
+        (sym (append-nil before) ∙ ap (λ (es : List Event). before ++ es) (sym (from_here app plan k.steps)))
+        (subst (λ (hs : List ℕ). after ≡ before ++ (step app hs (state_after app plan k.steps)).log) nothing_injected (told (state_after app plan k.steps) f.way.stands))
+
+    -- where the step tells something, so has the run
+    pub some_further : ((s : State) → Stands k s → 0 < length (step app [] s).log) → 0 < length (events_after app plan next.steps)
+    some_further some =
+        told_more app formed plan limits are k f.way (going plan f) next stands_by
+        (subst (λ (hs : List ℕ). 0 < length (step app hs (state_after app plan k.steps)).log) nothing_injected (some (state_after app plan k.steps) f.way.stands))
+
+  -- where there is such a run
+  module _ {plan : List Point} (f : IsFree app limits until k plan) where
+    pub goes_a_step : GoesTo app limits until k next
+    goes_a_step = let one = one_further plan f in record { way = way_further; on = omega arith; far = λ within. omega arith }
+
+    pub tells_a_step : (before after : List Event) → ((s : State) → Stands k s → after ≡ before ++ (step app [] s).log) → GoesOn app limits until k next before after
+    tells_a_step before after told = record { to = goes_a_step; events = λ plan f. told_further plan f before after told }
+
+-- ---- one stretch after another
+
+pub goes_then : {app : Application} {limits : Limits} {until : ℕ} {first middle last : Machine} → GoesTo app limits until first middle → GoesTo app limits until middle last → GoesTo app limits until first last
+goes_then {app} {limits} {until} {first} {middle} {last} g h = record {
+  way = λ plan f. h.way plan (free_next g f);
+  on = (let l = g.on in let m = h.on in omega arith);
+  far = λ within. h.far (g.far within);
+}
+
+pub tells_then : {app : Application} {limits : Limits} {until : ℕ} {first middle last : Machine} {before between after : List Event} → GoesOn app limits until first middle before between → GoesOn app limits until middle last between after → GoesOn app limits until first last before after
+tells_then {app} {limits} {until} {first} {middle} {last} {before} {between} {after} g h = record {
+  to = goes_then g.to h.to;
+  events = λ plan f. more_from app plan first.steps middle.steps last.steps g.to.on h.to.on before between after (g.events plan f) (h.events plan (free_next g.to f));
+}
+
+-- a stretch that tells nothing, behind any events
+pub behind : {app : Application} {limits : Limits} {until : ℕ} {old new : Machine} (kept : List Event) → GoesOn app limits until old new [] [] → GoesOn app limits until old new kept kept
+behind {app} {limits} {until} {old} {new} kept g = record {
+  to = g.to;
+  events = λ plan f. sym (append-nil kept) ∙ ap (λ (es : List Event). kept ++ es) (g.events plan f);
+}
+
+-- a stretch that ends sooner
+pub goes_as_far : {app : Application} {limits : Limits} {sooner until : ℕ} {old new : Machine} {before after : List Event} → old.steps ≤ sooner → ((n : ℕ) → old.steps ≤ n → n < sooner → n < until) → GoesOn app limits sooner old new before after → GoesOn app limits until old new before after
+goes_as_far {app} {limits} {sooner} {until} {old} {new} {before} {after} ahead within g = record {
+  to = record {
+    way = λ plan f. g.to.way plan (free_sooner sooner within f);
+    on = g.to.on;
+    far = λ inside. let far = g.to.far ahead in let last = within until inside in grind arith;
+  };
+  events = λ plan f. g.events plan (free_sooner sooner within f);
+}
