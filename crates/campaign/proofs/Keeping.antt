@@ -1,5 +1,5 @@
 -- Rows that are kept.
-use Rattle.std.specs.Prelude.{nat_lt, slice_range}
+use Rattle.std.specs.Prelude.{nat_lt}
 use Rattle.std.proofs.lemmas.Bool.Decides.{nat_tests}
 use Rattle.std.proofs.Common.{◌≡◌, ℕ, ◌≤◌, ◌<◌, ◌+◌, ◌-◌, zero, suc, true, false, List, [], ◌∷◌, ◌++◌, length, length-append, slice_index, slice_index_or, take, drop, refl, sym, ap, subst, ◌∙◌, append-nil, append_assoc, arith}
 use Rattle.std.specs.List.{AllByRecursion}
@@ -10,14 +10,18 @@ use Rattle.model.specs.declared.plan.Point.{Point}
 use Rattle.model.specs.Application.{Application, Limits}
 use Rattle.model.specs.Run.{Run, IsRun, IsRow, events_after}
 use Rattle.model.proofs.Injected.{begins_with, no_fewer}
-use Rattle.kernel.specs.declared.rows.RowEnding.{RowEnding}
-use Rattle.kernel.specs.Rows.{IsRowFrom}
+use Rattle.machine.specs.declared.machine.Machine.{Machine}
+use Rattle.kernel.specs.declared.rows.RowBeginning.{RowBeginning}
+use Rattle.kernel.specs.Rows.{Extends}
+use Rattle.shelf.specs.Begun.{HasBegun}
 use Rattle.model.specs.Campaign.{Row, AreRows}
 use Rattle.deal.specs.Tallies.{Tallied}
 use Rattle.campaign.specs.declared.rows.KeptRow.{KeptRow}
+use Rattle.campaign.specs.declared.rows.Stretch.{Stretch}
+use Rattle.campaign.specs.declared.mark.Rest.{Rest}
 use Rattle.campaign.specs.Kinds.{kind_in}
-use Rattle.campaign.specs.Report.{row_of, rows_of, IsKept}
-use Rattle.campaign.specs.Working.{AreKnown, IsAmong, IsKeptRow, GainsRow, Gained, GainsRows}
+use Rattle.campaign.specs.Report.{row_of, rows_of, told_in, IsStretch, IsKept}
+use Rattle.campaign.specs.Working.{AreKnown, IsAmong, IsKeptRow, IsRestOf, GainsRow, Gained, GainsRows}
 use Rattle.campaign.proofs.Ends.{kind_in-append, kind_in-few}
 
 less : (a b : ℕ) → a < b → nat_lt a b ≡ true
@@ -28,59 +32,78 @@ no_less a b l = grind (arith, nat_tests)
 
 -- ---- events of a trail
 
--- those of a row stay where they are when the trail grows
-same_own : (trail more : List Event) (i j : ℕ) → i ≤ j → j ≤ length trail → slice_range (trail ++ more) i j ≡ slice_range trail i j
-same_own trail more i j l m =
-    let long : j - i ≤ length (drop i trail) = omega (arith, length-drop i trail) in
-    let within : i ≤ length trail = omega arith in
-    rw (drop-append-le i trail more within) (take-append-le (j - i) (drop i trail) more long)
+-- those of a stretch stay where they are when the trail grows
+pub same_told : (trail more : List Event) (stretch : Stretch) → IsStretch trail stretch → told_in (trail ++ more) stretch ≡ told_in trail stretch
+same_told trail more stretch is =
+    let rises = is.rises in
+    let within = is.within in
+    let long : stretch.to - stretch.from ≤ length (drop stretch.from trail) = omega (arith, length-drop stretch.from trail) in
+    let begun : stretch.from ≤ length trail = omega arith in
+    rw (drop-append-le stretch.from trail more begun) (take-append-le (stretch.to - stretch.from) (drop stretch.from trail) more long)
 
-last_own : (trail own : List Event) (i j : ℕ) → i ≡ length trail → j ≡ length (trail ++ own) → slice_range (trail ++ own) i j ≡ own
-last_own trail own i j e f =
-    let long : length own ≤ j - i = omega (arith, length-append trail own) in
-    rw (drop_at trail own i (sym e)) (take_all (j - i) own long)
+pub still_there : (trail more : List Event) (stretch : Stretch) → IsStretch trail stretch → IsStretch (trail ++ more) stretch
+still_there trail more stretch is = record { rises = is.rises; within = (let within = is.within in omega (arith, length-append trail more)) }
 
-none : (trail : List Event) (i : ℕ) → slice_range trail i i ≡ []
+-- the events that a trail has gained
+pub last_told : (trail own : List Event) (stretch : Stretch) → stretch.from ≡ length trail → stretch.to ≡ length (trail ++ own) → told_in (trail ++ own) stretch ≡ own
+last_told trail own stretch e f =
+    let long : length own ≤ stretch.to - stretch.from = omega (arith, length-append trail own) in
+    rw (drop_at trail own stretch.from (sym e)) (take_all (stretch.to - stretch.from) own long)
+
+pub gained_stretch : (trail own : List Event) (stretch : Stretch) → stretch.from ≡ length trail → stretch.to ≡ length (trail ++ own) → IsStretch (trail ++ own) stretch
+gained_stretch trail own stretch e f = record { rises = omega (arith, length-append trail own); within = omega arith }
+
+pub none : (trail : List Event) (i : ℕ) → told_in trail (record { from = i; to = i }) ≡ []
 none trail i = let e : i - i ≡ 0 = omega arith in rw e refl
 
 -- ---- a row of its own
 
 module _ (app : Application) (limits : Limits) (base : Run) (is : IsRun app [] limits base) (point : Point) where
-  -- a row that is reached begins as the base run does, and is kept with the last events of the trail
-  pub reached_row : (old new : List Event) (row : RowEnding) (from to : ℕ) → point.step < base.steps → IsRowFrom app point limits old new row
-      → row.before ≡ length (events_after app [] point.step) → from ≡ length old → to ≡ length new
-      → GainsRow app limits base point old new (record { point = point; shared = row.before; own_from = from; own_to = to; steps = row.steps; ticks = row.ticks; end = row.end })
-  reached_row old new row from to l made before e f =
+  -- a row that is reached begins as the base run does, and is kept with what it told from its injection on, and with its rest
+  pub reached_row : (old mid new : List Event) (k : Machine) (beginning : RowBeginning) → HasBegun app point limits k old mid beginning → Extends mid new
+      → beginning.before ≡ length (events_after app [] point.step) → (rest : Rest) → IsRestOf app limits new point k rest → point.step < base.steps
+      → (from to : ℕ) → from ≡ length old → to ≡ length mid
+      → GainsRow app limits base point old new (record { point = point; shared = beginning.before; own = record { from = from; to = to }; rest = rest.told; steps = rest.steps; ticks = rest.ticks; end = rest.end })
+  reached_row old mid new k beginning begun (more, grown) before rest goes l from to e f =
+      let own : Stretch = record { from = from; to = to } in
+      let long : to ≡ length (old ++ begun.own) = f ∙ ap length begun.kept in
+      let whole : new ≡ (old ++ begun.own) ++ more = rw begun.kept at grown in
+      let there : IsStretch (old ++ begun.own) own = gained_stretch old begun.own own e long in
       let within : point.step ≤ base.steps = omega arith in
-      let first : take row.before base.events ≡ events_after app [] point.step = rw (before, is.trace) (begins_with app [] point.step base.steps within) in
-      let last : slice_range new from to ≡ made.own = rw made.kept (last_own old made.own from to e (f ∙ ap length made.kept)) in
+      let first : take beginning.before base.events ≡ events_after app [] point.step = rw (before, is.trace) (begins_with app [] point.step base.steps within) in
+      let last : told_in new own ≡ begun.own = rw whole (same_told (old ++ begun.own) more own there ∙ last_told old begun.own own e long) in
       let reaches = less point.step base.steps l in
+      let events : events_after app (point ∷ []) k.steps ++ told_in new rest.told ≡ take beginning.before base.events ++ (told_in new own ++ told_in new rest.told) =
+      rw (begun.events, first, last) (append_assoc (events_after app [] point.step) begun.own (told_in new rest.told)) in
       record {
-        own = made.own;
-        trail = made.kept;
+        own = begun.own ++ more;
+        trail = whole ∙ append_assoc old begun.own more;
         row = record {
           at_point = refl;
           is_kept = record {
             shared = rw (before, is.trace) (no_fewer app [] point.step base.steps within);
-            rises = (let long = ap length made.kept in omega (arith, length-append old made.own));
-            own = omega arith;
+            own = rw whole (still_there (old ++ begun.own) more own there);
+            rest = goes.told;
           };
           is_row = record {
             base = base;
             is_base = is;
             is_reached = refl;
-            is_row = rw (reaches, first, last) made.run;
+            is_row = rw reaches (subst (λ (told : List Event). IsRun app (point ∷ []) limits (record { events = told; steps = rest.steps; ticks = rest.ticks; end = rest.end })) events goes.is_row);
           };
         };
       }
 
   -- one that isn't is the base run
   pub missed_row : (trail : List Event) (b : Run) (shared end : ℕ) → b ≡ base → base.steps ≤ point.step → shared ≡ length b.events → end ≡ length trail
-      → GainsRow app limits base point trail trail (record { point = point; shared = shared; own_from = end; own_to = end; steps = b.steps; ticks = b.ticks; end = b.end })
+      → GainsRow app limits base point trail trail (record { point = point; shared = shared; own = record { from = end; to = end }; rest = record { from = end; to = end }; steps = b.steps; ticks = b.ticks; end = b.end })
   missed_row trail b shared end same l count e =
-      let whole : take shared base.events ++ slice_range trail end end ≡ base.events = rw (count, same, none trail end, take-length base.events) (append-nil base.events) in
+      let empty : told_in trail (record { from = end; to = end }) ≡ [] = none trail end in
+      let whole : take shared base.events ++ (told_in trail (record { from = end; to = end }) ++ told_in trail (record { from = end; to = end })) ≡ base.events =
+      rw (count, same, empty, take-length base.events) (append-nil base.events) in
       let misses = no_less point.step base.steps l in
-      let is_all : IsRun app [] limits (record { events = take shared base.events ++ slice_range trail end end; steps = b.steps; ticks = b.ticks; end = b.end }) = rw (whole, same) is in
+      let is_all : IsRun app [] limits (record { events = take shared base.events ++ (told_in trail (record { from = end; to = end }) ++ told_in trail (record { from = end; to = end })); steps = b.steps; ticks = b.ticks; end = b.end }) = rw (whole, same) is in
+      let nothing : IsStretch trail (record { from = end; to = end }) = record { rises = omega arith; within = omega arith } in
       record {
         own = [];
         trail = sym (append-nil trail);
@@ -88,8 +111,8 @@ module _ (app : Application) (limits : Limits) (base : Run) (is : IsRun app [] l
           at_point = refl;
           is_kept = record {
             shared = (let all = ap (λ (r : Run). length r.events) same in omega arith);
-            rises = omega arith;
-            own = omega arith;
+            own = nothing;
+            rest = nothing;
           };
           is_row = record {
             base = base;
@@ -110,12 +133,12 @@ all-append P (x ∷ xs) ys h k = (h.0, all-append P xs ys h.1 k)
 pub same_rows : (base : Run) (trail more : List Event) (kept : List KeptRow) → AllByRecursion (IsKept base trail) kept → rows_of base (trail ++ more) kept ≡ rows_of base trail kept
 same_rows base trail more [] all = refl
 same_rows base trail more (k ∷ kept) all =
-    rw (same_own trail more k.own_from k.own_to all.0.rises all.0.own, same_rows base trail more kept all.1) refl
+    rw (same_told trail more k.own all.0.own, same_told trail more k.rest all.0.rest, same_rows base trail more kept all.1) refl
 
 pub still_kept : (base : Run) (trail more : List Event) (kept : List KeptRow) → AllByRecursion (IsKept base trail) kept → AllByRecursion (IsKept base (trail ++ more)) kept
 still_kept base trail more [] all = tt
 still_kept base trail more (k ∷ kept) all =
-    (record { shared = all.0.shared; rises = all.0.rises; own = (let own = all.0.own in omega (arith, length-append trail more)) }, still_kept base trail more kept all.1)
+    (record { shared = all.0.shared; own = still_there trail more k.own all.0.own; rest = still_there trail more k.rest all.0.rest }, still_kept base trail more kept all.1)
 
 -- rows of some points, and of others
 pub rows-append : (app : Application) (limits : Limits) (points others : List Point) (rows after : List Row)
@@ -210,11 +233,11 @@ module _ (app : Application) (limits : Limits) (base : Run) where
   still_known : (kept : List KeptRow) (trail more : List Event) → AreKnown app limits base kept trail → AreKnown app limits base kept (trail ++ more)
   still_known [] trail more known = tt
   still_known (k ∷ kept) trail more known =
-      let own = known.0.is_kept.own in (
+      let is = known.0.is_kept in (
         record {
           at_point = refl;
-          is_kept = record { shared = known.0.is_kept.shared; rises = known.0.is_kept.rises; own = omega (arith, own, length-append trail more) };
-          is_row = rw (same_own trail more k.own_from k.own_to known.0.is_kept.rises own) known.0.is_row;
+          is_kept = record { shared = is.shared; own = still_there trail more k.own is.own; rest = still_there trail more k.rest is.rest };
+          is_row = rw (same_told trail more k.own is.own, same_told trail more k.rest is.rest) known.0.is_row;
         },
         still_known kept trail more known.1,
       )

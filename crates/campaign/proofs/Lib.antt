@@ -5,6 +5,7 @@ mod Desks
 mod Determined
 mod Ends
 pub mod Faulty
+mod GoingOn
 mod Jobs
 mod Keeping
 mod Multiplicity

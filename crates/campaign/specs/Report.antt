@@ -8,16 +8,22 @@ use Rattle.model.specs.Campaign.{Row, totals_of}
 use Rattle.model.specs.Scripts.{most_points}
 use Rattle.campaign.specs.declared.rows.KeptRow.{KeptRow}
 use Rattle.campaign.specs.declared.rows.Part.{Part}
+use Rattle.campaign.specs.declared.rows.Stretch.{Stretch}
 use Rattle.campaign.specs.declared.rows.Place.{Place}
 use Rattle.campaign.specs.declared.campaign_report.Rows.{Rows}
 
--- A row that is kept begins as the base run does, with so many of its events, and goes on with its own, which stand in a trail.
+-- the events of a stretch of a trail
+abbrev pub told_in : (trail : List Event) → Stretch → List Event
+told_in trail stretch = slice_range trail stretch.from stretch.to
+
+-- A row that is kept begins as the base run does, with so many of its events, goes on with its own, and ends with those of its
+-- rest, both of which stand in a trail.
 abbrev pub row_of : (base : Run) (trail : List Event) → KeptRow → Row
 row_of base trail kept = record {
   point = kept.point;
   reached = nat_lt kept.point.step base.steps;
   run = record {
-    events = take kept.shared base.events ++ slice_range trail kept.own_from kept.own_to;
+    events = take kept.shared base.events ++ (told_in trail kept.own ++ told_in trail kept.rest);
     steps = kept.steps;
     ticks = kept.ticks;
     end = kept.end;
@@ -27,11 +33,16 @@ row_of base trail kept = record {
 abbrev pub rows_of : (base : Run) (trail : List Event) → List KeptRow → List Row
 rows_of base trail kept = map (row_of base trail) kept
 
+-- the events of the stretch are there
+pub record IsStretch (trail : List Event) (stretch : Stretch) : Type 0 where
+  pub rises : stretch.from ≤ stretch.to
+  pub within : stretch.to ≤ length trail
+
 -- the events of the row are there
 pub record IsKept (base : Run) (trail : List Event) (kept : KeptRow) : Type 0 where
   pub shared : kept.shared ≤ length base.events
-  pub rises : kept.own_from ≤ kept.own_to
-  pub own : kept.own_to ≤ length trail
+  pub own : IsStretch trail kept.own
+  pub rest : IsStretch trail kept.rest
 
 -- ---- the rows as a whole
 

@@ -1,11 +1,13 @@
 -- What workers make: the rows of blocks.
-use Rattle.std.specs.Prelude.{◌≡◌, ℕ, ◌+◌, ◌<◌, ◌≤◌, ◌^◌, false, List, [], ◌∷◌, ◌++◌, length, map, take, drop, sum, slice_index, slice_index_or, nat_lt}
+use Rattle.std.specs.Prelude.{◌≡◌, ℕ, ◌+◌, ◌<◌, ◌≤◌, ◌^◌, false, List, [], ◌∷◌, ◌++◌, length, map, take, drop, sum, slice_index, slice_index_or, nat_lt, Option, IfSome}
 use Rattle.std.specs.List.{AllByRecursion}
 use Rattle.machine.specs.Logged.{all_of}
+use Rattle.machine.specs.declared.machine.Machine.{Machine}
+use Rattle.kernel.specs.Rests.{IsRest}
 use Rattle.model.specs.declared.event.Event.{Event}
 use Rattle.model.specs.declared.plan.Point.{Point}
 use Rattle.model.specs.Application.{Application, Limits}
-use Rattle.model.specs.Run.{Run, IsRow}
+use Rattle.model.specs.Run.{Run, IsRun, IsRow, events_after}
 use Rattle.model.specs.Campaign.{Row, AreRows}
 use Rattle.deal.specs.Sharing.{Game, Sight, HasSeenAll}
 use Rattle.deal.specs.Tallies.{Sheet, Tallied}
@@ -13,10 +15,12 @@ use Rattle.deal.specs.Totals.{total}
 use Rattle.campaign.specs.declared.rows.KeptRow.{KeptRow}
 use Rattle.campaign.specs.declared.rows.KeptBlock.{KeptBlock}
 use Rattle.campaign.specs.declared.rows.Part.{Part}
+use Rattle.campaign.specs.declared.mark.Mark.{Mark}
+use Rattle.campaign.specs.declared.mark.Rest.{Rest}
 use Rattle.campaign.specs.declared.worker.Job.{Job}
 use Rattle.campaign.specs.declared.worker.Done.{Done}
 use Rattle.campaign.specs.Kinds.{kind_in}
-use Rattle.campaign.specs.Report.{row_of, rows_of, IsKept, AreKept}
+use Rattle.campaign.specs.Report.{row_of, rows_of, told_in, IsStretch, IsKept, AreKept}
 
 -- What there is to be done: rows of the application under these limits, with this base run, at these points, which are cut into
 -- blocks of these lengths.
@@ -51,6 +55,27 @@ pub record IsAmong (rows : List KeptRow) (point : Point) (kept : KeptRow) : Type
   pub number : ℕ
   pub within : number < length rows
   pub is : kept ≡ slice_index_or rows number kept
+
+-- ---- how rows go on
+
+-- Each row that comes to the kernel goes on so, and what it tells is there.
+pub record IsRestIn (app : Application) (limits : Limits) (trail : List Event) (k : Machine) (rest : Rest) : Type 0 where
+  pub told : IsStretch trail rest.told
+  pub is_rest : IsRest app limits k (record { events = told_in trail rest.told; steps = rest.steps; ticks = rest.ticks; end = rest.end })
+
+-- The row of this point, which has come to the kernel, goes on so, and what it tells is there.
+pub record IsRestOf (app : Application) (limits : Limits) (trail : List Event) (point : Point) (k : Machine) (rest : Rest) : Type 0 where
+  pub told : IsStretch trail rest.told
+  pub is_row : IsRun app (point ∷ []) limits (record { events = events_after app (point ∷ []) k.steps ++ told_in trail rest.told; steps = rest.steps; ticks = rest.ticks; end = rest.end })
+
+-- The mark, if there is one, has the rest of each row that comes to its kernel.
+abbrev pub IsMarked : Application → Limits → (trail : List Event) → Option Mark → Type 0
+IsMarked app limits trail mark = IfSome mark (λ m. IsRestIn app limits trail m.kernel m.rest)
+
+-- What a worker knows: of each of its rows that it is that of its point, and what the mark says.
+pub record Knows (app : Application) (limits : Limits) (base : Run) (kept : List KeptRow) (trail : List Event) (mark : Option Mark) : Type 0 where
+  pub rows : AreKnown app limits base kept trail
+  pub marked : IsMarked app limits trail mark
 
 -- ---- seats
 

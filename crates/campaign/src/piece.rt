@@ -26,9 +26,10 @@ fn guess(rows: &Rows, place: &Place) -> usize
     ensures { 0 < result }
 {
     let row = &rows.parts[place.part].kept[place.first];
-    let own = row.own_to.saturating_sub(row.own_from);
-    let lines = row.shared.saturating_add(own).saturating_add(1);
-    lines.saturating_mul(32)
+    let own = row.own.to.saturating_sub(row.own.from);
+    let rest = row.rest.to.saturating_sub(row.rest.from);
+    let lines = row.shared.saturating_add(own).saturating_add(rest);
+    lines.saturating_add(1).saturating_mul(32)
 }
 
 impl Piece {

@@ -5,14 +5,22 @@ use kernel::Trail;
 use model::{End, Memory, Point};
 use std::alloc::Global;
 
-/// A row as it is kept: its events begin with so many of the base run's, and go on with its own, which stand in a trail between
-/// two places. Its point is reached where the base run gets beyond the point's step.
+/// The events of a trail between two places.
+#[derive(Clone, Copy)]
+pub(crate) struct Stretch {
+    pub(crate) from: usize,
+    pub(crate) to: usize,
+}
+
+/// A row as it is kept: its events begin with so many of the base run's, go on with its own, and end with those that a row told
+/// which had come to the same kernel: this one, or one before it. Its point is reached where the base run gets beyond the point's
+/// step.
 #[derive(Clone, Copy)]
 pub(crate) struct KeptRow {
     pub(crate) point: Point,
     pub(crate) shared: usize,
-    pub(crate) own_from: usize,
-    pub(crate) own_to: usize,
+    pub(crate) own: Stretch,
+    pub(crate) rest: Stretch,
     pub(crate) steps: u32,
     pub(crate) ticks: u32,
     pub(crate) end: End,
@@ -64,8 +72,8 @@ pub(crate) fn push(kept: &mut Vec<KeptRow>, row: KeptRow) -> Result<(), Memory>
     let KeptRow {
         point,
         shared,
-        own_from,
-        own_to,
+        own,
+        rest,
         steps,
         ticks,
         end,
@@ -73,8 +81,8 @@ pub(crate) fn push(kept: &mut Vec<KeptRow>, row: KeptRow) -> Result<(), Memory>
     let row = KeptRow {
         point,
         shared,
-        own_from,
-        own_to,
+        own,
+        rest,
         steps,
         ticks,
         end,

@@ -1,17 +1,17 @@
 //! A worker, which makes the rows of the blocks that its lane is answered.
-ghost use Rattle.std.specs.Prelude.{◌≡◌, ◌<◌, ◌≤◌, ◌+◌, ◌++◌, ◌∷◌, [], false, length, sum, take, drop, IfOk, IfSome, OnOk};
+ghost use Rattle.std.specs.Prelude.{◌≡◌, ◌≤◌, ◌+◌, ◌++◌, ◌∷◌, [], None, length, sum, take, drop, IfOk, IfSome, OnOk};
 ghost use Rattle.machine.specs.Logged.{all_of};
 ghost use Rattle.shelf.specs.Shelves.{IsShelf};
-ghost use Rattle.campaign.specs.Working.{AreKnown, GainsRow, GainsRows, HasRoom, IsAmong, IsDone, IsJob};
+ghost use Rattle.campaign.specs.Working.{GainsRow, GainsRows, HasRoom, IsAmong, IsDone, IsJob, IsMarked, Knows};
 ghost use Rattle.campaign.specs.Setup.{work_of};
 
 use crate::gate::Gate;
 use crate::recent::Recent;
 use crate::rows::{KeptBlock, KeptRow, Part, push};
+use crate::runner::Runner;
 use crate::tallying::count_row;
 use deal::{Lane, Next, Tally, TallySeat};
-use kernel::{Kernel, StepLog, Trail};
-use model::{App, Memory, Meter, Point};
+use model::{App, Memory, Point};
 use shelf::Shelf;
 use std::alloc::Global;
 use std::sync::Wait;
@@ -44,15 +44,25 @@ pub(crate) struct Done {
     pub(crate) refused: bool,
 }
 
-// What a worker has of its own: a kernel, the log of a step, and the rows that it made.
+// What a worker has of its own: what it runs rows with, and the rows that it made.
 #[derive(Drop)]
 struct Worker {
-    kernel: Kernel,
-    log: StepLog,
-    trail: Trail,
+    runner: Runner,
     kept: Vec<KeptRow>,
     blocks: Vec<KeptBlock>,
     recent: Recent,
+}
+
+// The row that is kept of this point, where the one that was made last of it is found.
+fn again(kept: &[KeptRow], recent: &Recent, point: &Point) -> Option<KeptRow>
+    ensures { IfSome result (IsAmong kept.now point.now) }
+{
+    let row = kept.get(recent.row(point))?;
+    if row.point == *point {
+        Some(*row)
+    } else {
+        None
+    }
 }
 
 impl Worker {
@@ -60,106 +70,29 @@ impl Worker {
     fn new(alloc: Global, app: &App, kept: Vec<KeptRow>) -> Worker
         ensures kept { result.kept.items ≡ kept.items }
         ensures blocks { result.blocks.items ≡ [] }
+        ensures mark { result.runner.mark ≡ None }
     {
         Worker {
-            kernel: Kernel::boot(app),
-            log: StepLog::new(),
-            trail: Trail::new(alloc),
+            runner: Runner::new(alloc, app),
             kept,
             blocks: Vec::new(alloc),
             recent: Recent::new(),
         }
     }
 
-    // The row of a point that the base run doesn't reach: it is the base run.
-    fn missed(&self, app: &App, shelf: &Shelf, point: Point) -> KeptRow
-        requires shelf { IsShelf app.now shelf.now }
-        requires missed { shelf.now.base.steps ≤ point.step }
-        ensures { GainsRow app.now shelf.now.limits shelf.now.base point (all_of self.now.trail) (all_of self.now.trail) result }
-    {
-        let base = shelf.base();
-        let end = self.trail.len();
-        KeptRow {
-            point,
-            shared: base.events.len(),
-            own_from: end,
-            own_to: end,
-            steps: base.steps,
-            ticks: base.ticks,
-            end: base.end,
-        }
-    }
-
-    // The row of a point that the base run reaches.
-    fn reached(&mut self, app: &App, shelf: &Shelf, point: &Point) -> Result<KeptRow, Memory>
-        requires shelf { IsShelf app.now shelf.now }
-        requires reached { point.now.step < shelf.now.base.steps }
-        ensures kept { self.new.kept ≡ self.old.kept }
-        ensures blocks { self.new.blocks ≡ self.old.blocks }
-        ensures row { IfOk result (GainsRow app.now shelf.now.limits shelf.now.base point.now
-            (all_of self.old.trail) (all_of self.new.trail)) }
-    {
-        let own_from = self.trail.len();
-        let mut meter = Meter::new();
-        let row = shelf.run_reached(
-            app,
-            *point,
-            &mut self.kernel,
-            &mut meter,
-            &mut self.log,
-            &mut self.trail,
-        )?;
-        let own_to = self.trail.len();
-        Ok(KeptRow {
-            point: *point,
-            shared: row.before,
-            own_from,
-            own_to,
-            steps: row.steps,
-            ticks: row.ticks,
-            end: row.end,
-        })
-    }
-
-    // The row of a point, whose own events go to the trail.
-    fn made(&mut self, app: &App, shelf: &Shelf, point: &Point) -> Result<KeptRow, Memory>
-        requires { IsShelf app.now shelf.now }
-        ensures kept { self.new.kept ≡ self.old.kept }
-        ensures blocks { self.new.blocks ≡ self.old.blocks }
-        ensures row { IfOk result (GainsRow app.now shelf.now.limits shelf.now.base point.now
-            (all_of self.old.trail) (all_of self.new.trail)) }
-    {
-        if shelf.reaches(point) {
-            self.reached(app, shelf, point)
-        } else {
-            Ok(self.missed(app, shelf, *point))
-        }
-    }
-
-    // The row that is kept of this point, where the one that was made last of it is found.
-    fn again(&self, point: &Point) -> Option<KeptRow>
-        ensures { IfSome result (IsAmong self.now.kept.items point.now) }
-    {
-        let row = self.kept.get(self.recent.row(point))?;
-        if row.point == *point {
-            Some(*row)
-        } else {
-            None
-        }
-    }
-
     // The row of a point: that of the same point before, where it is found, or else it is made.
     fn row_of(&mut self, app: &App, shelf: &Shelf, point: &Point) -> Result<KeptRow, Memory>
         requires shelf { IsShelf app.now shelf.now }
-        requires known { AreKnown app.now shelf.now.limits shelf.now.base self.old.kept.items (all_of self.old.trail) }
+        requires known { Knows app.now shelf.now.limits shelf.now.base self.old.kept.items (all_of self.old.runner.trail) self.old.runner.mark }
         ensures kept { self.new.kept ≡ self.old.kept }
         ensures blocks { self.new.blocks ≡ self.old.blocks }
         ensures row { IfOk result (GainsRow app.now shelf.now.limits shelf.now.base point.now
-            (all_of self.old.trail) (all_of self.new.trail)) }
+            (all_of self.old.runner.trail) (all_of self.new.runner.trail)) }
+        ensures mark { OnOk result (IsMarked app.now shelf.now.limits (all_of self.new.runner.trail) self.new.runner.mark) }
     {
-        match self.again(point) {
+        match again(&self.kept, &self.recent, point) {
             Some(row) => Ok(row),
-            None => self.made(app, shelf, point),
+            None => self.runner.run(app, shelf, point),
         }
     }
 
@@ -171,13 +104,13 @@ impl Worker {
         point: &Point,
     ) -> Result<(), Memory>
         requires shelf { IsShelf setup.now.app.now setup.now.shelf.now }
-        requires known { AreKnown setup.now.app.now setup.now.shelf.now.limits setup.now.shelf.now.base self.old.kept.items (all_of self.old.trail) }
+        requires known { Knows setup.now.app.now setup.now.shelf.now.limits setup.now.shelf.now.base self.old.kept.items (all_of self.old.runner.trail) self.old.runner.mark }
         requires seat { seat.old.sheet ≡ setup.now.tally.now }
         requires room { HasRoom 1 seat.old }
-        ensures known { OnOk result (AreKnown setup.now.app.now setup.now.shelf.now.limits setup.now.shelf.now.base self.new.kept.items (all_of self.new.trail)) }
+        ensures known { OnOk result (Knows setup.now.app.now setup.now.shelf.now.limits setup.now.shelf.now.base self.new.kept.items (all_of self.new.runner.trail) self.new.runner.mark) }
         ensures blocks { self.new.blocks ≡ self.old.blocks }
         ensures row { OnOk result (GainsRows setup.now.app.now setup.now.shelf.now.limits setup.now.shelf.now.base (point.now ∷ [])
-            self.old.kept.items self.new.kept.items (all_of self.old.trail) (all_of self.new.trail) seat.old seat.new) }
+            self.old.kept.items self.new.kept.items (all_of self.old.runner.trail) (all_of self.new.runner.trail) seat.old seat.new) }
     {
         let shelf = setup.shelf;
         let is_reached = shelf.reaches(point);
@@ -189,29 +122,7 @@ impl Worker {
         Ok(())
     }
 
-    // Makes the rows of these points, one by one.
-    fn add_rows(
-        &mut self,
-        setup: &Setup<'_>,
-        seat: &mut TallySeat,
-        points: &[Point],
-    ) -> Result<(), Memory>
-        requires shelf { IsShelf setup.now.app.now setup.now.shelf.now }
-        requires known { AreKnown setup.now.app.now setup.now.shelf.now.limits setup.now.shelf.now.base self.old.kept.items (all_of self.old.trail) }
-        requires seat { seat.old.sheet ≡ setup.now.tally.now }
-        requires room { HasRoom (length points.now) seat.old }
-        ensures known { OnOk result (AreKnown setup.now.app.now setup.now.shelf.now.limits setup.now.shelf.now.base self.new.kept.items (all_of self.new.trail)) }
-        ensures blocks { self.new.blocks ≡ self.old.blocks }
-        ensures rows { OnOk result (GainsRows setup.now.app.now setup.now.shelf.now.limits setup.now.shelf.now.base points.now
-            self.old.kept.items self.new.kept.items (all_of self.old.trail) (all_of self.new.trail) seat.old seat.new) }
-    {
-        for point in points {
-            self.add_row(setup, seat, point)?;
-        }
-        Ok(())
-    }
-
-    // Makes the rows of a block, which has these points.
+    // Makes the rows of a block, which has these points, one by one.
     fn add_block(
         &mut self,
         setup: &Setup<'_>,
@@ -221,24 +132,26 @@ impl Worker {
         count: usize,
     ) -> Result<(), Memory>
         requires shelf { IsShelf setup.now.app.now setup.now.shelf.now }
-        requires known { AreKnown setup.now.app.now setup.now.shelf.now.limits setup.now.shelf.now.base self.old.kept.items (all_of self.old.trail) }
+        requires known { Knows setup.now.app.now setup.now.shelf.now.limits setup.now.shelf.now.base self.old.kept.items (all_of self.old.runner.trail) self.old.runner.mark }
         requires seat { seat.old.sheet ≡ setup.now.tally.now }
         requires points { first + count ≤ length setup.now.points.now }
         requires room { HasRoom count seat.old }
-        ensures known { OnOk result (AreKnown setup.now.app.now setup.now.shelf.now.limits setup.now.shelf.now.base self.new.kept.items (all_of self.new.trail)) }
+        ensures known { OnOk result (Knows setup.now.app.now setup.now.shelf.now.limits setup.now.shelf.now.base self.new.kept.items (all_of self.new.runner.trail) self.new.runner.mark) }
         ensures block { OnOk result (self.new.blocks.items ≡ self.old.blocks.items
             ++ record { number = number; first = length self.old.kept.items; count = count } ∷ []) }
         ensures rows { OnOk result (GainsRows setup.now.app.now setup.now.shelf.now.limits setup.now.shelf.now.base
             (take count (drop first setup.now.points.now))
-            self.old.kept.items self.new.kept.items (all_of self.old.trail) (all_of self.new.trail) seat.old seat.new) }
+            self.old.kept.items self.new.kept.items (all_of self.old.runner.trail) (all_of self.new.runner.trail) seat.old seat.new) }
     {
-        let points = setup.points;
+        let points = &setup.points[first..first + count];
         let block = KeptBlock {
             number,
             first: self.kept.len(),
             count,
         };
-        self.add_rows(setup, seat, &points[first..first + count])?;
+        for point in points {
+            self.add_row(setup, seat, point)?;
+        }
         if self.blocks.push(block).is_err() {
             return Err(Memory);
         }
@@ -297,13 +210,12 @@ pub(crate) fn work<R: Wait, G: Gate>(
         }
     }
     let Worker {
-        kernel: _kernel,
-        log: _log,
-        trail,
+        runner,
         kept,
         blocks,
         recent: _recent,
     } = worker;
+    let trail = runner.into_trail();
     Done {
         lane,
         seat,

@@ -31,7 +31,7 @@ const MOST_PIECE: usize = 1 << 16;
 // No text that is longer than this is kept in memory, in bytes.
 const MOST_TEXT: usize = 1 << 24;
 
-// Adds a row of this number to a report: its events are the first so many of the base run's, and then its own.
+// Adds a row of this number to a report: its events are the first so many of the base run's, its own, and those of its rest.
 fn add_row<W: Sink>(
     writer: &mut W,
     text: &mut ReportWriter<'_>,
@@ -62,8 +62,9 @@ fn add_row<W: Sink>(
         ticks: row.ticks,
         end: row.end,
     };
-    let own = &trail[row.own_from..row.own_to];
-    text.add_run_after(writer, title, ending, events, row.shared, own)
+    let own = &trail[row.own.from..row.own.to];
+    let rest = &trail[row.rest.from..row.rest.to];
+    text.add_run_after(writer, title, ending, events, row.shared, own, rest)
 }
 
 // Adds so many rows of a part, from the first on, which are numbered from here.

@@ -16,9 +16,9 @@ const ONE_MARK_REPORT: &str = "base: pass in 1 steps, 0 ticks\n0 0 mark a 5\n0 0
 
 // A file whose report has several pages, and the bytes of that report.
 const MANY_MARKS: &str =
-    "task = [{ name = 'a', priority = 1, script = ['repeat 1000', 'mark 1', 'mark 2', 'end'] }]";
+    "task = [{ name = 'a', priority = 1, script = ['repeat 1000', 'mark 1', 'mark 2', 'mark 3', 'mark 4', 'mark 5', 'mark 6', 'end'] }]";
 
-const MANY_MARKS_SIZE: usize = 31_309;
+const MANY_MARKS_SIZE: usize = 95_097;
 
 /// The job that writes the base run of this file.
 fn base_run_of(file: &str) -> Job<'_> {
@@ -126,7 +126,7 @@ fn a_full_writer_has_the_beginning(rt: HostRuntime) {
 
 #[test]
 fn a_writer_is_full_after_some_pages(rt: HostRuntime) {
-    for room in [8191, 8192, 8193, 20_000, MANY_MARKS_SIZE - 1] {
+    for room in [32_767, 32_768, 32_769, 80_000, MANY_MARKS_SIZE - 1] {
         let written = check_full_writer(&rt, rt.alloc(), MANY_MARKS, room, false);
         assert!(rt; written.bytes().len() == room);
     }

@@ -95,7 +95,25 @@ fn add_shared<W: Sink>(
     add_events(writer, page, lines, &base.events()[count..shared])
 }
 
-// Adds the lines of the first so many events of a base run, and of a row's own.
+// Adds the lines of a row's own events, and of its rest.
+fn add_own<W: Sink>(
+    writer: &mut W,
+    page: &mut Page,
+    lines: &mut Lines<'_>,
+    own: &[Event],
+    rest: &[Event],
+) -> Result<(), WriteFault>
+    requires { W.has_failed writer.old ≡ false }
+    ensures app { lines.new ≡ lines.old }
+    ensures text { Adds (W.held writer.old) (W.held writer.new) page.old page.new result
+        (flat_map (event_text lines.old) (own.now ++ rest.now)) }
+    ensures failed { W.has_failed writer.new ≡ is_err result }
+{
+    add_events(writer, page, lines, own)?;
+    add_events(writer, page, lines, rest)
+}
+
+// Adds the lines of the first so many events of a base run, of a row's own, and of its rest.
 fn add_after<W: Sink>(
     writer: &mut W,
     page: &mut Page,
@@ -103,17 +121,18 @@ fn add_after<W: Sink>(
     base: &BaseEvents<'_>,
     shared: usize,
     own: &[Event],
+    rest: &[Event],
 ) -> Result<(), WriteFault>
     requires working { W.has_failed writer.old ≡ false }
     requires app { base.now.app ≡ lines.old }
     requires within { shared ≤ length base.now.events }
     ensures app { lines.new ≡ lines.old }
     ensures text { Adds (W.held writer.old) (W.held writer.new) page.old page.new result
-        (flat_map (event_text lines.old) (take shared base.now.events ++ own.now)) }
+        (flat_map (event_text lines.old) (take shared base.now.events ++ (own.now ++ rest.now))) }
     ensures failed { W.has_failed writer.new ≡ is_err result }
 {
     add_shared(writer, page, lines, base, shared)?;
-    add_events(writer, page, lines, own)
+    add_own(writer, page, lines, own, rest)
 }
 
 fn add_total_line<W: Sink>(
@@ -163,7 +182,7 @@ impl<'a> ReportWriter<'a> {
     }
 
     /// Adds the report of a run as `add_run` does. Its events are the first so many of this base run, which is of the same
-    /// application, and then these of its own.
+    /// application, then these of its own, and then these of its rest.
     pub fn add_run_after<W: Sink>(
         &mut self,
         writer: &mut W,
@@ -172,6 +191,7 @@ impl<'a> ReportWriter<'a> {
         base: &BaseEvents<'_>,
         shared: usize,
         own: &[Event],
+        rest: &[Event],
     ) -> Result<(), WriteFault>
         requires working { W.has_failed writer.old ≡ false }
         requires app { base.now.app ≡ self.old.app }
@@ -179,11 +199,19 @@ impl<'a> ReportWriter<'a> {
         ensures app { self.new.app ≡ self.old.app }
         ensures text { Adds (W.held writer.old) (W.held writer.new) self.old.page self.new.page result
             (run_text self.old.app title
-            (record { events = take shared base.now.events ++ own.now; steps = ending.steps; ticks = ending.ticks; end = ending.end })) }
+            (record { events = take shared base.now.events ++ (own.now ++ rest.now); steps = ending.steps; ticks = ending.ticks; end = ending.end })) }
         ensures failed { W.has_failed writer.new ≡ is_err result }
     {
         add_head(writer, &mut self.page, self.lines.app(), title, ending)?;
-        add_after(writer, &mut self.page, &mut self.lines, base, shared, own)
+        add_after(
+            writer,
+            &mut self.page,
+            &mut self.lines,
+            base,
+            shared,
+            own,
+            rest,
+        )
     }
 
     /// Adds the line that ends the report of a campaign.

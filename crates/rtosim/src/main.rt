@@ -12,7 +12,7 @@ use std::process::ExitCode;
 use std::thread::available_parallelism;
 
 // So many bytes of stack a job takes at most, and some more.
-const STACK: usize = 393_216;
+const STACK: usize = 434_176;
 
 // Takes that much stack, and gives it back: it stays the program's. So where a limit on all memory leaves no room for it, the
 // program ends before it has done anything, and else the stack need not grow later. Answers 0 or 1, by what lies at `place`.

@@ -103,9 +103,9 @@ module _ (app : Application) (inside now : Shelved) (same : inside ≡ now) (kep
   pub read_is : (stop d : Stop) → stop ≡ get_or inside.stops (point.step / inside.stride) d → IsStop app inside.limits (point.step / inside.stride * inside.stride) stop
   read_is stop d read = subst (IsStop app inside.limits (point.step / inside.stride * inside.stride)) (sym read) (stop_is app inside h point.step l d)
 
-  -- it isn't past the point
-  pub no_further : point.step / inside.stride * inside.stride ≤ point.step
-  no_further = omega (arith, split app inside h point.step l)
+  -- the step, by the stops before it
+  pub parts_of : point.step % now.stride + point.step / inside.stride * inside.stride ≡ point.step
+  parts_of = rw (← ap (λ (s : Shelved). s.stride) same) (split app inside h point.step l)
 
   pub base_goes_on : (n : ℕ) → n ≤ point.step → end_of app inside.limits (state_after app [] n) ≡ None
   base_goes_on = goes_on app inside h point.step l

@@ -1,1 +1,2 @@
 pub mod Along
+mod Begun

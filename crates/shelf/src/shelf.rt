@@ -1,14 +1,16 @@
 //! Rows from the nearest stop before their point.
-ghost use Rattle.std.specs.Prelude.{◌≡◌, Bool, true, false, nat_lt, ◌<◌, ◌≤◌, ◌+◌, ◌%◌, ◌^◌, ◌∷◌, ◌++◌, [], take, length, IfOk, OnErr};
+ghost use Rattle.std.specs.Prelude.{◌≡◌, Bool, true, false, nat_lt, ◌<◌, ◌≤◌, ◌+◌, ◌%◌, ◌^◌, ◌∷◌, ◌++◌, [], take, length, IfOk, OnErr, OnOk};
 ghost use Rattle.model.specs.Run as definition;
 ghost use Rattle.model.specs.Run.{IsRun, IsRow, events_after};
 ghost use Rattle.machine.specs.Logged.{all_of};
+ghost use Rattle.machine.specs.Can.{IsUnderWay};
 ghost use Rattle.kernel.specs.Rows.{IsRowFrom};
+ghost use Rattle.shelf.specs.Begun.{HasBegun};
 ghost use Rattle.shelf.specs.Shelves.{IsShelf, cost_of};
 
 use crate::row::Row;
 use crate::stops::{Stop, put_stops};
-use kernel::{Kernel, RowEnding, StepLog, Trail, run_row};
+use kernel::{Kernel, RowBeginning, RowEnding, StepLog, Trail, begin_row, run_row};
 use model::{App, Event, Limits, Memory, Meter, Point, Run};
 use std::alloc::Global;
 use std::marker::Model;
@@ -114,6 +116,20 @@ impl Shelf {
         self.base.events.len()
     }
 
+    /// Makes the kernel that of the stop before the step of a point that the base run reaches, and answers how many events the base
+    /// run had told by then.
+    fn go_to_stop(&self, app: &App, point: &Point, kernel: &mut Kernel) -> usize
+        requires shelf { IsShelf app.now self.now }
+        requires reached { point.now.step < self.now.base.steps }
+        ensures way { IsUnderWay app.now [] self.now.limits kernel.new }
+        ensures there { kernel.new.steps + point.now.step % self.now.stride ≡ point.now.step }
+        ensures told { result ≡ length (events_after app.now [] kernel.new.steps) }
+    {
+        let stop = &self.stops[(point.step / self.stride) as usize];
+        kernel.restore(&stop.kernel);
+        stop.before
+    }
+
     /// Runs the row of a point that the base run reaches, from the nearest stop before the point's step. The trail gains the
     /// row's events from the injection on; those before it are the base run's, and the answer tells how many they are. What the
     /// kernel and the log have doesn't matter.
@@ -142,14 +158,13 @@ impl Shelf {
         ensures refused { OnErr result ((run : definition.Run) → IsRun app.now (point ∷ []) self.now.limits run
             → (meter.new ≤ meter.old + cost_of self.now point run.steps) × (0 < length run.events)) }
     {
-        let stop = &self.stops[(point.step / self.stride) as usize];
         // No row shares more events with the base run than that has, so the sum below fits.
         let _ = self.count_events();
-        kernel.restore(&stop.kernel);
+        let told = self.go_to_stop(app, &point, kernel);
         let kept = trail.len();
         match run_row(kernel, app, point, &self.limits, meter, log, trail) {
             Ok(row) => Ok(RowEnding {
-                before: stop.before + row.before,
+                before: told + row.before,
                 ..row
             }),
             Err(Memory) => {
@@ -157,6 +172,41 @@ impl Shelf {
                 Err(Memory)
             }
         }
+    }
+
+    /// Begins the row of a point that the base run reaches, from the nearest stop before the point's step, and goes along it up to
+    /// the step `until`, which is behind the point's, or to its end before that. The trail gains the row's events from the injection
+    /// on; those before it are the base run's, and the answer tells how many they are. What the kernel and the log have doesn't
+    /// matter.
+    ///
+    /// The meter, which is below 2^62, rises by the steps that are done. At `Err(Memory)`, answered only where a growth was refused,
+    /// it has risen by some of them, and the trail may have some of the row's events behind those that it had.
+    pub fn begin_row(
+        &self,
+        app: &App,
+        point: Point,
+        until: u32,
+        kernel: &mut Kernel,
+        meter: &mut Meter,
+        log: &mut StepLog,
+        trail: &mut Trail,
+    ) -> Result<RowBeginning, Memory>
+        requires shelf { IsShelf app.now self.now }
+        requires reached { point.step < self.now.base.steps }
+        requires beyond { point.step < until }
+        requires meter { meter.old < 2 ^ 62 }
+        ensures begun { IfOk result (HasBegun app.now point self.now.limits kernel.new (all_of trail.old) (all_of trail.new)) }
+        ensures before { IfOk result (λ beginning. beginning.before ≡ length (events_after app.now [] point.step)) }
+        ensures meter { OnOk result (meter.new + point.step ≡ meter.old + point.step % self.now.stride + kernel.new.steps) }
+    {
+        // No row shares more events with the base run than that has, so the sum below fits.
+        let _ = self.count_events();
+        let told = self.go_to_stop(app, &point, kernel);
+        let beginning = begin_row(kernel, app, point, until, &self.limits, meter, log, trail)?;
+        Ok(RowBeginning {
+            before: told + beginning.before,
+            ..beginning
+        })
     }
 
     /// The first `count` events of the base run, and behind them these.

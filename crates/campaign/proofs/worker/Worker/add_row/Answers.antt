@@ -3,7 +3,8 @@ use Rattle.std.specs.Prelude.{nat_lt}
 use Rattle.machine.specs.Logged.{all_of}
 use Rattle.model.specs.declared.plan.Point.{Point}
 use Rattle.campaign.specs.Report.{row_of}
-use Rattle.campaign.proofs.Keeping.{gains_one, known_more}
+use Rattle.campaign.proofs.Keeping.{gains_one}
+use Rattle.campaign.proofs.GoingOn.{knows_more}
 use Rattle.campaign.proofs.worker.Worker.add_row.Goals as goal
 
 pub returns-clause-row : goal.returns-clause-row
@@ -11,8 +12,8 @@ returns-clause-row c =
     let setup = c.args.setup.now in
     let shelf = setup.shelf.now in
     let row = c.in_ok-row.ensures.row in
-    let trail = all_of c.row_of.new.self.trail in
-    gains_one setup.app.now shelf.limits shelf.base c.args.point.now c.args.self.now.kept.items c.push.new.kept.items (all_of c.args.self.now.trail) trail c.args.seat.now c.count_row.new.seat c.in_ok-row.row row
+    let trail = all_of c.row_of.new.self.runner.trail in
+    gains_one setup.app.now shelf.limits shelf.base c.args.point.now c.args.self.now.kept.items c.push.new.kept.items (all_of c.args.self.now.runner.trail) trail c.args.seat.now c.count_row.new.seat c.in_ok-row.row row
     (c.in_ok-push.ensures ∙ ap (λ k. k.items ++ c.in_ok-row.row ∷ []) c.row_of.ensures.kept)
     (c.count_row.ensures (row_of shelf.base trail c.in_ok-row.row) (ap (λ (p : Point). nat_lt p.step shelf.base.steps) row.row.at_point ∙ sym c.reaches-is_reached.ensures) refl)
 
@@ -20,4 +21,4 @@ pub returns-clause-known : goal.returns-clause-known
 returns-clause-known c =
     let setup = c.args.setup.now in
     let shelf = setup.shelf.now in
-    known_more setup.app.now shelf.limits shelf.base (c.args.point.now ∷ []) _ _ _ _ _ _ c.requires.known (returns-clause-row c)
+    knows_more setup.app.now shelf.limits shelf.base (c.args.point.now ∷ []) _ _ _ _ _ _ _ _ c.requires.known (returns-clause-row c) c.in_ok-row.ensures.mark

@@ -1,7 +1,7 @@
 use Rattle.std.proofs.Common.{◌∙◌, arith}
 use Rattle.machine.specs.Logged.{all_of}
 use Rattle.campaign.proofs.Keeping.{missed_row}
-use Rattle.campaign.proofs.worker.Worker.missed.Goals as goal
+use Rattle.campaign.proofs.runner.Runner.missed.Goals as goal
 
 pub returns : goal.returns
 returns c =

@@ -1,0 +1,19 @@
+use Rattle.machine.specs.Logged.{all_of}
+use Rattle.campaign.proofs.GoingOn.{gained_rest, marked_at, rest_of}
+use Rattle.campaign.proofs.runner.Runner.run_on.Goals as goal
+
+pub returns-clause-rest : goal.returns-clause-rest
+returns-clause-rest c =
+    let app = c.args.app.now in
+    let limits = c.args.limits.now in
+    let kernel = c.args.self.now.kernel in
+    let gained = gained_rest app limits (all_of c.args.self.now.trail) (all_of c.run_rest.new.trail) kernel c.in_ok-ending.ending c.in_ok-ending.ensures.rest _ _ c.len-before.ensures c.len-after.ensures in
+    rest_of app limits c.args.point.now kernel c.requires.way (all_of c.run_rest.new.trail) _ c.requires.beyond gained
+
+pub returns-clause-mark : goal.returns-clause-mark
+returns-clause-mark c =
+    let app = c.args.app.now in
+    let limits = c.args.limits.now in
+    let kernel = c.args.self.now.kernel in
+    let gained = gained_rest app limits (all_of c.args.self.now.trail) (all_of c.run_rest.new.trail) kernel c.in_ok-ending.ending c.in_ok-ending.ensures.rest _ _ c.len-before.ensures c.len-after.ensures in
+    marked_at app limits (all_of c.run_rest.new.trail) kernel _ c.snapshot-kernel.result c.mark_at.result c.snapshot-kernel.ensures c.mark_at.ensures gained

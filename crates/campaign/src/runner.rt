@@ -1,0 +1,264 @@
+//! Running the rows of a worker, one after another.
+ghost use Rattle.std.specs.Prelude.{◌≡◌, ◌<◌, ◌≤◌, ◌+◌, ◌^◌, ◌∷◌, [], Some, None, option_map, IfOk, IfSome, OnOk};
+ghost use Rattle.model.specs.Run.{end_of, state_after};
+ghost use Rattle.machine.specs.Logged.{all_of};
+ghost use Rattle.machine.specs.Can.{IsUnderWay};
+ghost use Rattle.kernel.specs.Rows.{Extends};
+ghost use Rattle.shelf.specs.Shelves.{IsShelf};
+ghost use Rattle.campaign.specs.Working.{GainsRow, IsMarked, IsRestOf};
+
+use crate::mark::{Mark, Rest};
+use crate::rows::{KeptRow, Stretch};
+use kernel::{Kernel, Snapshot, StepLog, Trail, run_rest};
+use model::{App, End, Limits, Memory, Meter, Point};
+use shelf::Shelf;
+use std::alloc::Global;
+
+// A row is compared with the mark, or a mark is put, at most so many steps behind its injection. By then most rows have come to
+// the kernel of the row before. With fewer steps more rows would be run to their ends, and with more all rows be run further.
+const STEPS_TO_MARK: u32 = 64;
+
+/// What a worker runs its rows with: a kernel, the log of a step, the trail of all of them, and where the last of them that was run
+/// to its end went on from.
+#[derive(Drop)]
+pub(crate) struct Runner {
+    alloc: Global,
+    kernel: Kernel,
+    log: StepLog,
+    pub(crate) trail: Trail,
+    pub(crate) mark: Option<Mark>,
+}
+
+// The mark at a kernel from which a row went on so. Where there was no memory for the kernel there is none, and the next row is run
+// to its end too.
+fn mark_at(kernel: Option<Snapshot>, rest: &Rest) -> Option<Mark>
+    ensures { result ≡ option_map (λ kernel. record { kernel = kernel; rest = rest.now }) kernel }
+{
+    let kernel = kernel?;
+    Some(Mark {
+        kernel,
+        rest: *rest,
+    })
+}
+
+// The step up to which the row of a point is run before it is compared with the mark, or before a mark is put.
+fn meeting(mark: &Option<Mark>, shelf: &Shelf, point: &Point) -> u32
+    requires { point.now.step < shelf.now.base.steps }
+    ensures { point.now.step < result }
+{
+    // The base run gets beyond the point's step, so the sum below is greater than that.
+    let _steps = shelf.base().steps;
+    let latest = point.step.saturating_add(STEPS_TO_MARK);
+    let Some(mark) = mark else {
+        return latest;
+    };
+    let step = mark.kernel.steps();
+    if point.step < step && step <= latest {
+        step
+    } else {
+        latest
+    }
+}
+
+impl Runner {
+    /// No row is run.
+    pub(crate) fn new(alloc: Global, app: &App) -> Runner
+        ensures mark { result.mark ≡ None }
+    {
+        Runner {
+            alloc,
+            kernel: Kernel::boot(app),
+            log: StepLog::new(),
+            trail: Trail::new(alloc),
+            mark: None,
+        }
+    }
+
+    /// The events of all rows.
+    pub(crate) fn into_trail(self) -> Trail
+        ensures { result ≡ self.trail }
+    {
+        self.trail
+    }
+
+    // The rest of a row that has come to its end: nothing.
+    fn no_rest(&self, app: &App, limits: &Limits, point: &Point, end: End) -> Rest
+        requires way { IsUnderWay app.now (point.now ∷ []) limits.now self.now.kernel }
+        requires end { end_of app.now limits.now (state_after app.now (point.now ∷ []) self.now.kernel.steps) ≡ Some end }
+        ensures { IsRestOf app.now limits.now (all_of self.now.trail) point.now self.now.kernel result }
+    {
+        limits.well_formed();
+        let place = self.trail.len();
+        Rest {
+            told: Stretch {
+                from: place,
+                to: place,
+            },
+            steps: self.kernel.steps(),
+            ticks: self.kernel.ticks() as u32,
+            end,
+        }
+    }
+
+    // The rest of the row of a point that is known, since it has come to the kernel of the mark.
+    fn known_rest(&self, app: &App, limits: &Limits, point: &Point) -> Option<Rest>
+        requires way { IsUnderWay app.now (point.now ∷ []) limits.now self.now.kernel }
+        requires beyond { point.now.step < self.now.kernel.steps }
+        requires mark { IsMarked app.now limits.now (all_of self.now.trail) self.now.mark }
+        ensures { IfSome result (IsRestOf app.now limits.now (all_of self.now.trail) point.now self.now.kernel) }
+    {
+        let Some(mark) = &self.mark else {
+            return None;
+        };
+        if self.kernel.is_at(&mark.kernel) {
+            Some(mark.rest)
+        } else {
+            None
+        }
+    }
+
+    // The kernel as it stands; none where there is no memory for it.
+    fn snapshot(&self) -> Option<Snapshot>
+        ensures { IfSome result (λ kernel. kernel ≡ self.now.kernel) }
+    {
+        match self.kernel.snapshot(self.alloc) {
+            Ok(kernel) => Some(kernel),
+            Err(_) => None,
+        }
+    }
+
+    // Runs the row of a point on to its end, and puts the mark where it begins to.
+    fn run_on(
+        &mut self,
+        app: &App,
+        limits: &Limits,
+        point: &Point,
+        meter: &mut Meter,
+    ) -> Result<Rest, Memory>
+        requires way { IsUnderWay app.now (point.now ∷ []) limits.now self.old.kernel }
+        requires beyond { point.now.step < self.old.kernel.steps }
+        requires meter { meter.old < 2 ^ 62 + self.old.kernel.steps }
+        ensures told { OnOk result (Extends (all_of self.old.trail) (all_of self.new.trail)) }
+        ensures rest { IfOk result (IsRestOf app.now limits.now (all_of self.new.trail) point.now self.old.kernel) }
+        ensures mark { OnOk result (IsMarked app.now limits.now (all_of self.new.trail) self.new.mark) }
+    {
+        let kernel = self.snapshot();
+        let before = self.trail.len();
+        let ending = run_rest(
+            &mut self.kernel,
+            app,
+            &[*point],
+            limits,
+            meter,
+            &mut self.log,
+            &mut self.trail,
+        )?;
+        let after = self.trail.len();
+        let rest = Rest {
+            told: Stretch {
+                from: before,
+                to: after,
+            },
+            steps: ending.steps,
+            ticks: ending.ticks,
+            end: ending.end,
+        };
+        self.mark = mark_at(kernel, &rest);
+        Ok(rest)
+    }
+
+    // The rest of the row of a point, which has come so far, or to this end.
+    fn rest(
+        &mut self,
+        app: &App,
+        limits: &Limits,
+        point: &Point,
+        end: Option<End>,
+        meter: &mut Meter,
+    ) -> Result<Rest, Memory>
+        requires way { IsUnderWay app.now (point.now ∷ []) limits.now self.old.kernel }
+        requires beyond { point.now.step < self.old.kernel.steps }
+        requires end { end ≡ end_of app.now limits.now (state_after app.now (point.now ∷ []) self.old.kernel.steps) }
+        requires mark { IsMarked app.now limits.now (all_of self.old.trail) self.old.mark }
+        requires meter { meter.old < 2 ^ 62 + self.old.kernel.steps }
+        ensures told { OnOk result (Extends (all_of self.old.trail) (all_of self.new.trail)) }
+        ensures rest { IfOk result (IsRestOf app.now limits.now (all_of self.new.trail) point.now self.old.kernel) }
+        ensures mark { OnOk result (IsMarked app.now limits.now (all_of self.new.trail) self.new.mark) }
+    {
+        if let Some(end) = end {
+            return Ok(self.no_rest(app, limits, point, end));
+        }
+        match self.known_rest(app, limits, point) {
+            Some(rest) => Ok(rest),
+            None => self.run_on(app, limits, point, meter),
+        }
+    }
+
+    // The row of a point that the base run doesn't reach: it is the base run.
+    fn missed(&self, app: &App, shelf: &Shelf, point: Point) -> KeptRow
+        requires shelf { IsShelf app.now shelf.now }
+        requires missed { shelf.now.base.steps ≤ point.step }
+        ensures { GainsRow app.now shelf.now.limits shelf.now.base point (all_of self.now.trail) (all_of self.now.trail) result }
+    {
+        let base = shelf.base();
+        let end = self.trail.len();
+        KeptRow {
+            point,
+            shared: base.events.len(),
+            own: Stretch { from: end, to: end },
+            rest: Stretch { from: end, to: end },
+            steps: base.steps,
+            ticks: base.ticks,
+            end: base.end,
+        }
+    }
+
+    // The row of a point that the base run reaches.
+    fn reached(&mut self, app: &App, shelf: &Shelf, point: &Point) -> Result<KeptRow, Memory>
+        requires shelf { IsShelf app.now shelf.now }
+        requires reached { point.now.step < shelf.now.base.steps }
+        requires mark { IsMarked app.now shelf.now.limits (all_of self.old.trail) self.old.mark }
+        ensures row { IfOk result (GainsRow app.now shelf.now.limits shelf.now.base point.now
+            (all_of self.old.trail) (all_of self.new.trail)) }
+        ensures mark { OnOk result (IsMarked app.now shelf.now.limits (all_of self.new.trail) self.new.mark) }
+    {
+        let from = self.trail.len();
+        let until = meeting(&self.mark, shelf, point);
+        let mut meter = Meter::new();
+        let begun = shelf.begin_row(
+            app,
+            *point,
+            until,
+            &mut self.kernel,
+            &mut meter,
+            &mut self.log,
+            &mut self.trail,
+        )?;
+        let to = self.trail.len();
+        let rest = self.rest(app, &shelf.limits(), point, begun.end, &mut meter)?;
+        Ok(KeptRow {
+            point: *point,
+            shared: begun.before,
+            own: Stretch { from, to },
+            rest: rest.told,
+            steps: rest.steps,
+            ticks: rest.ticks,
+            end: rest.end,
+        })
+    }
+
+    /// The row of a point, whose own events go to the trail. At `Err(Memory)` the runner is of no more use.
+    pub(crate) fn run(&mut self, app: &App, shelf: &Shelf, point: &Point) -> Result<KeptRow, Memory>
+        requires shelf { IsShelf app.now shelf.now }
+        requires mark { IsMarked app.now shelf.now.limits (all_of self.old.trail) self.old.mark }
+        ensures row { IfOk result (GainsRow app.now shelf.now.limits shelf.now.base point.now
+            (all_of self.old.trail) (all_of self.new.trail)) }
+        ensures mark { OnOk result (IsMarked app.now shelf.now.limits (all_of self.new.trail) self.new.mark) }
+    {
+        if shelf.reaches(point) {
+            self.reached(app, shelf, point)
+        } else {
+            Ok(self.missed(app, shelf, *point))
+        }
+    }
+}

@@ -1,0 +1,30 @@
+use Rattle.std.proofs.Common.{◌+◌, ℕ, [], ap, sym, subst, ◌∙◌, arith}
+use Rattle.model.specs.Application.{Limits}
+use Rattle.machine.specs.Can.{IsUnderWay}
+use Rattle.shelf.specs.Shelves.{Shelved}
+use Rattle.shelf.proofs.Along.{shares_few}
+use Rattle.shelf.proofs.Begun.{has_begun}
+use Rattle.shelf.proofs.shelf.Shelf.begin_row.Goals as goal
+
+pub begin_row-requires-clause-way : goal.begin_row-requires-clause-way
+begin_row-requires-clause-way c = subst (λ (l : Limits). IsUnderWay c.args.app.now [] l c.go_to_stop-told.new.kernel) (sym (ap (λ (s : Shelved). s.limits) c.self.view_is)) c.go_to_stop-told.ensures.way
+
+pub returns-clause-before : goal.returns-clause-before
+returns-clause-before c = ap (λ (told : ℕ). told + c.in_ok-beginning.beginning.before) c.go_to_stop-told.ensures.told ∙ c.in_ok-beginning.ensures.before
+
+pub overflow_add-result : goal.overflow_add-result
+overflow_add-result c =
+    let told = c.go_to_stop-told.ensures.told in
+    let sum = c.in_ok-beginning.ensures.before in
+    let few = shares_few c.args.app.now _ c.args.self.now c.self.view_is c.requires.shelf c.args.point c.requires.reached in
+    let all = c.count_events.ensures in
+    let fits = c.count_events.type_inv in
+    omega (arith, told, sum, few, all, fits)
+
+pub returns-clause-begun : goal.returns-clause-begun
+returns-clause-begun c =
+    let row = c.in_ok-beginning.ensures in
+    has_begun c.args.app.now c.args.point _ c.args.self.now.limits (ap (λ (s : Shelved). s.limits) c.self.view_is) _ _ _ _ row.way row.past row.end row.events
+
+pub returns-clause-meter : goal.returns-clause-meter
+returns-clause-meter c = omega (arith, c.go_to_stop-told.ensures.there, c.in_ok-beginning.ensures.meter)
