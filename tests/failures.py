@@ -439,13 +439,16 @@ def a_million_points_in_512_megabytes():
 
 
 def shown_on_a_terminal(seconds, *words):
-    """What the program shows there first of this long campaign, or nothing within this time."""
+    """What the program shows there first of this long campaign. Nothing, where it ends or this time passes before that."""
     write("application.toml", LONG_CAMPAIGN)
     ours, its = pty.openpty()
     with subprocess.Popen([PROGRAM, "campaign", "application.toml", *words], stdout=subprocess.DEVNULL, stderr=its) as started:
         os.close(its)
-        is_there = select.select([ours], [], [], seconds)[0]
-        shown = os.read(ours, 100) if is_there else b""
+        shown = b""
+        if select.select([ours], [], [], seconds)[0]:
+            # A terminal that nobody has open any more answers an error.
+            with contextlib.suppress(OSError):
+                shown = os.read(ours, 100)
         started.kill()
     os.close(ours)
     return shown
