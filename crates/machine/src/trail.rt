@@ -10,9 +10,9 @@ use std::marker::Model;
 /// A trail of fewer events than so many takes room little by little.
 const FEW: usize = 4096;
 
-/// One of more takes room for so many at once, of 32 MB: the system takes notice only of the room that is used, and gives that by
-/// large pages where it is asked to.
-const MANY: usize = 2_097_152;
+/// One of more takes room for so many at once: the system takes notice only of the room that is used, and gives that by large pages
+/// where it is asked to. With what the allocator puts before it the piece is of 32 MB, so large pages fit it from its beginning on.
+const MANY: usize = 2_097_150;
 
 /// Events in the order in which they were told, of which the last are those of the present step. Before each step `begin`
 /// makes room for its events, so that telling one takes no memory and doesn't fail.
@@ -100,7 +100,8 @@ impl Trail {
     {
         if self.events.len() >= FEW && self.events.capacity() < MANY {
             // Where room for so many is refused, there may be room for one step.
-            let _refused = self.events.reserve(MANY).is_err();
+            let more = MANY - self.events.len();
+            let _refused = self.events.reserve_exact(more).is_err();
         }
         if self.events.reserve(128).is_err() {
             return Err(Memory);
