@@ -8,8 +8,9 @@ use byte_io::ToWriter;
 use campaign::ServeFault;
 use jobs::{obey, refuse};
 use std::io;
+use std::num::NonZeroUsize;
 use std::process::ExitCode;
-use std::thread::available_parallelism;
+use std::thread::{Threads, available_parallelism};
 
 // So many bytes of stack a job takes at most, and some more.
 const STACK: usize = 434_176;
@@ -37,6 +38,16 @@ fn refuse_words(rt: &HostRuntime, error: &io::Error) -> u8 {
     2
 }
 
+// How many processors the program may use, where a word may ask for that: the system reads files for the answer.
+fn processors(rt: &impl Threads, words: &[String]) -> Option<NonZeroUsize> {
+    for word in words {
+        if word.ends_with("auto") {
+            return available_parallelism(rt).ok();
+        }
+    }
+    None
+}
+
 fn main(rt: HostRuntime) -> ExitCode {
     let arguments = match arguments(&rt) {
         Ok(arguments) => arguments,
@@ -50,7 +61,7 @@ fn main(rt: HostRuntime) -> ExitCode {
         &rt,
         rt.alloc(),
         arguments.as_slice(),
-        available_parallelism(&rt).ok(),
+        processors(&rt, arguments.as_slice()),
         &mut ToWriter::new(rt.stdout()),
         &mut ToWriter::new(rt.stderr()),
         &Counter::new(&rt),
