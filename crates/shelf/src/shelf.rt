@@ -4,7 +4,7 @@ ghost use Rattle.model.specs.Run as definition;
 ghost use Rattle.model.specs.Run.{IsRun, IsRow, events_after};
 ghost use Rattle.machine.specs.Logged.{all_of};
 ghost use Rattle.machine.specs.Can.{IsUnderWay};
-ghost use Rattle.kernel.specs.Rows.{IsRowFrom};
+ghost use Rattle.kernel.specs.Rows.{Extends, IsRowFrom};
 ghost use Rattle.shelf.specs.Begun.{HasBegun};
 ghost use Rattle.shelf.specs.Shelves.{IsShelf, cost_of};
 
@@ -180,7 +180,8 @@ impl Shelf {
     /// matter.
     ///
     /// The meter, which is below 2^62, rises by the steps that are done. At `Err(Memory)`, answered only where a growth was refused,
-    /// it has risen by some of them, and the trail may have some of the row's events behind those that it had.
+    /// so never where the row tells nothing, it has risen by no more than the row's steps from that stop on; the trail then has those
+    /// events that it had, and some of the row's behind them.
     pub fn begin_row(
         &self,
         app: &App,
@@ -198,6 +199,10 @@ impl Shelf {
         ensures begun { IfOk result (HasBegun app.now point self.now.limits kernel.new (all_of trail.old) (all_of trail.new)) }
         ensures before { IfOk result (λ beginning. beginning.before ≡ length (events_after app.now [] point.step)) }
         ensures meter { OnOk result (meter.new + point.step ≡ meter.old + point.step % self.now.stride + kernel.new.steps) }
+        ensures rises { meter.old ≤ meter.new }
+        ensures kept { OnErr result (Extends (all_of trail.old) (all_of trail.new)) }
+        ensures refused { OnErr result ((run : definition.Run) → IsRun app.now (point ∷ []) self.now.limits run
+            → (meter.new ≤ meter.old + cost_of self.now point run.steps) × (0 < length run.events)) }
     {
         // No row shares more events with the base run than that has, so the sum below fits.
         let _ = self.count_events();
