@@ -6,8 +6,10 @@ use Rattle.model.specs.Application.{Application, Limits}
 use Rattle.model.specs.Scripts.{AreLimits, IsWellFormed}
 use Rattle.model.specs.State.{State}
 use Rattle.model.specs.Step.{step}
+use Rattle.model.specs.Invariant.{IsState}
 use Rattle.model.specs.Run.{end_of, events_after, injected, state_after}
 use Rattle.model.proofs.Injected.{from_here}
+use Rattle.soundness.proofs.Reached.{reached_after}
 use Rattle.machine.specs.declared.machine.Machine.{Machine}
 use Rattle.machine.specs.StandsFor.{Stands}
 use Rattle.machine.specs.Can.{IsUnderWay}
@@ -48,6 +50,10 @@ free_of_limits app limits until k plan way alone ticks steps = record {
 -- Where it isn't over, none of them ends.
 pub going_free : {app : Application} {limits : Limits} {until : ℕ} {k : Machine} → k.steps < until → ((s : State) → Stands k s → false ≡ is_over app s) → (plan : List Point) → IsFree app limits until k plan → end_of app limits (state_after app plan k.steps) ≡ None
 going_free {app} {limits} {until} {k} short going plan f = f.free k.steps (omega arith) short (sym (going (state_after app plan k.steps) f.way.stands))
+
+-- So it is where it isn't over on the way of any run.
+pub going_on_the_way : (app : Application) → IsWellFormed app → {limits : Limits} {until : ℕ} {k : Machine} → k.steps < until → ((s : State) → Stands k s → IsState app s → false ≡ is_over app s) → (plan : List Point) → IsFree app limits until k plan → end_of app limits (state_after app plan k.steps) ≡ None
+going_on_the_way app formed {limits} {until} {k} short going plan f = f.free k.steps (omega arith) short (sym (going (state_after app plan k.steps) f.way.stands (reached_after app formed plan k.steps)))
 
 -- ---- no step
 

@@ -1,8 +1,8 @@
 -- When a run ends.
-use Rattle.std.proofs.Common.{◌≡◌, ◌+◌, ◌<◌, ◌≤◌, ℕ, suc, Bool, true, false, not, ◌&&◌, ◌||◌, eqb, leb, ltb, List, [], ◌∷◌, length, get_or, Option, Some, None, refl, ap, sym, ◌∙◌, arith}
+use Rattle.std.proofs.Common.{◌≡◌, ◌+◌, ◌<◌, ◌≤◌, ℕ, suc, Bool, true, false, not, ◌&&◌, ◌||◌, eqb, leb, ltb, List, [], ◌∷◌, length, get_or, Option, Some, None, inl, inr, refl, ap, sym, subst, ◌∙◌, arith}
 use Rattle.std.proofs.lemmas.Bool.Decides.{nat_tests}
 use Rattle.std.specs.List.{list_all, list_any, filter, AllByRecursion}
-use Rattle.std.specs.Prelude.{IsTrue, ◌↔◌, if◌then◌else◌}
+use Rattle.std.specs.Prelude.{IsTrue, ◌↔◌, if◌then◌else◌, nat_lt}
 use Rattle.std.specs.Option.{option_eq, option_or, option_and_then, is_none, is_some}
 use Rattle.std.proofs.lemmas.List.{length-map}
 use Rattle.model.specs.declared.event.Event.{Event}
@@ -11,20 +11,21 @@ use Rattle.model.specs.declared.event.End.TheVariants.{Pass, Ticks, Steps, Stuck
 use Rattle.model.specs.Application.{Application, Limits}
 use Rattle.model.specs.State.{State, Task, Status, Ready, Awake, Waiting, Asleep, WaitingForBits, Suspended, Ended, wake_time_of, task_at, no_task, for_each}
 use Rattle.model.specs.Order.{Key, Entry, key, keyed, list_by, in_order, tasks_of}
-use Rattle.model.specs.Switching.{ready_key, settle, unless_held}
+use Rattle.model.specs.Switching.{is_held, is_ready, is_scheduler_suspended, ready_key, settle, unless_held}
 use Rattle.model.specs.declared.call.WaitList.{WaitList}
 use Rattle.model.specs.Waiting.{same_list, wait_key}
 use Rattle.model.specs.Time.{delayed_key}
 use Rattle.model.specs.Handlers.{inject}
 use Rattle.model.specs.Step.{is_ended, act_current, before_step, step}
 use Rattle.model.specs.Run.{are_all_ended, is_interrupt_to_come, is_stuck, end_of}
-use Rattle.model.specs.Invariant.{wait_of}
+use Rattle.model.specs.Invariant.{IsRunning, IsState, RunsIn, wait_of}
 use Rattle.model.proofs.Sorting.{length-in_order, by_test}
 use Rattle.model.proofs.Lists.{eqb-apart, eqb-refl, HasKey, list_has}
 use Rattle.lists.specs.Lists.{first_of, has_node}
 use Rattle.task_lists.specs.Priorities.{with_priorities}
 use Rattle.sched.specs.Schedule.{lined_up}
 use Rattle.sched.proofs.LinedUp.{ready_if_listed}
+use Rattle.sched.proofs.Standing.{held_by_depth, ready_same}
 use Rattle.clock.specs.StandsFor as clock
 use Rattle.clock.specs.StandsFor.{tasks_at}
 use Rattle.clock.specs.Timeline.{Timeline}
@@ -207,6 +208,32 @@ pub not_over_by : (k : Machine) (s : State) (ready : Bool) → ready ≡ is_some
 not_over_by k s ready r (Placed h) some = sym (not_over k s h (sym r ∙ some))
 not_over_by k s ready r (Placing task list b) some = sym (waits_before k s task list b)
 
+-- Where a task runs in a state that a run comes to, and nothing holds the scheduler, it is Ready.
+ready_there : (app : Application) (s : State) (task : ℕ) → IsState app s → s.current ≡ Some task → is_held s ≡ false → is_ready s task ≡ true
+ready_there app s task is runs free =
+    let running : IsRunning app s task = subst (RunsIn app s) runs is.runs in
+    let no_call : s.call_hold ≡ false = neither s.call_hold (is_scheduler_suspended s) free in
+    elim (running.ready no_call) [ inl r ↦ r | inr x ↦ let f : is_scheduler_suspended s ≡ false = nor s.call_hold (is_scheduler_suspended s) free in let t : is_scheduler_suspended s ≡ true = x.0 in absurd (cc) ] where
+      neither : (a b : Bool) → a || b ≡ false → a ≡ false
+      neither true b e = absurd (cc)
+      neither false b e = refl
+
+      nor : (a b : Bool) → a || b ≡ false → b ≡ false
+      nor true b e = absurd (cc)
+      nor false b e = e
+
+-- So not all are Ended.
+pub not_over_unheld : (app : Application) (k : Machine) (s : State) (task : ℕ) → Stands k s → IsState app s → k.sched.current ≡ Some task → k.sched.depth ≡ 0 → are_all_ended s ≡ false
+not_over_unheld app k s task (Placing other list b) is runs free = sym (waits_before k s other list b)
+not_over_unheld app k s task (Placed h) is runs free =
+    let held : is_held s ≡ false = held_by_depth s ∙ ap (λ (n : ℕ). nat_lt 0 n) (sym h.sched.depth ∙ free) in
+    let ready : is_ready s task ≡ true = ready_there app s task is (sym h.sched.current ∙ runs) held in
+    let listed : has_node task (lined_up k.sched) ≡ true = ready_same k.sched s task h.sched ∙ ready in
+    sym (not_over k s h (some_first (lined_up k.sched) listed)) where
+      some_first : (es : List (ℕ × ℕ)) → has_node task es ≡ true → is_some (first_of es) ≡ true
+      some_first [] t = absurd (cc)
+      some_first (e ∷ es) t = refl
+
 pub stuck_by : (app : Application) (k : Machine) (s : State) (idle q later : Bool) → Stands k s → idle ≡ is_none k.sched.current → (IsTrue q ↔ (k.clock.delayed_list ≡ [])) → later ≡ is_interrupt_to_come app s → idle && q && not later ≡ is_stuck app s
 stuck_by app k s idle q later (Placed h) n is come = is_stuck_by k s h idle q later app n is come
 stuck_by app k s idle q later (Placing task list b) n is come = let e : idle ≡ false = n ∙ ap is_none (b.sched.current ∙ b.current) in rw e (runs_before app k s task list b)
@@ -305,7 +332,16 @@ any_blocked ts =
     ap (λ (b : Bool). b || list_any (λ (t : Task). can_resume t.status) ts) (sym (any_either (λ (t : Task). is_some (wait_of t.status)) (λ (t : Task). is_some (bits_wait t.status)) ts))
     ∙ sym (any_either (λ (t : Task). is_some (wait_of t.status) || is_some (bits_wait t.status)) (λ (t : Task). can_resume t.status) ts)
 
+-- there is one
+pub some_of : (o : Option ℕ) → is_some o ≡ true → (task : ℕ) × (o ≡ Some task)
+some_of None e = absurd (cc)
+some_of (Some task) e = (task, refl)
+
 -- one of three answers
+pub any_only : (a b c : Bool) → b ≡ false → c ≡ false → a ≡ (a || b || c)
+any_only true b c t u = refl
+any_only false b c t u = rw (t, u) refl
+
 pub any_first : (a b c x : Bool) → (a || b || c) ≡ x → a ≡ true → true ≡ x
 any_first true b c x e t = e
 any_first false b c x e t = absurd (cc)

@@ -1,5 +1,5 @@
 -- While a `suspend_all` is in force: what a tick that is held, the end of a script and a misuse make of the states that the kernel stands for.
-use Rattle.std.proofs.Common.{◌≡◌, ◌≢◌, ◌<◌, ◌≤◌, ◌+◌, ℕ, true, false, List, Option, Some, None, refl, sym, subst, ◌∙◌, arith}
+use Rattle.std.proofs.Common.{◌≡◌, ◌≢◌, ◌<◌, ◌≤◌, ◌+◌, ℕ, zero, suc, true, false, List, Option, Some, None, refl, sym, subst, ◌∙◌, arith}
 use Rattle.std.proofs.lemmas.Bool.{lt-ltb, le-ltb}
 use Rattle.model.specs.declared.event.Event.{Event}
 use Rattle.model.specs.declared.event.End.TheVariants as ending
@@ -148,3 +148,8 @@ does_up count more old new old_log new_log deed l d = record { at = d.at; few = 
 
 pub moves_up : (count : ℕ) (old new : Machine) (log : Logged) (deed : State → State) → Moves old new deed → Does count old log new log deed
 moves_up count old new log deed d = record { at = λ s h. d log.told s h; few = omega arith; before = refl }
+
+-- None is in force where that follows if one is.
+pub none_in_force : (suspensions : ℕ) → (0 < suspensions → suspensions ≡ 0) → suspensions ≡ 0
+none_in_force zero none = refl
+none_in_force (suc n) none = none (omega arith)

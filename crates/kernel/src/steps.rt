@@ -8,6 +8,7 @@ ghost use Rattle.model.specs.Run as definition;
 ghost use Rattle.model.specs.declared.plan.Point as definitions;
 ghost use Rattle.model.specs.Plans.{IsPlan};
 ghost use Rattle.model.specs.Scripts.{Rises};
+ghost use Rattle.model.specs.Invariant.{IsState};
 ghost use Rattle.model.specs.Run.{end_of, injected, IsRun, state_after, events_after, are_all_ended, is_stuck};
 ghost use Rattle.machine.specs.Logged.{all_of};
 ghost use Rattle.machine.specs.StandsFor.{Stands, StandsFor, DoesAny};
@@ -44,6 +45,16 @@ pub(crate) fn op_of(app: &App, task: TaskId, op_index: u16) -> Option<&Op>
     definition.ops().get(op_index as usize)
 }
 
+/// Whether a `suspend_all` is in force.
+// It holds the scheduler, and mostly nothing does, as has just been asked (`is_over_on_the_way`).
+#[inline(always)]
+fn is_suspended(machine: &Machine) -> bool
+    ensures some { result ≡ true → 0 < machine.now.suspensions }
+    ensures none { result ≡ false → machine.now.sched.depth ≡ machine.now.suspensions → machine.now.suspensions ≡ 0 }
+{
+    machine.sched.depth() > 0 && machine.suspensions > 0
+}
+
 /// What a step does: the running task's op, or for idle a tick. It answers whether steps may come behind it that are done one after
 /// another (`pass_more`).
 #[inline(always)]
@@ -58,7 +69,7 @@ fn act_current<L: Log>(machine: &mut Machine, app: &App, log: &mut L) -> bool
         tick_interrupt(machine, app, log);
         return true;
     };
-    if machine.suspensions > 0 {
+    if is_suspended(machine) {
         act_while_suspended(machine, app, task, log);
         return false;
     }
@@ -176,6 +187,18 @@ pub(crate) fn is_over_running(machine: &Machine) -> bool
         return true;
     }
     are_all_ended(machine)
+}
+
+/// The same in a state that a run comes to. A task that runs there while nothing holds the scheduler is Ready, so the run is over only if
+/// it has been stopped.
+#[inline(always)]
+fn is_over_on_the_way(machine: &Machine, app: &App) -> bool
+    ensures { (s : State) → Stands machine.now s → IsState app.now s → result ≡ is_over app.now s }
+{
+    if machine.sched.current().is_none() || machine.sched.depth() > 0 {
+        return is_over(machine, app);
+    }
+    machine.stopped.is_some()
 }
 
 /// The end of the run before its next step, under these limits: the first that holds of a failed `expect` or a misuse,
@@ -348,7 +371,7 @@ fn go_on_in_room(
         if trail.begin().is_err() {
             return;
         }
-        if is_over(kernel, app) {
+        if is_over_on_the_way(kernel, app) {
             return;
         }
         let may_follow = step_onto(kernel, app, &[], trail);
