@@ -13,7 +13,7 @@ use Rattle.soundness.proofs.Reached.{reached_after}
 use Rattle.machine.specs.declared.machine.Machine.{Machine}
 use Rattle.machine.specs.StandsFor.{Stands}
 use Rattle.machine.specs.Can.{IsUnderWay}
-use Rattle.kernel.specs.Along.{IsFree, GoesTo, GoesOn}
+use Rattle.kernel.specs.Along.{IsFree, GoesTo, GoesOn, NoneIsOver, IsGoing, GoesFurther}
 use Rattle.kernel.specs.Over.{is_over}
 use Rattle.kernel.specs.Rows.{events_from}
 use Rattle.kernel.proofs.Planned.{stands_as}
@@ -55,6 +55,10 @@ going_free {app} {limits} {until} {k} short going plan f = f.free k.steps (omega
 pub going_on_the_way : (app : Application) → IsWellFormed app → {limits : Limits} {until : ℕ} {k : Machine} → k.steps < until → ((s : State) → Stands k s → IsState app s → false ≡ is_over app s) → (plan : List Point) → IsFree app limits until k plan → end_of app limits (state_after app plan k.steps) ≡ None
 going_on_the_way app formed {limits} {until} {k} short going plan f = f.free k.steps (omega arith) short (sym (going (state_after app plan k.steps) f.way.stands (reached_after app formed plan k.steps)))
 
+-- One that isn't over there doesn't end there.
+pub ends_not : {app : Application} {limits : Limits} {until : ℕ} {k : Machine} {plan : List Point} → k.steps < until → IsGoing app limits until k plan → end_of app limits (state_after app plan k.steps) ≡ None
+ends_not {app} {limits} {until} {k} {plan} short g = g.free.free k.steps (omega arith) short g.going
+
 -- ---- no step
 
 goes_nowhere : {app : Application} {limits : Limits} {until : ℕ} {k : Machine} → GoesTo app limits until k k
@@ -69,40 +73,72 @@ tells_nothing {app} {limits} {until} {k} {before} {after} e = record {
 -- ---- one step
 
 module _ (app : Application) (formed : IsWellFormed app) (limits : Limits) (are : AreLimits limits.ticks limits.steps) (until : ℕ) (k next : Machine) (short : k.steps < until)
-    (going : (plan : List Point) → IsFree app limits until k plan → end_of app limits (state_after app plan k.steps) ≡ None)
     (stands : (s : State) → Stands k s → Stands next (step app [] s)) where
-  module _ (plan : List Point) (f : IsFree app limits until k plan) where
+  -- along a run that doesn't end before it
+  module _ (plan : List Point) (f : IsFree app limits until k plan) (on : end_of app limits (state_after app plan k.steps) ≡ None) where
     nothing_injected : [] ≡ injected plan k.steps
     nothing_injected = sym (f.alone k.steps (omega arith) short)
 
     stands_by : (s : State) → Stands k s → Stands next (step app (injected plan k.steps) s)
     stands_by = stands_as app k next [] (injected plan k.steps) nothing_injected stands
 
-    pub one_further : next.steps ≡ suc k.steps
-    one_further = steps_more app formed plan limits are k f.way (going plan f) next stands_by
+    one_on : next.steps ≡ suc k.steps
+    one_on = steps_more app formed plan limits are k f.way on next stands_by
 
-    way_further : IsUnderWay app plan limits next
-    way_further = goes_on app formed plan limits are k f.way (going plan f) next stands_by
+    way_on : IsUnderWay app plan limits next
+    way_on = goes_on app formed plan limits are k f.way on next stands_by
 
-    told_further : (before after : List Event) → ((s : State) → Stands k s → after ≡ before ++ (step app [] s).log) → after ≡ before ++ events_from app plan k.steps next.steps
-    told_further before after told =
-        more_events app formed plan limits are k f.way (going plan f) next stands_by k.steps (omega arith) before before after
+    told_on : (before after : List Event) → ((s : State) → Stands k s → after ≡ before ++ (step app [] s).log) → after ≡ before ++ events_from app plan k.steps next.steps
+    told_on before after told =
+        more_events app formed plan limits are k f.way on next stands_by k.steps (omega arith) before before after
         (sym (append-nil before) ∙ ap (λ (es : List Event). before ++ es) (sym (from_here app plan k.steps)))
         (subst (λ (hs : List ℕ). after ≡ before ++ (step app hs (state_after app plan k.steps)).log) nothing_injected (told (state_after app plan k.steps) f.way.stands))
 
+    some_on : ((s : State) → Stands k s → 0 < length (step app [] s).log) → 0 < length (events_after app plan next.steps)
+    some_on some =
+        told_more app formed plan limits are k f.way on next stands_by
+        (subst (λ (hs : List ℕ). 0 < length (step app hs (state_after app plan k.steps)).log) nothing_injected (some (state_after app plan k.steps) f.way.stands))
+
+  -- along those that aren't over there, where there is such a run
+  module _ {plan : List Point} (g : IsGoing app limits until k plan) where
+    pub one_step : next.steps ≡ suc k.steps
+    one_step = one_on plan g.free (ends_not short g)
+
+    pub goes_further : (before after : List Event) → ((s : State) → Stands k s → after ≡ before ++ (step app [] s).log) → GoesFurther app limits until k next before after
+    goes_further before after told = record {
+      way = λ plan g. way_on plan g.free (ends_not short g);
+      on = let one = one_step in omega arith;
+      far = λ within. let one = one_step in omega arith;
+      events = λ plan g. told_on plan g.free (ends_not short g) before after told;
+    }
+
+    -- where the step ends no run
+    pub still_going : ((s : State) → Stands k s → is_over app s ≡ false → is_over app (step app [] s) ≡ false) → is_over app (state_after app plan next.steps) ≡ false
+    still_going on =
+        let after : is_over app (step app (injected plan k.steps) (state_after app plan k.steps)) ≡ false =
+        subst (λ (hs : List ℕ). is_over app (step app hs (state_after app plan k.steps)) ≡ false) (nothing_injected plan g.free (ends_not short g)) (on (state_after app plan k.steps) g.free.way.stands g.going) in
+        subst (λ (n : ℕ). is_over app (state_after app plan n) ≡ false) (sym one_step) after
+
+module _ (app : Application) (formed : IsWellFormed app) (limits : Limits) (are : AreLimits limits.ticks limits.steps) (until : ℕ) (k next : Machine) (short : k.steps < until)
+    (going : (plan : List Point) → IsFree app limits until k plan → end_of app limits (state_after app plan k.steps) ≡ None)
+    (stands : (s : State) → Stands k s → Stands next (step app [] s)) where
+  module _ (plan : List Point) (f : IsFree app limits until k plan) where
+    pub one_further : next.steps ≡ suc k.steps
+    one_further = one_on app formed limits are until k next short stands plan f (going plan f)
+
     -- where the step tells something, so has the run
     pub some_further : ((s : State) → Stands k s → 0 < length (step app [] s).log) → 0 < length (events_after app plan next.steps)
-    some_further some =
-        told_more app formed plan limits are k f.way (going plan f) next stands_by
-        (subst (λ (hs : List ℕ). 0 < length (step app hs (state_after app plan k.steps)).log) nothing_injected (some (state_after app plan k.steps) f.way.stands))
+    some_further = some_on app formed limits are until k next short stands plan f (going plan f)
 
   -- where there is such a run
   module _ {plan : List Point} (f : IsFree app limits until k plan) where
     pub goes_a_step : GoesTo app limits until k next
-    goes_a_step = let one = one_further plan f in record { way = way_further; on = omega arith; far = λ within. omega arith }
+    goes_a_step =
+        let one = one_further plan f in
+        record { way = λ plan f. way_on app formed limits are until k next short stands plan f (going plan f); on = omega arith; far = λ within. omega arith }
 
     pub tells_a_step : (before after : List Event) → ((s : State) → Stands k s → after ≡ before ++ (step app [] s).log) → GoesOn app limits until k next before after
-    tells_a_step before after told = record { to = goes_a_step; events = λ plan f. told_further plan f before after told }
+    tells_a_step before after told = record { to = goes_a_step; events = λ plan f. told_on app formed limits are until k next short stands plan f (going plan f) before after told }
 
 -- ---- one stretch after another
 
@@ -117,6 +153,63 @@ pub tells_then : {app : Application} {limits : Limits} {until : ℕ} {first midd
 tells_then {app} {limits} {until} {first} {middle} {last} {before} {between} {after} g h = record {
   to = goes_then g.to h.to;
   events = λ plan f. more_from app plan first.steps middle.steps last.steps g.to.on h.to.on before between after (g.events plan f) (h.events plan (free_next g.to f));
+}
+
+-- Those that were not over still aren't.
+pub goes_still : {app : Application} {limits : Limits} {until : ℕ} {old new : Machine} {before after : List Event} {plan : List Point} → GoesFurther app limits until old new before after → IsGoing app limits until old plan → is_over app (state_after app plan new.steps) ≡ false → IsGoing app limits until new plan
+goes_still {app} {limits} {until} {old} {new} {before} {after} {plan} h g going = record {
+  free = record {
+    way = h.way plan g;
+    alone = λ n from below. let on = h.on in g.free.alone n (omega arith) below;
+    free = λ n from below on. let rises = h.on in g.free.free n (omega arith) below on;
+  };
+  going = going;
+}
+
+pub further_then : {app : Application} {limits : Limits} {until : ℕ} {first middle last : Machine} {before between after : List Event} → GoesFurther app limits until first middle before between → ((plan : List Point) → IsGoing app limits until first plan → is_over app (state_after app plan middle.steps) ≡ false) → GoesFurther app limits until middle last between after → GoesFurther app limits until first last before after
+further_then {app} {limits} {until} {first} {middle} {last} {before} {between} {after} g going h = record {
+  way = λ plan f. h.way plan (goes_still g f (going plan f));
+  on = (let l = g.on in let m = h.on in omega arith);
+  far = λ within. h.far (g.far within);
+  events = λ plan f. more_from app plan first.steps middle.steps last.steps g.on h.on before between after (g.events plan f) (h.events plan (goes_still g f (going plan f)));
+}
+
+pub further_nowhere : {app : Application} {limits : Limits} {until : ℕ} {k : Machine} {before after : List Event} → after ≡ before → GoesFurther app limits until k k before after
+further_nowhere {app} {limits} {until} {k} {before} {after} e = record {
+  way = λ plan g. g.free.way;
+  on = omega arith;
+  far = λ within. within;
+  events = λ plan g. e ∙ sym (append-nil before) ∙ ap (λ (es : List Event). before ++ es) (sym (from_here app plan k.steps));
+}
+
+-- up to the next step
+pub going_soon : {app : Application} {limits : Limits} {until : ℕ} {k : Machine} {plan : List Point} → k.steps < until → IsGoing app limits until k plan → IsGoing app limits (k.steps + 1) k plan
+going_soon {app} {limits} {until} {k} {plan} short g = record { free = free_sooner (k.steps + 1) (λ n from below. omega arith) g.free; going = g.going }
+
+pub further_as_far : {app : Application} {limits : Limits} {until : ℕ} {old new : Machine} {before after : List Event} → old.steps < until → GoesFurther app limits (old.steps + 1) old new before after → GoesFurther app limits until old new before after
+further_as_far {app} {limits} {until} {old} {new} {before} {after} short h = record {
+  way = λ plan g. h.way plan (going_soon short g);
+  on = h.on;
+  far = λ within. let far = h.far (omega arith) in omega arith;
+  events = λ plan g. h.events plan (going_soon short g);
+}
+
+-- where none was over
+pub tells_further : {app : Application} {limits : Limits} {until : ℕ} {old new : Machine} {before after : List Event} → NoneIsOver app limits until old old → GoesFurther app limits until old new before after → GoesOn app limits until old new before after
+tells_further {app} {limits} {until} {old} {new} {before} {after} going h = record {
+  to = record { way = λ plan f. h.way plan (record { free = f; going = going plan f }); on = h.on; far = h.far };
+  events = λ plan f. h.events plan (record { free = f; going = going plan f });
+}
+
+-- or none is by then
+pub tells_on : {app : Application} {limits : Limits} {until : ℕ} {first middle last : Machine} {before between after : List Event} → GoesOn app limits until first middle before between → NoneIsOver app limits until first middle → GoesFurther app limits until middle last between after → GoesOn app limits until first last before after
+tells_on {app} {limits} {until} {first} {middle} {last} {before} {between} {after} g going h = record {
+  to = record {
+    way = λ plan f. h.way plan (record { free = free_next g.to f; going = going plan f });
+    on = (let l = g.to.on in let m = h.on in omega arith);
+    far = λ within. h.far (g.to.far within);
+  };
+  events = λ plan f. more_from app plan first.steps middle.steps last.steps g.to.on h.on before between after (g.events plan f) (h.events plan (record { free = free_next g.to f; going = going plan f }));
 }
 
 -- a stretch that tells nothing, behind any events

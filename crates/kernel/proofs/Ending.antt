@@ -1,5 +1,5 @@
 -- When a run ends.
-use Rattle.std.proofs.Common.{◌≡◌, ◌+◌, ◌<◌, ◌≤◌, ℕ, suc, Bool, true, false, not, ◌&&◌, ◌||◌, eqb, leb, ltb, List, [], ◌∷◌, length, get_or, Option, Some, None, inl, inr, refl, ap, sym, subst, ◌∙◌, arith}
+use Rattle.std.proofs.Common.{◌≡◌, ◌+◌, ◌<◌, ◌≤◌, ℕ, zero, suc, Bool, true, false, not, ◌&&◌, ◌||◌, eqb, leb, ltb, List, [], ◌∷◌, length, get_or, Option, Some, None, inl, inr, refl, ap, sym, subst, ◌∙◌, arith}
 use Rattle.std.proofs.lemmas.Bool.Decides.{nat_tests}
 use Rattle.std.specs.List.{list_all, list_any, filter, AllByRecursion}
 use Rattle.std.specs.Prelude.{IsTrue, ◌↔◌, if◌then◌else◌, nat_lt}
@@ -9,23 +9,24 @@ use Rattle.model.specs.declared.event.Event.{Event}
 use Rattle.model.specs.declared.event.End.{End}
 use Rattle.model.specs.declared.event.End.TheVariants.{Pass, Ticks, Steps, Stuck}
 use Rattle.model.specs.Application.{Application, Limits}
-use Rattle.model.specs.State.{State, Task, Status, Ready, Awake, Waiting, Asleep, WaitingForBits, Suspended, Ended, wake_time_of, task_at, no_task, for_each}
+use Rattle.model.specs.State.{State, Task, Progress, Status, Ready, Awake, Waiting, Asleep, WaitingForBits, Suspended, Ended, ticket_if_ready, wake_time_of, task_at, status_at, no_task, for_each}
 use Rattle.model.specs.Order.{Key, Entry, key, keyed, list_by, in_order, tasks_of}
 use Rattle.model.specs.Switching.{is_held, is_ready, is_scheduler_suspended, ready_key, settle, unless_held}
+use Rattle.model.specs.declared.call.Phase.TheVariants.{Decide}
 use Rattle.model.specs.declared.call.WaitList.{WaitList}
 use Rattle.model.specs.Waiting.{same_list, wait_key}
 use Rattle.model.specs.Time.{delayed_key}
 use Rattle.model.specs.Handlers.{inject}
 use Rattle.model.specs.Step.{is_ended, act_current, before_step, step}
 use Rattle.model.specs.Run.{are_all_ended, is_interrupt_to_come, is_stuck, end_of}
-use Rattle.model.specs.Invariant.{IsRunning, IsState, RunsIn, wait_of}
+use Rattle.model.specs.Invariant.{IsRunning, IsState, RunsIn, holds, wait_of}
 use Rattle.model.proofs.Sorting.{length-in_order, by_test}
 use Rattle.model.proofs.Lists.{eqb-apart, eqb-refl, HasKey, list_has}
 use Rattle.lists.specs.Lists.{first_of, has_node}
 use Rattle.task_lists.specs.Priorities.{with_priorities}
 use Rattle.sched.specs.Schedule.{lined_up}
 use Rattle.sched.proofs.LinedUp.{ready_if_listed}
-use Rattle.sched.proofs.Standing.{held_by_depth, ready_same}
+use Rattle.sched.proofs.Standing.{held_by_depth}
 use Rattle.clock.specs.StandsFor as clock
 use Rattle.clock.specs.StandsFor.{tasks_at}
 use Rattle.clock.specs.Timeline.{Timeline}
@@ -38,9 +39,9 @@ use Rattle.kernel.specs.Blocked.{is_blocked}
 use Rattle.kernel.specs.Over.{is_over}
 use Rattle.model.specs.Suspension.{can_resume}
 use Rattle.machine.specs.declared.machine.Machine.{Machine}
-use Rattle.machine.specs.StandsFor.{StandsFor, StandsBefore, Stands, AtAny, decider}
+use Rattle.machine.specs.StandsFor.{StandsFor, StandsBefore, Stands, AtAny, decider, progress_in}
 use Rattle.machine.specs.StandsFor.Stands.{Placed, Placing}
-use Rattle.machine.proofs.Either.{steps_are}
+use Rattle.machine.proofs.Either.{current_is, progress_is, steps_are, stopped_is, suspensions_are}
 use Rattle.machine.proofs.Renewed.{renewed}
 
 pub leb-yes : (a b : ℕ) → a ≤ b → leb a b ≡ true
@@ -208,31 +209,45 @@ pub not_over_by : (k : Machine) (s : State) (ready : Bool) → ready ≡ is_some
 not_over_by k s ready r (Placed h) some = sym (not_over k s h (sym r ∙ some))
 not_over_by k s ready r (Placing task list b) some = sym (waits_before k s task list b)
 
--- Where a task runs in a state that a run comes to, and nothing holds the scheduler, it is Ready.
-ready_there : (app : Application) (s : State) (task : ℕ) → IsState app s → s.current ≡ Some task → is_held s ≡ false → is_ready s task ≡ true
-ready_there app s task is runs free =
+-- Where somebody isn't Ended, not all are.
+pub some_on : (ts : List Task) → list_all (λ (t : Task). is_ended t.status) ts ≡ false → (i : ℕ) × (is_ended (get_or ts i no_task).status ≡ false)
+some_on [] e = absurd (cc)
+some_on (t ∷ ts) e = by_test (is_ended t.status)
+    (λ u. let later = some_on ts (rw u at e) in (suc later.0, later.1))
+    (λ u. (0, u))
+
+pub not_all_ended : (ts : List Task) (i : ℕ) → is_ended (get_or ts i no_task).status ≡ false → list_all (λ (t : Task). is_ended t.status) ts ≡ false
+not_all_ended [] i e = absurd (cc)
+not_all_ended (t ∷ ts) zero e = rw e refl
+not_all_ended (t ∷ ts) (suc i) e = by_test (is_ended t.status)
+    (λ u. rw u (not_all_ended ts i e))
+    (λ u. rw u refl)
+
+-- So it is in a state that a run comes to, where a task runs and nothing holds the scheduler, since that task is Ready.
+on_unheld : (app : Application) (s : State) (task : ℕ) → IsState app s → s.current ≡ Some task → is_held s ≡ false → are_all_ended s ≡ false
+on_unheld app s task is runs free =
     let running : IsRunning app s task = subst (RunsIn app s) runs is.runs in
-    let no_call : s.call_hold ≡ false = neither s.call_hold (is_scheduler_suspended s) free in
-    elim (running.ready no_call) [ inl r ↦ r | inr x ↦ let f : is_scheduler_suspended s ≡ false = nor s.call_hold (is_scheduler_suspended s) free in let t : is_scheduler_suspended s ≡ true = x.0 in absurd (cc) ] where
-      neither : (a b : Bool) → a || b ≡ false → a ≡ false
+    let none = neither s.call_hold (is_scheduler_suspended s) free in
+    let ready : is_ready s task ≡ true = elim (running.ready none.0) [ inl r ↦ r | inr x ↦ let t : is_scheduler_suspended s ≡ true = x.0 in let f = none.1 in absurd (cc) ] in
+    not_all_ended s.tasks task (ready_on (status_at s task) ready) where
+      neither : (a b : Bool) → a || b ≡ false → (a ≡ false) × (b ≡ false)
       neither true b e = absurd (cc)
-      neither false b e = refl
+      neither false b e = (refl, e)
 
-      nor : (a b : Bool) → a || b ≡ false → b ≡ false
-      nor true b e = absurd (cc)
-      nor false b e = e
+      ready_on : (u : Status) → is_some (ticket_if_ready u) ≡ true → is_ended u ≡ false
+      ready_on (Ready n) t = refl
+      ready_on (Awake w) t = absurd (cc)
+      ready_on (Waiting w) t = absurd (cc)
+      ready_on (Asleep w n) t = absurd (cc)
+      ready_on (WaitingForBits g n d) t = absurd (cc)
+      ready_on Suspended t = absurd (cc)
+      ready_on Ended t = absurd (cc)
 
--- So not all are Ended.
 pub not_over_unheld : (app : Application) (k : Machine) (s : State) (task : ℕ) → Stands k s → IsState app s → k.sched.current ≡ Some task → k.sched.depth ≡ 0 → are_all_ended s ≡ false
 not_over_unheld app k s task (Placing other list b) is runs free = sym (waits_before k s other list b)
 not_over_unheld app k s task (Placed h) is runs free =
     let held : is_held s ≡ false = held_by_depth s ∙ ap (λ (n : ℕ). nat_lt 0 n) (sym h.sched.depth ∙ free) in
-    let ready : is_ready s task ≡ true = ready_there app s task is (sym h.sched.current ∙ runs) held in
-    let listed : has_node task (lined_up k.sched) ≡ true = ready_same k.sched s task h.sched ∙ ready in
-    sym (not_over k s h (some_first (lined_up k.sched) listed)) where
-      some_first : (es : List (ℕ × ℕ)) → has_node task es ≡ true → is_some (first_of es) ≡ true
-      some_first [] t = absurd (cc)
-      some_first (e ∷ es) t = refl
+    on_unheld app s task is (sym h.sched.current ∙ runs) held
 
 pub stuck_by : (app : Application) (k : Machine) (s : State) (idle q later : Bool) → Stands k s → idle ≡ is_none k.sched.current → (IsTrue q ↔ (k.clock.delayed_list ≡ [])) → later ≡ is_interrupt_to_come app s → idle && q && not later ≡ is_stuck app s
 stuck_by app k s idle q later (Placed h) n is come = is_stuck_by k s h idle q later app n is come
@@ -241,6 +256,26 @@ stuck_by app k s idle q later (Placing task list b) n is come = let e : idle ≡
 -- Where a task runs, the run isn't stuck.
 pub runs_on : (app : Application) (s : State) (task : ℕ) → s.current ≡ Some task → is_stuck app s ≡ false
 runs_on app s task e = rw e refl
+
+-- none of three
+pub none_of : (a b c : Bool) → a ≡ false → b ≡ false → c ≡ false → a || b || c ≡ false
+none_of a b c t u v = rw (t, u, v) refl
+
+-- nor either of the first two
+pub neither_of : (a b c : Bool) → a || b || c ≡ false → (a ≡ false) × (b ≡ false)
+neither_of true b c e = absurd (cc)
+neither_of false true c e = absurd (cc)
+neither_of false false c e = (refl, refl)
+
+-- Nor is it over before the task's call decides, unless it has been stopped: a call holds nothing then.
+pub not_over_undecided : (app : Application) (k : Machine) (s : State) (task : ℕ) → Stands k s → IsState app s → k.sched.current ≡ Some task → (progress_in k.progress task).call.phase ≡ Decide → k.suspensions ≡ 0 → is_some k.stopped ≡ false → is_over app s ≡ false
+not_over_undecided app k s task h is runs decides none on =
+    let current : s.current ≡ Some task = sym (current_is k s h) ∙ runs in
+    let running : IsRunning app s task = subst (RunsIn app s) current is.runs in
+    let no_call : s.call_hold ≡ false = sym running.holding ∙ ap (λ (p : Progress). holds p.call.phase) (sym (progress_is k s h task)) ∙ ap holds decides in
+    let awake : s.suspensions ≡ 0 = sym (suspensions_are k s h) ∙ none in
+    let free : is_held s ≡ false = rw (no_call, awake) refl in
+    none_of (is_some s.stopped) (are_all_ended s) (is_stuck app s) (ap (λ (o : Option End). is_some o) (sym (stopped_is k s h)) ∙ on) (on_unheld app s task is current free) (runs_on app s task current)
 
 pub idle_by : (o : Option ℕ) → is_some o ≡ false → true ≡ is_none o
 idle_by None e = refl

@@ -11,7 +11,7 @@ use Rattle.model.specs.Invariant.{holds}
 use Rattle.model.specs.contracts.call.Phase.{the_type}
 use Rattle.model.specs.declared.event.Event.{Event}
 use Rattle.model.specs.Application.{Application, op_at}
-use Rattle.model.specs.State.{State}
+use Rattle.model.specs.State.{State, Progress, progress_at}
 use Rattle.model.specs.Switching.{is_held, settle, unless_held}
 use Rattle.model.specs.Calls.{await, leave_call}
 use Rattle.model.specs.Step.{act_current, before_step, step}
@@ -24,13 +24,15 @@ use Rattle.machine.specs.StandsFor.{Stands, AtAny, Does, DoesAny, progress_in}
 use Rattle.ops.specs.Can.{CanLeave}
 use Rattle.ops.specs.InCall.{IsSilent, Remains}
 use Rattle.kernel.specs.InCall.{IsInPhase, IsLeaving}
-use Rattle.machine.proofs.Either.{any, either, does_any, does_more, steps_are}
+use Rattle.kernel.specs.Over.{is_over}
+use Rattle.machine.proofs.Either.{any, either, current_is, does_any, does_more, progress_is, steps_are, suspensions_are}
 use Rattle.kernel.proofs.Acted.{freely}
 use Rattle.ops.proofs.Calling.{in_phase}
 use Rattle.kernel.proofs.Counting.{steps_still}
 use Rattle.machine.proofs.Switches.{settled_before, settled_held}
 use Rattle.kernel.proofs.Ending.{begun, handled_before, stepped}
 use Rattle.kernel.proofs.Running.{acts}
+use Rattle.kernel.proofs.Silent.{not_over_silently}
 
 -- A call tells nothing in three phases: in all but the first the scheduler is held before it too.
 pub holds_silently : (phase : Phase) → IsSilent phase → phase ≢ Decide → holds phase ≡ true
@@ -96,6 +98,18 @@ module _ (app : Application) (k : Machine) (task object : ℕ) (access : Access)
       pub told_nothing : (step app [] s).log ≡ []
       unfolding step
       told_nothing = sym there.log
+
+      -- Nor does it end the run.
+      pub not_over_after : IsSilent phase → new.sched.current ≡ k.sched.current → is_over app s ≡ false → is_over app (step app [] s) ≡ false
+      not_over_after silent same =
+          let now : Progress = progress_at s task in
+          let is : progress_in k.progress task ≡ now = progress_is k s h task in
+          not_over_silently app task object access c.ticks phase silent s
+          (sym (current_is k s h) ∙ c.current)
+          (ap (λ (p : Progress). op_at app task p.op_index) (sym is) ∙ c.op)
+          (ap (λ (p : Progress). p.call.phase) (sym is) ∙ c.reached)
+          (sym (suspensions_are k s h) ∙ c.awake)
+          (sym (current_is (record new { steps = new.steps + 1 }) (step app [] s) stepped_held) ∙ same ∙ c.current)
 
 -- So it is where the call lets go of the scheduler.
 pub leaves : (app : Application) (k new : Machine) (task : ℕ) → IsLeaving app k task → CanLeave k task → (old_log new_log : Logged) → Does 1 k old_log new new_log (leave_call task) → DoesAny 65 k old_log new new_log (λ s. act_current app s.current s)

@@ -7,6 +7,7 @@ pub mod Ticking
 pub mod Handling
 pub mod Planned
 pub mod Held
+pub mod Silent
 pub mod InCall
 pub mod Counting
 pub mod LettingGo

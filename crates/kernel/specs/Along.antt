@@ -27,3 +27,20 @@ pub record GoesTo (app : Application) (limits : Limits) (until : ℕ) (old new :
 pub record GoesOn (app : Application) (limits : Limits) (until : ℕ) (old new : Machine) (before after : List Event) : Type 0 where
   pub to : GoesTo app limits until old new
   pub events : (plan : List Point) → IsFree app limits until old plan → after ≡ before ++ events_from app plan old.steps new.steps
+
+-- None of them is over where the kernel has come to.
+abbrev pub NoneIsOver : Application → Limits → ℕ → Machine → Machine → Type 0
+NoneIsOver app limits until old new = (plan : List Point) → IsFree app limits until old plan → is_over app (state_after app plan new.steps) ≡ false
+
+-- Such a run, which isn't over where the kernel is.
+pub record IsGoing (app : Application) (limits : Limits) (until : ℕ) (k : Machine) (plan : List Point) : Type 0 where
+  pub free : IsFree app limits until k plan
+  pub going : is_over app (state_after app plan k.steps) ≡ false
+
+-- The kernel has gone on, no further than to this step, along each run that was so at the old one, and what each told on the way came
+-- behind the events that were kept before.
+pub record GoesFurther (app : Application) (limits : Limits) (until : ℕ) (old new : Machine) (before after : List Event) : Type 0 where
+  pub way : (plan : List Point) → IsGoing app limits until old plan → IsUnderWay app plan limits new
+  pub on : old.steps ≤ new.steps
+  pub far : old.steps ≤ until → new.steps ≤ until
+  pub events : (plan : List Point) → IsGoing app limits until old plan → after ≡ before ++ events_from app plan old.steps new.steps

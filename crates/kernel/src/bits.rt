@@ -136,6 +136,7 @@ pub(crate) fn pass_more(
         pass_bits(kernel, app, points, until, task, limits, trail);
         return;
     }
-    let leaving = pass_on(kernel, app, points, until, true, limits);
-    pass_leave(kernel, app, points, until, leaving, limits, trail);
+    if let Some(task) = pass_on(kernel, app, points, until, true, limits) {
+        pass_leave(kernel, app, points, until, task, limits, trail);
+    }
 }

@@ -1,18 +1,21 @@
 //! The steps of a call that waits, from where it decides until it has let go of the scheduler. They are done one after another,
-//! with the call in hand, and nothing is looked for in each but whether the run is over.
-ghost use Rattle.std.specs.Prelude.{◌≡◌, ◌+◌, ◌≤◌, [], IfSome};
+//! with the call in hand, and nothing is looked for in each.
+ghost use Rattle.std.specs.Prelude.{◌≡◌, ◌+◌, ◌≤◌, false, List, [], IfSome};
 ghost use Rattle.model.specs.declared.call.Phase as declared;
-ghost use Rattle.model.specs.declared.call.Phase.TheVariants.{Leave};
+ghost use Rattle.model.specs.declared.call.Phase.TheVariants.{Decide, Leave};
+ghost use Rattle.model.specs.declared.plan.Point as definitions;
 ghost use Rattle.model.specs.State.{State};
 ghost use Rattle.model.specs.Step.{step};
+ghost use Rattle.model.specs.Run.{state_after};
 ghost use Rattle.machine.specs.Logged.{all_of};
 ghost use Rattle.machine.specs.StandsFor.{Stands, progress_in};
 ghost use Rattle.kernel.specs.Can.{CanStep};
 ghost use Rattle.ops.specs.InCall.{IsSilent};
 ghost use Rattle.kernel.specs.InCall.{IsInPhase, IsLeaving};
-ghost use Rattle.kernel.specs.Along.{IsFree, GoesOn};
+ghost use Rattle.kernel.specs.Over.{is_over};
+ghost use Rattle.kernel.specs.Along.{IsFree, GoesOn, NoneIsOver, IsGoing, GoesFurther};
 
-use crate::steps::{is_over_running, op_of};
+use crate::steps::op_of;
 use machine::{Log, Machine, Trail};
 use model::{Access, App, Limits, ObjectId, Op, Phase, Point, TaskId};
 use ops::calls::{go_on_silently, leave_call};
@@ -27,7 +30,8 @@ pub(crate) fn phase(machine: &Machine, task: TaskId) -> Phase
 /// The running task, where its call has come to decide.
 #[inline(always)]
 pub(crate) fn deciding(machine: &Machine) -> Option<TaskId>
-    ensures { IfSome result (λ task. machine.now.sched.current ≡ Some task) }
+    ensures current { IfSome result (λ task. machine.now.sched.current ≡ Some task) }
+    ensures reached { IfSome result (λ task. (progress_in machine.now.progress task).call.phase ≡ Decide) }
 {
     let task = machine.sched.current()?;
     if phase(machine, task) != Phase::Decide {
@@ -52,6 +56,8 @@ fn step_in_call(
     requires call { IsInPhase app.now machine.old task object access phase }
     ensures stands { (s : State) → Stands machine.old s → Stands machine.new (step app.now [] s) }
     ensures silent { (s : State) → Stands machine.old s → (step app.now [] s).log ≡ [] }
+    ensures on { (s : State) → Stands machine.old s → is_over app.now s ≡ false
+        → is_over app.now (step app.now [] s) ≡ false }
     ensures call { (next : declared.Phase) → (progress_in machine.new.progress task).call.phase ≡ next
         → IsInPhase app.now machine.new task object access next }
 {
@@ -78,8 +84,8 @@ fn step_leaving<L: Log>(machine: &mut Machine, app: &App, task: TaskId, log: &mu
     machine.steps += 1;
 }
 
-/// One step along a run that is under way, in which the running task's call on an object goes on in this phase, if it has come to it
-/// and the run isn't over. Neither has the plan a point at that step, nor is a limit reached before it.
+/// One step along a run that is under way and not over, in which the running task's call on an object goes on in this phase, if it has
+/// come to it. Neither has the plan a point at that step, nor is a limit reached before it. The run isn't over then either.
 #[inline(always)]
 fn pass_phase(
     kernel: &mut Machine,
@@ -90,11 +96,13 @@ fn pass_phase(
     next: Phase,
     limits: &Limits,
 )
-    requires free { IsFree app.now limits.now (kernel.old.steps + 1) kernel.old points.now }
+    requires going { IsGoing app.now limits.now (kernel.old.steps + 1) kernel.old points.now }
     requires silent { IsSilent next }
     requires call { (reached : declared.Phase) → (progress_in kernel.old.progress task).call.phase ≡ reached
         → IsInPhase app.now kernel.old task call.now.0 call.now.1 reached }
-    ensures along { GoesOn app.now limits.now (kernel.old.steps + 1) kernel.old kernel.new [] [] }
+    ensures along { GoesFurther app.now limits.now (kernel.old.steps + 1) kernel.old kernel.new [] [] }
+    ensures going { (plan : List definitions.Point) → IsGoing app.now limits.now (kernel.old.steps + 1) kernel.old plan
+        → is_over app.now (state_after app.now plan kernel.new.steps) ≡ false }
     ensures call { (reached : declared.Phase) → (progress_in kernel.new.progress task).call.phase ≡ reached
         → IsInPhase app.now kernel.new task call.now.0 call.now.1 reached }
 {
@@ -103,14 +111,12 @@ fn pass_phase(
     if phase(kernel, task) != next {
         return;
     }
-    if is_over_running(kernel) {
-        return;
-    }
     step_in_call(kernel, app, task, call.0, call.1, next);
 }
 
 /// Does the steps of the running task's call, which has come to decide, until it lets go of the scheduler next, and answers the task
 /// where it has come to that: none where the plan may have a point, or a limit may be reached, before three steps are done.
+// Before it decides the task is Ready, so the run is over only if it has been stopped; and none of these steps ends it.
 #[inline(never)]
 pub(crate) fn pass_call(
     kernel: &mut Machine,
@@ -122,10 +128,15 @@ pub(crate) fn pass_call(
 ) -> Option<TaskId>
     requires free { IsFree app.now limits.now until kernel.old points.now }
     requires runs { kernel.old.sched.current ≡ Some task }
+    requires decides { (progress_in kernel.old.progress task).call.phase ≡ Decide }
     ensures along { GoesOn app.now limits.now until kernel.old kernel.new [] [] }
     ensures leaving { IfSome result (λ task. IsLeaving app.now kernel.new task) }
+    ensures going { IfSome result (λ task. NoneIsOver app.now limits.now until kernel.old kernel.new) }
 {
     app.well_formed();
+    if kernel.stopped.is_some() {
+        return None;
+    }
     if kernel.suspensions > 0 || until.saturating_sub(kernel.steps) < 3 {
         return None;
     }
@@ -143,31 +154,25 @@ pub(crate) fn pass_call(
     Some(task)
 }
 
-/// Does the step in which the running task's call lets go of the scheduler, where it has come to that (`pass_call` tells), but for a
-/// step of this number, where the plan may have a point or a limit may be reached.
+/// Does the step in which the running task's call lets go of the scheduler, to which it has come along a run that isn't over (`pass_call`
+/// tells): not where it is of this number, where the plan may have a point or a limit may be reached.
 #[inline(always)]
 pub(crate) fn pass_leave(
     kernel: &mut Machine,
     app: &App,
     points: &[Point],
     until: u32,
-    leaving: Option<TaskId>,
+    task: TaskId,
     limits: &Limits,
     trail: &mut Trail,
 )
-    requires free { IsFree app.now limits.now until kernel.old points.now }
-    requires leaving { IfSome leaving (λ task. IsLeaving app.now kernel.old task) }
-    ensures { GoesOn app.now limits.now until kernel.old kernel.new (all_of trail.old) (all_of trail.new) }
+    requires going { IsGoing app.now limits.now until kernel.old points.now }
+    requires leaving { IsLeaving app.now kernel.old task }
+    ensures { GoesFurther app.now limits.now until kernel.old kernel.new (all_of trail.old) (all_of trail.new) }
 {
     app.well_formed();
     limits.well_formed();
-    let Some(task) = leaving else {
-        return;
-    };
     if until <= kernel.steps {
-        return;
-    }
-    if is_over_running(kernel) {
         return;
     }
     if trail.begin().is_err() {

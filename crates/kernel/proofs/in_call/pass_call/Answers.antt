@@ -1,14 +1,19 @@
-use Rattle.std.proofs.Common.{◌<◌, ◌≤◌, ◌+◌, ℕ, [], Option, length, subst, sym, ◌∙◌, arith}
-use Rattle.std.specs.Option.{IfSome}
-use Rattle.model.specs.declared.call.Phase.TheVariants.{Leave}
+use Rattle.std.proofs.Common.{◌≡◌, ◌<◌, ◌≤◌, ◌+◌, ℕ, false, List, [], Option, Some, length, subst, sym, ◌∙◌, arith}
+use Rattle.std.specs.Option.{IfSome, is_some}
+use Rattle.model.specs.declared.call.Phase.TheVariants.{Decide, Leave}
+use Rattle.model.specs.declared.plan.Point.{Point}
 use Rattle.model.specs.Application.{Application, Limits}
+use Rattle.model.specs.Scripts.{IsWellFormed}
 use Rattle.model.specs.Run.{state_after}
 use Rattle.model.specs.Invariant.{hold_of}
 use Rattle.soundness.proofs.Reached.{reached_after}
 use Rattle.machine.specs.declared.machine.Machine.{Machine}
-use Rattle.kernel.specs.Along.{GoesTo, GoesOn}
-use Rattle.kernel.proofs.Along.{free_next, free_sooner, goes_as_far, goes_then, tells_then}
+use Rattle.machine.specs.StandsFor.{progress_in}
+use Rattle.kernel.specs.Over.{is_over}
+use Rattle.kernel.specs.Along.{IsFree, GoesOn, NoneIsOver, IsGoing, GoesFurther}
+use Rattle.kernel.proofs.Along.{further_as_far, goes_still, going_soon, tells_further, tells_on}
 use Rattle.kernel.proofs.Bounds.{runs_there}
+use Rattle.kernel.proofs.Ending.{not_over_undecided}
 use Rattle.kernel.proofs.InCall.{same_phase}
 use Rattle.kernel.proofs.in_call.pass_call.Goals as goal
 
@@ -17,35 +22,83 @@ op_of-requires c =
     let s = state_after c.args.app.now c.args.points.now c.args.kernel.now.steps in
     subst (λ (o : Option ℕ). IfSome o (λ task. task < length c.args.app.now.tasks)) c.requires.runs (runs_there c.args.app.now c.args.kernel.now s (hold_of s) c.requires.free.way.stands (reached_after c.args.app.now c.well_formed-2.ensures c.args.points.now c.args.kernel.now.steps).sound)
 
--- Three steps at most are done before that one.
-in_three : {app : Application} {limits : Limits} {until : ℕ} {a b c d : Machine} → a.steps + 3 ≤ until
-    → GoesOn app limits (a.steps + 1) a b [] [] → GoesOn app limits (b.steps + 1) b c [] [] → GoesOn app limits (c.steps + 1) c d [] [] → GoesOn app limits until a d [] []
-in_three within g h i =
-    let one = g.to.far (omega arith) in
-    let two = h.to.far (omega arith) in
-    tells_then (goes_as_far (omega arith) (λ n from below. omega arith) g) (tells_then (goes_as_far (omega arith) (λ n from below. omega arith) h) (goes_as_far (omega arith) (λ n from below. omega arith) i))
+-- None is over before the task's call decides.
+none_over : (app : Application) → IsWellFormed app → (limits : Limits) (until : ℕ) (k : Machine) (task : ℕ) → k.sched.current ≡ Some task → (progress_in k.progress task).call.phase ≡ Decide → k.suspensions ≡ 0 → is_some k.stopped ≡ false → NoneIsOver app limits until k k
+none_over app formed limits until k task runs decides none on = λ plan f. not_over_undecided app k (state_after app plan k.steps) task f.way.stands (reached_after app formed plan k.steps) runs decides none on
 
-pub pass_phase-requires-3-clause-free : goal.pass_phase-requires-3-clause-free
-pass_phase-requires-3-clause-free c =
+-- Nor is one after the first phases,
+module _ {app : Application} {limits : Limits} {until : ℕ} {first second : Machine} (within : first.steps + 3 ≤ until) (none : NoneIsOver app limits until first first)
+    (one : GoesFurther app limits (first.steps + 1) first second [] []) (after_one : (plan : List Point) → IsGoing app limits (first.steps + 1) first plan → is_over app (state_after app plan second.steps) ≡ false) where
+  first_as_far : GoesFurther app limits until first second [] []
+  first_as_far = further_as_far (omega arith) one
+
+  going_second : (plan : List Point) → IsFree app limits until first plan → IsGoing app limits until second plan
+  going_second plan f =
+      let g : IsGoing app limits until first plan = record { free = f; going = none plan f } in
+      goes_still first_as_far g (after_one plan (going_soon (omega arith) g))
+
+  module _ {third : Machine} (two : GoesFurther app limits (second.steps + 1) second third [] []) (after_two : (plan : List Point) → IsGoing app limits (second.steps + 1) second plan → is_over app (state_after app plan third.steps) ≡ false) where
+    second_as_far : GoesFurther app limits until second third [] []
+    second_as_far = let far = one.far (omega arith) in further_as_far (omega arith) two
+
+    going_third : (plan : List Point) → IsFree app limits until first plan → IsGoing app limits until third plan
+    going_third plan f =
+        let far = one.far (omega arith) in
+        let g = going_second plan f in
+        goes_still second_as_far g (after_two plan (going_soon (omega arith) g))
+
+    third_soon : (plan : List Point) → IsFree app limits until first plan → IsGoing app limits (third.steps + 1) third plan
+    third_soon plan f = let far = one.far (omega arith) in let farther = two.far (omega arith) in going_soon (omega arith) (going_third plan f)
+
+    -- so that all three are gone through along each run.
+    in_three : {last : Machine} → GoesFurther app limits (third.steps + 1) third last [] [] → GoesOn app limits until first last [] []
+    in_three {last} three =
+        let far = one.far (omega arith) in
+        let farther = two.far (omega arith) in
+        tells_on (tells_on (tells_further none first_as_far) (λ plan f. (going_second plan f).going) second_as_far) (λ plan f. (going_third plan f).going) (further_as_far (omega arith) three)
+
+pub pass_phase-requires-clause-going : goal.pass_phase-requires-clause-going
+pass_phase-requires-clause-going c =
     let left = c.saturating_sub.ensures in
     let three = c.if-saturating_sub-lt3.false in
-    let one = c.pass_phase.ensures.along.to.far (omega arith) in
-    let two = c.pass_phase-2.ensures.along.to.far (omega arith) in
-    let there : GoesTo c.args.app.now c.args.limits.now c.args.until c.args.kernel.now c.pass_phase-2.new.kernel =
-    goes_then (goes_as_far (omega arith) (λ n from below. omega arith) c.pass_phase.ensures.along).to (goes_as_far (omega arith) (λ n from below. omega arith) c.pass_phase-2.ensures.along).to in
-    free_sooner (c.pass_phase-2.new.kernel.steps + 1) (λ n from below. omega arith) (free_next there c.requires.free)
+    let none = none_over c.args.app.now c.well_formed-2.ensures c.args.limits.now c.args.until c.args.kernel.now c.args.task c.requires.runs c.requires.decides (omega (arith, c.if-kernel-gt0.false)) (sym c.if-is_some.ensures) in
+    going_soon (omega arith) (record { free = c.requires.free; going = none c.args.points.now c.requires.free })
+
+pub pass_phase-requires-2-clause-going : goal.pass_phase-requires-2-clause-going
+pass_phase-requires-2-clause-going c =
+    let left = c.saturating_sub.ensures in
+    let three = c.if-saturating_sub-lt3.false in
+    let far = c.pass_phase.ensures.along.far (omega arith) in
+    let none = none_over c.args.app.now c.well_formed-2.ensures c.args.limits.now c.args.until c.args.kernel.now c.args.task c.requires.runs c.requires.decides (omega (arith, c.if-kernel-gt0.false)) (sym c.if-is_some.ensures) in
+    going_soon (omega arith) (going_second (omega arith) none c.pass_phase.ensures.along c.pass_phase.ensures.going c.args.points.now c.requires.free)
+
+pub pass_phase-requires-3-clause-going : goal.pass_phase-requires-3-clause-going
+pass_phase-requires-3-clause-going c =
+    let left = c.saturating_sub.ensures in
+    let three = c.if-saturating_sub-lt3.false in
+    let none = none_over c.args.app.now c.well_formed-2.ensures c.args.limits.now c.args.until c.args.kernel.now c.args.task c.requires.runs c.requires.decides (omega (arith, c.if-kernel-gt0.false)) (sym c.if-is_some.ensures) in
+    third_soon (omega arith) none c.pass_phase.ensures.along c.pass_phase.ensures.going c.pass_phase-2.ensures.along c.pass_phase-2.ensures.going c.args.points.now c.requires.free
 
 pub returns-then-ne-clause-along : goal.returns-then-ne-clause-along
 returns-then-ne-clause-along c =
     let left = c.saturating_sub.ensures in
     let three = c.if-saturating_sub-lt3.false in
-    in_three (omega arith) c.pass_phase.ensures.along c.pass_phase-2.ensures.along c.pass_phase-3.ensures.along
+    let none = none_over c.args.app.now c.well_formed-2.ensures c.args.limits.now c.args.until c.args.kernel.now c.args.task c.requires.runs c.requires.decides (omega (arith, c.if-kernel-gt0.false)) (sym c.if-is_some.ensures) in
+    in_three (omega arith) none c.pass_phase.ensures.along c.pass_phase.ensures.going c.pass_phase-2.ensures.along c.pass_phase-2.ensures.going c.pass_phase-3.ensures.along
 
 pub returns-clause-along : goal.returns-clause-along
 returns-clause-along c =
     let left = c.saturating_sub.ensures in
     let three = c.if-saturating_sub-lt3.false in
-    in_three (omega arith) c.pass_phase.ensures.along c.pass_phase-2.ensures.along c.pass_phase-3.ensures.along
+    let none = none_over c.args.app.now c.well_formed-2.ensures c.args.limits.now c.args.until c.args.kernel.now c.args.task c.requires.runs c.requires.decides (omega (arith, c.if-kernel-gt0.false)) (sym c.if-is_some.ensures) in
+    in_three (omega arith) none c.pass_phase.ensures.along c.pass_phase.ensures.going c.pass_phase-2.ensures.along c.pass_phase-2.ensures.going c.pass_phase-3.ensures.along
+
+pub returns-clause-going : goal.returns-clause-going
+returns-clause-going c = λ plan f.
+    let left = c.saturating_sub.ensures in
+    let three = c.if-saturating_sub-lt3.false in
+    let none = none_over c.args.app.now c.well_formed-2.ensures c.args.limits.now c.args.until c.args.kernel.now c.args.task c.requires.runs c.requires.decides (omega (arith, c.if-kernel-gt0.false)) (sym c.if-is_some.ensures) in
+    c.pass_phase-3.ensures.going plan (third_soon (omega arith) none c.pass_phase.ensures.along c.pass_phase.ensures.going c.pass_phase-2.ensures.along c.pass_phase-2.ensures.going plan f)
 
 pub returns-clause-leaving : goal.returns-clause-leaving
 returns-clause-leaving c = (c.in-Await.object, c.in-Await.access, c.pass_phase-3.ensures.call Leave (sym c.phase.ensures ∙ same_phase c.phase.result Leave c.if-ne.ensures))

@@ -2,7 +2,7 @@ use Rattle.std.proofs.Common.{subst, arith}
 use Rattle.ops.specs.Can.{CanGoOn}
 use Rattle.kernel.proofs.Bounds.{below_limits, can_go_on, held_in_call}
 use Rattle.machine.proofs.Either.{steps_are}
-use Rattle.kernel.proofs.InCall.{holds_silently, steps_held, still_in_call, stepped_held, told_nothing}
+use Rattle.kernel.proofs.InCall.{holds_silently, not_over_after, steps_held, still_in_call, stepped_held, told_nothing}
 use Rattle.kernel.proofs.in_call.step_in_call.Goals as goal
 
 pub go_on_silently-requires-clause-can : goal.go_on_silently-requires-clause-can
@@ -41,6 +41,12 @@ returns-clause-silent c = λ s h.
     let held = c.go_on_silently.ensures.held in
     told_nothing c.args.app.now c.args.machine.now c.args.task c.args.object c.args.access c.args.phase c.requires.call c.go_on_silently.new.machine
     (λ log s h. c.go_on_silently.ensures.does c.args.app.now c.requires.call.ticks log s h) (omega arith) s h
+
+pub returns-clause-on : goal.returns-clause-on
+returns-clause-on c = λ s h.
+    let held = c.go_on_silently.ensures.held in
+    not_over_after c.args.app.now c.args.machine.now c.args.task c.args.object c.args.access c.args.phase c.requires.call c.go_on_silently.new.machine
+    (λ log s h. c.go_on_silently.ensures.does c.args.app.now c.requires.call.ticks log s h) (omega arith) s h c.requires.silent c.go_on_silently.ensures.remains.current
 
 pub returns-clause-call : goal.returns-clause-call
 returns-clause-call c = λ next e.

@@ -1,0 +1,166 @@
+-- A phase of a call in which it tells nothing ends neither a task nor the run.
+use Rattle.std.proofs.Common.{◌≡◌, ◌||◌, ℕ, true, false, eqb, ltb, List, [], ◌∷◌, ◌++◌, Option, Some, None, refl, ap, sym, subst, ◌∙◌}
+use Rattle.std.specs.Option.{is_some}
+use Rattle.model.specs.declared.event.End.{End}
+use Rattle.model.specs.declared.op.Access.{Access}
+use Rattle.model.specs.declared.op.Op.TheVariants.{Await}
+use Rattle.model.specs.declared.call.CallProgress.{CallProgress}
+use Rattle.model.specs.declared.call.Phase.{Phase}
+use Rattle.model.specs.declared.call.Phase.TheVariants.{Start, Try, Decide, Place, Unlock, Leave, Final}
+use Rattle.model.specs.declared.call.WaitList.TheVariants.{ToReceive, ToSend}
+use Rattle.model.specs.Application.{Application, op_at}
+use Rattle.model.specs.State.{State, Task, Waiting, task_at, status_at, progress_at, call_at, object_at, with_task, with_call, for_one, for_each, no_task}
+use Rattle.model.specs.Order.{tasks_of}
+use Rattle.model.specs.Switching.{is_ready, is_same, is_off, choice, make_ready, to_back, dispatch, choose, settle, is_held, unless_held}
+use Rattle.model.specs.Waiting.{awakened, is_expired, wait_in, unlock_object, unlock}
+use Rattle.model.specs.Objects.{list_for, possible}
+use Rattle.model.specs.Mutexes.{set_priority, lend, inherits, inherit_from, inherit}
+use Rattle.model.specs.Calls.{decide, await}
+use Rattle.model.specs.Step.{is_ended, act_current, act_if, before_step, step}
+use Rattle.model.specs.Run.{are_all_ended, is_stuck}
+use Rattle.model.proofs.Sorting.{by_test}
+use Rattle.model.proofs.Tables.{each-set}
+use Rattle.soundness.proofs.Frames.{keeps-inherit, keeps-all_ready, keeps-settle, keeps-unless_held}
+use Rattle.soundness.proofs.Passing.{acts_calm}
+use Rattle.ops.specs.InCall.{IsSilent}
+use Rattle.kernel.specs.Over.{is_over}
+use Rattle.kernel.proofs.Ending.{neither_of, none_of, not_all_ended, runs_on, some_on}
+
+-- Whoever wasn't Ended isn't.
+abbrev EndsNobody : State → State → Type 0
+EndsNobody old new = (i : ℕ) → is_ended (status_at old i) ≡ false → is_ended (status_at new i) ≡ false
+
+on-with_task : (s : State) (i : ℕ) (t : Task) → (is_ended (status_at s i) ≡ false → is_ended t.status ≡ false) → EndsNobody s (with_task i t s)
+on-with_task s i t own j on =
+    let P : ℕ → Task → Type 0 = λ k u. k ≡ j → is_ended u.status ≡ false in
+    let before : (k : ℕ) → k ≡ j → is_ended (status_at s k) ≡ false = λ k e. subst (λ (m : ℕ). is_ended (status_at s m) ≡ false) (sym e) on in
+    each-set no_task P s.tasks i t (λ e. own (before i e)) before j refl
+
+on-with_call : (s : State) (i : ℕ) (call : CallProgress) → EndsNobody s (with_call i call s)
+on-with_call s i call = on-with_task s i (record (task_at s i) { progress = record (progress_at s i) { call = call } }) (λ on. on)
+
+on-make_ready : (s : State) (i : ℕ) → EndsNobody s (make_ready i s)
+on-make_ready s i = on-with_task s i (record (task_at s i) { status = _ }) (λ on. refl)
+
+on-all_ready : (js : List ℕ) (s : State) → EndsNobody s (for_each make_ready js s)
+on-all_ready [] s j on = on
+on-all_ready (i ∷ js) s j on = on-all_ready js (make_ready i s) j (on-make_ready s i j on)
+
+-- ---- one who will wait for a mutex lends its priority
+
+on-to_back : (s : State) (i : ℕ) → EndsNobody s (to_back i s)
+unfolding to_back
+on-to_back s i j on = by_test (is_ready s i) (λ t. rw t (on-make_ready s i j on)) (λ t. rw t on)
+
+on-set_priority : (s : State) (i priority : ℕ) → EndsNobody s (set_priority i priority s)
+unfolding set_priority
+on-set_priority s i priority j on = by_test (eqb (task_at s i).priority priority)
+    (λ t. rw t on)
+    (λ t. let u : Task = record (task_at s i) { priority = priority } in rw t (on-to_back (with_task i u s) i j (on-with_task s i u (λ o. o) j on)))
+
+on-lend : (s : State) (priority holder : ℕ) → EndsNobody s (lend priority holder s)
+on-lend s priority holder j on = by_test (ltb (task_at s holder).priority priority)
+    (λ t. rw t (on-set_priority s holder priority j on))
+    (λ t. rw t on)
+
+on-inherit : (s : State) (i o : ℕ) → EndsNobody s (inherit i o s)
+unfolding inherit
+on-inherit s i o j on = by_holder (object_at s o).holder where
+  by_holder : (holder : Option ℕ) → is_ended (status_at (for_one (inherit_from i) holder s) j) ≡ false
+  by_holder None = on
+  by_holder (Some holder) =
+      let call : CallProgress = record (call_at s i) { inherited = inherits i holder s } in
+      on-lend (with_call i call s) (task_at s i).priority holder j (on-with_call s i call j on)
+
+-- ---- the phases
+
+on-wait_in : (s : State) (i o : ℕ) (a : Access) → EndsNobody s (wait_in i (list_for o a) s)
+unfolding wait_in
+on-wait_in s i o a j on =
+    let t : State = with_call i (record (call_at s i) { waits = true }) s in
+    on-with_task t i (record (task_at t i) { status = Waiting _ }) (λ o. refl) j (on-with_call s i (record (call_at s i) { waits = true }) j on)
+
+on-decide : (s : State) (i o : ℕ) (a : Access) → EndsNobody s (decide i o a s)
+unfolding decide
+on-decide s i o a j on = by_test (possible s o a || is_expired s i)
+    (λ t. rw t (on-with_call s i (record (call_at s i) { phase = Unlock }) j on))
+    (λ t.
+    let waits : State = wait_in i (list_for o a) (inherit i o s) in
+    rw t (on-with_call waits i (record (call_at waits i) { phase = Place }) j (on-wait_in (inherit i o s) i o a j (on-inherit s i o j on))))
+
+on-unlock : (s : State) → EndsNobody s (unlock s)
+unfolding unlock
+on-unlock s j on = by_locked s.locked where
+  by_locked : (o : Option ℕ) → is_ended (status_at (for_one unlock_object o s) j) ≡ false
+  by_locked None = on
+  by_locked (Some o) = on-all_ready (tasks_of (awakened s (ToReceive o)) ++ tasks_of (awakened s (ToSend o))) (record s { locked = None }) j on
+
+on-await : (app : Application) (i o : ℕ) (a : Access) (ticks : Option ℕ) (phase : Phase) (s : State) → IsSilent phase → EndsNobody s (await app i o a ticks phase s)
+on-await app i o a ticks Start s silent = absurd silent
+on-await app i o a ticks Try s silent = absurd silent
+on-await app i o a ticks Decide s silent = on-decide s i o a
+on-await app i o a ticks Place s silent = on-with_call s i (record (call_at s i) { phase = Unlock })
+on-await app i o a ticks Unlock s silent = λ j on. on-with_call (unlock s) i (record (call_at (unlock s) i) { phase = Leave }) j (on-unlock s j on)
+on-await app i o a ticks Leave s silent = absurd silent
+on-await app i o a ticks Final s silent = absurd silent
+
+stopped-decide : (s : State) (i o : ℕ) (a : Access) → (decide i o a s).stopped ≡ s.stopped
+unfolding decide wait_in
+stopped-decide s i o a = by_test (possible s o a || is_expired s i) (λ t. rw t refl) (λ t. rw t (keeps-inherit i o s).stopped)
+
+stopped-unlock : (s : State) → (unlock s).stopped ≡ s.stopped
+unfolding unlock
+stopped-unlock s = by_locked s.locked where
+  by_locked : (o : Option ℕ) → (for_one unlock_object o s).stopped ≡ s.stopped
+  by_locked None = refl
+  by_locked (Some o) = (keeps-all_ready (tasks_of (awakened s (ToReceive o)) ++ tasks_of (awakened s (ToSend o))) (record s { locked = None })).stopped
+
+stopped-await : (app : Application) (i o : ℕ) (a : Access) (ticks : Option ℕ) (phase : Phase) (s : State) → IsSilent phase → (await app i o a ticks phase s).stopped ≡ s.stopped
+stopped-await app i o a ticks Start s silent = absurd silent
+stopped-await app i o a ticks Try s silent = absurd silent
+stopped-await app i o a ticks Decide s silent = stopped-decide s i o a
+stopped-await app i o a ticks Place s silent = refl
+stopped-await app i o a ticks Unlock s silent = stopped-unlock s
+stopped-await app i o a ticks Leave s silent = absurd silent
+stopped-await app i o a ticks Final s silent = absurd silent
+
+-- ---- the end of the step
+
+on-choose : (s : State) → EndsNobody s (choose s)
+unfolding choose dispatch
+on-choose s j on = by_test (is_same (choice s) s.current) (λ t. rw t on) (λ t. rw t on)
+
+on-settle : (s : State) → EndsNobody s (settle s)
+unfolding settle
+on-settle s j on = by_test (is_off s s.current) (λ t. rw t (on-choose s j on)) (λ t. rw t on)
+
+on-unless_held : (s : State) → EndsNobody s (unless_held settle s)
+on-unless_held s j on = by_test (is_held s) (λ t. rw t on) (λ t. rw t (on-settle s j on))
+
+-- ---- the step
+
+module _ (app : Application) (task object : ℕ) (access : Access) (ticks : Option ℕ) (phase : Phase) (silent : IsSilent phase) where
+  acts_silently : (s : State) → s.current ≡ Some task → op_at app task (progress_at s task).op_index ≡ Some (Await object access ticks) → (call_at s task).phase ≡ phase → s.suspensions ≡ 0
+      → act_current app s.current s ≡ await app task object access ticks phase s
+  acts_silently s runs is reached none =
+      ap (λ c. act_current app c s) runs
+      ∙ ap (λ o. act_if app task o s) is
+      ∙ acts_calm app task (Await object access ticks) s none refl (λ e. absurd (cc))
+      ∙ ap (λ p. await app task object access ticks p s) reached
+
+  -- a run that isn't over before such a step isn't over after it
+  pub not_over_silently : (s : State) → s.current ≡ Some task → op_at app task (progress_at s task).op_index ≡ Some (Await object access ticks) → (call_at s task).phase ≡ phase → s.suspensions ≡ 0
+      → (step app [] s).current ≡ Some task → is_over app s ≡ false → is_over app (step app [] s) ≡ false
+  unfolding step before_step
+  not_over_silently s runs is reached none still going =
+      let begun : State = record s { log = [] } in
+      let acted : State = act_current app begun.current begun in
+      let does : acted ≡ await app task object access ticks phase begun = acts_silently begun runs is reached none in
+      let ended : State = step app [] s in
+      let stopped : ended.stopped ≡ s.stopped = (keeps-unless_held settle acted keeps-settle).stopped ∙ ap (λ (x : State). x.stopped) does ∙ stopped-await app task object access ticks phase begun silent in
+      let one = some_on s.tasks (neither_of (is_some s.stopped) (are_all_ended s) (is_stuck app s) going).1 in
+      let on : is_ended (status_at acted one.0) ≡ false = subst (λ (x : State). is_ended (status_at x one.0) ≡ false) (sym does) (on-await app task object access ticks phase begun silent one.0 one.1) in
+      none_of (is_some ended.stopped) (are_all_ended ended) (is_stuck app ended)
+      (ap (λ (o : Option End). is_some o) stopped ∙ (neither_of (is_some s.stopped) (are_all_ended s) (is_stuck app s) going).0)
+      (not_all_ended ended.tasks one.0 (on-unless_held acted one.0 on))
+      (runs_on app ended task still)
