@@ -4,8 +4,8 @@
     campaigns.py [PROGRAM [OTHER]]
 
 Prints for each campaign and number of workers the best and the median wall time of nine runs, the processor time of the
-best, and the peak memory. The runs take turns. The program is crates/rtosim/out/rtosim, or PROGRAM. With OTHER, the
-same of that program with one worker.
+best, and the peak memory. The runs take turns. The program is crates/rtosim/out/rtosim, or PROGRAM; large pages are asked for,
+as bin/rtosim does. With OTHER, the same of that program with one worker.
 
 The campaigns: `dense`, 5,000 rows of tasks that call a queue and a mutex in nearly each step, each row to the step limit
 of 5,000; `computing`, the same with more `work` between the calls, and 2,000 rows of 2,000 steps; `million`, 1,000,000
@@ -87,6 +87,7 @@ def measure(name, path, programs):
 
 
 def main():
+    os.environ["GLIBC_TUNABLES"] = "glibc.malloc.hugetlb=1"
     ctypes.CDLL(None).prctl(PR_SET_CHILD_SUBREAPER, 1, 0, 0, 0)
     programs = sys.argv[1:3] or [PROGRAM]
     texts = {"dense": producer_and_consumer(5000, 2), "computing": producer_and_consumer(2000, 200), "million": million_points()}

@@ -4,10 +4,10 @@
     run.py [--instructions] [PROGRAM [OTHER]]
 
 Prints for each file the best and the median wall time of fifteen runs, the steps a second of the best, and the peak
-memory. The program is crates/rtosim/out/rtosim, as bin/rtosim builds it, or PROGRAM. With OTHER, the runs of the two
-take turns; each file has PROGRAM's times as multiples of OTHER's, and the last line the geometric means of these. With
---instructions, each file has the instructions a step too, as valgrind counts them over the whole program: they are the
-same on each run, where times of a busy machine aren't."""
+memory. The program is crates/rtosim/out/rtosim, as bin/rtosim builds it, or PROGRAM; large pages are asked for, as bin/rtosim
+does. With OTHER, the runs of the two take turns; each file has PROGRAM's times as multiples of OTHER's, and the last line the
+geometric means of these. With --instructions, each file has the instructions a step too, as valgrind counts them over the whole
+program: they are the same on each run, where times of a busy machine aren't."""
 import ctypes
 import math
 import os
@@ -68,6 +68,7 @@ def line_of(program, path, best, median, with_instructions):
 
 
 def main():
+    os.environ["GLIBC_TUNABLES"] = "glibc.malloc.hugetlb=1"
     ctypes.CDLL(None).prctl(PR_SET_CHILD_SUBREAPER, 1, 0, 0, 0)
     words = sys.argv[1:]
     with_instructions = "--instructions" in words
