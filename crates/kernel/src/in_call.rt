@@ -84,10 +84,35 @@ fn step_leaving<L: Log>(machine: &mut Machine, app: &App, task: TaskId, log: &mu
     machine.steps += 1;
 }
 
-/// One step along a run that is under way and not over, in which the running task's call on an object goes on in this phase, if it has
-/// come to it. Neither has the plan a point at that step, nor is a limit reached before it. The run isn't over then either.
+/// One step along a run that is under way and not over, in which the running task's call on an object goes on in this phase. Neither has
+/// the plan a point at that step, nor is a limit reached before it. The run isn't over then either.
 #[inline(always)]
 fn pass_phase(
+    kernel: &mut Machine,
+    app: &App,
+    points: &[Point],
+    task: TaskId,
+    call: &(ObjectId, Access),
+    phase: Phase,
+    limits: &Limits,
+)
+    requires going { IsGoing app.now limits.now (kernel.old.steps + 1) kernel.old points.now }
+    requires silent { IsSilent phase }
+    requires call { IsInPhase app.now kernel.old task call.now.0 call.now.1 phase }
+    ensures along { GoesFurther app.now limits.now (kernel.old.steps + 1) kernel.old kernel.new [] [] }
+    ensures going { (plan : List definitions.Point) → IsGoing app.now limits.now (kernel.old.steps + 1) kernel.old plan
+        → is_over app.now (state_after app.now plan kernel.new.steps) ≡ false }
+    ensures call { (next : declared.Phase) → (progress_in kernel.new.progress task).call.phase ≡ next
+        → IsInPhase app.now kernel.new task call.now.0 call.now.1 next }
+{
+    app.well_formed();
+    limits.well_formed();
+    step_in_call(kernel, app, task, call.0, call.1, phase);
+}
+
+/// The same where the call has come to this phase.
+#[inline(always)]
+fn pass_if_next(
     kernel: &mut Machine,
     app: &App,
     points: &[Point],
@@ -106,12 +131,10 @@ fn pass_phase(
     ensures call { (reached : declared.Phase) → (progress_in kernel.new.progress task).call.phase ≡ reached
         → IsInPhase app.now kernel.new task call.now.0 call.now.1 reached }
 {
-    app.well_formed();
-    limits.well_formed();
     if phase(kernel, task) != next {
         return;
     }
-    step_in_call(kernel, app, task, call.0, call.1, next);
+    pass_phase(kernel, app, points, task, call, next, limits);
 }
 
 /// Does the steps of the running task's call, which has come to decide, until it lets go of the scheduler next, and answers the task
@@ -146,8 +169,8 @@ pub(crate) fn pass_call(
     };
     let call = (object, access);
     pass_phase(kernel, app, points, task, &call, Phase::Decide, limits);
-    pass_phase(kernel, app, points, task, &call, Phase::Place, limits);
-    pass_phase(kernel, app, points, task, &call, Phase::Unlock, limits);
+    pass_if_next(kernel, app, points, task, &call, Phase::Place, limits);
+    pass_if_next(kernel, app, points, task, &call, Phase::Unlock, limits);
     if phase(kernel, task) != Phase::Leave {
         return None;
     }

@@ -64,41 +64,41 @@ pass_phase-requires-clause-going c =
     let none = none_over c.args.app.now c.well_formed-2.ensures c.args.limits.now c.args.until c.args.kernel.now c.args.task c.requires.runs c.requires.decides (omega (arith, c.if-kernel-gt0.false)) (sym c.if-is_some.ensures) in
     going_soon (omega arith) (record { free = c.requires.free; going = none c.args.points.now c.requires.free })
 
-pub pass_phase-requires-2-clause-going : goal.pass_phase-requires-2-clause-going
-pass_phase-requires-2-clause-going c =
+pub pass_if_next-requires-clause-going : goal.pass_if_next-requires-clause-going
+pass_if_next-requires-clause-going c =
     let left = c.saturating_sub.ensures in
     let three = c.if-saturating_sub-lt3.false in
     let far = c.pass_phase.ensures.along.far (omega arith) in
     let none = none_over c.args.app.now c.well_formed-2.ensures c.args.limits.now c.args.until c.args.kernel.now c.args.task c.requires.runs c.requires.decides (omega (arith, c.if-kernel-gt0.false)) (sym c.if-is_some.ensures) in
     going_soon (omega arith) (going_second (omega arith) none c.pass_phase.ensures.along c.pass_phase.ensures.going c.args.points.now c.requires.free)
 
-pub pass_phase-requires-3-clause-going : goal.pass_phase-requires-3-clause-going
-pass_phase-requires-3-clause-going c =
+pub pass_if_next-requires-2-clause-going : goal.pass_if_next-requires-2-clause-going
+pass_if_next-requires-2-clause-going c =
     let left = c.saturating_sub.ensures in
     let three = c.if-saturating_sub-lt3.false in
     let none = none_over c.args.app.now c.well_formed-2.ensures c.args.limits.now c.args.until c.args.kernel.now c.args.task c.requires.runs c.requires.decides (omega (arith, c.if-kernel-gt0.false)) (sym c.if-is_some.ensures) in
-    third_soon (omega arith) none c.pass_phase.ensures.along c.pass_phase.ensures.going c.pass_phase-2.ensures.along c.pass_phase-2.ensures.going c.args.points.now c.requires.free
+    third_soon (omega arith) none c.pass_phase.ensures.along c.pass_phase.ensures.going c.pass_if_next.ensures.along c.pass_if_next.ensures.going c.args.points.now c.requires.free
 
 pub returns-then-ne-clause-along : goal.returns-then-ne-clause-along
 returns-then-ne-clause-along c =
     let left = c.saturating_sub.ensures in
     let three = c.if-saturating_sub-lt3.false in
     let none = none_over c.args.app.now c.well_formed-2.ensures c.args.limits.now c.args.until c.args.kernel.now c.args.task c.requires.runs c.requires.decides (omega (arith, c.if-kernel-gt0.false)) (sym c.if-is_some.ensures) in
-    in_three (omega arith) none c.pass_phase.ensures.along c.pass_phase.ensures.going c.pass_phase-2.ensures.along c.pass_phase-2.ensures.going c.pass_phase-3.ensures.along
+    in_three (omega arith) none c.pass_phase.ensures.along c.pass_phase.ensures.going c.pass_if_next.ensures.along c.pass_if_next.ensures.going c.pass_if_next-2.ensures.along
 
 pub returns-clause-along : goal.returns-clause-along
 returns-clause-along c =
     let left = c.saturating_sub.ensures in
     let three = c.if-saturating_sub-lt3.false in
     let none = none_over c.args.app.now c.well_formed-2.ensures c.args.limits.now c.args.until c.args.kernel.now c.args.task c.requires.runs c.requires.decides (omega (arith, c.if-kernel-gt0.false)) (sym c.if-is_some.ensures) in
-    in_three (omega arith) none c.pass_phase.ensures.along c.pass_phase.ensures.going c.pass_phase-2.ensures.along c.pass_phase-2.ensures.going c.pass_phase-3.ensures.along
+    in_three (omega arith) none c.pass_phase.ensures.along c.pass_phase.ensures.going c.pass_if_next.ensures.along c.pass_if_next.ensures.going c.pass_if_next-2.ensures.along
 
 pub returns-clause-going : goal.returns-clause-going
 returns-clause-going c = λ plan f.
     let left = c.saturating_sub.ensures in
     let three = c.if-saturating_sub-lt3.false in
     let none = none_over c.args.app.now c.well_formed-2.ensures c.args.limits.now c.args.until c.args.kernel.now c.args.task c.requires.runs c.requires.decides (omega (arith, c.if-kernel-gt0.false)) (sym c.if-is_some.ensures) in
-    c.pass_phase-3.ensures.going plan (third_soon (omega arith) none c.pass_phase.ensures.along c.pass_phase.ensures.going c.pass_phase-2.ensures.along c.pass_phase-2.ensures.going plan f)
+    c.pass_if_next-2.ensures.going plan (third_soon (omega arith) none c.pass_phase.ensures.along c.pass_phase.ensures.going c.pass_if_next.ensures.along c.pass_if_next.ensures.going plan f)
 
 pub returns-clause-leaving : goal.returns-clause-leaving
-returns-clause-leaving c = (c.in-Await.object, c.in-Await.access, c.pass_phase-3.ensures.call Leave (sym c.phase.ensures ∙ same_phase c.phase.result Leave c.if-ne.ensures))
+returns-clause-leaving c = (c.in-Await.object, c.in-Await.access, c.pass_if_next-2.ensures.call Leave (sym c.phase.ensures ∙ same_phase c.phase.result Leave c.if-ne.ensures))

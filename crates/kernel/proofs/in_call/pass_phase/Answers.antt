@@ -1,6 +1,5 @@
-use Rattle.std.proofs.Common.{◌+◌, ◌∙◌, [], refl, sym, arith}
-use Rattle.kernel.proofs.Along.{ends_not, further_nowhere, goes_further, still_going}
-use Rattle.kernel.proofs.InCall.{same_phase}
+use Rattle.std.proofs.Common.{◌+◌, [], sym, arith}
+use Rattle.kernel.proofs.Along.{ends_not, goes_further, still_going}
 use Rattle.kernel.proofs.Running.{can_step}
 use Rattle.kernel.proofs.in_call.pass_phase.Goals as goal
 
@@ -8,15 +7,6 @@ pub step_in_call-requires-clause-going : goal.step_in_call-requires-clause-going
 step_in_call-requires-clause-going c =
     let going = c.requires.going in
     can_step c.args.app.now c.well_formed-2.ensures c.args.points.now c.args.limits.now c.well_formed-3.ensures c.args.kernel.now going.free.way (ends_not (omega arith) going)
-
-pub step_in_call-requires-clause-call : goal.step_in_call-requires-clause-call
-step_in_call-requires-clause-call c = c.requires.call c.args.next (sym c.phase.ensures ∙ same_phase c.phase.result c.args.next c.if-ne.ensures)
-
-pub returns-then-ne-clause-along : goal.returns-then-ne-clause-along
-returns-then-ne-clause-along c = further_nowhere refl
-
-pub returns-then-ne-clause-going : goal.returns-then-ne-clause-going
-returns-then-ne-clause-going c = λ plan g. g.going
 
 pub returns-clause-along : goal.returns-clause-along
 returns-clause-along c =
