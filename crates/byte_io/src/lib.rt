@@ -6,6 +6,7 @@ mod buffer;
 mod line;
 mod numeral;
 mod page;
+pub mod place;
 mod put;
 mod read;
 mod shown;

@@ -1,14 +1,18 @@
 //! A page: bytes that wait, to be put with one call.
-ghost use Rattle.std.specs.Prelude.{◌≡◌, ◌<◌, ◌≤◌, ◌+◌, ◌↔◌, ◌++◌, ◌∷◌, [], length, take, decimal, codes, IsTrue};
+ghost use Rattle.std.specs.Prelude.{◌≡◌, ◌≤◌, ◌+◌, ◌↔◌, ◌++◌, [], length, take, decimal, codes, IsTrue};
 
 use crate::numeral::Numeral;
+use crate::place::{put_array, put_front, put_number, put_numeral, put_text};
 use std::marker::Model;
 
 /// At most `SIZE` bytes. It stands on the stack and takes no memory.
+///
+/// What adds many pieces in turn may put them into the bytes by itself, from where those that are used end, and say then
+/// where they end. So it can keep that place in a variable (`place`).
 #[derive(Drop)]
 pub struct Page {
-    bytes: [u8; 32768],
-    used: usize,
+    pub bytes: [u8; 32768],
+    pub used: usize,
 }
 
 impl Model for Page {
@@ -19,67 +23,6 @@ impl Model for Page {
     ghost view = { λ p. take p.used p.bytes };
 
     ghost invariant = { λ p. p.used ≤ 32768 };
-}
-
-// Copies the text into the page from `at` on, and answers where it ends.
-#[inline]
-fn copy_to(page: &mut [u8], at: usize, text: &[u8]) -> usize
-    requires { at + length text.now ≤ length page.old }
-    ensures end { result ≡ at + length text.now }
-    ensures text { take result page.new ≡ take at page.old ++ text.now }
-{
-    let end = at + text.len();
-    page[at..end].copy_from_slice(text);
-    end
-}
-
-// Makes the place equal to the text.
-//
-// As an assignment of an array this is a few moves of whole registers. `copy_from_slice` first compares the two places, since
-// it doesn't know that they don't overlap.
-#[inline]
-fn assign<const N: usize>(place: &mut [u8], text: &[u8; N])
-    requires { length place.old ≡ N }
-    ensures { place.new ≡ text.now }
-{
-    if let Some(array) = place.as_mut_array::<N>() {
-        *array = *text;
-    }
-}
-
-// Copies all bytes of the text into the page from `at` on, of which so many count, and answers where these end.
-#[inline]
-fn copy_whole<const N: usize>(page: &mut [u8], at: usize, text: &[u8; N], count: usize) -> usize
-    requires room { at + N ≤ length page.old }
-    requires count { count ≤ N }
-    ensures end { result ≡ at + count }
-    ensures text { take result page.new ≡ take at page.old ++ take count text.now }
-{
-    assign(&mut page[at..at + N], text);
-    at + count
-}
-
-// Writes the byte into the page at `at`, and answers the place after it.
-#[inline]
-fn put_byte(page: &mut [u8], at: usize, byte: u8) -> usize
-    requires { at < length page.old }
-    ensures end { result ≡ at + 1 }
-    ensures text { take result page.new ≡ take at page.old ++ byte ∷ [] }
-{
-    page[at] = byte;
-    at + 1
-}
-
-// Writes the digits and a byte after them into the page from `at` on, and answers where they end.
-#[inline]
-fn put_numeral(page: &mut [u8], at: usize, numeral: Numeral<'_>, after: u8) -> usize
-    requires { at + 16 ≤ length page.old }
-    ensures end { result ≤ at + 12 }
-    ensures text { take result page.new ≡ take at page.old ++ numeral.entry ++ after ∷ [] }
-{
-    let at = copy_whole(page, at, numeral.front, numeral.len);
-    let at = put_byte(page, at, numeral.last);
-    put_byte(page, at, after)
 }
 
 impl Page {
@@ -133,7 +76,7 @@ impl Page {
         ensures text { self.new ≡ self.old ++ text.now }
         ensures size { length self.new ≡ length self.old + length text.now }
     {
-        self.used = copy_to(&mut self.bytes, self.used, text);
+        self.used = put_text(&mut self.bytes, self.used, text);
     }
 
     /// Adds so many bytes from the front of the text. The page needs room for all of the text, since all of it is copied.
@@ -144,7 +87,7 @@ impl Page {
         ensures text { self.new ≡ self.old ++ take count text.now }
         ensures size { length self.new ≡ length self.old + count }
     {
-        self.used = copy_whole(&mut self.bytes, self.used, text, count);
+        self.used = put_front(&mut self.bytes, self.used, text, count);
     }
 
     /// Adds all of the text. Its length is a constant, so this is a few moves of whole registers.
@@ -154,7 +97,7 @@ impl Page {
         ensures text { self.new ≡ self.old ++ text.now }
         ensures size { length self.new ≡ length self.old + N }
     {
-        self.push_front(text, N);
+        self.used = put_array(&mut self.bytes, self.used, text);
     }
 
     /// Adds two numbers, and a space after each.
@@ -188,7 +131,6 @@ impl Page {
         ensures text { self.new ≡ self.old ++ decimal number }
         ensures size { length self.new ≤ length self.old + 10 }
     {
-        let mut buffer = itoa::Buffer::new();
-        self.push_text(buffer.format(number).as_bytes());
+        self.used = put_number(&mut self.bytes, self.used, number);
     }
 }

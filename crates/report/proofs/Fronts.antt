@@ -1,7 +1,7 @@
 -- Labels.
-use Rattle.std.proofs.Common.{◌≡◌, ◌++◌, ℕ, zero, suc, List, [], ◌∷◌, length, get_or, set, drop, ap, ◌∙◌, inl, inr, arith, replicate, refl}
+use Rattle.std.proofs.Common.{◌≡◌, ◌≤◌, ◌++◌, ℕ, zero, suc, List, [], ◌∷◌, length, get_or, set, take, drop, ap, sym, ◌∙◌, inl, inr, arith, replicate, refl}
 use Rattle.std.proofs.Math.Seq.{drop-append_seam}
-use Rattle.std.proofs.lemmas.List.{get_or-replicate, get_or_past, length-replicate}
+use Rattle.std.proofs.lemmas.List.{get_or-replicate, get_or_past, length-replicate, length-take}
 use Rattle.std.proofs.lemmas.Bool.{cases_lt}
 use Rattle.model.specs.Application.{Application}
 use Rattle.report.specs.declared.label.Label.{Label}
@@ -48,10 +48,11 @@ set_kept P d x (y ∷ ys) (suc i) here holds zero = holds zero
 set_kept P d x (y ∷ ys) (suc i) here holds (suc place) =
     set_kept (λ p. P (suc p)) d x ys i here (λ p. holds (suc p)) place
 
--- what the bytes after the beginning of a page are
-pub spelled : (page start bytes front : List ℕ) → start ≡ page → bytes ≡ page ++ front → drop (length start) bytes ≡ front
-spelled page start bytes front begins ends =
-    ap (λ xs. drop (length xs) bytes) begins ∙ ap (drop (length page)) ends ∙ drop-append_seam page front
+-- what stands between the two places of a text that was put into some bytes
+pub spelled : (before bytes front : List ℕ) (at : ℕ) → at ≤ length before → bytes ≡ take at before ++ front → drop at bytes ≡ front
+spelled before bytes front at within put =
+    let begins : length (take at before) ≡ at = omega (arith, length-take at before, within) in
+    ap (drop at) put ∙ ap (λ n. drop n (take at before ++ front)) (sym begins) ∙ drop-append_seam (take at before) front
 
 module _ (app : Application) (runs marks : List Label) (calls isrs : List OpLabel) (right : AreLabels app runs marks calls isrs) where
   pub run_kept : (task : ℕ) (label : Label) → IsLabel label (run_front app task) → AreLabels app (set runs task label) marks calls isrs

@@ -1,13 +1,13 @@
 //! The fronts of an application's lines, each spelled once.
-ghost use Rattle.std.specs.Prelude.{◌≡◌, ◌<◌, ◌≤◌, ◌+◌, ◌++◌, length};
+ghost use Rattle.std.specs.Prelude.{◌≡◌, ◌<◌, ◌≤◌, ◌+◌, ◌++◌, length, take};
 ghost use Rattle.report.specs.Text.{call_front, isr_front};
 ghost use Rattle.report.specs.Fronts.{mark_front, isr_mark_front, run_front};
 
 use crate::label::{Label, OpLabel};
 use crate::text::{
-    push_call_front, push_isr_front, push_isr_mark_front, push_mark_front, push_run_front,
+    put_call_front, put_isr_front, put_isr_mark_front, put_mark_front, put_run_front,
 };
-use byte_io::Page;
+use byte_io::place::put_front;
 use model::{App, HandlerId, TaskId};
 use std::marker::Model;
 
@@ -19,7 +19,7 @@ const ISRS: usize = 128;
 /// The fronts of lines of an application: that of a task that runs and of a task's marks at the task's number, and that of
 /// a call, or of a handler's op, at a place that several share, so it says which op it is of.
 ///
-/// Each is right at all times. One that isn't there is spelled into the page, and kept. They stand where this value stands,
+/// Each is right at all times. One that isn't there is spelled, and kept. They stand where this value stands,
 /// and take no memory.
 #[derive(Drop)]
 pub(crate) struct Labels<'a> {
@@ -79,138 +79,150 @@ impl<'a> Labels<'a> {
         self.app
     }
 
-    /// Adds the whole of what the line of a task that runs says, with its end.
+    /// Puts the whole of what the line of a task that runs says, with its end.
     #[inline]
-    pub(crate) fn push_run(&mut self, page: &mut Page, task: TaskId)
-        requires { length page.old + 48 ≤ Page.SIZE }
+    pub(crate) fn put_run(&mut self, bytes: &mut [u8], at: usize, task: TaskId) -> usize
+        requires { at + 48 ≤ length bytes.old }
         ensures app { self.new ≡ self.old }
-        ensures text { page.new ≡ page.old ++ run_front self.old task }
-        ensures size { length page.new ≤ length page.old + 48 }
+        ensures text { take result bytes.new ≡ take at bytes.old ++ run_front self.old task }
+        ensures end { result ≤ at + 48 }
     {
         let label = &self.runs[task.number as usize];
         if label.len == 0 {
-            self.spell_run(page, task);
+            self.spell_run(bytes, at, task)
         } else {
-            page.push_front(&label.text, label.len as usize);
+            put_front(bytes, at, &label.text, label.len as usize)
         }
     }
 
-    /// Adds what the line of a mark says before its number.
+    /// Puts what the line of a mark says before its number.
     #[inline]
-    pub(crate) fn push_mark(&mut self, page: &mut Page, task: TaskId)
-        requires { length page.old + 48 ≤ Page.SIZE }
+    pub(crate) fn put_mark(&mut self, bytes: &mut [u8], at: usize, task: TaskId) -> usize
+        requires { at + 48 ≤ length bytes.old }
         ensures app { self.new ≡ self.old }
-        ensures text { page.new ≡ page.old ++ mark_front self.old task }
-        ensures size { length page.new ≤ length page.old + 48 }
+        ensures text { take result bytes.new ≡ take at bytes.old ++ mark_front self.old task }
+        ensures end { result ≤ at + 48 }
     {
         let label = &self.marks[task.number as usize];
         if label.len == 0 {
-            self.spell_mark(page, task);
+            self.spell_mark(bytes, at, task)
         } else {
-            page.push_front(&label.text, label.len as usize);
+            put_front(bytes, at, &label.text, label.len as usize)
         }
     }
 
-    /// Adds what the line of a call says before its answer.
+    /// Puts what the line of a call says before its answer.
     #[inline]
-    pub(crate) fn push_call(&mut self, page: &mut Page, task: TaskId, op_index: u16)
-        requires { length page.old + 48 ≤ Page.SIZE }
+    pub(crate) fn put_call(
+        &mut self,
+        bytes: &mut [u8],
+        at: usize,
+        task: TaskId,
+        op_index: u16,
+    ) -> usize
+        requires { at + 48 ≤ length bytes.old }
         ensures app { self.new ≡ self.old }
-        ensures text { page.new ≡ page.old ++ call_front self.old task op_index }
-        ensures size { length page.new ≤ length page.old + 48 }
+        ensures text { take result bytes.new ≡ take at bytes.old ++ call_front self.old task op_index }
+        ensures end { result ≤ at + 48 }
     {
         let call = &self.calls[call_place(task, op_index)];
         if call.is_of(task.number, op_index) {
-            page.push_front(&call.label.text, call.label.len as usize);
+            put_front(bytes, at, &call.label.text, call.label.len as usize)
         } else {
-            self.spell_call(page, task, op_index);
+            self.spell_call(bytes, at, task, op_index)
         }
     }
 
-    /// Adds what the line of a handler's op says before its answer.
+    /// Puts what the line of a handler's op says before its answer.
     #[inline]
-    pub(crate) fn push_isr(&mut self, page: &mut Page, handler: HandlerId, op_index: u16)
-        requires { length page.old + 48 ≤ Page.SIZE }
+    pub(crate) fn put_isr(
+        &mut self,
+        bytes: &mut [u8],
+        at: usize,
+        handler: HandlerId,
+        op_index: u16,
+    ) -> usize
+        requires { at + 48 ≤ length bytes.old }
         ensures app { self.new ≡ self.old }
-        ensures text { page.new ≡ page.old ++ isr_front self.old handler op_index }
-        ensures size { length page.new ≤ length page.old + 48 }
+        ensures text { take result bytes.new ≡ take at bytes.old ++ isr_front self.old handler op_index }
+        ensures end { result ≤ at + 48 }
     {
         let isr = &self.isrs[isr_place(handler, op_index)];
         if isr.is_of(handler.number, op_index) {
-            page.push_front(&isr.label.text, isr.label.len as usize);
+            put_front(bytes, at, &isr.label.text, isr.label.len as usize)
         } else {
-            self.spell_isr(page, handler, op_index);
+            self.spell_isr(bytes, at, handler, op_index)
         }
     }
 
-    /// Adds what the line of a handler's mark says before its number. It isn't kept.
-    pub(crate) fn push_isr_mark(&self, page: &mut Page, handler: HandlerId)
-        requires { length page.old + 48 ≤ Page.SIZE }
-        ensures text { page.new ≡ page.old ++ isr_mark_front self.now handler }
-        ensures size { length page.new ≤ length page.old + 48 }
+    /// Puts what the line of a handler's mark says before its number. It isn't kept.
+    pub(crate) fn put_isr_mark(&self, bytes: &mut [u8], at: usize, handler: HandlerId) -> usize
+        requires { at + 48 ≤ length bytes.old }
+        ensures text { take result bytes.new ≡ take at bytes.old ++ isr_mark_front self.now handler }
+        ensures end { result ≤ at + 48 }
     {
-        push_isr_mark_front(page, self.app, handler);
+        put_isr_mark_front(bytes, at, self.app, handler)
     }
 
     // Spells and keeps the front of a task that runs.
     #[inline(never)]
-    fn spell_run(&mut self, page: &mut Page, task: TaskId)
-        requires { length page.old + 48 ≤ Page.SIZE }
+    fn spell_run(&mut self, bytes: &mut [u8], at: usize, task: TaskId) -> usize
+        requires { at + 48 ≤ length bytes.old }
         ensures app { self.new ≡ self.old }
-        ensures text { page.new ≡ page.old ++ run_front self.old task }
-        ensures size { length page.new ≤ length page.old + 48 }
+        ensures text { take result bytes.new ≡ take at bytes.old ++ run_front self.old task }
+        ensures end { result ≤ at + 48 }
     {
-        let start = page.bytes().len();
-        push_run_front(page, self.app, task);
-        self.runs[task.number as usize] = Label::of(page.bytes(), start);
+        let end = put_run_front(bytes, at, self.app, task);
+        self.runs[task.number as usize] = Label::of(&bytes[..end], at);
+        end
     }
 
     // Spells and keeps the front of a task's marks.
     #[inline(never)]
-    fn spell_mark(&mut self, page: &mut Page, task: TaskId)
-        requires { length page.old + 48 ≤ Page.SIZE }
+    fn spell_mark(&mut self, bytes: &mut [u8], at: usize, task: TaskId) -> usize
+        requires { at + 48 ≤ length bytes.old }
         ensures app { self.new ≡ self.old }
-        ensures text { page.new ≡ page.old ++ mark_front self.old task }
-        ensures size { length page.new ≤ length page.old + 48 }
+        ensures text { take result bytes.new ≡ take at bytes.old ++ mark_front self.old task }
+        ensures end { result ≤ at + 48 }
     {
-        let start = page.bytes().len();
-        push_mark_front(page, self.app, task);
-        self.marks[task.number as usize] = Label::of(page.bytes(), start);
+        let end = put_mark_front(bytes, at, self.app, task);
+        self.marks[task.number as usize] = Label::of(&bytes[..end], at);
+        end
     }
 
     // Spells and keeps the front of a call.
     #[inline(never)]
-    fn spell_call(&mut self, page: &mut Page, task: TaskId, op_index: u16)
-        requires { length page.old + 48 ≤ Page.SIZE }
+    fn spell_call(&mut self, bytes: &mut [u8], at: usize, task: TaskId, op_index: u16) -> usize
+        requires { at + 48 ≤ length bytes.old }
         ensures app { self.new ≡ self.old }
-        ensures text { page.new ≡ page.old ++ call_front self.old task op_index }
-        ensures size { length page.new ≤ length page.old + 48 }
+        ensures text { take result bytes.new ≡ take at bytes.old ++ call_front self.old task op_index }
+        ensures end { result ≤ at + 48 }
     {
-        let start = page.bytes().len();
-        push_call_front(page, self.app, task, op_index);
-        let label = Label::of(page.bytes(), start);
+        let end = put_call_front(bytes, at, self.app, task, op_index);
+        let label = Label::of(&bytes[..end], at);
         self.calls[call_place(task, op_index)] = OpLabel {
             owner: task.number,
             op_index,
             label,
         };
+        end
     }
 
     // Spells and keeps the front of a handler's op.
     #[inline(never)]
-    fn spell_isr(&mut self, page: &mut Page, handler: HandlerId, op_index: u16)
-        requires { length page.old + 48 ≤ Page.SIZE }
+    fn spell_isr(&mut self, bytes: &mut [u8], at: usize, handler: HandlerId, op_index: u16) -> usize
+        requires { at + 48 ≤ length bytes.old }
         ensures app { self.new ≡ self.old }
-        ensures text { page.new ≡ page.old ++ isr_front self.old handler op_index }
-        ensures size { length page.new ≤ length page.old + 48 }
+        ensures text { take result bytes.new ≡ take at bytes.old ++ isr_front self.old handler op_index }
+        ensures end { result ≤ at + 48 }
     {
-        let start = page.bytes().len();
-        push_isr_front(page, self.app, handler, op_index);
-        let label = Label::of(page.bytes(), start);
+        let end = put_isr_front(bytes, at, self.app, handler, op_index);
+        let label = Label::of(&bytes[..end], at);
         self.isrs[isr_place(handler, op_index)] = OpLabel {
             owner: handler.number,
             op_index,
             label,
         };
+        end
     }
 }

@@ -1,5 +1,5 @@
 //! The lines of an application's events, into a page that has room for them.
-ghost use Rattle.std.specs.Prelude.{◌≡◌, ◌≤◌, ◌+◌, ◌*◌, ◌++◌, length, decimal, codes};
+ghost use Rattle.std.specs.Prelude.{◌≡◌, ◌≤◌, ◌+◌, ◌*◌, ◌++◌, length, take, decimal, codes};
 ghost use Rattle.std.specs.List.{flat_map};
 ghost use Rattle.report.specs.Text.{what_text, event_text};
 
@@ -7,6 +7,7 @@ use crate::labels::Labels;
 use crate::tens::Tens;
 use crate::text::MAX_LINE;
 use byte_io::Page;
+use byte_io::place::{put_array, put_numeral};
 use model::{App, Event, What};
 use std::marker::Model;
 
@@ -30,29 +31,29 @@ impl<'a> Model for Lines<'a> {
     ghost view = { λ l. l.labels };
 }
 
-// Adds a number that ends a line, and the line's end. A small one is a digit at once, so that the digits that are kept stay
+// Puts a number that ends a line, and the line's end. A small one is a digit at once, so that the digits that are kept stay
 // those of large ones: most answers are 0, and others are a time.
 #[inline]
-fn push_number(page: &mut Page, tens: &mut Tens, number: u32)
-    requires { length page.old + 16 ≤ Page.SIZE }
-    ensures text { page.new ≡ page.old ++ decimal number ++ codes "\n" }
-    ensures size { length page.new ≤ length page.old + 12 }
+fn put_last(bytes: &mut [u8], at: usize, tens: &mut Tens, number: u32) -> usize
+    requires { at + 16 ≤ length bytes.old }
+    ensures text { take result bytes.new ≡ take at bytes.old ++ decimal number ++ codes "\n" }
+    ensures end { result ≤ at + 12 }
 {
     if number < 10 {
-        page.push_array(&[b'0' + number as u8, b'\n']);
+        put_array(bytes, at, &[b'0' + number as u8, b'\n'])
     } else {
-        page.push_last(tens.numeral(number));
+        put_numeral(bytes, at, tens.numeral(number), b'\n')
     }
 }
 
-// Adds the answer `none`, and the line's end.
+// Puts the answer `none`, and the line's end.
 #[inline]
-fn push_none(page: &mut Page)
-    requires { length page.old + 16 ≤ Page.SIZE }
-    ensures text { page.new ≡ page.old ++ codes "none" ++ codes "\n" }
-    ensures size { length page.new ≤ length page.old + 12 }
+fn put_none(bytes: &mut [u8], at: usize) -> usize
+    requires { at + 16 ≤ length bytes.old }
+    ensures text { take result bytes.new ≡ take at bytes.old ++ codes "none" ++ codes "\n" }
+    ensures end { result ≤ at + 12 }
 {
-    page.push_array(b"none\n");
+    put_array(bytes, at, b"none\n")
 }
 
 impl<'a> Lines<'a> {
@@ -75,68 +76,83 @@ impl<'a> Lines<'a> {
         self.labels.app()
     }
 
-    // Adds what an event tells, and the line's end.
+    // Puts what an event tells, and the line's end.
     #[inline]
-    fn push_what(&mut self, page: &mut Page, what: &What)
-        requires { length page.old + 64 ≤ Page.SIZE }
+    fn put_what(&mut self, bytes: &mut [u8], at: usize, what: &What) -> usize
+        requires { at + 64 ≤ length bytes.old }
         ensures app { self.new ≡ self.old }
-        ensures text { page.new ≡ page.old ++ what_text self.old what.now ++ codes "\n" }
-        ensures size { length page.new ≤ length page.old + 64 }
+        ensures text { take result bytes.new ≡ take at bytes.old ++ what_text self.old what.now ++ codes "\n" }
+        ensures end { result ≤ at + 64 }
     {
         match *what {
             What::Call(task, op_index, answer) => {
-                self.labels.push_call(page, task, op_index);
-                push_number(page, &mut self.number, answer);
+                let at = self.labels.put_call(bytes, at, task, op_index);
+                put_last(bytes, at, &mut self.number, answer)
             }
             What::CallNone(task, op_index) => {
-                self.labels.push_call(page, task, op_index);
-                push_none(page);
+                let at = self.labels.put_call(bytes, at, task, op_index);
+                put_none(bytes, at)
             }
             What::Mark(task, mark) => {
-                self.labels.push_mark(page, task);
-                push_number(page, &mut self.number, mark);
+                let at = self.labels.put_mark(bytes, at, task);
+                put_last(bytes, at, &mut self.number, mark)
             }
             What::Isr(handler, op_index, answer) => {
-                self.labels.push_isr(page, handler, op_index);
-                push_number(page, &mut self.number, answer);
+                let at = self.labels.put_isr(bytes, at, handler, op_index);
+                put_last(bytes, at, &mut self.number, answer)
             }
             What::IsrNone(handler, op_index) => {
-                self.labels.push_isr(page, handler, op_index);
-                push_none(page);
+                let at = self.labels.put_isr(bytes, at, handler, op_index);
+                put_none(bytes, at)
             }
             What::IsrMark(handler, mark) => {
-                self.labels.push_isr_mark(page, handler);
-                push_number(page, &mut self.number, mark);
+                let at = self.labels.put_isr_mark(bytes, at, handler);
+                put_last(bytes, at, &mut self.number, mark)
             }
-            What::Run(None) => page.push_array(b"run -\n"),
-            What::Run(Some(task)) => self.labels.push_run(page, task),
+            What::Run(None) => put_array(bytes, at, b"run -\n"),
+            What::Run(Some(task)) => self.labels.put_run(bytes, at, task),
         }
     }
 
-    // Adds the line of an event.
+    // Puts the line of an event.
     #[inline]
-    fn push(&mut self, page: &mut Page, event: &Event)
-        requires { length page.old + MAX_LINE ≤ Page.SIZE }
+    fn put_line(&mut self, bytes: &mut [u8], at: usize, event: &Event) -> usize
+        requires { at + MAX_LINE ≤ length bytes.old }
         ensures app { self.new ≡ self.old }
-        ensures text { page.new ≡ page.old ++ event_text self.old event.now }
-        ensures size { length page.new ≤ length page.old + MAX_LINE }
+        ensures text { take result bytes.new ≡ take at bytes.old ++ event_text self.old event.now }
+        ensures end { result ≤ at + MAX_LINE }
     {
-        page.push_two(self.step.numeral(event.step), self.tick.numeral(event.tick));
-        self.push_what(page, &event.what);
+        let step = self.step.numeral(event.step);
+        let tick = self.tick.numeral(event.tick);
+        let at = put_numeral(bytes, at, step, b' ');
+        let at = put_numeral(bytes, at, tick, b' ');
+        self.put_what(bytes, at, &event.what)
+    }
+
+    // Puts the lines of the events.
+    //
+    // It stands out of line, so that its loop has the processor's registers for itself.
+    #[inline(never)]
+    fn put_all(&mut self, bytes: &mut [u8], at: usize, events: &[Event]) -> usize
+        requires { at + length events.now * MAX_LINE ≤ length bytes.old }
+        ensures app { self.new ≡ self.old }
+        ensures text { take result bytes.new ≡ take at bytes.old ++ flat_map (event_text self.old) events.now }
+        ensures end { result ≤ at + length events.now * MAX_LINE }
+    {
+        let mut end = at;
+        for event in events {
+            end = self.put_line(bytes, end, event);
+        }
+        end
     }
 
     /// Adds the lines of the events.
-    ///
-    /// It stands out of line, so that its loop has the processor's registers for itself.
-    #[inline(never)]
     pub(crate) fn push_all(&mut self, page: &mut Page, events: &[Event])
         requires { length page.old + length events.now * MAX_LINE ≤ Page.SIZE }
         ensures app { self.new ≡ self.old }
         ensures text { page.new ≡ page.old ++ flat_map (event_text self.old) events.now }
         ensures size { length page.new ≤ length page.old + length events.now * MAX_LINE }
     {
-        for event in events {
-            self.push(page, event);
-        }
+        page.used = self.put_all(&mut page.bytes, page.used, events);
     }
 }

@@ -1,11 +1,12 @@
 //! The head line of a run, and the fronts of other lines, into a page that has room for them.
-ghost use Rattle.std.specs.Prelude.{◌≡◌, ◌≤◌, ◌+◌, ◌++◌, length, decimal};
+ghost use Rattle.std.specs.Prelude.{◌≡◌, ◌≤◌, ◌+◌, ◌++◌, length, take, decimal};
 ghost use Rattle.model.specs.Words.{name_of, handler_name_of};
 ghost use Rattle.report.specs.Text.{word_at, call_front, isr_word_at, isr_front, code_of, op_text, verdict_text, point_text, reached_text, title_text, head_text, total_text};
 ghost use Rattle.report.specs.Fronts.{mark_front, isr_mark_front, run_front};
 
 use crate::title::Title;
 use byte_io::Page;
+use byte_io::place::{put_number, put_text};
 use model::{App, End, Ending, HandlerId, Misuse, Point, TaskId, Totals};
 
 // The room that the line of an event needs at most. The longest is that of a call: two numbers of 10 digits, two spaces, at most
@@ -61,67 +62,84 @@ fn isr_word(app: &App, handler: HandlerId, op_index: u16) -> &'static [u8]
     }
 }
 
-/// Adds what the line of a call says before its answer.
-pub(crate) fn push_call_front(page: &mut Page, app: &App, task: TaskId, op_index: u16)
-    requires { length page.old + 48 ≤ Page.SIZE }
-    ensures text { page.new ≡ page.old ++ call_front app.now task op_index }
-    ensures size { length page.new ≤ length page.old + 48 }
+/// Puts what the line of a call says before its answer.
+pub(crate) fn put_call_front(
+    bytes: &mut [u8],
+    at: usize,
+    app: &App,
+    task: TaskId,
+    op_index: u16,
+) -> usize
+    requires { at + 48 ≤ length bytes.old }
+    ensures text { take result bytes.new ≡ take at bytes.old ++ call_front app.now task op_index }
+    ensures end { result ≤ at + 48 }
 {
-    page.push_text(b"call ");
-    page.push_text(name(app, task));
-    page.push_text(b" ");
-    page.push_number(op_index as u32);
-    page.push_text(b" ");
-    page.push_text(word(app, task, op_index));
-    page.push_text(b" = ");
+    let at = put_text(bytes, at, b"call ");
+    let at = put_text(bytes, at, name(app, task));
+    let at = put_text(bytes, at, b" ");
+    let at = put_number(bytes, at, op_index as u32);
+    let at = put_text(bytes, at, b" ");
+    let at = put_text(bytes, at, word(app, task, op_index));
+    put_text(bytes, at, b" = ")
 }
 
-/// Adds what the line of a mark says before its number.
-pub(crate) fn push_mark_front(page: &mut Page, app: &App, task: TaskId)
-    requires { length page.old + 48 ≤ Page.SIZE }
-    ensures text { page.new ≡ page.old ++ mark_front app.now task }
-    ensures size { length page.new ≤ length page.old + 48 }
+/// Puts what the line of a mark says before its number.
+pub(crate) fn put_mark_front(bytes: &mut [u8], at: usize, app: &App, task: TaskId) -> usize
+    requires { at + 48 ≤ length bytes.old }
+    ensures text { take result bytes.new ≡ take at bytes.old ++ mark_front app.now task }
+    ensures end { result ≤ at + 48 }
 {
-    page.push_text(b"mark ");
-    page.push_text(name(app, task));
-    page.push_text(b" ");
+    let at = put_text(bytes, at, b"mark ");
+    let at = put_text(bytes, at, name(app, task));
+    put_text(bytes, at, b" ")
 }
 
-/// Adds what the line of a handler's op says before its answer.
-pub(crate) fn push_isr_front(page: &mut Page, app: &App, handler: HandlerId, op_index: u16)
-    requires { length page.old + 48 ≤ Page.SIZE }
-    ensures text { page.new ≡ page.old ++ isr_front app.now handler op_index }
-    ensures size { length page.new ≤ length page.old + 48 }
+/// Puts what the line of a handler's op says before its answer.
+pub(crate) fn put_isr_front(
+    bytes: &mut [u8],
+    at: usize,
+    app: &App,
+    handler: HandlerId,
+    op_index: u16,
+) -> usize
+    requires { at + 48 ≤ length bytes.old }
+    ensures text { take result bytes.new ≡ take at bytes.old ++ isr_front app.now handler op_index }
+    ensures end { result ≤ at + 48 }
 {
-    page.push_text(b"isr ");
-    page.push_text(handler_name(app, handler));
-    page.push_text(b" ");
-    page.push_number(op_index as u32);
-    page.push_text(b" ");
-    page.push_text(isr_word(app, handler, op_index));
-    page.push_text(b" = ");
+    let at = put_text(bytes, at, b"isr ");
+    let at = put_text(bytes, at, handler_name(app, handler));
+    let at = put_text(bytes, at, b" ");
+    let at = put_number(bytes, at, op_index as u32);
+    let at = put_text(bytes, at, b" ");
+    let at = put_text(bytes, at, isr_word(app, handler, op_index));
+    put_text(bytes, at, b" = ")
 }
 
-/// Adds what the line of a handler's mark says before its number.
-pub(crate) fn push_isr_mark_front(page: &mut Page, app: &App, handler: HandlerId)
-    requires { length page.old + 48 ≤ Page.SIZE }
-    ensures text { page.new ≡ page.old ++ isr_mark_front app.now handler }
-    ensures size { length page.new ≤ length page.old + 48 }
+/// Puts what the line of a handler's mark says before its number.
+pub(crate) fn put_isr_mark_front(
+    bytes: &mut [u8],
+    at: usize,
+    app: &App,
+    handler: HandlerId,
+) -> usize
+    requires { at + 48 ≤ length bytes.old }
+    ensures text { take result bytes.new ≡ take at bytes.old ++ isr_mark_front app.now handler }
+    ensures end { result ≤ at + 48 }
 {
-    page.push_text(b"mark ");
-    page.push_text(handler_name(app, handler));
-    page.push_text(b" ");
+    let at = put_text(bytes, at, b"mark ");
+    let at = put_text(bytes, at, handler_name(app, handler));
+    put_text(bytes, at, b" ")
 }
 
-/// Adds all that the line of a task that runs says, with its end.
-pub(crate) fn push_run_front(page: &mut Page, app: &App, task: TaskId)
-    requires { length page.old + 48 ≤ Page.SIZE }
-    ensures text { page.new ≡ page.old ++ run_front app.now task }
-    ensures size { length page.new ≤ length page.old + 48 }
+/// Puts all that the line of a task that runs says, with its end.
+pub(crate) fn put_run_front(bytes: &mut [u8], at: usize, app: &App, task: TaskId) -> usize
+    requires { at + 48 ≤ length bytes.old }
+    ensures text { take result bytes.new ≡ take at bytes.old ++ run_front app.now task }
+    ensures end { result ≤ at + 48 }
 {
-    page.push_text(b"run ");
-    page.push_text(name(app, task));
-    page.push_text(b"\n");
+    let at = put_text(bytes, at, b"run ");
+    let at = put_text(bytes, at, name(app, task));
+    put_text(bytes, at, b"\n")
 }
 
 // The number of a misuse.

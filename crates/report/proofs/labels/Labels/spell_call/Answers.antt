@@ -1,4 +1,4 @@
-use Rattle.std.proofs.Common.{◌∙◌, sym, subst}
+use Rattle.std.proofs.Common.{arith, sym, subst}
 use Rattle.report.specs.Text.{call_front}
 use Rattle.report.specs.Fronts.{IsLabel}
 use Rattle.report.proofs.Fronts.{spelled, call_kept}
@@ -11,8 +11,7 @@ invariant_of-self c =
     let op = c.args.op_index in
     let label = c.of-label.result in
     let front =
-    spelled c.args.page.now c.bytes-start.result.now c.bytes.result.now (call_front app c.args.task op) c.bytes-start.ensures
-    (c.bytes.ensures ∙ c.push_call_front.ensures.text) in
+    spelled c.args.bytes.now _ (call_front app c.args.task op) c.args.at (omega (arith, c.requires)) c.put_call_front-end.ensures.text in
     let here =
     subst (λ number. IsLabel label (call_front app number op)) (sym c.task.view_is) (subst (IsLabel label) front c.of-label.ensures) in
     call_kept app inside.runs inside.marks inside.calls inside.isrs c.self.invariant c.call_place.result

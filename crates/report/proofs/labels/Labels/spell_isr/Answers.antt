@@ -1,4 +1,4 @@
-use Rattle.std.proofs.Common.{◌∙◌, sym, subst}
+use Rattle.std.proofs.Common.{arith, sym, subst}
 use Rattle.report.specs.Text.{isr_front}
 use Rattle.report.specs.Fronts.{IsLabel}
 use Rattle.report.proofs.Fronts.{spelled, isr_kept}
@@ -11,8 +11,7 @@ invariant_of-self c =
     let op = c.args.op_index in
     let label = c.of-label.result in
     let front =
-    spelled c.args.page.now c.bytes-start.result.now c.bytes.result.now (isr_front app c.args.handler op) c.bytes-start.ensures
-    (c.bytes.ensures ∙ c.push_isr_front.ensures.text) in
+    spelled c.args.bytes.now _ (isr_front app c.args.handler op) c.args.at (omega (arith, c.requires)) c.put_isr_front-end.ensures.text in
     let here =
     subst (λ number. IsLabel label (isr_front app number op)) (sym c.handler.view_is) (subst (IsLabel label) front c.of-label.ensures) in
     isr_kept app inside.runs inside.marks inside.calls inside.isrs c.self.invariant c.isr_place.result

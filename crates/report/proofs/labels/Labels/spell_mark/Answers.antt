@@ -1,4 +1,4 @@
-use Rattle.std.proofs.Common.{◌∙◌, sym, subst}
+use Rattle.std.proofs.Common.{arith, sym, subst}
 use Rattle.report.specs.Fronts.{IsLabel, mark_front}
 use Rattle.report.proofs.Fronts.{spelled, mark_kept}
 use Rattle.report.proofs.labels.Labels.spell_mark.Goals as goal
@@ -9,7 +9,6 @@ invariant_of-self c =
     let app = inside.app.now in
     let label = c.of.result in
     let front =
-    spelled c.args.page.now c.bytes-start.result.now c.bytes.result.now (mark_front app c.args.task) c.bytes-start.ensures
-    (c.bytes.ensures ∙ c.push_mark_front.ensures.text) in
+    spelled c.args.bytes.now _ (mark_front app c.args.task) c.args.at (omega (arith, c.requires)) c.put_mark_front-end.ensures.text in
     let here = subst (λ number. IsLabel label (mark_front app number)) (sym c.task.view_is) (subst (IsLabel label) front c.of.ensures) in
     mark_kept app inside.runs inside.marks inside.calls inside.isrs c.self.invariant c.task.inside.number label here

@@ -1,4 +1,4 @@
-use Rattle.std.proofs.Common.{◌∙◌, sym, subst}
+use Rattle.std.proofs.Common.{arith, sym, subst}
 use Rattle.report.specs.Fronts.{IsLabel, run_front}
 use Rattle.report.proofs.Fronts.{spelled, run_kept}
 use Rattle.report.proofs.labels.Labels.spell_run.Goals as goal
@@ -9,7 +9,6 @@ invariant_of-self c =
     let app = inside.app.now in
     let label = c.of.result in
     let front =
-    spelled c.args.page.now c.bytes-start.result.now c.bytes.result.now (run_front app c.args.task) c.bytes-start.ensures
-    (c.bytes.ensures ∙ c.push_run_front.ensures.text) in
+    spelled c.args.bytes.now _ (run_front app c.args.task) c.args.at (omega (arith, c.requires)) c.put_run_front-end.ensures.text in
     let here = subst (λ number. IsLabel label (run_front app number)) (sym c.task.view_is) (subst (IsLabel label) front c.of.ensures) in
     run_kept app inside.runs inside.marks inside.calls inside.isrs c.self.invariant c.task.inside.number label here

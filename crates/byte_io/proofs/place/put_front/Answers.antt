@@ -1,7 +1,7 @@
 use Rattle.std.proofs.Common.{◌≡◌, ℕ, ◌+◌, ◌≤◌, List, ◌++◌, length, take, arith, sym, ◌∙◌, ap}
 use Rattle.std.proofs.Math.Seq.{take-append-add}
 use Rattle.std.proofs.lemmas.List.{take-append-le, length-take}
-use Rattle.byte_io.proofs.page.copy_whole.Goals as goal
+use Rattle.byte_io.proofs.place.put_front.Goals as goal
 
 front_put : (page text rest : List ℕ) (at count : ℕ) → at ≤ length page → count ≤ length text
     → take (at + count) (take at page ++ (text ++ rest)) ≡ take at page ++ take count text
@@ -13,4 +13,4 @@ pub returns-clause-text : goal.returns-clause-text
 returns-clause-text g c =
     let is = c.assign.ensures in
     let t = c.told-text in
-    rw is (front_put c.args.page.now c.args.text.now _ c.args.at c.args.count (omega (arith, c.requires.room)) (omega (arith, c.requires.count, t)))
+    rw is (front_put c.args.bytes.now c.args.text.now _ c.args.at c.args.count (omega (arith, c.requires.room)) (omega (arith, c.requires.count, t)))
