@@ -1,4 +1,5 @@
-//! Bytes in and out: where they come from and go to, reading all of them, a page that waits to be put, and lines of text.
+//! Bytes in and out: where they come from and go to, reading all of them, a page that waits to be put, text
+//! at a place, and lines of text.
 #![tactic(auto)]
 
 mod add;

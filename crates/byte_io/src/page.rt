@@ -7,11 +7,13 @@ use std::marker::Model;
 
 /// At most `SIZE` bytes. It stands on the stack and takes no memory.
 ///
-/// What adds many pieces in turn may put them into the bytes by itself, from where those that are used end, and say then
-/// where they end. So it can keep that place in a variable (`place`).
+/// The fields are public for what adds many pieces in turn: it puts them into the bytes by itself (`place`), keeps the place
+/// where they end in a variable, and sets `used` once, after the last of them.
 #[derive(Drop)]
 pub struct Page {
+    /// The bytes that are used, and room for others after them.
     pub bytes: [u8; 32768],
+    /// How many bytes are used.
     pub used: usize,
 }
 

@@ -131,7 +131,8 @@ impl<'a> Lines<'a> {
 
     // Puts the lines of the events.
     //
-    // It stands out of line, so that its loop has the processor's registers for itself.
+    // It stands out of line, so that its loop has the processor's registers for itself. The loop goes by the events that are
+    // left, since an index beside all of them would take one register more.
     #[inline(never)]
     fn put_all(&mut self, bytes: &mut [u8], at: usize, events: &[Event]) -> usize
         requires { at + length events.now * MAX_LINE ≤ length bytes.old }
@@ -140,8 +141,10 @@ impl<'a> Lines<'a> {
         ensures end { result ≤ at + length events.now * MAX_LINE }
     {
         let mut end = at;
-        for event in events {
+        let mut rest = events;
+        while let [event, others @ ..] = rest {
             end = self.put_line(bytes, end, event);
+            rest = others;
         }
         end
     }

@@ -1,4 +1,6 @@
-//! The head line of a run, and the fronts of other lines, into a page that has room for them.
+//! The head line of a run, into a page that has room for it, and the fronts of other lines, into bytes that have.
+//!
+//! A front is put at a place, and where it ends is answered, as `byte_io::place` does it.
 ghost use Rattle.std.specs.Prelude.{◌≡◌, ◌≤◌, ◌+◌, ◌++◌, length, take, decimal};
 ghost use Rattle.model.specs.Words.{name_of, handler_name_of};
 ghost use Rattle.report.specs.Text.{word_at, call_front, isr_word_at, isr_front, code_of, op_text, verdict_text, point_text, reached_text, title_text, head_text, total_text};
