@@ -7,7 +7,8 @@ Prints for each file the best and the median wall time of fifteen runs, the step
 memory. The program is crates/rtosim/out/rtosim, as bin/rtosim builds it, or PROGRAM; large pages are asked for, as bin/rtosim
 does. With OTHER, the runs of the two take turns; each file has PROGRAM's times as multiples of OTHER's, and the last line the
 geometric means of these. With --instructions, each file has the instructions a step too, as valgrind counts them over the whole
-program: they are the same on each run, where times of a busy machine aren't."""
+program: they are the same on each run, where times of a busy machine aren't. Times of two builds may differ by 3 % merely by where
+their code comes to lie: some processors decode jumps at multiples of 32 bytes anew each time."""
 import ctypes
 import math
 import os

@@ -1,8 +1,7 @@
 //! A page: bytes that wait, to be put with one call.
-ghost use Rattle.std.specs.Prelude.{◌≡◌, ◌≤◌, ◌+◌, ◌↔◌, ◌++◌, [], length, take, decimal, codes, IsTrue};
+ghost use Rattle.std.specs.Prelude.{◌≡◌, ◌≤◌, ◌+◌, ◌↔◌, ◌++◌, [], length, decimal, IsTrue};
 
-use crate::numeral::Numeral;
-use crate::place::{put_array, put_front, put_number, put_numeral, put_text};
+use crate::place::{put_array, put_number, put_text};
 use std::marker::Model;
 
 /// At most `SIZE` bytes. It stands on the stack and takes no memory.
@@ -81,17 +80,6 @@ impl Page {
         self.used = put_text(&mut self.bytes, self.used, text);
     }
 
-    /// Adds so many bytes from the front of the text. The page needs room for all of the text, since all of it is copied.
-    #[inline(always)]
-    pub fn push_front<const N: usize>(&mut self, text: &[u8; N], count: usize)
-        requires room { length self.old + N ≤ Self.SIZE }
-        requires count { count ≤ N }
-        ensures text { self.new ≡ self.old ++ take count text.now }
-        ensures size { length self.new ≡ length self.old + count }
-    {
-        self.used = put_front(&mut self.bytes, self.used, text, count);
-    }
-
     /// Adds all of the text. Its length is a constant, so this is a few moves of whole registers.
     #[inline(always)]
     pub fn push_array<const N: usize>(&mut self, text: &[u8; N])
@@ -100,30 +88,6 @@ impl Page {
         ensures size { length self.new ≡ length self.old + N }
     {
         self.used = put_array(&mut self.bytes, self.used, text);
-    }
-
-    /// Adds two numbers, and a space after each.
-    ///
-    /// Where the page ends stays in a variable between them: a byte written at a place that the compiler can't bound would
-    /// have it read the field again.
-    #[inline]
-    pub fn push_two(&mut self, first: Numeral<'_>, second: Numeral<'_>)
-        requires { length self.old + 32 ≤ Self.SIZE }
-        ensures text { self.new ≡ self.old ++ (first.entry ++ codes " ") ++ (second.entry ++ codes " ") }
-        ensures size { length self.new ≤ length self.old + 24 }
-    {
-        let at = put_numeral(&mut self.bytes, self.used, first, b' ');
-        self.used = put_numeral(&mut self.bytes, at, second, b' ');
-    }
-
-    /// Adds a number and a line feed.
-    #[inline]
-    pub fn push_last(&mut self, numeral: Numeral<'_>)
-        requires { length self.old + 16 ≤ Self.SIZE }
-        ensures text { self.new ≡ self.old ++ numeral.entry ++ codes "\n" }
-        ensures size { length self.new ≤ length self.old + 12 }
-    {
-        self.used = put_numeral(&mut self.bytes, self.used, numeral, b'\n');
     }
 
     /// Adds the number in decimal digits, of which a `u32` has at most 10.
