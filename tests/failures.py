@@ -257,8 +257,14 @@ def the_file_stays_as_it_is_where_all_streams_are_closed():
 
 # Signals
 
-# A campaign that runs for some minutes, and writes nothing before it has run.
-LONG_CAMPAIGN = HANDLER + TASK.replace('"mark 7"', '"repeat 1000", "work 900", "end"') + points("all h")
+# A campaign that runs for some minutes, and writes nothing before it has run. When the handler comes tells when the sleeper sleeps from
+# there on, so no row goes on as the one before it.
+LONG_CAMPAIGN = (
+    HANDLER.replace("[]", '["resume sleeper"]')
+    + '[[task]]\nname = "sleeper"\npriority = 2\nscript = ["suspend sleeper", "repeat 1000", "delay 200000", "end"]\n'
+    + TASK.replace('"mark 7"', '"repeat 1000", "work 900", "end"')
+    + points("all h")
+)
 
 
 def stopped_by(number, started):
@@ -457,7 +463,7 @@ def shown_on_a_terminal(seconds, *words):
 @case
 def a_campaign_shows_on_a_terminal_how_far_it_is_unless_it_is_quiet():
     shown = shown_on_a_terminal(PATIENCE)
-    assert re.fullmatch(rb"\rrtosim: [1-9]\d* of 901001 rows", shown), shown
+    assert re.fullmatch(rb"\rrtosim: [1-9]\d* of 901002 rows", shown), shown
     equal(shown_on_a_terminal(1.5, "--quiet"), b"")
 
 
