@@ -53,14 +53,20 @@ def are_left_by_ci(names, root=ROOT):
     return all(os.path.isdir(f"{at}/{it}.rlib") and not os.path.exists(f"{at}/stamp") for at, it in zip(folders, names))
 
 
+def rtlib():
+    """What rt knows of crates, and of how rattle is called for them."""
+    place = f"{os.path.dirname(os.path.realpath(shutil.which('rt')))}/rtlib.py"
+    spec = importlib.util.spec_from_file_location("rtlib", place)
+    module = importlib.util.module_from_spec(spec)
+    spec.loader.exec_module(module)
+    return module
+
+
 def adopt_libraries(folder):
     """Has rt take the libraries below the crate of this folder as they stand, though it is `rt ci` that has built them. They hold
     statements and no proofs, and fit one another alone, so rt doesn't take them where others may come to stand among them."""
-    place = f"{os.path.dirname(os.path.realpath(shutil.which('rt')))}/rtlib.py"
-    spec = importlib.util.spec_from_file_location("rtlib", place)
-    rtlib = importlib.util.module_from_spec(spec)
-    spec.loader.exec_module(rtlib)
-    for crate in rtlib.Crate(folder, rtlib.root_above(folder), {}).below():
+    kit = rtlib()
+    for crate in kit.Crate(folder, kit.root_above(folder), {}).below():
         with open(f"{crate.folder}/out/rlib/stamp", "w", encoding="utf-8") as file:
             file.write(crate.stamp())
 
