@@ -10,6 +10,8 @@ import threading
 ROOT = os.path.dirname(os.path.dirname(os.path.realpath(__file__)))
 MEMORY_OF_A_JOB = 1_500_000_000
 MEMORY_OF_A_CRATE = 3_000_000_000
+# Has rattle's allocator (mimalloc) keep what is freed until its process ends, in place of giving it back only to ask for it anew.
+KEEPS_MEMORY = {"MIMALLOC_PURGE_DELAY": "-1"}
 
 
 def crates(root=ROOT):
