@@ -14,7 +14,7 @@ class BadEdit(Exception):
     """An edit that can't be read or applied, and why."""
 
 
-@dataclass(frozen=True, order=True)
+@dataclass(frozen=True)
 class Function:
     """A function of a crate: the file that it stands in, the type or module that it belongs to, and its name."""
 
