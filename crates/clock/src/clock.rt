@@ -1,5 +1,5 @@
 //! The clock: its tick, and its two lists of sleepers.
-ghost use Rattle.std.specs.Prelude.{◌≡◌, ◌+◌, ◌-◌, ◌*◌, ◌^◌, ◌<◌, ◌≤◌, ◌%◌, [], true, false, length, IsTrue, ◌↔◌, Some, ◌≢◌, ℕ, Option};
+ghost use Rattle.std.specs.Prelude.{◌≡◌, ◌+◌, ◌-◌, ◌*◌, ◌^◌, ◌<◌, ◌≤◌, ◌%◌, [], min, true, false, length, IsTrue, ◌↔◌, Some, ◌≢◌, ℕ, Option};
 ghost use Rattle.lists.specs.Lists.{insert_sorted, without, Each};
 ghost use Rattle.model.specs.State.{State, Suspended, with_status};
 ghost use Rattle.model.specs.Order.{tasks_of};
@@ -15,6 +15,12 @@ use model::TaskId;
 use std::marker::Model;
 use std::mem;
 use task_lists::TaskLists;
+
+/// A moment of a clock, in ticks without bound: the tick at the start, and one more for each tick that has advanced since (profile).
+#[derive(Clone, Copy)]
+pub struct Mark {
+    pub moment: u64,
+}
 
 /// A tick of 32 bits with two lists of sleepers: those until a tick of this turn of the 32 bits,
 /// and those until one of the next turn. The lists are swapped when the tick becomes 0.
@@ -106,6 +112,27 @@ impl Clock {
         ensures now { result ≡ self.now.now }
     {
         self.overflows as u64 * (1 << 32) + self.tick as u64
+    }
+
+    /// The moment that is now, to count from.
+    pub fn mark(&self) -> Mark
+        ensures mark { result.moment ≡ self.now.now }
+    {
+        Mark { moment: self.now() }
+    }
+
+    /// The ticks since a mark of this clock, or 4294967295 where there are more (profile). Held ticks haven't advanced, so
+    /// they don't count. The mark is not after now.
+    pub fn elapsed_since(&self, mark: Mark) -> u32
+        requires { mark.moment ≤ self.now.now }
+        ensures elapsed { result ≡ min (self.now.now - mark.moment) 4294967295 }
+    {
+        let elapsed = self.now() - mark.moment;
+        if elapsed < u32::MAX as u64 {
+            elapsed as u32
+        } else {
+            u32::MAX
+        }
     }
 
     /// The tick that is shown, 0 to 4294967295: the time modulo 2^32, as FreeRTOS's

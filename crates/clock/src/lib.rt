@@ -6,5 +6,5 @@
 mod clock;
 mod due;
 
-pub use clock::Clock;
+pub use clock::{Clock, Mark};
 pub use due::Due;

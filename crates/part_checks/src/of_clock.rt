@@ -1,7 +1,7 @@
 //! Sleepers across the wrap of the tick.
 ghost use Rattle.std.specs.Prelude.{◌<◌};
 
-use clock::Clock;
+use clock::{Clock, Mark};
 use model::TaskId;
 use std::process::Abort;
 
@@ -49,9 +49,19 @@ fn shows(rt: &impl Abort, clock: &Clock, tick: u32, age: u64, held: u32) {
     assert!(rt; clock.held() == held, "{held} ticks are held");
 }
 
+/// Compares how many ticks lie between the mark and now.
+fn has_elapsed(rt: &impl Abort, clock: &Clock, mark: Mark, expected: u32) {
+    assert!(rt; mark.moment <= clock.mark().moment);
+    assert!(rt;
+        clock.elapsed_since(mark) == expected,
+        "{expected} ticks since the mark"
+    );
+}
+
 #[test]
 fn sleepers_wake_across_the_wrap(rt: HostRuntime) {
     let mut clock = Clock::new(u32::MAX - 1);
+    let mark = clock.mark();
     sleep(&rt, &mut clock, TaskId { number: 4 }, 3);
     sleep(&rt, &mut clock, TaskId { number: 9 }, 1);
     sleep(&rt, &mut clock, TaskId { number: 2 }, 3);
@@ -66,6 +76,8 @@ fn sleepers_wake_across_the_wrap(rt: HostRuntime) {
     advance(&rt, &mut clock, &last);
     shows(&rt, &clock, 1, 3, 0);
     assert!(rt; clock.now() == (1 << 32) + 1);
+    has_elapsed(&rt, &clock, mark, 3);
+    has_elapsed(&rt, &clock, Mark { moment: 0 }, u32::MAX);
 }
 
 #[test]
