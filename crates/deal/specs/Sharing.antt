@@ -36,7 +36,7 @@ Goes old new = (new.game ≡ old.game) × (new.dealt ≡ old.dealt) × (old.seen
 abbrev pub MatchNext : Next → Sight → Sight → Type 0
 MatchNext (Block number first len) old new =
     IsBlock new.game.lengths number first len × (times number old.answered ≡ 0) × (new.answered ≡ old.answered ++ number ∷ [])
-MatchNext Again old new = (new.answered ≡ old.answered) × (1 < new.game.lanes)
+MatchNext Again old new = (new.answered ≡ old.answered) × (1 < new.game.lanes) × (HasSeenAll new → ⊥)
 MatchNext Empty old new = (new.answered ≡ old.answered) × HasSeenAll new
 
 -- the answer is the block of this number

@@ -1,5 +1,5 @@
 //! Rows from the nearest stop before their point.
-ghost use Rattle.std.specs.Prelude.{◌≡◌, Bool, true, false, nat_lt, ◌<◌, ◌≤◌, ◌+◌, ◌%◌, ◌^◌, ◌∷◌, ◌++◌, [], take, length, IfOk, OnErr, OnOk};
+ghost use Rattle.std.specs.Prelude.{◌≡◌, Bool, true, false, nat_lt, ◌<◌, ◌≤◌, ◌+◌, ◌%◌, ◌^◌, ◌∷◌, ◌++◌, [], take, length, None, IfOk, OnErr, OnOk};
 ghost use Rattle.model.specs.Run as definition;
 ghost use Rattle.model.specs.Run.{IsRun, IsRow, events_after};
 ghost use Rattle.machine.specs.Logged.{all_of};
@@ -196,6 +196,8 @@ impl Shelf {
         requires reached { point.step < self.now.base.steps }
         requires beyond { point.step < until }
         requires meter { meter.old < 2 ^ 62 }
+        ensures far { kernel.new.steps ≤ until }
+        ensures there { IfOk result (λ beginning. beginning.end ≡ None → kernel.new.steps ≡ until) }
         ensures begun { IfOk result (HasBegun app.now point self.now.limits kernel.new (all_of trail.old) (all_of trail.new)) }
         ensures before { IfOk result (λ beginning. beginning.before ≡ length (events_after app.now [] point.step)) }
         ensures meter { OnOk result (meter.new + point.step ≡ meter.old + point.step % self.now.stride + kernel.new.steps) }

@@ -73,6 +73,6 @@ returns-after-look-blocks c =
     let same : new.answered ≡ old.answered = ap (λ (s : Sight). s.answered) v in
     let next : MatchNext c.if-look-blocks.result old new = elim c.if-look-blocks.branch [
       | then-look-blocks w ↦ subst (λ r. MatchNext r old new) (sym w.result-is) (same, omega (arith, seen, w.if-look-blocks.true, many))
-      | else-look-blocks w ↦ subst (λ r. MatchNext r old new) (sym w.result-is) (same, omega (arith, e.among.1, l.3, l.5, λ (lone : now.count.shared.key.lanes ≡ 1). w.if-look-blocks.false (e.whole (l.3 ∙ sym lone ∙ sym l.5) ∙ alone now.count.shared.key now.division c.self.inside.share (worker_view c.self.inside.own) c.self.inside.others.items c.self.inside.got.items now.count.shared.table_id l lone none.2 ∙ sym many)))
+      | else-look-blocks w ↦ subst (λ r. MatchNext r old new) (sym w.result-is) (same, omega (arith, e.among.1, l.3, l.5, λ (lone : now.count.shared.key.lanes ≡ 1). w.if-look-blocks.false (e.whole (l.3 ∙ sym lone ∙ sym l.5) ∙ alone now.count.shared.key now.division c.self.inside.share (worker_view c.self.inside.own) c.self.inside.others.items c.self.inside.got.items now.count.shared.table_id l lone none.2 ∙ sym many)), λ (all : new.seen ≡ length now.division). w.if-look-blocks.false (sym seen ∙ all ∙ sym many))
     ] in
     record { goes = goes; next = next }
