@@ -7,3 +7,7 @@ bytes_of b = b.bytes.items
 
 abbrev pub buffer_failed : Buffer → Bool
 buffer_failed b = b.failed
+
+-- how many bytes it is for, at most
+abbrev pub most_of : Buffer → ℕ
+most_of b = b.most

@@ -1,6 +1,5 @@
 //! Bytes in memory, as a sink.
-ghost use Rattle.std.specs.Prelude.{◌≡◌, ◌++◌, [], Some, false, MatchResult};
-ghost use Rattle.byte_io.specs.Buffers.{bytes_of, buffer_failed};
+ghost use Rattle.std.specs.Prelude.{◌≡◌, ◌≤◌, ◌++◌, [], Some, false, length, MatchResult};
 
 use crate::stream::{Failed, Sink};
 use std::alloc::Global;
@@ -12,12 +11,16 @@ pub struct Buffer {
     bytes: Vec<u8>,
     most: usize,
     failed: bool,
+    ghost within: { length bytes.items ≤ most },
 }
 
 impl Buffer {
+    ghost use Rattle.byte_io.specs.Buffers.{bytes_of, most_of, buffer_failed};
+
     /// A buffer without bytes, for at most so many. It takes no memory yet.
     pub fn new(alloc: Global, most: usize) -> Buffer
         ensures bytes { bytes_of result ≡ [] }
+        ensures most { most_of result ≡ most }
         ensures working { buffer_failed result ≡ false }
     {
         Buffer {
@@ -27,9 +30,10 @@ impl Buffer {
         }
     }
 
-    /// The bytes.
+    /// The bytes, at most so many as it is for.
     pub fn bytes(&self) -> &[u8]
-        ensures { result.now ≡ bytes_of self.now }
+        ensures bytes { result.now ≡ bytes_of self.now }
+        ensures within { length result.now ≤ most_of self.now }
     {
         &self.bytes
     }
@@ -44,6 +48,7 @@ impl Buffer {
     /// Forgets the bytes, and that a call has failed. The memory is kept.
     pub fn clear(&mut self)
         ensures bytes { bytes_of self.new ≡ [] }
+        ensures most { most_of self.new ≡ most_of self.old }
         ensures working { buffer_failed self.new ≡ false }
     {
         self.bytes.clear();
@@ -54,6 +59,7 @@ impl Buffer {
     fn extend(&mut self, bytes: &[u8]) -> Result<(), Failed>
         ensures bytes { MatchResult result (λ _. bytes_of self.new ≡ bytes_of self.old ++ bytes.now)
             (λ _. bytes_of self.new ≡ bytes_of self.old) }
+        ensures most { most_of self.new ≡ most_of self.old }
         ensures failed { buffer_failed self.new ≡ buffer_failed self.old }
     {
         if bytes.len() > self.most.saturating_sub(self.bytes.len()) {

@@ -5,6 +5,7 @@
 mod add;
 mod buffer;
 mod line;
+mod memory;
 mod numeral;
 mod page;
 pub mod place;
@@ -20,7 +21,7 @@ pub use line::{Piece, write_line};
 pub use numeral::Numeral;
 pub use page::Page;
 pub use put::{WriteFault, put_all};
-pub use read::{ReadFault, read_all};
+pub use read::{ReadFault, read_all, read_at_most};
 pub use shown::put_lines;
 pub use std_io::{FromReader, ToWriter};
 pub use stream::{Failed, Sink, Source};
