@@ -10,14 +10,17 @@ use Rattle.model.specs.Application.{Application}
 use Rattle.model.specs.declared.event.End.{End}
 use Rattle.model.specs.declared.totals.Totals.{Totals}
 use Rattle.script.specs.Sections.{objects_fault, objects_named, more_objects_fault, with_objects, groups_fault, groups_named, handlers_fault, handlers_named, tasks_fault, tasks_named}
-use Rattle.script.specs.Load.{entries_of, entries_fault, load_fault}
+use Rattle.script.specs.Faults.{Loads}
+use Rattle.script.specs.Load.{app_named, entries_of, entries_fault, load_fault}
+use Rattle.script.specs.declared.fault.LoadError.{LoadError}
+use Rattle.script.specs.declared.fault.LoadError.TheVariants as loading
 use Rattle.byte_io.specs.Bytes.{SentFront}
 use Rattle.byte_io.specs.declared.read.ReadFault.{ReadFault}
 use Rattle.byte_io.specs.declared.read.ReadFault.TheVariants as read
 use Rattle.campaign.specs.declared.at.At.{At}
 use Rattle.campaign.specs.declared.file.ServeFault.{ServeFault}
 use Rattle.campaign.specs.declared.file.ServeFault.TheVariants.{Read, NotToml, Load, UnknownHandler, TooManyPoints, Memory, Write}
-use Rattle.campaign.specs.Serving.{Answers, Serves, Known, IsFileOf, HasFileFault, of_reading, is_read_fault, is_write_fault}
+use Rattle.campaign.specs.Serving.{Answers, Serves, Known, IsDocument, IsFileOf, HasFileFault, of_loading, of_reading, is_read_fault, is_write_fault}
 use Rattle.campaign.specs.OneRun.{IsRunFault, HasFault, ServesRun}
 use Rattle.campaign.specs.Campaigns.{IsCampaignFault, HasCampaignFault, ServesCampaign}
 
@@ -71,6 +74,12 @@ pub reading_failed : (input : Option (List ℕ)) (e : ReadFault) → (e ≡ read
 reading_failed input read.Failed some = let k = some_text input in (k.0, k.1, tt)
 reading_failed input read.Memory some = some_bytes input (some refl)
 
+-- why the application of a document was not loaded
+pub loading_failed : (bytes : List ℕ) (document : Members) (e : LoadError) → IsDocument bytes document
+    → Loads {X = Application} (Err e) (load_fault document) (app_named document) → HasFileFault bytes (of_loading e)
+loading_failed bytes document loading.Memory is sound = document_has_bytes bytes document is.parsed sound
+loading_failed bytes document (loading.Fault fault) is bad = (document, is, bad)
+
 -- A fault is one of the same side, whatever would be answered.
 pub same_read : (A B : Type 0) (f : ServeFault) → is_read_fault {A = A} (Err f) ≡ is_read_fault {A = B} (Err f)
 same_read A B Read = refl
@@ -111,23 +120,25 @@ module _ {A : Type 0} (IsReport : (bytes report : List ℕ) → A → Type 0) (H
   serves_front old new bytes report answer known is sent r w =
       record { answers = (bytes, known, report, answer, is, sent); read = r; write = w }
 
--- What is said of the known bytes of an input holds of some bytes.
+-- What is said of the bytes of an input is said of another, of which no more is known.
 
-answers_unknown : {A : Type 0} (IsReport : (bytes report : List ℕ) → A → Type 0) (HasFaultOf : (bytes : List ℕ) → ServeFault → Type 0) (input old new : Option (List ℕ)) (outcome : Result A ServeFault)
-    → Answers IsReport HasFaultOf input old new outcome → Answers IsReport HasFaultOf None old new outcome
-answers_unknown is has input old new (Ok answer) h = (h.0, tt, h.2, h.3, h.4)
-answers_unknown is has input old new (Err Write) h = (h.0, tt, h.2, h.3, h.4, h.5)
-answers_unknown is has input old new (Err Read) h = ((h.0.0, tt, h.0.2), h.1)
-answers_unknown is has input old new (Err NotToml) h = ((h.0.0, tt, h.0.2), h.1)
-answers_unknown is has input old new (Err (Load fault)) h = ((h.0.0, tt, h.0.2), h.1)
-answers_unknown is has input old new (Err UnknownHandler) h = ((h.0.0, tt, h.0.2), h.1)
-answers_unknown is has input old new (Err TooManyPoints) h = ((h.0.0, tt, h.0.2), h.1)
-answers_unknown is has input old new (Err Memory) h = ((h.0.0, tt, h.0.2), h.1)
+module _ {A : Type 0} (IsReport : (bytes report : List ℕ) → A → Type 0) (HasFaultOf : (bytes : List ℕ) → ServeFault → Type 0)
+    (input other : Option (List ℕ)) (as_known : (bytes : List ℕ) → Known input bytes → Known other bytes) where
+  answers_as_known : (old new : Option (List ℕ)) (outcome : Result A ServeFault)
+      → Answers IsReport HasFaultOf input old new outcome → Answers IsReport HasFaultOf other old new outcome
+  answers_as_known old new (Ok answer) h = (h.0, as_known h.0 h.1, h.2, h.3, h.4)
+  answers_as_known old new (Err Write) h = (h.0, as_known h.0 h.1, h.2, h.3, h.4, h.5)
+  answers_as_known old new (Err Read) h = ((h.0.0, as_known h.0.0 h.0.1, h.0.2), h.1)
+  answers_as_known old new (Err NotToml) h = ((h.0.0, as_known h.0.0 h.0.1, h.0.2), h.1)
+  answers_as_known old new (Err (Load fault)) h = ((h.0.0, as_known h.0.0 h.0.1, h.0.2), h.1)
+  answers_as_known old new (Err UnknownHandler) h = ((h.0.0, as_known h.0.0 h.0.1, h.0.2), h.1)
+  answers_as_known old new (Err TooManyPoints) h = ((h.0.0, as_known h.0.0 h.0.1, h.0.2), h.1)
+  answers_as_known old new (Err Memory) h = ((h.0.0, as_known h.0.0 h.0.1, h.0.2), h.1)
 
-pub serves_unknown : {A : Type 0} (IsReport : (bytes report : List ℕ) → A → Type 0) (HasFaultOf : (bytes : List ℕ) → ServeFault → Type 0) (input : Option (List ℕ)) (rf : Bool) (old new : Option (List ℕ)) (wf : Bool) (outcome : Result A ServeFault)
-    → Serves A IsReport HasFaultOf input rf old new wf outcome → Serves A IsReport HasFaultOf None rf old new wf outcome
-serves_unknown is has input rf old new wf outcome h =
-    record { answers = answers_unknown is has input old new outcome h.answers; read = h.read; write = h.write }
+  pub serves_as_known : (rf : Bool) (old new : Option (List ℕ)) (wf : Bool) (outcome : Result A ServeFault)
+      → Serves A IsReport HasFaultOf input rf old new wf outcome → Serves A IsReport HasFaultOf other rf old new wf outcome
+  serves_as_known rf old new wf outcome h =
+      record { answers = answers_as_known old new outcome h.answers; read = h.read; write = h.write }
 
 -- ---- one run
 

@@ -56,6 +56,19 @@ impl From<WriteFault> for ServeFault {
     }
 }
 
+impl From<LoadError> for ServeFault {
+    ghost use Rattle.campaign.specs.Serving.{of_loading};
+
+    ghost from_gives = { λ error given. given ≡ of_loading error };
+
+    fn from(error: LoadError) -> ServeFault {
+        match error {
+            LoadError::Memory => ServeFault::Memory,
+            LoadError::Fault(fault) => ServeFault::Load(fault),
+        }
+    }
+}
+
 // The application of a file.
 fn app_in(alloc: Global, bytes: &[u8]) -> Result<App, ServeFault>
     ensures app { MatchResult result (IsFileOf bytes.now) (HasFileFault bytes.now) }
@@ -67,11 +80,7 @@ fn app_in(alloc: Global, bytes: &[u8]) -> Result<App, ServeFault>
         Err(error) if error.is_memory() => return Err(ServeFault::Memory),
         Err(_) => return Err(ServeFault::NotToml),
     };
-    match App::from_document(alloc, &document) {
-        Ok(app) => Ok(app),
-        Err(LoadError::Memory) => Err(ServeFault::Memory),
-        Err(LoadError::Fault(fault)) => Err(ServeFault::Load(fault)),
-    }
+    Ok(App::from_document(alloc, &document)?)
 }
 
 /// The application of the file that the reader gives.

@@ -27,7 +27,9 @@ pub enum BadOption {
 
 impl Default for Options {
     /// One worker, a state kept every 64 steps, blocks of 16 points.
-    fn default() -> Options {
+    fn default() -> Options
+        ensures { result ≡ record { workers = 1; stride = 64; block = 16 } }
+    {
         Options {
             workers: 1,
             stride: 64,

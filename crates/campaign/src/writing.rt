@@ -255,7 +255,7 @@ fn length_of_pieces(rows: &Rows, spellers: usize) -> usize
 
 /// Writes the report of a campaign as `write_report` does, and faster: it takes memory for the text of the base run's events,
 /// with which rows begin, and has so many threads spell rows, where that are several. What it gets no memory for is spelled for
-/// each row, and on this thread.
+/// each row, and on this thread. The threads are at most 64.
 pub(crate) fn write_report_in<R: Threads + Wait + Sync, W: Sink>(
     rt: &R,
     alloc: Global,
@@ -264,7 +264,8 @@ pub(crate) fn write_report_in<R: Threads + Wait + Sync, W: Sink>(
     threads: usize,
     writer: &mut W,
 ) -> Result<(), WriteFault>
-    requires { W.has_failed writer.old ≡ false }
+    requires working { W.has_failed writer.old ≡ false }
+    requires few { threads ≤ 64 }
     ensures text { Writes (W.held writer.old) (W.held writer.new) result
         (campaign_text app.now report.now) }
     ensures failed { W.has_failed writer.new ≡ is_err result }
