@@ -1,46 +1,117 @@
--- What a job comes to where nothing is known of its file's bytes.
-use Rattle.std.proofs.Common.{◌≡◌, ℕ, Bool, false, List, ◌⊎◌, inl, inr, Option, None, refl}
-use Rattle.std.specs.Prelude.{Ok, Err, Result}
+-- What a job comes to over its file, of whose bytes nothing need be known.
+use Rattle.std.proofs.Common.{◌≡◌, ◌≢◌, ◌≤◌, ℕ, Bool, false, List, [], length, ◌⊎◌, inl, inr, Option, Some, None, refl}
+use Rattle.std.specs.Prelude.{Ok, Err, Result, IfSome}
 use Rattle.std.proofs.KnownBytes.{Keeps-refl}
 use Rattle.campaign.specs.declared.at.At.{At}
 use Rattle.campaign.specs.declared.file.ServeFault.{ServeFault}
-use Rattle.campaign.specs.declared.file.ServeFault.TheVariants.{Read, Memory}
-use Rattle.campaign.proofs.Faulty.{serves_unknown}
+use Rattle.campaign.specs.declared.file.ServeFault.TheVariants.{Read, NotToml, Load, UnknownHandler, TooManyPoints, Memory, Write}
+use Rattle.campaign.specs.Serving.{Known, of_reading, is_read_fault}
+use Rattle.campaign.proofs.Faulty.{campaign_serves_file_fault, reading_failed, serves_as_known, serves_file_fault}
+use Rattle.byte_io.specs.declared.read.ReadFault.{ReadFault}
+use Rattle.byte_io.specs.declared.read.ReadFault.TheVariants as read
 use Rattle.jobs.specs.declared.acting.Job.{Job}
 use Rattle.jobs.specs.declared.acting.Job.TheVariants.{Run, Campaign}
 use Rattle.jobs.specs.declared.acting.JobFault.{JobFault}
 use Rattle.jobs.specs.declared.acting.JobFault.TheVariants.{Serve, TooLarge, Unpaired}
-use Rattle.jobs.specs.Acting.{RunServed, CampaignServed, Served, Does, LacksFile, OpensAndDoes, injection_of}
+use Rattle.jobs.specs.Acting.{RunServed, CampaignServed, Served, Does, DoesOverFile, FailsToRead, LacksFile, OpensAndDoes, ReadsFor, injection_of, is_unpaired, most_bytes}
 
 -- A file that could not be opened.
 pub lacks_file : (old : Option (List ℕ)) (wf : Bool) (f : ServeFault) → (f ≡ Memory) ⊎ (f ≡ Read) → wf ≡ false → LacksFile old old wf (Err (Serve f))
 lacks_file old wf f due e = (elim due [ inl h ↦ inr (rw h refl) | inr h ↦ inl (rw h refl) ], Keeps-refl old, e)
 
--- What is said of the known bytes of an input holds of some bytes.
+-- ---- an input of which less is known
 
-run_unknown : (at : Option At) (input : Option (List ℕ)) (rf : Bool) (old new : Option (List ℕ)) (wf : Bool) (outcome : Result Bool ServeFault)
-    → RunServed at input rf old new wf outcome → RunServed at None rf old new wf outcome
-run_unknown at input rf old new wf (Ok passes) h = (h.0, h.1, serves_unknown _ _ input rf old new wf (Ok h.0) h.2)
-run_unknown at input rf old new wf (Err fault) h = serves_unknown _ _ input rf old new wf (Err fault) h
+module _ (input other : Option (List ℕ)) (as_known : (bytes : List ℕ) → Known input bytes → Known other bytes) (rf : Bool) (old new : Option (List ℕ)) (wf : Bool) where
+  run_as_known : (at : Option At) (outcome : Result Bool ServeFault) → RunServed at input rf old new wf outcome → RunServed at other rf old new wf outcome
+  run_as_known at (Ok passes) h = (h.0, h.1, serves_as_known _ _ input other as_known rf old new wf (Ok h.0) h.2)
+  run_as_known at (Err fault) h = serves_as_known _ _ input other as_known rf old new wf (Err fault) h
 
-campaign_unknown : (input : Option (List ℕ)) (rf : Bool) (old new : Option (List ℕ)) (wf : Bool) (outcome : Result Bool ServeFault)
-    → CampaignServed input rf old new wf outcome → CampaignServed None rf old new wf outcome
-campaign_unknown input rf old new wf (Ok passes) h = (h.0, h.1, serves_unknown _ _ input rf old new wf (Ok h.0) h.2)
-campaign_unknown input rf old new wf (Err fault) h = serves_unknown _ _ input rf old new wf (Err fault) h
+  campaign_as_known : (outcome : Result Bool ServeFault) → CampaignServed input rf old new wf outcome → CampaignServed other rf old new wf outcome
+  campaign_as_known (Ok passes) h = (h.0, h.1, serves_as_known _ _ input other as_known rf old new wf (Ok h.0) h.2)
+  campaign_as_known (Err fault) h = serves_as_known _ _ input other as_known rf old new wf (Err fault) h
 
-served_unknown : (job : Job) (input : Option (List ℕ)) (rf : Bool) (old new : Option (List ℕ)) (wf : Bool) (outcome : Result Bool ServeFault)
-    → Served job input rf old new wf outcome → Served job None rf old new wf outcome
-served_unknown (Run file at handler) input rf old new wf outcome h = run_unknown (injection_of (Run file at handler)) input rf old new wf outcome h
-served_unknown (Campaign file options quiet) input rf old new wf outcome h = campaign_unknown input rf old new wf outcome h
+  served_as_known : (job : Job) (outcome : Result Bool ServeFault) → Served job input rf old new wf outcome → Served job other rf old new wf outcome
+  served_as_known (Run file at handler) outcome h = run_as_known (injection_of (Run file at handler)) outcome h
+  served_as_known (Campaign file options quiet) outcome h = campaign_as_known outcome h
 
-does_unknown : (job : Job) (input : Option (List ℕ)) (rf past : Bool) (old new : Option (List ℕ)) (wf : Bool) (outcome : Result Bool JobFault)
-    → Does job input rf past old new wf outcome → Does job None rf past old new wf outcome
-does_unknown job input rf past old new wf (Ok passes) h = (h.0, served_unknown job input rf old new wf (Ok passes) h.1)
-does_unknown job input rf past old new wf (Err (Serve fault)) h = (h.0, h.1, served_unknown job input rf old new wf (Err fault) h.2)
-does_unknown job input rf past old new wf (Err TooLarge) h = (h.0, h.1, served_unknown job input rf old new wf (Err Read) h.2)
-does_unknown job input rf past old new wf (Err Unpaired) h = h
+  does_as_known : (job : Job) (outcome : Result Bool JobFault) → Does job input rf old new wf outcome → Does job other rf old new wf outcome
+  does_as_known job (Ok passes) h = (h.0, served_as_known job (Ok passes) h.1)
+  does_as_known job (Err (Serve fault)) h = (h.0, served_as_known job (Err fault) h.1)
+  does_as_known job (Err TooLarge) h = absurd h
+  does_as_known job (Err Unpaired) h = h
 
--- A file that was opened.
-pub opens : (job : Job) (input : Option (List ℕ)) (rf past : Bool) (old new : Option (List ℕ)) (wf : Bool) (outcome : Result Bool JobFault)
-    → Does job input rf past old new wf outcome → OpensAndDoes job old new wf outcome
-opens job input rf past old new wf outcome done = inr (rf, past, does_unknown job input rf past old new wf outcome done)
+-- ---- a file
+
+within_file : (file : Option (List ℕ)) (bytes : List ℕ) → Known file bytes → length bytes ≤ most_bytes → IfSome file (λ all. length all ≤ most_bytes)
+within_file None bytes known few = tt
+within_file (Some all) bytes known few = rw (← known) few
+
+-- A job that is done over the bytes that were read of a file is done over the file.
+module _ (job : Job) (file : Option (List ℕ)) (bytes : List ℕ) (old new : Option (List ℕ)) (wf : Bool) (reads : is_unpaired job ≡ false → Known file bytes × (length bytes ≤ most_bytes)) where
+  does_whole : (outcome : Result Bool JobFault) → is_unpaired job ≡ false → Does job (Some bytes) false old new wf outcome
+      → IfSome file (λ all. length all ≤ most_bytes) × Does job file false old new wf outcome
+  does_whole outcome paired h =
+      let read = reads paired in
+      (within_file file bytes read.0 read.1, does_as_known (Some bytes) file (λ some same. rw same read.0) false old new wf job outcome h)
+
+  over_file : (outcome : Result Bool JobFault) → Does job (Some bytes) false old new wf outcome → DoesOverFile job file false old new wf outcome
+  over_file (Ok passes) h = does_whole (Ok passes) h.0 h
+  over_file (Err TooLarge) h = absurd h
+  over_file (Err Unpaired) h = h
+  over_file (Err (Serve Read)) h = (does_whole (Err (Serve Read)) h.0 h).1
+  over_file (Err (Serve Memory)) h = (does_whole (Err (Serve Memory)) h.0 h).1
+  over_file (Err (Serve NotToml)) h = does_whole (Err (Serve NotToml)) h.0 h
+  over_file (Err (Serve (Load fault))) h = does_whole (Err (Serve (Load fault))) h.0 h
+  over_file (Err (Serve UnknownHandler)) h = does_whole (Err (Serve UnknownHandler)) h.0 h
+  over_file (Err (Serve TooManyPoints)) h = does_whole (Err (Serve TooManyPoints)) h.0 h
+  over_file (Err (Serve Write)) h = does_whole (Err (Serve Write)) h.0 h
+
+pub does_over_file : (job : Job) (file : Option (List ℕ)) (bytes : List ℕ) (rf : Bool) (old new : Option (List ℕ)) (wf : Bool) (outcome : Result Bool JobFault)
+    → ReadsFor job file rf bytes → Does job (Some bytes) false old new wf outcome → DoesOverFile job file rf old new wf outcome
+does_over_file job file bytes rf old new wf outcome reads h = rw reads.0 (over_file job file bytes old new wf reads.1 outcome h)
+
+-- A fault of reading is one of what is asked for.
+served_fault : (job : Job) (file : Option (List ℕ)) (rf wf : Bool) (old : Option (List ℕ)) (e : ReadFault) → (e ≡ read.Memory → file ≢ Some [])
+    → rf ≡ is_read_fault {A = Bool} (Err (of_reading e)) → wf ≡ false → Served job file rf old old wf (Err (of_reading e))
+served_fault (Run name at handler) file rf wf old read.Failed some failed working =
+    serves_file_fault (injection_of (Run name at handler)) file rf wf old Read (reading_failed file read.Failed some) failed refl working
+served_fault (Run name at handler) file rf wf old read.Memory some failed working =
+    serves_file_fault (injection_of (Run name at handler)) file rf wf old Memory (reading_failed file read.Memory some) failed refl working
+served_fault (Campaign name options quiet) file rf wf old read.Failed some failed working =
+    campaign_serves_file_fault file rf wf old Read (reading_failed file read.Failed some) failed refl working
+served_fault (Campaign name options quiet) file rf wf old read.Memory some failed working =
+    campaign_serves_file_fault file rf wf old Memory (reading_failed file read.Memory some) failed refl working
+
+pub fails_over_file : (job : Job) (file : Option (List ℕ)) (rf wf : Bool) (old : Option (List ℕ)) (fault : JobFault)
+    → FailsToRead job file rf fault → wf ≡ false → DoesOverFile job file rf old old wf (Err fault)
+fails_over_file job file rf wf old TooLarge h working = (h.0, h.2, h.1, Keeps-refl old, working)
+fails_over_file job file rf wf old Unpaired h working = absurd h
+fails_over_file job file rf wf old (Serve Read) h working = (h.0, served_fault job file rf wf old read.Failed (λ e. absurd (cc)) h.1 working)
+fails_over_file job file rf wf old (Serve Memory) h working = (h.0, served_fault job file rf wf old read.Memory (λ e. h.2) h.1 working)
+fails_over_file job file rf wf old (Serve NotToml) h working = absurd h
+fails_over_file job file rf wf old (Serve (Load fault)) h working = absurd h
+fails_over_file job file rf wf old (Serve UnknownHandler) h working = absurd h
+fails_over_file job file rf wf old (Serve TooManyPoints) h working = absurd h
+fails_over_file job file rf wf old (Serve Write) h working = absurd h
+
+-- A file that was opened, whose bytes nobody knows.
+no_more_known : (job : Job) (file : Option (List ℕ)) (rf : Bool) (old new : Option (List ℕ)) (wf : Bool) (outcome : Result Bool JobFault)
+    → Does job file rf old new wf outcome → Does job None rf old new wf outcome
+no_more_known job file rf old new wf outcome h = does_as_known file None (λ bytes known. tt) rf old new wf job outcome h
+
+over_unknown_file : (job : Job) (file : Option (List ℕ)) (rf : Bool) (old new : Option (List ℕ)) (wf : Bool) (outcome : Result Bool JobFault)
+    → DoesOverFile job file rf old new wf outcome → DoesOverFile job None rf old new wf outcome
+over_unknown_file job file rf old new wf (Ok passes) h = (tt, no_more_known job file rf old new wf (Ok passes) h.1)
+over_unknown_file job file rf old new wf (Err TooLarge) h = (h.0, tt, h.2, h.3, h.4)
+over_unknown_file job file rf old new wf (Err Unpaired) h = h
+over_unknown_file job file rf old new wf (Err (Serve Read)) h = no_more_known job file rf old new wf (Err (Serve Read)) h
+over_unknown_file job file rf old new wf (Err (Serve Memory)) h = no_more_known job file rf old new wf (Err (Serve Memory)) h
+over_unknown_file job file rf old new wf (Err (Serve NotToml)) h = (tt, no_more_known job file rf old new wf (Err (Serve NotToml)) h.1)
+over_unknown_file job file rf old new wf (Err (Serve (Load fault))) h = (tt, no_more_known job file rf old new wf (Err (Serve (Load fault))) h.1)
+over_unknown_file job file rf old new wf (Err (Serve UnknownHandler)) h = (tt, no_more_known job file rf old new wf (Err (Serve UnknownHandler)) h.1)
+over_unknown_file job file rf old new wf (Err (Serve TooManyPoints)) h = (tt, no_more_known job file rf old new wf (Err (Serve TooManyPoints)) h.1)
+over_unknown_file job file rf old new wf (Err (Serve Write)) h = (tt, no_more_known job file rf old new wf (Err (Serve Write)) h.1)
+
+pub opens : (job : Job) (file : Option (List ℕ)) (rf : Bool) (old new : Option (List ℕ)) (wf : Bool) (outcome : Result Bool JobFault)
+    → DoesOverFile job file rf old new wf outcome → OpensAndDoes job old new wf outcome
+opens job file rf old new wf outcome done = inr (rf, over_unknown_file job file rf old new wf outcome done)

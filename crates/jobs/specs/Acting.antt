@@ -1,5 +1,5 @@
 -- What doing a job comes to; the program's status and fault lines.
-use Rattle.std.specs.Prelude.{◌≡◌, ◌⊎◌, ◌==◌, ℕ, Bool, true, false, List, [], ◌∷◌, ◌++◌, codes, decimal, Option, Some, None, Result, Ok, Err}
+use Rattle.std.specs.Prelude.{◌≡◌, ◌≢◌, ◌⊎◌, ◌==◌, ◌<◌, ◌≤◌, ◌*◌, ◌^◌, ℕ, length, IfSome, Bool, true, false, List, [], ◌∷◌, ◌++◌, codes, decimal, Option, Some, None, Result, Ok, Err}
 use Rattle.std.specs.Option.{option_map_or}
 use Rattle.std.specs.Io.KnownBytes.{Appends, Keeps}
 use Rattle.byte_io.specs.Bytes.{SentFront}
@@ -13,6 +13,7 @@ use Rattle.script.specs.Faults.{fault_code, fault_name, place_words}
 use Rattle.campaign.specs.declared.at.At.{At}
 use Rattle.campaign.specs.declared.file.ServeFault.{ServeFault}
 use Rattle.campaign.specs.declared.file.ServeFault.TheVariants.{Read, NotToml, Load, UnknownHandler, TooManyPoints, Memory, Write}
+use Rattle.campaign.specs.Serving.{Known}
 use Rattle.campaign.specs.OneRun.{ServesRun}
 use Rattle.campaign.specs.Campaigns.{ServesCampaign}
 use Rattle.jobs.specs.declared.acting.Job.{Job}
@@ -73,18 +74,51 @@ Served (Run file at handler) input read_failed old new write_failed outcome =
 Served (Campaign file options quiet) input read_failed old new write_failed outcome =
     CampaignServed input read_failed old new write_failed outcome
 
--- What doing a job comes to, over an input: what it asks for is served; or its reader has failed since too much came; or its step
--- and its handler don't go together, and nothing is written.
-abbrev pub Does : Job → (input : Option (List ℕ)) → (read_failed is_past : Bool) → (old new : Option (List ℕ)) → (write_failed : Bool)
+-- What doing a job comes to, over an input: what it asks for is served; or its step and its handler don't go together, and nothing is
+-- written.
+abbrev pub Does : Job → (input : Option (List ℕ)) → (read_failed : Bool) → (old new : Option (List ℕ)) → (write_failed : Bool)
     → Result Bool JobFault → Type 0
-Does job input read_failed is_past old new write_failed (Ok passes) =
+Does job input read_failed old new write_failed (Ok passes) =
     (is_unpaired job ≡ false) × Served job input read_failed old new write_failed (Ok passes)
-Does job input read_failed is_past old new write_failed (Err (Serve fault)) =
-    (is_unpaired job ≡ false) × (fault ≡ Read → is_past ≡ false) × Served job input read_failed old new write_failed (Err fault)
-Does job input read_failed is_past old new write_failed (Err TooLarge) =
-    (is_unpaired job ≡ false) × (is_past ≡ true) × Served job input read_failed old new write_failed (Err Read)
-Does job input read_failed is_past old new write_failed (Err Unpaired) =
+Does job input read_failed old new write_failed (Err (Serve fault)) =
+    (is_unpaired job ≡ false) × Served job input read_failed old new write_failed (Err fault)
+Does job input read_failed old new write_failed (Err TooLarge) = ⊥
+Does job input read_failed old new write_failed (Err Unpaired) =
     (is_unpaired job ≡ true) × (read_failed ≡ false) × Keeps old new × (write_failed ≡ false)
+
+-- ---- files
+
+-- 64 MiB (profile)
+abbrev pub most_bytes : ℕ
+most_bytes = 64 * 2 ^ 20
+
+-- These bytes are those of the job's file; none are read where its step and its handler don't go together.
+abbrev pub ReadsFor : Job → (file : Option (List ℕ)) → (read_failed : Bool) → List ℕ → Type 0
+ReadsFor job file read_failed bytes =
+    (read_failed ≡ false) × (is_unpaired job ≡ false → Known file bytes × (length bytes ≤ most_bytes))
+
+-- Why the bytes of the job's file were not read: there are more than 64 MiB, the reader failed, or no memory is left.
+abbrev pub FailsToRead : Job → (file : Option (List ℕ)) → (read_failed : Bool) → JobFault → Type 0
+FailsToRead job file read_failed TooLarge =
+    (is_unpaired job ≡ false) × (read_failed ≡ false) × IfSome file (λ bytes. most_bytes < length bytes)
+FailsToRead job file read_failed (Serve Read) = (is_unpaired job ≡ false) × (read_failed ≡ true)
+FailsToRead job file read_failed (Serve Memory) = (is_unpaired job ≡ false) × (read_failed ≡ false) × (file ≢ Some [])
+FailsToRead job file read_failed fault = ⊥
+
+-- What doing a job over a file comes to: the job is done over its bytes, of which there are 64 MiB at most where all were read; or
+-- there are more, and nothing is written.
+abbrev pub DoesOverFile : Job → (file : Option (List ℕ)) → (read_failed : Bool) → (old new : Option (List ℕ)) → (write_failed : Bool)
+    → Result Bool JobFault → Type 0
+DoesOverFile job file read_failed old new write_failed (Err TooLarge) =
+    (is_unpaired job ≡ false) × IfSome file (λ bytes. most_bytes < length bytes) × (read_failed ≡ false) × Keeps old new
+    × (write_failed ≡ false)
+DoesOverFile job file read_failed old new write_failed (Err Unpaired) = Does job file read_failed old new write_failed (Err Unpaired)
+DoesOverFile job file read_failed old new write_failed (Err (Serve Read)) =
+    Does job file read_failed old new write_failed (Err (Serve Read))
+DoesOverFile job file read_failed old new write_failed (Err (Serve Memory)) =
+    Does job file read_failed old new write_failed (Err (Serve Memory))
+DoesOverFile job file read_failed old new write_failed outcome =
+    IfSome file (λ bytes. length bytes ≤ most_bytes) × Does job file read_failed old new write_failed outcome
 
 -- The file of a job can't be opened, or there is no memory for it: nothing is written.
 abbrev pub LacksFile : (old new : Option (List ℕ)) → (write_failed : Bool) → Result Bool JobFault → Type 0
@@ -94,7 +128,7 @@ LacksFile old new write_failed outcome =
 -- What doing a job over the file that it names comes to: one of the two, for some bytes.
 abbrev pub OpensAndDoes : Job → (old new : Option (List ℕ)) → (write_failed : Bool) → Result Bool JobFault → Type 0
 OpensAndDoes job old new write_failed outcome =
-    LacksFile old new write_failed outcome ⊎ ((read_failed is_past : Bool) × Does job None read_failed is_past old new write_failed outcome)
+    LacksFile old new write_failed outcome ⊎ ((read_failed : Bool) × DoesOverFile job None read_failed old new write_failed outcome)
 
 -- ---- the status
 

@@ -14,9 +14,13 @@ use Rattle.jobs.specs.Words.{IsJobOf, rtosim_app}
 
 -- ---- words that name no job
 
--- Words of this kind are refused: they ask neither for help nor for the version.
+-- Words of this kind ask for help or for the version.
+abbrev pub AsksForText : ErrorKind → Type 0
+AsksForText kind = (kind ≡ DisplayHelp) ⊎ (kind ≡ DisplayVersion)
+
+-- Words of this kind are refused: they ask for neither, and memory is not what lacks.
 abbrev pub IsRefusal : ErrorKind → Type 0
-IsRefusal kind = (kind ≢ DisplayHelp) × (kind ≢ DisplayVersion)
+IsRefusal kind = (kind ≢ DisplayHelp) × (kind ≢ DisplayVersion) × (kind ≢ OutOfMemory)
 
 -- the status where a text was to be written: 5 where the writer failed
 abbrev pub shown_status : (write_failed : Bool) → ℕ
@@ -28,16 +32,16 @@ abbrev pub ShownTells : (write_failed : Bool) → (old new : Option (List ℕ)) 
 ShownTells false old new failed = Keeps old new × (failed ≡ false)
 ShownTells true old new failed = Tells old new failed (fault_line [] (Serve Write))
 
--- Help or the version was asked for: a text is written.
+-- Help or the version was asked for: some text is written.
 pub record Shows (kind : ErrorKind) (old new : Option (List ℕ)) (write_failed : Bool)
     (faults_old faults_new : Option (List ℕ)) (tell_failed : Bool) (status : ℕ) : Type 0 where
-  pub asked : IsRefusal kind → ⊥
+  pub asked : AsksForText kind
   pub text : List ℕ
   pub writes : Tells old new write_failed text
   pub tells : ShownTells write_failed faults_old faults_new tell_failed
   pub ends : status ≡ shown_status write_failed
 
--- The words are refused: a text that says why is told, its control characters escaped, and nothing is written.
+-- The words are refused: some text is told, its control characters escaped, and nothing is written.
 pub record RefusesWords (kind : ErrorKind) (old new : Option (List ℕ)) (write_failed : Bool)
     (faults_old faults_new : Option (List ℕ)) (tell_failed : Bool) (status : ℕ) : Type 0 where
   pub refused : IsRefusal kind

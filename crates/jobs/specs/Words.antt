@@ -1,5 +1,5 @@
 -- The words that the program takes.
-use Rattle.std.specs.Prelude.{◌≡◌, ◌<◌, ◌^◌, ◌⊎◌, Bool, true, false, ℕ, List, [], ◌∷◌, map, codes, pos, Option, Some, None, option_map}
+use Rattle.std.specs.Prelude.{◌≡◌, ◌<◌, ◌≤◌, ◌^◌, ◌⊎◌, IfSome, Bool, true, false, ℕ, List, [], ◌∷◌, map, codes, pos, Option, Some, None, option_map}
 use Rattle.std.specs.Borrow.{Bor}
 use Rattle.std.specs.Str.{bytes_eq}
 use Rattle.std.specs.Str.Parse.{IsNumeral, digits_value, without_leading_plus}
@@ -10,6 +10,7 @@ use Rattle.clap.specs.declared.builder.value_parser.ValueParser.TheVariants.{Sig
 use Rattle.clap.specs.declared.builder.arg.Arg.{Arg}
 use Rattle.clap.specs.declared.builder.command.Command.{Command}
 use Rattle.clap.specs.declared.builder.command.Command.TheViews.{out-Command as fields_of}
+use Rattle.model.specs.Scripts.{last_point}
 use Rattle.campaign.specs.declared.options.BadOption.{BadOption}
 use Rattle.campaign.specs.declared.options.Options.{Options}
 use Rattle.campaign.specs.Options.{bad_option}
@@ -95,11 +96,15 @@ number_of text = digits_value 10 (without_leading_plus text)
 abbrev pub IsNumber : Text → Type 0
 IsNumber text = IsNumeral 10 (without_leading_plus text) × (number_of text < 2 ^ 32)
 
+-- The step is the one that the words of `run` name, if they name one; it is in its range.
+abbrev pub IsStepOf : List Row → Option ℕ → Type 0
+IsStepOf rows at = (option_map number_of (one_of (codes "at") rows) ≡ at) × IfSome at (λ step. step ≤ last_point)
+
 -- The job is to run the file that the words of `run` name, with the step and the handler that they name.
 abbrev pub IsRunOf : List Row → Job → Type 0
 IsRunOf rows (Run file at handler) =
     (first_of (codes "FILE") rows ≡ Some file.now)
-    × (option_map number_of (one_of (codes "at") rows) ≡ at)
+    × IsStepOf rows at
     × (first_of (codes "handler") rows ≡ option_map (λ name. name.now) handler)
 IsRunOf rows (Campaign file options quiet) = ⊥
 
@@ -136,9 +141,15 @@ abbrev pub IsNoNumber : Option Text → Type 0
 IsNoNumber None = ⊥
 IsNoNumber (Some text) = IsNumber text → ⊥
 
--- The words of `run` name no file, or a step that is no number.
+-- The step that the words of `run` name is no number, or out of its range.
+abbrev pub NamesNoStep : List Row → Type 0
+NamesNoStep rows =
+    IsNoNumber (one_of (codes "at") rows)
+    ⊎ ((step : ℕ) × (option_map number_of (one_of (codes "at") rows) ≡ Some step) × (last_point < step))
+
+-- The words of `run` name no file, or no step.
 abbrev pub NamesNoRun : List Row → Type 0
-NamesNoRun rows = (first_of (codes "FILE") rows ≡ None) ⊎ IsNoNumber (one_of (codes "at") rows)
+NamesNoRun rows = (first_of (codes "FILE") rows ≡ None) ⊎ NamesNoStep rows
 
 -- An option has no number.
 abbrev pub LacksNumber : (name : Text) → List Row → Type 0

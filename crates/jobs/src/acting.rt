@@ -4,12 +4,10 @@ ghost use Rattle.std.specs.IoError.{error_kind};
 ghost use Rattle.campaign.specs.declared.file.ServeFault.{ServeFault};
 ghost use Rattle.jobs.specs.declared.acting.JobFault.{JobFault};
 ghost use Rattle.jobs.specs.declared.acting.JobFault.TheVariants as job_fault;
-ghost use Rattle.jobs.specs.Acting.{RunServed, CampaignServed, Does, OpensAndDoes, Tells, fault_line, is_unpaired, told, status_of};
-ghost use Rattle.jobs.specs.Limited.{is_past, left_of, failed_of};
+ghost use Rattle.jobs.specs.Acting.{RunServed, CampaignServed, Does, DoesOverFile, OpensAndDoes, ReadsFor, FailsToRead, Tells, fault_line, is_unpaired, told, status_of};
 
 use crate::fault_line::tell;
-use crate::limited::Limited;
-use byte_io::{FromReader, Sink, Source};
+use byte_io::{FromReader, ReadFault, Sink, Source, read_at_most};
 use campaign::{At, Gate, Options, ServeFault, serve, serve_run, serve_watched};
 use model::End;
 use std::alloc::Global;
@@ -200,15 +198,15 @@ fn serve_job<T: Threads + Wait + Sync, R: Source, W: Sink, G: Gate + Sync>(
     rt: &T,
     alloc: Global,
     job: &Job<'_>,
-    reader: &mut Limited<R>,
+    reader: &mut R,
     writer: &mut W,
     gate: &G,
 ) -> Result<bool, JobFault>
-    requires reads { failed_of R.has_failed reader.old ≡ false }
+    requires reads { R.has_failed reader.old ≡ false }
     requires writes { W.has_failed writer.old ≡ false }
-    ensures does { Does job.now (left_of R.left reader.old) (failed_of R.has_failed reader.new) (is_past reader.new)
+    ensures does { Does job.now (R.left reader.old) (R.has_failed reader.new)
         (W.held writer.old) (W.held writer.new) (W.has_failed writer.new) result }
-    ensures unread { is_unpaired job.now ≡ true → left_of R.left reader.new ≡ left_of R.left reader.old }
+    ensures unread { is_unpaired job.now ≡ true → R.left reader.new ≡ R.left reader.old }
 {
     let at = job.injection()?;
     let served = match *job {
@@ -217,40 +215,83 @@ fn serve_job<T: Threads + Wait + Sync, R: Source, W: Sink, G: Gate + Sync>(
             serve_campaign(rt, alloc, options, quiet, reader, writer, gate)
         }
     };
-    match served {
-        Ok(passes) => Ok(passes),
-        Err(ServeFault::Read) if reader.is_past() => Err(JobFault::TooLarge),
-        Err(fault) => Err(JobFault::Serve(fault)),
-    }
+    Ok(served?)
 }
 
 /// Does the job: reads its file from `reader`, and writes to `writer` what the job asks for. Answers the status that the
 /// program ends with, and puts the line of a fault, if any, to `faults`; that this fails changes nothing.
 ///
-/// Where the job's step and its handler don't go together, nothing is read. Where the reader has failed since more than 64 MiB
-/// came, this is told. The gate is told how far a campaign has come, unless it is quiet; no clause speaks of that. It waits for the
-/// workers of a campaign, whose threads are this runtime's.
+/// Where the job's step and its handler don't go together, nothing is read. The gate is told how far a campaign has come, unless it is
+/// quiet; no clause speaks of that. It waits for the workers of a campaign, whose threads are this runtime's.
 pub fn act<T: Threads + Wait + Sync, R: Source, W: Sink, F: Sink, G: Gate + Sync>(
     rt: &T,
     alloc: Global,
     job: &Job<'_>,
-    reader: &mut Limited<R>,
+    reader: &mut R,
     writer: &mut W,
     faults: &mut F,
     gate: &G,
 ) -> u8
-    requires reads { failed_of R.has_failed reader.old ≡ false }
+    requires reads { R.has_failed reader.old ≡ false }
     requires writes { W.has_failed writer.old ≡ false }
     requires tells { F.has_failed faults.old ≡ false }
     ensures does { (outcome : Result Bool JobFault)
-        × Does job.now (left_of R.left reader.old) (failed_of R.has_failed reader.new) (is_past reader.new)
+        × Does job.now (R.left reader.old) (R.has_failed reader.new)
         (W.held writer.old) (W.held writer.new) (W.has_failed writer.new) outcome
         × Tells (F.held faults.old) (F.held faults.new) (F.has_failed faults.new) (told job.now outcome)
         × (result ≡ status_of outcome) }
-    ensures unread { is_unpaired job.now ≡ true → left_of R.left reader.new ≡ left_of R.left reader.old }
+    ensures unread { is_unpaired job.now ≡ true → R.left reader.new ≡ R.left reader.old }
 {
     let outcome = serve_job(rt, alloc, job, reader, writer, gate);
     conclude(job, faults, outcome)
+}
+
+// 64 MiB (profile).
+const MOST: usize = 67_108_864;
+
+// The bytes of the job's file, where they are 64 MiB at most. None are read where its step and its handler don't go together.
+fn bytes_for<R: Source>(alloc: Global, job: &Job<'_>, reader: &mut R) -> Result<Vec<u8>, JobFault>
+    requires { R.has_failed reader.old ≡ false }
+    ensures read { MatchResult result
+        (λ bytes. ReadsFor job.now (R.left reader.old) (R.has_failed reader.new) bytes.items)
+        (FailsToRead job.now (R.left reader.old) (R.has_failed reader.new)) }
+    ensures unread { is_unpaired job.now ≡ true → R.left reader.new ≡ R.left reader.old }
+{
+    if job.injection().is_err() {
+        return Ok(Vec::new(alloc));
+    }
+    match read_at_most(alloc, reader, MOST) {
+        Ok(Some(bytes)) => Ok(bytes),
+        Ok(None) => Err(JobFault::TooLarge),
+        Err(ReadFault::Failed) => Err(JobFault::Serve(ServeFault::Read)),
+        Err(ReadFault::Memory) => Err(JobFault::Serve(ServeFault::Memory)),
+    }
+}
+
+// Does the job over its file, which `reader` gives. Nothing is read where its step and its handler don't go together.
+fn act_over_file<T: Threads + Wait + Sync, R: Source, W: Sink, F: Sink, G: Gate + Sync>(
+    rt: &T,
+    alloc: Global,
+    job: &Job<'_>,
+    reader: &mut R,
+    writer: &mut W,
+    faults: &mut F,
+    gate: &G,
+) -> u8
+    requires reads { R.has_failed reader.old ≡ false }
+    requires writes { W.has_failed writer.old ≡ false }
+    requires tells { F.has_failed faults.old ≡ false }
+    ensures does { (outcome : Result Bool JobFault)
+        × DoesOverFile job.now (R.left reader.old) (R.has_failed reader.new)
+        (W.held writer.old) (W.held writer.new) (W.has_failed writer.new) outcome
+        × Tells (F.held faults.old) (F.held faults.new) (F.has_failed faults.new) (told job.now outcome)
+        × (result ≡ status_of outcome) }
+    ensures unread { is_unpaired job.now ≡ true → R.left reader.new ≡ R.left reader.old }
+{
+    match bytes_for(alloc, job, reader) {
+        Ok(bytes) => act(rt, alloc, job, &mut bytes.as_slice(), writer, faults, gate),
+        Err(fault) => conclude(job, faults, Err(fault)),
+    }
 }
 
 // The fault of a file that could not be opened.
@@ -266,7 +307,8 @@ fn fault_of(error: &io::Error) -> ServeFault
     }
 }
 
-/// Opens the file of the job, and does the job over it and the two sinks. A file that can't be opened is one that can't be
+/// Opens the file of the job, and does the job over it and the two sinks. At most 64 MiB of it are read (profile): of a larger file, or
+/// of a device that has no end, this is the fault. A file that can't be opened is one that can't be
 /// read, also where the job's step and handler don't go together. The contract says of the file's bytes that there are such;
 /// that they are those of the file, the tests show.
 pub fn open_and_act<T: Threads + Wait + Files + Sync, W: Sink, F: Sink, G: Gate + Sync>(
@@ -286,8 +328,8 @@ pub fn open_and_act<T: Threads + Wait + Files + Sync, W: Sink, F: Sink, G: Gate 
 {
     match File::open(rt, job.file()) {
         Ok(file) => {
-            let mut reader = Limited::new(FromReader::new(file));
-            act(rt, alloc, job, &mut reader, writer, faults, gate)
+            let mut reader = FromReader::new(file);
+            act_over_file(rt, alloc, job, &mut reader, writer, faults, gate)
         }
         Err(error) => conclude(job, faults, Err(JobFault::Serve(fault_of(&error)))),
     }

@@ -4,13 +4,11 @@
 
 mod acting;
 mod fault_line;
-mod limited;
 mod obeying;
 mod processors;
 mod words;
 
 pub use acting::{Job, JobFault, act, conclude, open_and_act, refuse, status_of};
 pub use fault_line::tell;
-pub use limited::Limited;
 pub use obeying::{conclude_error, obey};
 pub use words::job_named;

@@ -1,10 +1,11 @@
 //! What is done for the words of the command line.
-ghost use Rattle.std.specs.Prelude.{◌≡◌, false, map, option_map, string_bytes};
+ghost use Rattle.std.specs.Prelude.{◌≡◌, ◌≢◌, ◌⊎◌, false, map, option_map, string_bytes};
 ghost use Rattle.std.specs.Int.NonZero.{non_zero_usize_get};
 ghost use Rattle.byte_io.specs.Shown.{shown_lines};
 ghost use Rattle.clap.specs.Words.{kind_of};
 ghost use Rattle.jobs.specs.Acting.{Tells};
-ghost use Rattle.jobs.specs.Obeying.{Concludes, Obeys, ShownTells, shown_status};
+ghost use Rattle.clap.specs.declared.error.kind.ErrorKind.TheVariants.{OutOfMemory};
+ghost use Rattle.jobs.specs.Obeying.{Concludes, Obeys, RefusesWords, ShownTells, Shows, shown_status};
 ghost use Rattle.jobs.specs.Processors.{meant};
 
 use crate::acting::{open_and_act, refuse};
@@ -48,6 +49,29 @@ fn refuse_words<F: Sink>(text: &str, faults: &mut F) -> u8
     2
 }
 
+// Ends a call whose words name no job, by the text of `clap` for their kind.
+fn conclude_text<W: Sink, F: Sink>(
+    kind: ErrorKind,
+    text: &str,
+    writer: &mut W,
+    faults: &mut F,
+) -> u8
+    requires writes { W.has_failed writer.old ≡ false }
+    requires tells { F.has_failed faults.old ≡ false }
+    requires kind { kind ≢ OutOfMemory }
+    ensures { Shows kind
+        (W.held writer.old) (W.held writer.new) (W.has_failed writer.new)
+        (F.held faults.old) (F.held faults.new) (F.has_failed faults.new) result
+        ⊎ RefusesWords kind
+        (W.held writer.old) (W.held writer.new) (W.has_failed writer.new)
+        (F.held faults.old) (F.held faults.new) (F.has_failed faults.new) result }
+{
+    match kind {
+        ErrorKind::DisplayHelp | ErrorKind::DisplayVersion => show(text, writer, faults),
+        _ => refuse_words(text, faults),
+    }
+}
+
 /// Ends a call whose words name no job: help and the version are written, any other text of `clap` is told, its
 /// control characters escaped but for the line feeds.
 pub fn conclude_error<W: Sink, F: Sink>(
@@ -62,17 +86,14 @@ pub fn conclude_error<W: Sink, F: Sink>(
         (W.held writer.old) (W.held writer.new) (W.has_failed writer.new)
         (F.held faults.old) (F.held faults.new) (F.has_failed faults.new) result }
 {
-    if error.kind() == ErrorKind::OutOfMemory {
+    let kind = error.kind();
+    if kind == ErrorKind::OutOfMemory {
         return refuse(faults, ServeFault::Memory);
     }
     let Ok(text) = error.to_string(alloc) else {
         return refuse(faults, ServeFault::Memory);
     };
-    if error.use_stderr() {
-        refuse_words(text.as_str(), faults)
-    } else {
-        show(text.as_str(), writer, faults)
-    }
+    conclude_text(kind, text.as_str(), writer, faults)
 }
 
 // Does what these words ask for, in which `auto` stands for nothing.

@@ -1,9 +1,10 @@
 //! The words of the command line.
-ghost use Rattle.std.specs.Prelude.{◌≡◌, Some, IfOk, IfErr, IfSome, IsNone, MatchResult, true, map, option_map};
+ghost use Rattle.std.specs.Prelude.{◌≡◌, Some, codes, IfOk, IfErr, IfSome, IsSome, IsNone, MatchResult, true, map, option_map};
 ghost use Rattle.clap.specs.declared.builder.ArgAction.TheVariants.{Set};
+ghost use Rattle.clap.specs.declared.builder.command.Command.TheViews.{out-Command as fields_of};
 ghost use Rattle.clap.specs.Words.{new_app, new_rule, with_subcommand, takes, kind_of, subcommand_of, first_of, one_of, found_of, rows_of, subcommand_rows_of, fault_of, FailsBy};
 ghost use Rattle.clap.specs.declared.error.kind.ErrorKind.TheVariants.{OutOfMemory};
-ghost use Rattle.jobs.specs.Words.{file_rule, at_rule, handler_rule, quiet_rule, option_rule, workers_rule, stride_rule, block_rule, run_app, campaign_app, rtosim_top, rtosim_app, texts_of, number_of, is_given, IsCommandOf, IsArgOf, IsRunOf, AreOptionsOf, IsCampaignOf, IsJobOf, IsNoNumber, NamesNoRun, NamesNoOptions, NamesNoCampaign, NamesNoJob};
+ghost use Rattle.jobs.specs.Words.{file_rule, at_rule, handler_rule, quiet_rule, option_rule, workers_rule, stride_rule, block_rule, run_app, campaign_app, rtosim_top, rtosim_app, texts_of, number_of, is_given, IsCommandOf, IsArgOf, IsStepOf, IsRunOf, AreOptionsOf, IsCampaignOf, IsJobOf, IsNoNumber, NamesNoStep, NamesNoRun, NamesNoOptions, NamesNoCampaign, NamesNoJob};
 
 use crate::acting::Job;
 use campaign::Options;
@@ -20,6 +21,9 @@ const STATUSES: &str = "Exit status:
      more than 1000000 points
   4  no memory is left
   5  the report can't be written";
+
+// The latest step before which a handler can be injected (profile).
+const MOST_STEP: u32 = 1_000_000;
 
 fn file_argument<'a>(alloc: Global) -> Arg<'a>
     ensures { IsArgOf file_rule result }
@@ -59,7 +63,7 @@ fn at_argument<'a>(alloc: Global) -> Arg<'a>
     ensures { IsArgOf at_rule result }
 {
     valued_argument(alloc, "at", "STEP")
-        .value_parser(value_parser!(u32).range(..=1_000_000))
+        .value_parser(value_parser!(u32).range(..=i64::from(MOST_STEP)))
         .help("The step, 0 to 1000000, before which the handler is injected")
 }
 
@@ -106,7 +110,9 @@ fn block_argument<'a>(alloc: Global) -> Arg<'a>
 
 // A command of this name without arguments, whose help says what it is about and ends with the statuses.
 fn described_command<'a>(alloc: Global, name: &'a str, about: &'a str) -> Command<'a>
-    ensures { IsCommandOf (new_app name.now) result }
+    ensures reads { IsCommandOf (new_app name.now) result }
+    ensures about { (fields_of result).about ≡ Some about.entry }
+    ensures statuses { IsSome (fields_of result).after_help }
 {
     Command::new(alloc, name).about(about).after_help(STATUSES)
 }
@@ -147,7 +153,9 @@ fn campaign_command<'a>(alloc: Global) -> Result<Command<'a>, AllocError>
 
 // The program without its commands.
 fn program<'a>(alloc: Global) -> Command<'a>
-    ensures { IsCommandOf rtosim_top result }
+    ensures reads { IsCommandOf rtosim_top result }
+    ensures about { IsSome (fields_of result).about }
+    ensures version { option_map (λ version. version.now) (fields_of result).version ≡ Some (codes "0.1.0") }
 {
     described_command(
         alloc,
@@ -189,15 +197,25 @@ fn number(matches: &ArgMatches<'_>, id: &str) -> Result<Option<u32>, ParseIntErr
     matches.try_get_one::<u32>(id)
 }
 
+// The step that the words of `run` name, if they name one. `None`: it is no number, or out of its range.
+fn step_of(matches: &ArgMatches<'_>) -> Option<Option<u32>>
+    ensures step { IfSome result (IsStepOf (rows_of (found_of matches.now))) }
+    ensures none { IsNone result → NamesNoStep (rows_of (found_of matches.now)) }
+{
+    match number(matches, "at") {
+        Ok(Some(step)) if step > MOST_STEP => None,
+        Ok(at) => Some(at),
+        Err(_) => None,
+    }
+}
+
 // The job of the command `run`.
 fn run_job<'a>(matches: &ArgMatches<'a>) -> Option<Job<'a>>
     ensures job { IfSome result (IsRunOf (rows_of (found_of matches.now))) }
     ensures none { IsNone result → NamesNoRun (rows_of (found_of matches.now)) }
 {
     let file = text(matches, "FILE")?;
-    let Ok(at) = number(matches, "at") else {
-        return None;
-    };
+    let at = step_of(matches)?;
     let handler = text(matches, "handler");
     Some(Job::Run { file, at, handler })
 }

@@ -8,4 +8,4 @@ pub returns : goal.returns
 returns c =
     let arguments : List Rule = file_rule ∷ workers_rule ∷ stride_rule ∷ block_rule ∷ quiet_rule ∷ [] in
     let are : AreArgsOf arguments c.in_ok-arguments.arguments.items = rw c.in_ok-arguments.ensures.items (c.file_argument.ensures, (c.workers_argument.ensures, (c.stride_argument.ensures, (c.block_argument.ensures, (c.quiet_argument.ensures, tt))))) in
-    with_arguments _ _ arguments _ _ c.described_command.ensures are c.args-2.ensures
+    with_arguments _ _ arguments _ _ c.described_command.ensures.reads are c.args-2.ensures
