@@ -1,8 +1,9 @@
-//! A plan of three points.
+//! Plans, and runs with several injections.
+ghost use Rattle.std.specs.Prelude.{◌<◌};
 
 use crate::loading::loaded;
 use crate::sinks::check_text;
-use model::{App, Event, Meter, Plan, Point, What};
+use model::{App, BadPlan, Event, HandlerId, Meter, Plan, Point, What};
 use std::alloc::{AllocError, Global};
 use std::process::Abort;
 
@@ -77,4 +78,101 @@ fn a_call_that_waited_before_and_need_not_now_gives_way(rt: HostRuntime) -> Resu
     let name = "three points";
     check_text(&rt, alloc, name, seen.as_bytes(), SWITCHES);
     Ok(())
+}
+
+// Each handler marks 16 numbers, and each number is marked once.
+const MARKS: u32 = 16;
+
+const INJECTED: u32 = 3;
+
+const AT_THE_TICK: u32 = 4;
+
+/// A file whose first step is a tick, at which four handlers come; three others are there to be injected.
+fn marking_handlers(alloc: Global) -> Result<String, AllocError> {
+    let mut text = String::new(alloc);
+    for handler in 0..INJECTED + AT_THE_TICK {
+        let first = format!(in alloc; "[[handler]]\nname = 'h{handler}'\nops = [")?;
+        text.push_str(first.as_str())?;
+        push_marks(alloc, handler, &mut text)?;
+        text.push_str("]\n")?;
+    }
+    for handler in INJECTED..INJECTED + AT_THE_TICK {
+        let entry = format!(in alloc; "[[interrupt]]\ntick = 1\nhandler = 'h{handler}'\n")?;
+        text.push_str(entry.as_str())?;
+    }
+    text.push_str("[[task]]\nname = 'a'\npriority = 1\nscript = ['work 1', 'work 1']\n")?;
+    Ok(text)
+}
+
+/// Appends the ops of a handler, which is one of seven.
+fn push_marks(alloc: Global, handler: u32, text: &mut String) -> Result<(), AllocError>
+    requires { handler < 7 }
+{
+    for op in 0..MARKS {
+        let number = handler * MARKS + op;
+        let entry = format!(in alloc; "'mark {number}', ")?;
+        text.push_str(entry.as_str())?;
+    }
+    Ok(())
+}
+
+#[test]
+fn a_step_of_112_marks(rt: HostRuntime) -> Result<(), AllocError> {
+    let alloc = rt.alloc();
+    let file = marking_handlers(alloc)?;
+    let app = loaded(&rt, alloc, file.as_str());
+    let plan = plan_of(&rt, alloc, &app, &[(0, "h0"), (0, "h1"), (0, "h2")])?;
+    let run = kernel::run(alloc, &app, &plan, app.limits(), &mut Meter::new());
+    let run = run.expect(&rt, "memory");
+    let mut expected = 0;
+    for event in &run.events {
+        if let What::IsrMark(_, number) = event.what {
+            assert!(&rt; event.step == 0 && number == expected, "{number} is marked");
+            assert!(&rt; event.tick == u32::from(expected >= INJECTED * MARKS));
+            expected = number.saturating_add(1);
+        }
+    }
+    assert!(&rt; expected == (INJECTED + AT_THE_TICK) * MARKS);
+    Ok(())
+}
+
+/// Why the injections at these steps are no plan, if they are none.
+fn refusal_of(rt: &impl Abort, alloc: Global, steps: &[u32]) -> Option<BadPlan> {
+    let mut plan = Vec::new(alloc);
+    for step in steps {
+        let point = Point {
+            step: *step,
+            handler: HandlerId { number: 0 },
+        };
+        plan.push(point).expect(rt, "memory");
+    }
+    Plan::new(plan).err()
+}
+
+#[test]
+fn plans_that_are_refused(rt: HostRuntime) {
+    let alloc = rt.alloc();
+    assert!(&rt; refusal_of(&rt, alloc, &[]).is_none());
+    assert!(&rt; refusal_of(&rt, alloc, &[2, 2, 2]).is_none());
+    assert!(&rt; refusal_of(&rt, alloc, &[2, 2, 2, 3, 3, 3]).is_none());
+    assert!(&rt; matches!(refusal_of(&rt, alloc, &[3, 2]), Some(BadPlan::Falling)));
+    assert!(&rt;
+        matches!(
+            refusal_of(&rt, alloc, &[2, 2, 2, 2]),
+            Some(BadPlan::Crowded)
+        )
+    );
+    assert!(&rt;
+        matches!(
+            refusal_of(&rt, alloc, &[1, 2, 2, 2, 2, 3]),
+            Some(BadPlan::Crowded)
+        )
+    );
+    // Falling comes first.
+    assert!(&rt;
+        matches!(
+            refusal_of(&rt, alloc, &[2, 2, 2, 2, 1]),
+            Some(BadPlan::Falling)
+        )
+    );
 }

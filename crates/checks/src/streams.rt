@@ -1,9 +1,8 @@
 //! Jobs over readers and writers that are narrow, or fail at once or in mid-stream.
 
 use crate::sinks::{Breaking, Holder, check_text};
-use byte_io::FromReader;
 use campaign::{NoGate, Options};
-use jobs::{Job, Limited, act};
+use jobs::{Job, act};
 use std::alloc::Global;
 use std::process::Abort;
 use std::sync::Wait;
@@ -54,7 +53,7 @@ fn check_byte_by_byte<R: Abort + Threads + Wait + Sync>(
     status: u8,
     texts: (&str, &str),
 ) {
-    let mut reader = Limited::new(FromReader::new(file.as_bytes()));
+    let mut reader = file.as_bytes();
     let mut written = Holder::wide(alloc, 1);
     let mut told = Holder::wide(alloc, 1);
     let found = act(
@@ -95,7 +94,7 @@ fn check_full_writer<R: Abort + Threads + Wait + Sync>(
     is_polite: bool,
 ) -> Holder {
     let job = base_run_of("app.toml");
-    let mut reader = Limited::new(FromReader::new(file.as_bytes()));
+    let mut reader = file.as_bytes();
     let mut written = Holder::new(alloc, 4096, room, is_polite);
     let mut told = Holder::wide(alloc, 4096);
     let status = act(
@@ -140,7 +139,7 @@ fn check_broken_reader<R: Abort + Threads + Wait + Sync>(
     room: usize,
 ) {
     let job = base_run_of("a folder");
-    let mut reader = Limited::new(Breaking::new(ONE_MARK.as_bytes(), calls));
+    let mut reader = Breaking::new(ONE_MARK.as_bytes(), calls);
     let mut written = Holder::wide(alloc, 4096);
     let mut told = Holder::new(alloc, 4096, room, false);
     let status = act(

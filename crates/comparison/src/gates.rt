@@ -70,6 +70,50 @@ impl Gate for Meeting {
     }
 }
 
+/// Keeps each worker in its first block until all workers are in one.
+#[derive(Drop)]
+struct Assembling {
+    workers: u64,
+    // A bit for each worker that has entered a block.
+    present: AtomicU64,
+    // How many workers have seen all of them.
+    met: AtomicU64,
+}
+
+impl Assembling {
+    fn new(workers: u64) -> Assembling {
+        Assembling {
+            workers,
+            present: AtomicU64::new(0),
+            met: AtomicU64::new(0),
+        }
+    }
+
+    fn have_all_met(&self) -> bool {
+        self.met.load(Ordering::SeqCst) == self.workers
+    }
+
+    fn wait(&self) {
+        for _ in 0..TURNS {
+            let present = self.present.load(Ordering::SeqCst).count_ones();
+            if u64::from(present) == self.workers {
+                self.met.fetch_add(1, Ordering::SeqCst);
+                break;
+            }
+            std::hint::spin_loop();
+        }
+    }
+}
+
+impl Gate for Assembling {
+    fn entered(&self, worker: usize, _block: usize, _seen: &Counts) {
+        let bit = 1u64 << (worker % 64);
+        if self.present.fetch_or(bit, Ordering::SeqCst) & bit == 0 {
+            self.wait();
+        }
+    }
+}
+
 // The steps of the points.
 const STEPS: [u32; 7] = [0, 2, 2, 3, 5, 6, 7];
 
@@ -105,6 +149,24 @@ fn two_workers_are_in_two_blocks_at_once(rt: HostRuntime) {
     let gate = Meeting::new(1);
     run(&rt, rt.alloc(), &[3, 4], TWO_WORKERS, &gate);
     assert!(rt; gate.has_met());
+}
+
+// Each of so many workers is in a block while all others are.
+fn workers_assemble<R: Abort + Threads + Wait + Sync>(rt: &R, alloc: Global, workers: usize) {
+    let gate = Assembling::new(workers as u64);
+    let manner = Manner {
+        workers,
+        stride: 64,
+    };
+    run(rt, alloc, &[1, 1, 1, 1, 1, 1, 1], manner, &gate);
+    assert!(rt; gate.have_all_met(), "{workers} workers");
+}
+
+#[test]
+fn all_workers_are_in_their_first_blocks_at_once(rt: HostRuntime) {
+    for workers in [2, 3, 4] {
+        workers_assemble(&rt, rt.alloc(), workers);
+    }
 }
 
 #[test]
