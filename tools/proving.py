@@ -33,20 +33,25 @@ def below(name, stand_on):
     return [*found]
 
 
+def copy(here, there):
+    """Copies a file or a folder with all in it, where there is one, and links as links, which rt refuses."""
+    if os.path.isdir(here) and not os.path.islink(here):
+        shutil.copytree(here, there, symlinks=True)
+    elif os.path.lexists(here):
+        shutil.copy(here, there, follow_symlinks=False)
+
+
 def copy_crates(parts, folder, root=ROOT):
     """Makes the folder a repository of some crates alone: of each those parts, files or folders, that stand at its name, where it has
     them."""
     os.makedirs(f"{folder}/crates")
     with open(f"{root}/crates.txt", encoding="utf-8") as file, open(f"{folder}/crates.txt", "w", encoding="utf-8") as to:
         to.writelines(it for it in file if re.match(r"\w*", it)[0] in parts)
-    shutil.copy(f"{root}/HANDLES", folder)
+    copy(f"{root}/HANDLES", f"{folder}/HANDLES")
     for name in parts:
+        os.mkdir(f"{folder}/crates/{name}")
         for part in parts[name]:
-            here, there = f"{root}/crates/{name}/{part}", f"{folder}/crates/{name}/{part}"
-            if os.path.isdir(here):
-                shutil.copytree(here, there)
-            elif os.path.exists(here):
-                shutil.copy(here, there)
+            copy(f"{root}/crates/{name}/{part}", f"{folder}/crates/{name}/{part}")
 
 
 def are_left_by_ci(names, root=ROOT):
