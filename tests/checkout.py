@@ -51,7 +51,11 @@ make_program
 # lowest, and the program as rt does.
 RATTLE = r"""#!/bin/sh
 . "$STAND_IN/says.sh"
-case "$*" in *--help) echo "Prim.{search} --empty-contracts"; exit ;; esac
+if [ "$2" = --help ]; then
+    . "$STAND_IN/help"
+    echo "Prim.{search} --empty-contracts"
+    exit
+fi
 echo "$*" >>"$STAND_IN/calls"
 case $3 in
 report) . "$STAND_IN/proofs" ;;
@@ -122,7 +126,8 @@ def stand_ins():
     """The text of each file of the kit's stand-in."""
     with open(f"{KIT}/bin/rt", encoding="utf-8") as rt, open(f"{KIT}/bin/rtlib.py", encoding="utf-8") as rtlib:
         tools = {"rt": RT + rt.read(), "rtlib.py": rtlib.read(), "rattle": RATTLE, "rattle-link": "#!/bin/sh\n"}
-    plans = {"rt.sh": RT_SH, "says.sh": SAYS, "program": PROGRAM, **dict.fromkeys(("plan", "proofs", "lowest", "calls", "said"), "")}
+    plans = {"rt.sh": RT_SH, "says.sh": SAYS, "program": PROGRAM}
+    plans.update(dict.fromkeys(("plan", "proofs", "lowest", "help", "calls", "said"), ""))
     prelude = {"rattle/std/specs/Prelude.antt": "pub use mathlib.Core.Path.{◌≡◌}\n"}
     return {**{f"bin/{it}": text for it, text in tools.items()}, "toolchain/bin/clang": READER_OF_CALLS, **plans, **prelude}
 

@@ -1,9 +1,10 @@
 """Cases of the launcher: what `rt ci` refuses though rattle proves it is refused by bin/rtosim too; and rt proves alone where it is another
 than the launcher knows."""
 import os
+import signal
 
 from cases import case, case_named, equal, holds
-from checkout import BUILT, NO_PROGRAM, builds, only_runs
+from checkout import BUILT, NO_PROGRAM, PATIENCE, builds, only_runs, wait_until
 
 REFUSED = "rtosim: there is no program to run, since rt ci refuses its sources"
 LONGER = "rtosim: rt alone proves, which takes longer and keeps the proofs: "
@@ -11,57 +12,112 @@ IS_NOT_LOOKED_FOR = "so what rt ci refuses is not looked for: "
 
 # What rattle says of a crate that it proves and rt ci refuses: the crate, lines above the last one, words in that, and what is shown.
 PROVED_AND_REFUSED = {
-    "a function that may hide what its contract says": ("low", "hides low::pick", "hides=1", "low: hides low::pick", "low: a function on a line"),
-    "a fault of rattle in what it generated": ("low", "note: low.echo.Code is refused", "bugs=1", "low: note: low.echo.Code", "low: rattle refused"),
-    "a function that may abort": ("report", "", "may-abort=1", "report: a function takes the bound Abort"),
-    "a function that may wait, where HANDLES has none": ("low", "", "may-wait=1", "low: it takes handles", "not allow (none): Wait."),
-    "a program that opens sockets": ("rtosim", "", "main=Net", "rtosim: it takes handles", "not allow (none): Net."),
-    "a C function": ("low", "", "foreign=low::beep", "low: it declares C functions"),
-    "a word that no verdict may rest on": ("low", "", "guesses=1", "low: logic=proved functions=2 guesses=1", "low: rattle's last line has a word"),
+    "a function that may hide what its contract says": (
+        ("low", "hides low::pick", "hides=1"),
+        ("low: hides low::pick", "low: a function on a line"),
+    ),
+    "a fault of rattle in what it generated": (
+        ("low", "note: low.echo.Code is refused", "bugs=1"),
+        ("low: note: low.echo.Code", "low: rattle refused"),
+    ),
+    "a function that may abort": (
+        ("report", "", "may-abort=1"),
+        ("report: a function takes the bound Abort",),
+    ),
+    "a function that may wait, where HANDLES has none": (
+        ("low", "", "may-wait=1"),
+        ("low: it takes handles", "not allow (none): Wait."),
+    ),
+    "a program that opens sockets": (
+        ("rtosim", "", "main=Net"),
+        ("rtosim: it takes handles", "not allow (none): Net."),
+    ),
+    "a C function": (
+        ("low", "", "foreign=low::beep"),
+        ("low: it declares C functions",),
+    ),
+    "a word that no verdict may rest on": (
+        ("low", "", "guesses=1"),
+        ("low: logic=proved functions=2 guesses=1", "low: rattle's last line has a word"),
+    ),
     "a term that a tactic chose in a spec": (
-        "low",
-        "./specs/Low.antt:9:9: warning: `search` has chosen a term of a type that is data, `x`\n"
-        "warning: calls of a tactic that chose a term which a contract may read: 1",
-        "",
-        "low: crates/low/specs/Low.antt:9:9: warning: `search` has chosen a term",
-        "low: a tactic chose a term",
+        (
+            "low",
+            "./specs/Low.antt:9:9: warning: `search` has chosen a term of a type that is data, `x`\n"
+            "warning: calls of a tactic that chose a term which a contract may read: 1",
+            "",
+        ),
+        ("low: crates/low/specs/Low.antt:9:9: warning: `search` has chosen a term", "low: a tactic chose a term"),
     ),
     "a value that a tactic chose in a proof of a library": (
-        "low",
-        "./proofs/Low.antt:3:5: note: `grind` has chosen a term of a type that is data, `x`",
-        "",
-        "low: crates/low/proofs/Low.antt:3:5: note: `grind` has chosen",
-        "low: a tactic chose a term",
+        ("low", "./proofs/Low.antt:3:5: note: `grind` has chosen a term of a type that is data, `x`", ""),
+        ("low: crates/low/proofs/Low.antt:3:5: note: `grind` has chosen", "low: a tactic chose a term"),
     ),
     "a part of a clause that `search` stands in for": (
-        "low",
-        "src/lib.rt:1:2: note: `search` stands in for a part of the clause",
-        "",
-        "low: crates/low/src/lib.rt:1:2: note: `search` stands in",
-        "low: `search` fills in",
+        ("low", "src/lib.rt:1:2: note: `search` stands in for a part of the clause", ""),
+        ("low: crates/low/src/lib.rt:1:2: note: `search` stands in", "low: `search` fills in"),
     ),
     "a pattern that is spelled like a constructor": (
-        "report",
-        "./specs/Report.antt:8:5: warning: this pattern binds a variable spelled like a constructor: `zer0` is near `zero`",
-        "",
-        "report: crates/report/specs/Report.antt:8:5: warning: this pattern binds",
-        "report: a pattern takes every value",
+        ("report", "./specs/Report.antt:8:5: warning: this pattern binds a variable spelled like a constructor: `zer0`", ""),
+        ("report: crates/report/specs/Report.antt:8:5: warning: this pattern binds", "report: a pattern takes every value"),
     ),
-    "an impl that a macro of the repository writes": ("report", "by-macro: low::make blocks=1", "", "report: by-macro: low::make", "report: a macro of"),
-    "a macro call that writes nothing": ("low", "by-macro: std::write blocks=0", "", "low: by-macro: std::write", "low: a macro call may hide"),
+    "an impl that a macro of the repository writes": (
+        ("report", "by-macro: low::make blocks=1", ""),
+        ("report: by-macro: low::make", "report: a macro of"),
+    ),
+    "a macro call that writes nothing": (
+        ("low", "by-macro: std::write blocks=0", ""),
+        ("low: by-macro: std::write", "low: a macro call may hide"),
+    ),
 }
 
-# Texts that rt ci refuses: a file of the crate low, what it has, and what is shown.
+# Texts that rt ci refuses: a file below crates/, what it has, and what is shown.
 REFUSED_TEXTS = {
-    "a requires that a proof file gives a closure": ("proofs/pick/fn/0/Invariants.antt", "requires = n ≤ 3\n", "this file gives a closure a requires"),
-    "a tactic in a clause": ("src/more.rt", "fn f() -> u8\n    ensures { result ≡ ground }\n{ 1 }\n", "ground: in a clause or a spec"),
-    "an imported tactic": ("proofs/More.antt", "use Prim.{simp}\n", "do not import simp from Prim"),
-    "another meaning of an operator": ("specs/More.antt", "use Rattle.low.specs.Low.{same as ◌≡◌}\n", "a use under the name ◌≡◌"),
-    "a macro whose name hides it": ("src/more.rt", "__make! {}\n", "__make begins with __"),
-    "std by another name": ("src/more.rt", "use std as other;\n", "low: it renames std"),
-    "a test that nothing runs": ("src/more.rt", "#[test]\n#[ignore]\nfn f() {}\n", "low: it has a test that nothing runs"),
-    "a name of a handle that HANDLES does not have": ("src/more.rt", "use std::net::TcpListener;\n", "low: it names what only the handle Net reaches"),
-    "a file that no check reads": ("specs/more.rt", "more\n", "no check reads "),
+    "a requires that a proof file gives a closure": (
+        "low/proofs/pick/fn/0/Invariants.antt",
+        "requires = n ≤ 3\n",
+        "this file gives a closure a requires",
+    ),
+    "a tactic in a clause": (
+        "report/src/more.rt",
+        "fn f() -> u8\n    ensures { result ≡ ground }\n{ 1 }\n",
+        "ground: in a clause or a spec",
+    ),
+    "an imported tactic": (
+        "rtosim/proofs/More.antt",
+        "use Prim.{simp}\n",
+        "do not import simp from Prim",
+    ),
+    "another meaning of an operator": (
+        "low/specs/More.antt",
+        "use Rattle.low.specs.Low.{same as ◌≡◌}\n",
+        "a use under the name ◌≡◌",
+    ),
+    "a macro whose name hides it": (
+        "report/src/more.rt",
+        "__make! {}\n",
+        "__make begins with __",
+    ),
+    "std by another name": (
+        "rtosim/src/more.rt",
+        "use std as other;\n",
+        "rtosim: it renames std",
+    ),
+    "a test that nothing runs": (
+        "low/src/more.rt",
+        "#[test]\n#[ignore]\nfn f() {}\n",
+        "low: it has a test that nothing runs",
+    ),
+    "a name of a handle that HANDLES does not have": (
+        "report/src/more.rt",
+        "use std::net::TcpListener;\n",
+        "report: it names what only the handle Net",
+    ),
+    "a file that no check reads": (
+        "rtosim/specs/more.rt",
+        "more\n",
+        "no check reads ",
+    ),
 }
 
 
@@ -81,13 +137,13 @@ def plan(a, crate, notes="", words=""):
     a.write(f"{a.stand_in}/{crate}.words", words)
 
 
-def refuses_what_is_said(crate, notes, words, *shown):
+def refuses_what_is_said(said, shown):
     def refuses(a):
-        plan(a, crate, notes, words)
+        plan(a, *said)
         is_refused(a, *shown)
         a.keep_proofs()
         is_refused(a, *shown)
-        plan(a, crate)
+        plan(a, said[0])
         a.write("crates/low/src/lib.rt", "lower\n")
         equal(builds(a), "made of lower add report text main\n")
 
@@ -96,12 +152,12 @@ def refuses_what_is_said(crate, notes, words, *shown):
 
 def refuses_text(file, text, shown):
     def refuses(a):
-        a.write(f"crates/low/{file}", text)
+        a.write(f"crates/{file}", text)
         is_refused(a, shown)
         a.keep_proofs()
         is_refused(a, shown)
         equal((a.read(f"{a.stand_in}/calls"), a.read(f"{a.stand_in}/said")), ("", ""))
-        os.remove(a.path(f"crates/low/{file}"))
+        os.remove(a.path(f"crates/{file}"))
         equal(builds(a), BUILT)
 
     return refuses
@@ -115,11 +171,61 @@ for what, told in REFUSED_TEXTS.items():
 
 @case
 def a_link_among_the_sources_is_refused(a):
-    for link, to in (("src/more.rt", "lib.rt"), ("specs", "src")):
-        os.symlink(to, a.path(f"crates/low/{link}"))
-        is_refused(a, f"crates/low/{link} is a link")
-        os.remove(a.path(f"crates/low/{link}"))
+    for keep in (lambda: None, a.keep_proofs):
+        keep()
+        for link, to in (("src/more.rt", "lib.rt"), ("specs", "src")):
+            os.symlink(to, a.path(f"crates/low/{link}"))
+            is_refused(a, f"crates/low/{link} is a link")
+            os.remove(a.path(f"crates/low/{link}"))
     equal(builds(a), BUILT)
+
+
+@case
+def a_pipe_among_the_sources_is_refused(a):
+    os.mkfifo(a.path("crates/report/src/pipe"))
+    status, _, err = a.start()
+    equal(status, 70)
+    holds(err, "is a named pipe")
+    a.keep_proofs()
+    is_refused(a, "crates/report/src/pipe is no plain file or folder")
+
+
+@case
+def a_crate_with_the_name_of_a_library_of_the_toolchain_is_refused(a):
+    a.write("crates/tokio/src/lib.rt", "tokio\n")
+    a.write("crates.txt", "low:\ntokio:\nreport: low tokio\nrtosim: report\n")
+    is_refused(a, "tokio: it has the name of a library of the toolchain")
+
+
+@case
+def a_library_that_reaches_past_the_handles_is_refused(a):
+    os.makedirs(f"{a.stand_in}/rlibs/libc.rlib")
+    a.write("crates.txt", "low: libc\nreport: low\nrtosim: report\n")
+    is_refused(a, "low: crates.txt lists libc or os")
+    a.write("HANDLES", "Handles allowed: Net.\n")
+    equal(builds(a), BUILT)
+
+
+@case
+def from_nothing_tells_by_its_status_what_was_judged(a):
+    def status():
+        proving = a.started("1", launcher=a.path("tools/from_nothing"), cwd=a.path("crates/rtosim"))
+        proving.communicate(timeout=PATIENCE)
+        return proving.returncode
+
+    equal(status(), 0)
+    plan(a, "low", words="hides=1")
+    equal(status(), 1)
+    plan(a, "low")
+    a.write("crates/low/src/more.rt", "use std as other;\n")
+    equal(status(), 1)
+    os.remove(a.path("crates/low/src/more.rt"))
+    a.plan_proofs("exit 3")
+    equal(status(), 1)
+    a.plan_proofs("exit 2")
+    equal(status(), 2)
+    os.remove(f"{a.stand_in}/bin/rtlib.py")
+    equal(status(), 2)
 
 
 @case
@@ -201,6 +307,20 @@ def what_has_been_judged_is_not_said_again(a):
 def contracts_that_no_call_can_meet_are_left_to_rt_ci(a):
     builds(a)
     assert "--empty-contracts" not in a.read(f"{a.stand_in}/calls")
+
+
+@case
+def a_signal_ends_the_judging(a):
+    a.keep_proofs()
+    a.write(f"{a.stand_in}/help", ': >"$STAND_IN/waits"; until [ -e "$STAND_IN/go" ]; do sleep 0.02; done\n')
+    started = a.started()
+    wait_until(a.has_begun, "rattle is asked")
+    started.terminate()
+    wait_until(lambda: started.poll() is not None, "it has ended")
+    equal((started.returncode, a.calls()), (-signal.SIGTERM, 0))
+    started.communicate()
+    a.go()
+    equal(builds(a), BUILT)
 
 
 def change_kit(a, file, *changes):

@@ -100,13 +100,22 @@ class Judge:
         # (warnings, which rt check prints too)
         with parts_of_rt(), contextlib.redirect_stderr(io.StringIO()):
             for crate in self.crates:
+                self.look_at_listing(crate)
                 self.lib.stop_on_links(crate.folder)
                 self.lib.stop_on_unread(crate.folder, self.crates)
                 self.lib.stop_on_text(crate, "verdict")
                 self.rt.stop_on_words(crate)
                 self.look_at_code(crate)
 
+    def look_at_listing(self, crate):
+        """Raises Refused for the crate's name, or for libraries of the kit by which it could reach what HANDLES doesn't allow."""
+        if crate.name in self.rt.TAKEN:
+            raise Refused(f"{crate.name}: it has the name of a library of the toolchain")
+        if {"libc", "os"} & {*crate.of_kit} and not {"Net", "Processes"} & {*crate.allowed}:
+            raise Refused(f"{crate.name}: crates.txt lists libc or os, which reach past the handles")
+
     def look_at_code(self, crate):
+        """Raises Refused for what the crate's code names."""
         code = self.lib.code_of(crate.folder)
         if re.search(self.rt.RENAMES, code):
             raise Refused(f"{crate.name}: it renames std, or takes it whole")
