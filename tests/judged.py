@@ -415,6 +415,15 @@ def where_rattle_does_not_take_rt_s_words_rt_proves_alone_and_is_judged(a):
 
 
 @case
+def code_that_rattle_does_not_take_is_refused_and_rt_is_not_tried(a):
+    a.plan_proofs('echo "src/lib.rt:3:1: error[unsupported-theorem]: not yet"; exit 2')
+    status, _, err = a.start()
+    equal((status, err.splitlines()[-1]), (70, NO_PROGRAM))
+    holds(err, "rtosim: crates/report/src/lib.rt:3:1: error[unsupported-theorem]")
+    assert "all check" not in a.read(f"{a.stand_in}/calls"), "rt is tried too"
+
+
+@case
 def where_rt_says_nothing_that_can_be_judged_that_is_said(a):
     a.keep_proofs()
     a.write(f"{a.stand_in}/says.sh", a.read(f"{a.stand_in}/says.sh").replace("echo \"crate $1:", "echo \"a crate $1:"))
