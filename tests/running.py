@@ -4,6 +4,7 @@ The program is crates/rtosim/out/rtosim, or the one that is named as the argumen
 import fcntl
 import json
 import os
+import re
 import subprocess
 import sys
 
@@ -58,6 +59,16 @@ def stored(name):
     """The bytes of a file of the repository."""
     with open(f"{ROOT}/{name}", "rb") as it:
         return it.read()
+
+
+def refused_texts(path):
+    """Each text of a table of refused ones, as stored.py has them, and its fault."""
+    head, *tables = re.split(r"(?m)^rtosim: (.*)\n", stored(path).decode())
+    for fault, texts in zip(tables[::2], tables[1::2]):
+        if "..." in head:
+            yield from ((head.replace("...", it), fault) for it in texts.splitlines() if it)
+        else:
+            yield head + texts.lstrip("\n"), fault
 
 
 def started_with_small_pipe(*words, **how):

@@ -15,7 +15,7 @@ import re
 import shlex
 
 from cases import case, case_named, equal
-from running import ROOT, run, stored, write
+from running import ROOT, refused_texts, run, stored, write
 
 ENDINGS = (".out", ".report", ".session", ".faults")
 OPTIONS = (
@@ -68,16 +68,6 @@ def answers_as_stored(path):
         wanted = (lines.encode(), b"") if int(status) < 2 else (b"", lines.encode())
         found = run(*shlex.split(words), cwd=os.path.dirname(f"{ROOT}/{path}"))
         answers(f"rtosim{words}", found, (int(status), *wanted))
-
-
-def refused_texts(path):
-    """Each text of a table, and its fault."""
-    head, *tables = re.split(r"(?m)^rtosim: (.*)\n", stored(path).decode())
-    for fault, texts in zip(tables[::2], tables[1::2]):
-        if "..." in head:
-            yield from ((head.replace("...", it), fault) for it in texts.splitlines() if it)
-        else:
-            yield head + texts.lstrip("\n"), fault
 
 
 def refuses_as_stored(path):

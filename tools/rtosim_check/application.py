@@ -1,0 +1,76 @@
+"""What a document holds of the format, as far as it can be read: entries, names, texts of ops and points."""
+from .formats import MOST_POINTS, NAME, NAMED, SECTIONS, STEP, words_of
+from .nodes import Array, Integer, Table, Text
+
+
+class Entry:
+    """An entry of a section: which one, its table, and its name where it has one."""
+
+    def __init__(self, section, index, table):
+        self.section, self.index, self.table = section, index, table
+        name = table.get("name") if isinstance(table, Table) else None
+        self.name = name.value if isinstance(name, Text) else None
+
+    @property
+    def label(self):
+        """As `task "drv"`, or `task 0` where it has no good name."""
+        return f'{self.section} "{self.name}"' if self.name and NAME.fullmatch(self.name) else f"{self.section} {self.index}"
+
+    def texts(self):
+        """The nodes of its ops, those that are texts."""
+        array = self.table.get("script" if self.section == "task" else "ops")
+        return [(at, it) for at, it in enumerate(array.items) if isinstance(it, Text)] if isinstance(array, Array) else []
+
+
+class Application:
+    """The document by sections and by names."""
+
+    def __init__(self, root):
+        self.root = root
+        self.entries = {name: list(self.entries_of(name)) for name, section in SECTIONS.items() if section.is_list}
+        self.named = {}
+        for section in NAMED:
+            for entry in self.entries[section]:
+                if entry.name is not None:
+                    self.named.setdefault(entry.name, entry)
+
+    def entries_of(self, section):
+        array = self.root.get(section)
+        items = array.items if isinstance(array, Array) else []
+        return (Entry(section, index, it) for index, it in enumerate(items) if isinstance(it, Table))
+
+    def names_of(self, kinds):
+        return [name for name, entry in self.named.items() if entry.section in kinds]
+
+    def points(self):
+        """The nodes of the points, or None where there is no such array."""
+        campaign = self.root.get("campaign")
+        array = campaign.get("points") if isinstance(campaign, Table) else None
+        return array.items if isinstance(array, Array) else None
+
+
+class Point:
+    """A point's text as pairs of a step and a handler; of `all HANDLER` the step is None."""
+
+    def __init__(self, text):
+        words = [it[0] for it in words_of(text)]
+        self.is_all = words[:1] == ["all"] and len(words) == 2
+        pairs = list(zip(words[::2], words[1::2]))
+        self.pairs = [(None if self.is_all else int(step), handler) for step, handler in pairs
+                      if self.is_all or STEP.fits(step)]
+
+
+def count_of_points(nodes, steps):
+    """How many points these stand for, where the base run has so many steps."""
+    every = sum(isinstance(it, Text) and it.value.lstrip(" ").startswith("all ") for it in nodes)
+    return len(nodes) - every + every * steps
+
+
+def are_too_many(nodes, steps):
+    return count_of_points(nodes, steps) > MOST_POINTS
+
+
+def integer_of(table, key):
+    """The number that a key of a table has, or None."""
+    node = table.get(key) if isinstance(table, Table) else None
+    return node.value if isinstance(node, Integer) else None

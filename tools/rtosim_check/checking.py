@@ -1,0 +1,136 @@
+"""Checks a file: asks the program, and explains its fault or looks for what a tester can't mean."""
+import os
+import stat
+
+from . import explaining, ignored, points, reach, unused
+from .application import Application
+from .findings import FAULT, Checked, Finding
+from .formats import MOST_POINTS
+from .lines import Lines
+from .nodes import NotToml
+from .toml_reader import read_document
+from .verdict import Verdict
+
+MOST_BYTES = 64 << 20
+ENCODINGS = ((b"\xff\xfe\0\0", "UTF-32"), (b"\0\0\xfe\xff", "UTF-32"), (b"\xff\xfe", "UTF-16"), (b"\xfe\xff", "UTF-16"))
+
+
+def check(name, program):
+    """All that is found in the file of this name."""
+    try:
+        with open(name, "rb") as file:
+            content = file.read(MOST_BYTES + 1)
+    except (OSError, ValueError) as why:
+        return cannot_read(name, program, why)
+    line, base = program.run(content)
+    if line is None:
+        return taken(name, content, base, program)
+    return refused(name, content, Verdict(line.replace("cannot read /dev/stdin", f"cannot read {name}")), program)
+
+
+def cannot_read(name, program, why):
+    checked = Checked(name)
+    checked.could_be_checked = False
+    reason = {IsADirectoryError: "it is a directory", FileNotFoundError: "there is no such file",
+              PermissionError: "you have no permission to read it"}.get(type(why), getattr(why, "strerror", None) or str(why))
+    checked.add(Finding(FAULT, "CannotRead", None, f"cannot be read: {reason}{near_file(name, why)}", None, program.fault_of_file(name)))
+    return checked
+
+
+def near_file(name, why):
+    """A file beside it that may be meant."""
+    if not isinstance(why, FileNotFoundError):
+        return ""
+    for other in (f"{name}.toml", f"{name[:-5]}.TOML" if name.endswith(".toml") else f"{name}.tml"):
+        if is_file(other):
+            return f"; did you mean {other}?"
+    return ""
+
+
+def is_file(name):
+    try:
+        return stat.S_ISREG(os.stat(name).st_mode)
+    except (OSError, ValueError):
+        return False
+
+
+# -- a file that is refused
+
+
+def refused(name, content, verdict, program):
+    if verdict.kind in ("TooLarge", "CannotRead", "Memory"):
+        return not_judged(name, content, verdict)
+    text, problem = text_of(content)
+    checked = Checked(name, Lines(text))
+    root = None
+    if problem is None:
+        try:
+            root = read_document(text)
+        except NotToml as fault:
+            problem = Finding(FAULT, "NotToml", (fault.start, fault.end), with_line(fault, checked.lines), fault.rule)
+    if verdict.kind == "NotToml":
+        checked.add(problem or Finding(FAULT, "NotToml", None, "the program finds no TOML document here, and this check no fault in it"))
+    elif root is None or not verdict.place:
+        checked.add(Finding(FAULT, verdict.kind or "Fault", None, "the program refuses this file"))
+    else:
+        checked.add(explaining.explain(verdict, text, root, program.takes_several))
+        for it in ignored.warnings(root):
+            if it.span != checked.findings[0].span:
+                checked.add(it)
+    checked.findings[0].program = verdict.line
+    return checked
+
+
+def with_line(fault, lines):
+    return fault.message if fault.other is None else fault.message.replace("{line}", str(lines.line_of(fault.other)))
+
+
+def not_judged(name, content, verdict):
+    """A file that the program couldn't judge."""
+    checked = Checked(name)
+    checked.could_be_checked = False
+    message = {"TooLarge": "the file has more than 64 MiB", "Memory": "there is no memory left to check it"}.get(verdict.kind)
+    checked.add(Finding(FAULT, verdict.kind, None, message or "cannot be read", None, verdict.line))
+    return checked
+
+
+def text_of(content):
+    """The text of a file, and what is wrong with its bytes, if something is."""
+    front = content[:200]
+    if front.count(0) * 4 > len(front) and len(content) <= MOST_BYTES:
+        return "", Finding(FAULT, "NotToml", (0, 0), "the file looks like UTF-16 without its first bytes; save it as UTF-8", "a file is UTF-8")
+    try:
+        return content.decode("utf-8"), None
+    except UnicodeDecodeError as why:
+        encoding = next((it for mark, it in ENCODINGS if content.startswith(mark)), None)
+        if encoding:
+            message = f"the file is {encoding} (it begins with the bytes {content[:2].hex(' ').upper()}); save it as UTF-8"
+            return "", Finding(FAULT, "NotToml", (0, 0), message, "a file is UTF-8")
+        at = len(content[: why.start].decode("utf-8"))
+        text = content.decode("utf-8", "replace")
+        message = f"the byte 0x{content[why.start]:02X} is no part of a UTF-8 text; save the file as UTF-8"
+        return text, Finding(FAULT, "NotToml", (at, at + 1), message, "a file is UTF-8")
+
+
+# -- a file that the program takes
+
+
+def taken(name, content, base, program):
+    text, _ = text_of(content)
+    checked = Checked(name, Lines(text))
+    try:
+        root = read_document(text)
+    except NotToml:
+        return checked
+    application = Application(root)
+    nodes = application.points() or []
+    if points.are_too_many(nodes, base.steps):
+        line = program.campaign(content)
+        if line is not None and Verdict(line).kind == "TooManyPoints":
+            checked.add(points.too_many(nodes, base, root, line))
+    looks = (ignored.warnings(root), unused.warnings(application), points.warnings(application, base), reach.warnings(application, checked.lines))
+    for found in looks:
+        for it in found:
+            checked.add(it)
+    checked.findings.sort(key=lambda it: (it.severity, it.span or (0, 0)))
+    return checked

@@ -1,0 +1,76 @@
+"""A document that is refused, and the place of its fault: the nodes there, and how a message calls it."""
+from .application import Application, Entry
+from .formats import SECTIONS, TOP_KEYS
+from .nodes import Array, Table
+
+SHOWN = 40
+
+
+class Context:
+    """The text of a file, its document, and the place of a fault."""
+
+    def __init__(self, text, root, place):
+        self.text, self.root, self.place = text, root, place
+        self.application = Application(root)
+        # The nodes along the place, as far as there are any, each with the span that a message points at.
+        self.nodes, self.spans = [root], [(0, 1)]
+        for word in place.words:
+            if not self.follow(word):
+                break
+
+    def follow(self, word):
+        node = self.nodes[-1]
+        if isinstance(word, int) and isinstance(node, Array) and word < len(node.items):
+            self.nodes.append(node.items[word])
+            self.spans.append(node.items[word].span)
+            return True
+        if isinstance(word, str) and isinstance(node, Table) and word in node.members:
+            self.nodes.append(node.members[word].value)
+            self.spans.append(node.members[word].span)
+            return True
+        return False
+
+    @property
+    def is_found(self):
+        return len(self.nodes) == len(self.place.words) + 1
+
+    @property
+    def node(self):
+        """The node of the place, or None where it isn't there."""
+        return self.nodes[-1] if self.is_found else None
+
+    @property
+    def nearest(self):
+        """The span of what there is of the place."""
+        return self.spans[-1]
+
+    @property
+    def section(self):
+        return SECTIONS.get(self.place.section)
+
+    @property
+    def key(self):
+        """The key of the format at the place."""
+        if self.place.key is None:
+            return TOP_KEYS.get(self.place.section)
+        return self.section.keys.get(self.place.key) if self.section else None
+
+    @property
+    def entry(self):
+        """The entry of a list that the place is in, or None."""
+        if self.place.index is None or len(self.nodes) < 3:
+            return None
+        return Entry(self.place.section, self.place.index, self.nodes[2])
+
+    @property
+    def label(self):
+        """As `task "drv", script 1`; with the text of an op or a point behind it."""
+        words = self.place.section if self.entry is None else self.entry.label
+        if self.place.key is not None:
+            words += f", {self.place.key}" + ("" if self.place.at is None else f" {self.place.at}")
+        return words
+
+    def source(self, node):
+        """A value as it stands in the file, in one line and not too long."""
+        text = " ".join(self.text[node.start : node.end].split())
+        return text if len(text) <= SHOWN else text[:SHOWN] + ".."

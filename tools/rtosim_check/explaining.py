@@ -1,0 +1,240 @@
+"""Why the program refuses a document: each fault with its place, what is wrong there, what was meant, and the rule."""
+import re
+
+from . import explaining_ops, explaining_points
+from .context import Context
+from .findings import FAULT, Finding
+from .formats import (CALLED, EXAMPLE_OF_A_TASK, MEANT_KEYS, MEANT_SECTIONS, NAME, NAMED, OBJECTS, PLURALS, SECTIONS, TOP_KEYS)
+from .nearness import near
+from .nodes import Array, Float, Integer, Table, Text
+from .verdict import Place
+
+
+def explain(verdict, text, root, takes_several):
+    """The finding for a load fault. What can't be explained has the program's line and the place."""
+    context = Context(text, root, Place(verdict.place))
+    found = EXPLANATIONS.get(verdict.kind, nothing_known)(context, takes_several)
+    span, message, rule = found or nothing_known(context, takes_several)
+    return Finding(FAULT, verdict.kind, span, message, rule, verdict.line)
+
+
+def nothing_known(context, _):
+    return context.nearest, f"{context.label}: the program refuses this", None
+
+
+# -- what is missing
+
+
+def missing(context, _):
+    if context.place.words == ["task"]:
+        return missing_task(context)
+    table = context.nodes[-1]
+    if context.key is None or not isinstance(table, Table):
+        return None
+    key = context.key.name
+    for name, member in table.members.items():
+        if name not in context.section.keys and near(name, [key], MEANT_KEYS):
+            return member.span, f'{whole(context)}: no key is called "{name}"; did you mean "{key}"?', context.key.rule
+    return header_span(context, table), f'{whole(context)} has no key "{key}"', context.key.rule
+
+
+def whole(context):
+    """The entry or the section, without the key."""
+    return context.place.section if context.entry is None else context.entry.label
+
+
+def header_span(context, table):
+    return context.spans[-1] if table.start == table.end else table.span
+
+
+def missing_task(context):
+    rule = f"{SECTIONS['task'].rule}, as {EXAMPLE_OF_A_TASK}"
+    for name, member in context.root.members.items():
+        if name not in SECTIONS and near(name, ["task"], MEANT_SECTIONS):
+            return span_of_section(member), f"no section is called {header_of(member)}; did you mean [[task]]?", rule
+    return context.nearest, "the file has no task", rule
+
+
+def span_of_section(member):
+    """Its first header; of a section without one its key."""
+    value = member.value
+    has_header = isinstance(value, Array) and value.is_of_headers or isinstance(value, Table) and value.origin == Table.HEADER
+    return value.span if has_header else member.span
+
+
+def header_of(member):
+    """The section as the file writes it."""
+    if isinstance(member.value, Array) and member.value.is_of_headers:
+        return f"[[{member.key}]]"
+    is_header = isinstance(member.value, Table) and member.value.origin == Table.HEADER
+    return f"[{member.key}]" if is_header else f'"{member.key}"'
+
+
+# -- what is of another kind
+
+
+def wrong_kind(context, _):
+    node, place = context.node, context.place
+    if node is None:
+        return None
+    if place.at is not None:
+        return node.span, f"{context.label}: {context.source(node)} is {node.kind}, not a text", context.key and context.key.rule
+    if context.key is not None:
+        return wrong_value(context, node)
+    if context.section is None:
+        return None
+    if place.index is not None:
+        return node.span, f"{context.label} is {node.kind}, not a table", f"an entry of {place.section} stands under {context.section.header}"
+    return wrong_section(context, node)
+
+
+def wrong_section(context, node):
+    section, member = context.section, context.root.members[context.place.section]
+    if header_of(member) != f'"{section.name}"':
+        message = f"{header_of(member)} is {'one table' if section.is_list else 'a list of tables'}; did you mean {section.header}?"
+    else:
+        message = f"{section.name} is {node.kind}, not {'an array of tables' if section.is_list else 'a table'}; did you mean {section.header}?"
+    what = "an entry of a list has a header with two brackets each" if section.is_list else "the section stands once, and has one bracket each"
+    return span_of_section(member), message, f"{what}: {section.rule}"
+
+
+def wrong_value(context, node):
+    key = context.key
+    wanted = "a text" if key.kind in ("a name", "a handler's name") else key.kind
+    meant = meant_value(key, node, context)
+    message = f"{context.label}: {context.source(node)} is {node.kind}, not {wanted}"
+    return node.span, message + (f"; did you mean {meant}?" if meant else ""), key.rule
+
+
+def meant_value(key, node, context):
+    """The value as it should be written, or None."""
+    if key.kind == "an array of texts":
+        return f"[{context.source(node)}]" if isinstance(node, Text) else None
+    if key.kind != "an integer":
+        return None
+    value = None
+    if isinstance(node, Text) and re.fullmatch(r"\s*[+-]?[0-9_]{1,19}\s*", node.value):
+        value = int(node.value.replace("_", ""))
+    elif isinstance(node, Text) and re.fullmatch(r"0[xX][0-9A-Fa-f]{1,15}", node.value):
+        value = int(node.value, 16)
+    elif isinstance(node, Float) and node.value == node.value and abs(node.value) < 2**53 and node.value == int(node.value):
+        value = int(node.value)
+    return str(value) if value is not None and key.least <= value <= key.most else None
+
+
+# -- what is out of range
+
+
+def out_of_range(context, _):
+    node, key = context.node, context.key
+    if key is None or node is None:
+        return None
+    if isinstance(node, Text):
+        message = name_problem(node.value, context.application)
+        return node.span, f"{context.label}: {message}", key.rule
+    if not isinstance(node, Integer):
+        return None
+    most, beside = key.most, ""
+    greatest = context.nodes[2].get("max") if context.place.section == "counting" and key.name == "initial" else None
+    if isinstance(greatest, Integer) and greatest.value < most:
+        most, beside = greatest.value, ", its max"
+    return node.span, f"{context.label}: {node.value} is out of range: {key.least} to {most}{beside}", key.rule
+
+
+def name_problem(text, application=None):
+    """What is wrong with a text as a name."""
+    if not text:
+        return "the name is empty"
+    meant = re.sub("[^A-Za-z0-9_]", "_", text)
+    is_new = application is None or meant not in application.named
+    end = f'; did you mean "{meant}"?' if meant != text and NAME.fullmatch(meant) and is_new else ""
+    wrong = re.search("[^A-Za-z0-9_]", text)
+    if wrong:
+        what = {" ": "a space", "\t": "a tab"}.get(wrong.group(), f'"{wrong.group()}"')
+        return f'"{text}" is no name: it has {what}{end}'
+    if len(text) > 16:
+        return f'"{text}" is no name: it has {len(text)} characters, and a name has at most 16'
+    return f'"{text}" is no name: it begins with "{text[0]}", and not with a letter'
+
+
+def double_name(context, _):
+    node = context.node
+    if not isinstance(node, Text):
+        return None
+    first = next((it for section in NAMED for it in context.application.entries[section] if it.name == node.value), None)
+    if first is None:
+        return None
+    line = context.text.count("\n", 0, first.table.get("name").start) + 1
+    owner = f"{CALLED[first.section]} of line {line}"
+    return node.span, f'{context.label}: the name "{node.value}" is already that of the {owner}', "all names of a file are different: " + (
+        "those of queues, semaphores, mutexes, event groups, handlers and tasks together")
+
+
+# -- what is too many
+
+
+def too_many(context, _):
+    node, place = context.node, context.place
+    if isinstance(node, Array) and context.key is not None:
+        most = context.key.most
+        what = "points" if place.key == "points" else "ops"
+        there = node.items[most].span if len(node.items) > most else node.span
+        return there, f"{context.label}: {len(node.items):,} {what}, and at most {most:,} are allowed", context.key.rule
+    if place.section == "interrupt" and place.index is not None:
+        return fifth_interrupt(context)
+    if isinstance(node, Array) and context.section is not None:
+        return too_many_entries(context, node)
+    return None
+
+
+def too_many_entries(context, node):
+    section, most = context.section, context.section.most
+    what = PLURALS.get(section.name, "base interrupts")
+    count = len(node.items)
+    if section.name in OBJECTS:
+        earlier = OBJECTS[: OBJECTS.index(section.name)]
+        before = sum(len(it.items) for it in map(context.root.get, earlier) if isinstance(it, Array))
+        count, most, what = count + before, most - before, "queues, semaphores and mutexes" if before else what
+    there = node.items[most].span if 0 <= most < len(node.items) else context.nearest
+    return there, f"there are {count:,} {what}, and at most {section.most:,} are allowed", section.rule
+
+
+def fifth_interrupt(context):
+    tick = context.nodes[2].get("tick") if isinstance(context.nodes[2], Table) else None
+    if not isinstance(tick, Integer):
+        return None
+    others = [it.table.get("tick") for it in context.application.entries["interrupt"][: context.place.index]]
+    lines = [context.text.count("\n", 0, it.start) + 1 for it in others if isinstance(it, Integer) and it.value == tick.value]
+    before = ", ".join(map(str, lines[:-1])) + f" and {lines[-1]}" if len(lines) > 1 else "".join(map(str, lines))
+    return tick.span, f"{context.label}: the fifth interrupt of tick {tick.value}, after those of lines {before}", (
+        "at most 4 base interrupts come at one tick")
+
+
+# -- names
+
+
+def unknown_name(context, _):
+    if context.place.section == "interrupt" and isinstance(context.node, Text):
+        return unknown_handler(context)
+    if context.place.section == "campaign":
+        return explaining_points.unknown_handler(context)
+    return explaining_ops.unknown_name(context)
+
+
+def unknown_handler(context):
+    problem = explaining_points.no_handler(context.application, context.node.value)
+    return context.node.span, f"{context.label}: {problem}", context.key.rule
+
+
+def bad_op(context, takes_several):
+    if context.place.section == "campaign":
+        return explaining_points.bad_point(context, takes_several)
+    return explaining_ops.bad_op(context)
+
+
+EXPLANATIONS = {
+    "Missing": missing, "WrongKind": wrong_kind, "OutOfRange": out_of_range, "DoubleName": double_name, "TooMany": too_many,
+    "BadOp": bad_op, "UnknownName": unknown_name,
+    "OverwriteLength": lambda context, _: explaining_ops.overwrite_length(context),
+    "BadNesting": lambda context, _: explaining_ops.bad_nesting(context),
+}

@@ -1,0 +1,136 @@
+"""Why the program refuses a point."""
+import re
+
+from .formats import A_POINT, MOST_PAIRS, NAME, SEVERAL, STEP, words_of
+from .nearness import near
+from .nodes import Text
+
+
+def no_handler(application, name):
+    """What to say of a name that no handler has."""
+    handlers = application.names_of(("handler",))
+    other = application.named.get(name)
+    if other is not None:
+        return f'"{name}" is a {other.section}, not a handler' + (f"; the handlers are {listed(handlers)}" if handlers else "")
+    meant = near(name, handlers)
+    if meant:
+        return f'no handler is called "{name}"; did you mean "{meant}"?'
+    return f'no handler is called "{name}"; ' + (f"the handlers are {listed(handlers)}" if handlers else "the file has no [[handler]]")
+
+
+def listed(names, most=8):
+    """As `"a", "b"`, the first of them."""
+    return ", ".join(f'"{it}"' for it in names[:most]) + (", .." if len(names) > most else "")
+
+
+def unknown_handler(context):
+    node = context.node
+    if not isinstance(node, Text):
+        return None
+    for word, start, end in words_of(node.value)[1::2]:
+        entry = context.application.named.get(word)
+        if entry is None or entry.section != "handler":
+            return node.part(start, end), told(context, no_handler(context.application, word)), A_POINT
+    return None
+
+
+def told(context, problem):
+    return f'{context.label}, "{context.node.value}": {problem}'
+
+
+def bad_point(context, takes_several):
+    node = context.node
+    if not isinstance(node, Text):
+        return None
+    words = words_of(node.value)
+    problem, start, end = problem_of(words, context.application, takes_several) or ("the program takes no such point", 0, 0)
+    rule = SEVERAL if len(words) > 3 and words[0][0] != "all" and takes_several() else A_POINT
+    return node.part(start, end) if end else node.span, told(context, problem), rule
+
+
+def problem_of(words, application, takes_several):
+    """What is wrong with a point's words, and which part of the text."""
+    if not words:
+        return "the point is empty", 0, 0
+    spaced = next((it for it in words if re.search(r"[\s,;:@]", it[0])), None)
+    if spaced:
+        return separated(spaced)
+    if words[0][0].lower() == "all":
+        return problem_of_all(words, application)
+    if len(words) % 2 == 1:
+        return problem_of_odd(words, application)
+    pairs = list(zip(words[::2], words[1::2]))
+    for step, handler in pairs:
+        found = problem_of_step(step, handler) or problem_of_name(handler)
+        if found:
+            return found
+    if len(pairs) > 1:
+        return problem_of_several(pairs, takes_several)
+    return None
+
+
+def separated(word):
+    character = re.search(r"[\s,;:@]", word[0])
+    what = "a tab" if character.group() == "\t" else f'"{character.group()}"'
+    at = word[1] + character.start()
+    return f"{what} stands between the words, where a space must", at, at + 1
+
+
+def example(application):
+    handlers = application.names_of(("handler",))
+    return handlers[0] if handlers else "HANDLER"
+
+
+def problem_of_all(words, application):
+    first, start, end = words[0]
+    if len(words) == 1:
+        return f'"{first}" needs a handler; did you mean "all {example(application)}"?', start, end
+    if first != "all":
+        return f'expected a step or all, found "{first}"; did you mean "all {words[1][0]}"?', start, end
+    if len(words) > 2:
+        return "all HANDLER stands alone in a point", words[2][1], words[-1][2]
+    return problem_of_name(words[1])
+
+
+def problem_of_odd(words, application):
+    word, start, end = words[-1]
+    if len(words) > 1:
+        return f"{len(words)} words, and each step needs its handler", start, end
+    if STEP.fits(word):
+        return f'the handler is missing; did you mean "{word} {example(application)}"?', start, end
+    if word in application.names_of(("handler",)):
+        return f'the step is missing; did you mean "all {word}"?', start, end
+    return f'"{word}" is no point: expected a step and a handler', start, end
+
+
+def problem_of_step(step, handler):
+    word, start, end = step
+    if STEP.fits(word):
+        return None
+    if re.fullmatch("[0-9]+", word):
+        why = "more than ten digits" if len(word) > 10 else f"out of range: {STEP.least} to {STEP.most}"
+        return f"step {word} is {why}" if len(word) <= 10 else f"step {word} has {why}", start, end
+    if re.fullmatch("0[xX][0-9A-Fa-f]+", word):
+        return f"{word} is no decimal number; did you mean {int(word, 16)}?", start, end
+    if STEP.fits(handler[0]):
+        return f'expected the step first; did you mean "{handler[0]} {word}"?', start, end
+    return f'expected a step, 0 to {STEP.most}, or all, found "{word}"', start, end
+
+
+def problem_of_name(word):
+    if NAME.fullmatch(word[0]):
+        return None
+    if STEP.fits(word[0]):
+        return f'expected the name of a handler, found the number {word[0]}', word[1], word[2]
+    return f'"{word[0]}" can\'t be the name of a handler', word[1], word[2]
+
+
+def problem_of_several(pairs, takes_several):
+    if not takes_several():
+        return "several injections in one point, and this program takes one", pairs[1][0][1], pairs[-1][1][2]
+    if len(pairs) > MOST_PAIRS:
+        return f"{len(pairs)} injections, and a point has at most {MOST_PAIRS}", pairs[MOST_PAIRS][0][1], pairs[-1][1][2]
+    for before, after in zip(pairs, pairs[1:]):
+        if int(after[0][0]) < int(before[0][0]):
+            return f"step {after[0][0]} stands behind step {before[0][0]}, and steps don't fall", after[0][1], after[0][2]
+    return None

@@ -1,0 +1,33 @@
+"""What the check finds in a file: faults and warnings, and the whole of a file."""
+
+FAULT, WARNING = "error", "warning"
+
+
+class Finding:
+    """A fault or a warning: its kind, its span in the text or None, what it says in a line, and the rule in a sentence."""
+
+    def __init__(self, severity, kind, span, message, rule=None, program=None):
+        self.severity, self.kind, self.span, self.message = severity, kind, span, message
+        self.rule, self.program = rule, program
+
+
+class Checked:
+    """A file that was checked: its name, its lines (None where it has no text), what was found, and the status."""
+
+    def __init__(self, name, lines=None):
+        self.name, self.lines = name, lines
+        self.findings = []
+        self.could_be_checked = True
+
+    def add(self, finding):
+        self.findings.append(finding)
+
+    def count(self, severity):
+        return sum(it.severity == severity for it in self.findings)
+
+    def place(self, finding):
+        """The line and column of a finding, and those of its end."""
+        if self.lines is None or finding.span is None:
+            return None
+        start, end = finding.span
+        return (*self.lines.place(start), *self.lines.place(max(end, start)))

@@ -1,0 +1,262 @@
+"""The format of an application as tables: sections, keys, ops and points, as docs/FORMATS.md has them.
+
+What messages say of a rule is said here. The verdict is never made of these tables: it is the program's."""
+import re
+
+MOST_OF_A_NUMBER = 4294967295
+NUMBER = re.compile("[0-9]{1,10}")
+NAME = re.compile("[A-Za-z][A-Za-z0-9_]{0,15}")
+A_NAME = "a name is 1 to 16 ASCII letters, digits and `_`, and begins with a letter"
+OBJECTS = ("queue", "binary", "counting", "mutex")
+NAMED = (*OBJECTS, "group", "handler", "task")
+# How a message calls what a section names.
+CALLED = {
+    "queue": "queue", "binary": "binary semaphore", "counting": "counting semaphore", "mutex": "mutex", "group": "event group",
+    "handler": "handler", "task": "task", "interrupt": "interrupt",
+}
+PLURALS = {
+    "queue": "queues", "binary": "binary semaphores", "counting": "counting semaphores", "mutex": "mutexes",
+    "group": "event groups", "handler": "handlers", "task": "tasks",
+}
+
+
+# -- sections and keys
+
+
+class Key:
+    """A key of a section: its name, the kind of its value, whether it must be there, and the rule in a sentence."""
+
+    def __init__(self, name, kind, rule, needed=True, least=0, most=0):
+        self.name, self.kind, self.rule, self.needed, self.least, self.most = name, kind, rule, needed, least, most
+
+
+class Section:
+    """A section of the file; `is_list` where its entries have two brackets each."""
+
+    def __init__(self, name, is_list, most, rule, *keys):
+        self.name, self.is_list, self.most, self.rule = name, is_list, most, rule
+        self.keys = {key.name: key for key in keys}
+
+    @property
+    def header(self):
+        return f"[[{self.name}]]" if self.is_list else f"[{self.name}]"
+
+
+def number_key(name, least, most, what, default=None):
+    rule = f"{name} is {what}, an integer from {least} to {most}"
+    rule += "" if default is None else f"; without the key it is {default}"
+    return Key(name, "an integer", rule, default is None, least, most)
+
+
+THE_NAME = Key("name", "a name", f"{A_NAME}; no two things of a file have the same")
+SECTIONS = {it.name: it for it in (
+    Section("limits", False, 1, "[limits] says where a run ends at the latest",
+            number_key("ticks", 1, 1000000, "after how many elapsed ticks a run ends", 1000000),
+            number_key("steps", 1, 1000000, "after how many steps a run ends", 1000000)),
+    Section("queue", True, 32, "a file has at most 32 queues, semaphores and mutexes together", THE_NAME,
+            number_key("length", 1, 256, "how many items the queue holds at most")),
+    Section("binary", True, 32, "a file has at most 32 queues, semaphores and mutexes together", THE_NAME),
+    Section("counting", True, 32, "a file has at most 32 queues, semaphores and mutexes together", THE_NAME,
+            number_key("max", 1, 65535, "the greatest count of the semaphore"),
+            number_key("initial", 0, 65535, "the count at reset, at most max", 0)),
+    Section("mutex", True, 32, "a file has at most 32 queues, semaphores and mutexes together", THE_NAME),
+    Section("group", True, 16, "a file has at most 16 event groups", THE_NAME),
+    Section("handler", True, 16, "a file has at most 16 handlers", THE_NAME,
+            Key("ops", "an array of texts", 'ops are what the handler does: an array of at most 16 texts, as ["send rx 7"]', True, 0, 16)),
+    Section("task", True, 32, "a file has 1 to 32 tasks, each under a line [[task]]", THE_NAME,
+            number_key("priority", 0, 31, "the base priority, where a larger number is a higher priority"),
+            Key("script", "an array of texts", 'script is what the task does: an array of at most 256 texts, as ["work 3", "give s"]',
+                True, 0, 256)),
+    Section("interrupt", True, 1024, "a file has at most 1024 base interrupts, 4 of them at one tick",
+            number_key("tick", 1, 1000000, "the elapsed tick at which the handler runs"),
+            Key("handler", "a handler's name", "handler is the name of the [[handler]] that runs at that tick")),
+    Section("campaign", False, 1, "[campaign] has the points at which handlers are injected",
+            Key("points", "an array of texts", 'points are where handlers are injected: an array of texts, as ["all uart", "12 uart"]',
+                True, 0, 1000000)),
+)}
+START = number_key("start", 0, MOST_OF_A_NUMBER, "the time at reset, above the first table", 0)
+# What stands above the first table.
+TOP_KEYS = {START.name: START}
+EXAMPLE_OF_A_TASK = '[[task]] with name = "a", priority = 1, script = ["work 3"]'
+
+# What else people write for a section or a key.
+MEANT_SECTIONS = {
+    "semaphore": "binary", "sem": "binary", "binary_semaphore": "binary", "counting_semaphore": "counting", "event_group": "group",
+    "events": "group", "event": "group", "isr": "handler", "irq": "interrupt", "thread": "task", "points": "campaign",
+    "injection": "campaign",
+}
+MEANT_KEYS = {
+    "prio": "priority", "size": "length", "capacity": "length", "depth": "length", "ops": "script", "script": "ops", "code": "script",
+    "body": "ops", "maximum": "max", "init": "initial", "count": "initial", "time": "tick", "at": "tick", "isr": "handler",
+    "irq": "handler", "ticks": "tick", "tick": "ticks", "point": "points",
+}
+
+
+# -- the arguments of ops
+
+
+class Number:
+    """A number of a range."""
+
+    def __init__(self, letter, least=0, most=MOST_OF_A_NUMBER, what="a number"):
+        self.letter, self.least, self.most = letter, least, most
+        self.rule = f"{letter} is {what}, {least} to {most}"
+
+    def fits(self, word):
+        return bool(NUMBER.fullmatch(word)) and self.least <= int(word) <= self.most
+
+
+class Wait(Number):
+    """How long a call waits at most."""
+
+    def __init__(self):
+        super().__init__("w", 0, MOST_OF_A_NUMBER - 1)
+        self.rule = f"w is how many ticks it waits at most, 0 to {self.most}, or forever"
+
+    def fits(self, word):
+        return word == "forever" or super().fits(word)
+
+
+class Answer(Number):
+    """What the last answer must be."""
+
+    def __init__(self):
+        super().__init__("n")
+        self.rule = f"n is the answer that the op before must have, 0 to {self.most}, or none"
+
+    def fits(self, word):
+        return word == "none" or super().fits(word)
+
+
+class Choice:
+    """One of some words."""
+
+    def __init__(self, letter, rule, *words):
+        self.letter, self.words = letter, words
+        self.rule = f"{letter} is {' or '.join(words)}, {rule}"
+
+    def fits(self, word):
+        return word in self.words
+
+
+class Name:
+    """The name of one of these kinds."""
+
+    def __init__(self, letter, what, *kinds):
+        self.letter, self.kinds = letter, kinds
+        self.rule = f"{letter} is {what}"
+
+    def fits(self, word):
+        return bool(NAME.fullmatch(word))
+
+
+Q = Name("q", "a queue", "queue")
+S = Name("s", "a semaphore", "binary", "counting")
+M = Name("m", "a mutex", "mutex")
+G = Name("g", "an event group", "group")
+T = Name("t", "a task", "task")
+V = Number("v", what="an item")
+W = Wait()
+B = Number("b", 1, 16777215, "a mask of bits")
+
+
+class Op:
+    """An op: its word, its arguments, and what it does."""
+
+    def __init__(self, word, *arguments, does):
+        self.word, self.arguments, self.does = word, arguments, does
+
+    @property
+    def usage(self):
+        return " ".join((self.word, *(it.letter for it in self.arguments)))
+
+    @property
+    def rule(self):
+        return "; ".join((f"{self.usage}: {self.does}", *(it.rule for it in self.arguments)))
+
+    def name_at(self):
+        """The index of the argument that is a name, and its kinds; None where there is none."""
+        return next(((at, it.kinds) for at, it in enumerate(self.arguments) if isinstance(it, Name)), None)
+
+
+def table_of(*ops):
+    return {op.word: op for op in ops}
+
+
+TASK_OPS = table_of(
+    Op("work", Number("n", 1, 1000000, "how many ticks"), does="computes for n ticks"),
+    Op("delay", Number("n", what="how many ticks"), does="sleeps for n ticks"),
+    Op("delay_until", Number("n", 1, what="how many ticks"), does="sleeps until n ticks after the time from which it counts"),
+    Op("yield", does="lets the next task of its priority run"),
+    Op("time", does="answers the tick"),
+    Op("mark", Number("n"), does="writes a line with n"),
+    Op("expect", Answer(), does="ends the run with check where the last answer is another"),
+    Op("repeat", Number("n", 1, 1000, "how many turns"), does="begins a loop of n turns, which an end closes"),
+    Op("end", does="closes a loop"),
+    Op("send", Q, V, W, does="puts an item last into a queue"),
+    Op("send_front", Q, V, W, does="puts an item first into a queue"),
+    Op("overwrite", Q, V, does="puts an item in place of the one that is there"),
+    Op("receive", Q, W, does="takes the first item of a queue"),
+    Op("peek", Q, W, does="answers the first item of a queue and leaves it there"),
+    Op("waiting", Q, does="answers how many items are in a queue"),
+    Op("spaces", Q, does="answers for how many more items a queue has room"),
+    Op("take", S, W, does="takes a semaphore"),
+    Op("give", S, does="gives a semaphore"),
+    Op("lock", M, W, does="locks a mutex"),
+    Op("unlock", M, does="unlocks a mutex that the task holds"),
+    Op("set", G, B, does="sets bits of an event group"),
+    Op("clear", G, B, does="clears bits of an event group"),
+    Op("bits", G, does="answers the bits of an event group"),
+    Op("wait", G, B, Choice("c", "which of its bits must be set", "any", "all"),
+       Choice("k", "what becomes of them then", "keep", "clear"), W, does="waits for bits of an event group"),
+    Op("suspend", T, does="suspends a task"),
+    Op("resume", T, does="resumes a suspended task"),
+    Op("suspend_all", does="holds the scheduler"),
+    Op("resume_all", does="ends one suspend_all"),
+)
+HANDLER_OPS = table_of(
+    Op("send", Q, V, does="puts an item last into a queue, where it has room"),
+    Op("send_front", Q, V, does="puts an item first into a queue, where it has room"),
+    TASK_OPS["overwrite"],
+    Op("receive", Q, does="takes the first item of a queue, if there is one"),
+    Op("peek", Q, does="answers the first item of a queue, if there is one"),
+    TASK_OPS["give"], TASK_OPS["resume"], TASK_OPS["bits"], TASK_OPS["mark"],
+)
+OPS = {"task": TASK_OPS, "handler": HANDLER_OPS}
+# Words of ops of later versions. When the program takes one, it moves up, with its arguments.
+LATER_OPS = {"task": ("if", "else", "break", "stamp", "since"), "handler": ("expect", "if", "else", "end", "set", "clear")}
+# Keys of later versions, by section, "" for what stands above the first table.
+LATER_KEYS = {"": ("daemon", "tickless"), "task": ("endless",)}
+
+# What FreeRTOS and others call the ops.
+MEANT_OPS = {
+    "vtaskdelay": "delay", "vtaskdelayuntil": "delay_until", "xtaskdelayuntil": "delay_until", "taskyield": "yield",
+    "xtaskgettickcount": "time", "xqueuesend": "send", "xqueuesendtoback": "send", "xqueuesendtofront": "send_front",
+    "xqueueoverwrite": "overwrite", "xqueuereceive": "receive", "xqueuepeek": "peek", "uxqueuemessageswaiting": "waiting",
+    "uxqueuespacesavailable": "spaces", "xsemaphoretake": "take", "xsemaphoregive": "give", "xeventgroupsetbits": "set",
+    "xeventgroupclearbits": "clear", "xeventgroupgetbits": "bits", "xeventgroupwaitbits": "wait", "vtasksuspend": "suspend",
+    "vtaskresume": "resume", "xtaskresume": "resume", "vtasksuspendall": "suspend_all", "xtaskresumeall": "resume_all",
+    "sleep": "delay", "recv": "receive", "read": "receive", "get": "receive", "pop": "receive", "put": "send", "push": "send",
+    "write": "send", "post": "give", "release": "give", "signal": "give", "acquire": "take", "loop": "repeat", "for": "repeat",
+    "assert": "expect", "print": "mark", "log": "mark", "trace": "mark", "now": "time", "compute": "work", "run": "work",
+    "notify": "give",
+}
+# Ops that do the like to things of other kinds.
+KIN = (("receive", "take", "lock", "wait"), ("send", "give", "unlock", "set"), ("waiting", "bits"))
+MEANT_NONE = ("nothing", "null", "NULL", "fail", "failed", "errQUEUE_EMPTY", "empty", "false")
+MEANT_WAITS = ("portmax_delay", "infinite", "infinity", "inf", "ever", "always", "max", "-1", "endless", "0xffffffff", "4294967295",
+               "wait_forever", "oswaitforever", "none", "never")
+
+
+# -- points
+
+STEP = Number("STEP", 0, 1000000, "a number")
+A_POINT = 'a point is a step, 0 to 1000000, and a handler, as "12 uart", or "all uart" for each step of the base run'
+SEVERAL = 'a point is one to three pairs of a step and a handler, whose steps don\'t fall, as "12 uart 15 timer"'
+MOST_PAIRS = 3
+MOST_POINTS = 1000000
+
+
+def words_of(text):
+    """The words of an op or a point, each with its start and its end. Only U+0020 separates."""
+    return [(it.group(), it.start(), it.end()) for it in re.finditer("[^ ]+", text)]

@@ -1,0 +1,76 @@
+"""Warnings of what the format ignores: sections and keys that it doesn't know, and those that stand in another place than theirs."""
+from .application import Entry
+from .explaining import header_of, span_of_section
+from .findings import WARNING, Finding
+from .formats import LATER_KEYS, MEANT_KEYS, MEANT_SECTIONS, SECTIONS, TOP_KEYS
+from .nearness import near
+from .nodes import Array, Table
+
+
+def warnings(root):
+    """The warnings of a document."""
+    for name, member in root.members.items():
+        if name in SECTIONS:
+            for label, table in tables_of(name, member.value):
+                yield from of_table(SECTIONS[name], label, table)
+        elif name not in TOP_KEYS:
+            yield of_section(member)
+
+
+def tables_of(section, value):
+    """The tables of a section, with how a message calls each."""
+    if isinstance(value, Table):
+        return [(f"[{section}]", value)]
+    items = value.items if isinstance(value, Array) else []
+    return [(Entry(section, at, it).label, it) for at, it in enumerate(items) if isinstance(it, Table)]
+
+
+def of_section(member):
+    """The warning of a section, or a key above the first table, that isn't known."""
+    name, shown = member.key, header_of(member)
+    if name in LATER_KEYS[""]:
+        return warning("LaterVersion", member, f"{shown} is of a later version: this program ignores it")
+    owner = owner_of(name)
+    if owner and not isinstance(member.value, Table) and shown[0] != "[":
+        return warning("UnknownSection", member, f"{shown} is ignored: above the first table it is no key; it belongs under {owner}")
+    meant = near(name, [*SECTIONS, *TOP_KEYS], MEANT_SECTIONS)
+    end = f"; did you mean {SECTIONS[meant].header if meant in SECTIONS else meant}?" if meant else ""
+    kind = "section" if shown[0] == "[" or isinstance(member.value, (Table, Array)) else "key"
+    rule = None if meant else f"the sections are {', '.join(SECTIONS)}; above them stands start"
+    return warning("UnknownSection", member, f"{shown} is ignored: there is no such {kind}{end}", rule)
+
+
+def owner_of(key):
+    """The header of the only section that has the key, or None."""
+    owners = [it.header for it in SECTIONS.values() if key in it.keys]
+    return owners[0] if len(owners) == 1 else None
+
+
+def of_table(section, label, table):
+    """The warnings of a table's keys."""
+    for name, member in table.members.items():
+        if name not in section.keys:
+            yield warning("UnknownKey", member, *of_key(section, label, name, member))
+
+
+def of_key(section, label, name, member):
+    """What to say of a key that its table doesn't know, and the rule."""
+    start = f'"{name}" is ignored'
+    if name in LATER_KEYS.get(section.name, ()):
+        return f"{label}: {start}: it is a key of a later version", None
+    if name in TOP_KEYS:
+        return f"{start}, since it stands below {section.header}; it belongs above the first table", TOP_KEYS[name].rule
+    if name in SECTIONS:
+        return f"{start}, since it stands below {section.header}; did you mean {SECTIONS[name].header}?", SECTIONS[name].rule
+    meant = near(name, section.keys, MEANT_KEYS)
+    if meant:
+        return f'{label}: {start}: it is no key of {section.header}; did you mean "{meant}"?', section.keys[meant].rule
+    owner = owner_of(name)
+    if owner:
+        return f"{start}, since it stands below {section.header}; it belongs under {owner}", None
+    return f"{label}: {start}: it is no key of {section.header}", f"the keys of {section.header} are {', '.join(section.keys)}"
+
+
+def warning(kind, member, message, rule=None):
+    span = span_of_section(member) if kind != "UnknownKey" else member.span
+    return Finding(WARNING, kind, span, message, rule)

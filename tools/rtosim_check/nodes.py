@@ -1,0 +1,121 @@
+"""What a TOML document holds, and where it stands in the text: offsets in characters, the end not included."""
+
+
+class Node:
+    """A value. `kind` is what a message calls it."""
+
+    __slots__ = ("start", "end")
+    kind = "a value"
+
+    def __init__(self, start, end):
+        self.start, self.end = start, end
+
+    @property
+    def span(self):
+        return self.start, self.end
+
+
+class Scalar(Node):
+    __slots__ = ("value",)
+
+    def __init__(self, value, start, end):
+        super().__init__(start, end)
+        self.value = value
+
+
+class Integer(Scalar):
+    __slots__ = ()
+    kind = "an integer"
+
+
+class Float(Scalar):
+    __slots__ = ()
+    kind = "a float"
+
+
+class Boolean(Scalar):
+    __slots__ = ()
+    kind = "a boolean"
+
+
+class Moment(Scalar):
+    """A date, a time, or both; its value is its text."""
+
+    __slots__ = ()
+    kind = "a date or a time"
+
+
+class Text(Scalar):
+    """A string. `places` are the offsets of its characters, or that of the first where they stand one after the other."""
+
+    __slots__ = ("places",)
+    kind = "a text"
+
+    def __init__(self, value, start, end, places):
+        super().__init__(value, start, end)
+        self.places = places
+
+    def place(self, index):
+        """Where in the document the character of this index is, or the text ends."""
+        if isinstance(self.places, int):
+            return self.places + index
+        return self.places[index] if index < len(self.places) else self.end - 1
+
+    def part(self, start, end):
+        """The span of a part of the text; of an empty part the place where it would be."""
+        if start >= end:
+            return self.place(start), self.place(start) + 1
+        return self.place(start), self.place(end - 1) + 1
+
+
+class Array(Node):
+    """An array; `is_of_headers` where its elements are tables with headers of their own, as `[[task]]`."""
+
+    __slots__ = ("items", "is_of_headers")
+
+    def __init__(self, start, end, is_of_headers=False):
+        super().__init__(start, end)
+        self.items, self.is_of_headers = [], is_of_headers
+
+    @property
+    def kind(self):
+        return "an array of tables" if self.is_of_headers else "an array"
+
+
+class Member:
+    """A key of a table with its value. The span is that of the key where it first stands."""
+
+    __slots__ = ("key", "start", "end", "value")
+
+    def __init__(self, key, start, end, value):
+        self.key, self.start, self.end, self.value = key, start, end, value
+
+    @property
+    def span(self):
+        return self.start, self.end
+
+
+class Table(Node):
+    """A table. `origin` is one of the four below; the span is that of its header, of its braces, or of the key that made it."""
+
+    __slots__ = ("members", "origin")
+    kind = "a table"
+    IMPLICIT, DOTTED, HEADER, INLINE = range(4)
+
+    def __init__(self, start, end, origin):
+        super().__init__(start, end)
+        self.members, self.origin = {}, origin
+
+    def get(self, key):
+        """The value of a key, or None."""
+        member = self.members.get(key)
+        return None if member is None else member.value
+
+
+class NotToml(Exception):
+    """The text is no TOML document: where, what is wrong there, and what would be right. `{line}` in the message is the line of
+    another place, `other`."""
+
+    def __init__(self, start, end, message, rule=None, other=None):
+        super().__init__(message)
+        self.start, self.end, self.message, self.rule, self.other = start, end, message, rule, other

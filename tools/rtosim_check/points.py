@@ -1,0 +1,30 @@
+"""The points of a campaign: too many of them, and those behind the end of the base run."""
+from .application import Point, are_too_many, count_of_points
+from .findings import FAULT, WARNING, Finding
+from .formats import MOST_POINTS
+from .nodes import Text
+
+__all__ = ["are_too_many", "too_many", "warnings"]
+
+
+def too_many(nodes, base, root, line):
+    """The fault of a campaign of too many points."""
+    count = count_of_points(nodes, base.steps)
+    message = f"campaign, points: {count:,} points, and a campaign has at most {MOST_POINTS:,}; the base run has {base.steps:,} steps, each a point of an `all`"
+    rule = "`rtosim run` takes the file, `rtosim campaign` doesn't; [limits] steps makes runs shorter"
+    return Finding(FAULT, "TooManyPoints", root.get("campaign").members["points"].span, message, rule, line)
+
+
+def warnings(application, base):
+    """Points that are not reached, in one warning."""
+    behind = []
+    for at, node in enumerate(application.points() or []):
+        pairs = Point(node.value).pairs if isinstance(node, Text) else []
+        if pairs and pairs[0][0] is not None and pairs[0][0] >= base.steps:
+            behind.append((at, node))
+    if behind:
+        at, node = behind[0]
+        others = f", and those of {len(behind) - 1:,} more" if len(behind) > 2 else ", and that of one more" if len(behind) == 2 else ""
+        steps = "step" if base.steps == 1 else "steps"
+        message = f'campaign, points {at}, "{node.value}": the base run ends after {base.steps:,} {steps}, so this point is not reached{others}'
+        yield Finding(WARNING, "NotReached", node.span, message, "the row of a point that is not reached is the base run")

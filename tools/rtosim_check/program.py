@@ -1,0 +1,103 @@
+"""The program: what it says of a text, and how many steps and ticks its base run has."""
+import re
+import subprocess
+import tempfile
+
+from rtosim_report.escaping import plain
+from rtosim_report.faults import Fault
+from rtosim_report.source import PROGRAM
+
+HEAD = re.compile(rb"base: .* in ([0-9]+) steps, ([0-9]+) ticks\n")
+PROBE = b"""
+task = [{ name = "a", priority = 0, script = [] }]
+handler = [{ name = "h", ops = [] }]
+campaign = { points = ["0 h 0 h"] }
+"""
+LONGEST = 60
+
+
+class Base:
+    """How long the base run is."""
+
+    def __init__(self, steps, ticks):
+        self.steps, self.ticks = steps, ticks
+
+
+class Program:
+    """The program at a path."""
+
+    def __init__(self, path=PROGRAM):
+        self.path = path
+        self.several = None
+
+    def is_there(self):
+        """Starts it once, so that a build shows how far it is; its reason is on standard error where there is no program."""
+        try:
+            ran = subprocess.run([self.path, "--version"], stdin=subprocess.DEVNULL, stdout=subprocess.DEVNULL, check=False)
+        except OSError as why:
+            raise Fault(f"cannot run {plain(self.path)}: {why.strerror}") from None
+        if ran.returncode:
+            raise Fault(f"{plain(self.path)} ends with status {ran.returncode}")
+
+    def run(self, text):
+        """The fault line of a text, or None, and the base run. Of what it writes the first line is taken."""
+        with kept(text) as given, tempfile.TemporaryFile() as said:
+            streams = {"stdin": given, "stdout": subprocess.PIPE, "stderr": said}
+            with subprocess.Popen([self.path, "run", "/dev/stdin"], **streams) as started:
+                head = HEAD.fullmatch(started.stdout.readline())
+                started.stdout.close()
+                status = self.ended(started)
+            said.seek(0)
+            lines = said.read()
+        if head:
+            return None, Base(int(head[1]), int(head[2]))
+        return self.fault_line(status, lines), None
+
+    def ended(self, started):
+        try:
+            return started.wait(LONGEST)
+        except subprocess.TimeoutExpired:
+            started.kill()
+            raise Fault(f"{plain(self.path)} didn't end within {LONGEST} seconds") from None
+
+    def fault_line(self, status, lines):
+        """The last line of what it said, where it ends as a program that judged the file."""
+        line = lines.decode("utf-8", "surrogateescape").rstrip("\n").rpartition("\n")[2]
+        if line.startswith("rtosim: ") and status in (3, 4):
+            return line
+        raise Fault(f"{plain(self.path)} ends with status {status}" + (f": {plain(line)}" if line else ""))
+
+    def campaign(self, text):
+        """The fault line of a campaign that has too many points, which is told before its rows are made; None where it makes rows."""
+        with kept(text) as given:
+            words = [self.path, "campaign", "/dev/stdin", "--quiet"]
+            streams = {"stdin": given, "stdout": subprocess.DEVNULL, "stderr": subprocess.PIPE}
+            try:
+                ran = subprocess.run(words, timeout=LONGEST, check=False, **streams)
+            except subprocess.TimeoutExpired:
+                return None
+        return self.fault_line(ran.returncode, ran.stderr) if ran.returncode == 3 else None
+
+    def takes_several(self):
+        """Whether it takes a point of several injections."""
+        if self.several is None:
+            self.several = self.run(PROBE)[0] is None
+        return self.several
+
+    def fault_of_file(self, name):
+        """What the program says of a file that can't be read here; None where it can read it."""
+        streams = {"stdin": subprocess.DEVNULL, "stdout": subprocess.DEVNULL, "stderr": subprocess.PIPE}
+        try:
+            ran = subprocess.run([self.path, "run", "--", name], check=False, **streams)
+        except ValueError:
+            return None
+        return ran.stderr.decode("utf-8", "surrogateescape").rstrip("\n") if ran.returncode == 3 else None
+
+
+def kept(text):
+    """A file without a name that has this text."""
+    file = tempfile.TemporaryFile()
+    file.write(text)
+    file.flush()
+    file.seek(0)
+    return file

@@ -1,0 +1,91 @@
+"""The rules by which keys and headers define tables."""
+from .nodes import Array, Member, NotToml, Table
+
+
+def put(table, key, value):
+    """Defines a dotted key in a table."""
+    for part in key[:-1]:
+        table = along_dot(table, part)
+    define(table, key, value)
+
+
+def along_dot(table, part):
+    """The table that a part of a dotted key leads to: none that a header defined, and no inline one."""
+    key, start, end = part
+    member = table.members.get(key)
+    if member is None:
+        inner = Table(start, end, Table.DOTTED)
+        table.members[key] = Member(key, start, end, inner)
+        return inner
+    inner = member.value
+    if not isinstance(inner, Table) or inner.origin in (Table.HEADER, Table.INLINE):
+        raise NotToml(start, end, f'the key "{key}" is already defined in line {{line}}',
+                      "a dotted key goes only through tables that dotted keys made", member.start)
+    inner.origin = Table.DOTTED
+    return inner
+
+
+def define(table, parts, value):
+    key, start, end = parts[-1]
+    if key in table.members:
+        raise NotToml(start, end, f'the key "{key}" stands twice: it is already defined in line {{line}}',
+                      "a key stands once in a table", table.members[key].start)
+    table.members[key] = Member(key, start, end, value)
+
+
+class Builder:
+    """The document so far, and the table of the last header."""
+
+    def __init__(self):
+        self.root = Table(0, 0, Table.HEADER)
+        self.section, self.header = self.root, None
+
+    def pair(self, key, value):
+        put(self.section, key, value)
+
+    def parent(self, key):
+        """The table in which the last part of a header's key is defined."""
+        table = self.root
+        for part in key[:-1]:
+            table = self.along_header(table, part)
+        return table
+
+    def along_header(self, table, part):
+        key, start, end = part
+        member = table.members.get(key)
+        if member is None:
+            inner = Table(start, end, Table.IMPLICIT)
+            table.members[key] = Member(key, start, end, inner)
+            return inner
+        inner = member.value
+        if isinstance(inner, Array) and inner.is_of_headers:
+            return inner.items[-1]
+        if isinstance(inner, Table) and inner.origin != Table.INLINE:
+            return inner
+        raise NotToml(start, end, f'"{key}" is already defined in line {{line}}, and is {inner.kind}', None, member.start)
+
+    def table(self, key, span):
+        table, (name, start, end) = self.parent(key), key[-1]
+        member = table.members.get(name)
+        if member is None:
+            self.section = Table(*span, Table.HEADER)
+            table.members[name] = Member(name, start, end, self.section)
+            return
+        self.section = member.value
+        if not isinstance(self.section, Table) or self.section.origin != Table.IMPLICIT:
+            raise NotToml(*span, f"[{name}] stands twice: it is already defined in line {{line}}",
+                          f"a section [{name}] stands once; a list of them has two brackets each, [[{name}]]", member.start)
+        self.section.origin = Table.HEADER
+        self.section.start, self.section.end = span
+
+    def array_table(self, key, span):
+        table, (name, start, end) = self.parent(key), key[-1]
+        member = table.members.get(name)
+        if member is None:
+            member = table.members[name] = Member(name, start, end, Array(*span, True))
+        array = member.value
+        if not isinstance(array, Array) or not array.is_of_headers:
+            raise NotToml(*span, f"[[{name}]] is already defined in line {{line}} as {array.kind}",
+                          "a section is written in one way in all places", member.start)
+        self.section = Table(*span, Table.HEADER)
+        array.items.append(self.section)

@@ -1,0 +1,70 @@
+"""Warnings of what nothing uses: objects, event groups, handlers; of handlers without a point; of interrupts that never come."""
+from .application import Point, integer_of
+from .findings import WARNING, Finding
+from .formats import CALLED, OBJECTS, OPS, SECTIONS, words_of
+from .nodes import Array, Table, Text
+
+
+def warnings(application):
+    used = names_in_ops(application)
+    for section in (*OBJECTS, "group"):
+        for entry in application.entries[section]:
+            if entry.name not in used:
+                yield Finding(WARNING, "Unused", entry.table.span, f'no op uses the {CALLED[section]} "{entry.name}"')
+    yield from of_handlers(application)
+    yield from of_interrupts(application)
+    yield from of_campaign(application)
+
+
+def names_in_ops(application):
+    """The names in the ops of tasks and handlers. Of an op that isn't known each word may be one."""
+    found = set()
+    for section in OPS:
+        for entry in application.entries[section]:
+            for _, node in entry.texts():
+                found.update(names_in(section, node.value))
+    return found
+
+
+def names_in(section, text):
+    words = [it[0] for it in words_of(text)]
+    op = OPS[section].get(words[0]) if words else None
+    if op is None or len(words) != len(op.arguments) + 1:
+        return words
+    place = op.name_at()
+    return [words[place[0] + 1]] if place else []
+
+
+def of_handlers(application):
+    """A handler that comes with no point and no interrupt."""
+    nodes = application.points() or []
+    called = {handler for it in nodes if isinstance(it, Text) for _, handler in Point(it.value).pairs}
+    called |= {it.table.get("handler").value for it in application.entries["interrupt"] if isinstance(it.table.get("handler"), Text)}
+    idle = [it for it in application.entries["handler"] if it.name not in called]
+    if idle and not nodes:
+        names = ", ".join(f'"{it.name}"' for it in idle)
+        message = f"the file has no points, and no interrupt brings {names}: a campaign of it has no rows"
+        rule = f'[campaign] points = ["all {idle[0].name}"] injects it before each step'
+        yield Finding(WARNING, "NoPoints", idle[0].table.span, message, rule)
+        return
+    for it in idle:
+        rule = f'a point "all {it.name}" injects it before each step, an [[interrupt]] at a tick'
+        yield Finding(WARNING, "Unused", it.table.span, f'no point and no interrupt brings the handler "{it.name}"', rule)
+
+
+def of_campaign(application):
+    """A campaign whose list of points is empty."""
+    campaign = application.root.members.get("campaign")
+    array = campaign.value.members.get("points") if campaign and isinstance(campaign.value, Table) else None
+    if array and isinstance(array.value, Array) and not array.value.items and not application.entries["handler"]:
+        yield Finding(WARNING, "NoPoints", array.span, "points is empty: a campaign of this file has no rows", SECTIONS["campaign"].rule)
+
+
+def of_interrupts(application):
+    """Interrupts behind the limit of ticks."""
+    limit = integer_of(application.root.get("limits"), "ticks")
+    for it in application.entries["interrupt"]:
+        tick = integer_of(it.table, "tick")
+        if limit is not None and tick is not None and tick > limit:
+            message = f"interrupt {it.index} never comes: a run ends at tick {limit}, and it is due at tick {tick}"
+            yield Finding(WARNING, "NeverComes", it.table.get("tick").span, message, SECTIONS["limits"].keys["ticks"].rule)
