@@ -1,11 +1,11 @@
 """Checks a file: asks the program, and explains its fault or looks for what a tester can't mean."""
+import itertools
 import os
 import stat
 
 from . import explaining, ignored, points, reach, unused
 from .application import Application
 from .findings import FAULT, Checked, Finding
-from .formats import MOST_POINTS
 from .lines import Lines
 from .nodes import NotToml
 from .toml_reader import read_document
@@ -74,7 +74,7 @@ def refused(name, content, verdict, program):
         checked.add(Finding(FAULT, verdict.kind or "Fault", None, "the program refuses this file"))
     else:
         checked.add(explaining.explain(verdict, text, root, program.takes_several))
-        for it in ignored.warnings(root):
+        for it in ignored.warnings(root, program.ignores):
             if it.span != checked.findings[0].span:
                 checked.add(it)
     checked.findings[0].program = verdict.line
@@ -96,20 +96,25 @@ def not_judged(name, content, verdict):
 
 def text_of(content):
     """The text of a file, and what is wrong with its bytes, if something is."""
-    front = content[:200]
-    if front.count(0) * 4 > len(front) and len(content) <= MOST_BYTES:
-        return "", Finding(FAULT, "NotToml", (0, 0), "the file looks like UTF-16 without its first bytes; save it as UTF-8", "a file is UTF-8")
+    other = other_encoding(content)
+    if other:
+        return "", Finding(FAULT, "NotToml", (0, 0), f"{other}; save it as UTF-8", "a file is UTF-8")
     try:
         return content.decode("utf-8"), None
     except UnicodeDecodeError as why:
-        encoding = next((it for mark, it in ENCODINGS if content.startswith(mark)), None)
-        if encoding:
-            message = f"the file is {encoding} (it begins with the bytes {content[:2].hex(' ').upper()}); save it as UTF-8"
-            return "", Finding(FAULT, "NotToml", (0, 0), message, "a file is UTF-8")
         at = len(content[: why.start].decode("utf-8"))
         text = content.decode("utf-8", "replace")
         message = f"the byte 0x{content[why.start]:02X} is no part of a UTF-8 text; save the file as UTF-8"
         return text, Finding(FAULT, "NotToml", (at, at + 1), message, "a file is UTF-8")
+
+
+def other_encoding(content):
+    """That the bytes are those of another encoding, if they look so."""
+    encoding = next((it for mark, it in ENCODINGS if content.startswith(mark)), None)
+    if encoding:
+        return f"the file is {encoding} (it begins with the bytes {content[0]:02X} {content[1]:02X})"
+    front = content[:200]
+    return "the file looks like UTF-16" if front.count(0) * 4 > len(front) else None
 
 
 # -- a file that the program takes
@@ -128,9 +133,9 @@ def taken(name, content, base, program):
         line = program.campaign(content)
         if line is not None and Verdict(line).kind == "TooManyPoints":
             checked.add(points.too_many(nodes, base, root, line))
-    looks = (ignored.warnings(root), unused.warnings(application), points.warnings(application, base), reach.warnings(application, checked.lines))
-    for found in looks:
-        for it in found:
-            checked.add(it)
+    looks = (ignored.warnings(root, program.ignores), unused.warnings(application), points.warnings(application, base),
+             reach.warnings(application))
+    for it in itertools.chain(*looks):
+        checked.add(it)
     checked.findings.sort(key=lambda it: (it.severity, it.span or (0, 0)))
     return checked

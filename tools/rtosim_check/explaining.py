@@ -51,23 +51,8 @@ def missing_task(context):
     rule = f"{SECTIONS['task'].rule}, as {EXAMPLE_OF_A_TASK}"
     for name, member in context.root.members.items():
         if name not in SECTIONS and near(name, ["task"], MEANT_SECTIONS):
-            return span_of_section(member), f"no section is called {header_of(member)}; did you mean [[task]]?", rule
+            return member.span, f"no section is called {member.shown}; did you mean [[task]]?", rule
     return context.nearest, "the file has no task", rule
-
-
-def span_of_section(member):
-    """Its first header; of a section without one its key."""
-    value = member.value
-    has_header = isinstance(value, Array) and value.is_of_headers or isinstance(value, Table) and value.origin == Table.HEADER
-    return value.span if has_header else member.span
-
-
-def header_of(member):
-    """The section as the file writes it."""
-    if isinstance(member.value, Array) and member.value.is_of_headers:
-        return f"[[{member.key}]]"
-    is_header = isinstance(member.value, Table) and member.value.origin == Table.HEADER
-    return f"[{member.key}]" if is_header else f'"{member.key}"'
 
 
 # -- what is of another kind
@@ -90,12 +75,12 @@ def wrong_kind(context, _):
 
 def wrong_section(context, node):
     section, member = context.section, context.root.members[context.place.section]
-    if header_of(member) != f'"{section.name}"':
-        message = f"{header_of(member)} is {'one table' if section.is_list else 'a list of tables'}; did you mean {section.header}?"
+    if member.has_header:
+        message = f"{member.shown} is {'one table' if section.is_list else 'a list of tables'}; did you mean {section.header}?"
     else:
         message = f"{section.name} is {node.kind}, not {'an array of tables' if section.is_list else 'a table'}; did you mean {section.header}?"
     what = "an entry of a list has a header with two brackets each" if section.is_list else "the section stands once, and has one bracket each"
-    return span_of_section(member), message, f"{what}: {section.rule}"
+    return member.span, message, f"{what}: {section.rule}"
 
 
 def wrong_value(context, node):

@@ -254,7 +254,17 @@ STEP = Number("STEP", 0, 1000000, "a number")
 A_POINT = 'a point is a step, 0 to 1000000, and a handler, as "12 uart", or "all uart" for each step of the base run'
 SEVERAL = 'a point is one to three pairs of a step and a handler, whose steps don\'t fall, as "12 uart 15 timer"'
 MOST_PAIRS = 3
+# How many of them the schema takes, which is for this version alone.
+PAIRS = 1
 MOST_POINTS = 1000000
+
+
+def op_of(section, text):
+    """The words of an op and the op that they spell, which is None where this check doesn't know it."""
+    words = [it[0] for it in words_of(text)]
+    op = OPS[section].get(words[0]) if words else None
+    is_spelled = op and len(words) == len(op.arguments) + 1 and all(map(lambda it, word: it.fits(word), op.arguments, words[1:]))
+    return words, op if is_spelled else None
 
 
 def words_of(text):

@@ -1,19 +1,18 @@
 """Warnings of what the format ignores: sections and keys that it doesn't know, and those that stand in another place than theirs."""
 from .application import Entry
-from .explaining import header_of, span_of_section
 from .findings import WARNING, Finding
 from .formats import LATER_KEYS, MEANT_KEYS, MEANT_SECTIONS, SECTIONS, TOP_KEYS
 from .nearness import near
 from .nodes import Array, Table
 
 
-def warnings(root):
-    """The warnings of a document."""
+def warnings(root, ignores):
+    """The warnings of a document. `ignores` is asked whether the program ignores a key of a section."""
     for name, member in root.members.items():
         if name in SECTIONS:
             for label, table in tables_of(name, member.value):
-                yield from of_table(SECTIONS[name], label, table)
-        elif name not in TOP_KEYS:
+                yield from of_table(SECTIONS[name], label, table, ignores)
+        elif name not in TOP_KEYS and ignores("", name):
             yield of_section(member)
 
 
@@ -27,7 +26,7 @@ def tables_of(section, value):
 
 def of_section(member):
     """The warning of a section, or a key above the first table, that isn't known."""
-    name, shown = member.key, header_of(member)
+    name, shown = member.key, member.shown
     if name in LATER_KEYS[""]:
         return warning("LaterVersion", member, f"{shown} is of a later version: this program ignores it")
     owner = owner_of(name)
@@ -46,10 +45,10 @@ def owner_of(key):
     return owners[0] if len(owners) == 1 else None
 
 
-def of_table(section, label, table):
+def of_table(section, label, table, ignores):
     """The warnings of a table's keys."""
     for name, member in table.members.items():
-        if name not in section.keys:
+        if name not in section.keys and ignores(section.name, name):
             yield warning("UnknownKey", member, *of_key(section, label, name, member))
 
 
@@ -72,5 +71,4 @@ def of_key(section, label, name, member):
 
 
 def warning(kind, member, message, rule=None):
-    span = span_of_section(member) if kind != "UnknownKey" else member.span
-    return Finding(WARNING, kind, span, message, rule)
+    return Finding(WARNING, kind, member.span, message, rule)

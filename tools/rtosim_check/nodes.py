@@ -83,7 +83,7 @@ class Array(Node):
 
 
 class Member:
-    """A key of a table with its value. The span is that of the key where it first stands."""
+    """A key of a table with its value. Start and end are those of the key where it first stands."""
 
     __slots__ = ("key", "start", "end", "value")
 
@@ -91,8 +91,21 @@ class Member:
         self.key, self.start, self.end, self.value = key, start, end, value
 
     @property
+    def has_header(self):
+        value = self.value
+        return isinstance(value, Array) and value.is_of_headers or isinstance(value, Table) and value.origin == Table.HEADER
+
+    @property
     def span(self):
-        return self.start, self.end
+        """Where the section begins: its first header, or else the key."""
+        return self.value.span if self.has_header else (self.start, self.end)
+
+    @property
+    def shown(self):
+        """The section or key as the file writes it."""
+        if not self.has_header:
+            return f'"{self.key}"'
+        return f"[[{self.key}]]" if isinstance(self.value, Array) else f"[{self.key}]"
 
 
 class Table(Node):

@@ -1,4 +1,5 @@
 """The program: what it says of a text, and how many steps and ticks its base run has."""
+import json
 import re
 import subprocess
 import tempfile
@@ -8,11 +9,21 @@ from rtosim_report.faults import Fault
 from rtosim_report.source import PROGRAM
 
 HEAD = re.compile(rb"base: .* in ([0-9]+) steps, ([0-9]+) ticks\n")
-PROBE = b"""
-task = [{ name = "a", priority = 0, script = [] }]
-handler = [{ name = "h", ops = [] }]
-campaign = { points = ["0 h 0 h"] }
-"""
+# A small application with an entry of each section, into which something is put to see whether the program knows it.
+PROBE = {
+    "": "",
+    "limits": "[limits]\n",
+    "queue": '[[queue]]\nname = "q"\nlength = 1\n',
+    "binary": '[[binary]]\nname = "s"\n',
+    "counting": '[[counting]]\nname = "c"\nmax = 1\n',
+    "mutex": '[[mutex]]\nname = "m"\n',
+    "group": '[[group]]\nname = "g"\n',
+    "handler": '[[handler]]\nname = "h"\nops = []\n',
+    "task": '[[task]]\nname = "a"\npriority = 0\nscript = []\n',
+    "interrupt": '[[interrupt]]\ntick = 1\nhandler = "h"\n',
+    "campaign": "[campaign]\npoints = [POINT]\n",
+}
+SEVERAL = '"0 h 0 h"'
 LONGEST = 60
 
 
@@ -28,7 +39,7 @@ class Program:
 
     def __init__(self, path=PROGRAM):
         self.path = path
-        self.several = None
+        self.answers = {}
 
     def is_there(self):
         """Starts it once, so that a build shows how far it is; its reason is on standard error where there is no program."""
@@ -78,11 +89,21 @@ class Program:
                 return None
         return self.fault_line(ran.returncode, ran.stderr) if ran.returncode == 3 else None
 
+    def takes(self, text):
+        """Whether it takes an application, which is asked once."""
+        if text not in self.answers:
+            self.answers[text] = self.run(text.encode())[0] is None
+        return self.answers[text]
+
     def takes_several(self):
         """Whether it takes a point of several injections."""
-        if self.several is None:
-            self.several = self.run(PROBE)[0] is None
-        return self.several
+        return self.takes("".join(PROBE.values()).replace("POINT", SEVERAL))
+
+    def ignores(self, section, key):
+        """Whether it ignores a key of a section, "" for those above the first table: it then takes a float there, which no key has."""
+        line = json.dumps(key, ensure_ascii=False) + " = 0.5\n"
+        text = "".join(it + line if name == section else it for name, it in PROBE.items())
+        return self.takes(text.replace("POINT", ""))
 
     def fault_of_file(self, name):
         """What the program says of a file that can't be read here; None where it can read it."""

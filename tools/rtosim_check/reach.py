@@ -4,14 +4,13 @@ Both are sure. What a task waits for is taken to come wherever an op that brings
 come at any time. Where an op isn't known, nothing is said."""
 from .application import integer_of
 from .findings import WARNING, Finding
-from .formats import OPS, words_of
-from .nodes import Text
+from .formats import op_of
 
 NOBODY = "no op that is ever reached"
 WRITES = ("send", "send_front", "overwrite")
 
 
-def warnings(application, _):
+def warnings(application):
     scripts = [Script(it) for it in (*application.entries["handler"], *application.entries["task"])]
     if all(it.is_known for it in scripts):
         yield from of_tasks(application, scripts)
@@ -23,9 +22,9 @@ class Script:
 
     def __init__(self, entry):
         self.entry, self.reached = entry, 0
-        self.ops = [([it[0] for it in words_of(node.value)], node) for _, node in entry.texts()]
-        known = OPS[entry.section]
-        self.is_known = all(words and words[0] in known for words, _ in self.ops)
+        spelled = [(*op_of(entry.section, node.value), node) for _, node in entry.texts()]
+        self.ops = [(words, node) for words, _, node in spelled]
+        self.is_known = all(op for _, op, _ in spelled)
 
     def holds(self, mutex, at):
         """Whether the task surely holds the mutex before this op: it has locked it for ever so long, and not given it back."""

@@ -1,7 +1,7 @@
 """Warnings of what nothing uses: objects, event groups, handlers; of handlers without a point; of interrupts that never come."""
 from .application import Point, integer_of
 from .findings import WARNING, Finding
-from .formats import CALLED, OBJECTS, OPS, SECTIONS, words_of
+from .formats import CALLED, OBJECTS, OPS, SECTIONS, op_of
 from .nodes import Array, Table, Text
 
 
@@ -27,9 +27,8 @@ def names_in_ops(application):
 
 
 def names_in(section, text):
-    words = [it[0] for it in words_of(text)]
-    op = OPS[section].get(words[0]) if words else None
-    if op is None or len(words) != len(op.arguments) + 1:
+    words, op = op_of(section, text)
+    if op is None:
         return words
     place = op.name_at()
     return [words[place[0] + 1]] if place else []

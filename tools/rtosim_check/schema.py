@@ -1,0 +1,105 @@
+"""The JSON schema of applications, for editors: docs/application.schema.json, which `PYTHONPATH=tools python3 -m rtosim_check.schema`
+writes.
+
+It is draft 7, which Taplo and Even Better TOML take. What a schema can't say, as which names there are, isn't in it."""
+import json
+
+from .formats import A_NAME, A_POINT, OPS, PAIRS, SECTIONS, START, STEP, Answer, Choice, Name, Wait
+
+NAME = "[A-Za-z][A-Za-z0-9_]{0,15}"
+DIGITS = 10
+TITLE = "Application for rtosim"
+
+
+def number_pattern(least, most):
+    """A pattern of the numbers of a range, whose least is 0 or 1: at most ten digits, of which the first may be zeros."""
+    text = str(most)
+    parts = ["0{1,10}"] if least == 0 else []
+    parts += [zeros(size) + "[1-9]" + digits(size - 1) for size in range(1, len(text))]
+    for at, digit in enumerate(text):
+        lowest = 1 if at == 0 else 0
+        if int(digit) > lowest:
+            parts.append(zeros(len(text)) + text[:at] + f"[{lowest}-{int(digit) - 1}]" + digits(len(text) - at - 1))
+    return f"({'|'.join([*parts, zeros(len(text)) + text])})"
+
+
+def zeros(size):
+    return f"0{{0,{DIGITS - size}}}" if size < DIGITS else ""
+
+
+def digits(count):
+    return f"[0-9]{{{count}}}" if count else ""
+
+
+def argument_pattern(argument):
+    if isinstance(argument, Name):
+        return NAME
+    if isinstance(argument, Choice):
+        return f"({'|'.join(argument.words)})"
+    number = number_pattern(argument.least, argument.most)
+    word = "forever" if isinstance(argument, Wait) else "none" if isinstance(argument, Answer) else None
+    return f"({word}|{number})" if word else number
+
+
+def text_of(*words):
+    """A text of these words."""
+    return {"pattern": f"^ *{' +'.join(words)} *$"}
+
+
+def op_schema(op):
+    return {"description": op.rule, **text_of(op.word, *map(argument_pattern, op.arguments))}
+
+
+def ops_schema(section):
+    return {"type": "string", "anyOf": [op_schema(op) for op in OPS[section].values()]}
+
+
+def points_schema():
+    pair = (number_pattern(STEP.least, STEP.most), NAME)
+    pairs = [text_of(*pair * count) for count in range(1, PAIRS + 1)]
+    return {"type": "string", "description": A_POINT, "anyOf": [text_of("all", NAME), *pairs]}
+
+
+def key_schema(section, key):
+    schema = {"description": key.rule}
+    if key.kind == "an integer":
+        return {**schema, "type": "integer", "minimum": key.least, "maximum": key.most}
+    if key.kind == "an array of texts":
+        items = points_schema() if key.name == "points" else {"$ref": f"#/definitions/op_of_a_{section.name}"}
+        return {**schema, "type": "array", "maxItems": key.most, "items": items}
+    return {**schema, "type": "string", "pattern": f"^{NAME}$"}
+
+
+def section_schema(section):
+    table = {
+        "type": "object",
+        "properties": {key.name: key_schema(section, key) for key in section.keys.values()},
+        "required": [key.name for key in section.keys.values() if key.needed],
+        "additionalProperties": False,
+    }
+    if not section.is_list:
+        return {"description": section.rule, **table}
+    least = {"minItems": 1} if section.name == "task" else {}
+    return {"description": section.rule, "type": "array", **least, "maxItems": section.most, "items": table}
+
+
+def schema():
+    """The whole of it."""
+    return {
+        "$schema": "http://json-schema.org/draft-07/schema#",
+        "title": TITLE,
+        "description": f"docs/FORMATS.md has the format. {A_NAME[0].upper()}{A_NAME[1:]}.",
+        "type": "object",
+        "properties": {START.name: key_schema(None, START), **{it.name: section_schema(it) for it in SECTIONS.values()}},
+        "required": ["task"],
+        "additionalProperties": False,
+        "definitions": {f"op_of_a_{section}": ops_schema(section) for section in OPS},
+    }
+
+
+def text():
+    return json.dumps(schema(), indent=1) + "\n"
+
+
+if __name__ == "__main__":
+    print(text(), end="")
