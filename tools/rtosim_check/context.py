@@ -1,6 +1,7 @@
 """A document that is refused, and the place of its fault: the nodes there, and how a message calls it."""
 from .application import Application, Entry
-from .formats import SECTIONS, TOP_KEYS
+from .formats import MEANT_SECTIONS, SECTIONS, TOP_KEYS
+from .nearness import near
 from .nodes import Array, Table
 
 SHOWN = 40
@@ -69,6 +70,17 @@ class Context:
         if self.place.key is not None:
             words += f", {self.place.key}" + ("" if self.place.at is None else f" {self.place.at}")
         return words
+
+    def line_of(self, offset):
+        return self.text.count("\n", 0, offset) + 1
+
+    def lost(self, kinds):
+        """Which section is meant by one that isn't known, where the file has none of these kinds; or nothing."""
+        for name, member in self.root.members.items():
+            meant = near(name, kinds, MEANT_SECTIONS) if name not in SECTIONS else None
+            if meant:
+                return f"did you mean {SECTIONS[meant].header} where line {self.line_of(member.span[0])} has {member.shown}?"
+        return None
 
     def source(self, node):
         """A value as it stands in the file, in one line and not too long."""

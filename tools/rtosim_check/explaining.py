@@ -1,4 +1,5 @@
 """Why the program refuses a document: each fault with its place, what is wrong there, what was meant, and the rule."""
+import json
 import re
 
 from . import explaining_ops, explaining_points
@@ -63,7 +64,9 @@ def wrong_kind(context, _):
     if node is None:
         return None
     if place.at is not None:
-        return node.span, f"{context.label}: {context.source(node)} is {node.kind}, not a text", context.key and context.key.rule
+        meant = explaining_points.meant_point(context, node)
+        message = f"{context.label}: {context.source(node)} is {node.kind}, not a text" + (f"; did you mean {meant}?" if meant else "")
+        return node.span, message, context.key and context.key.rule
     if context.key is not None:
         return wrong_value(context, node)
     if context.section is None:
@@ -94,7 +97,8 @@ def wrong_value(context, node):
 def meant_value(key, node, context):
     """The value as it should be written, or None."""
     if key.kind == "an array of texts":
-        return f"[{context.source(node)}]" if isinstance(node, Text) else None
+        parts = [it.strip() for it in re.split(r"[\n,;]", node.value) if it.strip()] if isinstance(node, Text) else []
+        return json.dumps(parts, ensure_ascii=False) if parts else None
     if key.kind != "an integer":
         return None
     value = None
@@ -149,7 +153,7 @@ def double_name(context, _):
     first = next((it for section in NAMED for it in context.application.entries[section] if it.name == node.value), None)
     if first is None:
         return None
-    line = context.text.count("\n", 0, first.table.get("name").start) + 1
+    line = context.line_of(first.table.get("name").start)
     owner = f"{CALLED[first.section]} of line {line}"
     return node.span, f'{context.label}: the name "{node.value}" is already that of the {owner}', "all names of a file are different: " + (
         "those of queues, semaphores, mutexes, event groups, handlers and tasks together")
@@ -189,7 +193,7 @@ def fifth_interrupt(context):
     if not isinstance(tick, Integer):
         return None
     others = [it.table.get("tick") for it in context.application.entries["interrupt"][: context.place.index]]
-    lines = [context.text.count("\n", 0, it.start) + 1 for it in others if isinstance(it, Integer) and it.value == tick.value]
+    lines = [context.line_of(it.start) for it in others if isinstance(it, Integer) and it.value == tick.value]
     before = ", ".join(map(str, lines[:-1])) + f" and {lines[-1]}" if len(lines) > 1 else "".join(map(str, lines))
     return tick.span, f"{context.label}: the fifth interrupt of tick {tick.value}, after those of lines {before}", (
         "at most 4 base interrupts come at one tick")
@@ -207,7 +211,7 @@ def unknown_name(context, _):
 
 
 def unknown_handler(context):
-    problem = explaining_points.no_handler(context.application, context.node.value)
+    problem = explaining_points.no_handler(context, context.node.value)
     return context.node.span, f"{context.label}: {problem}", context.key.rule
 
 

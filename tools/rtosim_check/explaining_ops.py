@@ -58,8 +58,8 @@ def problem_of_characters(text, section):
     rule = "the words of an op have spaces between them, and nothing else"
     call = CALL.fullmatch(text)
     if call:
-        meant = near(call[1], OPS[section], MEANT_OPS)
-        arguments = " ".join(it for it in re.split(r"[\s,]+", call[2]) if it)
+        meant = near(without_isr(call[1]), OPS[section], MEANT_OPS)
+        arguments = " ".join(it for it in re.split(r"[\s,]+", call[2]) if it and it[0] != "&" and it != "NULL")
         end = f'; did you mean "{meant} {arguments}"?' if meant and arguments else f'; did you mean "{meant}"?' if meant else ""
         return Problem(call.start(2) - 1, call.start(2), f"an op has no brackets{end}", rule)
     found = SEPARATORS.search(text)
@@ -69,7 +69,7 @@ def problem_of_characters(text, section):
     known = OPS[section].get(meant.partition(" ")[0])
     end = f'; did you mean "{meant}"?' if known and spells(meant, known) else ""
     what = {"\t": "a tab", ",": "a comma", ";": "a semicolon", "\n": "a new line"}.get(found.group(), "another kind of space")
-    return Problem(found.start(), found.end(), f"{what} stands between the words, where a space must{end}", rule)
+    return Problem(found.start(), found.end(), f"the op has {what} in it{end}", rule)
 
 
 def spells(text, op):
@@ -246,7 +246,7 @@ def no_such(context, op, word, kinds):
     plural = " and ".join(PLURALS[it] for it in kinds) if kinds != ("binary", "counting") else "semaphores"
     other, names = application.named.get(word), application.names_of(kinds)
     if other is not None:
-        line = context.text.count("\n", 0, other.table.start) + 1
+        line = context.line_of(other.table.start)
         end, meant = instead(context, op, other, names)
         return f'"{word}" is {one(other.section)} (line {line}), and {op.word} speaks of {plural}{end}', (meant or op).rule
     meant = near(word, names)
@@ -254,8 +254,8 @@ def no_such(context, op, word, kinds):
         return f'no {wanted} is called "{word}"; did you mean "{meant}"?', op.rule
     if names:
         return f'no {wanted} is called "{word}"; the {plural} are {listed(names)}', op.rule
-    headers = " or ".join(f"[[{it}]]" for it in kinds)
-    return f'no {wanted} is called "{word}"; the file has no {headers}', op.rule
+    there = context.lost(list(kinds)) or f"the file has no {' or '.join(f'[[{it}]]' for it in kinds)}"
+    return f'no {wanted} is called "{word}"; {there}', op.rule
 
 
 def one(section):
@@ -281,7 +281,7 @@ def overwrite_length(context):
     length = entry.table.get("length") if entry else None
     if not isinstance(length, Integer):
         return None
-    line = context.text.count("\n", 0, length.start) + 1
+    line = context.line_of(length.start)
     message = f'queue "{entry.name}" has length {length.value} (line {line}), and overwrite is for queues of length 1'
     return node.part(words[1][1], words[1][2]), told(context, message), "overwrite q v: puts an item in place of the one that is there; q is a queue of length 1"
 

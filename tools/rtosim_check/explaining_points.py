@@ -3,11 +3,12 @@ import re
 
 from .formats import A_POINT, MOST_PAIRS, NAME, SEVERAL, STEP, words_of
 from .nearness import near
-from .nodes import Text
+from .nodes import Integer, Text
 
 
-def no_handler(application, name):
+def no_handler(context, name):
     """What to say of a name that no handler has."""
+    application = context.application
     handlers = application.names_of(("handler",))
     other = application.named.get(name)
     if other is not None:
@@ -15,7 +16,15 @@ def no_handler(application, name):
     meant = near(name, handlers)
     if meant:
         return f'no handler is called "{name}"; did you mean "{meant}"?'
-    return f'no handler is called "{name}"; ' + (f"the handlers are {listed(handlers)}" if handlers else "the file has no [[handler]]")
+    there = f"the handlers are {listed(handlers)}" if handlers else context.lost(["handler"]) or "the file has no [[handler]]"
+    return f'no handler is called "{name}"; {there}'
+
+
+def meant_point(context, node):
+    """The point that is meant by the number of a step alone, or None."""
+    handlers = context.application.names_of(("handler",))
+    is_step = isinstance(node, Integer) and context.place.section == "campaign" and STEP.least <= node.value <= STEP.most
+    return f'"{node.value} {handlers[0]}"' if is_step and handlers else None
 
 
 def listed(names, most=8):
@@ -30,7 +39,7 @@ def unknown_handler(context):
     for word, start, end in words_of(node.value)[1::2]:
         entry = context.application.named.get(word)
         if entry is None or entry.section != "handler":
-            return node.part(start, end), told(context, no_handler(context.application, word)), A_POINT
+            return node.part(start, end), told(context, no_handler(context, word)), A_POINT
     return None
 
 
@@ -71,9 +80,9 @@ def problem_of(words, application, takes_several):
 
 def separated(word):
     character = re.search(r"[\s,;:@]", word[0])
-    what = "a tab" if character.group() == "\t" else f'"{character.group()}"'
+    what = "a tab" if character.group() == "\t" else f'a "{character.group()}"'
     at = word[1] + character.start()
-    return f"{what} stands between the words, where a space must", at, at + 1
+    return f"the point has {what} in it, and spaces alone separate its words", at, at + 1
 
 
 def example(application):
@@ -112,6 +121,10 @@ def problem_of_step(step, handler):
         return f"step {word} is {why}" if len(word) <= 10 else f"step {word} has {why}", start, end
     if re.fullmatch("0[xX][0-9A-Fa-f]+", word):
         return f"{word} is no decimal number; did you mean {int(word, 16)}?", start, end
+    if re.fullmatch(r"[0-9]+(\.\.\.?|-|to)[0-9]+", word):
+        return f'"{word}" is no step: a point has one, and all stands for each of the base run', start, end
+    if word.lower() in ("*", "every", "each", "any"):
+        return f'expected a step or all, found "{word}"; did you mean "all {handler[0]}"?', start, end
     if STEP.fits(handler[0]):
         return f'expected the step first; did you mean "{handler[0]} {word}"?', start, end
     return f'expected a step, 0 to {STEP.most}, or all, found "{word}"', start, end

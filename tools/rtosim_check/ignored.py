@@ -17,9 +17,9 @@ def warnings(root, ignores):
 
 
 def tables_of(section, value):
-    """The tables of a section, with how a message calls each."""
-    if isinstance(value, Table):
-        return [(f"[{section}]", value)]
+    """The tables of a section as it must be, with how a message calls each."""
+    if not SECTIONS[section].is_list:
+        return [(f"[{section}]", value)] if isinstance(value, Table) else []
     items = value.items if isinstance(value, Array) else []
     return [(Entry(section, at, it).label, it) for at, it in enumerate(items) if isinstance(it, Table)]
 

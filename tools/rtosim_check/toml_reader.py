@@ -3,6 +3,7 @@
 It takes what the program takes, whose reader goes by the grammar of TOML 1.1: arrays and inline tables at most 80 deep, keys of at
 most 80 parts, integers of 64 bits."""
 import re
+import unicodedata
 
 from .nodes import Array, Member, NotToml, Table, Text
 from .toml_tables import Builder, put
@@ -26,6 +27,8 @@ ESCAPES = {"b": "\b", "e": "\x1b", "f": "\f", "n": "\n", "r": "\r", "t": "\t", '
 HEX_DIGITS = {"x": 2, "u": 4, "U": 8}
 # An element of an array as nearly all are: with its comma.
 ELEMENT = re.compile('[ \t\n]*"([^"\\\\\x00-\x08\x0a-\x1f\x7f]*)"[ \t\n]*,')
+# What may be a text without its quotes.
+UNQUOTED = re.compile(r"[^,\]}\r\n\"'#=]*")
 CURLED = "\u2018\u2019\u201c\u201d\u201e\u00ab\u00bb\u2032\u2033\u00b4`"
 A_TEXT = 'a text stands between two " or two \' of one line'
 A_KEY = "a key is letters, digits, `-` and `_`, or a text in quotes"
@@ -71,6 +74,8 @@ class Reader:
             return "the end of the file"
         if piece in ("\n", "\r"):
             return "the end of the line"
+        if piece.isspace() or unicodedata.category(piece[0]) == "Cf":
+            return f"U+{ord(piece[0]):04X}, which only looks like {'a space' if piece.isspace() else 'nothing'}"
         return piece if len(piece) < 30 else piece[:30] + ".."
 
     # -- the document
@@ -116,6 +121,8 @@ class Reader:
     def rule_of_line(self):
         if self.text.startswith("//", self.at) or self.peek() == ";":
             return "a comment begins with #"
+        if self.peek() == ",":
+            return "no comma separates the lines of a table"
         return "a key and its value have a line to themselves; the next key begins a line"
 
     # -- keys
@@ -148,6 +155,8 @@ class Reader:
             return "expected a key or a section, found " + self.found(), "a comment begins with #"
         if self.peek() and self.peek() in CURLED:
             return f"expected a key, found the typographic quote {self.peek()}", A_KEY
+        if self.peek() == "{" and not self.text[: self.at].strip():
+            return "expected a key or a section, found {", "a file is TOML, and not JSON"
         return f"expected a key, found {self.found()}", A_KEY
 
     def value_after_equals(self, depth):
@@ -181,7 +190,8 @@ class Reader:
             raise self.no_value()
         start, end = match.span()
         second = SECOND_WORD.match(self.text, end)
-        node = word_node(match.group() + (second.group() if second and "-" in match.group()[1:] else ""), start)
+        word = match.group() + (second.group() if second and "-" in match.group()[1:] else "")
+        node = word_node(word, start, UNQUOTED.match(self.text, start).group().rstrip())
         self.at = node.end
         return node
 

@@ -21,8 +21,8 @@ A_MOMENT = "a date is 2026-01-31, a time 07:30:00"
 A_VALUE = 'a value is a text in quotes, a number, true, false, an array `[..]` or a table `{..}`'
 
 
-def word_node(word, start):
-    """The node of a word, or NotToml."""
+def word_node(word, start, unquoted=""):
+    """The node of a word, or NotToml. `unquoted` is what may be meant as a text there."""
     end = start + len(word)
     if word in ("true", "false"):
         return Boolean(word == "true", start, end)
@@ -36,7 +36,7 @@ def word_node(word, start):
         return integer(int(prefixed[prefixed.lastindex].replace("_", ""), radix), word, start, end)
     if FLOAT.fullmatch(word):
         return float_node(word, start, end)
-    raise NotToml(start, end, *no_value(word))
+    raise NotToml(start, end, *no_value(word, unquoted or word))
 
 
 def integer(value, word, start, end):
@@ -73,7 +73,7 @@ def days_in(year, month):
     return {4: 30, 6: 30, 9: 30, 11: 30}.get(month, 31 if 1 <= month <= 12 else 0)
 
 
-def no_value(word):
+def no_value(word, unquoted):
     """What is wrong with a word that is no value, and the rule."""
     if word.lower() in ("true", "yes", "on", "false", "no", "off"):
         meant = "true" if word.lower() in ("true", "yes", "on") else "false"
@@ -86,5 +86,5 @@ def no_value(word):
     if re.match(r"[+-]?(0[XOB]|[0-9])", word):
         return f"{word} is no number", AN_INTEGER
     if re.match(r"[A-Za-z]", word):
-        return f'expected a value, found {word}; did you mean "{word}"?', "a text stands in quotes"
+        return f'expected a value, found {word}; did you mean "{unquoted}"?', "a text stands in quotes"
     return f"expected a value, found {word}", A_VALUE
