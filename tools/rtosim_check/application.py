@@ -1,5 +1,5 @@
 """What a document holds of the format, as far as it can be read: entries, names, texts of ops and points."""
-from .formats import MOST_POINTS, NAME, NAMED, SECTIONS, STEP, words_of
+from .formats import NAME, NAMED, NUMBER, SECTIONS
 from .nodes import Array, Integer, Table, Text
 
 
@@ -49,25 +49,12 @@ class Application:
         return array.items if isinstance(array, Array) else None
 
 
-class Point:
+def pairs_of(text):
     """A point's text as pairs of a step and a handler; of `all HANDLER` the step is None."""
-
-    def __init__(self, text):
-        words = [it[0] for it in words_of(text)]
-        self.is_all = words[:1] == ["all"] and len(words) == 2
-        pairs = list(zip(words[::2], words[1::2]))
-        self.pairs = [(None if self.is_all else int(step), handler) for step, handler in pairs
-                      if self.is_all or STEP.fits(step)]
-
-
-def count_of_points(nodes, steps):
-    """How many points these stand for, where the base run has so many steps."""
-    every = sum(isinstance(it, Text) and it.value.lstrip(" ").startswith("all ") for it in nodes)
-    return len(nodes) - every + every * steps
-
-
-def are_too_many(nodes, steps):
-    return count_of_points(nodes, steps) > MOST_POINTS
+    words = [it for it in text.split(" ") if it]
+    if len(words) == 2 and words[0] == "all":
+        return [(None, words[1])]
+    return [(int(step), handler) for step, handler in zip(words[::2], words[1::2]) if NUMBER.fullmatch(step)]
 
 
 def integer_of(table, key):

@@ -6,6 +6,7 @@ import stat
 from . import explaining, ignored, points, reach, unused
 from .application import Application
 from .findings import FAULT, Checked, Finding
+from .formats import MOST_POINTS
 from .lines import Lines
 from .nodes import NotToml
 from .toml_reader import read_document
@@ -129,7 +130,7 @@ def taken(name, content, base, program):
         return checked
     application = Application(root)
     nodes = application.points() or []
-    if points.are_too_many(nodes, base.steps):
+    if points.count(nodes, base) > MOST_POINTS:
         line = program.campaign(content)
         if line is not None and Verdict(line).kind == "TooManyPoints":
             checked.add(points.too_many(nodes, base, root, line))

@@ -1,16 +1,20 @@
 """The points of a campaign: too many of them, and those behind the end of the base run."""
-from .application import Point, are_too_many, count_of_points
+from .application import pairs_of
 from .findings import FAULT, WARNING, Finding
 from .formats import MOST_POINTS
 from .nodes import Text
 
-__all__ = ["are_too_many", "too_many", "warnings"]
+
+def count(nodes, base):
+    """How many points these stand for."""
+    every = sum(isinstance(it, Text) and it.value.lstrip(" ").startswith("all ") for it in nodes)
+    return len(nodes) - every + every * base.steps
 
 
 def too_many(nodes, base, root, line):
     """The fault of a campaign of too many points."""
-    count = count_of_points(nodes, base.steps)
-    message = f"campaign, points: {count:,} points, and a campaign has at most {MOST_POINTS:,}; the base run has {base.steps:,} steps, each a point of an `all`"
+    message = f"campaign, points: {count(nodes, base):,} points, and a campaign has at most {MOST_POINTS:,}"
+    message += f"; the base run has {base.steps:,} steps, each a point of an all"
     rule = "`rtosim run` takes the file, `rtosim campaign` doesn't; [limits] steps makes runs shorter"
     return Finding(FAULT, "TooManyPoints", root.get("campaign").members["points"].span, message, rule, line)
 
@@ -19,7 +23,7 @@ def warnings(application, base):
     """Points that are not reached, in one warning."""
     behind = []
     for at, node in enumerate(application.points() or []):
-        pairs = Point(node.value).pairs if isinstance(node, Text) else []
+        pairs = pairs_of(node.value) if isinstance(node, Text) else []
         if pairs and pairs[0][0] is not None and pairs[0][0] >= base.steps:
             behind.append((at, node))
     if behind:

@@ -1,5 +1,5 @@
 """Warnings of what nothing uses: objects, event groups, handlers; of handlers without a point; of interrupts that never come."""
-from .application import Point, integer_of
+from .application import integer_of, pairs_of
 from .findings import WARNING, Finding
 from .formats import CALLED, OBJECTS, OPS, SECTIONS, op_of
 from .nodes import Array, Table, Text
@@ -37,7 +37,7 @@ def names_in(section, text):
 def of_handlers(application):
     """A handler that comes with no point and no interrupt."""
     nodes = application.points() or []
-    called = {handler for it in nodes if isinstance(it, Text) for _, handler in Point(it.value).pairs}
+    called = {handler for it in nodes if isinstance(it, Text) for _, handler in pairs_of(it.value)}
     called |= {it.table.get("handler").value for it in application.entries["interrupt"] if isinstance(it.table.get("handler"), Text)}
     idle = [it for it in application.entries["handler"] if it.name not in called]
     if idle and not nodes:
