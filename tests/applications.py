@@ -10,26 +10,31 @@ class Applications:
         self.dice = random.Random(seed)
 
     def task_op(self):
-        q, s, g, t = (self.dice.choice(it) for it in (("q", "r"), ("s", "c"), ("g",), ("a", "b")))
+        q, s, t = (self.dice.choice(it) for it in ("qr", "sc", "ab"))
         wait = self.dice.choice(("forever", "forever", 0, 2))
         mask, other = self.dice.randrange(1, 8), self.dice.choice(("any", "all"))
         return self.dice.choice((
-            f"receive {q} {wait}", f"peek {q} {wait}", f"send {q} 1 {wait}", f"take {s} {wait}", f"give {s}", f"lock m {wait}", "unlock m",
-            f"set g {mask}", f"wait {g} {mask} {other} clear {wait}", f"suspend {t}", f"resume {t}", "work 2", "delay 1",
+            f"receive {q} {wait}", f"peek {q} {wait}", f"send {q} 1 {wait}", f"take {s} {wait}", f"give {s}", f"lock m {wait}",
+            "unlock m", f"set g {mask}", f"wait g {mask} {other} clear {wait}", f"suspend {t}", f"resume {t}", "work 2", "delay 1",
         ))
 
     def script(self):
         ops = [self.task_op() for _ in range(self.dice.randrange(1, 5))]
         return ["repeat 2", *ops, "end"] if self.dice.random() < 0.3 else ops
 
+    def task(self, name):
+        return f'[[task]]\nname = "{name}"\npriority = {self.dice.randrange(2)}\nscript = {json.dumps(self.script())}'
+
     def handler_op(self):
-        return self.dice.choice(("send q 1", "send_front q 1", "give s", "give c", "receive q", "overwrite r 1", "resume a", "mark 1", "peek q"))
+        ops = ("send q 1", "send_front q 1", "give s", "give c", "receive q", "overwrite r 1", "resume a", "mark 1", "peek q")
+        return self.dice.choice(ops)
 
     def text(self):
         handlers = [[self.handler_op() for _ in range(self.dice.randrange(6))] for _ in "hk"]
-        parts = ['queue = [{ name = "q", length = 2 }, { name = "r", length = 1 }]\nbinary = [{ name = "s" }]\nmutex = [{ name = "m" }]']
+        parts = ['queue = [{ name = "q", length = 2 }, { name = "r", length = 1 }]']
+        parts.append('binary = [{ name = "s" }]\nmutex = [{ name = "m" }]')
         parts.append(f'counting = [{{ name = "c", max = 2, initial = {self.dice.randrange(2)} }}]\ngroup = [{{ name = "g" }}]')
         parts += [f'[[handler]]\nname = "{name}"\nops = {json.dumps(ops)}' for name, ops in zip("hk", handlers)]
-        parts += [f'[[task]]\nname = "{it}"\npriority = {self.dice.randrange(2)}\nscript = {json.dumps(self.script())}' for it in "ab"]
+        parts += [self.task(it) for it in "ab"]
         parts.append('[limits]\nsteps = 300\n[campaign]\npoints = ["all h", "all k", "7 h", "30 h"]')
         return "\n".join(parts) + "\n"

@@ -1,13 +1,13 @@
 """Checks a file: asks the program, and explains its fault or looks for what a tester can't mean."""
 import itertools
 import os
-import stat
 
 from . import explaining, ignored, points, reach, unused
 from .application import Application
 from .findings import FAULT, Checked, Finding
 from .formats import MOST_POINTS
 from .lines import Lines
+from .nearness import did_you_mean
 from .nodes import NotToml
 from .toml_reader import read_document
 from .verdict import Verdict
@@ -34,25 +34,10 @@ def cannot_read(name, program, why):
     checked.could_be_checked = False
     reason = {IsADirectoryError: "it is a directory", FileNotFoundError: "there is no such file",
               PermissionError: "you have no permission to read it"}.get(type(why), getattr(why, "strerror", None) or str(why))
-    checked.add(Finding(FAULT, "CannotRead", None, f"cannot be read: {reason}{near_file(name, why)}", None, program.fault_of_file(name)))
+    meant = f"{name}.toml" if isinstance(why, FileNotFoundError) and os.path.isfile(f"{name}.toml") else None
+    message = f"cannot be read: {reason}{did_you_mean(meant)}"
+    checked.add(Finding(FAULT, "CannotRead", None, message, None, program.fault_of_file(name)))
     return checked
-
-
-def near_file(name, why):
-    """A file beside it that may be meant."""
-    if not isinstance(why, FileNotFoundError):
-        return ""
-    for other in (f"{name}.toml", f"{name[:-5]}.TOML" if name.endswith(".toml") else f"{name}.tml"):
-        if is_file(other):
-            return f"; did you mean {other}?"
-    return ""
-
-
-def is_file(name):
-    try:
-        return stat.S_ISREG(os.stat(name).st_mode)
-    except (OSError, ValueError):
-        return False
 
 
 # -- a file that is refused
@@ -70,12 +55,13 @@ def refused(name, content, verdict, program):
         except NotToml as fault:
             problem = Finding(FAULT, "NotToml", (fault.start, fault.end), with_line(fault, checked.lines), fault.rule)
     if verdict.kind == "NotToml":
-        checked.add(problem or Finding(FAULT, "NotToml", None, "the program finds no TOML document here, and this check no fault in it"))
+        nothing = "the program finds no TOML document here, and this check no fault in it"
+        checked.add(problem or Finding(FAULT, "NotToml", None, nothing))
     elif root is None or not verdict.place:
         checked.add(Finding(FAULT, verdict.kind or "Fault", None, "the program refuses this file"))
     else:
         checked.add(explaining.explain(verdict, text, root, program.takes_several))
-        for it in ignored.warnings(root, program.ignores):
+        for it in ignored.warnings(root, program.ignored):
             if it.span != checked.findings[0].span:
                 checked.add(it)
     checked.findings[0].program = verdict.line
@@ -134,7 +120,7 @@ def taken(name, content, base, program):
         line = program.campaign(content)
         if line is not None and Verdict(line).kind == "TooManyPoints":
             checked.add(points.too_many(nodes, base, root, line))
-    looks = (ignored.warnings(root, program.ignores), unused.warnings(application), points.warnings(application, base),
+    looks = (ignored.warnings(root, program.ignored), unused.warnings(application), points.warnings(application, base),
              reach.warnings(application))
     for it in itertools.chain(*looks):
         checked.add(it)

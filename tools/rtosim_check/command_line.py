@@ -13,7 +13,7 @@ from .findings import FAULT, WARNING
 from .program import Program
 from .writing import FORMATS
 
-DESCRIPTION = "Checks applications for rtosim: the program's fault with its place in the file and what was meant, and what the format ignores."
+DESCRIPTION = "Checks application files for rtosim: the program's fault, its place and what was meant, and what the program ignores."
 STATUS_FOUND, STATUS_NOT_CHECKED = 1, 3
 
 

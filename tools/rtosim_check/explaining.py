@@ -6,7 +6,7 @@ from . import explaining_ops, explaining_points
 from .context import Context
 from .findings import FAULT, Finding
 from .formats import (CALLED, EXAMPLE_OF_A_TASK, MEANT_KEYS, MEANT_SECTIONS, NAME, NAMED, OBJECTS, PLURALS, SECTIONS, TOP_KEYS)
-from .nearness import near
+from .nearness import did_you_mean, near, quoted
 from .nodes import Array, Float, Integer, Table, Text
 from .verdict import Place
 
@@ -65,33 +65,33 @@ def wrong_kind(context, _):
         return None
     if place.at is not None:
         meant = explaining_points.meant_point(context, node)
-        message = f"{context.label}: {context.source(node)} is {node.kind}, not a text" + (f"; did you mean {meant}?" if meant else "")
+        message = f"{context.label}: {context.source(node)} is {node.kind}, not a text{did_you_mean(meant)}"
         return node.span, message, context.key and context.key.rule
     if context.key is not None:
         return wrong_value(context, node)
     if context.section is None:
         return None
     if place.index is not None:
-        return node.span, f"{context.label} is {node.kind}, not a table", f"an entry of {place.section} stands under {context.section.header}"
+        rule = f"an entry of {place.section} stands under {context.section.header}"
+        return node.span, f"{context.label} is {node.kind}, not a table", rule
     return wrong_section(context, node)
 
 
 def wrong_section(context, node):
     section, member = context.section, context.root.members[context.place.section]
-    if member.has_header:
-        message = f"{member.shown} is {'one table' if section.is_list else 'a list of tables'}; did you mean {section.header}?"
+    if section.is_list:
+        found, wanted, rule = "one table", "an array of tables", "an entry of a list has a header with two brackets each"
     else:
-        message = f"{section.name} is {node.kind}, not {'an array of tables' if section.is_list else 'a table'}; did you mean {section.header}?"
-    what = "an entry of a list has a header with two brackets each" if section.is_list else "the section stands once, and has one bracket each"
-    return member.span, message, f"{what}: {section.rule}"
+        found, wanted, rule = "a list of tables", "a table", "the section stands once, and has one bracket each"
+    what = f"{member.shown} is {found}" if member.has_header else f"{section.name} is {node.kind}, not {wanted}"
+    return member.span, what + did_you_mean(section.header), f"{rule}: {section.rule}"
 
 
 def wrong_value(context, node):
     key = context.key
     wanted = "a text" if key.kind in ("a name", "a handler's name") else key.kind
     meant = meant_value(key, node, context)
-    message = f"{context.label}: {context.source(node)} is {node.kind}, not {wanted}"
-    return node.span, message + (f"; did you mean {meant}?" if meant else ""), key.rule
+    return node.span, f"{context.label}: {context.source(node)} is {node.kind}, not {wanted}{did_you_mean(meant)}", key.rule
 
 
 def meant_value(key, node, context):
@@ -130,13 +130,13 @@ def out_of_range(context, _):
     return node.span, f"{context.label}: {node.value} is out of range: {key.least} to {most}{beside}", key.rule
 
 
-def name_problem(text, application=None):
+def name_problem(text, application):
     """What is wrong with a text as a name."""
     if not text:
         return "the name is empty"
     meant = re.sub("[^A-Za-z0-9_]", "_", text)
-    is_new = application is None or meant not in application.named
-    end = f'; did you mean "{meant}"?' if meant != text and NAME.fullmatch(meant) and is_new else ""
+    is_good = meant != text and NAME.fullmatch(meant) and meant not in application.named
+    end = did_you_mean(quoted(meant) if is_good else None)
     wrong = re.search("[^A-Za-z0-9_]", text)
     if wrong:
         what = {" ": "a space", "\t": "a tab"}.get(wrong.group(), f'"{wrong.group()}"')
@@ -154,9 +154,9 @@ def double_name(context, _):
     if first is None:
         return None
     line = context.line_of(first.table.get("name").start)
-    owner = f"{CALLED[first.section]} of line {line}"
-    return node.span, f'{context.label}: the name "{node.value}" is already that of the {owner}', "all names of a file are different: " + (
-        "those of queues, semaphores, mutexes, event groups, handlers and tasks together")
+    message = f'{context.label}: the name "{node.value}" is already that of the {CALLED[first.section]} of line {line}'
+    return node.span, message, (
+        "all names of a file are different: those of queues, semaphores, mutexes, event groups, handlers and tasks together")
 
 
 # -- what is too many
@@ -194,9 +194,9 @@ def fifth_interrupt(context):
         return None
     others = [it.table.get("tick") for it in context.application.entries["interrupt"][: context.place.index]]
     lines = [context.line_of(it.start) for it in others if isinstance(it, Integer) and it.value == tick.value]
-    before = ", ".join(map(str, lines[:-1])) + f" and {lines[-1]}" if len(lines) > 1 else "".join(map(str, lines))
-    return tick.span, f"{context.label}: the fifth interrupt of tick {tick.value}, after those of lines {before}", (
-        "at most 4 base interrupts come at one tick")
+    before = explaining_ops.joined(lines) if lines else "no others"
+    message = f"{context.label}: the fifth interrupt of tick {tick.value}, after those of lines {before}"
+    return tick.span, message, "at most 4 base interrupts come at one tick"
 
 
 # -- names

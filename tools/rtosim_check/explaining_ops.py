@@ -2,14 +2,17 @@
 import re
 
 from .explaining_points import listed
-from .formats import (CALLED, KIN, LATER_OPS, MEANT_NONE, MEANT_OPS, MEANT_WAITS, NUMBER, OPS, PLURALS, Answer, Choice, Name, Wait,
-                      words_of)
-from .nearness import near
+from .formats import (CALLED, DEEPEST, KIN, LATER_OPS, MEANT_NONE, MEANT_OPS, MEANT_WAITS, NUMBER, OPS, PLURALS, Answer, Choice,
+                      Name, Wait, op_of, words_of)
+from .nearness import did_you_mean, near, quoted
 from .nodes import Array, Integer, Text
 
-DEEPEST = 4
 SEPARATORS = re.compile(r"[\t\n\r\f\v\u00a0\u2000-\u200b\u3000,;]")
+CALLED_SEPARATORS = {"\t": "a tab", ",": "a comma", ";": "a semicolon", "\n": "a new line"}
 CALL = re.compile(r" *([A-Za-z_][A-Za-z0-9_]*) *\((.*)\) *;?\s*")
+ONLY_SPACES = "the words of an op have spaces between them, and nothing else"
+# Ops of tasks that wait by themselves.
+WAITING = ("take", "lock", "wait", "delay", "delay_until")
 
 
 def told(context, problem):
@@ -36,7 +39,8 @@ def problem_of(text, section, application):
     """What is wrong with the text as an op."""
     words = words_of(text)
     if not words:
-        return Problem(0, 0, "the op is empty", f"an op is a word and its arguments, as {example(section)}")
+        example = '"send rx 7"' if section == "handler" else '"receive rx 5"'
+        return Problem(0, 0, "the op is empty", f"an op is a word and its arguments, as {example}")
     return (
         problem_of_characters(text, section)
         or problem_of_word(words, section)
@@ -46,8 +50,8 @@ def problem_of(text, section, application):
     )
 
 
-def example(section):
-    return '"send rx 7"' if section == "handler" else '"receive rx 5"'
+def text_of(words):
+    return " ".join(it[0] for it in words)
 
 
 # -- characters
@@ -55,26 +59,19 @@ def example(section):
 
 def problem_of_characters(text, section):
     """Another separator than a space, or a call as in C."""
-    rule = "the words of an op have spaces between them, and nothing else"
     call = CALL.fullmatch(text)
     if call:
         meant = near(without_isr(call[1]), OPS[section], MEANT_OPS)
-        arguments = " ".join(it for it in re.split(r"[\s,]+", call[2]) if it and it[0] != "&" and it != "NULL")
-        end = f'; did you mean "{meant} {arguments}"?' if meant and arguments else f'; did you mean "{meant}"?' if meant else ""
-        return Problem(call.start(2) - 1, call.start(2), f"an op has no brackets{end}", rule)
+        arguments = [it for it in re.split(r"[\s,]+", call[2]) if it and it[0] != "&" and it != "NULL"]
+        end = did_you_mean(quoted(meant and " ".join([meant, *arguments])))
+        return Problem(call.start(2) - 1, call.start(2), f"an op has no brackets{end}", ONLY_SPACES)
     found = SEPARATORS.search(text)
     if not found:
         return None
     meant = re.sub(" +", " ", SEPARATORS.sub(" ", text)).strip()
-    known = OPS[section].get(meant.partition(" ")[0])
-    end = f'; did you mean "{meant}"?' if known and spells(meant, known) else ""
-    what = {"\t": "a tab", ",": "a comma", ";": "a semicolon", "\n": "a new line"}.get(found.group(), "another kind of space")
-    return Problem(found.start(), found.end(), f"the op has {what} in it{end}", rule)
-
-
-def spells(text, op):
-    words = text.split(" ")[1:]
-    return len(words) == len(op.arguments) and all(it.fits(word) for it, word in zip(op.arguments, words))
+    what = CALLED_SEPARATORS.get(found.group(), "another kind of space")
+    end = did_you_mean(quoted(meant if op_of(section, meant)[1] else None))
+    return Problem(found.start(), found.end(), f"the op has {what} in it{end}", ONLY_SPACES)
 
 
 # -- the first word
@@ -84,17 +81,14 @@ def problem_of_word(words, section):
     word, start, end = words[0]
     if word in OPS[section]:
         return None
-    if word in LATER_OPS[section] and section == "task":
-        return Problem(start, end, f'"{word}" is an op of a later version, which this program doesn\'t take', all_ops(section))
     if section == "handler" and word in OPS["task"]:
-        return task_op_in_handler(words)
+        return Problem(start, end, op_of_tasks(word), all_ops("handler"))
+    if word in LATER_OPS[section]:
+        message = f'the program takes no such op: "{word}" is one of a later version'
+        return Problem(start, end, message, all_ops(section))
     meant = near(word, OPS[section], MEANT_OPS) or near(without_isr(word), OPS[section], MEANT_OPS)
-    if meant:
-        return Problem(start, end, f'no op is called "{word}"; did you mean "{meant}"?', OPS[section][meant].rule)
-    message = f'no op is called "{word}"'
-    if section == "task" and word == "else" or word == "if":
-        message += ", and a script has no branches"
-    return Problem(start, end, message, all_ops(section))
+    rule = OPS[section][meant].rule if meant else all_ops(section)
+    return Problem(start, end, f'no op is called "{word}"{did_you_mean(quoted(meant))}', rule)
 
 
 def without_isr(word):
@@ -105,18 +99,13 @@ def all_ops(section):
     return f"the ops of a {section} are {', '.join(OPS[section])}"
 
 
-WAITING = ("take", "lock", "wait", "delay", "delay_until", "suspend")
-
-
-def task_op_in_handler(words):
-    word, start, end = words[0]
+def op_of_tasks(word):
+    """What to say of an op of tasks in a handler."""
+    if word in WAITING:
+        return f'"{word}" is an op of tasks: a handler never waits'
     if word in LATER_OPS["handler"]:
-        message = f'"{word}" is an op of tasks, and in a handler one of a later version, which this program doesn\'t take'
-    elif word in WAITING:
-        message = f'"{word}" is an op of tasks: a handler never waits'
-    else:
-        message = f'"{word}" is an op of tasks, and a handler has no such op'
-    return Problem(start, end, message, all_ops("handler"))
+        return f'"{word}" is an op of tasks, and one of handlers in a later version'
+    return f'"{word}" is an op of tasks, and a handler has no such op'
 
 
 # -- how many words
@@ -124,35 +113,29 @@ def task_op_in_handler(words):
 
 def problem_of_count(words, section, application):
     op, given = OPS[section][words[0][0]], len(words) - 1
-    if given == len(op.arguments):
+    many = len(op.arguments)
+    if given == many:
         return None
     if section == "handler" and op.word in OPS["task"] and given == len(OPS["task"][op.word].arguments):
-        meant = " ".join(it[0] for it in words[:-1])
-        message = f'a handler never waits, so "{op.word}" has no wait there; did you mean "{meant}"?'
+        message = f'a handler never waits, so "{op.word}" has no wait there{did_you_mean(quoted(text_of(words[:-1])))}'
         return Problem(words[-1][1], words[-1][2], message, op.rule)
-    if given < len(op.arguments):
-        return too_few(op, words, application)
-    first = words[len(op.arguments) + 1]
-    many = len(op.arguments)
-    count = "nothing" if many == 0 else "one argument" if many == 1 else f"{many} arguments"
-    message = f'"{op.word}" takes {count}, and "{first[0]}" is one too many; did you mean "{" ".join(it[0] for it in words[: many + 1])}"?'
-    return Problem(first[1], words[-1][2], message, op.rule)
+    if given < many:
+        return Problem(words[0][1], words[-1][2], too_few(op, words, application), op.rule)
+    first, count = words[many + 1], ("nothing", "one argument")[many] if many < 2 else f"{many} arguments"
+    meant = did_you_mean(quoted(text_of(words[: many + 1])))
+    return Problem(first[1], words[-1][2], f'"{op.word}" takes {count}, and "{first[0]}" is one too many{meant}', op.rule)
 
 
 def too_few(op, words, application):
-    """Which argument is missing: the first that is not there, or one that was left out before the others."""
-    given = [it[0] for it in words[1:]]
+    """What to say of arguments that are missing: the one that was left out before others, or the last ones."""
+    given, text = [it[0] for it in words[1:]], text_of(words)
     left = left_out(op.arguments, given)
-    absent = left[0]
-    text = " ".join(it[0] for it in words)
-    if absent is op.arguments[-1] and isinstance(absent, Wait) and fits_all(op.arguments, given):
-        message = f'how long it waits is missing; did you mean "{text} 0", to try once, or "{text} forever"?'
-        return Problem(words[0][1], words[-1][2], message, op.rule)
-    what = " and ".join(it.letter for it in left)
-    names = application.names_of(absent.kinds) if isinstance(absent, Name) else []
-    meant = f'; did you mean "{text} {names[0]}"?' if len(names) == 1 and len(op.arguments) == 1 else ""
-    message = f'"{op.word}" takes {" ".join(it.letter for it in op.arguments)}, and {what} {"are" if len(left) > 1 else "is"} missing{meant}'
-    return Problem(words[0][1], words[-1][2], message, op.rule)
+    if isinstance(left[0], Wait) and len(left) == 1:
+        return f'how long it waits is missing; did you mean "{text} 0", to try once, or "{text} forever"?'
+    names = application.names_of(left[0].kinds) if isinstance(left[0], Name) else []
+    meant = quoted(f"{text} {names[0]}") if len(names) == 1 and len(op.arguments) == 1 else None
+    letters, missing = " ".join(it.letter for it in op.arguments), " and ".join(it.letter for it in left)
+    return f'"{op.word}" takes {letters}, and {missing} {"is" if len(left) == 1 else "are"} missing{did_you_mean(meant)}'
 
 
 def left_out(arguments, given):
@@ -182,44 +165,44 @@ def problem_of_argument(argument, word, application):
     if isinstance(argument, Name):
         return no_name(argument, word, application)
     if isinstance(argument, Choice):
-        meant = near(word, argument.words)
-        return f'"{word}" is neither {" nor ".join(argument.words)}' + (f'; did you mean "{meant}"?' if meant else "")
+        return f'"{word}" is neither {" nor ".join(argument.words)}{did_you_mean(quoted(near(word, argument.words)))}'
     return no_number(argument, word)
 
 
 def no_name(argument, word, application):
     if NUMBER.fullmatch(word):
-        return f"expected {argument.rule.partition(' is ')[2]}, found the number {word}"
+        return f"expected {argument.what}, found the number {word}"
     meant = near(word, application.names_of(argument.kinds))
     if meant:
-        return f'"{word}" is no name; did you mean "{meant}"?'
+        return f'"{word}" is no name{did_you_mean(quoted(meant))}'
     if len(word) > 16 and re.fullmatch("[A-Za-z0-9_]+", word):
         return f'"{word}" is no name: it has {len(word)} characters, and a name has at most 16'
     return f'"{word}" is no name, which has letters, digits and `_` and begins with a letter'
 
 
 def no_number(argument, word):
-    is_wait = isinstance(argument, Wait)
-    ends = f"{argument.least} to {argument.most}" + (", or forever" if is_wait else ", or none" if isinstance(argument, Answer) else "")
-    if is_wait and (near(word, ["forever"]) or word.lower() in MEANT_WAITS):
+    ends = f"{argument.least} to {argument.most}" + argument.or_else
+    if isinstance(argument, Wait) and (near(word, ["forever"]) or word.lower() in MEANT_WAITS):
         return f'{word} is no wait; did you mean "forever"?'
-    if re.fullmatch("[0-9]+", word):
-        if len(word) > 10:
-            return f"{word} has more than ten digits"
+    if isinstance(argument, Answer) and (near(word, ["none"]) or word in MEANT_NONE):
+        return f'expected a number, {ends}, found "{word}"; did you mean "none"?'
+    if re.fullmatch("[0-9]{11,}", word):
+        return f"{word} has more than ten digits"
+    if re.fullmatch("-?[0-9]+", word):
         return f"{word} is out of range: {ends}"
-    if re.fullmatch("0[xX][0-9A-Fa-f]+", word):
-        return f"{word} is no decimal number; did you mean {int(word, 16)}?"
-    if re.fullmatch("0[bB][01]+", word):
-        return f"{word} is no decimal number; did you mean {int(word[2:], 2)}?"
-    if re.fullmatch("-[0-9]+", word):
-        return f"{word} is out of range: {ends}"
-    macro = re.fullmatch(r"(?i)pdMS_TO_TICKS\(?([0-9]*)\)?", word)
-    plain = re.fullmatch(r"\+?([0-9_']+)(?:\.0*)?(?:[uUlL]+|ms|ticks?|s)?", word)
-    digits = re.sub("[_']", "", plain[1]) if plain else macro[1] if macro else ""
+    digits = decimal_digits(word)
     if digits and argument.fits(digits):
-        return f'"{word}" is no number of decimal digits; did you mean {digits}?'
-    end = '; did you mean "none"?' if isinstance(argument, Answer) and (near(word, ["none"]) or word in MEANT_NONE) else ""
-    return f'expected a number, {ends}, found "{word}"{end}'
+        return f"{word} is no decimal number{did_you_mean(digits)}"
+    return f'expected a number, {ends}, found "{word}"'
+
+
+def decimal_digits(word):
+    """The decimal digits that may be meant by a number in another form, or None."""
+    if re.fullmatch("0[xX][0-9A-Fa-f]+|0[bB][01]+", word):
+        return str(int(word, 0))
+    macro = re.fullmatch(r"(?i)pdMS_TO_TICKS\(?([0-9]+)\)?", word)
+    other = re.fullmatch(r"\+?([0-9][0-9_']*)(?:\.0*)?(?:[uUlL]+|ms|ticks?|s)?", word)
+    return macro[1] if macro else re.sub("[_']", "", other[1]) if other else None
 
 
 # -- names
@@ -229,33 +212,31 @@ def unknown_name(context):
     node = context.node
     if not isinstance(node, Text) or context.place.section not in OPS:
         return None
-    words = words_of(node.value)
-    op = OPS[context.place.section].get(words[0][0]) if words else None
-    if op is None or len(words) != len(op.arguments) + 1 or op.name_at() is None:
+    op = op_of(context.place.section, node.value)[1]
+    if op is None or op.name_at() is None:
         return None
     at, kinds = op.name_at()
-    word, start, end = words[at + 1]
+    word, start, end = words_of(node.value)[at + 1]
     message, rule = no_such(context, op, word, kinds)
     return node.part(start, end), told(context, message), rule
 
 
 def no_such(context, op, word, kinds):
     """What to say of a name that nothing of the kinds has, and the rule."""
-    application = context.application
-    wanted = " or ".join(CALLED[it] for it in kinds) if kinds != ("binary", "counting") else "semaphore"
-    plural = " and ".join(PLURALS[it] for it in kinds) if kinds != ("binary", "counting") else "semaphores"
-    other, names = application.named.get(word), application.names_of(kinds)
+    is_semaphore = kinds == ("binary", "counting")
+    wanted, plural = ("semaphore", "semaphores") if is_semaphore else (CALLED[kinds[0]], PLURALS[kinds[0]])
+    other, names = context.application.named.get(word), context.application.names_of(kinds)
     if other is not None:
-        line = context.line_of(other.table.start)
         end, meant = instead(context, op, other, names)
+        line = context.line_of(other.table.start)
         return f'"{word}" is {one(other.section)} (line {line}), and {op.word} speaks of {plural}{end}', (meant or op).rule
-    meant = near(word, names)
+    start, meant = f'no {wanted} is called "{word}"', near(word, names)
     if meant:
-        return f'no {wanted} is called "{word}"; did you mean "{meant}"?', op.rule
+        return start + did_you_mean(quoted(meant)), op.rule
     if names:
-        return f'no {wanted} is called "{word}"; the {plural} are {listed(names)}', op.rule
+        return f"{start}; the {plural} are {listed(names)}", op.rule
     there = context.lost(list(kinds)) or f"the file has no {' or '.join(f'[[{it}]]' for it in kinds)}"
-    return f'no {wanted} is called "{word}"; {there}', op.rule
+    return f"{start}; {there}", op.rule
 
 
 def one(section):
@@ -265,13 +246,14 @@ def one(section):
 
 def instead(context, op, other, names):
     """Which op is meant, or which ops speak of what has the name, or which names the op may have; and the op that is meant."""
-    ops = [it.word for it in OPS[context.place.section].values() if it.name_at() and other.section in it.name_at()[1]]
+    known = OPS[context.place.section]
+    ops = [it.word for it in known.values() if it.name_at() and other.section in it.name_at()[1]]
     kin = next((it for group in KIN if op.word in group for it in group if it in ops), None)
     if kin:
-        return f'; did you mean "{kin}"?', OPS[context.place.section][kin]
+        return did_you_mean(quoted(kin)), known[kin]
     if ops:
         return f"; ops of {one(other.section)} are {', '.join(ops)}", None
-    return f"; did you mean {listed(names)}?" if names else "", None
+    return did_you_mean(listed(names)), None
 
 
 def overwrite_length(context):
@@ -281,9 +263,9 @@ def overwrite_length(context):
     length = entry.table.get("length") if entry else None
     if not isinstance(length, Integer):
         return None
-    line = context.line_of(length.start)
-    message = f'queue "{entry.name}" has length {length.value} (line {line}), and overwrite is for queues of length 1'
-    return node.part(words[1][1], words[1][2]), told(context, message), "overwrite q v: puts an item in place of the one that is there; q is a queue of length 1"
+    has = f'queue "{entry.name}" has length {length.value} (line {context.line_of(length.start)})'
+    rule = OPS["task"]["overwrite"].rule
+    return node.part(words[1][1], words[1][2]), told(context, f"{has}, and overwrite is for queues of length 1"), rule
 
 
 # -- loops
@@ -296,20 +278,25 @@ def bad_nesting(context):
     opened = open_loops(array.items[: context.place.at])
     if context.node is None:
         return unclosed(context, array, opened)
-    text = context.node.value if isinstance(context.node, Text) else ""
-    if text.split(" ")[:1] == ["end"] or text.strip(" ") == "end":
-        return context.node.span, told(context, "no loop is open here, which end could close"), "each end closes the last repeat that is open"
-    if len(opened) == DEEPEST:
-        return context.node.span, told(context, f"this is the fifth repeat inside one another: {places(opened)} are open"), (
-            f"loops are at most {DEEPEST} deep")
+    if first_word(context.node) == "end" and not opened:
+        message = told(context, "no loop is open here, which end could close")
+        return context.node.span, message, "each end closes the last repeat that is open"
+    if first_word(context.node) == "repeat" and len(opened) == DEEPEST:
+        message = told(context, f"this is the fifth repeat inside one another: those of {joined(opened)} are open")
+        return context.node.span, message, f"loops are at most {DEEPEST} deep"
     return None
+
+
+def first_word(node):
+    words = words_of(node.value) if isinstance(node, Text) else []
+    return words[0][0] if words else ""
 
 
 def open_loops(items):
     """The indices of the loops that are still open after these ops."""
     opened = []
     for at, item in enumerate(items):
-        word = item.value.strip(" ").partition(" ")[0] if isinstance(item, Text) else ""
+        word = first_word(item)
         if word == "repeat":
             opened.append(at)
         elif word == "end" and opened:
@@ -317,14 +304,15 @@ def open_loops(items):
     return opened
 
 
-def places(opened):
-    return "those of " + ", ".join(map(str, opened[:-1])) + (f" and {opened[-1]}" if len(opened) > 1 else str(opened[-1]))
+def joined(numbers):
+    """As `1, 2 and 3`."""
+    return " and ".join([", ".join(map(str, numbers[:-1])), str(numbers[-1])]) if len(numbers) > 1 else str(numbers[0])
 
 
 def unclosed(context, array, opened):
     if not opened:
         return None
     node = array.items[opened[-1]]
-    label = f'{context.entry.label}, script {opened[-1]}, "{node.value}"'
     others = f" ({len(opened)} loops are open)" if len(opened) > 1 else ""
-    return node.span, f'{label}: this loop is not closed; did you forget an "end" at the end of the script{others}?', "each repeat needs an end"
+    start = f'{context.entry.label}, script {opened[-1]}, "{node.value}": this loop is not closed'
+    return node.span, f'{start}; did you forget an "end" at the end of the script{others}?', "each repeat needs an end"

@@ -2,7 +2,7 @@
 import re
 
 from .formats import A_POINT, MOST_PAIRS, NAME, SEVERAL, STEP, words_of
-from .nearness import near
+from .nearness import did_you_mean, near, quoted
 from .nodes import Integer, Text
 
 
@@ -15,7 +15,7 @@ def no_handler(context, name):
         return f'"{name}" is a {other.section}, not a handler' + (f"; the handlers are {listed(handlers)}" if handlers else "")
     meant = near(name, handlers)
     if meant:
-        return f'no handler is called "{name}"; did you mean "{meant}"?'
+        return f'no handler is called "{name}"' + did_you_mean(quoted(meant))
     there = f"the handlers are {listed(handlers)}" if handlers else context.lost(["handler"]) or "the file has no [[handler]]"
     return f'no handler is called "{name}"; {there}'
 

@@ -48,31 +48,34 @@ def number_key(name, least, most, what, default=None):
     return Key(name, "an integer", rule, default is None, least, most)
 
 
+def texts_key(name, most, rule, example):
+    return Key(name, "an array of texts", f"{rule}, as {example}", True, 0, most)
+
+
+TOGETHER = "a file has at most 32 queues, semaphores and mutexes together"
 THE_NAME = Key("name", "a name", f"{A_NAME}; no two things of a file have the same")
 SECTIONS = {it.name: it for it in (
     Section("limits", False, 1, "[limits] says where a run ends at the latest",
             number_key("ticks", 1, 1000000, "after how many elapsed ticks a run ends", 1000000),
             number_key("steps", 1, 1000000, "after how many steps a run ends", 1000000)),
-    Section("queue", True, 32, "a file has at most 32 queues, semaphores and mutexes together", THE_NAME,
+    Section("queue", True, 32, TOGETHER, THE_NAME,
             number_key("length", 1, 256, "how many items the queue holds at most")),
-    Section("binary", True, 32, "a file has at most 32 queues, semaphores and mutexes together", THE_NAME),
-    Section("counting", True, 32, "a file has at most 32 queues, semaphores and mutexes together", THE_NAME,
+    Section("binary", True, 32, TOGETHER, THE_NAME),
+    Section("counting", True, 32, TOGETHER, THE_NAME,
             number_key("max", 1, 65535, "the greatest count of the semaphore"),
             number_key("initial", 0, 65535, "the count at reset, at most max", 0)),
-    Section("mutex", True, 32, "a file has at most 32 queues, semaphores and mutexes together", THE_NAME),
+    Section("mutex", True, 32, TOGETHER, THE_NAME),
     Section("group", True, 16, "a file has at most 16 event groups", THE_NAME),
     Section("handler", True, 16, "a file has at most 16 handlers", THE_NAME,
-            Key("ops", "an array of texts", 'ops are what the handler does: an array of at most 16 texts, as ["send rx 7"]', True, 0, 16)),
+            texts_key("ops", 16, "ops are what the handler does: an array of at most 16 texts", '["send rx 7"]')),
     Section("task", True, 32, "a file has 1 to 32 tasks, each under a line [[task]]", THE_NAME,
             number_key("priority", 0, 31, "the base priority, where a larger number is a higher priority"),
-            Key("script", "an array of texts", 'script is what the task does: an array of at most 256 texts, as ["work 3", "give s"]',
-                True, 0, 256)),
+            texts_key("script", 256, "script is what the task does: an array of at most 256 texts", '["work 3", "give s"]')),
     Section("interrupt", True, 1024, "a file has at most 1024 base interrupts, 4 of them at one tick",
             number_key("tick", 1, 1000000, "the elapsed tick at which the handler runs"),
             Key("handler", "a handler's name", "handler is the name of the [[handler]] that runs at that tick")),
     Section("campaign", False, 1, "[campaign] has the points at which handlers are injected",
-            Key("points", "an array of texts", 'points are where handlers are injected: an array of texts, as ["all uart", "12 uart"]',
-                True, 0, 1000000)),
+            texts_key("points", 1000000, "points are where handlers are injected: an array of texts", '["all uart", "12 uart"]')),
 )}
 START = number_key("start", 0, MOST_OF_A_NUMBER, "the time at reset, above the first table", 0)
 # What stands above the first table.
@@ -86,9 +89,9 @@ MEANT_SECTIONS = {
     "injection": "campaign",
 }
 MEANT_KEYS = {
-    "prio": "priority", "size": "length", "capacity": "length", "depth": "length", "ops": "script", "script": "ops", "code": "script",
-    "body": "ops", "maximum": "max", "init": "initial", "count": "initial", "time": "tick", "at": "tick", "isr": "handler",
-    "irq": "handler", "ticks": "tick", "tick": "ticks", "point": "points",
+    "prio": "priority", "size": "length", "capacity": "length", "depth": "length", "ops": "script", "code": "script",
+    "script": "ops", "body": "ops", "maximum": "max", "init": "initial", "count": "initial", "time": "tick", "at": "tick",
+    "isr": "handler", "irq": "handler", "ticks": "tick", "tick": "ticks", "point": "points",
 }
 
 
@@ -96,7 +99,9 @@ MEANT_KEYS = {
 
 
 class Number:
-    """A number of a range."""
+    """A number of a range, or another word."""
+
+    or_else = ""
 
     def __init__(self, letter, least=0, most=MOST_OF_A_NUMBER, what="a number"):
         self.letter, self.least, self.most = letter, least, most
@@ -109,9 +114,11 @@ class Number:
 class Wait(Number):
     """How long a call waits at most."""
 
+    or_else = ", or forever"
+
     def __init__(self):
         super().__init__("w", 0, MOST_OF_A_NUMBER - 1)
-        self.rule = f"w is how many ticks it waits at most, 0 to {self.most}, or forever"
+        self.rule = f"w is how many ticks it waits at most, 0 to {self.most}{self.or_else}"
 
     def fits(self, word):
         return word == "forever" or super().fits(word)
@@ -120,9 +127,11 @@ class Wait(Number):
 class Answer(Number):
     """What the last answer must be."""
 
+    or_else = ", or none"
+
     def __init__(self):
         super().__init__("n")
-        self.rule = f"n is the answer that the op before must have, 0 to {self.most}, or none"
+        self.rule = f"n is the answer that the op before must have, 0 to {self.most}{self.or_else}"
 
     def fits(self, word):
         return word == "none" or super().fits(word)
@@ -143,7 +152,7 @@ class Name:
     """The name of one of these kinds."""
 
     def __init__(self, letter, what, *kinds):
-        self.letter, self.kinds = letter, kinds
+        self.letter, self.what, self.kinds = letter, what, kinds
         self.rule = f"{letter} is {what}"
 
     def fits(self, word):
@@ -195,7 +204,7 @@ TASK_OPS = table_of(
     Op("end", does="closes a loop"),
     Op("send", Q, V, W, does="puts an item last into a queue"),
     Op("send_front", Q, V, W, does="puts an item first into a queue"),
-    Op("overwrite", Q, V, does="puts an item in place of the one that is there"),
+    Op("overwrite", Name("q", "a queue of length 1", "queue"), V, does="puts an item in place of the one that is there"),
     Op("receive", Q, W, does="takes the first item of a queue"),
     Op("peek", Q, W, does="answers the first item of a queue and leaves it there"),
     Op("waiting", Q, does="answers how many items are in a queue"),
@@ -222,6 +231,8 @@ HANDLER_OPS = table_of(
     Op("peek", Q, does="answers the first item of a queue, if there is one"),
     TASK_OPS["give"], TASK_OPS["resume"], TASK_OPS["bits"], TASK_OPS["mark"],
 )
+# How deep loops are at most.
+DEEPEST = 4
 OPS = {"task": TASK_OPS, "handler": HANDLER_OPS}
 # Words of ops of later versions. When the program takes one, it moves up, with its arguments.
 LATER_OPS = {"task": ("if", "else", "break", "stamp", "since"), "handler": ("expect", "if", "else", "end", "set", "clear")}

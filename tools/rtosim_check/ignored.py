@@ -1,19 +1,26 @@
-"""Warnings of what the format ignores: sections and keys that it doesn't know, and those that stand in another place than theirs."""
+"""Warnings of what the program ignores: sections and keys that the format hasn't, and those in another place than theirs."""
 from .application import Entry
 from .findings import WARNING, Finding
 from .formats import LATER_KEYS, MEANT_KEYS, MEANT_SECTIONS, SECTIONS, TOP_KEYS
-from .nearness import near
+from .nearness import did_you_mean, near
 from .nodes import Array, Table
 
 
-def warnings(root, ignores):
-    """The warnings of a document. `ignores` is asked whether the program ignores a key of a section."""
+def warnings(root, ignored):
+    """The warnings of a document. `ignored` is asked which of some keys, each with its section, the program ignores."""
+    unknown = list(of_document(root))
+    sure = ignored({key for key, _ in unknown}) if unknown else ()
+    return [it for key, it in unknown if key in sure]
+
+
+def of_document(root):
+    """What isn't known, each key with its section, and the warning of it."""
     for name, member in root.members.items():
         if name in SECTIONS:
             for label, table in tables_of(name, member.value):
-                yield from of_table(SECTIONS[name], label, table, ignores)
-        elif name not in TOP_KEYS and ignores("", name):
-            yield of_section(member)
+                yield from of_table(SECTIONS[name], label, table)
+        elif name not in TOP_KEYS:
+            yield ("", name), of_section(member)
 
 
 def tables_of(section, value):
@@ -31,9 +38,10 @@ def of_section(member):
         return warning("LaterVersion", member, f"{shown} is of a later version: this program ignores it")
     owner = owner_of(name)
     if owner and not isinstance(member.value, Table) and shown[0] != "[":
-        return warning("UnknownSection", member, f"{shown} is ignored: above the first table it is no key; it belongs under {owner}")
+        message = f"{shown} is ignored: above the first table it is no key; it belongs under {owner}"
+        return warning("UnknownSection", member, message)
     meant = near(name, [*SECTIONS, *TOP_KEYS], MEANT_SECTIONS)
-    end = f"; did you mean {SECTIONS[meant].header if meant in SECTIONS else meant}?" if meant else ""
+    end = did_you_mean(SECTIONS[meant].header if meant in SECTIONS else meant)
     kind = "section" if shown[0] == "[" or isinstance(member.value, (Table, Array)) else "key"
     rule = None if meant else f"the sections are {', '.join(SECTIONS)}; above them stands start"
     return warning("UnknownSection", member, f"{shown} is ignored: there is no such {kind}{end}", rule)
@@ -45,14 +53,14 @@ def owner_of(key):
     return owners[0] if len(owners) == 1 else None
 
 
-def of_table(section, label, table, ignores):
-    """The warnings of a table's keys."""
+def of_table(section, label, table):
+    """As of_document, of a table's keys."""
     for name, member in table.members.items():
-        if name not in section.keys and ignores(section.name, name):
-            yield warning("UnknownKey", member, *of_key(section, label, name, member))
+        if name not in section.keys:
+            yield (section.name, name), warning("UnknownKey", member, *of_key(section, label, name))
 
 
-def of_key(section, label, name, member):
+def of_key(section, label, name):
     """What to say of a key that its table doesn't know, and the rule."""
     start = f'"{name}" is ignored'
     if name in LATER_KEYS.get(section.name, ()):

@@ -1,6 +1,15 @@
 """Words that are near to one that isn't known."""
 
 
+def did_you_mean(text):
+    """The end of a message: what was meant, if something was."""
+    return f"; did you mean {text}?" if text else ""
+
+
+def quoted(text):
+    return f'"{text}"' if text else None
+
+
 def near(word, candidates, meant=None):
     """What was meant by the word, or None: another case, another name for it, few letters that differ, or a beginning."""
     lower = word.lower()

@@ -1,4 +1,6 @@
 """The points of a campaign: too many of them, and those behind the end of the base run."""
+from rtosim_report.faults import counted
+
 from .application import pairs_of
 from .findings import FAULT, WARNING, Finding
 from .formats import MOST_POINTS
@@ -28,7 +30,7 @@ def warnings(application, base):
             behind.append((at, node))
     if behind:
         at, node = behind[0]
-        others = f", and those of {len(behind) - 1:,} more" if len(behind) > 2 else ", and that of one more" if len(behind) == 2 else ""
-        steps = "step" if base.steps == 1 else "steps"
-        message = f'campaign, points {at}, "{node.value}": the base run ends after {base.steps:,} {steps}, so this point is not reached{others}'
+        others = f", nor are {counted(len(behind) - 1, 'other')}" if len(behind) > 1 else ""
+        ends = f"the base run ends after {counted(base.steps, 'step')}, so this point is not reached{others}"
+        message = f'campaign, points {at}, "{node.value}": {ends}'
         yield Finding(WARNING, "NotReached", node.span, message, "the row of a point that is not reached is the base run")

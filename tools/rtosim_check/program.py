@@ -79,7 +79,7 @@ class Program:
         raise Fault(f"{plain(self.path)} ends with status {status}" + (f": {plain(line)}" if line else ""))
 
     def campaign(self, text):
-        """The fault line of a campaign that has too many points, which is told before its rows are made; None where it makes rows."""
+        """The fault line of a campaign of too many points, which comes before rows are made; None where rows are made."""
         with kept(text) as given:
             words = [self.path, "campaign", "/dev/stdin", "--quiet"]
             streams = {"stdin": given, "stdout": subprocess.DEVNULL, "stderr": subprocess.PIPE}
@@ -99,11 +99,11 @@ class Program:
         """Whether it takes a point of several injections."""
         return self.takes("".join(PROBE.values()).replace("POINT", SEVERAL))
 
-    def ignores(self, section, key):
-        """Whether it ignores a key of a section, "" for those above the first table: it then takes a float there, which no key has."""
-        line = json.dumps(key, ensure_ascii=False) + " = 0.5\n"
-        text = "".join(it + line if name == section else it for name, it in PROBE.items())
-        return self.takes(text.replace("POINT", ""))
+    def ignored(self, keys):
+        """Those of the keys, each with its section, that it ignores: it takes a float there, which no key has."""
+        if self.takes(with_floats(keys)):
+            return set(keys)
+        return {it for it in keys if self.takes(with_floats([it]))}
 
     def fault_of_file(self, name):
         """What the program says of a file that can't be read here; None where it can read it."""
@@ -113,6 +113,13 @@ class Program:
         except ValueError:
             return None
         return ran.stderr.decode("utf-8", "surrogateescape").rstrip("\n") if ran.returncode == 3 else None
+
+
+def with_floats(keys):
+    """The small application with a float for each of the keys; the section of one above the first table is ""."""
+    lines = {section: "".join(f"{json.dumps(key, ensure_ascii=False)} = 0.5\n" for owner, key in sorted(keys) if owner == section)
+             for section in PROBE}
+    return "".join(entry + lines[section] for section, entry in PROBE.items()).replace("POINT", "")
 
 
 def kept(text):

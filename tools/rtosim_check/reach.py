@@ -1,10 +1,10 @@
 """Warnings of what can't succeed: a task that waits for ever for what nobody does, and a handler's call that always fails.
 
-Both are sure. What a task waits for is taken to come wherever an op that brings it may be reached at all, and each handler is taken to
-come at any time. Where an op isn't known, nothing is said."""
+Both are sure. What a task waits for is taken to come wherever an op that brings it may be reached at all, and each handler is taken
+to come at any time. Where an op isn't known, nothing is said."""
 from .application import integer_of
 from .findings import WARNING, Finding
-from .formats import op_of
+from .formats import LATER_KEYS, op_of
 
 NOBODY = "no op that is ever reached"
 WRITES = ("send", "send_front", "overwrite")
@@ -80,14 +80,15 @@ class Brought:
         is_met = bits & mask if words[3] == "any" else bits & mask == mask
         if is_met:
             return None
-        missing = mask & ~bits
-        return f'{NOBODY} sets the bits of mask {missing} of "{words[1]}"' if words[3] == "all" else f'{NOBODY} sets a bit of mask {mask} of "{words[1]}"'
+        what = f"a bit of mask {mask}" if words[3] == "any" else f"the bits of mask {mask & ~bits}"
+        return f'{NOBODY} sets {what} of "{words[1]}"'
 
 
 def of_tasks(application, scripts):
     """The tasks that come to an op which can't end."""
     brought = Brought(application)
     tasks = [it for it in scripts if it.entry.section == "task"]
+    others = [it for it in tasks if any(key in it.entry.table.members for key in LATER_KEYS["task"])]
     for it in scripts:
         if it.entry.section == "handler":
             for words, _ in it.ops:
@@ -95,7 +96,7 @@ def of_tasks(application, scripts):
     while any([go_on(it, brought) for it in tasks]):
         pass
     for it in tasks:
-        if it.reached < len(it.ops):
+        if it.reached < len(it.ops) and it not in others:
             yield never_ends(it, brought, scripts)
 
 
@@ -139,5 +140,6 @@ def of_handlers(application, handlers):
 def always_fails(script, at, node, room):
     words = node.value.split()
     count = "its greatest count is" if words[0] == "give" else "its length is"
-    message = f'{script.entry.label}, ops {at}, "{node.value}": this call always fails: {count} {room}, and the handler has filled "{words[1]}" before'
+    why = f'{count} {room}, and the handler has filled "{words[1]}" before'
+    message = f'{script.entry.label}, ops {at}, "{node.value}": this call always fails: {why}'
     return Finding(WARNING, "AlwaysFails", node.span, message, "no task runs between the ops of a handler, so nobody makes room")

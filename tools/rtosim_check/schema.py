@@ -1,5 +1,5 @@
-"""The JSON schema of applications, for editors: docs/application.schema.json, which `PYTHONPATH=tools python3 -m rtosim_check.schema`
-writes.
+"""The JSON schema of applications, for editors: docs/application.schema.json, which
+`PYTHONPATH=tools python3 -m rtosim_check.schema` writes.
 
 It is draft 7, which Taplo and Even Better TOML take. What a schema can't say, as which names there are, isn't in it."""
 import json

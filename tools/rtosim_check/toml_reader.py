@@ -21,7 +21,8 @@ SECOND_WORD = re.compile(r" [0-9][A-Za-z0-9_+.:-]*")
 SIMPLE = {'"': re.compile('"([^"\\\\\x00-\x08\x0a-\x1f\x7f]*)"'), "'": re.compile("'([^'\x00-\x08\x0a-\x1f\x7f]*)'")}
 PLAIN = {
     ('"', False): re.compile('[^"\\\\\x00-\x08\x0a-\x1f\x7f]+'), ("'", False): re.compile("[^'\x00-\x08\x0a-\x1f\x7f]+"),
-    ('"', True): re.compile('(?:[^"\\\\\x00-\x08\x0b-\x1f\x7f]|\r\n)+'), ("'", True): re.compile("(?:[^'\x00-\x08\x0b-\x1f\x7f]|\r\n)+"),
+    ('"', True): re.compile('(?:[^"\\\\\x00-\x08\x0b-\x1f\x7f]|\r\n)+'),
+    ("'", True): re.compile("(?:[^'\x00-\x08\x0b-\x1f\x7f]|\r\n)+"),
 }
 ESCAPES = {"b": "\b", "e": "\x1b", "f": "\f", "n": "\n", "r": "\r", "t": "\t", '"': '"', "\\": "\\"}
 HEX_DIGITS = {"x": 2, "u": 4, "U": 8}
@@ -29,6 +30,7 @@ HEX_DIGITS = {"x": 2, "u": 4, "U": 8}
 ELEMENT = re.compile('[ \t\n]*"([^"\\\\\x00-\x08\x0a-\x1f\x7f]*)"[ \t\n]*,')
 # What may be a text without its quotes.
 UNQUOTED = re.compile(r"[^,\]}\r\n\"'#=]*")
+ESCAPES_ARE = "escapes are \\\" \\\\ \\b \\e \\f \\n \\r \\t \\xHH \\uHHHH \\UHHHHHHHH; a text between two ' has none"
 CURLED = "\u2018\u2019\u201c\u201d\u201e\u00ab\u00bb\u2032\u2033\u00b4`"
 A_TEXT = 'a text stands between two " or two \' of one line'
 A_KEY = "a key is letters, digits, `-` and `_`, or a text in quotes"
@@ -349,8 +351,8 @@ class Reader:
             return chr(int(digits, 16))
         if letter in ("", "\n", "\r"):
             raise NotToml(start, place + 1, 'this text is not closed: expected " before the end of the line', A_TEXT)
-        raise self.here(f"no escape is called \\{letter}" if not size else f"\\{letter} takes {size} hex digits of a character",
-                        "escapes are \\\" \\\\ \\b \\e \\f \\n \\r \\t \\xHH \\uHHHH \\UHHHHHHHH; a text between two ' has none", place)
+        message = f"\\{letter} takes {size} hex digits of a character" if size else f"no escape is called \\{letter}"
+        raise self.here(message, ESCAPES_ARE, place)
 
 
 def is_character(code):

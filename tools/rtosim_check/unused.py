@@ -38,7 +38,8 @@ def of_handlers(application):
     """A handler that comes with no point and no interrupt."""
     nodes = application.points() or []
     called = {handler for it in nodes if isinstance(it, Text) for _, handler in pairs_of(it.value)}
-    called |= {it.table.get("handler").value for it in application.entries["interrupt"] if isinstance(it.table.get("handler"), Text)}
+    named = [it.table.get("handler") for it in application.entries["interrupt"]]
+    called |= {it.value for it in named if isinstance(it, Text)}
     idle = [it for it in application.entries["handler"] if it.name not in called]
     if idle and not nodes:
         names = ", ".join(f'"{it.name}"' for it in idle)
@@ -56,7 +57,8 @@ def of_campaign(application):
     campaign = application.root.members.get("campaign")
     array = campaign.value.members.get("points") if campaign and isinstance(campaign.value, Table) else None
     if array and isinstance(array.value, Array) and not array.value.items and not application.entries["handler"]:
-        yield Finding(WARNING, "NoPoints", array.span, "points is empty: a campaign of this file has no rows", SECTIONS["campaign"].rule)
+        message = "points is empty: a campaign of this file has no rows"
+        yield Finding(WARNING, "NoPoints", array.span, message, SECTIONS["campaign"].rule)
 
 
 def of_interrupts(application):

@@ -1,8 +1,10 @@
 """What is found, as text for people, as JSON, and as annotations of GitHub's runners."""
 import json
+import re
 import textwrap
 
 from rtosim_report.escaping import plain
+from rtosim_report.faults import counted
 
 from .findings import FAULT, WARNING
 from .lines import WIDTH
@@ -46,11 +48,8 @@ class Text:
             output.line(margin + self.colour(plain(finding.program), DIM))
 
     def end(self, output):
-        output.line(f"{counted(self.files, 'file')}: {counted(self.faults, 'fault')}, {counted(self.warnings, 'warning')}")
-
-
-def counted(number, noun):
-    return f"{'no' if number == 0 else format(number, ',')} {noun}{'' if number == 1 else 's'}"
+        counts = (counted(self.files, "file"), counted(self.faults, "fault"), counted(self.warnings, "warning"))
+        output.line("{}: {}, {}".format(*(re.sub("^0 ", "no ", it) for it in counts)))
 
 
 def message_of(finding):
