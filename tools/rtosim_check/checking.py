@@ -45,7 +45,7 @@ def cannot_read(name, program, why):
 
 def refused(name, content, verdict, program):
     if verdict.kind in ("TooLarge", "CannotRead", "Memory"):
-        return not_judged(name, content, verdict)
+        return not_judged(name, verdict)
     text, problem = text_of(content)
     checked = Checked(name, Lines(text))
     root = None
@@ -72,7 +72,7 @@ def with_line(fault, lines):
     return fault.message if fault.other is None else fault.message.replace("{line}", str(lines.line_of(fault.other)))
 
 
-def not_judged(name, content, verdict):
+def not_judged(name, verdict):
     """A file that the program couldn't judge."""
     checked = Checked(name)
     checked.could_be_checked = False

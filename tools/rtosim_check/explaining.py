@@ -16,7 +16,7 @@ def explain(verdict, text, root, takes_several):
     context = Context(text, root, Place(verdict.place))
     found = EXPLANATIONS.get(verdict.kind, nothing_known)(context, takes_several)
     span, message, rule = found or nothing_known(context, takes_several)
-    return Finding(FAULT, verdict.kind, span, message, rule, verdict.line)
+    return Finding(FAULT, verdict.kind, span, message, rule)
 
 
 def nothing_known(context, _):

@@ -2,7 +2,7 @@
 from .application import integer_of, pairs_of
 from .findings import WARNING, Finding
 from .formats import CALLED, OBJECTS, OPS, SECTIONS, op_of
-from .nodes import Array, Table, Text
+from .nodes import Text
 
 
 def warnings(application):
@@ -13,7 +13,6 @@ def warnings(application):
                 yield Finding(WARNING, "Unused", entry.table.span, f'no op uses the {CALLED[section]} "{entry.name}"')
     yield from of_handlers(application)
     yield from of_interrupts(application)
-    yield from of_campaign(application)
 
 
 def names_in_ops(application):
@@ -35,7 +34,7 @@ def names_in(section, text):
 
 
 def of_handlers(application):
-    """A handler that comes with no point and no interrupt."""
+    """Handlers that come with no point and no interrupt, and a campaign without points."""
     nodes = application.points() or []
     called = {handler for it in nodes if isinstance(it, Text) for _, handler in pairs_of(it.value)}
     named = [it.table.get("handler") for it in application.entries["interrupt"]]
@@ -47,18 +46,12 @@ def of_handlers(application):
         rule = f'[campaign] points = ["all {idle[0].name}"] injects it before each step'
         yield Finding(WARNING, "NoPoints", idle[0].table.span, message, rule)
         return
+    if application.points() == []:
+        message, rule = "points is empty: a campaign of this file has no rows", SECTIONS["campaign"].keys["points"].rule
+        yield Finding(WARNING, "NoPoints", application.root.get("campaign").members["points"].span, message, rule)
     for it in idle:
         rule = f'a point "all {it.name}" injects it before each step, an [[interrupt]] at a tick'
         yield Finding(WARNING, "Unused", it.table.span, f'no point and no interrupt brings the handler "{it.name}"', rule)
-
-
-def of_campaign(application):
-    """A campaign whose list of points is empty."""
-    campaign = application.root.members.get("campaign")
-    array = campaign.value.members.get("points") if campaign and isinstance(campaign.value, Table) else None
-    if array and isinstance(array.value, Array) and not array.value.items and not application.entries["handler"]:
-        message = "points is empty: a campaign of this file has no rows"
-        yield Finding(WARNING, "NoPoints", array.span, message, SECTIONS["campaign"].rule)
 
 
 def of_interrupts(application):
