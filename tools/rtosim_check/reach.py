@@ -69,7 +69,8 @@ class Brought:
         if word == "take":
             return None if name in self.semaphores else f'{NOBODY} gives "{name}"'
         if word == "wait":
-            return self.lacks_bits(words)
+            # a wait for bits that a suspension has cut off ends at the resume, whatever the bits are
+            return None if script.entry.name in self.resumed else self.lacks_bits(words)
         if word == "lock" and script.holds(name, at):
             return f'this task has locked "{name}" itself before'
         return None
