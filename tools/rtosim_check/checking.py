@@ -23,9 +23,9 @@ def check(name, program):
             content = file.read(MOST_BYTES + 1)
     except (OSError, ValueError) as why:
         return cannot_read(name, program, why)
-    line, base = program.run(content)
+    line, steps = program.run(content)
     if line is None:
-        return taken(name, content, base, program)
+        return taken(name, content, steps, program)
     return refused(name, content, Verdict(line.replace("cannot read /dev/stdin", f"cannot read {name}")), program)
 
 
@@ -107,7 +107,7 @@ def other_encoding(content):
 # -- a file that the program takes
 
 
-def taken(name, content, base, program):
+def taken(name, content, steps, program):
     text, _ = text_of(content)
     checked = Checked(name, Lines(text))
     try:
@@ -116,11 +116,11 @@ def taken(name, content, base, program):
         return checked
     application = Application(root)
     nodes = application.points() or []
-    if points.count(nodes, base) > MOST_POINTS:
+    if points.count(nodes, steps) > MOST_POINTS:
         line = program.campaign(content)
         if line is not None and Verdict(line).kind == "TooManyPoints":
-            checked.add(points.too_many(nodes, base, root, line))
-    looks = (ignored.warnings(root, program.ignored), unused.warnings(application), points.warnings(application, base),
+            checked.add(points.too_many(nodes, steps, root, line))
+    looks = (ignored.warnings(root, program.ignored), unused.warnings(application), points.warnings(application, steps),
              reach.warnings(application))
     for it in itertools.chain(*looks):
         checked.add(it)

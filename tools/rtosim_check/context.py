@@ -8,10 +8,11 @@ SHOWN = 40
 
 
 class Context:
-    """The text of a file, its document, and the place of a fault."""
+    """The text of a file, its document, and the place of a fault. `takes_several` answers whether the program takes several
+    injections in a point."""
 
-    def __init__(self, text, root, place):
-        self.text, self.root, self.place = text, root, place
+    def __init__(self, text, root, place, takes_several):
+        self.text, self.root, self.place, self.takes_several = text, root, place, takes_several
         self.application = Application(root)
         # The nodes along the place, as far as there are any, each with the span that a message points at.
         self.nodes, self.spans = [root], [(0, 1)]
@@ -65,7 +66,7 @@ class Context:
 
     @property
     def label(self):
-        """As `task "drv", script 1`; with the text of an op or a point behind it."""
+        """As `task "drv", script 1`."""
         words = self.place.section if self.entry is None else self.entry.label
         if self.place.key is not None:
             words += f", {self.place.key}" + ("" if self.place.at is None else f" {self.place.at}")

@@ -13,20 +13,19 @@ from .verdict import Place
 
 def explain(verdict, text, root, takes_several):
     """The finding for a load fault. What can't be explained has the program's line and the place."""
-    context = Context(text, root, Place(verdict.place))
-    found = EXPLANATIONS.get(verdict.kind, nothing_known)(context, takes_several)
-    span, message, rule = found or nothing_known(context, takes_several)
+    context = Context(text, root, Place(verdict.place), takes_several)
+    span, message, rule = EXPLANATIONS.get(verdict.kind, nothing_known)(context) or nothing_known(context)
     return Finding(FAULT, verdict.kind, span, message, rule)
 
 
-def nothing_known(context, _):
+def nothing_known(context):
     return context.nearest, f"{context.label}: the program refuses this", None
 
 
 # -- what is missing
 
 
-def missing(context, _):
+def missing(context):
     if context.place.words == ["task"]:
         return missing_task(context)
     table = context.nodes[-1]
@@ -59,7 +58,7 @@ def missing_task(context):
 # -- what is of another kind
 
 
-def wrong_kind(context, _):
+def wrong_kind(context):
     node, place = context.node, context.place
     if node is None:
         return None
@@ -114,7 +113,7 @@ def meant_value(key, node, context):
 # -- what is out of range
 
 
-def out_of_range(context, _):
+def out_of_range(context):
     node, key = context.node, context.key
     if key is None or node is None:
         return None
@@ -146,7 +145,7 @@ def name_problem(text, application):
     return f'"{text}" is no name: it begins with "{text[0]}", and not with a letter'
 
 
-def double_name(context, _):
+def double_name(context):
     node = context.node
     if not isinstance(node, Text):
         return None
@@ -162,7 +161,7 @@ def double_name(context, _):
 # -- what is too many
 
 
-def too_many(context, _):
+def too_many(context):
     node, place = context.node, context.place
     if isinstance(node, Array) and context.key is not None:
         most = context.key.most
@@ -202,7 +201,7 @@ def fifth_interrupt(context):
 # -- names
 
 
-def unknown_name(context, _):
+def unknown_name(context):
     if context.place.section == "interrupt" and isinstance(context.node, Text):
         return unknown_handler(context)
     if context.place.section == "campaign":
@@ -215,15 +214,14 @@ def unknown_handler(context):
     return context.node.span, f"{context.label}: {problem}", context.key.rule
 
 
-def bad_op(context, takes_several):
+def bad_op(context):
     if context.place.section == "campaign":
-        return explaining_points.bad_point(context, takes_several)
+        return explaining_points.bad_point(context)
     return explaining_ops.bad_op(context)
 
 
 EXPLANATIONS = {
     "Missing": missing, "WrongKind": wrong_kind, "OutOfRange": out_of_range, "DoubleName": double_name, "TooMany": too_many,
-    "BadOp": bad_op, "UnknownName": unknown_name,
-    "OverwriteLength": lambda context, _: explaining_ops.overwrite_length(context),
-    "BadNesting": lambda context, _: explaining_ops.bad_nesting(context),
+    "BadOp": bad_op, "UnknownName": unknown_name, "OverwriteLength": explaining_ops.overwrite_length,
+    "BadNesting": explaining_ops.bad_nesting,
 }

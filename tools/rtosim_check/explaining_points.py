@@ -47,17 +47,17 @@ def told(context, problem):
     return f'{context.label}, "{context.node.value}": {problem}'
 
 
-def bad_point(context, takes_several):
+def bad_point(context):
     node = context.node
     if not isinstance(node, Text):
         return None
     words = words_of(node.value)
-    problem, start, end = problem_of(words, context.application, takes_several) or ("the program takes no such point", 0, 0)
-    rule = SEVERAL if len(words) > 3 and words[0][0] != "all" and takes_several() else A_POINT
+    problem, start, end = problem_of(words, context) or ("the program takes no such point", 0, 0)
+    rule = SEVERAL if len(words) > 3 and words[0][0] != "all" and context.takes_several() else A_POINT
     return node.part(start, end) if end else node.span, told(context, problem), rule
 
 
-def problem_of(words, application, takes_several):
+def problem_of(words, context):
     """What is wrong with a point's words, and which part of the text."""
     if not words:
         return "the point is empty", 0, 0
@@ -65,16 +65,16 @@ def problem_of(words, application, takes_several):
     if spaced:
         return separated(spaced)
     if words[0][0].lower() == "all":
-        return problem_of_all(words, application)
+        return problem_of_all(words, context.application)
     if len(words) % 2 == 1:
-        return problem_of_odd(words, application)
+        return problem_of_odd(words, context.application)
     pairs = list(zip(words[::2], words[1::2]))
     for step, handler in pairs:
         found = problem_of_step(step, handler) or problem_of_name(handler)
         if found:
             return found
     if len(pairs) > 1:
-        return problem_of_several(pairs, takes_several)
+        return problem_of_several(pairs, context.takes_several())
     return None
 
 
@@ -139,7 +139,7 @@ def problem_of_name(word):
 
 
 def problem_of_several(pairs, takes_several):
-    if not takes_several():
+    if not takes_several:
         return "several injections in one point, and this program takes one", pairs[1][0][1], pairs[-1][1][2]
     if len(pairs) > MOST_PAIRS:
         return f"{len(pairs)} injections, and a point has at most {MOST_PAIRS}", pairs[MOST_PAIRS][0][1], pairs[-1][1][2]

@@ -7,30 +7,30 @@ from .formats import MOST_POINTS
 from .nodes import Text
 
 
-def count(nodes, base):
-    """How many points these stand for."""
+def count(nodes, steps):
+    """How many points these stand for, where the base run has so many steps."""
     every = sum(isinstance(it, Text) and it.value.lstrip(" ").startswith("all ") for it in nodes)
-    return len(nodes) - every + every * base.steps
+    return len(nodes) - every + every * steps
 
 
-def too_many(nodes, base, root, line):
+def too_many(nodes, steps, root, line):
     """The fault of a campaign of too many points."""
-    message = f"campaign, points: {count(nodes, base):,} points, and a campaign has at most {MOST_POINTS:,}"
-    message += f"; the base run has {base.steps:,} steps, each a point of an all"
+    message = f"campaign, points: {count(nodes, steps):,} points, and a campaign has at most {MOST_POINTS:,}"
+    message += f"; the base run has {steps:,} steps, each a point of an all"
     rule = "`rtosim run` takes the file, `rtosim campaign` doesn't; [limits] steps makes runs shorter"
     return Finding(FAULT, "TooManyPoints", root.get("campaign").members["points"].span, message, rule, line)
 
 
-def warnings(application, base):
-    """Points that are not reached, in one warning."""
+def warnings(application, steps):
+    """Points that are not reached by a base run of so many steps, in one warning."""
     behind = []
     for at, node in enumerate(application.points() or []):
         pairs = pairs_of(node.value) if isinstance(node, Text) else []
-        if pairs and pairs[0][0] is not None and pairs[0][0] >= base.steps:
+        if pairs and pairs[0][0] is not None and pairs[0][0] >= steps:
             behind.append((at, node))
     if behind:
         at, node = behind[0]
         others = f", nor are {counted(len(behind) - 1, 'other')}" if len(behind) > 1 else ""
-        ends = f"the base run ends after {counted(base.steps, 'step')}, so this point is not reached{others}"
+        ends = f"the base run ends after {counted(steps, 'step')}, so this point is not reached{others}"
         message = f'campaign, points {at}, "{node.value}": {ends}'
         yield Finding(WARNING, "NotReached", node.span, message, "the row of a point that is not reached is the base run")

@@ -1,4 +1,4 @@
-"""The program: what it says of a text, and how many steps and ticks its base run has."""
+"""The program: what it says of a text, and how many steps its base run has."""
 import json
 import re
 import subprocess
@@ -8,7 +8,7 @@ from rtosim_report.escaping import plain
 from rtosim_report.faults import Fault
 from rtosim_report.source import PROGRAM
 
-HEAD = re.compile(rb"base: .* in ([0-9]+) steps, ([0-9]+) ticks\n")
+HEAD = re.compile(rb"base: .* in ([0-9]+) steps, [0-9]+ ticks\n")
 # A small application with an entry of each section, into which something is put to see whether the program knows it.
 PROBE = {
     "": "",
@@ -25,13 +25,6 @@ PROBE = {
 }
 SEVERAL = '"0 h 0 h"'
 LONGEST = 60
-
-
-class Base:
-    """How long the base run is."""
-
-    def __init__(self, steps, ticks):
-        self.steps, self.ticks = steps, ticks
 
 
 class Program:
@@ -51,7 +44,7 @@ class Program:
             raise Fault(f"{plain(self.path)} ends with status {ran.returncode}")
 
     def run(self, text):
-        """The fault line of a text, or None, and the base run. Of what it writes the first line is taken."""
+        """The fault line of a text, or None, and the steps of its base run. Of what it writes the first line is taken."""
         with kept(text) as given, tempfile.TemporaryFile() as said:
             streams = {"stdin": given, "stdout": subprocess.PIPE, "stderr": said}
             with subprocess.Popen([self.path, "run", "/dev/stdin"], **streams) as started:
@@ -61,7 +54,7 @@ class Program:
             said.seek(0)
             lines = said.read()
         if head:
-            return None, Base(int(head[1]), int(head[2]))
+            return None, int(head[1])
         return self.fault_line(status, lines), None
 
     def ended(self, started):

@@ -98,7 +98,7 @@ def of_tasks(application, scripts):
         pass
     for it in tasks:
         if it.reached < len(it.ops) and it not in others:
-            yield never_ends(it, brought, scripts)
+            yield never_ends(it, brought)
 
 
 def go_on(script, brought):
@@ -110,7 +110,7 @@ def go_on(script, brought):
     return script.reached > before
 
 
-def never_ends(script, brought, scripts):
+def never_ends(script, brought):
     node = script.ops[script.reached][1]
     lack = brought.lacks(script, script.reached)
     label = f'{script.entry.label}, script {script.reached}, "{node.value}"'

@@ -28,6 +28,7 @@ ESCAPES = {"b": "\b", "e": "\x1b", "f": "\f", "n": "\n", "r": "\r", "t": "\t", '
 HEX_DIGITS = {"x": 2, "u": 4, "U": 8}
 # An element of an array as nearly all are: with its comma.
 ELEMENT = re.compile('[ \t\n]*"([^"\\\\\x00-\x08\x0a-\x1f\x7f]*)"[ \t\n]*,')
+PIECE = re.compile(r"[\w-]+")
 # What may be a text without its quotes.
 UNQUOTED = re.compile(r"[^,\]}\r\n\"'#=]*")
 ESCAPES_ARE = "escapes are \\\" \\\\ \\b \\e \\f \\n \\r \\t \\xHH \\uHHHH \\UHHHHHHHH; a text between two ' has none"
@@ -64,7 +65,7 @@ class Reader:
 
     def next_piece(self):
         """The word, or else the character, that comes next."""
-        word = re.compile(r"[\w-]+").match(self.text, self.at)
+        word = PIECE.match(self.text, self.at)
         return word.group() if word else self.text[self.at : self.at + 1]
 
     def found(self):
@@ -314,10 +315,11 @@ class Reader:
 
     def closes(self, quote, is_long):
         """Whether the quotes that come next end the string, which are read then."""
-        count = len(re.compile(quote + "*").match(self.text, self.at).group())
         if not is_long:
             self.at += 1
             return True
+        rest = self.text[self.at : self.at + 7]
+        count = len(rest) - len(rest.lstrip(quote))
         if count > 5:
             raise self.here(f"expected the end of the text, found {count} quotes", "at most two quotes stand before the last three")
         if count == 3:
