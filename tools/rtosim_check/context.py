@@ -84,6 +84,6 @@ class Context:
         return None
 
     def source(self, node):
-        """A value as it stands in the file, in one line and not too long."""
+        """A value as it is in the file, in one line and not too long."""
         text = " ".join(self.text[node.start : node.end].split())
         return text if len(text) <= SHOWN else text[:SHOWN] + ".."

@@ -5,7 +5,7 @@ import re
 from . import explaining_ops, explaining_points
 from .context import Context
 from .findings import FAULT, Finding
-from .formats import (CALLED, EXAMPLE_OF_A_TASK, MEANT_KEYS, MEANT_SECTIONS, NAME, NAMED, OBJECTS, PLURALS, SECTIONS, TOP_KEYS)
+from .formats import (CALLED, EXAMPLE_OF_A_TASK, MEANT_KEYS, MEANT_SECTIONS, NAME, NAMED, OBJECTS, PLURALS, SECTIONS)
 from .nearness import did_you_mean, near, quoted
 from .nodes import Array, Float, Integer, Table, Text
 from .verdict import Place
@@ -71,7 +71,7 @@ def wrong_kind(context):
     if context.section is None:
         return None
     if place.index is not None:
-        rule = f"an entry of {place.section} stands under {context.section.header}"
+        rule = f"an entry of {place.section} is under {context.section.header}"
         return node.span, f"{context.label} is {node.kind}, not a table", rule
     return wrong_section(context, node)
 
@@ -81,7 +81,7 @@ def wrong_section(context, node):
     if section.is_list:
         found, wanted, rule = "one table", "an array of tables", "an entry of a list has a header with two brackets each"
     else:
-        found, wanted, rule = "a list of tables", "a table", "the section stands once, and has one bracket each"
+        found, wanted, rule = "a list of tables", "a table", "there is one such section, with one bracket each"
     what = f"{member.shown} is {found}" if member.has_header else f"{section.name} is {node.kind}, not {wanted}"
     return member.span, what + did_you_mean(section.header), f"{rule}: {section.rule}"
 

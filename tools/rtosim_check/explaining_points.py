@@ -97,7 +97,7 @@ def problem_of_all(words, application):
     if first != "all":
         return f'expected a step or all, found "{first}"; did you mean "all {words[1][0]}"?', start, end
     if len(words) > 2:
-        return "all HANDLER stands alone in a point", words[2][1], words[-1][2]
+        return "all HANDLER is a point by itself", words[2][1], words[-1][2]
     return problem_of_name(words[1])
 
 
@@ -122,7 +122,7 @@ def problem_of_step(step, handler):
     if re.fullmatch("0[xX][0-9A-Fa-f]+", word):
         return f"{word} is no decimal number; did you mean {int(word, 16)}?", start, end
     if re.fullmatch(r"[0-9]+(\.\.\.?|-|to)[0-9]+", word):
-        return f'"{word}" is no step: a point has one, and all stands for each of the base run', start, end
+        return f'"{word}" is no step: a point has one, and all is each step of the base run', start, end
     if word.lower() in ("*", "every", "each", "any"):
         return f'expected a step or all, found "{word}"; did you mean "all {handler[0]}"?', start, end
     if STEP.fits(handler[0]):
@@ -145,5 +145,5 @@ def problem_of_several(pairs, takes_several):
         return f"{len(pairs)} injections, and a point has at most {MOST_PAIRS}", pairs[MOST_PAIRS][0][1], pairs[-1][1][2]
     for before, after in zip(pairs, pairs[1:]):
         if int(after[0][0]) < int(before[0][0]):
-            return f"step {after[0][0]} stands behind step {before[0][0]}, and steps don't fall", after[0][1], after[0][2]
+            return f"step {after[0][0]} comes behind step {before[0][0]}, and steps don't fall", after[0][1], after[0][2]
     return None

@@ -78,7 +78,7 @@ SECTIONS = {it.name: it for it in (
             texts_key("points", 1000000, "points are where handlers are injected: an array of texts", '["all uart", "12 uart"]')),
 )}
 START = number_key("start", 0, MOST_OF_A_NUMBER, "the time at reset, above the first table", 0)
-# What stands above the first table.
+# The keys above the first table.
 TOP_KEYS = {START.name: START}
 EXAMPLE_OF_A_TASK = '[[task]] with name = "a", priority = 1, script = ["work 3"]'
 
@@ -236,7 +236,7 @@ DEEPEST = 4
 OPS = {"task": TASK_OPS, "handler": HANDLER_OPS}
 # Words of ops of later versions. When the program takes one, it moves up, with its arguments.
 LATER_OPS = {"task": ("if", "else", "break", "stamp", "since"), "handler": ("expect", "if", "else", "end", "set", "clear")}
-# Keys of later versions, by section, "" for what stands above the first table.
+# Keys of later versions, by section, "" for those above the first table.
 LATER_KEYS = {"": ("daemon", "tickless"), "task": ("endless",)}
 
 # What FreeRTOS and others call the ops.

@@ -43,7 +43,7 @@ def of_section(member):
     meant = near(name, [*SECTIONS, *TOP_KEYS], MEANT_SECTIONS)
     end = did_you_mean(SECTIONS[meant].header if meant in SECTIONS else meant)
     kind = "section" if shown[0] == "[" or isinstance(member.value, (Table, Array)) else "key"
-    rule = None if meant else f"the sections are {', '.join(SECTIONS)}; above them stands start"
+    rule = None if meant else f"the sections are {', '.join(SECTIONS)}; above them is start"
     return warning("UnknownSection", member, f"{shown} is ignored: there is no such {kind}{end}", rule)
 
 
@@ -66,15 +66,15 @@ def of_key(section, label, name):
     if name in LATER_KEYS.get(section.name, ()):
         return f"{label}: {start}: it is a key of a later version", None
     if name in TOP_KEYS:
-        return f"{start}, since it stands below {section.header}; it belongs above the first table", TOP_KEYS[name].rule
+        return f"{start}, since it is below {section.header}; it belongs above the first table", TOP_KEYS[name].rule
     if name in SECTIONS:
-        return f"{start}, since it stands below {section.header}; did you mean {SECTIONS[name].header}?", SECTIONS[name].rule
+        return f"{start}, since it is below {section.header}; did you mean {SECTIONS[name].header}?", SECTIONS[name].rule
     meant = near(name, section.keys, MEANT_KEYS)
     if meant:
         return f'{label}: {start}: it is no key of {section.header}; did you mean "{meant}"?', section.keys[meant].rule
     owner = owner_of(name)
     if owner:
-        return f"{start}, since it stands below {section.header}; it belongs under {owner}", None
+        return f"{start}, since it is below {section.header}; it belongs under {owner}", None
     return f"{label}: {start}: it is no key of {section.header}", f"the keys of {section.header} are {', '.join(section.keys)}"
 
 

@@ -1,4 +1,4 @@
-"""What a TOML document holds, and where it stands in the text: offsets in characters, the end not included."""
+"""What a TOML document holds, and where it is in the text: offsets in characters, the end not included."""
 
 
 class Node:
@@ -46,7 +46,7 @@ class Moment(Scalar):
 
 
 class Text(Scalar):
-    """A string. `places` are the offsets of its characters, or that of the first where they stand one after the other."""
+    """A string. `places` are the offsets of its characters, or that of the first where they follow each other."""
 
     __slots__ = ("places",)
     kind = "a text"
@@ -83,7 +83,7 @@ class Array(Node):
 
 
 class Member:
-    """A key of a table with its value. Start and end are those of the key where it first stands."""
+    """A key of a table with its value. Start and end are those of the key where it is first."""
 
     __slots__ = ("key", "start", "end", "value")
 

@@ -8,7 +8,7 @@ from .nodes import Text
 
 
 def count(nodes, steps):
-    """How many points these stand for, where the base run has so many steps."""
+    """How many points these are, where the base run has so many steps."""
     every = sum(isinstance(it, Text) and it.value.lstrip(" ").startswith("all ") for it in nodes)
     return len(nodes) - every + every * steps
 

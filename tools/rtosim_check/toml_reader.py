@@ -1,11 +1,11 @@
-"""Reads a TOML 1.1 document, and keeps where each key, table and value stands.
+"""Reads a TOML 1.1 document, and keeps where each key, table and value is.
 
 It takes what the program takes, whose reader goes by the grammar of TOML 1.1: arrays and inline tables at most 80 deep, keys of at
 most 80 parts, integers of 64 bits."""
 import re
 import unicodedata
 
-from .nodes import Array, Member, NotToml, Table, Text
+from .nodes import Array, NotToml, Table, Text
 from .toml_tables import Builder, put
 from .toml_words import A_VALUE, word_node
 
@@ -33,7 +33,7 @@ PIECE = re.compile(r"[\w-]+")
 UNQUOTED = re.compile(r"[^,\]}\r\n\"'#=]*")
 ESCAPES_ARE = "escapes are \\\" \\\\ \\b \\e \\f \\n \\r \\t \\xHH \\uHHHH \\UHHHHHHHH; a text between two ' has none"
 CURLED = "\u2018\u2019\u201c\u201d\u201e\u00ab\u00bb\u2032\u2033\u00b4`"
-A_TEXT = 'a text stands between two " or two \' of one line'
+A_TEXT = 'a text is between two " or two \' in one line'
 A_KEY = "a key is letters, digits, `-` and `_`, or a text in quotes"
 
 
@@ -183,7 +183,7 @@ class Reader:
             return self.string()
         if first and first in "[{":
             if depth == 0:
-                raise self.here(f"arrays and tables stand at most {DEPTH} deep in one another")
+                raise self.here(f"arrays and tables are at most {DEPTH} deep in one another")
             return self.array(depth - 1) if first == "[" else self.inline_table(depth - 1)
         return self.word()
 
@@ -205,7 +205,7 @@ class Reader:
         if not first or first in "\r\n#":
             return self.here(f"expected a value, found {self.found() if first != '#' else 'a comment'}", A_VALUE)
         if first == "(":
-            return self.here("expected a value, found (", "an array stands between [ and ]")
+            return self.here("expected a value, found (", "an array is between [ and ]")
         return self.here(f"expected a value, found {self.found()}", A_VALUE)
 
     def array(self, depth):
@@ -244,7 +244,7 @@ class Reader:
         self.not_over(start, what, closing)
         if self.peek() != ",":
             fault = self.here(f"expected , or {closing} in the {what} that begins in line {{line}}, found {self.found()}",
-                              f"commas separate what stands in an {what}")
+                              f"commas separate what is in an {what}")
             fault.other = start
             raise fault
         self.at += 1
@@ -321,7 +321,7 @@ class Reader:
         rest = self.text[self.at : self.at + 7]
         count = len(rest) - len(rest.lstrip(quote))
         if count > 5:
-            raise self.here(f"expected the end of the text, found {count} quotes", "at most two quotes stand before the last three")
+            raise self.here(f"expected the end of the text, found {count} quotes", "there are at most two quotes before the last three")
         if count == 3:
             self.at += 3
         return count == 3
@@ -336,7 +336,7 @@ class Reader:
         return self.here(f"this text is not closed: expected {quote} before the end of the {end}", A_TEXT, start)
 
     def escape(self, start, is_long):
-        """The character that an escape stands for."""
+        """The character that an escape spells."""
         place = self.at
         self.at += 1
         if is_long and NEWLINE.match(self.text, SPACES.match(self.text, self.at).end()):

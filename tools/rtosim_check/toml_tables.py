@@ -28,8 +28,8 @@ def along_dot(table, part):
 def define(table, parts, value):
     key, start, end = parts[-1]
     if key in table.members:
-        raise NotToml(start, end, f'the key "{key}" stands twice: it is already defined in line {{line}}',
-                      "a key stands once in a table", table.members[key].start)
+        raise NotToml(start, end, f'the key "{key}" is there twice: it is already defined in line {{line}}',
+                      "a table has a key once", table.members[key].start)
     table.members[key] = Member(key, start, end, value)
 
 
@@ -73,8 +73,8 @@ class Builder:
             return
         self.section = member.value
         if not isinstance(self.section, Table) or self.section.origin != Table.IMPLICIT:
-            raise NotToml(*span, f"[{name}] stands twice: it is already defined in line {{line}}",
-                          f"a section [{name}] stands once; a list of them has two brackets each, [[{name}]]", member.start)
+            raise NotToml(*span, f"[{name}] is there twice: it is already defined in line {{line}}",
+                          f"there is one section [{name}]; a list of them has two brackets each, [[{name}]]", member.start)
         self.section.origin = Table.HEADER
         self.section.start, self.section.end = span
 

@@ -1,4 +1,4 @@
-"""Words of TOML that stand without quotes: booleans, integers, floats, dates and times."""
+"""Words of TOML without quotes: booleans, integers, floats, dates and times."""
 import re
 
 from .nodes import Boolean, Float, Integer, Moment, NotToml
@@ -82,9 +82,9 @@ def no_value(word, unquoted):
         meant = re.sub("^([+-]?)[0_]+(?=[0-9])", "\\1", word)
         return f"{word} has leading zeros; did you mean {meant}?", AN_INTEGER
     if re.fullmatch(r"[+-]?[0-9_]+", word):
-        return f"{word} has a `_` that doesn't stand between two digits", AN_INTEGER
+        return f"{word} has a `_` that isn't between two digits", AN_INTEGER
     if re.match(r"[+-]?(0[XOB]|[0-9])", word):
         return f"{word} is no number", AN_INTEGER
     if re.match(r"[A-Za-z]", word):
-        return f'expected a value, found {word}; did you mean "{unquoted}"?', "a text stands in quotes"
+        return f'expected a value, found {word}; did you mean "{unquoted}"?', "a text is in quotes"
     return f"expected a value, found {word}", A_VALUE
