@@ -6,15 +6,19 @@ import bisect
 import enum
 import hashlib
 from dataclasses import dataclass, field
+from itertools import islice
 from typing import Dict, List, Optional, Tuple
 
 from .faults import BadReport, Fault, WordsFault
 from .grammar import EVENT_LINES
+from .injections import own_stretches, own_words, without
 from .reading import run_of_part
-from .report import Head, Line, own_words
+from .report import Head, Line
 
 # So many rows are looked at to presume the base run.
 ENOUGH = 20_000
+# A head line has no more bytes.
+HEAD_BYTES = 200
 
 
 class Origin(enum.Enum):
@@ -41,7 +45,7 @@ class BaseRun:
 
     def __post_init__(self):
         self.steps = [int(it[0]) for it in self.lines]
-        texts = [b" ".join(it) + b"\n" for it in self.lines]
+        texts = texts_of(self.lines)
         self.text = b"".join(texts)
         self.offsets = [0]
         for it in texts:
@@ -58,6 +62,10 @@ class BaseRun:
             position = self.position(step)
             found = self.places[step] = position, self.offsets[position]
         return found
+
+
+def texts_of(lines):
+    return [b" ".join(it) + b"\n" for it in lines]
 
 
 def base_of(run, origin):
@@ -83,10 +91,11 @@ class Scan:
 
     def add(self, part):
         """Looks at the text of a row. It isn't checked here."""
-        words = part.split(b" ", 4)
-        if len(words) < 5 or not words[2].isdigit() or len(words[2]) > 7:
+        end = part.find(b": ")
+        words = part[: max(0, end)].split(b" ", 3)
+        if len(words) < 4 or not words[2].isdigit() or len(words[2]) > 7:
             return
-        if words[4].startswith(b"not reached, "):
+        if part.startswith(b"not reached, ", end + 2):
             self.base = self.base or part
             return
         step = int(words[2])
@@ -132,45 +141,44 @@ def checked_run(part):
     return run
 
 
-def own_bytes(text, point):
-    """How many bytes at the beginning are lines of a handler that comes at the point."""
-    step, own, at = str(point.step).encode(), own_words(point.handler), 0
+def own_bytes(text, injection):
+    """How many bytes at the beginning are lines of the injected handler."""
+    own, at = own_words(injection.handler), 0
+    when = [str(injection.step).encode(), *text[:40].split(b" ", 2)[1:2]]
     while True:
         end = text.find(b"\n", at)
         words = text[at:end].split(b" ", 2)
-        if end < 0 or len(words) < 3 or words[0] != step or not words[2].startswith(own):
+        if end < 0 or len(words) < 3 or words[:2] != when or not words[2].startswith(own):
             return at
         at = end + 1
 
 
 @dataclass
 class Candidate:
-    """A run that some rows tell but for their handlers' lines."""
+    """A run that some rows tell but for their handlers' lines: how many, and the first of them among the parts of the report."""
 
-    run: object
-    own_start: int
-    own_end: int
+    part: int
     rows: int = 0
 
-    def lines(self):
-        text = self.run.text
-        return self.run._replace(text=text[: self.own_start] + text[self.own_end :]).lines()
 
-
-def candidate_of(run, known):
-    """Whether the row tells what is known, but for its handler's lines; and what it tells beyond that."""
+def without_own(run, start):
+    """The row's text but for the lines of its handlers, of which the first comes at this byte."""
     point, text = run.head.point, run.text
-    start = known.place(point.step)[1]
-    if text[:start] != known.text[:start]:
-        return None, b""
-    end = start + own_bytes(text[start : start + 4096], point)
-    rest = len(known.text) - start
-    if text[end : end + rest] != known.text[start:]:
-        return None, b""
-    beyond = text[end + rest :]
-    if beyond and int(beyond[: beyond.find(b" ")] or b"0") < known.known_until:
-        return None, b""
-    return Candidate(run, start, end), beyond
+    if point.is_single:
+        return text[:start] + text[start + own_bytes(text[start : start + 4096], point[0]) :]
+    tail = run.lines(start)
+    return text[:start] + b"".join(texts_of(without(tail, own_stretches(tail, point))))
+
+
+def beyond_known(run, known):
+    """What the row tells beyond what is known, but for its handlers' lines; None where it doesn't tell what is known."""
+    start = known.place(run.head.point.first_step)[1]
+    text = without_own(run, start) if run.text[:start] == known.text[:start] else b""
+    if not text.startswith(known.text):
+        return None
+    beyond = text[len(known.text) :]
+    is_known = beyond and int(beyond[: beyond.find(b" ")] or b"0") < known.known_until
+    return None if is_known else beyond
 
 
 def presumed_base(source, known, is_covered):
@@ -180,8 +188,8 @@ def presumed_base(source, known, is_covered):
     length = b" in %d steps, " % (last_step + 1)
     candidates: Dict[bytes, Candidate] = {}
     looked_at = 0
-    for part in source.parts():
-        if is_covered and length not in part[:120]:
+    for at, part in enumerate(source.parts()):
+        if is_covered and length not in part[:HEAD_BYTES]:
             continue
         run = run_of_part(part)
         if run is None or run.head.steps <= last_step:
@@ -189,34 +197,36 @@ def presumed_base(source, known, is_covered):
         looked_at += 1
         if looked_at > ENOUGH:
             break
-        candidate, beyond = candidate_of(run, known)
-        if candidate is not None:
+        beyond = beyond_known(run, known)
+        if beyond is not None:
             key = hashlib.blake2b(run.head.end_text().encode() + b"\n" + beyond, digest_size=16).digest()
-            candidates.setdefault(key, candidate).rows += 1
+            candidates.setdefault(key, Candidate(at)).rows += 1
     best = max(candidates.values(), key=lambda it: it.rows, default=None)
     if best is None or best.rows < 2 and not is_covered:
         return None
-    head = best.run.head._replace(row=None, point=None, is_reached=True)
-    return BaseRun(head, best.lines(), Origin.PRESUMED, head.steps)
+    run = checked_run(next(islice(source.parts(), best.part, None)))
+    text = without_own(run, known.place(run.head.point.first_step)[1])
+    head = run.head._replace(row=None, point=None, is_reached=True)
+    return BaseRun(head, run._replace(text=text).lines(), Origin.PRESUMED, head.steps)
 
 
 def is_base_exactly(run, base):
     """A quick look whether the row is the base run, with all numbers, but for the handler's own lines."""
     head, text = run.head, run.text
     more = len(text) - len(base.text)
-    if more < 0 or not head.is_reached or head[3:] != base.head[3:]:
+    if more < 0 or not head.is_reached or head[3:] != base.head[3:] or not head.point.is_single:
         return False
-    start = base.place(head.point.step)[1]
+    start = base.place(head.point.first_step)[1]
     if text[start + more :] != base.text[start:] or text[:start] != base.text[:start]:
         return False
     own = text[start : start + more]
-    return own_bytes(own, head.point) == more and len(EVENT_LINES.findall(own)) == own.count(b"\n")
+    return own_bytes(own, head.point[0]) == more and len(EVENT_LINES.findall(own)) == own.count(b"\n")
 
 
 def tail_of_row(run, base):
     """The row's lines from its injection on, and how many of the base run stand before it. The lines before it are the same
     in both, so those of a row that isn't reached are all the base run's."""
-    step = run.head.point.step if run.head.is_reached else run.head.steps
+    step = run.head.point.first_step if run.head.is_reached else run.head.steps
     if base is None or step > base.known_until:
         lines = run.checked_lines()
         position = bisect.bisect_left([int(it[0]) for it in lines], step)

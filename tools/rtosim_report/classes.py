@@ -57,8 +57,8 @@ class OutcomeClass:
         if not self.fewest_ticks <= head.ticks <= self.most_ticks:
             self.fewest_ticks = min(self.fewest_ticks, head.ticks)
             self.most_ticks = max(self.most_ticks, head.ticks)
-        handler = head.point.handler
-        self.handlers[handler] = self.handlers.get(handler, 0) + 1
+        for handler in {it.handler: None for it in head.point}:
+            self.handlers[handler] = self.handlers.get(handler, 0) + 1
 
 
 class Classifier:

@@ -1,8 +1,10 @@
 """In words: the first event of a row that the base run has not, or has at another place."""
 from dataclasses import dataclass
+from itertools import product
 from typing import Optional
 
-from .report import IDLE, leading_own
+from .injections import leading_own, own_stretches, without
+from .report import IDLE
 
 
 @dataclass(frozen=True)
@@ -23,18 +25,12 @@ def told(what):
     return words if kind == "call" else f"handler {words}"
 
 
-def own_lines(tail, point, base_tail):
-    """How many lines at the injection are the injected handler's own: those of a base interrupt of the same handler, which
-    the base run has in the same step, are none of them."""
-    return max(0, leading_own(tail, point) - leading_own(base_tail, point))
-
-
 def difference(run, tail, position, base, keeps_ticks=False):
     """What is different in this row, of which the tail is told from the injection on."""
     if base is None:
         return Difference("not known, without the base run")
     base_tail = base.lines[position:]
-    rest = tail[own_lines(tail, run.head.point, base_tail) :] if run.head.is_reached else tail
+    rest = without(tail, own_stretches(tail, run.head.point, base)) if run.head.is_reached else tail
     seen = slice(1 if keeps_ticks else 2, 3)
     for index, (line, wanted) in enumerate(zip(rest, base_tail)):
         if line[seen] != wanted[seen]:
@@ -102,13 +98,26 @@ def is_as_base(run, tail, position, base, keeps_ticks=False) -> bool:
     if keeps_ticks and run.head.ticks != base.head.ticks:
         return False
     own = len(tail) - (len(base.lines) - position)
-    if own < 0 or own and (not run.head.is_reached or own > leading_own(tail[:own], run.head.point)):
-        return False
     seen = slice(1 if keeps_ticks else 2, 3)
-    for at in range(own, len(tail)):
-        if tail[at][seen] != base.lines[position + at - own][seen]:
-            return False
-    return True
+    if own < 0 or own and not run.head.is_reached:
+        return False
+    if not own or run.head.point.is_single:
+        is_own = not own or own <= leading_own(tail[:own], run.head.point[0])
+        return is_own and are_alike(tail[own:], base.lines[position:], seen)
+    stretches = own_stretches(tail, run.head.point)
+    return any(are_alike(without(tail, it), base.lines[position:], seen) for it in parts_of_stretches(stretches, own))
+
+
+def are_alike(lines, wanted, seen):
+    """The same lines but for what isn't seen of them."""
+    return all(it[seen] == there[seen] for it, there in zip(lines, wanted))
+
+
+def parts_of_stretches(stretches, count):
+    """The stretches, cut at their ends so that they have so many lines together: in each way."""
+    for sizes in product(*(range(size + 1) for _, size in stretches)):
+        if sum(sizes) == count:
+            yield [(start, size) for (start, _), size in zip(stretches, sizes)]
 
 
 def equals_exactly(run, tail, position, base) -> Optional[bool]:

@@ -13,8 +13,11 @@ VERDICT = (
 END_OF_HEAD = rb"(" + VERDICT + rb") in (" + NUMBER + rb") steps, (" + NUMBER + rb") ticks"
 
 BASE_HEAD = re.compile(rb"base: " + END_OF_HEAD)
-# A row's head without its first word, and the end of such a head.
-ROW_HEAD = re.compile(rb"(" + NUMBER + rb") at (" + NUMBER + rb") (" + NAME + rb"): ([^\n]*)(?:\n|\Z)")
+# A row's head without its first word: its number, its first injection, up to two more, and the end of the head.
+INJECTION = NUMBER + rb" " + NAME
+ROW_HEAD = re.compile(
+    rb"(" + NUMBER + rb") at (" + NUMBER + rb") (" + NAME + rb")((?: " + INJECTION + rb"){0,2}): ([^\n]*)(?:\n|\Z)"
+)
 END_OF_ROW_HEAD = re.compile(rb"(not reached, )?" + END_OF_HEAD)
 VERDICT_KINDS = ("pass", "check", "misuse", "ticks", "steps", "stuck")
 TOTAL = re.compile(

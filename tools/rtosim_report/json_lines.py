@@ -16,7 +16,8 @@ def head_fields(head):
     if head.row is None:
         point, reached = "null", "null"
     else:
-        point = f'{{"step":{head.point.step},"handler":"{head.point.handler}"}}'
+        injections = ",".join(f'{{"step":{it.step},"handler":"{it.handler}"}}' for it in head.point)
+        point = injections if head.point.is_single else f"[{injections}]"
         reached = "true" if head.is_reached else "false"
     return (
         f'{{"row":{"null" if head.row is None else head.row},"point":{point},"reached":{reached},'

@@ -76,7 +76,7 @@ def write_classes(output, suite, classes):
     write_start(output, suite, Counts(len(classes), failures))
     for it in classes:
         handlers = " ".join(it.handlers)
-        name = f"class {it.number}: {it.rows} of {handlers}, first at {it.point.step} {it.point.handler}: {what_differs(it)}"
+        name = f"class {it.number}: {it.rows} of {handlers}, first at {it.point.text()}: {what_differs(it)}"
         command = command_of(it.point, suite.application)
         write_case(output, suite, name, it.verdict, f"{it.first.text()}\n{what_differs(it)}\n{command}")
     write_end(output)
@@ -93,6 +93,6 @@ def write_rows(output, suite, runs, counts):
         head = run.head
         if head.row is not None:
             command = command_of(head.point, suite.application)
-            name = f"row {head.row} at {head.point.step} {head.point.handler}"
+            name = f"row {head.row} at {head.point.text()}"
             write_case(output, suite, name, head.verdict, f"{head.text()}\n{command}")
     write_end(output)

@@ -7,6 +7,7 @@ from typing import Dict, Tuple
 
 from . import drawing
 from .classes import OutcomeClass
+from .faults import counted
 from .table import base_words, what_differs
 
 PLOT, TOP, CELL_HEIGHT, ROW_GAP, WIDEST, RIGHT = 1080, 44, 26, 8, 54, 24
@@ -32,6 +33,7 @@ class Map:
         self.last = -1
         self.cells: Dict[Tuple[str, int], Dict[int, Tuple[OutcomeClass, int]]] = {}
         self.not_reached = 0
+        self.several = 0
 
     def see(self, run, found):
         """Takes a row with its class."""
@@ -39,10 +41,12 @@ class Map:
         if not head.is_reached:
             self.not_reached += 1
             return
-        self.last = max(self.last, head.point.step)
+        self.several += not head.point.is_single
+        injection = head.point[0]
+        self.last = max(self.last, injection.step)
         while self.last // self.width >= MOST_COLUMNS:
             self.widen()
-        cell = self.cells.setdefault((head.point.handler, head.point.step // self.width), {})
+        cell = self.cells.setdefault((injection.handler, injection.step // self.width), {})
         cell[id(found)] = (found, cell.get(id(found), (found, 0))[1] + 1)
 
     def widen(self):
@@ -93,7 +97,7 @@ class Picture:
 
     def write(self, output):
         width = self.left + PLOT + RIGHT
-        more = len(self.classes) > self.shown or self.map.not_reached
+        more = len(self.classes) > self.shown or self.map.not_reached or self.map.several
         height = self.legend_top + 20 * self.shown + (26 if more else 10)
         title = f"{self.rows:,} rows in {len(self.classes):,} classes; {base_words(self.base).split(' (')[0]}"
         drawing.start(output, width, height, STYLES, title)
@@ -148,6 +152,8 @@ class Picture:
         left_out = len(self.classes) - self.shown
         notes = [f"and {left_out:,} more classes"] * bool(left_out)
         notes += [f"{self.map.not_reached:,} points not reached"] * bool(self.map.not_reached)
+        if self.map.several:
+            notes.append(f"{counted(self.map.several, 'row')} of several injections, each at its first")
         if notes:
             output.line(drawing.label(46, top + 1, "; ".join(notes), "quiet"))
 

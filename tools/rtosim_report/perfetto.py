@@ -47,10 +47,10 @@ def events_of(timeline, times, tracks):
         }
     for note in timeline.notes:
         yield instant(note, stamp(note.boundary), tracks[note.lane])
-    if timeline.point is not None:
+    for it in timeline.injections:
         yield {
-            "ph": "i", "name": f"{timeline.point.handler} injected", "cat": "injection", "s": "g", "pid": PROCESS,
-            "tid": 0, "ts": stamp(timeline.point.step), "args": {"step": timeline.point.step},
+            "ph": "i", "name": f"{it.handler} injected", "cat": "injection", "s": "g", "pid": PROCESS,
+            "tid": 0, "ts": stamp(it.step), "args": {"step": it.step},
         }
 
 

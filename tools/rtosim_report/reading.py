@@ -5,7 +5,7 @@ from typing import List, NamedTuple, Optional
 
 from . import grammar
 from .faults import BadReport, CutOff
-from .report import Head, Line, Point, Verdict
+from .report import Head, Injection, Line, Point, Verdict
 
 BLOCK = 1 << 20
 NEXT_ROW, TOTAL_LINE = b"\nrow ", b"\ntotal "
@@ -243,12 +243,24 @@ def end_of_head(words):
 
 
 def row_head(match):
-    row, step, handler, words = match.groups()
+    """The head of a row, or None where its end is none, or the steps of its injections fall."""
+    row, step, handler, more, words = match.groups()
     end = end_of_head(words)
     if end is None:
         return None
+    point = Point((Injection(int(step), name_of(handler)),))
+    if more:
+        point = Point((*point, *further_injections(more)))
+        if any(later.step < it.step for it, later in zip(point, point[1:])):
+            return None
     is_reached, verdict, steps, ticks = end
-    return Head(int(row), Point(int(step), name_of(handler)), is_reached, verdict, steps, ticks)
+    return Head(int(row), point, is_reached, verdict, steps, ticks)
+
+
+def further_injections(words):
+    """Those behind the first."""
+    parts = words.split()
+    return [Injection(int(step), name_of(handler)) for step, handler in zip(parts[::2], parts[1::2])]
 
 
 def parts_of_rows(stream):

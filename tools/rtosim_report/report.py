@@ -1,16 +1,35 @@
 """What a report is made of: heads, runs, events."""
 import enum
-import functools
 from typing import List, NamedTuple, Optional, Tuple
 
 IDLE = "-"
 
 
-class Point(NamedTuple):
-    """An injection point: a handler before a step."""
+class Injection(NamedTuple):
+    """A handler before a step."""
 
     step: int
     handler: str
+
+    def text(self):
+        return f"{self.step} {self.handler}"
+
+
+class Point(tuple):
+    """A point of a campaign: one to three injections, whose steps don't fall. Up to the first of them its row is the base run."""
+
+    __slots__ = ()
+
+    @property
+    def first_step(self):
+        return self[0].step
+
+    @property
+    def is_single(self):
+        return len(self) == 1
+
+    def text(self):
+        return " ".join(it.text() for it in self)
 
 
 class Verdict(NamedTuple):
@@ -56,7 +75,7 @@ class Head(NamedTuple):
         if self.row is None:
             return f"base: {self.end_text()}"
         reached = "" if self.is_reached else "not reached, "
-        return f"row {self.row} at {self.point.step} {self.point.handler}: {reached}{self.end_text()}"
+        return f"row {self.row} at {self.point.text()}: {reached}{self.end_text()}"
 
 
 class Kind(enum.Enum):
@@ -103,21 +122,3 @@ def event_of(line: Line) -> Event:
         return Event(int(step), int(tick), kind, words[1], answer=int(words[2]))
     answer = None if words[5] == "none" else int(words[5])
     return Event(int(step), int(tick), kind, words[1], int(words[2]), words[3], answer)
-
-
-@functools.lru_cache(maxsize=64)
-def own_words(handler):
-    """How the lines of a handler's ops begin."""
-    name = handler.encode()
-    return b"isr " + name + b" ", b"mark " + name + b" "
-
-
-def leading_own(lines, point):
-    """How many of the first lines are a handler's that comes at the point."""
-    step, own = str(point.step).encode(), own_words(point.handler)
-    count = 0
-    for line in lines:
-        if line[0] != step or not line[2].startswith(own):
-            break
-        count += 1
-    return count

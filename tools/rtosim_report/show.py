@@ -4,7 +4,7 @@ import enum
 from dataclasses import dataclass
 from typing import Optional
 
-from .differences import own_lines
+from .injections import own_stretches, position_of, without
 from .report import Line
 
 LONGEST_COMPARED = 3000
@@ -76,15 +76,28 @@ def pairs_of(base, row):
 
 
 def all_pairs(run, base):
-    """The whole of the row beside the base run: alike up to the injection, then the handler's own lines, then the rest."""
+    """The whole of the row beside the base run: alike up to the first injection, then the handlers' own lines among the rest."""
     lines = run.checked_lines()
-    step = run.head.point.step if run.head.is_reached else run.head.steps
-    position = sum(int(it[0]) < step for it in lines)
+    step = run.head.point.first_step if run.head.is_reached else run.head.steps
+    position = position_of(lines, step)
     base_tail = base.lines[position:] if base else []
-    own = own_lines(lines[position:], run.head.point, base_tail) if run.head.is_reached else 0
+    tail = lines[position:]
+    stretches = own_stretches(tail, run.head.point, base) if run.head.is_reached else []
     pairs = [paired(it, it) for it in lines[:position]]
-    pairs += [Pair(None, it, Mark.OWN) for it in lines[position : position + own]]
-    return pairs + list(pairs_of(base_tail, lines[position + own :]))
+    return pairs + with_own(pairs_of(base_tail, without(tail, stretches)), tail, stretches)
+
+
+def with_own(pairs, tail, stretches):
+    """The pairs with the handlers' own lines in their places among those of the row."""
+    own = {at for start, count in stretches for at in range(start, start + count)}
+    found, at = [], 0
+    for it in pairs:
+        while at in own:
+            found.append(Pair(None, tail[at], Mark.OWN))
+            at += 1
+        found.append(it)
+        at += it.row is not None
+    return found + [Pair(None, it, Mark.OWN) for it in tail[at:]]
 
 
 def text_of(line):

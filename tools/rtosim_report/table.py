@@ -7,9 +7,12 @@ NOT_REACHED = "not reached: the base run itself"
 
 
 def command_of(point, application):
-    """The command that shows what happens at a point."""
+    """The command that shows what happens at a point; of several injections, of which no command has words, the entry that makes
+    a campaign of them."""
+    if not point.is_single:
+        return f'points = ["{point.text()}"]'
     file = shell_word(application) if application else "FILE"
-    return f"rtosim run {file} --at {point.step} --handler {point.handler}"
+    return f"rtosim run {file} --at {point[0].step} --handler {point[0].handler}"
 
 
 def what_differs(it):
@@ -31,7 +34,7 @@ def cells(it, rows):
         f"{it.rows:,}",
         share_of(it.rows, rows),
         it.verdict.text,
-        f"{it.point.step} {it.point.handler}",
+        it.point.text(),
         span(it.fewest_steps, it.most_steps),
         span(it.fewest_ticks, it.most_ticks),
         " ".join(it.handlers),

@@ -6,9 +6,10 @@ such a call, and completes one in its first step when it is back. What isn't sho
 import bisect
 import enum
 from dataclasses import dataclass, field
-from typing import Dict, List, Optional
+from typing import Dict, List, Tuple
 
-from .report import IDLE, Event, Head, Kind, Point, event_of, leading_own
+from .injections import groups_of, position_of, stretches_of_step
+from .report import IDLE, Event, Head, Injection, Kind, event_of
 
 WRAP = 1 << 32
 UNNAMED = "(not named)"
@@ -106,7 +107,7 @@ class Timeline:
     notes: List[Note]
     windows: List[Window]
     clock: Clock
-    point: Optional[Point] = None
+    injections: Tuple[Injection, ...] = ()
     is_presumed: bool = False
 
     @property
@@ -119,7 +120,7 @@ class Timeline:
 
 
 def of_base(base):
-    built = Builder(base.head, [event_of(it) for it in base.lines], 0, False).build()
+    built = Builder(base.head, [event_of(it) for it in base.lines]).build()
     built.is_presumed = base.origin.name == "PRESUMED"
     return built
 
@@ -127,20 +128,27 @@ def of_base(base):
 def of_row(run, base):
     """The timeline of a row. The base run tells whether a change of the processor at the injection is the step's own."""
     lines = run.checked_lines()
-    head = run.head
-    if not head.is_reached:
-        return Builder(head, [event_of(it) for it in lines], 0, False).build()
-    position = sum(int(it[0]) < head.point.step for it in lines)
-    own = leading_own(lines[position:], head.point)
-    following = lines[position + own : position + own + 2]
-    switches = bool(following) and is_switch_of_injection(lines[position : position + own], following, head.point, base)
-    return Builder(head, [event_of(it) for it in lines], own, switches).build()
+    injected = injected_lines(lines, run.head.point, base) if run.head.is_reached else set()
+    return Builder(run.head, [event_of(it) for it in lines], injected).build()
 
 
-def is_switch_of_injection(own, following, point, base):
-    """Whether the line after the handler's own tells that the processor changes at once, and not after the step."""
+def injected_lines(lines, point, base):
+    """Which lines come before their step: the handlers' own, and the changes of the processor that they bring about."""
+    found = set()
+    for step, injections in groups_of(point):
+        first = position_of(lines, step)
+        at, count = stretches_of_step(lines, first, injections)[-1]
+        own, following = lines[first : at + count], lines[at + count : at + count + 2]
+        is_first = step == point.first_step
+        switches = bool(own or is_first) and bool(following) and is_switch_of_injection(own, following, step, base)
+        found.update(range(first, at + count + switches))
+    return found
+
+
+def is_switch_of_injection(own, following, injected_at, base):
+    """Whether the line after the handlers' own tells that the processor changes at once, and not after the step."""
     step, tick, what = following[0]
-    if not what.startswith(b"run ") or int(step) != point.step or own and own[-1][1] != tick:
+    if not what.startswith(b"run ") or int(step) != injected_at or own and own[-1][1] != tick:
         return False
     if len(following) > 1 and following[1][0] == step:
         return True
@@ -150,28 +158,20 @@ def is_switch_of_injection(own, following, point, base):
 class Builder:
     """Puts a timeline together from the events of a run."""
 
-    def __init__(self, head, events, own, switches):
-        self.head, self.events, self.own, self.switches = head, events, own, switches
+    def __init__(self, head, events, injected=frozenset()):
+        self.head, self.events, self.injected = head, events, injected
         self.lanes: Dict[str, Lane] = {}
-        self.injected = self.injected_range()
         self.name_lanes()
         self.clock = self.clock_of_lines()
         self.turns: List[Bar] = []
         self.notes: List[Note] = []
-
-    def injected_range(self):
-        """Which events come before their step: the handler's own, and the change of the processor that follows them."""
-        if self.head.point is None or not self.head.is_reached:
-            return range(0)
-        first = bisect.bisect_left([it.step for it in self.events], self.head.point.step)
-        return range(first, first + self.own + self.switches)
 
     def name_lanes(self):
         """Tasks as they are told of, idle, handlers. A mark's name alone tells not which it is."""
         tasks = [it.name for it in self.events if it.kind in (Kind.CALL, Kind.RUN) and it.name != IDLE]
         handlers = [it.name for it in self.events if it.kind is Kind.ISR]
         if self.head.point is not None:
-            handlers.append(self.head.point.handler)
+            handlers += [it.handler for it in self.head.point]
         if self.head.verdict.task is not None:
             tasks.append(self.head.verdict.task)
         tasks += [it.name for it in self.events if it.kind is Kind.MARK and it.name not in handlers]
@@ -254,8 +254,13 @@ class Builder:
         bars = [it for it in self.turns if it.end > it.start] + waits
         used = {it.lane for it in bars} | {it.lane for it in self.notes}
         lanes = [it for it in self.lanes.values() if it in used or it.name != UNNAMED]
-        point = self.head.point if self.head.is_reached else None
-        return Timeline(self.head, lanes, bars, self.notes, self.windows(waits), self.clock, point)
+        return Timeline(self.head, lanes, bars, self.notes, self.windows(waits), self.clock, self.injections())
+
+    def injections(self):
+        """Those that come: the first one where the point is reached, a later one where the run isn't over before its step."""
+        if self.head.point is None or not self.head.is_reached:
+            return ()
+        return tuple(it for it in self.head.point if it.step < self.head.steps)
 
     def walk(self):
         """Turns on the processor, and notes."""

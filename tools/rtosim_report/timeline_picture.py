@@ -5,6 +5,7 @@ from itertools import groupby
 from typing import List
 
 from . import drawing
+from .injections import groups_of
 from .timeline import Doing, LaneKind, WindowKind
 
 PLOT, RIGHT, TOP = 1080, 24, 58
@@ -98,7 +99,7 @@ def write(output, timeline):
     for band in range(layout.bands):
         write_band(output, layout, band)
     write_lane_contents(output, layout)
-    write_injection(output, layout)
+    write_injections(output, layout)
     write_legend(output, layout)
     drawing.end(output)
 
@@ -231,14 +232,25 @@ def write_failure(output, layout):
     output.line(drawing.box(at - 3, top - 4, 5, BAR + 8, "injected", head.end_text()))
 
 
-def write_injection(output, layout):
-    point = layout.timeline.point
-    if point is None:
-        return
-    band = layout.band_of(point.step)
-    at, top = layout.across(band, point.step), layout.band_top(band)
-    bottom = top + layout.band_height - AXIS + 4
-    text = f"{point.handler} before step {point.step}"
-    left = min(at + 5, layout.left + PLOT + RIGHT - 4 - drawing.width_of(text))
-    output.line(drawing.line(at, top, at, bottom, "injection", text))
-    output.line(drawing.label(left, top + 11, text, "injected"))
+def write_injections(output, layout):
+    """A line at each injection. Texts that would lie over each other are one."""
+    labels = []
+    for step, injections in groups_of(layout.timeline.injections):
+        band = layout.band_of(step)
+        at, top = layout.across(band, step), layout.band_top(band)
+        bottom = top + layout.band_height - AXIS + 4
+        text = f"{', '.join(it.handler for it in injections)} before step {step}"
+        output.line(drawing.line(at, top, at, bottom, "injection", text))
+        last = labels[-1] if labels else None
+        if last and last[0] == top and left_of(layout, at, text) < last[1] + drawing.width_of(last[2]) + drawing.Labels.GAP:
+            text = f"{last[2]}, {text}"
+            labels[-1] = top, left_of(layout, last[1] - 5, text), text
+        else:
+            labels.append((top, left_of(layout, at, text), text))
+    for top, left, text in labels:
+        output.line(drawing.label(left, top + 11, text, "injected"))
+
+
+def left_of(layout, at, text):
+    """Where a text at an injection begins: so far to the left that it ends within the picture."""
+    return min(at + 5, layout.left + PLOT + RIGHT - 4 - drawing.width_of(text))

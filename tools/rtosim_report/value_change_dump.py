@@ -106,10 +106,10 @@ def add_counters(dump, timeline, times):
         if now != last:
             dump.set(times.at(boundary), tick, now)
             last = now
-    if timeline.point is not None:
+    if timeline.injections:
         injected = dump.signal("", "injected")
-        at = times.at(timeline.point.step)
-        dump.while_on(injected, at, at + 1)
+        for it in timeline.injections:
+            dump.while_on(injected, times.at(it.step), times.at(it.step) + 1)
 
 
 def add_windows(dump, timeline, times):
