@@ -8,15 +8,24 @@ from reports import LOST, RACE, ROOT, Dice, good, good_and_quick, is_refused, re
 from rtosim_report import base_run, classes
 from rtosim_report.source import Source
 
+FAILED = re.compile(r"isr \S+ \d+ ((send|send_front|give|resume) = 0|(receive|peek) = none)\n")
+
 
 def without_numbers(lines, is_exact):
     return tuple(it.split(" ", 1 if is_exact else 2)[-1] for it in lines)
 
 
+def failed_beyond(lines, base):
+    """Which calls of handlers fail more often than in the base run."""
+    told, known = ([it.split(" ", 2)[2] for it in there] for there in (lines, base))
+    return tuple(dict.fromkeys(it for it in told if FAILED.fullmatch(it) and told.count(it) > known.count(it)))
+
+
 def slow_outcome(row, base, base_end, is_exact):
     """What two rows must have in common to be of one class; None where a row is as the base run but for lines of its handler, which
-    are all told at one tick."""
+    are all told at one tick, and of which none tells a call that failed."""
     step, handler, is_reached, end, lines = row
+    failed = failed_beyond(lines, base)
     verdict = (end.split(" in ")[0],) + ((end.rpartition(", ")[2],) if is_exact else ())
     base_verdict = (base_end.split(" in ")[0],) + ((base_end.rpartition(", ")[2],) if is_exact else ())
     tail = [it for it in lines if int(it.split()[0]) >= step]
@@ -25,7 +34,7 @@ def slow_outcome(row, base, base_end, is_exact):
         return None
     for own in range(len(tail) + 1):
         if verdict == base_verdict and without_numbers(tail[own:], is_exact) == without_numbers(base_tail, is_exact):
-            return None
+            return failed or None
         words = tail[own].split() if own < len(tail) else ["", "", "", ""]
         if words[0] != str(step) or words[2] not in ("isr", "mark") or words[3] != handler or words[1] != tail[0].split()[1]:
             break
@@ -62,12 +71,15 @@ def classes_are_those_of_the_slow_definition():
 @case
 def the_lost_wake_up_is_found():
     table = good_and_quick("classes", LOST, "--base", LOST[:-6] + "out").splitlines()
-    equal(table[0], "20 rows in 3 classes; the base run: stuck in 20 steps, 18 ticks")
-    equal(table[3].split()[:4], ["1", "1", "5.0%", "stuck"])
-    equal(table[4].strip(), "driver: waiting = 1, where the base run has 0")
-    equal(table[5].strip(), "rtosim run FILE --at 0 --handler uart")
-    equal(table[7].strip(), "driver runs, where idle runs in the base run; then driver: receive = 42")
-    equal(table[10].strip(), "as the base run, but for the handler's own lines")
+    equal(table[0], "20 rows in 2 classes; the base run: stuck in 20 steps, 18 ticks")
+    equal(table[3].split()[:4], ["1", "2", "10.0%", "stuck"])
+    equal(table[4].strip(), "stuck: driver after 1 suspend; uart 1 resume = 0")
+    equal(table[5].strip(), "driver: waiting = 1, where the base run has 0")
+    equal(table[6].strip(), f"rtosim-report show 0 {LOST} --base {LOST[:-6]}out")
+    equal(table[8].strip(), "driver runs, where idle runs in the base run; then driver: receive = 42")
+    by_outcome = good_and_quick("classes", LOST, "--by", "outcome").splitlines()
+    equal([it.split()[1] for it in by_outcome[3::3]], ["1", "1", "18"])
+    equal(by_outcome[7].strip(), "as the base run, but for the handler's own lines; uart 1 resume = 0")
     equal([it.split()[1] for it in good_and_quick("classes", "--by", "verdict", LOST).splitlines()[3::3]], ["2", "18"])
 
 
@@ -106,7 +118,7 @@ def a_row_beside_the_base_run():
 
 @case
 def junit_has_what_its_schema_requires():
-    for words, cases, failures in ((["junit", RACE], 4, 1), (["junit", "--rows", RACE], 12, 3)):
+    for words, cases, failures in ((["junit", RACE], 3, 1), (["junit", "--rows", RACE], 12, 3)):
         root = tree.fromstring(good(*words, env={**os.environ, "SOURCE_DATE_EPOCH": "0"}))
         suite = root.find("testsuite")
         for name in ("name", "tests", "failures", "errors", "time", "timestamp", "hostname", "id", "package"):
@@ -119,5 +131,5 @@ def junit_has_what_its_schema_requires():
         assert all(it.get("name") and it.get("classname") and it.get("time") for it in found)
         texts = [it.find("failure").text for it in found if it.find("failure") is not None]
         holds(texts[0], "row 8 at 8 device: check client 3 in 12 steps, 4 ticks\n")
-        holds(texts[0], "\nrtosim run FILE --at 8 --handler device")
+        holds(texts[0], f"\nrtosim-report show 8 {RACE}")
         assert all(it.find("failure").get("type") == "check" for it in found if it.find("failure") is not None)

@@ -70,7 +70,7 @@ def the_base_run_is_presumed_of_rows_of_several():
     base = base_beside(CHANGES)
     shifted = [it for it in runs_of(CHANGES) if it.head.row in (3, 4)]
     body = shifted[0].text.decode()
-    rows = [("2 h 5 none", "2 0 isr h 0 send = 0\n"), ("2 h 3 none", "2 0 isr h 0 send = 0\n"), ("4 k 4 k", "4 0 mark k 5\n4 0 mark k 6\n")]
+    rows = [("2 h 5 none", "2 0 isr h 0 send = 1\n"), ("2 h 3 none", "2 0 isr h 0 send = 1\n"), ("4 k 4 k", "4 0 mark k 5\n4 0 mark k 6\n")]
     texts = []
     for at, (point, own) in enumerate(rows):
         lines = body.splitlines(True)

@@ -137,7 +137,7 @@ class Dice:
         if step >= steps:
             return step, handler, False, base_end, base
         before = [it for it in base if int(it.split()[0]) < step]
-        own = [f"{step} {step} isr {handler} {at} send = 1\n" for at in range(self.random.randrange(3))]
+        own = [f"{step} {step} isr {handler} {at} send = {self.random.random() < 0.8:d}\n" for at in range(self.random.randrange(3))]
         if self.random.random() < 0.4:
             return step, handler, True, base_end, before + own + base[len(before) :]
         end, tail = self.random.choice(tails) if self.random.random() < 0.7 else (self.end(step + 9), self.lines(0, 3, 0))

@@ -9,6 +9,7 @@ from dataclasses import dataclass, field
 from itertools import islice
 from typing import Dict, List, Optional, Tuple
 
+from .causes import failed_calls
 from .faults import BadReport, Fault, WordsFault
 from .grammar import EVENT_LINES
 from .injections import own_stretches, own_words, without
@@ -211,7 +212,7 @@ def presumed_base(source, known, is_covered):
 
 
 def is_base_exactly(run, base):
-    """A quick look whether the row is the base run, with all numbers, but for the handler's own lines."""
+    """A quick look whether the row is the base run, with all numbers, but for the handler's own lines, in which no call fails."""
     head, text = run.head, run.text
     more = len(text) - len(base.text)
     if more < 0 or not head.is_reached or head[3:] != base.head[3:] or not head.point.is_single:
@@ -220,7 +221,8 @@ def is_base_exactly(run, base):
     if text[start + more :] != base.text[start:] or text[:start] != base.text[:start]:
         return False
     own = text[start : start + more]
-    return own_bytes(own, head.point[0]) == more and len(EVENT_LINES.findall(own)) == own.count(b"\n")
+    lines = EVENT_LINES.findall(own)
+    return own_bytes(own, head.point[0]) == more and len(lines) == own.count(b"\n") and not failed_calls(lines)
 
 
 def tail_of_row(run, base):

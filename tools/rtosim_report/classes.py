@@ -1,24 +1,31 @@
-"""Groups rows by outcome.
+"""Groups rows: those that fail by their cause, those that pass by their outcome.
 
-Two rows are of one class when their verdicts, and what they tell from the injection on, are the same but for the numbers of
-steps and ticks. The rows that are the base run but for the injected handler's own lines are a class of their own."""
+Two rows have the same outcome when their verdicts, and what they tell from the injection on, are the same but for the numbers of
+steps and ticks. The rows that are the base run but for the handlers' own lines, in which no call fails, are a class of their own."""
 import enum
 import hashlib
+import re
 from dataclasses import dataclass, field
 from typing import Dict, List, Optional
 
 from . import differences
 from .base_run import is_base_exactly, tail_of_row
+from .causes import Causes, failed_calls
 from .faults import BadReport
 from .report import Head
 
 # An outcome that is told in more bytes is known by a digest.
 LONGEST_KEY = 200
+AS_BASE, BY_CAUSE = "as the base run", "by cause"
+# What differs is told with a number of a step where the base run isn't known to its end.
+STEP_OF_BASE = re.compile(r"before step [0-9]+")
 
 
 class By(enum.Enum):
     """What makes two rows the same."""
 
+    DEFAULT = "default"
+    CAUSE = "cause"
     OUTCOME = "outcome"
     EXACT = "exact"
     VERDICT = "verdict"
@@ -31,6 +38,9 @@ class OutcomeClass:
     first: Head
     is_base: bool
     what_differs: str
+    name: str = ""
+    is_by_cause: bool = False
+    failed: str = ""
     number: int = 0
     rows: int = 0
     not_reached: int = 0
@@ -64,8 +74,9 @@ class OutcomeClass:
 class Classifier:
     """Puts rows into classes, one after another; its memory is that of the classes and the base run."""
 
-    def __init__(self, base, by=By.OUTCOME):
+    def __init__(self, base, by=By.OUTCOME, application=None):
         self.base, self.by = base, by
+        self.causes = Causes(application)
         self.classes: Dict[object, OutcomeClass] = {}
 
     def add(self, run) -> Optional[OutcomeClass]:
@@ -80,10 +91,11 @@ class Classifier:
         tail, position = tail_of_row(run, self.base)
         if not run.head.is_reached:
             self.check_unreached(run, tail, position)
-        key = self.key_of(run, tail, position)
+        failed = failed_calls(tail, self.base.lines[position:] if self.base else ())
+        key = self.key_of(run, tail, position, failed)
         found = self.classes.get(key)
         if found is None:
-            found = self.classes[key] = self.new_class(run, tail, position, key)
+            found = self.classes[key] = self.new_class(run, tail, position, key, failed)
         found.add(run.head)
         return found
 
@@ -91,12 +103,21 @@ class Classifier:
         if self.base and not differences.equals_exactly(run, tail, position, self.base):
             raise BadReport(run.line_number, "the base run, since the point is not reached", run.head.text().encode())
 
-    def key_of(self, run, tail, position):
+    def is_by_cause(self, verdict):
+        return self.by is By.CAUSE or self.by is By.DEFAULT and not verdict.passes
+
+    def key_of(self, run, tail, position, failed):
+        """What rows of one class have in common: None of the base run's, else what it is and what is alike."""
         if self.by is By.VERDICT:
-            return run.head.verdict.text
+            return BY_CAUSE, run.head.verdict.text
         exact = self.by is By.EXACT
-        if not run.head.is_reached or differences.is_as_base(run, tail, position, self.base, exact):
+        is_as_base = not run.head.is_reached or differences.is_as_base(run, tail, position, self.base, exact)
+        if is_as_base and not failed:
             return None
+        if self.is_by_cause(run.head.verdict):
+            return BY_CAUSE, self.causes.key_of(run, failed)
+        if is_as_base:
+            return AS_BASE, failed
         seen = [b" ".join(it[1:]) for it in tail] if exact else [what for _, _, what in tail]
         end = f"{run.head.verdict.text} {run.head.ticks}" if exact else run.head.verdict.text
         outcome = b"\n".join(seen)
@@ -104,13 +125,41 @@ class Classifier:
             outcome = hashlib.blake2b(outcome, digest_size=16).digest()
         return end, outcome
 
-    def new_class(self, run, tail, position, key):
+    def new_class(self, run, tail, position, key, failed):
         words = differences.difference(run, tail, position, self.base, self.by is By.EXACT).words
-        return OutcomeClass(run.head, key is None, words)
+        is_by_cause = key is not None and key[0] == BY_CAUSE
+        failed_words = "".join("; " + self.causes.failed_words(it) for it in failed)
+        if self.by is By.VERDICT:
+            name = run.head.verdict.text
+        elif is_by_cause:
+            name = self.causes.end_of(run) + failed_words
+        elif key is None or key[0] == AS_BASE:
+            name = self.name_as_base(run) + failed_words
+        else:
+            name = lasting_words(run.head.verdict, words)
+        return OutcomeClass(run.head, key is None, words, name, is_by_cause, failed_words)
+
+    def name_as_base(self, run):
+        return AS_BASE if run.head.verdict.passes else f"{AS_BASE}: {self.causes.end_of(run)}"
 
     def in_order(self) -> List[OutcomeClass]:
         """Those that fail, then those that pass, each in the order of their first rows; the class of the base run last."""
         found = sorted(self.classes.values(), key=lambda it: (it.is_base, it.verdict.passes, it.first.row))
         for number, it in enumerate(found, 1):
             it.number = number
+        name_apart(found)
         return found
+
+
+def lasting_words(verdict, words):
+    """A name of an outcome, by what differs first."""
+    return verdict.text if not words or STEP_OF_BASE.search(words) else f"{verdict.text}: {words}"
+
+
+def name_apart(classes):
+    """Of classes with one name, the second and those behind it get a number."""
+    seen: Dict[str, int] = {}
+    for it in classes:
+        seen[it.name] = nth = seen.get(it.name, 0) + 1
+        if nth > 1:
+            it.name = f"{it.name} ({nth})"

@@ -4,27 +4,38 @@ A command takes in its own modules when it is done, so that each of them starts 
 import argparse
 import sys
 
+from .application import read_application
 from .base_run import find_base, given_base, tail_of_row
 from .classes import By, Classifier
 from .escaping import plain
 from .faults import STATUS_OUTPUT, Fault, WordsFault, counted
 from .output import ReaderLeft, output_file, standard_output
 from .source import base_source, campaign_source, file_source, standard_input
+from .table import Given
 
 DESCRIPTION = "Reads a report of `rtosim run` or `rtosim campaign`: which points matter, pictures, other tools' formats."
+# So the name of an application ends, where a report may stand too.
+APPLICATION = ".toml"
 
 
 class Job:
     """What was asked for, and the report that it is asked of."""
 
-    def __init__(self, words):
+    def __init__(self, words, has_texts=True):
         self.words = words
         self.application = words.application
+        self.is_made_here = self.application is not None and words.report is None
         self.source = self.open_source()
+        self.texts = read_application(self.application) if self.application is not None and has_texts else None
         self.base = None
+        self.lone_run = None
+
+    @property
+    def given(self):
+        return Given(self.application, self.words.report, self.words.base)
 
     def open_source(self):
-        if self.application is not None:
+        if self.is_made_here:
             if self.words.about_a_run and self.words.row is None:
                 return base_source(self.application)
             return campaign_source(self.application, self.words.workers)
@@ -53,7 +64,7 @@ class Job:
     def find_base(self):
         if self.words.base is not None:
             self.base = given_base(file_source(self.words.base).reader())
-        elif self.application is not None:
+        elif self.is_made_here:
             self.base = given_base(base_source(self.application).reader())
         else:
             self.base = find_base(self.source)
@@ -61,10 +72,11 @@ class Job:
 
     def classify(self, see=None):
         """All rows in classes. Each row and its class are shown to `see`."""
-        classifier = Classifier(self.find_base(), self.words.by)
+        classifier = Classifier(self.find_base(), self.words.by, self.texts)
         rows = 0
         for run in self.runs():
             found = classifier.add(run)
+            self.lone_run = run.head if run.head.row is None else None
             rows += found is not None
             if see and found is not None:
                 see(run, found)
@@ -98,10 +110,33 @@ class Job:
 
 
 def do_classes(job, output):
-    from .table import write_classes
+    from . import known, table
 
+    accepted = None if job.words.accept is None else known.read_names(job.words.accept)
     classes, rows = job.classify()
-    write_classes(output, classes, job.base, rows, job.application)
+    if job.words.names:
+        for it in classes:
+            if not (job.words.failing and it.verdict.passes):
+                output.line(it.name)
+    else:
+        table.write_classes(output, classes, job.base, rows, job.given, job.words.failing)
+    return 0 if accepted is None else known.judged([it.name for it in classes if not it.verdict.passes], accepted)
+
+
+def do_compare(words, output):
+    """Reads both reports. Ops are named by their texts where both are of applications, else by their numbers."""
+    from .comparing import write_changes
+
+    both = all(it.endswith(APPLICATION) for it in (words.old, words.new))
+    jobs = [Job(argparse.Namespace(**{**vars(words), **named(it)}), both) for it in (words.old, words.new)]
+    old, new = (it.classify()[0] for it in jobs)
+    return 1 if write_changes(output, old, new, jobs[1].given) else 0
+
+
+def named(name):
+    """The words of a report, or of an application, of which the program makes one."""
+    is_application = name.endswith(APPLICATION)
+    return {"application": name if is_application else None, "report": None if is_application else name}
 
 
 def do_show(job, output):
@@ -119,15 +154,17 @@ def do_json(job, output):
 
 
 def do_junit(job, output):
-    from . import junit
+    from . import junit, known
 
-    suite = junit.Suite(job.application or job.words.report or "standard input", job.application)
-    if job.words.rows:
-        classes, _ = job.classify()
+    accepted = frozenset() if job.words.accept is None else known.read_names(job.words.accept)
+    suite = junit.Suite(job.application or job.words.report or "standard input", job.given, accepted)
+    classes, _ = job.classify()
+    if job.words.rows and classes:
         junit.write_rows(output, suite, job.quiet_runs(), junit.counts_of(classes))
-    else:
-        classes, _ = job.classify()
-        junit.write_classes(output, suite, classes)
+        return 0
+    is_a_run = job.lone_run is not None and not job.is_made_here
+    failing = junit.write_classes(output, suite, classes, job.lone_run, job.words.allow_empty or is_a_run)
+    return 0 if job.words.accept is None else known.judged(failing, accepted)
 
 
 def do_svg(job, output):
@@ -153,22 +190,50 @@ def do_vcd(job, output):
     value_change_dump.write(output, job.timeline())
 
 
+def workers(word):
+    """A number, or `auto`."""
+    return word if word == "auto" else str(int(word))
+
+
 def add_common(parser):
     parser.add_argument("report", nargs="?", metavar="REPORT", help="a file; else standard input is read")
-    parser.add_argument("--application", metavar="FILE", help="make the report by running the program on this file")
-    parser.add_argument("--workers", type=int, metavar="N", help="of how many workers the program makes use")
+    help_text = "the application: of its texts, and without REPORT the program is run on it"
+    parser.add_argument("--application", metavar="FILE", help=help_text)
     parser.add_argument("--base", metavar="REPORT", help="the report of the base run, as `rtosim run FILE` writes it")
+    add_options(parser)
+
+
+def add_options(parser):
+    parser.add_argument("--workers", type=workers, metavar="N|auto", help="of how many workers the program makes use")
     parser.add_argument("--partial", action="store_true", help="take the whole rows of a report that is cut off")
     parser.add_argument("--output", "-o", metavar="FILE", help="write to this file, when all of it is there")
-    parser.set_defaults(by=By.OUTCOME, row=None, about_a_run=False)
+    parser.set_defaults(by=By.DEFAULT, row=None, about_a_run=False, accept=None)
 
 
 def add_classes(commands):
     parser = commands.add_parser("classes", help="the rows grouped by outcome: which points matter")
     add_common(parser)
     parser.add_argument("--exact", action="store_const", const=By.EXACT, dest="by", help="ticks count too")
-    parser.add_argument("--by", type=By, choices=list(By), metavar="outcome|exact|verdict", help="what counts")
+    choices = [it for it in By if it is not By.DEFAULT]
+    metavar = "|".join(it.value for it in choices)
+    parser.add_argument("--by", type=By, choices=choices, metavar=metavar, help="what counts; else the cause of those that fail, \
+and the outcome of those that pass")
+    parser.add_argument("--failing", action="store_true", help="those that fail alone")
+    parser.add_argument("--names", action="store_true", help="the names of the classes, a line each")
+    add_accept(parser)
     parser.set_defaults(do=do_classes)
+
+
+def add_accept(parser):
+    parser.add_argument("--accept", metavar="FILE", help="names of failures that are known, a line each; status 1 for any other")
+
+
+def add_compare(commands):
+    parser = commands.add_parser("compare", help="two versions: which classes are new, gone, larger, smaller")
+    parser.add_argument("old", metavar="OLD", help="a report, or an application, FILE.toml, of which the program makes one")
+    parser.add_argument("new", metavar="NEW", help="the same of the new version; status 1 where a failure is new")
+    add_options(parser)
+    parser.set_defaults(do=do_compare, by=By.CAUSE, application=None, report=None, base=None)
 
 
 def add_show(commands):
@@ -186,7 +251,9 @@ def add_formats(commands):
     parser = commands.add_parser("junit", help="test cases for a build server: a class each")
     add_common(parser)
     parser.add_argument("--rows", action="store_true", help="a test case for each row")
-    parser.set_defaults(do=do_junit)
+    parser.add_argument("--allow-empty", action="store_true", help="a campaign without points is no failure")
+    add_accept(parser)
+    parser.set_defaults(do=do_junit, by=By.CAUSE)
     parser = commands.add_parser("svg", help="a picture of a run, or of a campaign")
     add_common(parser)
     which = parser.add_mutually_exclusive_group()
@@ -208,15 +275,26 @@ def parsed(words):
     commands = parser.add_subparsers(dest="command", metavar="COMMAND", required=True)
     add_classes(commands)
     add_show(commands)
+    add_compare(commands)
     add_formats(commands)
     found = parser.parse_args(words)
     if getattr(found, "campaign", False):
         found.about_a_run = False
-    if found.application is not None and (found.report is not None or found.base is not None):
-        parser.error("--application makes the report and the base run: neither REPORT nor --base goes with it")
-    if found.workers is not None and found.application is None:
-        parser.error("--workers goes with --application")
+    check_together(parser, found)
     return found
+
+
+def check_together(parser, found):
+    """Which words go together."""
+    makes_report = found.report is None and found.application is not None
+    if found.command == "compare":
+        makes_report = any(it.endswith(APPLICATION) for it in (found.old, found.new))
+    if found.workers is not None and not makes_report:
+        parser.error("--workers goes with --application, without REPORT")
+    if makes_report and found.base is not None:
+        parser.error("--application makes the base run too: --base doesn't go with it, unless REPORT is there")
+    if found.accept is not None and (found.by not in (By.DEFAULT, By.CAUSE) or getattr(found, "rows", False)):
+        parser.error("--accept goes with classes by cause")
 
 
 def main(words=None):
@@ -224,8 +302,8 @@ def main(words=None):
     found = parsed(words)
     try:
         with output_file(found.output) if found.output else standard_output() as output:
-            found.do(Job(found), output)
-        return 0
+            status = found.do(found if found.do is do_compare else Job(found), output)
+        return status or 0
     except ReaderLeft:
         return STATUS_OUTPUT
     except Fault as fault:

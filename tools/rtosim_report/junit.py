@@ -2,25 +2,31 @@
 import os
 import time
 from dataclasses import dataclass
-from typing import Optional
+from typing import FrozenSet
 from xml.sax.saxutils import escape, quoteattr
 
 from .escaping import plain
-from .table import command_of, what_differs
+from .faults import counted
+from .report import Verdict
+from .table import Given, command_of, words_of
+
+NO_POINTS = Verdict("no points", "empty")
 
 
 @dataclass(frozen=True)
 class Suite:
-    """What the cases are of."""
+    """What the cases are of, and the names of failures that are known."""
 
     name: str
-    application: Optional[str]
+    given: Given
+    accepted: FrozenSet[str] = frozenset()
 
 
 @dataclass(frozen=True)
 class Counts:
     cases: int
     failures: int
+    skipped: int = 0
 
 
 def attribute(text):
@@ -38,7 +44,7 @@ def write_start(output, suite, counts):
     output.line('<?xml version="1.0" encoding="UTF-8"?>')
     output.line(f'<testsuites name="rtosim" {numbers} time="0">')
     output.line(
-        f'<testsuite id="0" package="rtosim" name={attribute(suite.name)} {numbers} skipped="0" time="0"'
+        f'<testsuite id="0" package="rtosim" name={attribute(suite.name)} {numbers} skipped="{counts.skipped}" time="0"'
         f' timestamp="{timestamp()}" hostname="localhost">'
     )
     output.line("<properties/>")
@@ -57,8 +63,11 @@ def write_case(output, suite, name, verdict, text):
         output.line(start + "/>")
         return
     output.line(start + ">")
-    message = f"message={attribute(name + ': ' + verdict.text)} type={attribute(verdict.kind)}"
-    output.line(f"<failure {message}>{escape(plain_lines(text))}</failure>")
+    if name in suite.accepted:
+        output.line(f"<skipped message={attribute('a failure that is known: ' + name)}/>")
+    else:
+        message = f"message={attribute(name + ': ' + verdict.text)} type={attribute(verdict.kind)}"
+        output.line(f"<failure {message}>{escape(plain_lines(text))}</failure>")
     output.line("</testcase>")
 
 
@@ -71,15 +80,27 @@ def class_name(name):
     return os.path.splitext(os.path.basename(name))[0].replace(".", "_") or "report"
 
 
-def write_classes(output, suite, classes):
-    failures = sum(not it.verdict.passes for it in classes)
-    write_start(output, suite, Counts(len(classes), failures))
-    for it in classes:
-        handlers = " ".join(it.handlers)
-        name = f"class {it.number}: {it.rows} of {handlers}, first at {it.point.text()}: {what_differs(it)}"
-        command = command_of(it.point, suite.application)
-        write_case(output, suite, name, it.verdict, f"{it.first.text()}\n{what_differs(it)}\n{command}")
+def write_classes(output, suite, classes, lone_run=None, allows_empty=False):
+    """A case for each class; of a report without rows one for the base run that it tells, and one for the points that are missing,
+    unless there may be none. Returns the names of those that fail."""
+    cases = [(it.name, it.verdict, class_text(it, suite)) for it in classes]
+    if not classes and lone_run is not None:
+        cases.append(("the base run", lone_run.verdict, lone_run.text()))
+    if not classes and not allows_empty:
+        cases.append(("the campaign has points", NO_POINTS, "no row tells what happens at a point"))
+    failing = [name for name, verdict, _ in cases if not verdict.passes]
+    skipped = sum(name in suite.accepted for name in failing)
+    write_start(output, suite, Counts(len(cases), len(failing) - skipped, skipped))
+    for name, verdict, text in cases:
+        write_case(output, suite, name, verdict, text)
     write_end(output)
+    return failing
+
+
+def class_text(it, suite):
+    handlers = " ".join(it.handlers)
+    lines = [f"{counted(it.rows, 'row')} of {handlers}; the first:", it.first.text(), *words_of(it), command_of(it.first, suite.given)]
+    return "\n".join(lines)
 
 
 def counts_of(classes):
@@ -92,7 +113,7 @@ def write_rows(output, suite, runs, counts):
     for run in runs:
         head = run.head
         if head.row is not None:
-            command = command_of(head.point, suite.application)
+            command = command_of(head, suite.given)
             name = f"row {head.row} at {head.point.text()}"
             write_case(output, suite, name, head.verdict, f"{head.text()}\n{command}")
     write_end(output)

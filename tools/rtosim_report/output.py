@@ -6,6 +6,7 @@ import sys
 import tempfile
 import time
 
+from . import temporary
 from .escaping import plain
 from .faults import OutputFault
 
@@ -20,8 +21,9 @@ class ReaderLeft(Exception):
 def standard_output():
     """A file of texts that goes to standard output when all of it is there."""
     with tempfile.SpooledTemporaryFile(IN_MEMORY) as kept:
-        yield Text(kept)
-        kept.seek(0)
+        yield Text(kept, True)
+        with temporary.room():
+            kept.seek(0)
         try:
             shutil.copyfileobj(kept, sys.stdout.buffer, 1 << 18)
             sys.stdout.buffer.flush()
@@ -60,14 +62,19 @@ def current_mask():
 class Text:
     """Texts are gathered and written as UTF-8; bytes of a file's name that are no UTF-8 are spelled out."""
 
-    def __init__(self, file):
-        self.file = file
+    def __init__(self, file, is_temporary=False):
+        self.file, self.is_temporary = file, is_temporary
 
     def write(self, text):
-        self.file.write(text.encode("utf-8", "backslashreplace"))
+        self.write_bytes(text.encode("utf-8", "backslashreplace"))
 
     def write_bytes(self, text):
-        self.file.write(text)
+        try:
+            self.file.write(text)
+        except OSError as why:
+            if not self.is_temporary:
+                raise
+            raise temporary.fault(why.strerror) from None
 
     def line(self, text=""):
         self.write(text + "\n")

@@ -49,12 +49,13 @@ class Run(NamedTuple):
             last = step
 
     def check_end(self, last_line: Optional[Line]):
-        """A run that passes goes to idle in its last step: without that line some are missing."""
+        """In its last step a run that passes goes from a task that ends to idle, or to one that serves for ever: without that line
+        some are missing."""
         if not self.head.verdict.passes or self.head.steps == 0:
             return
-        if last_line is None or last_line[2] != b"run -" or int(last_line[0]) != self.head.steps - 1:
+        if last_line is None or not last_line[2].startswith(b"run ") or int(last_line[0]) != self.head.steps - 1:
             at = self.line_number + self.text.count(b"\n")
-            wanted = f"`{self.head.steps - 1} T run -` as the last line of a run that passes"
+            wanted = f"`{self.head.steps - 1} T run -` or another change of the processor as the last line of a run that passes"
             raise BadReport(at + 1, wanted, None if last_line is None else b" ".join(last_line))
 
     def checked_lines(self):

@@ -1,15 +1,14 @@
 """Where a report comes from: a file, standard input, or the program. It can be read again and again, from its beginning.
 
 What can't be read twice, as a pipe, is copied to a file without a name in the folder for temporary files."""
-import io
 import os
-import shutil
 import subprocess
 import sys
 import tempfile
 
+from . import temporary
 from .escaping import plain
-from .faults import Fault, ProgramFault
+from .faults import STATUS_OUTPUT, Fault, ProgramFault
 from .output import Progress
 from .reading import Reader, parts_of_rows
 
@@ -17,6 +16,7 @@ ROOT = os.path.dirname(os.path.dirname(os.path.dirname(os.path.realpath(__file__
 PROGRAM = os.path.join(ROOT, "bin", "rtosim")
 # Of the program's statuses: all passes, or something doesn't; a report was written in both cases.
 STATUSES_OF_REPORTS = (0, 1)
+BLOCK = 1 << 17
 
 
 class Source:
@@ -55,24 +55,33 @@ def standard_input(partial=False):
 
 
 def seekable(stream):
-    """The stream, or a copy of it that can be read again."""
+    """The stream, or a copy of it that can be read again, in the folder for temporary files."""
     try:
         if stream.seekable() and stream.tell() == 0:
             return stream
     except OSError:
         pass
-    copy = tempfile.TemporaryFile()
-    shutil.copyfileobj(stream, copy, io.DEFAULT_BUFFER_SIZE * 16)
-    return copy
+    with temporary.room():
+        copy = tempfile.TemporaryFile()
+    while True:
+        block = stream.read(BLOCK)
+        if not block:
+            return copy
+        with temporary.room():
+            copy.write(block)
+            copy.flush()
 
 
 def program_source(*words):
     """What the program writes when it is called with these words."""
-    report = tempfile.TemporaryFile()
+    with temporary.room():
+        report = tempfile.TemporaryFile()
     try:
         status = subprocess.run([PROGRAM, *words], stdout=report, check=False).returncode
     except OSError as why:
         raise Fault(f"cannot run {plain(PROGRAM)}: {why.strerror}") from None
+    if status == STATUS_OUTPUT:
+        raise temporary.fault("the report can't be written there")
     if status not in STATUSES_OF_REPORTS:
         raise ProgramFault(status if status > 0 else 70)
     return Source(report)
@@ -84,7 +93,7 @@ def base_source(application):
 
 def campaign_source(application, workers=None):
     """The campaign's report, or where the file has no points that of its base run."""
-    more = [] if workers is None else ["--workers", str(workers)]
+    more = [] if workers is None else ["--workers", workers]
     source = program_source("campaign", application, *more)
     source.stream.seek(0)
     has_rows = source.stream.read(8) != b"total 0:"

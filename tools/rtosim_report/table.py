@@ -1,4 +1,6 @@
 """The table of classes, for people."""
+from typing import NamedTuple, Optional
+
 from .escaping import shell_word
 from .faults import counted
 
@@ -6,13 +8,26 @@ AS_BASE = "as the base run, but for the handler's own lines"
 NOT_REACHED = "not reached: the base run itself"
 
 
-def command_of(point, application):
-    """The command that shows what happens at a point; of several injections, of which no command has words, the entry that makes
-    a campaign of them."""
-    if not point.is_single:
-        return f'points = ["{point.text()}"]'
-    file = shell_word(application) if application else "FILE"
-    return f"rtosim run {file} --at {point[0].step} --handler {point[0].handler}"
+class Given(NamedTuple):
+    """What the words name: the application's file, the report, and that of the base run."""
+
+    application: Optional[str] = None
+    report: Optional[str] = None
+    base: Optional[str] = None
+
+
+def command_of(head, given):
+    """The command that shows what happens at a row's point, or the words of it that are known; of several injections, of which no
+    command has words, the entry that makes a campaign of them."""
+    if not head.point.is_single:
+        return f'points = ["{head.point.text()}"]'
+    words = f"--at {head.point[0].step} --handler {head.point[0].handler}"
+    if given.application is not None:
+        return f"rtosim run {shell_word(given.application)} {words}"
+    if given.report in (None, "-"):
+        return words
+    base = f" --base {shell_word(given.base)}" if given.base else ""
+    return f"rtosim-report show {head.row} {shell_word(given.report)}{base}"
 
 
 def what_differs(it):
@@ -20,8 +35,14 @@ def what_differs(it):
     if it.is_base and it.not_reached == it.rows:
         return NOT_REACHED
     if it.is_base or not it.what_differs:
-        return AS_BASE + (f" ({it.not_reached:,} of them not reached)" if it.not_reached else "")
-    return it.what_differs
+        return AS_BASE + (f" ({it.not_reached:,} of them not reached)" if it.not_reached else "") + it.failed
+    return it.what_differs + it.failed
+
+
+def words_of(it):
+    """The cause, where it says more than the verdict, and what differs in the first row."""
+    lines = [it.name] if it.is_by_cause and it.name != it.verdict.text else []
+    return [*lines, what_differs(it) if not lines else (it.what_differs or AS_BASE)]
 
 
 def span(fewest, most):
@@ -51,10 +72,11 @@ HEADINGS = ["class", "rows", "share", "verdict", "first point", "steps", "ticks"
 RIGHT = {0, 1, 2, 5, 6}
 
 
-def aligned(table):
+def aligned(table, right=frozenset(RIGHT)):
+    """The lines of a table, of which the columns of these indices end at one place."""
     widths = [max(map(len, column)) for column in zip(*table)]
     for row in table:
-        parts = (it.rjust(w) if at in RIGHT else it.ljust(w) for at, (it, w) in enumerate(zip(row, widths)))
+        parts = (it.rjust(w) if at in right else it.ljust(w) for at, (it, w) in enumerate(zip(row, widths)))
         yield "  ".join(parts).rstrip()
 
 
@@ -67,15 +89,19 @@ def base_words(base):
     return f"the base run: {base.head.end_text()}{origin}"
 
 
-def write_classes(output, classes, base, rows, application):
-    """The table, with the lines of each class below its own."""
+def write_classes(output, classes, base, rows, given, failing=False):
+    """The table, with the lines of each class below its own; of those that fail alone, where that is asked for."""
     output.line(f"{counted(rows, 'row')} in {counted(len(classes), 'class')}; {base_words(base)}")
-    if not classes:
+    passing = [it for it in classes if it.verdict.passes] if failing else []
+    if passing:
+        output.line(f"passing, and not shown: {counted(sum(it.rows for it in passing), 'row')} in {counted(len(passing), 'class')}")
+    shown = [it for it in classes if not (failing and it.verdict.passes)]
+    if not shown:
         return
-    heading, *lines = aligned([HEADINGS, *(cells(it, rows) for it in classes)])
+    heading, *lines = aligned([HEADINGS, *(cells(it, rows) for it in shown)])
     output.line()
     output.line(heading)
-    for it, line in zip(classes, lines):
+    for it, line in zip(shown, lines):
         output.line(line)
-        output.line(f"       {what_differs(it)}")
-        output.line(f"       {command_of(it.point, application)}")
+        for words in [*words_of(it), command_of(it.first, given)]:
+            output.line(f"       {words}")

@@ -1,0 +1,124 @@
+"""The application of a report: what its tasks' and handlers' ops are, by their texts. The program has taken the file; nothing is
+checked here but that it can be read."""
+from typing import Dict, List, NamedTuple, Optional
+
+from .escaping import plain
+from .faults import Fault
+
+# Words of ops that tell no line that names them.
+SILENT_WORDS = {"work", "mark", "expect", "repeat", "end", "if", "else", "break", "stamp"}
+# Ops whose second word isn't the name of an object, a group or a task.
+NAMELESS = SILENT_WORDS | {"delay", "delay_until", "yield", "time", "since", "suspend_all", "resume_all"}
+ORDINALS = {2: "2nd", 3: "3rd"}
+
+
+class Op(NamedTuple):
+    """An op as it is written, in words."""
+
+    words: List[str]
+
+    @property
+    def text(self):
+        return " ".join(self.words)
+
+    @property
+    def word(self):
+        return self.words[0] if self.words else ""
+
+    @property
+    def object(self) -> Optional[str]:
+        """The name of what the op is about."""
+        return self.words[1] if len(self.words) > 1 and self.word not in NAMELESS else None
+
+    @property
+    def is_silent(self):
+        return self.word in SILENT_WORDS
+
+
+class Script(NamedTuple):
+    """The ops of a task or of a handler."""
+
+    name: str
+    ops: List[Op]
+    is_endless: bool = False
+
+    def op(self, index) -> Optional[Op]:
+        return self.ops[index] if 0 <= index < len(self.ops) else None
+
+    def lasting_name(self, index):
+        """The op by its text, and from the second op of this text on which of them it is: so that ops added elsewhere change
+        nothing."""
+        op = self.op(index)
+        if op is None:
+            return f"op {index}"
+        nth = sum(it.words == op.words for it in self.ops[: index + 1])
+        return op.text if nth == 1 else f"{op.text} ({ORDINALS.get(nth, f'{nth}th')})"
+
+
+class Application(NamedTuple):
+    """The scripts by their names."""
+
+    tasks: Dict[str, Script]
+    handlers: Dict[str, Script]
+
+    def script(self, name) -> Optional[Script]:
+        return self.tasks.get(name) or self.handlers.get(name)
+
+    def op(self, name, index) -> Optional[Op]:
+        script = self.script(name)
+        return None if script is None or index is None else script.op(index)
+
+
+def read_application(name):
+    """The application in the file of this name."""
+    try:
+        with open(name, "rb") as file:
+            document = document_of(file.read().decode("utf-8-sig"))
+    except OSError as why:
+        raise Fault(f"cannot read {plain(name)}: {why.strerror}") from None
+    except ValueError as why:
+        raise Fault(f"{plain(name)} is no application: {why}") from None
+    tasks = [script_of(it, "script") for it in entries(document, "task")]
+    handlers = [script_of(it, "ops") for it in entries(document, "handler")]
+    return Application({it.name: it for it in tasks}, {it.name: it for it in handlers})
+
+
+def document_of(text):
+    """The document as dictionaries and lists. What reads it names the fault as a ValueError."""
+    try:
+        from rtosim_check import nodes, toml_reader
+    except ImportError:
+        return document_of_library(text)
+    try:
+        return values_of(toml_reader.read_document(text))
+    except nodes.NotToml as why:
+        raise ValueError(f"not TOML: {plain(str(why))}") from None
+
+
+def document_of_library(text):
+    try:
+        import tomllib
+    except ImportError:
+        raise ValueError("to read it, Python 3.11 is needed") from None
+    return tomllib.loads(text)
+
+
+def values_of(node):
+    """The plain values of a document that is read with its places."""
+    if hasattr(node, "members"):
+        return {key: values_of(it.value) for key, it in node.members.items()}
+    if hasattr(node, "items"):
+        return [values_of(it) for it in node.items]
+    return node.value
+
+
+def entries(document, section):
+    found = document.get(section, [])
+    return [it for it in found if isinstance(it, dict)] if isinstance(found, list) else []
+
+
+def script_of(entry, key):
+    ops = entry.get(key, [])
+    texts = [it for it in ops if isinstance(it, str)] if isinstance(ops, list) else []
+    return Script(str(entry.get("name")), [Op(it.split()) for it in texts],
+                  entry.get("endless") is True)

@@ -1,0 +1,25 @@
+"""The folder for temporary files: where it has no room, that is what is told."""
+import contextlib
+import os
+import tempfile
+
+from .escaping import plain
+from .faults import OutputFault
+
+
+def fault(why):
+    """The fault of the folder, by its name."""
+    try:
+        folder = tempfile.gettempdir()
+    except OSError:
+        folder = os.environ.get("TMPDIR", "")
+    return OutputFault(f"no room in the folder for temporary files, {plain(folder)}: {why}; TMPDIR names another")
+
+
+@contextlib.contextmanager
+def room():
+    """Around what is written there."""
+    try:
+        yield
+    except OSError as why:
+        raise fault(why.strerror) from None
