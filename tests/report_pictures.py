@@ -1,14 +1,21 @@
 """Cases of tests/report: pictures, traces and dumps."""
+import colorsys
 import json
 import os
+import re
 import shutil
 import subprocess
 import xml.etree.ElementTree as tree
 
 from cases import case, equal, holds
-from reports import LOST, PATIENCE, RACE, ROOT, SVG, good, good_and_quick, overlaps, read, report_of, timeline_of
-from rtosim_report import timeline
+from reports import (LOST, PATIENCE, PROGRAM, RACE, ROOT, SVG, good, good_and_quick, overlaps, read, report_of, source_of,
+                     timeline_of)
+from rtosim_report import application, base_run, colours, timeline
+from rtosim_report.report import Verdict
+from rtosim_report.source import Source
 from rtosim_report.subticks import SubTicks
+
+SUSPENDS = f"{ROOT}/tests/of_suspends/suspends"
 
 
 def pictures():
@@ -18,6 +25,8 @@ def pictures():
     for name in sorted(os.listdir(f"{ROOT}/examples")):
         if name.endswith(".out"):
             yield good_and_quick("svg", f"{ROOT}/examples/{name}")
+            yield good_and_quick("svg", f"{ROOT}/examples/{name}", "--application", f"{ROOT}/examples/{name[:-3]}toml")
+    yield good_and_quick("svg", f"{SUSPENDS}.out", "--application", f"{SUSPENDS}.toml")
     yield good_and_quick("svg", text=long_run(2_000))
 
 
@@ -55,7 +64,8 @@ def the_map_has_a_cell_for_each_point():
     root = tree.fromstring(good_and_quick("svg", "--campaign", LOST))
     titles = [it.find(f"{SVG}title").text for it in root.iter(f"{SVG}rect") if it.find(f"{SVG}title") is not None]
     equal(len(titles), 20)
-    holds(titles[0], "uart before step 0: class 1 (stuck): driver: waiting = 1, where the base run has 0")
+    equal(titles[0], "uart before step 0: class 1: stuck: driver after 1 suspend; uart 1 resume = 0")
+    holds(titles[2], "uart before step 2: class 2 (pass): driver runs, where idle runs in the base run")
     equal(overlaps(root.iter(f"{SVG}text")), [])
     end = "stuck in 40000 steps, 4 ticks"
     wide = [(step, "h", True, end, [f"{step} 1 isr h 0 send = {int(step == 7777)}\n"]) for step in range(30_000)]
@@ -120,7 +130,7 @@ def a_timeline_tells_who_runs_and_who_waits():
     bars = {(it.lane.name, it.start, it.end, it.doing.value) for it in found.bars}
     equal(bars, {
         ("driver", 0, 2, "runs"), ("driver", 2, 5, "is suspended"), ("other", 2, 5, "runs"), ("driver", 5, 7, "runs"),
-        ("other", 7, 22, "runs"),
+        ("other", 7, 22, "runs"), ("other", 0, 2, "is ready"), ("other", 5, 7, "is ready"),
     })
     waits = [it for it in timeline_of("priority_inversion").bars if it.doing is timeline.Doing.WAITS]
     equal([(it.lane.name, it.start, it.end, it.word) for it in waits], [("high", 9, 12, "lock")])
@@ -137,3 +147,126 @@ def at_each_step_one_lane_runs():
         times = [SubTicks(found).at(it) for it in range(found.steps + 1)]
         equal(times, sorted(set(times)))
 
+
+
+def of_suspends(has_texts):
+    base = base_run.given_base(source_of(read(f"{SUSPENDS}.out").decode()).reader())
+    return timeline.of_base(base, application.read_application(f"{SUSPENDS}.toml") if has_texts else None)
+
+
+@case
+def who_is_suspended_by_another_neither_sleeps_nor_waits():
+    found = of_suspends(True)
+    bars = {(it.lane.name, it.start, it.end, it.doing.name) for it in found.bars}
+    suspended = {it for it in bars if it[3] == "SUSPENDED"}
+    equal(suspended, {("sleeper", 12, 41, "SUSPENDED"), ("waiter", 13, 23, "SUSPENDED"), ("worker", 14, 22, "SUSPENDED")})
+    for it in (("sleeper", 2, 12, "SLEEPS"), ("waiter", 7, 13, "WAITS"), ("waiter", 23, 24, "READY"), ("worker", 22, 29, "READY")):
+        assert it in bars, it
+    for name, start, end, _ in suspended:
+        for it in of_suspends(False).bars:
+            assert it.lane.name != name or it.end <= start or it.start >= end, it
+
+
+@case
+def ready_and_ended_are_told_apart():
+    for has_texts in (False, True):
+        found = of_suspends(has_texts)
+        ends = {it.name: at for it, at in found.endings}
+        equal(ends, {"main": 42, "sleeper": 44, "waiter": 36, "gone": 8, "worker": 53, "quick": 19})
+        for it in found.bars:
+            assert it.end <= ends.get(it.lane.name, 99), it
+        assert ("quick", 0, 16) in [(it.lane.name, it.start, it.end) for it in found.bars if it.doing is timeline.Doing.READY]
+    root = tree.fromstring(good_and_quick("svg", f"{SUSPENDS}.out"))
+    equal(sum(it.get("class") == "ended" and it.find(f"{SVG}title") is not None for it in root.iter(f"{SVG}rect")), 6)
+
+
+@case
+def calls_name_their_object():
+    words = [f"{SUSPENDS}.out", "--application", f"{SUSPENDS}.toml"]
+    for command in ("svg", "perfetto"):
+        text = good_and_quick(command, *words)
+        for part in ("receive q = none", "resume sleeper = 1", "delay = 0"):
+            holds(text, part)
+        assert "receive q" not in good_and_quick(command, words[0])
+    holds(good_and_quick("svg", *words), "waiter waits in receive q: steps 7 to 12")
+
+
+@case
+def labels_are_folded_and_not_dropped():
+    labels = 0
+    for text in pictures():
+        root = tree.fromstring(text)
+        told = sum(it.find(f"{SVG}title").text.partition("; ")[0].count(", ") + 1
+                   for it in root.iter(f"{SVG}line") if it.get("class") == "note")
+        shown = 0
+        for it in root.iter(f"{SVG}text"):
+            if re.search(r" = |mark ", it.text):
+                more = re.search(r" \+([0-9,]+)$", it.text)
+                equal(it.find(f"{SVG}title") is not None, more is not None)
+                shown += 1 + it.text.count(", ") + (int(more[1].replace(",", "")) if more else 0)
+        assert shown >= told, (shown, told)
+        labels += shown
+    assert labels > 300, labels
+    holds(good_and_quick("svg", f"{SUSPENDS}.out"), "suspend = 1 +2<title>and suspend = 1; delay = 0</title>")
+
+
+def hue(colour):
+    parts = [int(colour[at : at + 2], 16) / 255 for at in (1, 3, 5)]
+    return colorsys.rgb_to_hls(*parts)[0]
+
+
+@case
+def colours_differ_for_all_classes():
+    class It:
+        def __init__(self, number):
+            self.number, self.is_base, self.verdict = number, number == 0, Verdict("", "pass" if number % 2 else "check")
+
+    found = colours.colours_of([It(number) for number in range(4_001)])
+    equal(len(set(found.values())), 4_001)
+    for number, colour in found.items():
+        if number:
+            assert (0.24 < hue(colour) < 0.71) == bool(number % 2), (number, colour)
+        light = colours.luminance(colour)
+        contrast = 1.05 / (light + 0.05) if colours.has_light_text(colour) else (light + 0.05) / 0.05
+        assert contrast >= 4.5, (colour, contrast)
+    rows = [(at, "h", True, f"check a {at} in 40 steps, 4 ticks", []) for at in range(30)]
+    text = good_and_quick("svg", "--campaign", text=report_of(rows))
+    holds(text, "and 6 more classes of 6 rows, each in a colour of its own")
+    cells = re.findall(r'<rect fill="(#......)"', text)
+    equal((len(cells), len(set(cells))), (54, 30))
+
+
+def states(text, words=()):
+    """What the program says of each task after the last step; nothing where it doesn't say it."""
+    with open("limited.toml", "w") as it:
+        it.write(text)
+    ran = subprocess.run([PROGRAM, "run", "limited.toml", "--state", *words], capture_output=True, timeout=PATIENCE)
+    return dict(re.findall(r"^state (\S+) (\S+)", ran.stdout.decode(), re.MULTILINE))
+
+
+ALLOWED = {
+    "RUNS": {"runs", "waits", "awake"}, "WAITS": {"waits", "ready", "awake"}, "SLEEPS": {"sleeps", "ready"},
+    "SUSPENDED": {"suspended"}, "READY": {"ready"}, "ENDED": {"ended"},
+}
+
+
+def doing_at(found, lane, boundary):
+    ended = any(it == lane and at <= boundary for it, at in found.endings)
+    doing = [it.doing.name for it in found.bars if it.lane == lane and it.start <= boundary < it.end]
+    return doing[0] if doing else "ENDED" if ended else None
+
+
+@case
+def what_is_drawn_is_the_state_that_the_program_writes():
+    """With the application, of each step but the last one: the run is limited to so many steps."""
+    text = read(f"{SUSPENDS}.toml").decode()
+    if not os.access(PROGRAM, os.X_OK) or not states(text):
+        print("   (skipped: there is no built program that writes the state)")
+        return
+    found = of_suspends(True)
+    for steps in range(1, found.steps):
+        told = states(f"[limits]\nsteps = {steps}\n{text}")
+        for lane in found.lanes:
+            doing = doing_at(found, lane, steps)
+            if doing and lane.name in told:
+                assert told[lane.name] in ALLOWED[doing], (steps, lane.name, doing, told[lane.name])

@@ -41,6 +41,7 @@ class Script(NamedTuple):
     name: str
     ops: List[Op]
     is_endless: bool = False
+    priority: int = 0
 
     def op(self, index) -> Optional[Op]:
         return self.ops[index] if 0 <= index < len(self.ops) else None
@@ -56,13 +57,20 @@ class Script(NamedTuple):
 
 
 class Application(NamedTuple):
-    """The scripts by their names."""
+    """The scripts by their names. The daemon is a task without one."""
 
     tasks: Dict[str, Script]
     handlers: Dict[str, Script]
+    daemon: Optional[Script] = None
 
     def script(self, name) -> Optional[Script]:
         return self.tasks.get(name) or self.handlers.get(name)
+
+    def first_runner(self) -> Optional[str]:
+        """Who runs at reset: of those that have something to do the task of highest priority, of several the first."""
+        ready = [it for it in self.tasks.values() if it.ops] + [self.daemon] * (self.daemon is not None)
+        first = max(ready, key=lambda it: it.priority, default=None)
+        return None if first is None else first.name
 
     def op(self, name, index) -> Optional[Op]:
         script = self.script(name)
@@ -80,7 +88,9 @@ def read_application(name):
         raise Fault(f"{plain(name)} is no application: {why}") from None
     tasks = [script_of(it, "script") for it in entries(document, "task")]
     handlers = [script_of(it, "ops") for it in entries(document, "handler")]
-    return Application({it.name: it for it in tasks}, {it.name: it for it in handlers})
+    daemon = document.get("daemon")
+    return Application({it.name: it for it in tasks}, {it.name: it for it in handlers},
+                       script_of(daemon, "") if isinstance(daemon, dict) else None)
 
 
 def document_of(text):
@@ -121,4 +131,9 @@ def script_of(entry, key):
     ops = entry.get(key, [])
     texts = [it for it in ops if isinstance(it, str)] if isinstance(ops, list) else []
     return Script(str(entry.get("name")), [Op(it.split()) for it in texts],
-                  entry.get("endless") is True)
+                  entry.get("endless") is True, priority_of(entry))
+
+
+def priority_of(entry):
+    found = entry.get("priority")
+    return found if isinstance(found, int) else 0

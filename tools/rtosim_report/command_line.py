@@ -103,10 +103,10 @@ class Job:
 
         run, base = self.wanted_run(self.words.row)
         if run is not None:
-            return timeline.of_row(run, base)
+            return timeline.of_row(run, base, self.texts)
         if base is None or base.head is None:
             raise WordsFault("the report does not tell the base run: --row N, --base or --application")
-        return timeline.of_base(base)
+        return timeline.of_base(base, self.texts)
 
 
 def do_classes(job, output):

@@ -4,6 +4,8 @@ from xml.sax.saxutils import escape
 FONT = "ui-monospace, 'DejaVu Sans Mono', Menlo, Consolas, monospace"
 FONT_SIZE = 12
 CHARACTER = 7.3
+# Of so many folded texts a title tells.
+MOST_TOLD = 20
 
 # (selector, in light, in dark)
 COMMON_STYLES = [
@@ -54,10 +56,11 @@ def box(left, top, width, height, classes, title=None):
     return f"{shape}/>" if title is None else f"{shape}><title>{escape(title)}</title></rect>"
 
 
-def label(left, base, text, classes="", anchor="start"):
+def label(left, base, text, classes="", anchor="start", title=None):
     named = f' class="{classes}"' if classes else ""
     placed = "" if anchor == "start" else f' text-anchor="{anchor}"'
-    return f'<text{named} x="{number(left)}" y="{number(base)}"{placed}>{escape(text)}</text>'
+    told = "" if title is None else f"<title>{escape(title)}</title>"
+    return f'<text{named} x="{number(left)}" y="{number(base)}"{placed}>{escape(text)}{told}</text>'
 
 
 def line(left, top, right, bottom, classes, title=None):
@@ -78,17 +81,50 @@ def nice_interval(least):
 
 
 class Labels:
-    """Rows for labels of one lane: a label goes to the first row where it overlaps none, or is left out."""
+    """Rows for labels of one lane: a label goes to the first row where it overlaps none. One for which there is no room is counted
+    behind the last label of the row that ends first."""
 
     GAP = 6
 
-    def __init__(self, rows):
-        self.ends = [float("-inf")] * rows
+    def __init__(self, rows, limit=float("inf")):
+        self.rows, self.limit = [[] for _ in range(rows)], limit
 
-    def place(self, left, text):
-        """The row for a text that begins here, or None."""
-        for row, taken in enumerate(self.ends):
-            if left >= taken:
-                self.ends[row] = left + width_of(text) + self.GAP
-                return row
-        return None
+    def add(self, left, text, classes=""):
+        """A text that begins here, or as far to the left as it must to end before the limit."""
+        left = min(left, self.limit - width_of(text + " +99"))
+        for row in self.rows:
+            if not row or left >= row[-1].end + self.GAP:
+                row.append(Label(left, text, classes))
+                return
+        self.fold(text)
+
+    def fold(self, text):
+        """A text that isn't shown."""
+        row = min((it for it in self.rows if it), key=lambda it: it[-1].end, default=None)
+        if row is not None:
+            row[-1].folded.append(text)
+
+    def placed(self):
+        """Each label, with the number of its row."""
+        return [(at, it) for at, row in enumerate(self.rows) for it in row]
+
+
+class Label:
+    """A text at a place, and those that are folded into it."""
+
+    def __init__(self, left, text, classes):
+        self.left, self.text, self.classes, self.folded = left, text, classes, []
+
+    @property
+    def shown(self):
+        return f"{self.text} +{len(self.folded):,}" if self.folded else self.text
+
+    @property
+    def end(self):
+        return self.left + width_of(self.shown)
+
+    def shape(self, base):
+        if not self.folded:
+            return label(self.left, base, self.text, self.classes)
+        more = self.folded[:MOST_TOLD] + [".."] * (len(self.folded) > MOST_TOLD)
+        return label(self.left, base, self.shown, self.classes, title="and " + "; ".join(more))

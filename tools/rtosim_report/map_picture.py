@@ -7,20 +7,17 @@ from typing import Dict, Tuple
 
 from . import drawing
 from .classes import OutcomeClass
+from .colours import colours_of, has_light_text
 from .faults import counted
 from .table import base_words, what_differs
 
 PLOT, TOP, CELL_HEIGHT, ROW_GAP, WIDEST, RIGHT = 1080, 44, 26, 8, 54, 24
 MOST_COLUMNS = 1080
 LEAST_FOR_NUMBER = 13
-SHOWN_CLASSES, LONGEST_WORDS = 24, 130
-# Colours of classes that fail, of those that pass, and of the one that is as the base run. Beyond them they come again.
-FAILING = ["#b3261e", "#e8590c", "#c2255c", "#9c36b5", "#e6a700", "#7a3e12"]
-PASSING = ["#2f6fce", "#0f9d8a", "#5b8c1a", "#3b4cc0", "#22a6d6", "#6a7f10"]
-AS_BASE = "#b8c0ca"
+SHOWN_CLASSES, LONGEST_WORDS, SHOWN_OF_CELL = 24, 130, 6
 STYLES = [
     (".number", "fill:#ffffff", "fill:#ffffff"),
-    (".on-base", "fill:#1d2430", "fill:#1d2430"),
+    (".dark", "fill:#000000", "fill:#000000"),
     (".gap", "fill:none;stroke:#d5dae1", "fill:none;stroke:#343c47"),
 ]
 
@@ -65,22 +62,6 @@ class Map:
         Picture(self, classes, rows, base).write(output)
 
 
-def colours_of(classes):
-    """A colour for each class, by its number."""
-    found = {}
-    failing = passing = 0
-    for it in classes:
-        if it.is_base:
-            found[it.number] = AS_BASE
-        elif it.verdict.passes:
-            found[it.number] = PASSING[passing % len(PASSING)]
-            passing += 1
-        else:
-            found[it.number] = FAILING[failing % len(FAILING)]
-            failing += 1
-    return found
-
-
 class Picture:
     """The map with its legend."""
 
@@ -120,15 +101,21 @@ class Picture:
         first = found[0][0]
         steps = f"step {column}" if self.map.width == 1 else \
             f"steps {column * self.map.width} to {min((column + 1) * self.map.width - 1, self.map.last)}"
-        told = "; ".join(f"class {it.number} ({it.verdict.text}): {rows} rows" for it, rows in found[:6])
+        told = "; ".join(f"class {it.number} ({it.verdict.text}): {counted(rows, 'row')}" for it, rows in found[:SHOWN_OF_CELL])
+        if len(found) > SHOWN_OF_CELL:
+            told += f"; and {counted(len(found) - SHOWN_OF_CELL, 'more class')}"
         title = f"{handler} before {steps}: {told if len(found) > 1 or self.map.width > 1 else words_of(first)}"
         left, top = self.left + column * self.cell, TOP + row * (CELL_HEIGHT + ROW_GAP)
         gap = 1 if self.cell >= 5 else 0
         shape = drawing.box(left, top, max(0.75, self.cell - gap), CELL_HEIGHT, "cell", title)
         output.line(shape.replace('class="cell"', f'fill="{self.colours[first.number]}"', 1))
         if self.cell >= max(LEAST_FOR_NUMBER, drawing.width_of(str(first.number)) + 4):
-            colour = "on-base" if first.is_base else "number"
+            colour = self.on_colour(first)
             output.line(drawing.label(left + self.cell / 2, top + 17, str(first.number), colour, "middle"))
+
+    def on_colour(self, it):
+        """How a number on the colour of a class is drawn."""
+        return "number" if has_light_text(self.colours[it.number]) else "dark"
 
     def write_axis(self, output):
         last = self.map.last + 1
@@ -144,14 +131,17 @@ class Picture:
         for it in self.classes[: self.shown]:
             shape = drawing.box(12, top - 11, 26, 15, "cell")
             output.line(shape.replace('class="cell"', f'fill="{self.colours[it.number]}"', 1))
-            output.line(drawing.label(25, top + 1, str(it.number), "on-base" if it.is_base else "number", "middle"))
-            words = f"{it.verdict.text}, {it.rows:,} row{'' if it.rows == 1 else 's'}: {what_differs(it)}"
+            output.line(drawing.label(25, top + 1, str(it.number), self.on_colour(it), "middle"))
+            words = f"{it.verdict.text}, {counted(it.rows, 'row')}: {what_differs(it)}"
+            if it.is_by_cause:
+                words = f"{it.name}, {counted(it.rows, 'row')}"
             shown = words if len(words) <= LONGEST_WORDS else words[: LONGEST_WORDS - 2] + ".."
             output.line(drawing.label(46, top + 1, shown, "" if it.verdict.passes else "fails"))
             top += 20
-        left_out = len(self.classes) - self.shown
-        notes = [f"and {left_out:,} more classes"] * bool(left_out)
-        notes += [f"{self.map.not_reached:,} points not reached"] * bool(self.map.not_reached)
+        left_out = self.classes[self.shown :]
+        rows = counted(sum(it.rows for it in left_out), "row")
+        notes = [f"and {counted(len(left_out), 'more class')} of {rows}, each in a colour of its own"] * bool(left_out)
+        notes += [f"{counted(self.map.not_reached, 'point')} not reached"] * bool(self.map.not_reached)
         if self.map.several:
             notes.append(f"{counted(self.map.several, 'row')} of several injections, each at its first")
         if notes:
@@ -159,4 +149,4 @@ class Picture:
 
 
 def words_of(it):
-    return f"class {it.number} ({it.verdict.text}): {what_differs(it)}"
+    return f"class {it.number}: {it.name}" if it.is_by_cause else f"class {it.number} ({it.verdict.text}): {what_differs(it)}"

@@ -5,7 +5,7 @@ import json
 
 from .report import Kind
 from .subticks import SubTicks
-from .timeline import LaneKind, WindowKind
+from .lanes import LaneKind, WindowKind
 
 TICK = 1000
 PROCESS = 1
@@ -55,7 +55,7 @@ def events_of(timeline, times, tracks):
 
 
 def bar_name(bar):
-    return f"{bar.doing.value}: {bar.word}" if bar.word else bar.doing.value
+    return f"{bar.doing.value}: {bar.call}" if bar.word else bar.doing.value
 
 
 def window_name(window):
@@ -68,6 +68,6 @@ def instant(note, stamp, track):
     if event.kind is not Kind.MARK:
         args.update(op=event.op, answer=event.answer)
     return {
-        "ph": "i", "name": event.short(), "cat": event.kind.value, "s": "t", "pid": PROCESS, "tid": track,
+        "ph": "i", "name": note.told, "cat": event.kind.value, "s": "t", "pid": PROCESS, "tid": track,
         "ts": stamp, "args": args,
     }

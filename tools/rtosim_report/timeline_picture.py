@@ -6,7 +6,7 @@ from typing import List
 
 from . import drawing
 from .injections import groups_of
-from .timeline import Doing, LaneKind, WindowKind
+from .lanes import Doing, LaneKind, WindowKind
 
 PLOT, RIGHT, TOP = 1080, 24, 58
 WIDEST_STEP, NARROWEST_STEP, MOST_BANDS = 54, 6, 16
@@ -19,16 +19,20 @@ STYLES = [
     (".waits", "fill:#f2c14e", "fill:#b98a1d"),
     (".sleeps", "fill:#cfe0d4", "fill:#3c5a48"),
     (".suspended", "fill:#e3c3e8", "fill:#68466f"),
+    (".ready", "fill:#8fb4e8", "fill:#3f6aa8"),
+    (".ended", "fill:#1d2430", "fill:#e3e7ee"),
     (".locked", "fill:#c2410c", "fill:#ff9c66"),
     (".held", "fill:#7c3aed", "fill:#b79bff"),
     (".note", "stroke:#1d2430;stroke-width:1.5", "stroke:#e3e7ee;stroke-width:1.5"),
     (".injection", "stroke:#b3261e;stroke-width:1.5;stroke-dasharray:4 3", "stroke:#ff8a80"),
     (".injected", "fill:#b3261e", "fill:#ff8a80"),
 ]
-CLASSES = {Doing.RUNS: "runs", Doing.WAITS: "waits", Doing.SLEEPS: "sleeps", Doing.SUSPENDED: "suspended"}
+CLASSES = {
+    Doing.RUNS: "runs", Doing.WAITS: "waits", Doing.SLEEPS: "sleeps", Doing.SUSPENDED: "suspended", Doing.READY: "ready",
+}
 LEGEND = [
     ("runs", "runs"), ("waits", "waits in a call"), ("sleeps", "sleeps"), ("suspended", "suspended"),
-    ("idle", "idle runs"), ("locked", "queue locked"), ("held", "scheduler held"), ("injected", "injected"),
+    ("ready", "Ready"), ("ended", "ended"), ("idle", "idle runs"), ("locked", "queue locked"), ("held", "scheduler held"), ("injected", "injected"),
 ]
 
 
@@ -107,7 +111,8 @@ def write(output, timeline):
 def write_legend(output, layout):
     at = 12.0
     for name, text in LEGEND:
-        output.line(drawing.box(at, 36, 11, 11, name))
+        top, height = (40, 4) if name == "ready" else (36, 11)
+        output.line(drawing.box(at, top, 5 if name == "ended" else 11, height, name))
         output.line(drawing.label(at + 16, 46, text, "quiet"))
         at += 16 + drawing.width_of(text) + 18
 
@@ -148,6 +153,7 @@ def write_lane_contents(output, layout):
         write_bars(output, layout, index, bars)
         write_windows(output, layout, index, [it for it in timeline.windows if it.lane == lane])
         write_notes(output, layout, index, [it for it in timeline.notes if it.lane == lane])
+        write_endings(output, layout, index, [at for there, at in timeline.endings if there == lane])
     write_failure(output, layout)
 
 
@@ -177,13 +183,14 @@ def bar_shape(layout, index, band, start, end, it, count):
     top = layout.bar_top(band, index)
     name = "idle" if it.lane.kind is LaneKind.IDLE else CLASSES[it.doing]
     clock = layout.timeline.clock
-    what = f"{it.lane.name} {it.doing.value}{' in ' + it.word if it.word else ''}"
+    what = f"{it.lane.name} {it.doing.value}{' in ' + it.call if it.word else ''}"
     title = f"{what}: steps {it.start} to {it.end - 1}, ticks {clock.at(it.start)} to {clock.at(it.end)}"
     if count > 1:
         title = f"{it.lane.name}: {count} turns in steps {start} to {end - 1}"
-    shape = drawing.box(left, top, max(right - left, LEAST_VISIBLE), BAR, name, title)
-    text = f"waits: {it.word}" if it.word else it.doing.value
-    if it.doing is not Doing.RUNS and drawing.width_of(text) + 6 < right - left:
+    is_ready = it.doing is Doing.READY
+    shape = drawing.box(left, top + 5 * is_ready, max(right - left, LEAST_VISIBLE), 4 if is_ready else BAR, name, title)
+    text = f"waits: {it.call}" if it.word else it.doing.value
+    if it.doing not in (Doing.RUNS, Doing.READY) and drawing.width_of(text) + 6 < right - left:
         shape += drawing.label((left + right) / 2, top + BAR - 3, text, "", "middle")
     return shape
 
@@ -199,26 +206,38 @@ def write_windows(output, layout, index, windows):
             output.line(drawing.box(left, top, max(right - left, LEAST_VISIBLE), 3, name, title))
 
 
+def write_endings(output, layout, index, boundaries):
+    """Where a task has ended."""
+    for boundary in boundaries:
+        band = layout.band_of(max(0, boundary - 1))
+        at, top = layout.across(band, boundary), layout.bar_top(band, index)
+        title = f"{layout.timeline.lanes[index].name} has ended, in step {boundary - 1}"
+        output.line(drawing.box(at, top, 4, BAR, "ended", title))
+
+
 def write_notes(output, layout, index, notes):
-    """A mark at each step with something told, and what is told above it where there is room."""
-    labels, marked, last_band = None, float("-inf"), None
-    for (step, is_injected), group in groupby(notes, key=lambda it: (it.step, it.is_injected)):
-        told = ", ".join(it.event.short() for it in group)
-        band = layout.band_of(step)
-        if band != last_band:
-            labels, marked, last_band = drawing.Labels(2), float("-inf"), band
-        at = layout.across(band, step + (0 if is_injected else 0.5))
+    """A mark at each step with something told, and what is told above it."""
+    for band, there in groupby(notes, key=lambda it: layout.band_of(it.step)):
+        labels = drawing.Labels(2, layout.left + PLOT + RIGHT - 4)
+        write_marks(output, layout, index, band, there, labels)
         top = layout.bar_top(band, index)
+        for row, it in labels.placed():
+            output.line(it.shape(top - 5 - row * LABEL_ROW))
+
+
+def write_marks(output, layout, index, band, notes, labels):
+    """The marks of one band. Those that can't be seen apart are one."""
+    marked, top = float("-inf"), layout.bar_top(band, index)
+    for (step, is_injected), group in groupby(notes, key=lambda it: (it.step, it.is_injected)):
+        told = ", ".join(it.told for it in group)
+        at = layout.across(band, step + (0 if is_injected else 0.5))
         if at - marked < LEAST_VISIBLE:
+            labels.fold(told)
             continue
         marked = at
         title = f"{layout.timeline.lanes[index].name}: {told}; {'before ' if is_injected else ''}step {step}"
         output.line(drawing.line(at, top - 3, at, top + BAR, "note", title))
-        left = min(at + (5 if is_injected else -2), layout.left + PLOT + RIGHT - 4 - drawing.width_of(told))
-        row = labels.place(left, told)
-        if row is not None:
-            colour = "injected" if is_injected else ""
-            output.line(drawing.label(left, top - 5 - row * LABEL_ROW, told, colour))
+        labels.add(at + (5 if is_injected else -2), told, "injected" if is_injected else "")
 
 
 def write_failure(output, layout):

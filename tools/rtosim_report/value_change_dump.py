@@ -6,7 +6,7 @@ from collections import defaultdict
 
 from .report import Kind
 from .subticks import SubTicks
-from .timeline import Doing, LaneKind, WindowKind
+from .lanes import Doing, LaneKind, WindowKind
 
 WORD = 32
 FIRST, CODES = 33, 94
@@ -138,8 +138,9 @@ def add_doing(dump, times, scope, bars):
     runs = dump.signal(scope, "runs")
     away = dump.signal(scope, "waits") if scope != "idle" else None
     for it in bars:
-        signal = runs if it.doing is Doing.RUNS else away
-        dump.while_on(signal, times.at(it.start), times.at(it.end))
+        if it.doing is not Doing.READY:
+            signal = runs if it.doing is Doing.RUNS else away
+            dump.while_on(signal, times.at(it.start), times.at(it.end))
 
 
 def add_answers(dump, times, lane, notes):

@@ -1,0 +1,138 @@
+"""What a task does between its turns on the processor: waits, sleeps, is suspended or is Ready, as far as it is known; and where it ends.
+
+That a task waits in a call is concluded: it left the processor after the silent steps of such a call, and completes one in its first
+step when it is back. With the application its op is known instead."""
+import bisect
+from typing import List, Tuple
+
+from .lanes import Bar, Doing, Lane
+from .op_times import OpTimes
+from .report import Kind
+from .suspensions import known_stretches
+from .windows import SILENT_STEPS
+
+UNNAMED = "(not named)"
+SLEEPS = ("delay", "delay_until")
+
+
+class AwayTimes:
+    """The times of one task."""
+
+    def __init__(self, builder, lane, turns, notes, script, changes):
+        self.builder, self.lane, self.turns, self.notes, self.changes = builder, lane, turns, notes, changes
+        self.steps = [it.step for it in notes]
+        self.endings: List[Tuple[Lane, int]] = []
+        ops = OpTimes(script, turns, notes) if script is not None else None
+        self.script, self.ops = script, ops if ops is not None and ops.is_known else None
+        self.last_op = {it.end: it for it in self.ops.stretches} if self.ops else {}
+
+    def bars(self):
+        """From the last turn to the first: a turn without a line may be a try in vain of the call that a later one ends."""
+        found, word = [], None
+        for at in range(len(self.turns) - 1, -1, -1):
+            turn = self.turns[at]
+            back = self.turns[at + 1] if at + 1 < len(self.turns) else None
+            doing, word = self.after(turn, back, word)
+            end = back.start if back else self.builder.head.steps
+            found += self.known_bars(turn.end, end, doing, word or "", back is not None)
+        return found + self.before_the_first()
+
+    def known_bars(self, start, end, doing, word, comes_back):
+        object_of_wait = self.object_at(start) if doing is Doing.WAITS else ""
+        for first, last, done in known_stretches(self.lane.name, self.changes, start, end, doing, comes_back):
+            if done is not None and last > first:
+                is_wait = done is Doing.WAITS
+                yield Bar(self.lane, first, last, done, word if is_wait else "", object_of_wait if is_wait else "")
+
+    def object_at(self, boundary):
+        """What the call is about that the task is in when it leaves the processor."""
+        stretch = self.last_op.get(boundary)
+        op = self.script.op(stretch.op) if stretch is not None else None
+        return op.object or "" if op is not None else ""
+
+    def before_the_first(self):
+        """All tasks are Ready at reset; but who runs there isn't always known."""
+        is_first_known = UNNAMED not in self.builder.lanes
+        if not self.turns or not is_first_known or self.lane.name == UNNAMED:
+            return []
+        return list(self.known_bars(0, self.turns[0].start, Doing.READY, "", True))
+
+    def notes_in(self, turn):
+        first = bisect.bisect_left(self.steps, turn.start)
+        return self.notes[first : bisect.bisect_left(self.steps, turn.end)]
+
+    def after(self, turn, back, later_word):
+        """What the task does after this turn, and in which call."""
+        notes = self.notes_in(turn)
+        last = notes[-1].event if notes else None
+        has_told = last is not None and last.step == turn.end - 1 and last.kind is Kind.CALL
+        if self.ops is not None and turn.end > turn.start:
+            return self.after_op(self.last_op[turn.end], turn, back)
+        if has_told:
+            return self.after_call(last, turn, back), None
+        word = self.awaited(back, later_word) if back else "?"
+        quiet_from = last.step + 1 if last is not None else turn.start
+        needed = SILENT_STEPS.get(word, max(SILENT_STEPS.values()))
+        least = SILENT_STEPS.get(word, min(SILENT_STEPS.values()))
+        is_over = back is None and self.builder.head.verdict.passes
+        silent = self.builder.clock.silent_steps(quiet_from, turn.end)
+        if silent + self.may_end_later(turn) < least:
+            return self.ready_or_ended(turn, back), None
+        if word is None or is_over or silent < needed or turn.end - turn.start < needed - 1:
+            return None, None
+        return Doing.WAITS, word if back else None
+
+    def after_op(self, stretch, turn, back):
+        """The same, where the op is known that the task is in."""
+        op = self.script.op(stretch.op)
+        if stretch.is_complete and back is None and self.ops.walker.has_ended and not self.may_fail(op, turn):
+            self.endings.append((self.lane, turn.end))
+            return None, None
+        if stretch.is_complete and op.word in SLEEPS:
+            sleeps = self.notes_in(turn)[-1].event.answer == 1 if op.word == "delay_until" else int(op.words[1]) > 0
+            return Doing.SLEEPS if sleeps else Doing.READY, None
+        if stretch.is_complete or op.word not in SILENT_STEPS:
+            return Doing.READY, None
+        taken = turn.end - max(turn.start, stretch.start)
+        if taken >= SILENT_STEPS[op.word]:
+            return Doing.WAITS, op.word
+        return None if taken == SILENT_STEPS[op.word] - 1 else Doing.READY, None
+
+    def may_end_later(self, turn):
+        """Whether it isn't certain that an injection ends the turn: while the scheduler is held the processor changes after the step."""
+        return any(it.step == turn.end for it in self.builder.injections())
+
+    def may_fail(self, op, turn):
+        """Whether the op of the run's last step may be one that isn't done: of two checks that fail in one step one is told."""
+        head = self.builder.head
+        return head.verdict.task is not None and turn.end == head.steps and (op.word == "expect" or head.verdict.task == self.lane.name)
+
+    def ready_or_ended(self, turn, back):
+        """After a turn that ends with none of what lets a task wait: it is Ready if it comes back. Where the run passes it has ended
+        else; elsewhere it isn't known."""
+        if back is None and self.builder.head.verdict.passes:
+            self.endings.append((self.lane, turn.end))
+        return Doing.READY if back is not None else None
+
+    def after_call(self, call, turn, back):
+        """A call that is told in the turn's last step: the task may sleep or be suspended by it. With a `delay` after which it doesn't
+        come back it has ended, if that was its last op."""
+        if call.word == "suspend" and call.answer == 1:
+            return Doing.SUSPENDED
+        end = back.start if back else self.builder.head.steps
+        has_time_passed = self.builder.clock.at(end) > self.builder.clock.at(turn.end)
+        is_sleep = call.word == "delay" or call.word == "delay_until" and call.answer == 1
+        if not is_sleep:
+            return self.ready_or_ended(turn, back)
+        if back is None and self.builder.head.verdict.passes:
+            self.endings.append((self.lane, turn.end))
+        return Doing.SLEEPS if back is not None and has_time_passed else None
+
+    def awaited(self, back, later_word):
+        """The call that ends in the first step of the turn, or in a later one if this one is a try in vain."""
+        notes = self.notes_in(back)
+        if not notes:
+            return later_word
+        first = notes[0].event
+        is_wait = first.kind is Kind.CALL and first.word in SILENT_STEPS and first.step == back.start
+        return first.word if is_wait else None

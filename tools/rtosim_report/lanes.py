@@ -1,0 +1,126 @@
+"""What a timeline is made of: lanes, what is done in them and when, what is told, and the clock.
+
+Times are boundaries: boundary b stands before step b, and boundary N after the last step."""
+import bisect
+import enum
+from dataclasses import dataclass, field
+from typing import List, Tuple
+
+from .report import Event, Head, Injection, Kind
+
+
+class Doing(enum.Enum):
+    RUNS = "runs"
+    WAITS = "waits"
+    SLEEPS = "sleeps"
+    SUSPENDED = "is suspended"
+    READY = "is ready"
+
+
+class LaneKind(enum.Enum):
+    TASK = "task"
+    IDLE = "idle"
+    HANDLER = "handler"
+
+
+class WindowKind(enum.Enum):
+    LOCKED = "the queue is locked"
+    HELD = "the scheduler is held"
+
+
+@dataclass(frozen=True)
+class Lane:
+    name: str
+    kind: LaneKind
+
+
+@dataclass(frozen=True)
+class Bar:
+    """What a task does from one boundary to another."""
+
+    lane: Lane
+    start: int
+    end: int
+    doing: Doing
+    word: str = ""
+    object: str = ""
+
+    @property
+    def call(self):
+        """The call that it waits in, with its object where that is known."""
+        return f"{self.word} {self.object}" if self.object else self.word
+
+
+@dataclass(frozen=True)
+class Note:
+    """A line that a lane tells at a step; an injected handler tells it at the boundary before."""
+
+    lane: Lane
+    boundary: int
+    event: Event
+    is_injected: bool
+    object: str = ""
+
+    @property
+    def step(self):
+        return self.event.step
+
+    @property
+    def told(self):
+        """What is told, without the name of the lane, and with the call's object where that is known."""
+        event = self.event
+        if event.kind is not Kind.CALL and event.kind is not Kind.ISR or not self.object:
+            return event.short()
+        return f"{event.word} {self.object} = {'none' if event.answer is None else event.answer}"
+
+
+@dataclass(frozen=True)
+class Window:
+    lane: Lane
+    start: int
+    end: int
+    kind: WindowKind
+
+
+@dataclass
+class Clock:
+    """The elapsed ticks at the boundaries: those that lines tell, and between them evenly many."""
+
+    boundaries: List[int]
+    ticks: List[int]
+    start: int = 0
+
+    def at(self, boundary):
+        return int(self.exactly(boundary))
+
+    def exactly(self, boundary):
+        at = bisect.bisect_right(self.boundaries, boundary) - 1
+        if at + 1 == len(self.boundaries):
+            return self.ticks[at]
+        first, last = self.boundaries[at], self.boundaries[at + 1]
+        return self.ticks[at] + (self.ticks[at + 1] - self.ticks[at]) * (boundary - first) / (last - first)
+
+    def silent_steps(self, start, end):
+        """How many of the steps between the two were no ticks."""
+        return end - start - (self.at(end) - self.at(start))
+
+
+@dataclass
+class Timeline:
+    head: Head
+    lanes: List[Lane]
+    bars: List[Bar]
+    notes: List[Note]
+    windows: List[Window]
+    clock: Clock
+    injections: Tuple[Injection, ...] = ()
+    endings: List[Tuple[Lane, int]] = field(default_factory=list)
+    is_presumed: bool = False
+
+    @property
+    def steps(self):
+        return self.head.steps
+
+    def title(self):
+        words = self.head.text()
+        return words + " (presumed)" if self.is_presumed else words

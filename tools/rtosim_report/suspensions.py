@@ -1,0 +1,55 @@
+"""Who is suspended when by another task. A report tells the call and not whom it is about; the application's scripts do."""
+from typing import List, NamedTuple, Optional
+
+from .lanes import Doing
+from .report import Kind
+
+
+class Change(NamedTuple):
+    """A `suspend` or a `resume` that changes something: when, of whom, and by whom. The task isn't always known."""
+
+    boundary: int
+    task: Optional[str]
+    is_suspend: bool
+    by: str
+
+    def may_be_of(self, name):
+        return self.task == name or self.task is None and self.by != name
+
+
+def changes_of(builder) -> List[Change]:
+    """Those of a run, in order. A task that leaves the processor in the step of its `suspend` has suspended itself."""
+    left_at = {(it.lane.name, it.end) for it in builder.turns}
+    found = []
+    for index, event in enumerate(builder.events):
+        if event.kind not in (Kind.CALL, Kind.ISR) or event.word not in ("suspend", "resume") or event.answer != 1:
+            continue
+        op = builder.application.op(event.name, event.op) if builder.application else None
+        task = op.object if op is not None else None
+        boundary = builder.boundary(index)
+        if task is None and event.word == "suspend" and (event.name, boundary) in left_at:
+            task = event.name
+        found.append(Change(boundary, task, event.word == "suspend", event.name))
+    return found
+
+
+def known_stretches(name, changes, bar_start, bar_end, doing, comes_back):
+    """The stretch in which a task does this, cut where it is suspended: from there on it is suspended, and Ready when it is resumed.
+    Where it may be suspended, and it isn't known, the rest is left out. Yields starts, ends and what is done."""
+    at = bar_start
+    for it in changes:
+        if not bar_start <= it.boundary < bar_end or not it.may_be_of(name):
+            continue
+        if it.task is not None:
+            yield at, it.boundary, doing
+            at, doing = it.boundary, Doing.SUSPENDED if it.is_suspend else Doing.READY
+        elif it.is_suspend and doing is not Doing.SUSPENDED and may_come_back(name, changes, it.boundary, bar_end, comes_back):
+            yield at, it.boundary, doing
+            return
+    yield at, bar_end, doing
+
+
+def may_come_back(name, changes, since, until, comes_back):
+    """Whether a task that is suspended then does what this one does: a `resume` alone lets it come back."""
+    resumes = (it for it in changes if not it.is_suspend and since < it.boundary <= until)
+    return not comes_back or any(it.may_be_of(name) for it in resumes)

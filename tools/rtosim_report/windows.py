@@ -1,0 +1,42 @@
+"""The stretches in which a queue is locked or the scheduler is held, as the waits and the calls of a run show them."""
+from .lanes import Doing, Window, WindowKind
+from .report import Kind
+
+# The calls on queues, semaphores and mutexes begin a wait in these steps: Start or Try, Decide, Place, Unlock, Leave.
+OBJECT_CALLS = {"send", "send_front", "receive", "peek", "take", "lock"}
+SILENT_STEPS = {**dict.fromkeys(OBJECT_CALLS, 5), "wait": 2}
+LOCKED_FROM, LOCKED_TO, HELD_FROM_OBJECT, HELD_FROM_BITS = 4, 1, 4, 2
+
+
+def windows_of_waits(waits, steps):
+    """A call that begins to wait holds the scheduler in its last steps before, and has the queue locked in some of them."""
+    found = []
+    for it in waits:
+        if it.doing is not Doing.WAITS:
+            continue
+        if it.word in OBJECT_CALLS:
+            found.append(Window(it.lane, it.start - LOCKED_FROM, it.start - LOCKED_TO, WindowKind.LOCKED))
+            found.append(Window(it.lane, it.start - HELD_FROM_OBJECT, it.start, WindowKind.HELD))
+        elif it.word == "wait":
+            found.append(Window(it.lane, it.start - HELD_FROM_BITS, it.start, WindowKind.HELD))
+    return [it for it in found if 0 <= it.start < it.end <= steps]
+
+
+def windows_of_calls(notes, steps):
+    """`set` holds the scheduler in its two steps; a task does from its first `suspend_all` to its last `resume_all`."""
+    found, depth, since, holder = [], 0, 0, None
+    for it in notes:
+        word = it.event.word if it.event.kind is Kind.CALL else None
+        if word == "set":
+            found.append(Window(it.lane, max(0, it.step - 1), it.step + 1, WindowKind.HELD))
+        elif word == "suspend_all":
+            depth += 1
+            if depth == 1:
+                since, holder = it.step + 1, it.lane
+        elif word == "resume_all" and depth:
+            depth -= 1
+            if depth == 0:
+                found.append(Window(holder, since, it.step + 1, WindowKind.HELD))
+    if depth:
+        found.append(Window(holder, since, steps, WindowKind.HELD))
+    return found
