@@ -23,7 +23,7 @@ LOST = f"{ROOT}/examples/lost_wake_up.report"
 RACE = f"{ROOT}/examples/timeout_race.report"
 KINDS = ("pass", "check", "misuse", "ticks", "steps", "stuck")
 COMMANDS = (["classes"], ["show", "0"], ["json"], ["junit"], ["junit", "--rows"], ["svg", "--row", "0"], ["svg", "--campaign"],
-            ["perfetto", "--row", "0"], ["vcd", "--row", "0"])
+            ["perfetto", "--row", "0"], ["vcd", "--row", "0"], ["html"])
 HEAD = b"base: pass in 1 steps, 0 ticks\n"
 RUN = """base: stuck in 12 steps, 4 ticks
 0 4294967295 call a 0 send_front = 1

@@ -195,6 +195,12 @@ def workers(word):
     return word if word == "auto" else str(int(word))
 
 
+def do_html(job, output):
+    from .page import write_page
+
+    write_page(output, job)
+
+
 def add_common(parser):
     parser.add_argument("report", nargs="?", metavar="REPORT", help="a file; else standard input is read")
     help_text = "the application: of its texts, and without REPORT the program is run on it"
@@ -260,6 +266,9 @@ def add_formats(commands):
     which.add_argument("--row", type=int, metavar="N", help="of this row, not of the base run")
     which.add_argument("--campaign", action="store_true", help="of all points, by class")
     parser.set_defaults(do=do_svg, about_a_run=True)
+    parser = commands.add_parser("html", help="a page to look through a campaign: the map, the classes, rows beside the base run")
+    add_common(parser)
+    parser.set_defaults(do=do_html)
     for name, do, help_text in (
         ("perfetto", do_perfetto, "a run as a Chrome trace, for ui.perfetto.dev"),
         ("vcd", do_vcd, "a run as a value change dump, for GTKWave and PulseView"),

@@ -4,8 +4,9 @@ Times are boundaries: boundary b stands before step b, and boundary N after the 
 import bisect
 import enum
 from dataclasses import dataclass, field
-from typing import List, Tuple
+from typing import Dict, List, Tuple
 
+from .op_times import Stretch
 from .report import Event, Head, Injection, Kind
 
 
@@ -115,6 +116,7 @@ class Timeline:
     clock: Clock
     injections: Tuple[Injection, ...] = ()
     endings: List[Tuple[Lane, int]] = field(default_factory=list)
+    ops: Dict[Lane, List[Stretch]] = field(default_factory=dict)
     is_presumed: bool = False
 
     @property

@@ -153,12 +153,12 @@ class Builder:
 
     def build(self):
         self.walk()
-        waits, endings = self.away()
+        waits, endings, ops = self.away()
         bars = [it for it in self.turns if it.end > it.start] + waits
         used = {it.lane for it in bars} | {it.lane for it in self.notes}
         lanes = [it for it in self.lanes.values() if it in used or it.name != UNNAMED]
         return Timeline(self.head, lanes, bars, self.notes, self.windows(waits), self.clock, self.injections(),
-                        endings=endings)
+                        endings, ops)
 
     def injections(self):
         """Those that come: the first one where the point is reached, a later one where the run isn't over before its step."""
@@ -181,8 +181,8 @@ class Builder:
         self.turns.append(Bar(self.lanes[runner], since, self.head.steps, Doing.RUNS))
 
     def away(self):
-        """What the tasks do between their turns, as far as it is known, and where they end."""
-        found, endings = [], []
+        """What the tasks do between their turns, as far as it is known, where they end, and which ops they are in."""
+        found, endings, ops = [], [], {}
         changes = changes_of(self)
         for name, lane in self.lanes.items():
             if lane.kind is LaneKind.TASK:
@@ -192,7 +192,9 @@ class Builder:
                 times = AwayTimes(self, lane, turns, notes, script, changes)
                 found += times.bars()
                 endings += times.endings
-        return found, endings
+                if times.ops is not None:
+                    ops[lane] = times.ops.stretches
+        return found, endings, ops
 
     def windows(self, waits):
         return windows_of_waits(waits, self.head.steps) + windows_of_calls(self.notes, self.head.steps)

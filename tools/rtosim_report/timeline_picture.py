@@ -16,7 +16,7 @@ STYLES = [
     (".runs", "fill:#2f6fce", "fill:#5c9bf5"),
     (".on-bar", "fill:#ffffff", "fill:#0c1420"),
     (".idle", "fill:#a9b3c0", "fill:#5b6573"),
-    (".waits", "fill:#f2c14e", "fill:#b98a1d"),
+    (".waits", "fill:#f2c14e", "fill:#7a5a10"),
     (".sleeps", "fill:#cfe0d4", "fill:#3c5a48"),
     (".suspended", "fill:#e3c3e8", "fill:#68466f"),
     (".ready", "fill:#8fb4e8", "fill:#3f6aa8"),

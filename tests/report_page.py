@@ -1,0 +1,122 @@
+"""Cases of tests/report: what a page holds. That a browser shows it is tried by tests/page."""
+import json
+import os
+import re
+import shutil
+
+from cases import case, equal, holds
+from reports import LOST, RACE, ROOT, RUN, good, good_and_quick, quick, read, report_of, source_of, total_of
+
+OLD, NEW, SUSPENDS = (f"{ROOT}/tests/{it}" for it in ("of_versions/old", "of_versions/new", "of_suspends/suspends"))
+EXAMPLE = f"{ROOT}/examples/lost_wake_up"
+
+
+def page(name, *words):
+    return good_and_quick("html", f"{name}.report", "--application", f"{name}.toml", "--base", f"{name}.out", *words)
+
+
+def data_of(text):
+    found = re.search(r'<script type="application/json" id="data">(.*?)</script>', text, re.DOTALL)
+    return json.loads(found[1])
+
+
+def lines_of(data, numbers):
+    triples = zip(numbers[::3], numbers[1::3], numbers[2::3])
+    return "".join(f"{step} {tick} {data['texts'][text]}\n" for step, tick, text in triples)
+
+
+def points_of(data):
+    """Each row's step and handler, with the index of its class."""
+    found, numbers = {}, data["points"]
+    for row, step, handler, index, count in zip(*(numbers[at::5] for at in range(5))):
+        for more in range(count):
+            found[row + more] = step + more, data["handlers"][handler], index
+    return found
+
+
+@case
+def a_page_has_all_points_and_the_first_rows_whole():
+    for name in (EXAMPLE, OLD, SUSPENDS, f"{ROOT}/tests/of_several/two_presses"):
+        data = data_of(page(name))
+        runs = list(source_of(read(f"{name}.report").decode()).reader())
+        firsts = {it["row"]: it for it in data["firsts"]}
+        counts = {}
+        for run in runs:
+            first = firsts.get(run.head.row)
+            assert not first or (first["head"], lines_of(data, first["lines"])) == (run.head.text(), run.text.decode())
+        for row, (step, handler, index) in points_of(data).items():
+            equal((step, handler), tuple(runs[row].head.point[0]))
+            counts[index] = counts.get(index, 0) + 1
+        equal(len(points_of(data)) + len(data["missed"]), len(runs))
+        equal([it["rows"] for it in data["classes"]], [counts.get(it["index"], 0) + it["missed"] for it in data["classes"]])
+        words = [f"{name}.report", "--application", f"{name}.toml", "--base", f"{name}.out"]
+        equal([it["name"] for it in data["classes"]], good_and_quick("classes", "--names", *words).splitlines())
+        equal(lines_of(data, data["base"]["lines"]), read(f"{name}.out").decode().partition("\n")[2])
+        assert {it["row"] for it in data["firsts"]} == {min(row for row, it in points_of(data).items() if it[2] == there["index"])
+                                                        for there in data["classes"] if counts.get(there["index"])} | {
+            it[0] for it in data["missed"]}
+
+
+@case
+def a_page_asks_for_nothing():
+    text = page(EXAMPLE)
+    urls = set(re.findall(r"[a-z]+://[^\s\"'`]+", text))
+    equal(urls, {"http://www.w3.org/2000/svg"})
+    assert not re.search(r"\b(src|href)=", text.split('id="data"')[0]) and "@import" not in text and "url(" not in text
+    equal(text.count("<script"), 2)
+    os.mkdir("<")
+    shutil.copy(f"{EXAMPLE}.toml", "</script><!-- b.toml")
+    odd = good_and_quick("html", f"{EXAMPLE}.report", "--application", "</script><!-- b.toml", "--base", f"{EXAMPLE}.out")
+    equal((odd.count("</script>"), odd.count("<!--")), (text.count("</script>"), 0))
+    equal(data_of(odd)["title"], "</script><!-- b.toml: 20 rows")
+    equal(text, page(EXAMPLE))
+
+
+@case
+def a_link_to_a_class_lasts():
+    links = [[(it["name"], it["link"]) for it in data_of(page(name))["classes"] if it["fails"]] for name in (OLD, NEW)]
+    equal(*map(sorted, links))
+    assert all(re.fullmatch(r"[a-z0-9-]+-[0-9a-f]{8}", link) for _, link in links[0])
+
+
+@case
+def ops_of_scripts_are_at_their_steps():
+    """Each call's line stands in the last step of its op, for every task whose script is known."""
+    for name in (EXAMPLE, OLD, SUSPENDS):
+        data = data_of(page(name))
+        for first in data["firsts"]:
+            lanes, told = first["lanes"], lines_of(data, first["lines"]).splitlines()
+            ops = {lanes["names"][lane][0]: list(zip(*(numbers[at::3] for at in range(3)))) for lane, numbers in lanes["ops"]}
+            calls = [it.split() for it in told if it.split()[2] == "call"]
+            for step, _, _, task, op, *_ in calls:
+                assert any(end == int(step) + 1 and there == int(op) for _, end, there in ops[task]), (name, first["head"], step, task)
+            for task, stretches in ops.items():
+                runs = [it for it in lanes["bars"] if lanes["names"][it[0]][0] == task and it[3] == "runs"]
+                equal(sum(end - start for start, end, _ in stretches), sum(it[2] - it[1] for it in runs))
+
+
+@case
+def pages_of_odd_reports():
+    empty = data_of(good_and_quick("html", text=total_of([])))
+    equal((empty["rows"], empty["classes"], empty["base"]), (0, [], None))
+    alone = data_of(good_and_quick("html", text=RUN))
+    equal((alone["rows"], alone["base"]["head"]), (0, RUN.partition("\n")[0]))
+    cut = "".join(read(RACE).decode().splitlines(True)[:9])
+    status, out, _ = quick("html", "--partial", text=cut)
+    equal((status, data_of(out)["rows"]), (0, 1))
+    part = data_of(good_and_quick("html", RACE))
+    holds(part["base"]["words"], "presumed")
+    equal(part["command"], {"show": RACE, "base": ""})
+    long = [(0, "h", True, "stuck in 30001 steps, 4 ticks", [f"{step} 0 mark a 1\n" for step in range(30_000)])]
+    equal(data_of(good_and_quick("html", text=report_of(long)))["firsts"][0]["tooLong"], 30_000)
+
+
+@case
+def a_page_of_many_rows_is_small():
+    end = "stuck in 60000 steps, 4 ticks"
+    rows = [(step, "h", True, end, [f"{step} 1 isr h 0 send = {int(step % 977 > 9)}\n"]) for step in range(50_000)]
+    text = good_and_quick("html", text=report_of(rows))
+    assert len(text) < 200_000, len(text)
+    equal(sum(it["rows"] for it in data_of(text)["classes"]), 50_000)
+    equal(len(points_of(data_of(text))), 50_000)
+    assert good("html", LOST, "-o", "page.html") == "" and read("page.html").startswith(b"<!doctype html>")

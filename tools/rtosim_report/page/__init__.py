@@ -1,0 +1,34 @@
+"""A campaign as one page: a file without links to others, that a browser opens. Its texts, styles and code are beside this file."""
+import os
+
+from .content import Content
+from .embedding import escaped
+
+HERE = os.path.dirname(os.path.realpath(__file__))
+SCRIPTS = ("model.js", "map.js", "lanes.js", "detail.js", "page.js")
+
+
+def write_page(output, job):
+    """Reads the whole report, and writes the page."""
+    content = Content(job)
+    for part in template_parts():
+        if part == "STYLE":
+            output.write(read_part("page.css"))
+        elif part == "SCRIPT":
+            output.write("".join(map(read_part, SCRIPTS)))
+        elif part == "DATA":
+            content.write(output)
+        elif part == "TITLE":
+            output.write(escaped(content.title))
+        else:
+            output.write(part)
+
+
+def template_parts():
+    """The page's frame, cut at its four places."""
+    return read_part("page.html").split("@@")
+
+
+def read_part(name):
+    with open(os.path.join(HERE, name), encoding="utf-8") as it:
+        return it.read()

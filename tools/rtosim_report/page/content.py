@@ -1,0 +1,149 @@
+"""What the page is of: the classes with their first rows whole, all points by class, the base run, the scripts.
+
+Texts that come again are kept once. Rows that follow each other with one class, handler and rising steps are told as one."""
+import hashlib
+import re
+from array import array
+
+from ..colours import colours_of, has_light_text
+from ..escaping import plain, shell_word
+from ..show import all_pairs
+from ..table import base_words, span, words_of
+from .. import timeline
+from .embedding import json_text
+
+# A run of more lines is too long for a page.
+MOST_LINES = 20_000
+LONGEST_SLUG = 60
+
+
+class Texts:
+    """Each text once, by a number."""
+
+    def __init__(self):
+        self.numbers = {}
+
+    def number(self, text):
+        return self.numbers.setdefault(text, len(self.numbers))
+
+
+class Points:
+    """All rows in order: of each stretch its first row, the first step, the handler, the class, and how many rows it has."""
+
+    def __init__(self):
+        self.handlers, self.stretches = Texts(), array("q")
+        self.several, self.missed = [], []
+
+    def add(self, head, class_index):
+        if not head.is_reached:
+            self.missed.append([head.row, head.point.text(), class_index])
+            return
+        if not head.point.is_single:
+            self.several.append([head.row, head.point.text(), class_index])
+        step, handler = head.point[0].step, self.handlers.number(head.point[0].handler)
+        last = self.stretches[-5:]
+        if last and [head.row, step, handler, class_index] == [last[0] + last[4], last[1] + last[4], *last[2:4]]:
+            self.stretches[-1] += 1
+        else:
+            self.stretches.extend((head.row, step, handler, class_index, 1))
+
+
+class Content:
+    """Reads a job's report."""
+
+    def __init__(self, job):
+        self.job = job
+        self.texts, self.points, self.firsts, self.indices = Texts(), Points(), [], {}
+        self.classes, self.rows = job.classify(self.see)
+        name = job.given.application or job.given.report
+        self.title = f"{plain(name)}: {self.rows:,} rows" if name not in (None, "-") else f"{self.rows:,} rows"
+
+    def see(self, run, found):
+        """Takes a row with its class; the first one of a class whole."""
+        index = self.indices.setdefault(id(found), len(self.indices))
+        if index == len(self.firsts):
+            self.firsts.append(json_text(self.run_content(run)))
+        self.points.add(run.head, index)
+
+    def run_content(self, run):
+        lines = run.checked_lines()
+        content = {"head": run.head.text(), "row": run.head.row}
+        if len(lines) > MOST_LINES:
+            return {**content, "tooLong": len(lines)}
+        marks = "".join(it.mark.value for it in all_pairs(run, self.job.base))
+        found = timeline.of_row(run, self.job.base, self.job.texts)
+        return {**content, "marks": marks, "lines": self.lines_content(lines), "lanes": self.lanes_content(found)}
+
+    def lines_content(self, lines):
+        """Step, tick and text of each, one after the other."""
+        return [it for step, tick, what in lines for it in (int(step), int(tick), self.texts.number(what.decode()))]
+
+    def lanes_content(self, found):
+        lanes = {it: at for at, it in enumerate(found.lanes)}
+        text, clock = self.texts.number, found.clock
+        return {
+            "steps": found.steps, "names": [[it.name, it.kind.value] for it in found.lanes],
+            "bars": [[lanes[it.lane], it.start, it.end, it.doing.name.lower(), it.call] for it in found.bars],
+            "notes": [[lanes[it.lane], it.step, int(it.is_injected), text(it.told)] for it in found.notes],
+            "windows": [[lanes[it.lane], it.start, it.end, it.kind.name.lower()] for it in found.windows],
+            "endings": [[lanes[lane], at] for lane, at in found.endings], "injections": [[it.step, it.handler] for it in found.injections],
+            "clock": [clock.start, clock.boundaries, clock.ticks],
+            "ops": [[lanes[lane], [at for it in ops for at in (it.start, it.end, it.op)]] for lane, ops in found.ops.items()],
+        }
+
+    def base_content(self):
+        base = self.job.base
+        if base is None:
+            return None
+        content = {"words": base_words(base), "lines": [], "head": base.head.text() if base.head else None}
+        if len(base.lines) > MOST_LINES:
+            return {**content, "tooLong": len(base.lines)}
+        content["lines"] = self.lines_content(base.lines)
+        if base.head is not None:
+            content["lanes"] = self.lanes_content(timeline.of_base(base, self.job.texts))
+        return content
+
+    def class_content(self, it, colour):
+        return {
+            "index": self.indices[id(it)], "number": it.number, "name": it.name, "link": link_of(it.name), "words": words_of(it),
+            "verdict": it.verdict.text, "fails": not it.verdict.passes, "isBase": it.is_base, "rows": it.rows,
+            "missed": it.not_reached, "steps": span(it.fewest_steps, it.most_steps), "ticks": span(it.fewest_ticks, it.most_ticks),
+            "handlers": list(it.handlers), "colour": colour, "isLight": has_light_text(colour),
+        }
+
+    def command_content(self):
+        """What the command of a row is made of."""
+        given = self.job.given
+        if given.application is not None:
+            return {"run": f"rtosim run {shell_word(given.application)}"}
+        if given.report in (None, "-"):
+            return {}
+        return {"show": shell_word(given.report), "base": f" --base {shell_word(given.base)}" if given.base else ""}
+
+    def scripts_content(self):
+        texts = self.job.texts
+        scripts = [*texts.tasks.values(), *texts.handlers.values()] if texts else []
+        return [[it.name, it.name in texts.tasks, [op.text for op in it.ops]] for it in scripts]
+
+    def write(self, output):
+        """The object, one key a line. The texts are last, when all of them are known."""
+        colours = colours_of(self.classes)
+        points = self.points
+        parts = {
+            "title": self.title, "rows": self.rows, "command": self.command_content(), "scripts": self.scripts_content(),
+            "base": self.base_content(), "classes": [self.class_content(it, colours[it.number]) for it in self.classes],
+            "handlers": list(points.handlers.numbers), "points": list(points.stretches), "several": points.several,
+            "missed": points.missed,
+        }
+        output.line("{")
+        for key, value in parts.items():
+            output.line(f'"{key}":{json_text(value)},')
+        output.line('"firsts":[' + ",\n".join(self.firsts) + "],")
+        output.line(f'"texts":{json_text(list(self.texts.numbers))}')
+        output.line("}")
+
+
+def link_of(name):
+    """What a link to a class of this name ends with."""
+    slug = re.sub(r"[^A-Za-z0-9]+", "-", name).strip("-").lower()[:LONGEST_SLUG]
+    return f"{slug}-{hashlib.blake2b(name.encode(), digest_size=4).hexdigest()}"

@@ -1,0 +1,11 @@
+"""Texts and values as they may stand within a page."""
+import json
+
+
+def escaped(text):
+    return text.replace("&", "&amp;").replace("<", "&lt;")
+
+
+def json_text(value):
+    """A value as JSON that may stand within an element `script`."""
+    return json.dumps(value, separators=(",", ":")).replace("</", "<\\/").replace("<!--", "<\\u0021--")

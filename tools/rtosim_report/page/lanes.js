@@ -1,0 +1,150 @@
+// A run's lanes as a drawing, with the cursor over them.
+
+const BAR = 14, LABEL = 14, LANE_GAP = 12, PLOT_TOP = 22, WIDEST = 54, NARROWEST = 6, MOST_WIDE = 60000;
+const DOING = { runs: "runs", waits: "waits", sleeps: "sleeps", suspended: "is suspended", ready: "is Ready" };
+const LEGEND = [["runs", "runs"], ["waits", "waits in a call"], ["sleeps", "sleeps"], ["suspended", "suspended"], ["ready", "Ready"],
+  ["ended", "ended"], ["idle", "idle runs"], ["locked", "queue locked"], ["held", "scheduler held"], ["mark-injected", "injected"]];
+
+// The elapsed ticks at a boundary: those that are known, and between them evenly many.
+function tickAt([, boundaries, ticks], boundary) {
+  let at = boundaries.length - 1;
+  while (at > 0 && boundaries[at] > boundary) at -= 1;
+  if (at + 1 === boundaries.length) return ticks[at];
+  const share = (boundary - boundaries[at]) / (boundaries[at + 1] - boundaries[at]);
+  return Math.floor(ticks[at] + (ticks[at + 1] - ticks[at]) * share);
+}
+
+class Lanes {
+  constructor(run, width) {
+    this.run = run;
+    this.left = 22 + CHARACTER * Math.max(8, ...run.names.map(([name]) => name.length));
+    const plot = Math.max(300, width - this.left - 60);
+    this.stepWidth = Math.min(WIDEST, Math.max(plot / Math.max(1, run.steps), Math.min(NARROWEST, MOST_WIDE / Math.max(1, run.steps))));
+    this.tops = [];
+    let top = PLOT_TOP;
+    for (const [, kind] of run.names) {
+      this.tops.push(top + (kind === "idle" ? 0 : 2 * LABEL));
+      top += (kind === "idle" ? 0 : 2 * LABEL) + BAR + LANE_GAP;
+    }
+    this.bottom = top;
+    this.width = this.left + run.steps * this.stepWidth + 36;
+    this.svg = shape("svg", { width: this.width, height: top + 40, role: "img", "aria-label": "lanes of the run" });
+    this.draw();
+  }
+
+  across(boundary) {
+    return this.left + boundary * this.stepWidth;
+  }
+
+  stepAt(x) {
+    return Math.max(0, Math.min(this.run.steps - 1, Math.floor((x - this.left) / this.stepWidth)));
+  }
+
+  draw() {
+    this.run.names.forEach(([name], lane) => this.drawGround(name, lane));
+    this.drawAxis();
+    this.cursor = shape("rect", { class: "cursor", y: PLOT_TOP - 6, height: this.bottom - PLOT_TOP + 8, width: this.stepWidth, x: this.left });
+    this.svg.append(this.cursor);
+    this.run.bars.forEach(it => this.drawBar(...it));
+    this.run.windows.forEach(it => this.drawWindow(...it));
+    this.run.endings.forEach(([lane, at]) => this.svg.append(shape(
+      "rect", { class: "ended", x: this.across(at), y: this.tops[lane], width: 4, height: BAR }, null, `${this.run.names[lane][0]} has ended`)));
+    this.run.names.forEach((_, lane) => this.drawNotes(this.run.notes.filter(it => it[0] === lane), lane));
+    this.drawInjections();
+  }
+
+  drawGround(name, lane) {
+    const rows = this.run.names[lane][1] === "idle" ? 0 : 2 * LABEL;
+    const top = this.tops[lane] - rows - LANE_GAP / 2;
+    if (lane % 2 === 0) this.svg.append(shape("rect", { class: "stripe", x: 0, y: top, width: this.width, height: rows + BAR + LANE_GAP }));
+    this.svg.append(shape("text", { x: 8, y: this.tops[lane] + BAR - 3 }, name));
+  }
+
+  drawAxis() {
+    const { steps, clock } = this.run;
+    const widest = Math.max(steps.toLocaleString("en").length, (clock[0] + tickAt(clock, steps)).toLocaleString("en").length);
+    const interval = niceInterval((widest + 2) * CHARACTER / this.stepWidth);
+    this.svg.append(shape("text", { class: "quiet", x: 8, y: this.bottom + 14 }, "step"));
+    this.svg.append(shape("text", { class: "quiet", x: 8, y: this.bottom + 28 }, "tick"));
+    for (let step = 0; step <= steps; step += interval) {
+      const at = this.across(step), tick = (clock[0] + tickAt(clock, step)) % 2 ** 32;
+      this.svg.append(shape("line", { class: "rule", x1: at, x2: at, y1: PLOT_TOP - 6, y2: this.bottom + 2 }));
+      for (const [value, below] of [[step, 14], [tick, 28]]) {
+        this.svg.append(shape("text", { class: "quiet", x: at, y: this.bottom + below, "text-anchor": "middle" }, value.toLocaleString("en")));
+      }
+    }
+  }
+
+  drawBar(lane, start, end, doing, call) {
+    const [name, kind] = this.run.names[lane];
+    const style = kind === "idle" ? "idle" : doing, isReady = doing === "ready";
+    const what = call ? `waits: ${call}` : DOING[doing];
+    const width = Math.max(0.75, (end - start) * this.stepWidth);
+    const box = { class: style, x: this.across(start), y: this.tops[lane] + 5 * isReady, width, height: isReady ? 4 : BAR };
+    this.svg.append(shape("rect", box, null, `${name} ${what}: steps ${start} to ${end - 1}`));
+    if (doing === "runs" || isReady || what.length * CHARACTER + 6 > width) return;
+    const text = { x: this.across((start + end) / 2), y: this.tops[lane] + BAR - 3, "text-anchor": "middle", "data-ground": style };
+    this.svg.append(shape("text", text, what));
+  }
+
+  drawWindow(lane, start, end, kind) {
+    const below = kind === "locked" ? 1 : 5, what = kind === "locked" ? "the queue is locked" : "the scheduler is held";
+    const box = { class: kind, x: this.across(start), y: this.tops[lane] + BAR + below, width: (end - start) * this.stepWidth, height: 3 };
+    this.svg.append(shape("rect", box, null, `${what}: steps ${start} to ${end - 1}`));
+  }
+
+  // A mark at each step, and what is told above it; a text without room is counted behind one beside it.
+  drawNotes(notes, lane) {
+    const rows = [[], []], top = this.tops[lane];
+    const groups = new Map();
+    for (const [, step, isInjected, text] of notes) {
+      const key = `${step} ${isInjected}`;
+      groups.set(key, [...(groups.get(key) || []), data.texts[text]]);
+    }
+    for (const [key, texts] of groups) {
+      const [step, isInjected] = key.split(" ").map(Number), told = texts.join(", ");
+      const at = this.across(step + (isInjected ? 0 : 0.5));
+      this.svg.append(shape("line", { class: "note", x1: at, x2: at, y1: top - 3, y2: top + BAR }, null, `${told}; ${isInjected ? "before " : ""}step ${step}`));
+      const left = at + (isInjected ? 5 : -2);
+      const free = rows.find(row => !row.length || left >= row[row.length - 1].end + 6);
+      if (free) free.push({ left, told, isInjected, folded: 0, end: left + told.length * CHARACTER });
+      else {
+        const last = rows.map(row => row[row.length - 1]).sort((one, other) => one.end - other.end)[0];
+        last.folded += 1;
+        last.end = last.left + `${last.told} +${last.folded}`.length * CHARACTER;
+      }
+    }
+    rows.forEach((row, index) => row.forEach(it => this.svg.append(shape(
+      "text", { class: it.isInjected ? "injected" : "", x: it.left, y: top - 5 - index * LABEL }, it.told + (it.folded ? ` +${it.folded}` : "")))));
+  }
+
+  drawInjections() {
+    let free = -Infinity;
+    for (const [step, handler] of this.run.injections) {
+      const at = this.across(step), text = `${handler} before step ${step}`;
+      this.svg.append(shape("line", { class: "injection", x1: at, x2: at, y1: 0, y2: this.bottom + 2 }, null, text));
+      const left = Math.max(at + 5, free);
+      this.svg.append(shape("text", { class: "injected", x: left, y: 12 }, text));
+      free = left + text.length * CHARACTER + 12;
+    }
+  }
+
+  // Moves the cursor, and the lanes so that it is seen.
+  moveTo(step) {
+    this.cursor.setAttribute("x", this.across(step));
+    const box = this.svg.parentElement;
+    if (!box) return;
+    const at = this.across(step);
+    if (at < box.scrollLeft + this.left || at + this.stepWidth > box.scrollLeft + box.clientWidth) {
+      box.scrollLeft = at - box.clientWidth / 2;
+    }
+  }
+}
+
+function legend() {
+  return element("div", { class: "legend quiet" }, ...LEGEND.map(([style, text]) => {
+    const sign = shape("svg", { viewBox: "0 0 11 11", "aria-hidden": "true" });
+    sign.append(shape("rect", { class: style, width: style === "ended" ? 4 : 11, height: style === "ready" ? 4 : 11, y: style === "ready" ? 4 : 0 }));
+    return element("span", {}, sign, text);
+  }));
+}

@@ -1,0 +1,90 @@
+// What the page is of: the data, the classes in their order, the points of each handler, and what is chosen.
+
+const data = JSON.parse(document.getElementById("data").textContent);
+const STRETCH = 5;
+const byIndex = new Map(data.classes.map(it => [it.index, it]));
+const several = new Map(data.several.map(([row, point]) => [row, point]));
+
+// The stretches of points of each handler: the first row, the first step, the class and how many.
+const pointsOf = data.handlers.map(() => []);
+let lastStep = 0;
+for (let at = 0; at < data.points.length; at += STRETCH) {
+  const [row, step, handler, index, count] = data.points.slice(at, at + STRETCH);
+  pointsOf[handler].push({ row, step, count, found: byIndex.get(index) });
+  lastStep = Math.max(lastStep, step + count - 1);
+}
+
+// Of each handler and step the stretch of the class that stands first, by its place; -1 where there is none.
+const stretchAt = pointsOf.map(stretches => {
+  const found = new Int32Array(lastStep + 1).fill(-1);
+  stretches.forEach((it, at) => {
+    for (let step = it.step; step < it.step + it.count; step += 1) {
+      if (found[step] < 0 || it.found.number < stretches[found[step]].found.number) found[step] = at;
+    }
+  });
+  return found;
+});
+
+const state = { found: null, point: null, step: 0, failing: false, handler: "", words: "" };
+
+function counted(number, noun) {
+  return `${number.toLocaleString("en")} ${noun}${number === 1 ? "" : noun.endsWith("ss") ? "es" : "s"}`;
+}
+
+// Whether the filter leaves a class.
+function isShown(it) {
+  if (state.failing && !it.fails) return false;
+  if (state.handler && !it.handlers.includes(state.handler)) return false;
+  const text = [it.name, it.verdict, ...it.words].join("\n").toLowerCase();
+  return state.words.toLowerCase().split(/\s+/).every(word => text.includes(word));
+}
+
+// The row of a handler's point, of the class that stands first where there are several; or null.
+function pointAt(handler, step) {
+  const at = step >= 0 && step <= lastStep ? stretchAt[handler][step] : -1;
+  if (at < 0) return null;
+  const it = pointsOf[handler][at];
+  return { handler, step, row: it.row + step - it.step, found: it.found };
+}
+
+// The command that shows a row, or the entry for a campaign of several injections.
+function commandOf(row, pointText) {
+  const words = pointText.split(" ");
+  if (words.length > 2) return `points = ["${pointText}"]`;
+  const at = `--at ${words[0]} --handler ${words[1]}`;
+  if (data.command.run) return `${data.command.run} ${at}`;
+  return data.command.show ? `rtosim-report show ${row} ${data.command.show}${data.command.base}` : at;
+}
+
+// The point of a class's first row, as its head line has it.
+function pointOfHead(head) {
+  const found = /^row \d+ at (.*?): /.exec(head);
+  return found ? found[1] : "";
+}
+
+// The lines of a run, an object each.
+function linesOf(numbers) {
+  const found = [];
+  for (let at = 0; at < numbers.length; at += 3) {
+    const [step, tick, text] = numbers.slice(at, at + 3);
+    found.push({ step, text: `${step} ${tick} ${data.texts[text]}` });
+  }
+  return found;
+}
+
+function element(name, attributes = {}, ...children) {
+  const found = document.createElement(name);
+  for (const [key, value] of Object.entries(attributes)) {
+    if (value !== null && value !== undefined) found.setAttribute(key, value);
+  }
+  found.append(...children);
+  return found;
+}
+
+function shape(name, attributes = {}, text = null, title = null) {
+  const found = document.createElementNS("http://www.w3.org/2000/svg", name);
+  for (const [key, value] of Object.entries(attributes)) found.setAttribute(key, value);
+  if (text !== null) found.textContent = text;
+  if (title !== null) found.append(shape("title", {}, title));
+  return found;
+}
