@@ -1,0 +1,60 @@
+"""What rt said of the functions of a check: which are proved, which are refused, and by what."""
+import re
+
+FUNCTION = re.compile(r"^(?:so far: )?fn (\S+): (.*)")
+ERROR = re.compile(r"^(?:\./)?proofs/(\S+)/\w+\.antt:\d+:\d+: error: (.*)")
+OPEN_GOAL = re.compile(r"`search` did not prove `([^`]*)`")
+GOAL = re.compile(r"`([^`]*)`: ")
+# What rt says where a proof names what the body doesn't have, or lacks what the body has; and where it cites what is refused for that.
+STALE = re.compile(r"has no (?:field )?`|is not in scope|was not admitted|write the cases?\b")
+
+
+class Verdicts:
+    """What rt said of a check, which is heard line by line."""
+
+    def __init__(self):
+        self.proved, self.refused, self.unjudged = set(), {}, set()
+        self.lines, self.messages, self.has_verdict = [], [], False
+
+    def hear(self, line):
+        self.lines.append(line)
+        self.has_verdict = self.has_verdict or line.startswith(("logic=", "only="))
+        if judged := FUNCTION.match(line):
+            self.put(judged[1], judged[2])
+        if line.startswith(" ") and self.messages:
+            self.messages[-1] += " " + line.strip()
+        else:
+            self.messages.append(line)
+
+    def put(self, path, said):
+        """Keeps what rt says of a function: `proved`, `proved, may wait`, `no proof: it calls ..`, or any other."""
+        if re.match(r"proved\b", said):
+            self.proved.add(path)
+        elif " it calls " in said:
+            self.unjudged.add(path)
+        else:
+            self.refused[path] = said
+
+    def said_of(self, functions):
+        """What rt says of those of these functions that it refuses; of all that it refuses, where these are none."""
+        return [said for path, said in self.refused.items() if not functions or is_one(functions, [path])]
+
+    def errors_of(self, functions):
+        """The errors in the proofs of these functions; all in proofs, where these are none."""
+        found = [it for it in map(ERROR.match, self.messages) if it]
+        return [it[2] for it in found if not functions or is_one(functions, [it[1].replace("/", "::")])]
+
+    def goals(self, functions):
+        """The goals that refuse these functions: those that are open, and those for which something is handed over that doesn't show them."""
+        are_open = [it for said in self.said_of(functions) for it in OPEN_GOAL.findall(said)]
+        errors = [GOAL.match(it) for it in self.errors_of(functions) if not STALE.search(it)]
+        return [*dict.fromkeys(are_open + [it[1] if it else "?" for it in errors])]
+
+    def why_unjudged(self, functions):
+        """Of functions that are refused, but by no goal: the first thing that rt says of why."""
+        return [*self.errors_of(functions), *self.said_of(functions)][0]
+
+
+def is_one(functions, paths):
+    """Whether one of these functions is one of those that rt calls by these paths."""
+    return any(function.is_called(path) for function in functions for path in paths)
