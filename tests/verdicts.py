@@ -5,8 +5,8 @@ FUNCTION = re.compile(r"^(?:so far: )?fn (\S+): (.*)")
 ERROR = re.compile(r"^(?:\./)?proofs/(\S+)/\w+\.antt:\d+:\d+: error: (.*)")
 OPEN_GOAL = re.compile(r"`search` did not prove `([^`]*)`")
 GOAL = re.compile(r"`([^`]*)`: ")
-# What rt says where a proof names what the body doesn't have, or lacks what the body has; and where it cites what is refused for that.
-STALE = re.compile(r"has no (?:field )?`|is not in scope|was not admitted|write the cases?\b")
+# What rt says where a proof names what the body doesn't have, or lacks what the body has; and of what cites an answer that is refused.
+STALE = re.compile(r"has no (?:field )?`|is not in scope|write the cases?\b|was not admitted|w(?:as|ere) not checked")
 
 
 class Verdicts:
