@@ -3,8 +3,8 @@ import re
 
 FUNCTION = re.compile(r"^(?:so far: )?fn (\S+): (.*)")
 ERROR = re.compile(r"^(?:\./)?proofs/(\S+)/\w+\.antt:\d+:\d+: error: (.*)")
-OPEN_GOAL = re.compile(r"`search` did not prove `([^`]*)`")
-GOAL = re.compile(r"`([^`]*)`: ")
+OPEN_GOALS = re.compile(r"`search` did not prove (.*)")
+NAME = re.compile(r"`([^`]*)`")
 # What rt says where a proof names what the body doesn't have, or lacks what the body has; and of what cites an answer that is refused.
 STALE = re.compile(r"has no (?:field )?`|is not in scope|write the cases?\b|was not admitted|w(?:as|ere) not checked")
 
@@ -46,8 +46,9 @@ class Verdicts:
 
     def goals(self, functions):
         """The goals that refuse these functions: those that are open, and those for which something is handed over that doesn't show them."""
-        are_open = [it for said in self.said_of(functions) for it in OPEN_GOAL.findall(said)]
-        errors = [GOAL.match(it) for it in self.errors_of(functions) if not STALE.search(it)]
+        lists = [it[1] for it in map(OPEN_GOALS.search, self.said_of(functions)) if it]
+        are_open = [name for it in lists for name in NAME.findall(it)]
+        errors = [NAME.match(it) for it in self.errors_of(functions) if not STALE.search(it)]
         return [*dict.fromkeys(are_open + [it[1] if it else "?" for it in errors])]
 
     def why_unjudged(self, functions):
