@@ -1,11 +1,11 @@
 //! From the bytes of a file to the text of one run.
-ghost use Rattle.std.specs.Prelude.{◌≡◌, ℕ, List, [], Option, false, IfOk, MatchResult};
+ghost use Rattle.std.specs.Prelude.{◌≡◌, ℕ, List, [], Option, Some, false, IfOk, MatchResult};
 ghost use Rattle.model.specs.Run.{IsRun, IsRow};
 ghost use Rattle.campaign.specs.OneRun.{IsAsked, IsRunFault, ServesRun};
 ghost use Rattle.campaign.specs.Serving.{IsFileOf, Known};
 
 use crate::at::At;
-use crate::file::{ServeFault, app_of};
+use crate::file::{ServeFault, app_in, app_of};
 use byte_io::{Sink, Source};
 use model::{App, End, Limits, Memory, Meter, Plan, Point, Run};
 use report::{Title, write_run};
@@ -90,5 +90,20 @@ pub fn serve_run<R: Source, W: Sink>(
         (W.held writer.old) (W.held writer.new) (W.has_failed writer.new) result }
 {
     let app = app_of(alloc, reader)?;
+    serve_app(alloc, &app, writer, at)
+}
+
+/// The same of the file of these bytes.
+pub fn serve_run_of<W: Sink>(
+    alloc: Global,
+    bytes: &[u8],
+    writer: &mut W,
+    at: Option<At<'_>>,
+) -> Result<End, ServeFault>
+    requires { W.has_failed writer.old ≡ false }
+    ensures { ServesRun at.entry (Some bytes.now) false
+        (W.held writer.old) (W.held writer.new) (W.has_failed writer.new) result }
+{
+    let app = app_in(alloc, bytes)?;
     serve_app(alloc, &app, writer, at)
 }

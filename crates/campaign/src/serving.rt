@@ -1,5 +1,5 @@
 //! From the bytes of a file to the report of its campaign.
-ghost use Rattle.std.specs.Prelude.{◌≡◌, ◌≤◌, ℕ, List, Option, false, length, IfOk, MatchResult};
+ghost use Rattle.std.specs.Prelude.{◌≡◌, ◌≤◌, ℕ, List, Option, Some, false, length, IfOk, MatchResult};
 ghost use Rattle.model.specs.Campaign.{AreRows};
 ghost use Rattle.model.specs.Scripts.{most_points};
 ghost use Rattle.campaign.specs.Campaigns.{AreRowsOf, IsCampaignFault, ServesCampaign};
@@ -7,7 +7,7 @@ ghost use Rattle.campaign.specs.Serving.{IsFileOf, Known};
 ghost use Rattle.shelf.specs.Shelves.{IsShelf};
 
 use crate::campaign_report::Report;
-use crate::file::{ServeFault, app_of};
+use crate::file::{ServeFault, app_in, app_of};
 use crate::gate::{Gate, NoGate};
 use crate::making::campaign_from;
 use crate::options::Options;
@@ -138,4 +138,21 @@ pub fn serve<T: Threads + Wait + Sync, R: Source, W: Sink>(
         (W.held writer.old) (W.held writer.new) (W.has_failed writer.new) result }
 {
     serve_watched(rt, alloc, reader, writer, options, &NoGate)
+}
+
+/// The same as `serve_watched`, of the file of these bytes.
+pub fn serve_of<T: Threads + Wait + Sync, W: Sink, G: Gate + Sync>(
+    rt: &T,
+    alloc: Global,
+    bytes: &[u8],
+    writer: &mut W,
+    options: Options,
+    gate: &G,
+) -> Result<Totals, ServeFault>
+    requires { W.has_failed writer.old ≡ false }
+    ensures { ServesCampaign (Some bytes.now) false
+        (W.held writer.old) (W.held writer.new) (W.has_failed writer.new) result }
+{
+    let app = app_in(alloc, bytes)?;
+    serve_app(rt, alloc, &app, writer, options, gate)
 }

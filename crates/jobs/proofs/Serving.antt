@@ -47,12 +47,11 @@ within_file None bytes known few = tt
 within_file (Some all) bytes known few = rw (← known) few
 
 -- A job that is done over the bytes that were read of a file is done over the file.
-module _ (job : Job) (file : Option (List ℕ)) (bytes : List ℕ) (old new : Option (List ℕ)) (wf : Bool) (reads : is_unpaired job ≡ false → Known file bytes × (length bytes ≤ most_bytes)) where
+module _ (job : Job) (file : Option (List ℕ)) (bytes : List ℕ) (old new : Option (List ℕ)) (wf : Bool) (few : length bytes ≤ most_bytes) (reads : is_unpaired job ≡ false → Known file bytes) where
   does_whole : (outcome : Result Bool JobFault) → is_unpaired job ≡ false → Does job (Some bytes) false old new wf outcome
       → IfSome file (λ all. length all ≤ most_bytes) × Does job file false old new wf outcome
   does_whole outcome paired h =
-      let read = reads paired in
-      (within_file file bytes read.0 read.1, does_as_known (Some bytes) file (λ some same. rw same read.0) false old new wf job outcome h)
+      (within_file file bytes (reads paired) few, does_as_known (Some bytes) file (λ some same. rw same (reads paired)) false old new wf job outcome h)
 
   over_file : (outcome : Result Bool JobFault) → Does job (Some bytes) false old new wf outcome → DoesOverFile job file false old new wf outcome
   over_file (Ok passes) h = does_whole (Ok passes) h.0 h
@@ -67,8 +66,20 @@ module _ (job : Job) (file : Option (List ℕ)) (bytes : List ℕ) (old new : Op
   over_file (Err (Serve Write)) h = does_whole (Err (Serve Write)) h.0 h
 
 pub does_over_file : (job : Job) (file : Option (List ℕ)) (bytes : List ℕ) (rf : Bool) (old new : Option (List ℕ)) (wf : Bool) (outcome : Result Bool JobFault)
-    → ReadsFor job file rf bytes → Does job (Some bytes) false old new wf outcome → DoesOverFile job file rf old new wf outcome
-does_over_file job file bytes rf old new wf outcome reads h = rw reads.0 (over_file job file bytes old new wf reads.1 outcome h)
+    → ReadsFor job file rf bytes → length bytes ≤ most_bytes → Does job (Some bytes) false old new wf outcome → DoesOverFile job file rf old new wf outcome
+does_over_file job file bytes rf old new wf outcome reads few h = rw reads.0 (over_file job file bytes old new wf few reads.1 outcome h)
+
+-- So is one that is done over all bytes of a source.
+does_all : (job : Job) (input : Option (List ℕ)) (bytes : List ℕ) (old new : Option (List ℕ)) (wf : Bool) (outcome : Result Bool JobFault)
+    → (is_unpaired job ≡ false → Known input bytes) → Does job (Some bytes) false old new wf outcome → Does job input false old new wf outcome
+does_all job input bytes old new wf (Ok passes) reads h = does_as_known (Some bytes) input (λ some same. rw same (reads h.0)) false old new wf job (Ok passes) h
+does_all job input bytes old new wf (Err (Serve fault)) reads h = does_as_known (Some bytes) input (λ some same. rw same (reads h.0)) false old new wf job (Err (Serve fault)) h
+does_all job input bytes old new wf (Err TooLarge) reads h = absurd h
+does_all job input bytes old new wf (Err Unpaired) reads h = h
+
+pub does_over_all : (job : Job) (input : Option (List ℕ)) (bytes : List ℕ) (rf : Bool) (old new : Option (List ℕ)) (wf : Bool) (outcome : Result Bool JobFault)
+    → ReadsFor job input rf bytes → Does job (Some bytes) false old new wf outcome → Does job input rf old new wf outcome
+does_over_all job input bytes rf old new wf outcome reads h = rw reads.0 (does_all job input bytes old new wf outcome reads.1 h)
 
 -- A fault of reading is one of what is asked for.
 served_fault : (job : Job) (file : Option (List ℕ)) (rf wf : Bool) (old : Option (List ℕ)) (e : ReadFault) → (e ≡ read.Memory → file ≢ Some [])
@@ -82,12 +93,22 @@ served_fault (Campaign name options quiet) file rf wf old read.Failed some faile
 served_fault (Campaign name options quiet) file rf wf old read.Memory some failed working =
     campaign_serves_file_fault file rf wf old Memory (reading_failed file read.Memory some) failed refl working
 
+pub fails_to_read : (job : Job) (file : Option (List ℕ)) (rf wf : Bool) (old : Option (List ℕ)) (fault : ServeFault)
+    → FailsToRead job file rf (Serve fault) → wf ≡ false → Does job file rf old old wf (Err (Serve fault))
+fails_to_read job file rf wf old Read h working = (h.0, served_fault job file rf wf old read.Failed (λ e. absurd (cc)) h.1 working)
+fails_to_read job file rf wf old Memory h working = (h.0, served_fault job file rf wf old read.Memory (λ e. h.2) h.1 working)
+fails_to_read job file rf wf old NotToml h working = absurd h
+fails_to_read job file rf wf old (Load fault) h working = absurd h
+fails_to_read job file rf wf old UnknownHandler h working = absurd h
+fails_to_read job file rf wf old TooManyPoints h working = absurd h
+fails_to_read job file rf wf old Write h working = absurd h
+
 pub fails_over_file : (job : Job) (file : Option (List ℕ)) (rf wf : Bool) (old : Option (List ℕ)) (fault : JobFault)
     → FailsToRead job file rf fault → wf ≡ false → DoesOverFile job file rf old old wf (Err fault)
 fails_over_file job file rf wf old TooLarge h working = (h.0, h.2, h.1, Keeps-refl old, working)
 fails_over_file job file rf wf old Unpaired h working = absurd h
-fails_over_file job file rf wf old (Serve Read) h working = (h.0, served_fault job file rf wf old read.Failed (λ e. absurd (cc)) h.1 working)
-fails_over_file job file rf wf old (Serve Memory) h working = (h.0, served_fault job file rf wf old read.Memory (λ e. h.2) h.1 working)
+fails_over_file job file rf wf old (Serve Read) h working = fails_to_read job file rf wf old Read h working
+fails_over_file job file rf wf old (Serve Memory) h working = fails_to_read job file rf wf old Memory h working
 fails_over_file job file rf wf old (Serve NotToml) h working = absurd h
 fails_over_file job file rf wf old (Serve (Load fault)) h working = absurd h
 fails_over_file job file rf wf old (Serve UnknownHandler) h working = absurd h

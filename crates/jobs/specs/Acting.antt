@@ -94,8 +94,7 @@ most_bytes = 64 * 2 ^ 20
 
 -- These bytes are those of the job's file; none are read where its step and its handler don't go together.
 abbrev pub ReadsFor : Job → (file : Option (List ℕ)) → (read_failed : Bool) → List ℕ → Type 0
-ReadsFor job file read_failed bytes =
-    (read_failed ≡ false) × (is_unpaired job ≡ false → Known file bytes × (length bytes ≤ most_bytes))
+ReadsFor job file read_failed bytes = (read_failed ≡ false) × (is_unpaired job ≡ false → Known file bytes)
 
 -- Why the bytes of the job's file were not read: there are more than 64 MiB, the reader failed, or no memory is left.
 abbrev pub FailsToRead : Job → (file : Option (List ℕ)) → (read_failed : Bool) → JobFault → Type 0

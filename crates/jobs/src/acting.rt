@@ -1,14 +1,14 @@
 //! A job of the program, over a source and two sinks.
-ghost use Rattle.std.specs.Prelude.{◌≡◌, ◌≢◌, ◌⊎◌, Bool, true, false, [], Result, Err, MatchResult};
+ghost use Rattle.std.specs.Prelude.{◌≡◌, ◌≢◌, ◌≤◌, ◌⊎◌, Bool, true, false, [], length, Some, Result, Err, IfOk, MatchResult};
 ghost use Rattle.std.specs.IoError.{error_kind};
 ghost use Rattle.campaign.specs.declared.file.ServeFault.{ServeFault};
 ghost use Rattle.jobs.specs.declared.acting.JobFault.{JobFault};
 ghost use Rattle.jobs.specs.declared.acting.JobFault.TheVariants as job_fault;
-ghost use Rattle.jobs.specs.Acting.{RunServed, CampaignServed, Does, DoesOverFile, OpensAndDoes, ReadsFor, FailsToRead, Tells, fault_line, is_unpaired, told, status_of};
+ghost use Rattle.jobs.specs.Acting.{RunServed, CampaignServed, Does, DoesOverFile, OpensAndDoes, ReadsFor, FailsToRead, Tells, fault_line, is_unpaired, most_bytes, told, status_of};
 
 use crate::fault_line::tell;
-use byte_io::{FromReader, ReadFault, Sink, Source, read_at_most};
-use campaign::{At, Gate, Options, ServeFault, serve, serve_run, serve_watched};
+use byte_io::{FromReader, ReadFault, Sink, Source, read_all, read_at_most};
+use campaign::{At, Gate, NoGate, Options, ServeFault, serve_of, serve_run_of};
 use model::End;
 use std::alloc::Global;
 use std::fs::File;
@@ -154,68 +154,107 @@ pub fn conclude<F: Sink>(job: &Job<'_>, faults: &mut F, outcome: Result<bool, Jo
 }
 
 // Serves a run. Answers whether it passes.
-fn serve_run_of<R: Source, W: Sink>(
+fn serve_run_at<W: Sink>(
     alloc: Global,
     at: Option<At<'_>>,
-    reader: &mut R,
+    bytes: &[u8],
     writer: &mut W,
 ) -> Result<bool, ServeFault>
-    requires reads { R.has_failed reader.old ≡ false }
-    requires writes { W.has_failed writer.old ≡ false }
-    ensures { RunServed at.entry (R.left reader.old) (R.has_failed reader.new)
+    requires { W.has_failed writer.old ≡ false }
+    ensures { RunServed at.entry (Some bytes.now) false
         (W.held writer.old) (W.held writer.new) (W.has_failed writer.new) result }
 {
-    let end = serve_run(alloc, reader, writer, at)?;
+    let end = serve_run_of(alloc, bytes, writer, at)?;
     Ok(matches!(end, End::Pass))
 }
 
 // Serves a campaign. Answers whether all its rows pass.
-fn serve_campaign<T: Threads + Wait + Sync, R: Source, W: Sink, G: Gate + Sync>(
+fn serve_campaign<T: Threads + Wait + Sync, W: Sink, G: Gate + Sync>(
     rt: &T,
     alloc: Global,
     options: Options,
     quiet: bool,
-    reader: &mut R,
+    bytes: &[u8],
     writer: &mut W,
     gate: &G,
 ) -> Result<bool, ServeFault>
-    requires reads { R.has_failed reader.old ≡ false }
-    requires writes { W.has_failed writer.old ≡ false }
-    ensures { CampaignServed (R.left reader.old) (R.has_failed reader.new)
+    requires { W.has_failed writer.old ≡ false }
+    ensures { CampaignServed (Some bytes.now) false
         (W.held writer.old) (W.held writer.new) (W.has_failed writer.new) result }
 {
     let totals = if quiet {
-        serve(rt, alloc, reader, writer, options)?
+        serve_of(rt, alloc, bytes, writer, options, &NoGate)?
     } else {
-        serve_watched(rt, alloc, reader, writer, options, gate)?
+        serve_of(rt, alloc, bytes, writer, options, gate)?
     };
     Ok(totals.pass == totals.rows)
 }
 
-// Reads the file of the job from `reader`, and writes to `writer` what the job asks for. Nothing is read where its step and its
-// handler don't go together.
-fn serve_job<T: Threads + Wait + Sync, R: Source, W: Sink, G: Gate + Sync>(
+// Writes to `writer` what the job asks for of the file of these bytes.
+fn serve_job<T: Threads + Wait + Sync, W: Sink, G: Gate + Sync>(
     rt: &T,
     alloc: Global,
     job: &Job<'_>,
-    reader: &mut R,
+    bytes: &[u8],
     writer: &mut W,
     gate: &G,
 ) -> Result<bool, JobFault>
-    requires reads { R.has_failed reader.old ≡ false }
-    requires writes { W.has_failed writer.old ≡ false }
-    ensures does { Does job.now (R.left reader.old) (R.has_failed reader.new)
+    requires { W.has_failed writer.old ≡ false }
+    ensures { Does job.now (Some bytes.now) false
         (W.held writer.old) (W.held writer.new) (W.has_failed writer.new) result }
-    ensures unread { is_unpaired job.now ≡ true → R.left reader.new ≡ R.left reader.old }
 {
     let at = job.injection()?;
     let served = match *job {
-        Job::Run { .. } => serve_run_of(alloc, at, reader, writer),
+        Job::Run { .. } => serve_run_at(alloc, at, bytes, writer),
         Job::Campaign { options, quiet, .. } => {
-            serve_campaign(rt, alloc, options, quiet, reader, writer, gate)
+            serve_campaign(rt, alloc, options, quiet, bytes, writer, gate)
         }
     };
     Ok(served?)
+}
+
+// Does the job over the file of these bytes, and ends it.
+fn act_on<T: Threads + Wait + Sync, W: Sink, F: Sink, G: Gate + Sync>(
+    rt: &T,
+    alloc: Global,
+    job: &Job<'_>,
+    bytes: &[u8],
+    writer: &mut W,
+    faults: &mut F,
+    gate: &G,
+) -> u8
+    requires writes { W.has_failed writer.old ≡ false }
+    requires tells { F.has_failed faults.old ≡ false }
+    ensures { (outcome : Result Bool JobFault)
+        × Does job.now (Some bytes.now) false
+        (W.held writer.old) (W.held writer.new) (W.has_failed writer.new) outcome
+        × Tells (F.held faults.old) (F.held faults.new) (F.has_failed faults.new) (told job.now outcome)
+        × (result ≡ status_of outcome) }
+{
+    let outcome = serve_job(rt, alloc, job, bytes, writer, gate);
+    conclude(job, faults, outcome)
+}
+
+// All bytes of the job's file. None are read where its step and its handler don't go together.
+fn all_for<R: Source>(
+    alloc: Global,
+    job: &Job<'_>,
+    reader: &mut R,
+) -> Result<Vec<u8>, ServeFault>
+    requires { R.has_failed reader.old ≡ false }
+    ensures read { MatchResult result
+        (λ bytes. ReadsFor job.now (R.left reader.old) (R.has_failed reader.new) bytes.items)
+        (λ fault. FailsToRead job.now (R.left reader.old) (R.has_failed reader.new) (job_fault.Serve fault)) }
+    ensures unread { is_unpaired job.now ≡ true → R.left reader.new ≡ R.left reader.old }
+{
+    if job.injection().is_err() {
+        return Ok(Vec::new(alloc));
+    }
+    match read_all(alloc, reader) {
+        Ok(bytes) => Ok(bytes),
+        Err(ReadFault::Failed) => Err(ServeFault::Read),
+        Err(ReadFault::Memory) => Err(ServeFault::Memory),
+    }
 }
 
 /// Does the job: reads its file from `reader`, and writes to `writer` what the job asks for. Answers the status that the
@@ -242,19 +281,26 @@ pub fn act<T: Threads + Wait + Sync, R: Source, W: Sink, F: Sink, G: Gate + Sync
         × (result ≡ status_of outcome) }
     ensures unread { is_unpaired job.now ≡ true → R.left reader.new ≡ R.left reader.old }
 {
-    let outcome = serve_job(rt, alloc, job, reader, writer, gate);
-    conclude(job, faults, outcome)
+    match all_for(alloc, job, reader) {
+        Ok(bytes) => act_on(rt, alloc, job, bytes.as_slice(), writer, faults, gate),
+        Err(fault) => conclude(job, faults, Err(JobFault::Serve(fault))),
+    }
 }
 
 // 64 MiB (profile).
 const MOST: usize = 67_108_864;
 
-// The bytes of the job's file, where they are 64 MiB at most. None are read where its step and its handler don't go together.
-fn bytes_for<R: Source>(alloc: Global, job: &Job<'_>, reader: &mut R) -> Result<Vec<u8>, JobFault>
+// The same bytes as `all_for`, where they are 64 MiB at most.
+fn bytes_for<R: Source>(
+    alloc: Global,
+    job: &Job<'_>,
+    reader: &mut R,
+) -> Result<Vec<u8>, JobFault>
     requires { R.has_failed reader.old ≡ false }
     ensures read { MatchResult result
         (λ bytes. ReadsFor job.now (R.left reader.old) (R.has_failed reader.new) bytes.items)
         (FailsToRead job.now (R.left reader.old) (R.has_failed reader.new)) }
+    ensures few { IfOk result (λ bytes. length bytes.items ≤ most_bytes) }
     ensures unread { is_unpaired job.now ≡ true → R.left reader.new ≡ R.left reader.old }
 {
     if job.injection().is_err() {
@@ -289,7 +335,7 @@ fn act_over_file<T: Threads + Wait + Sync, R: Source, W: Sink, F: Sink, G: Gate 
     ensures unread { is_unpaired job.now ≡ true → R.left reader.new ≡ R.left reader.old }
 {
     match bytes_for(alloc, job, reader) {
-        Ok(bytes) => act(rt, alloc, job, &mut bytes.as_slice(), writer, faults, gate),
+        Ok(bytes) => act_on(rt, alloc, job, bytes.as_slice(), writer, faults, gate),
         Err(fault) => conclude(job, faults, Err(fault)),
     }
 }
