@@ -33,9 +33,28 @@ def standard_output():
             raise OutputFault(f"cannot write: {getattr(why, 'strerror', None) or 'standard output is closed'}") from None
 
 
-@contextlib.contextmanager
 def output_file(name):
-    """A file of texts that takes this name when all of it is there: it is written beside and renamed."""
+    """A file of texts that goes to the file of this name when all of it is there."""
+    return output_device(name) if os.path.exists(name) and not os.path.isfile(name) else output_beside(name)
+
+
+@contextlib.contextmanager
+def output_device(name):
+    """For what is there and is no regular file, as a device or a pipe: it is written to, and stays what it is."""
+    with tempfile.SpooledTemporaryFile(IN_MEMORY) as kept:
+        yield Text(kept, True)
+        with temporary.room():
+            kept.seek(0)
+        try:
+            with open(name, "wb") as file:
+                shutil.copyfileobj(kept, file, 1 << 18)
+        except OSError as why:
+            raise OutputFault(f"cannot write {plain(name)}: {why.strerror}") from None
+
+
+@contextlib.contextmanager
+def output_beside(name):
+    """For a regular file, or a name that nothing has yet: it is written beside and renamed."""
     folder = os.path.dirname(os.path.abspath(name))
     beside = None
     try:
