@@ -114,17 +114,18 @@ def browser():
     """A browser with a folder of its own, which ends with the block."""
     read_there, writer = os.pipe()
     reader, write_there = os.pipe()
-    with tempfile.TemporaryDirectory(prefix="rtosim-browser-", ignore_cleanup_errors=True) as folder:
-        words = ["sh", "-c", 'exec "$@" 3<&$IN 4>&$OUT', "sh", find_browser(), f"--user-data-dir={folder}", *FLAGS]
-        env = {**os.environ, "IN": str(read_there), "OUT": str(write_there), "HOME": folder}
-        quiet = {"stdin": subprocess.DEVNULL, "stdout": subprocess.DEVNULL, "stderr": subprocess.DEVNULL}
-        process = subprocess.Popen(words, env=env, pass_fds=(read_there, write_there), **quiet)
-        os.close(read_there)
-        os.close(write_there)
-        try:
-            yield Browser(process, writer, reader)
-        finally:
-            process.terminate()
-            process.wait(PATIENCE)
-            os.close(writer)
-            os.close(reader)
+    folder = tempfile.mkdtemp(prefix="rtosim-browser-")
+    words = ["sh", "-c", 'exec "$@" 3<&$IN 4>&$OUT', "sh", find_browser(), f"--user-data-dir={folder}", *FLAGS]
+    env = {**os.environ, "IN": str(read_there), "OUT": str(write_there), "HOME": folder, "TMPDIR": folder}
+    quiet = {"stdin": subprocess.DEVNULL, "stdout": subprocess.DEVNULL, "stderr": subprocess.DEVNULL}
+    process = subprocess.Popen(words, env=env, pass_fds=(read_there, write_there), **quiet)
+    os.close(read_there)
+    os.close(write_there)
+    try:
+        yield Browser(process, writer, reader)
+    finally:
+        process.terminate()
+        process.wait(PATIENCE)
+        os.close(writer)
+        os.close(reader)
+        shutil.rmtree(folder, ignore_errors=True)

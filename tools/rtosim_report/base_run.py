@@ -43,8 +43,10 @@ class BaseRun:
     steps: List[int] = field(default_factory=list)
     offsets: List[int] = field(default_factory=list)
     places: Dict[int, Tuple[int, int]] = field(default_factory=dict)
+    has_failed_calls: bool = False
 
     def __post_init__(self):
+        self.has_failed_calls = bool(failed_calls(self.lines))
         self.steps = [int(it[0]) for it in self.lines]
         texts = texts_of(self.lines)
         self.text = b"".join(texts)

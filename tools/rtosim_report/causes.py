@@ -11,7 +11,8 @@ from .progress import walked
 CALLS = re.compile(rb"^[0-9]+ [0-9]+ (call|isr) ([A-Za-z][A-Za-z0-9_]*) ([0-9]+) ([a-z_]+) = (none|[0-9]+)$", re.MULTILINE)
 LAST_CALLS = re.compile(rb" call ([A-Za-z][A-Za-z0-9_]*) ([0-9]+) ([a-z_]+) = ")
 # A handler's call that wasn't possible: no room, no item, nobody to resume.
-FAILED_CALL = re.compile(rb"isr [A-Za-z0-9_]+ [0-9]+ (?:(?:send|send_front|give|resume) = 0|(?:receive|peek) = none)")
+FAILED = rb"isr [A-Za-z0-9_]+ [0-9]+ (?:(?:send|send_front|give|resume) = 0|(?:receive|peek) = none)"
+FAILED_CALL, FAILED_LINE = re.compile(FAILED), re.compile(b" " + FAILED + rb"\n")
 # Of so many calls it is kept where they lead.
 MOST_KEPT = 1 << 16
 
@@ -21,13 +22,21 @@ def has_failed(what):
     return FAILED_CALL.fullmatch(what) is not None
 
 
-def failed_calls(lines, base_lines=()):
-    """The handlers' calls in the lines that failed, but those of the base run: each once, in order."""
-    failed = [what for _, _, what in lines if what.startswith(b"isr ") and has_failed(what)]
-    if not failed:
+def failed_calls(lines):
+    """The handlers' calls in the lines that failed."""
+    return [what for _, _, what in lines if what.startswith(b"isr ") and has_failed(what)]
+
+
+def failed_beyond(run, tail, base, position):
+    """The handlers' calls in the row's tail that failed, but those of the base run from there on: each once, in order."""
+    if not FAILED_LINE.search(run.text):
         return ()
-    more = Counter(failed) - Counter(what for _, _, what in base_lines if what.startswith(b"isr "))
-    return tuple(dict.fromkeys(it for it in failed if it in more))
+    failed = failed_calls(tail)
+    known = failed_calls(base.lines[position:]) if base is not None and base.has_failed_calls else ()
+    if known:
+        more = Counter(failed) - Counter(known)
+        failed = [it for it in failed if it in more]
+    return tuple(dict.fromkeys(failed))
 
 
 def last_calls(run):

@@ -10,7 +10,7 @@ from typing import Dict, List, Optional
 
 from . import differences
 from .base_run import is_base_exactly, tail_of_row
-from .causes import Causes, failed_calls
+from .causes import Causes, failed_beyond
 from .faults import BadReport
 from .report import Head
 
@@ -67,7 +67,8 @@ class OutcomeClass:
         if not self.fewest_ticks <= head.ticks <= self.most_ticks:
             self.fewest_ticks = min(self.fewest_ticks, head.ticks)
             self.most_ticks = max(self.most_ticks, head.ticks)
-        for handler in {it.handler: None for it in head.point}:
+        point = head.point
+        for handler in (point[0].handler,) if len(point) == 1 else dict.fromkeys(it.handler for it in point):
             self.handlers[handler] = self.handlers.get(handler, 0) + 1
 
 
@@ -91,7 +92,7 @@ class Classifier:
         tail, position = tail_of_row(run, self.base)
         if not run.head.is_reached:
             self.check_unreached(run, tail, position)
-        failed = failed_calls(tail, self.base.lines[position:] if self.base else ())
+        failed = failed_beyond(run, tail, self.base, position)
         key = self.key_of(run, tail, position, failed)
         found = self.classes.get(key)
         if found is None:

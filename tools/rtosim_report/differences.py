@@ -101,16 +101,20 @@ def is_as_base(run, tail, position, base, keeps_ticks=False) -> bool:
     seen = slice(1 if keeps_ticks else 2, 3)
     if own < 0 or own and not run.head.is_reached:
         return False
-    if not own or run.head.point.is_single:
-        is_own = not own or own <= leading_own(tail[:own], run.head.point[0])
-        return is_own and are_alike(tail[own:], base.lines[position:], seen)
-    stretches = own_stretches(tail, run.head.point)
-    return any(are_alike(without(tail, it), base.lines[position:], seen) for it in parts_of_stretches(stretches, own))
+    if own and not run.head.point.is_single:
+        stretches = own_stretches(tail, run.head.point)
+        return any(are_alike(without(tail, it), 0, base.lines, position, seen) for it in parts_of_stretches(stretches, own))
+    if own and own > leading_own(tail[:own], run.head.point[0]):
+        return False
+    return are_alike(tail, own, base.lines, position, seen)
 
 
-def are_alike(lines, wanted, seen):
-    """The same lines but for what isn't seen of them."""
-    return all(it[seen] == there[seen] for it, there in zip(lines, wanted))
+def are_alike(lines, start, base_lines, base_start, seen):
+    """The lines from this one on are those of the base run from that one on, but for what isn't seen of them."""
+    for at in range(start, len(lines)):
+        if lines[at][seen] != base_lines[base_start + at - start][seen]:
+            return False
+    return True
 
 
 def parts_of_stretches(stretches, count):
