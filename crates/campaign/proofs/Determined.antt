@@ -1,7 +1,7 @@
 -- There is one list of rows of some points.
 use Rattle.std.proofs.Common.{◌≡◌, List, [], ◌∷◌, map, Bool, refl, ap, sym, subst, ◌∙◌}
 use Rattle.std.specs.List.{AllByRecursion}
-use Rattle.model.specs.declared.plan.Point.{Point}
+use Rattle.model.specs.declared.plan.Injection.{Injection}
 use Rattle.model.specs.Application.{Application, Limits}
 use Rattle.model.specs.Run.{Run, IsRow}
 use Rattle.model.specs.Campaign.{Row, AreRows}
@@ -10,9 +10,9 @@ use Rattle.model.proofs.OneRun.{one_row}
 -- rows by their parts
 same_row : (app : Application) (limits : Limits) (a b : Row) → a.point ≡ b.point → IsRow app limits a.point a.reached a.run → IsRow app limits b.point b.reached b.run → a ≡ b
 same_row app limits a b point h k =
-    let j = subst (λ (p : Point). IsRow app limits p a.reached a.run) point h in
+    let j = subst (λ (p : List Injection). IsRow app limits p a.reached a.run) point h in
     let same = one_row app limits b.point a.reached b.reached a.run b.run j k in
-    ap (λ (p : Point). record a { point = p }) point
+    ap (λ (p : List Injection). record a { point = p }) point
     ∙ ap (λ (r : Bool). record a { point = b.point; reached = r }) same.0
     ∙ ap (λ (r : Run). record b { run = r }) same.1
 
@@ -28,5 +28,5 @@ rows_by_points app limits (a ∷ xs) (b ∷ bs) e h k =
     let then : xs ≡ bs = rows_by_points app limits xs bs rest h.1 k.1 in
     cc
 
-pub one_list : (app : Application) (limits : Limits) (points : List Point) (rows others : List Row) → AreRows app limits points rows → AreRows app limits points others → rows ≡ others
+pub one_list : (app : Application) (limits : Limits) (points : List (List Injection)) (rows others : List Row) → AreRows app limits points rows → AreRows app limits points others → rows ≡ others
 one_list app limits points rows others h k = rows_by_points app limits rows others (h.one_each ∙ sym k.one_each) h.each k.each

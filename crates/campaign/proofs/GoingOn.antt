@@ -3,7 +3,8 @@ use Rattle.std.proofs.Common.{◌≡◌, ◌≤◌, ◌<◌, ℕ, List, [], ◌�
 use Rattle.std.specs.Prelude.{IfSome, option_map}
 use Rattle.model.specs.declared.event.Event.{Event}
 use Rattle.model.specs.declared.event.End.{End}
-use Rattle.model.specs.declared.plan.Point.{Point}
+use Rattle.model.specs.declared.plan.Injection.{Injection}
+use Rattle.model.specs.Points.{IsPoint, last_step}
 use Rattle.model.specs.Application.{Application, Limits}
 use Rattle.model.specs.Run.{Run, end_of, events_after, injected, state_after}
 use Rattle.machine.specs.declared.machine.Machine.{Machine}
@@ -16,7 +17,7 @@ use Rattle.campaign.specs.declared.mark.Mark.{Mark}
 use Rattle.campaign.specs.declared.mark.Rest.{Rest}
 use Rattle.campaign.specs.declared.rows.Stretch.{Stretch}
 use Rattle.campaign.specs.Report.{told_in}
-use Rattle.model.proofs.Injected.{injects_nothing}
+use Rattle.model.proofs.Injected.{none_past}
 use Rattle.campaign.specs.declared.rows.KeptRow.{KeptRow}
 use Rattle.campaign.specs.Working.{GainsRows, IsRestIn, IsRestOf, IsMarked, Knows}
 use Rattle.campaign.proofs.Keeping.{same_told, still_there, last_told, gained_stretch, known_more, none}
@@ -46,31 +47,32 @@ module _ (app : Application) (limits : Limits) where
       }
 
   -- what is known stays known, and so is what was gained
-  pub knows_more : (base : Run) (points : List Point) (a b : List KeptRow) (t u : List Event) (x y : Tallied) (mark mark' : Option Mark) → Knows app limits base a t mark
+  pub knows_more : (base : Run) (points : List (List Injection)) (a b : List KeptRow) (t u : List Event) (x y : Tallied) (mark mark' : Option Mark) → Knows app limits base a t mark
       → GainsRows app limits base points a b t u x y → IsMarked app limits u mark' → Knows app limits base b u mark'
   knows_more base points a b t u x y mark mark' knows gains is = record {
     rows = known_more app limits base points a b t u x y knows.rows gains;
     marked = is;
   }
 
-  module _ (point : Point) (k : Machine) (way : IsUnderWay app (point ∷ []) limits k) where
-    -- the row of a point that has come to the kernel goes on as each does
-    pub rest_of : (trail : List Event) (rest : Rest) → point.step < k.steps → IsRestIn app limits trail k rest → IsRestOf app limits trail point k rest
-    rest_of trail rest l is = record {
+  -- past the last injection nothing is injected
+  pub none_from : (point : List Injection) → IsPoint point → (k : Machine) → last_step point < k.steps → (n : ℕ) → k.steps ≤ n → injected point n ≡ []
+  none_from point formed k l n from = none_past point formed.in_order n (omega arith)
+
+  module _ (point : List Injection) (k : Machine) (way : IsUnderWay app point limits k) where
+    -- the row of a point that has come to the kernel, behind its last injection, goes on as each does
+    pub rest_of : (trail : List Event) (rest : Rest) → IsPoint point → last_step point < k.steps → IsRestIn app limits trail k rest → IsRestOf app limits trail point k rest
+    rest_of trail rest formed l is = record {
       told = is.told;
-      is_row = is.is_rest.of_each (point ∷ []) way (λ n m. past n m);
+      is_row = is.is_rest.of_each point way (none_from point formed k l);
     }
-      where
-        past : (n : ℕ) → k.steps ≤ n → injected (point ∷ []) n ≡ []
-        past n m = injects_nothing point n (λ e. absurd (omega arith))
 
     -- one that has come to its end tells no more
-    pub ended_rest : (trail : List Event) (at steps ticks : ℕ) (end : End) → end_of app limits (state_after app (point ∷ []) k.steps) ≡ Some end → at ≡ length trail
-        → steps ≡ k.steps → ticks ≡ (state_after app (point ∷ []) k.steps).elapsed
+    pub ended_rest : (trail : List Event) (at steps ticks : ℕ) (end : End) → end_of app limits (state_after app point k.steps) ≡ Some end → at ≡ length trail
+        → steps ≡ k.steps → ticks ≡ (state_after app point k.steps).elapsed
         → IsRestOf app limits trail point k (record { told = record { from = at; to = at }; steps = steps; ticks = ticks; end = end })
     ended_rest trail at steps ticks end ends e same t =
-        let all : events_after app (point ∷ []) k.steps ++ told_in trail (record { from = at; to = at }) ≡ events_after app (point ∷ []) k.steps =
-        rw (none trail at) (append-nil (events_after app (point ∷ []) k.steps)) in
+        let all : events_after app point k.steps ++ told_in trail (record { from = at; to = at }) ≡ events_after app point k.steps =
+        rw (none trail at) (append-nil (events_after app point k.steps)) in
         record {
           told = record { rises = omega arith; within = omega arith };
           is_row = rw same (record {

@@ -6,7 +6,8 @@ use Rattle.std.specs.List.{AllByRecursion}
 use Rattle.std.proofs.lemmas.List.{length-map, map-append, take-append-le, drop-append-le, length-drop, take_all, take_more, drop_at}
 use Rattle.std.proofs.Math.Seq.{take-length}
 use Rattle.model.specs.declared.event.Event.{Event}
-use Rattle.model.specs.declared.plan.Point.{Point}
+use Rattle.model.specs.declared.plan.Injection.{Injection}
+use Rattle.model.specs.Points.{first_step}
 use Rattle.model.specs.Application.{Application, Limits}
 use Rattle.model.specs.Run.{Run, IsRun, IsRow, events_after}
 use Rattle.model.proofs.Injected.{begins_with, no_fewer}
@@ -58,10 +59,10 @@ none trail i = let e : i - i ≡ 0 = omega arith in rw e refl
 
 -- ---- a row of its own
 
-module _ (app : Application) (limits : Limits) (base : Run) (is : IsRun app [] limits base) (point : Point) where
-  -- a row that is reached begins as the base run does, and is kept with what it told from its injection on, and with its rest
+module _ (app : Application) (limits : Limits) (base : Run) (is : IsRun app [] limits base) (point : List Injection) where
+  -- a row that is reached begins as the base run does, and is kept with what it told from its first injection on, and with its rest
   pub reached_row : (old mid new : List Event) (k : Machine) (beginning : RowBeginning) → HasBegun app point limits k old mid beginning → Extends mid new
-      → beginning.before ≡ length (events_after app [] point.step) → (rest : Rest) → IsRestOf app limits new point k rest → point.step < base.steps
+      → beginning.before ≡ length (events_after app [] (first_step point)) → (rest : Rest) → IsRestOf app limits new point k rest → first_step point < base.steps
       → (from to : ℕ) → from ≡ length old → to ≡ length mid
       → GainsRow app limits base point old new (record { point = point; shared = beginning.before; own = record { from = from; to = to }; rest = rest.told; steps = rest.steps; ticks = rest.ticks; end = rest.end })
   reached_row old mid new k beginning begun (more, grown) before rest goes l from to e f =
@@ -69,19 +70,19 @@ module _ (app : Application) (limits : Limits) (base : Run) (is : IsRun app [] l
       let long : to ≡ length (old ++ begun.own) = f ∙ ap length begun.kept in
       let whole : new ≡ (old ++ begun.own) ++ more = rw begun.kept at grown in
       let there : IsStretch (old ++ begun.own) own = gained_stretch old begun.own own e long in
-      let within : point.step ≤ base.steps = omega arith in
-      let first : take beginning.before base.events ≡ events_after app [] point.step = rw (before, is.trace) (begins_with app [] point.step base.steps within) in
+      let within : first_step point ≤ base.steps = omega arith in
+      let first : take beginning.before base.events ≡ events_after app [] (first_step point) = rw (before, is.trace) (begins_with app [] (first_step point) base.steps within) in
       let last : told_in new own ≡ begun.own = rw whole (same_told (old ++ begun.own) more own there ∙ last_told old begun.own own e long) in
-      let reaches = less point.step base.steps l in
-      let events : events_after app (point ∷ []) k.steps ++ told_in new rest.told ≡ take beginning.before base.events ++ (told_in new own ++ told_in new rest.told) =
-      rw (begun.events, first, last) (append_assoc (events_after app [] point.step) begun.own (told_in new rest.told)) in
+      let reaches = less (first_step point) base.steps l in
+      let events : events_after app point k.steps ++ told_in new rest.told ≡ take beginning.before base.events ++ (told_in new own ++ told_in new rest.told) =
+      rw (begun.events, first, last) (append_assoc (events_after app [] (first_step point)) begun.own (told_in new rest.told)) in
       record {
         own = begun.own ++ more;
         trail = whole ∙ append_assoc old begun.own more;
         row = record {
           at_point = refl;
           is_kept = record {
-            shared = rw (before, is.trace) (no_fewer app [] point.step base.steps within);
+            shared = rw (before, is.trace) (no_fewer app [] (first_step point) base.steps within);
             own = rw whole (still_there (old ++ begun.own) more own there);
             rest = goes.told;
           };
@@ -89,19 +90,19 @@ module _ (app : Application) (limits : Limits) (base : Run) (is : IsRun app [] l
             base = base;
             is_base = is;
             is_reached = refl;
-            is_row = rw reaches (subst (λ (told : List Event). IsRun app (point ∷ []) limits (record { events = told; steps = rest.steps; ticks = rest.ticks; end = rest.end })) events goes.is_row);
+            is_row = rw reaches (subst (λ (told : List Event). IsRun app point limits (record { events = told; steps = rest.steps; ticks = rest.ticks; end = rest.end })) events goes.is_row);
           };
         };
       }
 
   -- one that isn't is the base run
-  pub missed_row : (trail : List Event) (b : Run) (shared end : ℕ) → b ≡ base → base.steps ≤ point.step → shared ≡ length b.events → end ≡ length trail
+  pub missed_row : (trail : List Event) (b : Run) (shared end : ℕ) → b ≡ base → base.steps ≤ first_step point → shared ≡ length b.events → end ≡ length trail
       → GainsRow app limits base point trail trail (record { point = point; shared = shared; own = record { from = end; to = end }; rest = record { from = end; to = end }; steps = b.steps; ticks = b.ticks; end = b.end })
   missed_row trail b shared end same l count e =
       let empty : told_in trail (record { from = end; to = end }) ≡ [] = none trail end in
       let whole : take shared base.events ++ (told_in trail (record { from = end; to = end }) ++ told_in trail (record { from = end; to = end })) ≡ base.events =
       rw (count, same, empty, take-length base.events) (append-nil base.events) in
-      let misses = no_less point.step base.steps l in
+      let misses = no_less (first_step point) base.steps l in
       let is_all : IsRun app [] limits (record { events = take shared base.events ++ (told_in trail (record { from = end; to = end }) ++ told_in trail (record { from = end; to = end })); steps = b.steps; ticks = b.ticks; end = b.end }) = rw (whole, same) is in
       let nothing : IsStretch trail (record { from = end; to = end }) = record { rises = omega arith; within = omega arith } in
       record {
@@ -141,7 +142,7 @@ still_kept base trail more (k ∷ kept) all =
     (record { shared = all.0.shared; own = still_there trail more k.own all.0.own; rest = still_there trail more k.rest all.0.rest }, still_kept base trail more kept all.1)
 
 -- rows of some points, and of others
-pub rows-append : (app : Application) (limits : Limits) (points others : List Point) (rows after : List Row)
+pub rows-append : (app : Application) (limits : Limits) (points others : List (List Injection)) (rows after : List Row)
     → AreRows app limits points rows → AreRows app limits others after → AreRows app limits (points ++ others) (rows ++ after)
 rows-append app limits points others rows after are then = record {
   one_each = rw (map-append (λ (row : Row). row.point) rows after, are.one_each, then.one_each) refl;
@@ -162,7 +163,7 @@ module _ (app : Application) (limits : Limits) (base : Run) where
   }
 
   -- one row is pushed and counted
-  pub gains_one : (point : Point) (kept kept' : List KeptRow) (trail trail' : List Event) (seat seat' : Tallied) (row : KeptRow) (g : GainsRow app limits base point trail trail' row)
+  pub gains_one : (point : List Injection) (kept kept' : List KeptRow) (trail trail' : List Event) (seat seat' : Tallied) (row : KeptRow) (g : GainsRow app limits base point trail trail' row)
       → kept' ≡ kept ++ row ∷ [] → Gained (kind_in (row_of base trail' row ∷ [])) seat seat' → GainsRows app limits base (point ∷ []) kept kept' trail trail' seat seat'
   gains_one point kept kept' trail trail' seat seat' row g pushed counted = record {
     more = row ∷ [];
@@ -171,14 +172,14 @@ module _ (app : Application) (limits : Limits) (base : Run) where
     trail_is = g.trail;
     sound = (g.row.is_kept, tt);
     made = record {
-      one_each = ap (λ (p : Point). p ∷ []) g.row.at_point;
+      one_each = ap (λ (p : List Injection). p ∷ []) g.row.at_point;
       each = (rw g.row.at_point g.row.is_row, tt);
     };
     gained = counted;
   }
 
   -- rows, and then other rows
-  pub gains_both : (points others : List Point) (a b c : List KeptRow) (t u v : List Event) (x y z : Tallied)
+  pub gains_both : (points others : List (List Injection)) (a b c : List KeptRow) (t u v : List Event) (x y z : Tallied)
       → GainsRows app limits base points a b t u x y → GainsRows app limits base others b c u v y z → GainsRows app limits base (points ++ others) a c t v x z
   gains_both points others a b c t u v x y z g h =
       let same : rows_of base v g.more ≡ rows_of base u g.more = rw h.trail_is (same_rows base u h.own g.more g.sound) in
@@ -201,7 +202,7 @@ module _ (app : Application) (limits : Limits) (base : Run) where
       }
 
   -- how much the seat added at most
-  pub gained_few : (points : List Point) (a b : List KeptRow) (t u : List Event) (x y : Tallied) (g : GainsRows app limits base points a b t u x y)
+  pub gained_few : (points : List (List Injection)) (a b : List KeptRow) (t u : List Event) (x y : Tallied) (g : GainsRows app limits base points a b t u x y)
       → (kind : ℕ) → kind < 7 → slice_index y.added kind ≤ slice_index x.added kind + length points
   gained_few points a b t u x y g kind l =
       let few = kind_in-few (rows_of base u g.more) kind in
@@ -209,9 +210,9 @@ module _ (app : Application) (limits : Limits) (base : Run) where
       let rises = g.gained.rises kind l in
       omega arith
 
-pub next_point : (points : List Point) (index : ℕ) (point : Point) → index < length points → point ≡ slice_index_or points index point
+pub next_point : (points : List (List Injection)) (index : ℕ) (point : List Injection) → index < length points → point ≡ slice_index_or points index point
     → take (index + 1) points ≡ take index points ++ point ∷ []
-next_point points index point l is = take_more points index point l ∙ ap (λ (p : Point). take index points ++ p ∷ []) (sym is)
+next_point points index point l is = take_more points index point l ∙ ap (λ (p : List Injection). take index points ++ p ∷ []) (sym is)
 
 -- ---- a point that was run before
 
@@ -222,12 +223,12 @@ all_at P (y ∷ ys) (suc i) x l is all = all_at P ys i x (omega arith) is all.1
 
 module _ (app : Application) (limits : Limits) (base : Run) where
   -- its row is kept
-  pub row_again : (point : Point) (trail : List Event) (kept : List KeptRow) (k : KeptRow) → AreKnown app limits base kept trail → IsAmong kept point k
+  pub row_again : (point : List Injection) (trail : List Event) (kept : List KeptRow) (k : KeptRow) → AreKnown app limits base kept trail → IsAmong kept point k
       → GainsRow app limits base point trail trail k
   row_again point trail kept k known among = record {
     own = [];
     trail = sym (append-nil trail);
-    row = subst (λ (p : Point). IsKeptRow app limits base trail p k) among.at_point (all_at _ kept among.number k among.within among.is known);
+    row = subst (λ (p : List Injection). IsKeptRow app limits base trail p k) among.at_point (all_at _ kept among.number k among.within among.is known);
   }
 
   still_known : (kept : List KeptRow) (trail more : List Event) → AreKnown app limits base kept trail → AreKnown app limits base kept (trail ++ more)
@@ -249,7 +250,7 @@ module _ (app : Application) (limits : Limits) (base : Run) where
       (record { at_point = refl; is_kept = sound.0; is_row = made.0 }, made_known kept trail sound.1 made.1)
 
   -- rows that were gained are known too
-  pub known_more : (points : List Point) (a b : List KeptRow) (t u : List Event) (x y : Tallied) → AreKnown app limits base a t
+  pub known_more : (points : List (List Injection)) (a b : List KeptRow) (t u : List Event) (x y : Tallied) → AreKnown app limits base a t
       → GainsRows app limits base points a b t u x y → AreKnown app limits base b u
   known_more points a b t u x y known g =
       rw g.rows_are (all-append _ a g.more (rw g.trail_is (still_known a t g.own known)) (made_known g.more u g.sound g.made.each))

@@ -1,6 +1,6 @@
 -- The campaign of an application, from its shelf.
 use Rattle.std.proofs.Common.{◌≡◌, ◌≤◌, List, [], length, sym, subst}
-use Rattle.model.specs.declared.plan.Point.{Point}
+use Rattle.model.specs.declared.plan.Injection.{Injection}
 use Rattle.model.specs.Application.{Application, Limits}
 use Rattle.model.specs.Scripts.{most_points}
 use Rattle.model.specs.Run.{Run, IsRun}
@@ -19,10 +19,10 @@ module _ (app : Application) (shelf : Shelved) (base : Run) (is : IsShelf app sh
   expand_fault TooManyPoints many = record { base = base; is_base = its_run; many = many }
   expand_fault Memory few = tt
 
-  pub app_rows : (points : List Point) (rows : List Row) → points ≡ points_in app base.steps → length points ≤ most_points → AreRows app shelf.limits points rows → AreRowsOf app rows
+  pub app_rows : (points : List (List Injection)) (rows : List Row) → points ≡ points_in app base.steps → length points ≤ most_points → AreRows app shelf.limits points rows → AreRowsOf app rows
   app_rows points rows its few are = record {
     base = base;
     is_base = its_run;
-    few = subst (λ (ps : List Point). length ps ≤ most_points) its few;
+    few = subst (λ (ps : List (List Injection)). length ps ≤ most_points) its few;
     are_rows = subst (λ ps. AreRows app app.limits ps rows) its (subst (λ (limits : Limits). AreRows app limits points rows) own are);
   }

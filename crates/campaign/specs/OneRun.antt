@@ -3,8 +3,9 @@ use Rattle.std.specs.Prelude.{◌≡◌, ℕ, Bool, List, [], Option, Some, None
 use Rattle.model.specs.Application.{Application}
 use Rattle.model.specs.Words.{handler_named}
 use Rattle.model.specs.Run.{Run, IsRun, IsRow}
+use Rattle.model.specs.Campaign.{one_point}
 use Rattle.model.specs.declared.event.End.{End}
-use Rattle.model.specs.declared.plan.Point.{Point}
+use Rattle.model.specs.declared.plan.Injection.{Injection}
 use Rattle.report.specs.Text.{run_text}
 use Rattle.report.specs.declared.title.Title.{Title}
 use Rattle.report.specs.declared.title.Title.TheVariants.{Base, Row}
@@ -13,16 +14,16 @@ use Rattle.campaign.specs.declared.file.ServeFault.{ServeFault}
 use Rattle.campaign.specs.declared.file.ServeFault.TheVariants.{UnknownHandler, Memory}
 use Rattle.campaign.specs.Serving.{IsFileOf, HasFileFault, Serves}
 
--- the point of an injection: the handler of the application that has the name
-abbrev pub point_named : Application → At → Option Point
-point_named app at = option_map (λ handler. record { step = at.step; handler = handler }) (handler_named app at.handler.now)
+-- the point of one injection: the handler of the application that has the name
+abbrev pub point_named : Application → At → Option (List Injection)
+point_named app at = option_map (λ handler. one_point handler at.step) (handler_named app at.handler.now)
 
 -- The run that is asked for, under the limits of the file itself, and what its report is of: the base run, and where an
 -- injection is asked for, row 0.
 abbrev pub IsAsked : Option At → Application → Title → Run → Type 0
 IsAsked None app title run = (title ≡ Base) × IsRun app [] app.limits run
 IsAsked (Some at) app title run =
-    (point : Point) × (point_named app at ≡ Some point)
+    (point : List Injection) × (point_named app at ≡ Some point)
     × (reached : Bool) × (title ≡ Row 0 point reached) × IsRow app app.limits point reached run
 
 -- An injection is asked for, and no handler of the application has the name.

@@ -3,6 +3,7 @@ use Rattle.std.specs.Prelude.{◌≡◌, ℕ, ◌+◌, ◌≤◌, List, [], ◌+
 use Rattle.std.specs.List.{AllByRecursion, flat_map}
 use Rattle.machine.specs.Logged.{all_of}
 use Rattle.model.specs.declared.event.Event.{Event}
+use Rattle.model.specs.Points.{first_step}
 use Rattle.model.specs.Run.{Run}
 use Rattle.model.specs.Campaign.{Row, totals_of}
 use Rattle.model.specs.Scripts.{most_points}
@@ -21,7 +22,7 @@ told_in trail stretch = slice_range trail stretch.from stretch.to
 abbrev pub row_of : (base : Run) (trail : List Event) → KeptRow → Row
 row_of base trail kept = record {
   point = kept.point;
-  reached = nat_lt kept.point.step base.steps;
+  reached = nat_lt (first_step kept.point) base.steps;
   run = record {
     events = take kept.shared base.events ++ (told_in trail kept.own ++ told_in trail kept.rest);
     steps = kept.steps;

@@ -5,7 +5,8 @@ use Rattle.machine.specs.Logged.{all_of}
 use Rattle.machine.specs.declared.machine.Machine.{Machine}
 use Rattle.kernel.specs.Rests.{IsRest}
 use Rattle.model.specs.declared.event.Event.{Event}
-use Rattle.model.specs.declared.plan.Point.{Point}
+use Rattle.model.specs.declared.plan.Injection.{Injection}
+use Rattle.model.specs.Points.{first_step}
 use Rattle.model.specs.Application.{Application, Limits}
 use Rattle.model.specs.Run.{Run, IsRun, IsRow, events_after}
 use Rattle.model.specs.Campaign.{Row, AreRows}
@@ -28,19 +29,19 @@ pub record Work : Type 0 where
   pub app : Application
   pub limits : Limits
   pub base : Run
-  pub points : List Point
+  pub points : List (List Injection)
   pub lengths : List ℕ
 
 -- ---- one row
 
 -- The row of this point is kept so. Its own events are the last of the trail.
-pub record IsKeptRow (app : Application) (limits : Limits) (base : Run) (trail : List Event) (point : Point) (kept : KeptRow) : Type 0 where
+pub record IsKeptRow (app : Application) (limits : Limits) (base : Run) (trail : List Event) (point : List Injection) (kept : KeptRow) : Type 0 where
   pub at_point : kept.point ≡ point
   pub is_kept : IsKept base trail kept
-  pub is_row : IsRow app limits point (nat_lt point.step base.steps) (row_of base trail kept).run
+  pub is_row : IsRow app limits point (nat_lt (first_step point) base.steps) (row_of base trail kept).run
 
 -- A trail gains some events, with which a row is kept.
-pub record GainsRow (app : Application) (limits : Limits) (base : Run) (point : Point) (old new : List Event) (kept : KeptRow) : Type 0 where
+pub record GainsRow (app : Application) (limits : Limits) (base : Run) (point : List Injection) (old new : List Event) (kept : KeptRow) : Type 0 where
   pub own : List Event
   pub trail : new ≡ old ++ own
   pub row : IsKeptRow app limits base new point kept
@@ -50,7 +51,7 @@ abbrev pub AreKnown : Application → Limits → Run → List KeptRow → (trail
 AreKnown app limits base kept trail = AllByRecursion (λ (k : KeptRow). IsKeptRow app limits base trail k.point k) kept
 
 -- The row is one of these, and of this point.
-pub record IsAmong (rows : List KeptRow) (point : Point) (kept : KeptRow) : Type 0 where
+pub record IsAmong (rows : List KeptRow) (point : List Injection) (kept : KeptRow) : Type 0 where
   pub at_point : kept.point ≡ point
   pub number : ℕ
   pub within : number < length rows
@@ -64,9 +65,9 @@ pub record IsRestIn (app : Application) (limits : Limits) (trail : List Event) (
   pub is_rest : IsRest app limits k (record { events = told_in trail rest.told; steps = rest.steps; ticks = rest.ticks; end = rest.end })
 
 -- The row of this point, which has come to the kernel, goes on so, and what it tells is there.
-pub record IsRestOf (app : Application) (limits : Limits) (trail : List Event) (point : Point) (k : Machine) (rest : Rest) : Type 0 where
+pub record IsRestOf (app : Application) (limits : Limits) (trail : List Event) (point : List Injection) (k : Machine) (rest : Rest) : Type 0 where
   pub told : IsStretch trail rest.told
-  pub is_row : IsRun app (point ∷ []) limits (record { events = events_after app (point ∷ []) k.steps ++ told_in trail rest.told; steps = rest.steps; ticks = rest.ticks; end = rest.end })
+  pub is_row : IsRun app point limits (record { events = events_after app point k.steps ++ told_in trail rest.told; steps = rest.steps; ticks = rest.ticks; end = rest.end })
 
 -- The mark, if there is one, has the rest of each row that comes to its kernel.
 abbrev pub IsMarked : Application → Limits → (trail : List Event) → Option Mark → Type 0
@@ -91,7 +92,7 @@ HasRoom count seat = (kind : ℕ) → kind < 7 → slice_index seat.added kind +
 -- ---- the rows of several points
 
 -- Behind these rows and events come those of the rows of these points, and the seat counted them.
-pub record GainsRows (app : Application) (limits : Limits) (base : Run) (points : List Point)
+pub record GainsRows (app : Application) (limits : Limits) (base : Run) (points : List (List Injection))
     (kept kept' : List KeptRow) (trail trail' : List Event) (seat seat' : Tallied) : Type 0 where
   pub more : List KeptRow
   pub rows_are : kept' ≡ kept ++ more
@@ -104,7 +105,7 @@ pub record GainsRows (app : Application) (limits : Limits) (base : Run) (points 
 -- ---- blocks
 
 -- the points of a block
-abbrev pub block_points : Work → ℕ → List Point
+abbrev pub block_points : Work → ℕ → List (List Injection)
 block_points work block = take (slice_index work.lengths block) (drop (sum (take block work.lengths)) work.points)
 
 -- these are the rows of each block

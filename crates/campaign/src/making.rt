@@ -209,8 +209,8 @@ pub(crate) fn campaign_from<R: Threads + Wait + Sync, G: Gate + Sync>(
     Ok(Finished { report, seats })
 }
 
-/// Runs an application once for each of these points, under these limits, and reports the rows: a row's point is injected where
-/// the base run reaches its step, else the row is the base run. There are at most 1,000,000 points, and their handlers are the
+/// Runs an application once for each of these points, under these limits, and reports the rows: a row's injections come where
+/// the base run gets beyond the step of the first, else the row is the base run. There are at most 1,000,000 points, and their handlers are the
 /// application's.
 ///
 /// So many workers make the rows, 1 to 64, each in a thread of its own where one can be started; this thread is one of them. A

@@ -12,7 +12,7 @@ pub(crate) struct Rest {
     pub(crate) end: End,
 }
 
-/// The kernel as it stood before a step of some row, behind that row's injection, and how the row went on from there. So does each
+/// The kernel as it stood before a step of some row, behind that row's last injection, and how the row went on from there. So does each
 /// row that comes to the same kernel.
 #[derive(Drop)]
 pub(crate) struct Mark {

@@ -19,12 +19,13 @@ pub(crate) fn base_run(alloc: Global, app: &App, limits: Limits) -> Result<Run, 
     kernel::run(alloc, app, &plan, limits, &mut Meter::new())
 }
 
-// Whether the point is reached, and its row. The base run comes first, and is the row where it ends before the point's step.
-fn row_of(alloc: Global, app: &App, point: Point) -> Result<(bool, Run), Memory>
-    ensures { IfOk result (λ row. IsRow app.now app.now.limits point row.0 row.1) }
+// Whether the point is reached, and its row. The base run comes first, and is the row where it ends before the point's first
+// injection.
+fn row_of(alloc: Global, app: &App, point: &Point) -> Result<(bool, Run), Memory>
+    ensures { IfOk result (λ row. IsRow app.now app.now.limits point.now row.0 row.1) }
 {
     let base = base_run(alloc, app, app.limits())?;
-    if point.step >= base.steps {
+    if point.first_step() >= base.steps {
         return Ok((false, base));
     }
     let plan = Plan::of(alloc, point)?;
@@ -43,11 +44,8 @@ fn asked_run(alloc: Global, app: &App, at: Option<At<'_>>) -> Result<(Title, Run
     let Some(handler) = app.handler_named(at.handler) else {
         return Err(ServeFault::UnknownHandler);
     };
-    let point = Point {
-        step: at.step,
-        handler,
-    };
-    let (reached, run) = row_of(alloc, app, point)?;
+    let point = Point::one(at.step, handler);
+    let (reached, run) = row_of(alloc, app, &point)?;
     let title = Title::Row {
         number: 0,
         point,

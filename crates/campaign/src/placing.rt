@@ -61,7 +61,7 @@ fn count_rows(base: &Run, part: &Part, first: usize, count: usize, totals: &mut 
 {
     let steps = base.steps;
     for row in &part.kept[first..first + count] {
-        let is_reached = row.point.step < steps;
+        let is_reached = row.point.first_step() < steps;
         totals.count(is_reached, row.end);
     }
 }

@@ -18,8 +18,8 @@ pub enum ExpandFault {
 }
 
 // For how many points an entry stands, where the base run has so many steps.
-fn count_of(entry: PointEntry, steps: u32) -> usize
-    ensures count { result ≡ length (points_of steps entry) }
+fn count_of(entry: &PointEntry, steps: u32) -> usize
+    ensures count { result ≡ length (points_of steps entry.now) }
     ensures few { result ≤ 2 ^ 32 }
 {
     match entry {
@@ -35,7 +35,7 @@ fn count_points(entries: &[PointEntry], steps: u32) -> Option<usize>
 {
     let mut count = 0;
     for entry in entries {
-        count += count_of(*entry, steps);
+        count += count_of(entry, steps);
         if count > App::MOST_POINTS {
             return None;
         }
@@ -44,10 +44,10 @@ fn count_points(entries: &[PointEntry], steps: u32) -> Option<usize>
 }
 
 // Appends a point.
-fn push_point(points: &mut Vec<Point>, point: Point) -> Result<(), Memory>
-    ensures { OnOk result (points.new.items ≡ points.old.items ++ point ∷ []) }
+fn push_point(points: &mut Vec<Point>, point: &Point) -> Result<(), Memory>
+    ensures { OnOk result (points.new.items ≡ points.old.items ++ point.now ∷ []) }
 {
-    points.push(point)?;
+    points.push(*point)?;
     Ok(())
 }
 
@@ -56,18 +56,18 @@ fn push_every(points: &mut Vec<Point>, handler: HandlerId, steps: u32) -> Result
     ensures { OnOk result (points.new.items ≡ points.old.items ++ every_step handler steps) }
 {
     for step in 0..steps {
-        push_point(points, Point { step, handler })?;
+        push_point(points, &Point::one(step, handler))?;
     }
     Ok(())
 }
 
 // Appends the points of an entry.
-fn push_entry(points: &mut Vec<Point>, entry: PointEntry, steps: u32) -> Result<(), Memory>
-    ensures { OnOk result (points.new.items ≡ points.old.items ++ points_of steps entry) }
+fn push_entry(points: &mut Vec<Point>, entry: &PointEntry, steps: u32) -> Result<(), Memory>
+    ensures { OnOk result (points.new.items ≡ points.old.items ++ points_of steps entry.now) }
 {
     match entry {
         PointEntry::One(point) => push_point(points, point),
-        PointEntry::Every(handler) => push_every(points, handler, steps),
+        PointEntry::Every(handler) => push_every(points, *handler, steps),
     }
 }
 
@@ -90,7 +90,7 @@ fn points_from(
         return Err(Memory);
     }
     for entry in entries {
-        push_entry(&mut points, *entry, steps)?;
+        push_entry(&mut points, entry, steps)?;
     }
     Ok(points)
 }

@@ -4,17 +4,19 @@ ghost use Rattle.std.specs.Prelude.{◌<◌};
 use model::Point;
 
 /// The number of the row that was made last of a point, so that a point that comes again is not run again. It is a guess, as
-/// points of steps that are 64 apart share a place.
+/// points of steps that are 64 apart share a place, and those of the same first injection.
 #[derive(Drop)]
 pub(crate) struct Recent {
     rows: [usize; 1024],
 }
 
-// The place of a point.
+// The place of a point, by its first injection.
 fn place(point: &Point) -> usize
     ensures { result < 1024 }
 {
-    (point.step as usize % 64) * 16 + point.handler.number as usize
+    point.well_formed();
+    let first = &point.injections()[0];
+    (first.step as usize % 64) * 16 + first.handler.number as usize
 }
 
 impl Recent {

@@ -13,8 +13,8 @@ pub(crate) struct Stretch {
 }
 
 /// A row as it is kept: its events begin with so many of the base run's, go on with its own, and end with those that a row told
-/// which had come to the same kernel: this one, or one before it. Its point is reached where the base run gets beyond the point's
-/// step.
+/// which had come to the same kernel: this one, or one before it. Its point is reached where the base run gets beyond the step of the
+/// first injection.
 #[derive(Clone, Copy)]
 pub(crate) struct KeptRow {
     pub(crate) point: Point,
@@ -44,8 +44,8 @@ pub(crate) struct Place {
 
 /// What one worker made.
 ///
-/// Until its injection a row tells what the base run tells, so those events are kept once for all rows; the events of a row from
-/// its injection on stand in the trail.
+/// Until its first injection a row tells what the base run tells, so those events are kept once for all rows; the events of a row from
+/// that injection on stand in the trail.
 #[derive(Drop)]
 pub(crate) struct Part {
     pub(crate) kept: Vec<KeptRow>,

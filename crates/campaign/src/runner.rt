@@ -1,5 +1,6 @@
 //! Running the rows of a worker, one after another.
-ghost use Rattle.std.specs.Prelude.{◌≡◌, ◌<◌, ◌≤◌, ◌+◌, ◌^◌, ◌∷◌, [], Some, None, option_map, IfOk, IfSome, OnOk};
+ghost use Rattle.std.specs.Prelude.{◌≡◌, ◌<◌, ◌≤◌, ◌+◌, ◌^◌, Some, None, min, option_map, IfOk, IfSome, OnOk};
+ghost use Rattle.model.specs.Points.{first_step, last_step};
 ghost use Rattle.model.specs.Run.{end_of, state_after};
 ghost use Rattle.machine.specs.Logged.{all_of};
 ghost use Rattle.machine.specs.Can.{IsUnderWay};
@@ -14,7 +15,7 @@ use model::{App, End, Limits, Memory, Meter, Point};
 use shelf::Shelf;
 use std::alloc::Global;
 
-// A row is compared with the mark, or a mark is put, at most so many steps behind its injection. By then most rows have come to
+// A row is compared with the mark, or a mark is put, at most so many steps behind its last injection. By then most rows have come to
 // the kernel of the row before. With fewer steps more rows would be run to their ends, and with more all rows be run further.
 const STEPS_TO_MARK: u32 = 64;
 
@@ -41,19 +42,18 @@ fn mark_at(kernel: Option<Snapshot>, rest: &Rest) -> Option<Mark>
     })
 }
 
-// The step up to which the row of a point is run before it is compared with the mark, or before a mark is put.
-fn meeting(mark: &Option<Mark>, shelf: &Shelf, point: &Point) -> u32
-    requires { point.now.step < shelf.now.base.steps }
-    ensures { point.now.step < result }
+// The step up to which the row of a point is run before it is compared with the mark, or before a mark is put. Its last injection comes
+// before that, or never: no run comes further than the greatest limit.
+fn meeting(mark: &Option<Mark>, point: &Point) -> u32
+    ensures { min (last_step point.now) 1000000 < result }
 {
-    // The base run gets beyond the point's step, so the sum below is greater than that.
-    let _steps = shelf.base().steps;
-    let latest = point.step.saturating_add(STEPS_TO_MARK);
+    let last = point.last_step().min(Limits::MOST);
+    let latest = last + STEPS_TO_MARK;
     let Some(mark) = mark else {
         return latest;
     };
     let step = mark.kernel.steps();
-    if point.step < step && step <= latest {
+    if last < step && step <= latest {
         step
     } else {
         latest
@@ -83,8 +83,8 @@ impl Runner {
 
     // The rest of a row that has come to its end: nothing.
     fn no_rest(&self, app: &App, limits: &Limits, point: &Point, end: End) -> Rest
-        requires way { IsUnderWay app.now (point.now ∷ []) limits.now self.now.kernel }
-        requires end { end_of app.now limits.now (state_after app.now (point.now ∷ []) self.now.kernel.steps) ≡ Some end }
+        requires way { IsUnderWay app.now point.now limits.now self.now.kernel }
+        requires end { end_of app.now limits.now (state_after app.now point.now self.now.kernel.steps) ≡ Some end }
         ensures { IsRestOf app.now limits.now (all_of self.now.trail) point.now self.now.kernel result }
     {
         limits.well_formed();
@@ -102,11 +102,12 @@ impl Runner {
 
     // The rest of the row of a point that is known, since it has come to the kernel of the mark.
     fn known_rest(&self, app: &App, limits: &Limits, point: &Point) -> Option<Rest>
-        requires way { IsUnderWay app.now (point.now ∷ []) limits.now self.now.kernel }
-        requires beyond { point.now.step < self.now.kernel.steps }
+        requires way { IsUnderWay app.now point.now limits.now self.now.kernel }
+        requires beyond { last_step point.now < self.now.kernel.steps }
         requires mark { IsMarked app.now limits.now (all_of self.now.trail) self.now.mark }
         ensures { IfSome result (IsRestOf app.now limits.now (all_of self.now.trail) point.now self.now.kernel) }
     {
+        point.well_formed();
         let Some(mark) = &self.mark else {
             return None;
         };
@@ -135,19 +136,20 @@ impl Runner {
         point: &Point,
         meter: &mut Meter,
     ) -> Result<Rest, Memory>
-        requires way { IsUnderWay app.now (point.now ∷ []) limits.now self.old.kernel }
-        requires beyond { point.now.step < self.old.kernel.steps }
+        requires way { IsUnderWay app.now point.now limits.now self.old.kernel }
+        requires beyond { last_step point.now < self.old.kernel.steps }
         requires meter { meter.old < 2 ^ 62 + self.old.kernel.steps }
         ensures told { OnOk result (Extends (all_of self.old.trail) (all_of self.new.trail)) }
         ensures rest { IfOk result (IsRestOf app.now limits.now (all_of self.new.trail) point.now self.old.kernel) }
         ensures mark { OnOk result (IsMarked app.now limits.now (all_of self.new.trail) self.new.mark) }
     {
+        point.well_formed();
         let kernel = self.snapshot();
         let before = self.trail.len();
         let ending = run_rest(
             &mut self.kernel,
             app,
-            &[*point],
+            point.injections(),
             limits,
             meter,
             &mut self.log,
@@ -176,9 +178,9 @@ impl Runner {
         end: Option<End>,
         meter: &mut Meter,
     ) -> Result<Rest, Memory>
-        requires way { IsUnderWay app.now (point.now ∷ []) limits.now self.old.kernel }
-        requires beyond { point.now.step < self.old.kernel.steps }
-        requires end { end ≡ end_of app.now limits.now (state_after app.now (point.now ∷ []) self.old.kernel.steps) }
+        requires way { IsUnderWay app.now point.now limits.now self.old.kernel }
+        requires beyond { end ≡ None → last_step point.now < self.old.kernel.steps }
+        requires end { end ≡ end_of app.now limits.now (state_after app.now point.now self.old.kernel.steps) }
         requires mark { IsMarked app.now limits.now (all_of self.old.trail) self.old.mark }
         requires meter { meter.old < 2 ^ 62 + self.old.kernel.steps }
         ensures told { OnOk result (Extends (all_of self.old.trail) (all_of self.new.trail)) }
@@ -195,15 +197,15 @@ impl Runner {
     }
 
     // The row of a point that the base run doesn't reach: it is the base run.
-    fn missed(&self, app: &App, shelf: &Shelf, point: Point) -> KeptRow
+    fn missed(&self, app: &App, shelf: &Shelf, point: &Point) -> KeptRow
         requires shelf { IsShelf app.now shelf.now }
-        requires missed { shelf.now.base.steps ≤ point.step }
-        ensures { GainsRow app.now shelf.now.limits shelf.now.base point (all_of self.now.trail) (all_of self.now.trail) result }
+        requires missed { shelf.now.base.steps ≤ first_step point.now }
+        ensures { GainsRow app.now shelf.now.limits shelf.now.base point.now (all_of self.now.trail) (all_of self.now.trail) result }
     {
         let base = shelf.base();
         let end = self.trail.len();
         KeptRow {
-            point,
+            point: *point,
             shared: base.events.len(),
             own: Stretch { from: end, to: end },
             rest: Stretch { from: end, to: end },
@@ -216,18 +218,20 @@ impl Runner {
     // The row of a point that the base run reaches.
     fn reached(&mut self, app: &App, shelf: &Shelf, point: &Point) -> Result<KeptRow, Memory>
         requires shelf { IsShelf app.now shelf.now }
-        requires reached { point.now.step < shelf.now.base.steps }
+        requires reached { first_step point.now < shelf.now.base.steps }
         requires mark { IsMarked app.now shelf.now.limits (all_of self.old.trail) self.old.mark }
         ensures row { IfOk result (GainsRow app.now shelf.now.limits shelf.now.base point.now
             (all_of self.old.trail) (all_of self.new.trail)) }
         ensures mark { OnOk result (IsMarked app.now shelf.now.limits (all_of self.new.trail) self.new.mark) }
     {
+        let limits = shelf.limits();
+        limits.well_formed();
         let from = self.trail.len();
-        let until = meeting(&self.mark, shelf, point);
+        let until = meeting(&self.mark, point);
         let mut meter = Meter::new();
         let begun = shelf.begin_row(
             app,
-            *point,
+            point,
             until,
             &mut self.kernel,
             &mut meter,
@@ -235,7 +239,7 @@ impl Runner {
             &mut self.trail,
         )?;
         let to = self.trail.len();
-        let rest = self.rest(app, &shelf.limits(), point, begun.end, &mut meter)?;
+        let rest = self.rest(app, &limits, point, begun.end, &mut meter)?;
         Ok(KeptRow {
             point: *point,
             shared: begun.before,
@@ -258,7 +262,7 @@ impl Runner {
         if shelf.reaches(point) {
             self.reached(app, shelf, point)
         } else {
-            Ok(self.missed(app, shelf, *point))
+            Ok(self.missed(app, shelf, point))
         }
     }
 }

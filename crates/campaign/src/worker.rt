@@ -58,6 +58,8 @@ fn again(kept: &[KeptRow], recent: &Recent, point: &Point) -> Option<KeptRow>
     ensures { IfSome result (IsAmong kept.now point.now) }
 {
     let row = kept.get(recent.row(point))?;
+    row.point.well_formed();
+    point.well_formed();
     if row.point == *point {
         Some(*row)
     } else {

@@ -51,7 +51,7 @@ fn add_row<W: Sink>(
         (row_text text.old.app number (row_of base.now trail.now row.now)) }
     ensures failed { W.has_failed writer.new ≡ is_err result }
 {
-    let reached = row.point.step < base.steps;
+    let reached = row.point.first_step() < base.steps;
     let title = Title::Row {
         number: number as u32,
         point: row.point,

@@ -3,12 +3,12 @@ ghost use Rattle.std.specs.Prelude.{◌<◌};
 
 use crate::loading::loaded;
 use crate::sinks::check_text;
-use model::{App, BadPlan, Event, HandlerId, Meter, Plan, Point, What};
+use model::{App, BadPlan, Event, HandlerId, Injection, Meter, Plan, What};
 use std::alloc::{AllocError, Global};
 use std::process::Abort;
 
 // A caller that is woken in vain, a task of its priority that works, and one above them that waits at another queue.
-const THREE_POINTS: &str = r"
+const THREE_INJECTIONS: &str = r"
 queue = [{ name = 'p', length = 1 }, { name = 'q', length = 1 }]
 handler = [
     { name = 'in_vain', ops = ['send q 1', 'receive q'] },
@@ -27,12 +27,12 @@ fn plan_of(
     rt: &impl Abort,
     alloc: Global,
     app: &App,
-    points: &[(u32, &str)],
+    injections: &[(u32, &str)],
 ) -> Result<Plan, AllocError> {
     let mut plan = Vec::new(alloc);
-    for (step, name) in points {
+    for (step, name) in injections {
         let handler = app.handler_named(name).expect(rt, "a handler");
-        plan.push(Point {
+        plan.push(Injection {
             step: *step,
             handler,
         })?;
@@ -69,13 +69,13 @@ const SWITCHES: &str = "4 caller
 #[test]
 fn a_call_that_waited_before_and_need_not_now_gives_way(rt: HostRuntime) -> Result<(), AllocError> {
     let alloc = rt.alloc();
-    let app = loaded(&rt, alloc, THREE_POINTS);
-    let points = [(11, "in_vain"), (13, "send_q"), (14, "send_p")];
-    let plan = plan_of(&rt, alloc, &app, &points)?;
+    let app = loaded(&rt, alloc, THREE_INJECTIONS);
+    let injections = [(11, "in_vain"), (13, "send_q"), (14, "send_p")];
+    let plan = plan_of(&rt, alloc, &app, &injections)?;
     let run = kernel::run(alloc, &app, &plan, app.limits(), &mut Meter::new());
     let run = run.expect(&rt, "memory");
     let seen = switches(alloc, &app, run.events.as_slice())?;
-    let name = "three points";
+    let name = "three injections";
     check_text(&rt, alloc, name, seen.as_bytes(), SWITCHES);
     Ok(())
 }
@@ -140,11 +140,11 @@ fn a_step_of_112_marks(rt: HostRuntime) -> Result<(), AllocError> {
 fn refusal_of(rt: &impl Abort, alloc: Global, steps: &[u32]) -> Option<BadPlan> {
     let mut plan = Vec::new(alloc);
     for step in steps {
-        let point = Point {
+        let injection = Injection {
             step: *step,
             handler: HandlerId { number: 0 },
         };
-        plan.push(point).expect(rt, "memory");
+        plan.push(injection).expect(rt, "memory");
     }
     Plan::new(plan).err()
 }

@@ -221,7 +221,7 @@ fn points_are_loaded(rt: HostRuntime) {
     let app = loaded(&rt, rt.alloc(), POINTS);
     let h = HandlerId { number: 0 };
     let all = HandlerId { number: 1 };
-    let at = |step: u32, handler: HandlerId| PointEntry::One(Point { step, handler });
+    let at = |step: u32, handler: HandlerId| PointEntry::One(Point::one(step, handler));
     let points = [
         at(0, h),
         at(0, h),

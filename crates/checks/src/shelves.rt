@@ -2,7 +2,7 @@
 ghost use Rattle.std.specs.Prelude.{◌<◌, ◌≤◌};
 
 use crate::loading::loaded;
-use model::{App, HandlerId, Meter, Point};
+use model::{App, HandlerId, Injection, Meter, Point};
 use shelf::{Row, Shelf};
 use std::alloc::Global;
 use std::process::Abort;
@@ -85,21 +85,46 @@ const COSTS: [Cost; 8] = [
     },
 ];
 
-/// The row of the first handler before this step, and how many steps were run for it.
-fn row_from(rt: &impl Abort, alloc: Global, app: &App, stride: u32, step: u32) -> (Row, u64)
+/// The row of a point, and how many steps were run for it.
+fn row_of(rt: &impl Abort, alloc: Global, app: &App, stride: u32, point: Point) -> (Row, u64)
     requires some { 0 < stride }
     requires few { stride ≤ 65536 }
 {
     let shelf = Shelf::make(alloc, app, app.limits(), stride).expect(rt, "memory");
-    let point = Point {
-        step,
-        handler: HandlerId { number: 0 },
-    };
     let mut meter = Meter::new();
     let row = shelf
         .run_point(alloc, app, point, &mut meter)
         .expect(rt, "memory");
     (row, meter.steps())
+}
+
+/// The row of the first handler before this step, and how many steps were run for it.
+fn row_from(rt: &impl Abort, alloc: Global, app: &App, stride: u32, step: u32) -> (Row, u64)
+    requires some { 0 < stride }
+    requires few { stride ≤ 65536 }
+{
+    let point = Point::one(step, HandlerId { number: 0 });
+    row_of(rt, alloc, app, stride, point)
+}
+
+/// The same of the first handler before both of these steps.
+fn row_of_two(rt: &impl Abort, alloc: Global, app: &App, stride: u32, steps: [u32; 2]) -> (Row, u64)
+    requires some { 0 < stride }
+    requires few { stride ≤ 65536 }
+{
+    let handler = HandlerId { number: 0 };
+    let injections = [
+        Injection {
+            step: steps[0],
+            handler,
+        },
+        Injection {
+            step: steps[1],
+            handler,
+        },
+    ];
+    let point = Point::new(&injections).ok().expect(rt, "a point");
+    row_of(rt, alloc, app, stride, point)
 }
 
 #[test]
@@ -125,4 +150,23 @@ fn a_row_is_the_same_from_each_stride(rt: HostRuntime) {
             assert!(rt; row.run.end == wanted.run.end);
         }
     }
+}
+
+// The second comes past the end of the base run, which has seven steps, and before the row's own. What a row costs goes by the first.
+#[test]
+fn a_row_of_two_injections(rt: HostRuntime) {
+    let app = loaded(&rt, rt.alloc(), RECEIVE);
+    for stride in 1..9_u32 {
+        let (row, run) = row_of_two(&rt, rt.alloc(), &app, stride, [3, 10]);
+        let stop = 3 / stride * stride;
+        assert!(rt; row.reached && row.run.steps == 17, "stride {stride}");
+        assert!(rt; run == u64::from(17 - stop), "stride {stride}");
+    }
+}
+
+#[test]
+fn a_row_whose_first_injection_is_at_the_end_is_the_base_run(rt: HostRuntime) {
+    let app = loaded(&rt, rt.alloc(), RECEIVE);
+    let (row, run) = row_of_two(&rt, rt.alloc(), &app, 4, [7, 8]);
+    assert!(rt; !row.reached && row.run.steps == 7 && run == 0);
 }

@@ -9,7 +9,7 @@ use byte_io::ToWriter;
 use campaign::{NoGate, write_report};
 use deal::Division;
 use dice::Dice;
-use model::{App, End, HandlerId, Memory, Meter, Plan, Point, Run};
+use model::{App, End, HandlerId, Injection, Memory, Meter, Plan, Point, Run};
 use report::{Title, write_run};
 use std::alloc::Global;
 use std::process::Abort;
@@ -69,21 +69,54 @@ impl Seen {
     }
 }
 
-/// Twelve points of the three handlers, a few of them past the end of a run of so many steps, in no order.
+/// One of the three handlers, before this step.
+fn injection_at(dice: &mut Dice, step: u32) -> Option<Injection> {
+    let number = u8::try_from(dice.roll(3)).ok()?;
+    let handler = HandlerId::new(number)?;
+    Some(Injection { step, handler })
+}
+
+/// How many injections a point has: as often one as several.
+fn count_of(dice: &mut Dice) -> u32 {
+    match dice.roll(4) {
+        0 => 3,
+        1 => 2,
+        _ => 1,
+    }
+}
+
+/// How many steps lie between two injections of a point: none, a few, or more than rows are run before they are compared.
+fn distance_of(dice: &mut Dice) -> u32 {
+    match dice.roll(4) {
+        0 => 0,
+        1 => dice.roll(100),
+        _ => dice.roll(8),
+    }
+}
+
+/// A point of the three handlers, now and then past the end of a run of so many steps.
+fn point_of(dice: &mut Dice, alloc: Global, steps: u32) -> Option<Point> {
+    let mut injections = Vec::new(alloc);
+    let mut step = dice.roll(steps.saturating_add(3).max(1));
+    for _ in 0..count_of(dice) {
+        injections.push(injection_at(dice, step)?).ok()?;
+        step = step.saturating_add(distance_of(dice));
+    }
+    Point::new(injections.as_slice()).ok()
+}
+
+/// Twelve such points, in no order.
 fn points_of(dice: &mut Dice, alloc: Global, steps: u32) -> Option<Vec<Point>> {
     let mut points = Vec::new(alloc);
     for _ in 0..12_u8 {
-        let step = dice.roll(steps.saturating_add(3).max(1));
-        let handler = HandlerId::new(u8::try_from(dice.roll(3)).ok()?)?;
-        points.push(Point { step, handler }).ok()?;
+        points.push(point_of(dice, alloc, steps)?).ok()?;
     }
     Some(points)
 }
 
-/// The run with these points, alone.
-fn alone(rt: &impl Abort, alloc: Global, app: &App, points: Vec<Point>) -> Run {
-    let plan = Plan::new(points).ok().expect(rt, "a plan");
-    kernel::run(alloc, app, &plan, app.limits(), &mut Meter::new()).expect(rt, "memory")
+/// The run with this plan, alone.
+fn alone(rt: &impl Abort, alloc: Global, app: &App, plan: &Plan) -> Run {
+    kernel::run(alloc, app, plan, app.limits(), &mut Meter::new()).expect(rt, "memory")
 }
 
 /// The text of the row of a point, which is run alone, where the base run has so many steps.
@@ -96,12 +129,13 @@ fn row_of(
     point: &Point,
     seen: &mut Seen,
 ) -> Vec<u8> {
-    let reached = point.step < steps;
-    let mut points = Vec::new(alloc);
-    if reached {
-        points.push(*point).ok().expect(rt, "memory");
-    }
-    let run = alone(rt, alloc, app, points);
+    let reached = point.first_step() < steps;
+    let plan = if reached {
+        Plan::of(alloc, point).ok().expect(rt, "memory")
+    } else {
+        Plan::none(alloc)
+    };
+    let run = alone(rt, alloc, app, &plan);
     let title = Title::Row {
         number: u32::try_from(number).ok().expect(rt, "a number"),
         point: *point,
@@ -192,7 +226,7 @@ fn report_in_blocks<R: Abort + Threads + Wait + Sync>(
 
 /// In how many steps the base run ends.
 fn base_steps(rt: &impl Abort, alloc: Global, app: &App) -> u32 {
-    alone(rt, alloc, app, Vec::new(alloc)).steps
+    alone(rt, alloc, app, &Plan::none(alloc)).steps
 }
 
 /// The report over these points, each of whose rows is run alone, where the base run has so many steps.

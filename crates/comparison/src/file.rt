@@ -1,8 +1,8 @@
 //! An application as a file, so that one can run it.
 
 use model::{
-    Access, App, Condition, HandlerDefinition, Interrupt, IsrOp, ObjectId, ObjectKind, Op, Point,
-    TaskDefinition,
+    Access, App, Condition, HandlerDefinition, Injection, Interrupt, IsrOp, ObjectId, ObjectKind,
+    Op, Plan, Point, TaskDefinition,
 };
 use std::alloc::{AllocError, Global};
 
@@ -230,22 +230,35 @@ pub(crate) fn file_of(alloc: Global, app: &App) -> Result<String, AllocError> {
     Ok(file)
 }
 
-fn push_points(text: &mut String, app: &App, points: &[Point]) -> Result<(), AllocError> {
-    for point in points {
-        push_number(text, point.step)?;
-        push_word(text, app.handler_name(point.handler))?;
-        text.push_str(",")?;
+fn push_injections(
+    text: &mut String,
+    app: &App,
+    injections: &[Injection],
+) -> Result<(), AllocError> {
+    for injection in injections {
+        push_number(text, injection.step)?;
+        push_word(text, app.handler_name(injection.handler))?;
     }
     Ok(())
 }
 
-/// The points of a plan, as words.
+/// The injections of a plan, as words.
+pub(crate) fn plan_text(alloc: Global, app: &App, plan: &Plan) -> Result<String, AllocError> {
+    let mut text = String::new(alloc);
+    push_injections(&mut text, app, plan.injections())?;
+    Ok(text)
+}
+
+/// Points as words, with a comma behind each.
 pub(crate) fn points_text(
     alloc: Global,
     app: &App,
     points: &[Point],
 ) -> Result<String, AllocError> {
     let mut text = String::new(alloc);
-    push_points(&mut text, app, points)?;
+    for point in points {
+        push_injections(&mut text, app, point.injections())?;
+        text.push_str(",")?;
+    }
     Ok(text)
 }

@@ -1,13 +1,13 @@
-//! Plans that are made while the slow program runs, so that many of their points lie inside calls.
+//! Plans that are made while the slow program runs, so that many of their injections lie inside calls.
 
 use dice::Dice;
-use model::{App, End, HandlerId, Limits, Point};
+use model::{App, End, HandlerId, Injection, Limits};
 use slow::SlowKernel;
 use std::alloc::Global;
 
-/// How many points were made.
+/// How many injections were made.
 #[derive(Clone, Copy, Debug, Default)]
-pub(crate) struct Points {
+pub(crate) struct Injections {
     pub(crate) all: usize,
     /// Those before a step of a call in Decide, Place, Unlock or Leave.
     pub(crate) inside_calls: usize,
@@ -28,23 +28,23 @@ pub(crate) struct Planner {
     /// Handlers come before one of so many steps inside calls and while the scheduler is suspended, and before one of three
     /// times as many others.
     rarity: u32,
-    pub(crate) points: Vec<Point>,
-    pub(crate) made: Points,
+    pub(crate) injections: Vec<Injection>,
+    pub(crate) made: Injections,
 }
 
 impl Planner {
-    /// A planner that makes no points.
+    /// A planner that makes no injections.
     pub(crate) fn idle(alloc: Global) -> Self {
         Planner {
             dice: Dice::new(0),
             left: 0,
             rarity: 1,
-            points: Vec::new(alloc),
-            made: Points::default(),
+            injections: Vec::new(alloc),
+            made: Injections::default(),
         }
     }
 
-    /// A planner that makes one point or a few, or many.
+    /// A planner that makes one injection or a few, or many.
     pub(crate) fn new(alloc: Global, seed: u32) -> Self {
         let mut dice = Dice::new(seed);
         let left = match dice.roll(4) {
@@ -57,8 +57,8 @@ impl Planner {
             dice,
             left,
             rarity,
-            points: Vec::new(alloc),
-            made: Points::default(),
+            injections: Vec::new(alloc),
+            made: Injections::default(),
         }
     }
 
@@ -80,7 +80,7 @@ impl Planner {
         1 + self.dice.roll(3)
     }
 
-    /// Counts a point before the next step of the slow program.
+    /// Counts an injection before the next step of the slow program.
     fn count(&mut self, slow: &SlowKernel) {
         let is_inside_call = slow.is_inside_call();
         let is_locked = slow.is_locked();
@@ -97,20 +97,20 @@ impl Planner {
     fn push(&mut self, step: u32) -> Option<()> {
         let number = self.dice.roll(3) as u8;
         let handler = HandlerId { number };
-        self.points.push(Point { step, handler }).ok()
+        self.injections.push(Injection { step, handler }).ok()
     }
 
-    /// Makes the points before the next step.
-    fn plan_step(&mut self, slow: &SlowKernel) -> Option<&[Point]> {
-        let old = self.points.len();
+    /// Makes the injections before the next step.
+    fn plan_step(&mut self, slow: &SlowKernel) -> Option<&[Injection]> {
+        let old = self.injections.len();
         for _ in 0..self.roll_count(slow) {
             self.push(slow.steps)?;
             self.count(slow);
         }
-        self.points.as_slice().get(old..)
+        self.injections.as_slice().get(old..)
     }
 
-    /// Makes up to two points past the end of the run, where more may come.
+    /// Makes up to two injections past the end of the run, where more may come.
     fn plan_late(&mut self, steps: u32) -> Option<()> {
         let mut step = steps;
         if self.left == 0 {
@@ -131,8 +131,8 @@ impl Planner {
             if slow.end(app, limits).is_some() {
                 break;
             }
-            let points = self.plan_step(slow)?;
-            slow.step(app, points);
+            let injections = self.plan_step(slow)?;
+            slow.step(app, injections);
         }
         self.plan_late(slow.steps)?;
         if slow.is_out_of_memory {

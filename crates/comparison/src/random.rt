@@ -1,7 +1,7 @@
 //! Runs of the kernel beside runs of the slow program, on many small applications.
 
-use crate::file::{file_of, points_text};
-use crate::planner::{Planner, Points};
+use crate::file::{file_of, plan_text};
+use crate::planner::{Injections, Planner};
 use dice::Dice;
 use model::{App, HandlerDefinition, Meter, Plan, TaskDefinition};
 use script::FromDocument;
@@ -12,9 +12,9 @@ use std::process::Abort;
 /// Fails the test, and shows the application as a file.
 fn fail(rt: &impl Abort, alloc: Global, seed: u32, app: &App, plan: &Plan, what: &str) {
     let file = file_of(alloc, app).expect(rt, "memory");
-    let points = points_text(alloc, app, plan.points()).expect(rt, "memory");
+    let injected = plan_text(alloc, app, plan).expect(rt, "memory");
     panic!(rt;
-        "seed {seed}: other {what} than the slow program, with points{points} on this file\n{file}"
+        "seed {seed}: other {what} than the slow program, with injections{injected} on this file\n{file}"
     );
 }
 
@@ -72,11 +72,11 @@ struct Seen {
     not_suspended: usize,
     not_holder: usize,
     ended_suspended: usize,
-    points: Points,
+    injections: Injections,
 }
 
 impl Seen {
-    fn count(&mut self, slow: &SlowKernel, has_wrapped: bool, points: &Points) {
+    fn count(&mut self, slow: &SlowKernel, has_wrapped: bool, injections: &Injections) {
         let tally = slow.tally;
         add(&mut self.wraps, has_wrapped as usize);
         see(&mut self.wakes, tally.wakes);
@@ -92,7 +92,7 @@ impl Seen {
         self.count_groups(slow);
         self.count_suspensions(slow);
         self.count_misuses(slow);
-        self.count_points(points);
+        self.count_injections(injections);
     }
 
     fn count_groups(&mut self, slow: &SlowKernel) {
@@ -123,12 +123,12 @@ impl Seen {
         see(&mut self.ended_suspended, tally.ended_suspended);
     }
 
-    fn count_points(&mut self, points: &Points) {
-        add(&mut self.points.all, points.all);
-        add(&mut self.points.inside_calls, points.inside_calls);
-        add(&mut self.points.locked, points.locked);
-        add(&mut self.points.suspended, points.suspended);
-        add(&mut self.points.late, points.late);
+    fn count_injections(&mut self, injections: &Injections) {
+        add(&mut self.injections.all, injections.all);
+        add(&mut self.injections.inside_calls, injections.inside_calls);
+        add(&mut self.injections.locked, injections.locked);
+        add(&mut self.injections.suspended, injections.suspended);
+        add(&mut self.injections.late, injections.late);
     }
 }
 
@@ -154,7 +154,7 @@ fn compare(
     let mut slow = SlowKernel::boot(alloc, app);
     let end = planner.run(&mut slow, app, &limits).expect(rt, "memory");
     let made = planner.made;
-    let plan = Plan::new(planner.points).ok().expect(rt, "a plan");
+    let plan = Plan::new(planner.injections).ok().expect(rt, "a plan");
     let mut meter = Meter::new();
     let run = kernel::run(alloc, app, &plan, limits, &mut meter).expect(rt, "memory");
     if run.events.as_slice() != slow.events.as_slice() {
@@ -196,7 +196,7 @@ impl Sort {
         }
     }
 
-    fn has_points(self, seed: u32) -> bool {
+    fn has_injections(self, seed: u32) -> bool {
         match self {
             Sort::Any => false,
             Sort::Crowd => true,
@@ -206,7 +206,7 @@ impl Sort {
     }
 
     fn planner(self, alloc: Global, seed: u32) -> Planner {
-        if self.has_points(seed) {
+        if self.has_injections(seed) {
             Planner::new(alloc, u32::MAX - seed)
         } else {
             Planner::idle(alloc)
@@ -244,9 +244,9 @@ fn the_slow_program_agrees(rt: HostRuntime) {
 #[test]
 fn the_slow_program_agrees_where_handlers_are_injected(rt: HostRuntime) {
     let seen = seen_in(&rt, rt.alloc(), Sort::Crowd);
-    let points = seen.points;
-    has_enough(&rt, &seen, points.all > 47_500 && points.late > 4_750);
-    let has_inside = points.inside_calls > points.all / 3 && points.locked > points.all / 6;
+    let made = seen.injections;
+    has_enough(&rt, &seen, made.all > 47_500 && made.late > 4_750);
+    let has_inside = made.inside_calls > made.all / 3 && made.locked > made.all / 6;
     has_enough(&rt, &seen, has_inside);
     let has_awakenings = seen.own_awakenings > 2_400 && seen.other_awakenings > 475;
     has_enough(&rt, &seen, has_awakenings && seen.mixed_unlocks > 45);
@@ -294,7 +294,7 @@ fn the_slow_program_agrees_where_tasks_are_suspended(rt: HostRuntime) {
     has_enough(
         &rt,
         &seen,
-        seen.held_wakes > 1_100 && seen.points.suspended > 20_000,
+        seen.held_wakes > 1_100 && seen.injections.suspended > 20_000,
     );
     let has_early_misuses = seen.while_suspended > 600 && seen.not_suspended > 600;
     has_enough(&rt, &seen, has_early_misuses && seen.ended_suspended > 900);

@@ -27,13 +27,8 @@ pub(crate) fn points_at(rt: &impl Abort, alloc: Global, steps: &[u32]) -> Vec<Po
     let handler = HandlerId::new(0).expect(rt, "a handler");
     let mut points = Vec::new(alloc);
     for step in steps {
-        points
-            .push(Point {
-                step: *step,
-                handler,
-            })
-            .ok()
-            .expect(rt, "memory");
+        let point = Point::one(*step, handler);
+        points.push(point).ok().expect(rt, "memory");
     }
     assert!(rt; points.len() <= 1_000_000, "few points");
     points

@@ -1,59 +1,122 @@
 -- The texts of points: which words spell which entry (profile).
-use Rattle.std.specs.Prelude.{◌≡◌, ℕ, true, ◌≤◌, nat_le, List, [], ◌∷◌, codes, Option, Some, None, option_map, option_and_then, if◌then◌else◌}
+use Rattle.std.specs.Prelude.{◌≡◌, ℕ, Bool, true, false, ◌≤◌, ◌&&◌, ◌||◌, not, nat_le, nat_lt, List, [], ◌∷◌, map, length, codes, Option, Some, None, option_map, option_and_then, if◌then◌else◌}
+use Rattle.std.specs.Option.{option_map_or}
 use Rattle.std.specs.Str.{bytes_eq}
+use Rattle.model.specs.declared.plan.Injection.{Injection}
 use Rattle.model.specs.declared.plan.PointEntry.{PointEntry}
 use Rattle.model.specs.declared.plan.PointEntry.TheVariants.{One, Every}
+use Rattle.model.specs.Points.{IsPoint, most_of_point}
 use Rattle.model.specs.Scripts.{last_point}
+use Rattle.grammar.specs.declared.raw_point.RawInjection.{RawInjection}
 use Rattle.grammar.specs.declared.raw_point.RawPoint.{RawPoint}
+use Rattle.grammar.specs.declared.raw_point.RawPoint.TheVariants as raw
 use Rattle.grammar.specs.Names.{is_name, index_of}
 use Rattle.grammar.specs.Grammar.{Word, number_of}
 
--- Words spell an entry, where the handlers have these names: a number, which is that of a step up to the last one, and the
--- name of a handler; or `all`, and the name of a handler.
+-- Words spell these injections, two words each, where the handlers have these names: the number of a step up to the last one, and the
+-- name of a handler.
+abbrev pub SpellsInjections : List Word → List Injection → List Word → Type 0
+SpellsInjections names [] [] = Unit {0}
+SpellsInjections names (i ∷ is) (w ∷ name ∷ ws) =
+    (number_of w ≡ Some i.step) × (i.step ≤ last_point) × (is_name name ≡ true) × (index_of name names ≡ Some i.handler)
+    × SpellsInjections names is ws
+SpellsInjections names is ws = ⊥
+
+-- Words spell an entry: the injections of a point; or `all`, and the name of a handler.
 abbrev pub SpellsEntry : List Word → PointEntry → List Word → Type 0
-SpellsEntry names (One point) (w ∷ name ∷ []) =
-    (number_of w ≡ Some point.step) × (point.step ≤ last_point) × (is_name name ≡ true) × (index_of name names ≡ Some point.handler)
+SpellsEntry names (One point) ws = IsPoint point × SpellsInjections names point ws
 SpellsEntry names (Every handler) (w ∷ name ∷ []) =
     (w ≡ codes "all") × (is_name name ≡ true) × (index_of name names ≡ Some handler)
 SpellsEntry names entry ws = ⊥
 
 -- ---- the same as a reading
 
--- the number of a step, where a point may be before it
+-- an injection whose handler is still a name
+pub record RawPair : Type 0 where
+  pub step : ℕ
+  pub handler : Word
+
+-- an entry whose handlers are still names
+pub data RawEntry : Type 0 where
+  RawOne : (pairs : List RawPair) → RawEntry
+  RawEvery : (handler : Word) → RawEntry
+
+-- what the code keeps of them
+abbrev pub pair_view : RawInjection → RawPair
+pair_view i = record { step = i.step; handler = i.handler.now }
+
+abbrev pub raw_view : RawPoint → RawEntry
+raw_view (raw.One pairs) = RawOne (map pair_view pairs.items)
+raw_view (raw.Every handler) = RawEvery handler.now
+
+-- the number of a step, where an injection may be before it
 abbrev pub if_step : ℕ → Option ℕ
 if_step n = if nat_le n last_point then Some n else None
 
--- the step that a word says: one, or every one
-abbrev pub step_of : Word → Option (Option ℕ)
-step_of w = if bytes_eq w (codes "all") then Some None else option_map Some (option_and_then if_step (number_of w))
+abbrev pub raw_at : Word → ℕ → RawPair
+raw_at name step = record { step = step; handler = name }
 
--- an entry whose handler is still a name
-pub record RawEntry : Type 0 where
-  -- its step, or every one
-  pub step : Option ℕ
-  pub handler : Word
+-- the injection that two words spell
+abbrev pub raw_pair : Word → Word → Option RawPair
+raw_pair w name =
+    if is_name name then option_map (raw_at name) (option_and_then if_step (number_of w)) else None
 
--- what the code keeps of it
-abbrev pub raw_view : RawPoint → RawEntry
-raw_view p = record { step = p.step; handler = p.handler.now }
+-- the first of some, and then the others, if all are there
+abbrev pub all_there : {X : Type 0} → Option X → Option (List X) → Option (List X)
+all_there (Some x) (Some xs) = Some (x ∷ xs)
+all_there x xs = None
 
--- the same of what a word says and a name
-abbrev pub raw_at : Word → Option ℕ → Option RawEntry
-raw_at name step = if is_name name then Some (record { step = step; handler = name }) else None
+-- the injections that words spell, two words each
+abbrev pub raw_pairs : List Word → Option (List RawPair)
+raw_pairs [] = Some []
+raw_pairs (w ∷ []) = None
+raw_pairs (w ∷ name ∷ ws) = all_there (raw_pair w name) (raw_pairs ws)
 
--- the entry that words spell, where some handler has its name
+-- Some step is less than the one before it, the first than this one.
+abbrev pub falls_from : ℕ → List RawPair → Bool
+falls_from last [] = false
+falls_from last (p ∷ ps) = nat_lt p.step last || falls_from p.step ps
+
+-- They may be a point: one to three, in the order of their steps.
+abbrev pub may_be_point : List RawPair → Bool
+may_be_point ps = nat_lt 0 (length ps) && (nat_le (length ps) most_of_point && not (falls_from 0 ps))
+
+abbrev pub if_point : List RawPair → Option RawEntry
+if_point ps = if may_be_point ps then Some (RawOne ps) else None
+
+-- The injections of the entry may be a point.
+abbrev pub is_formed : RawEntry → Bool
+is_formed (RawOne ps) = may_be_point ps
+is_formed (RawEvery name) = true
+
+-- the word behind `all`, where these are two words
+abbrev pub name_of_every : List Word → Option Word
+name_of_every (w ∷ name ∷ []) = if bytes_eq w (codes "all") then Some name else None
+name_of_every ws = None
+
+abbrev pub if_named : Word → Option RawEntry
+if_named name = if is_name name then Some (RawEvery name) else None
+
+-- the entry that words spell, where some handlers have its names
 abbrev pub raw_of : List Word → Option RawEntry
-raw_of (w ∷ name ∷ []) = option_and_then (raw_at name) (step_of w)
-raw_of ws = None
+raw_of ws = option_map_or if_named (name_of_every ws) (option_and_then if_point (raw_pairs ws))
 
--- the entry of a step, or of every one, and a handler
-abbrev pub entry_at : Option ℕ → ℕ → PointEntry
-entry_at None handler = Every handler
-entry_at (Some step) handler = One (record { step = step; handler = handler })
+abbrev pub injection_at : ℕ → ℕ → Injection
+injection_at step handler = record { step = step; handler = handler }
 
--- the entry whose handler this is, where the handlers have these names
+-- the injection, where a handler has its name
+abbrev pub known : List Word → RawPair → Option Injection
+known names p = option_map (injection_at p.step) (index_of p.handler names)
+
+-- all of these injections, where handlers have their names
+abbrev pub all_known : List Word → List RawPair → Option (List Injection)
+all_known names [] = Some []
+all_known names (p ∷ ps) = all_there (known names p) (all_known names ps)
+
+-- the entry whose handlers these are, where the handlers have these names
 abbrev pub entry_from : List Word → RawEntry → Option PointEntry
-entry_from names raw = option_map (entry_at raw.step) (index_of raw.handler names)
+entry_from names (RawOne ps) = option_map One (all_known names ps)
+entry_from names (RawEvery name) = option_map Every (index_of name names)
 
 -- the entry that words spell, where the handlers have these names
 abbrev pub entry_of : List Word → List Word → Option PointEntry

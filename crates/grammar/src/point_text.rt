@@ -1,61 +1,117 @@
 //! Which text spells which entry of points.
-ghost use Rattle.std.specs.Prelude.{◌≡◌, ◌≤◌, [], ◌∷◌, List, ℕ, option_map, None, Some, IfSome};
+ghost use Rattle.std.specs.Prelude.{◌≡◌, ◌≢◌, ◌≤◌, [], ◌∷◌, List, ℕ, map, option_and_then, option_map, None, Some, IfSome, MatchOption};
 ghost use Rattle.model.specs.declared.plan.PointEntry.{PointEntry};
 ghost use Rattle.model.specs.Scripts.{last_point};
-ghost use Rattle.grammar.specs.Grammar.{words_of};
-ghost use Rattle.grammar.specs.Points.{SpellsEntry, RawEntry, step_of, raw_view, raw_of, entry_at, entry_of};
+ghost use Rattle.grammar.specs.Grammar.{number_of, words_of};
+ghost use Rattle.grammar.specs.Points.{SpellsEntry, RawEntry, all_there, entry_of, falls_from, if_point, if_step, name_of_every, pair_view, raw_of, raw_pair, raw_pairs, raw_view};
 
 use crate::name::is_name;
-use crate::raw_point::RawPoint;
+use crate::raw_point::{RawInjection, RawPoint};
 use crate::words::{Words, number_of};
-use model::{HandlerId, Point, PointEntry};
+use arrayvec::ArrayVec;
 
-// The last step before which a point may be (profile).
+// The last step before which an injection may be (profile).
 const LAST_STEP: u32 = 1_000_000;
 
-// The step that a word says: one, or every one.
-fn step_of(word: &[u8]) -> Option<Option<u32>>
-    ensures step { result ≡ step_of word.now }
-    ensures range { IfSome result (λ step. IfSome step (λ n. n ≤ last_point)) }
+// The step that a word writes, where an injection may be before it.
+fn step_of(word: &[u8]) -> Option<u32>
+    ensures step { result ≡ option_and_then if_step (number_of word.now) }
+    ensures range { IfSome result (λ n. n ≤ last_point) }
 {
-    if word == b"all".as_slice() {
-        return Some(None);
-    }
     let step = number_of(word)?;
-    if step <= LAST_STEP {
-        Some(Some(step))
+    if step <= LAST_STEP { Some(step) } else { None }
+}
+
+// The injection that two words spell.
+fn raw_pair<'a>(word: &[u8], name: &'a [u8]) -> Option<RawInjection<'a>>
+    ensures { option_map pair_view result ≡ raw_pair word.now name.now }
+{
+    if !is_name(name) {
+        return None;
+    }
+    let step = step_of(word)?;
+    Some(RawInjection {
+        step,
+        handler: name,
+    })
+}
+
+// The injection that the next two words spell, of which one is there.
+fn next_pair<'a>(words: &mut Words<'a>) -> Option<RawInjection<'a>>
+    requires { words.old ≢ [] }
+    ensures { MatchOption result (raw_pairs words.old ≡ None)
+        (λ pair. raw_pairs words.old ≡ all_there (Some (pair_view pair)) (raw_pairs words.new)) }
+{
+    let step = words.next()?;
+    let name = words.next()?;
+    raw_pair(step, name)
+}
+
+// The injections that the words spell, where they are at most three.
+fn next_pairs<'a>(words: &mut Words<'a>) -> Option<ArrayVec<RawInjection<'a>, 3>>
+    ensures { MatchOption result (option_and_then if_point (raw_pairs words.old) ≡ None)
+        (λ pairs. raw_pairs words.old ≡ Some (map pair_view pairs.items)) }
+{
+    let mut pairs = ArrayVec::new();
+    while !words.is_at_end() {
+        if pairs.is_full() {
+            return None;
+        }
+        pairs.push(next_pair(words)?);
+    }
+    Some(pairs)
+}
+
+// Whether some step is less than the one before it.
+fn falls(pairs: &[RawInjection<'_>]) -> bool
+    ensures { result ≡ falls_from 0 (map pair_view pairs.now) }
+{
+    let mut last = 0;
+    for pair in pairs {
+        if pair.step < last {
+            return true;
+        }
+        last = pair.step;
+    }
+    false
+}
+
+// The point that a text spells, where some handlers have its names.
+fn read_one(text: &[u8]) -> Option<RawPoint<'_>>
+    ensures { option_map raw_view result ≡ option_and_then if_point (raw_pairs (words_of text.now)) }
+{
+    let pairs = next_pairs(&mut Words::new(text))?;
+    if pairs.is_empty() || falls(pairs.as_slice()) {
+        return None;
+    }
+    Some(RawPoint::One(pairs))
+}
+
+// The name behind `all`, where a text is these two words.
+fn name_of_every(text: &[u8]) -> Option<&[u8]>
+    ensures { option_map (λ name. name.now) result ≡ name_of_every (words_of text.now) }
+{
+    let mut words = Words::new(text);
+    let first = words.next()?;
+    let name = words.next()?;
+    if words.is_at_end() && first == b"all".as_slice() {
+        Some(name)
     } else {
         None
     }
 }
 
-/// The entry that a text spells, where some handler has its name; `None` where it spells none, whatever handlers there are.
+/// The entry that a text spells, where some handlers have its names; `None` where it spells none, whatever handlers there are.
 pub fn read_point(text: &[u8]) -> Option<RawPoint<'_>>
     ensures { option_map raw_view result ≡ raw_of (words_of text.now) }
 {
-    let mut words = Words::new(text);
-    let step = words.next()?;
-    let handler = words.next()?;
-    if !words.is_at_end() {
-        return None;
-    }
-    let step = step_of(step)?;
-    if is_name(handler) {
-        Some(RawPoint { step, handler })
+    let Some(name) = name_of_every(text) else {
+        return read_one(text);
+    };
+    if is_name(name) {
+        Some(RawPoint::Every(name))
     } else {
         None
-    }
-}
-
-impl RawPoint<'_> {
-    /// The entry of this step, or of every one, and this handler.
-    pub fn with_handler(&self, handler: HandlerId) -> PointEntry
-        ensures { result ≡ entry_at self.now.step handler }
-    {
-        match self.step {
-            Some(step) => PointEntry::One(Point { step, handler }),
-            None => PointEntry::Every(handler),
-        }
     }
 }
 
@@ -68,6 +124,6 @@ pub fn points_grammar()
         → SpellsEntry names entry ws → entry_of names ws ≡ Some entry }
     ensures never { (names : List (List ℕ)) (ws : List (List ℕ)) (entry : PointEntry)
         → raw_of ws ≡ None → SpellsEntry names entry ws → ⊥ }
-    ensures with_a_name { (ws : List (List ℕ)) (raw : RawEntry)
-        → raw_of ws ≡ Some raw → SpellsEntry (raw.handler ∷ []) (entry_at raw.step 0) ws }
+    ensures with_some_names { (ws : List (List ℕ)) (raw : RawEntry) → raw_of ws ≡ Some raw
+        → (names : List (List ℕ)) × (entry : PointEntry) × SpellsEntry names entry ws }
 {}

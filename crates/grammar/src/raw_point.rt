@@ -1,12 +1,32 @@
 //! Entries of points while they are read.
 ghost use Rattle.std.specs.Prelude.{◌≤◌};
-ghost use Rattle.std.specs.Option.{ForSome};
 ghost use Rattle.model.specs.Scripts.{last_point};
 
-/// An entry of points whose handler is still a name: its step, or every one.
-#[derive(Drop)]
-pub struct RawPoint<'a> {
-    pub step: Option<u32>,
+use arrayvec::ArrayVec;
+
+/// An injection whose handler is still a name.
+#[derive(Clone, Copy)]
+pub struct RawInjection<'a> {
+    pub step: u32,
     pub handler: &'a [u8],
-    pub ghost in_range: { ForSome step (λ n. n ≤ last_point) },
+    pub ghost in_range: { step ≤ last_point },
+}
+
+impl Default for RawInjection<'_> {
+    /// What lies in a place of a list that is taken by none.
+    fn default() -> Self {
+        RawInjection {
+            step: 0,
+            handler: &[],
+        }
+    }
+}
+
+/// An entry of points whose handlers are still names.
+#[derive(Drop)]
+pub enum RawPoint<'a> {
+    /// A point of these injections.
+    One(ArrayVec<RawInjection<'a>, 3>),
+    /// Every step, with this handler.
+    Every(&'a [u8]),
 }

@@ -1,7 +1,7 @@
 -- How the kernel goes on along the runs that come to it, stretch by stretch.
 use Rattle.std.proofs.Common.{◌+◌, ◌≡◌, ◌<◌, ◌≤◌, ℕ, suc, false, List, [], ◌++◌, None, ap, sym, subst, ◌∙◌, arith, append-nil, length}
 use Rattle.model.specs.declared.event.Event.{Event}
-use Rattle.model.specs.declared.plan.Point.{Point}
+use Rattle.model.specs.declared.plan.Injection.{Injection}
 use Rattle.model.specs.Application.{Application, Limits}
 use Rattle.model.specs.Scripts.{AreLimits, IsWellFormed}
 use Rattle.model.specs.State.{State}
@@ -22,7 +22,7 @@ use Rattle.kernel.proofs.Running.{free_before, goes_on, more_events, more_from, 
 -- ---- which runs
 
 -- Where the kernel has gone on, those that were so still are.
-pub free_next : {app : Application} {limits : Limits} {until : ℕ} {old new : Machine} {plan : List Point} → GoesTo app limits until old new → IsFree app limits until old plan → IsFree app limits until new plan
+pub free_next : {app : Application} {limits : Limits} {until : ℕ} {old new : Machine} {plan : List Injection} → GoesTo app limits until old new → IsFree app limits until old plan → IsFree app limits until new plan
 free_next {app} {limits} {until} {old} {new} {plan} g f = record {
   way = g.way plan f;
   alone = λ n from below. let on = g.on in f.alone n (omega arith) below;
@@ -30,15 +30,15 @@ free_next {app} {limits} {until} {old} {new} {plan} g f = record {
 }
 
 -- So they are up to an earlier step.
-pub free_sooner : {app : Application} {limits : Limits} {until : ℕ} {k : Machine} {plan : List Point} (sooner : ℕ) → ((n : ℕ) → k.steps ≤ n → n < sooner → n < until) → IsFree app limits until k plan → IsFree app limits sooner k plan
+pub free_sooner : {app : Application} {limits : Limits} {until : ℕ} {k : Machine} {plan : List Injection} (sooner : ℕ) → ((n : ℕ) → k.steps ≤ n → n < sooner → n < until) → IsFree app limits until k plan → IsFree app limits sooner k plan
 free_sooner {app} {limits} {until} {k} {plan} sooner within f = record {
   way = f.way;
   alone = λ n from below. f.alone n from (within n from below);
   free = λ n from below going. f.free n from (within n from below) going;
 }
 
--- Up to a step before which no limit is reached, each run without a point is so.
-pub free_of_limits : (app : Application) (limits : Limits) (until : ℕ) (k : Machine) (plan : List Point) → IsUnderWay app plan limits k
+-- Up to a step before which no limit is reached, each run without an injection is so.
+pub free_of_limits : (app : Application) (limits : Limits) (until : ℕ) (k : Machine) (plan : List Injection) → IsUnderWay app plan limits k
     → ((n : ℕ) → k.steps ≤ n → n < until → injected plan n ≡ [])
     → (k.steps < until → k.clock.age + k.clock.held + until ≤ limits.ticks + k.steps) → (k.steps < until → until ≤ limits.steps) → IsFree app limits until k plan
 free_of_limits app limits until k plan way alone ticks steps = record {
@@ -48,15 +48,15 @@ free_of_limits app limits until k plan way alone ticks steps = record {
 }
 
 -- Where it isn't over, none of them ends.
-pub going_free : {app : Application} {limits : Limits} {until : ℕ} {k : Machine} → k.steps < until → ((s : State) → Stands k s → false ≡ is_over app s) → (plan : List Point) → IsFree app limits until k plan → end_of app limits (state_after app plan k.steps) ≡ None
+pub going_free : {app : Application} {limits : Limits} {until : ℕ} {k : Machine} → k.steps < until → ((s : State) → Stands k s → false ≡ is_over app s) → (plan : List Injection) → IsFree app limits until k plan → end_of app limits (state_after app plan k.steps) ≡ None
 going_free {app} {limits} {until} {k} short going plan f = f.free k.steps (omega arith) short (sym (going (state_after app plan k.steps) f.way.stands))
 
 -- So it is where it isn't over on the way of any run.
-pub going_on_the_way : (app : Application) → IsWellFormed app → {limits : Limits} {until : ℕ} {k : Machine} → k.steps < until → ((s : State) → Stands k s → IsState app s → false ≡ is_over app s) → (plan : List Point) → IsFree app limits until k plan → end_of app limits (state_after app plan k.steps) ≡ None
+pub going_on_the_way : (app : Application) → IsWellFormed app → {limits : Limits} {until : ℕ} {k : Machine} → k.steps < until → ((s : State) → Stands k s → IsState app s → false ≡ is_over app s) → (plan : List Injection) → IsFree app limits until k plan → end_of app limits (state_after app plan k.steps) ≡ None
 going_on_the_way app formed {limits} {until} {k} short going plan f = f.free k.steps (omega arith) short (sym (going (state_after app plan k.steps) f.way.stands (reached_after app formed plan k.steps)))
 
 -- One that isn't over there doesn't end there.
-pub ends_not : {app : Application} {limits : Limits} {until : ℕ} {k : Machine} {plan : List Point} → k.steps < until → IsGoing app limits until k plan → end_of app limits (state_after app plan k.steps) ≡ None
+pub ends_not : {app : Application} {limits : Limits} {until : ℕ} {k : Machine} {plan : List Injection} → k.steps < until → IsGoing app limits until k plan → end_of app limits (state_after app plan k.steps) ≡ None
 ends_not {app} {limits} {until} {k} {plan} short g = g.free.free k.steps (omega arith) short g.going
 
 -- ---- no step
@@ -75,7 +75,7 @@ tells_nothing {app} {limits} {until} {k} {before} {after} e = record {
 module _ (app : Application) (formed : IsWellFormed app) (limits : Limits) (are : AreLimits limits.ticks limits.steps) (until : ℕ) (k next : Machine) (short : k.steps < until)
     (stands : (s : State) → Stands k s → Stands next (step app [] s)) where
   -- along a run that doesn't end before it
-  module _ (plan : List Point) (f : IsFree app limits until k plan) (on : end_of app limits (state_after app plan k.steps) ≡ None) where
+  module _ (plan : List Injection) (f : IsFree app limits until k plan) (on : end_of app limits (state_after app plan k.steps) ≡ None) where
     nothing_injected : [] ≡ injected plan k.steps
     nothing_injected = sym (f.alone k.steps (omega arith) short)
 
@@ -100,7 +100,7 @@ module _ (app : Application) (formed : IsWellFormed app) (limits : Limits) (are 
         (subst (λ (hs : List ℕ). 0 < length (step app hs (state_after app plan k.steps)).log) nothing_injected (some (state_after app plan k.steps) f.way.stands))
 
   -- along those that aren't over there, where there is such a run
-  module _ {plan : List Point} (g : IsGoing app limits until k plan) where
+  module _ {plan : List Injection} (g : IsGoing app limits until k plan) where
     pub one_step : next.steps ≡ suc k.steps
     one_step = one_on plan g.free (ends_not short g)
 
@@ -120,9 +120,9 @@ module _ (app : Application) (formed : IsWellFormed app) (limits : Limits) (are 
         subst (λ (n : ℕ). is_over app (state_after app plan n) ≡ false) (sym one_step) after
 
 module _ (app : Application) (formed : IsWellFormed app) (limits : Limits) (are : AreLimits limits.ticks limits.steps) (until : ℕ) (k next : Machine) (short : k.steps < until)
-    (going : (plan : List Point) → IsFree app limits until k plan → end_of app limits (state_after app plan k.steps) ≡ None)
+    (going : (plan : List Injection) → IsFree app limits until k plan → end_of app limits (state_after app plan k.steps) ≡ None)
     (stands : (s : State) → Stands k s → Stands next (step app [] s)) where
-  module _ (plan : List Point) (f : IsFree app limits until k plan) where
+  module _ (plan : List Injection) (f : IsFree app limits until k plan) where
     pub one_further : next.steps ≡ suc k.steps
     one_further = one_on app formed limits are until k next short stands plan f (going plan f)
 
@@ -131,7 +131,7 @@ module _ (app : Application) (formed : IsWellFormed app) (limits : Limits) (are 
     some_further = some_on app formed limits are until k next short stands plan f (going plan f)
 
   -- where there is such a run
-  module _ {plan : List Point} (f : IsFree app limits until k plan) where
+  module _ {plan : List Injection} (f : IsFree app limits until k plan) where
     pub goes_a_step : GoesTo app limits until k next
     goes_a_step =
         let one = one_further plan f in
@@ -156,7 +156,7 @@ tells_then {app} {limits} {until} {first} {middle} {last} {before} {between} {af
 }
 
 -- Those that were not over still aren't.
-pub goes_still : {app : Application} {limits : Limits} {until : ℕ} {old new : Machine} {before after : List Event} {plan : List Point} → GoesFurther app limits until old new before after → IsGoing app limits until old plan → is_over app (state_after app plan new.steps) ≡ false → IsGoing app limits until new plan
+pub goes_still : {app : Application} {limits : Limits} {until : ℕ} {old new : Machine} {before after : List Event} {plan : List Injection} → GoesFurther app limits until old new before after → IsGoing app limits until old plan → is_over app (state_after app plan new.steps) ≡ false → IsGoing app limits until new plan
 goes_still {app} {limits} {until} {old} {new} {before} {after} {plan} h g going = record {
   free = record {
     way = h.way plan g;
@@ -166,7 +166,7 @@ goes_still {app} {limits} {until} {old} {new} {before} {after} {plan} h g going 
   going = going;
 }
 
-pub further_then : {app : Application} {limits : Limits} {until : ℕ} {first middle last : Machine} {before between after : List Event} → GoesFurther app limits until first middle before between → ((plan : List Point) → IsGoing app limits until first plan → is_over app (state_after app plan middle.steps) ≡ false) → GoesFurther app limits until middle last between after → GoesFurther app limits until first last before after
+pub further_then : {app : Application} {limits : Limits} {until : ℕ} {first middle last : Machine} {before between after : List Event} → GoesFurther app limits until first middle before between → ((plan : List Injection) → IsGoing app limits until first plan → is_over app (state_after app plan middle.steps) ≡ false) → GoesFurther app limits until middle last between after → GoesFurther app limits until first last before after
 further_then {app} {limits} {until} {first} {middle} {last} {before} {between} {after} g going h = record {
   way = λ plan f. h.way plan (goes_still g f (going plan f));
   on = (let l = g.on in let m = h.on in omega arith);
@@ -183,7 +183,7 @@ further_nowhere {app} {limits} {until} {k} {before} {after} e = record {
 }
 
 -- up to the next step
-pub going_soon : {app : Application} {limits : Limits} {until : ℕ} {k : Machine} {plan : List Point} → k.steps < until → IsGoing app limits until k plan → IsGoing app limits (k.steps + 1) k plan
+pub going_soon : {app : Application} {limits : Limits} {until : ℕ} {k : Machine} {plan : List Injection} → k.steps < until → IsGoing app limits until k plan → IsGoing app limits (k.steps + 1) k plan
 going_soon {app} {limits} {until} {k} {plan} short g = record { free = free_sooner (k.steps + 1) (λ n from below. omega arith) g.free; going = g.going }
 
 pub further_as_far : {app : Application} {limits : Limits} {until : ℕ} {old new : Machine} {before after : List Event} → old.steps < until → GoesFurther app limits (old.steps + 1) old new before after → GoesFurther app limits until old new before after

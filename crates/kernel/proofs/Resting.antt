@@ -3,7 +3,7 @@ use Rattle.std.proofs.Common.{◌+◌, ◌≡◌, ◌<◌, ◌≤◌, ℕ, List,
 use Rattle.std.proofs.lemmas.List.{append_cancel_left}
 use Rattle.model.specs.declared.event.Event.{Event}
 use Rattle.model.specs.declared.event.End.{End}
-use Rattle.model.specs.declared.plan.Point.{Point}
+use Rattle.model.specs.declared.plan.Injection.{Injection}
 use Rattle.model.specs.Application.{Application, Limits}
 use Rattle.model.specs.State.{State}
 use Rattle.model.specs.Run.{end_of, events_after, injected}
@@ -21,9 +21,9 @@ use Rattle.kernel.proofs.Running.{more_from}
 -- The kernel has gone on along each run that was at the old one, and into which nothing is injected from there on. What it told on
 -- the way came behind the events that were kept before.
 pub record RestsOn (app : Application) (limits : Limits) (old new : Machine) (before after : List Event) : Type 0 where
-  pub way : (plan : List Point) → IsUnderWay app plan limits old → ((n : ℕ) → old.steps ≤ n → injected plan n ≡ []) → IsUnderWay app plan limits new
+  pub way : (plan : List Injection) → IsUnderWay app plan limits old → ((n : ℕ) → old.steps ≤ n → injected plan n ≡ []) → IsUnderWay app plan limits new
   pub on : old.steps ≤ new.steps
-  pub events : (plan : List Point) → IsUnderWay app plan limits old → ((n : ℕ) → old.steps ≤ n → injected plan n ≡ []) → after ≡ before ++ events_from app plan old.steps new.steps
+  pub events : (plan : List Injection) → IsUnderWay app plan limits old → ((n : ℕ) → old.steps ≤ n → injected plan n ≡ []) → after ≡ before ++ events_from app plan old.steps new.steps
 
 pub rests_here : {app : Application} {limits : Limits} {k : Machine} {kept : List Event} → RestsOn app limits k k kept kept
 rests_here {app} {limits} {k} {kept} = record {
@@ -37,7 +37,7 @@ pub rests_then : {app : Application} {limits : Limits} {until : ℕ} {first midd
     → (middle.steps < until → middle.clock.age + middle.clock.held + until ≤ limits.ticks + middle.steps) → (middle.steps < until → until ≤ limits.steps)
     → GoesOn app limits until middle last between after → RestsOn app limits first last before after
 rests_then {app} {limits} {until} {first} {middle} {last} {before} {between} {after} r ticks steps g =
-    let alone : (plan : List Point) → ((n : ℕ) → first.steps ≤ n → injected plan n ≡ []) → (n : ℕ) → middle.steps ≤ n → n < until → injected plan n ≡ [] = (λ plan past n from below. let on = r.on in past n (omega arith)) in
+    let alone : (plan : List Injection) → ((n : ℕ) → first.steps ≤ n → injected plan n ≡ []) → (n : ℕ) → middle.steps ≤ n → n < until → injected plan n ≡ [] = (λ plan past n from below. let on = r.on in past n (omega arith)) in
     record {
       way = λ plan way past. g.to.way plan (free_of_limits app limits until middle plan (r.way plan way past) (alone plan past) ticks steps);
       on = (let on = r.on in let more = g.to.on in omega arith);
@@ -46,7 +46,7 @@ rests_then {app} {limits} {until} {first} {middle} {last} {before} {between} {af
 
 -- up to the end
 pub is_rest : (app : Application) (limits : Limits) (k last : Machine) (before after : List Event) → RestsOn app limits k last before after
-    → (plan : List Point) → IsUnderWay app plan limits k → ((n : ℕ) → k.steps ≤ n → injected plan n ≡ [])
+    → (plan : List Injection) → IsUnderWay app plan limits k → ((n : ℕ) → k.steps ≤ n → injected plan n ≡ [])
     → (ticks : ℕ) → ticks ≡ last.clock.age + last.clock.held → (end : End) → ((s : State) → Stands last s → Some end ≡ end_of app limits s)
     → IsRest app limits k (record { events = events_from app plan k.steps last.steps; steps = last.steps; ticks = ticks; end = end })
 is_rest app limits k last before after r plan way past ticks t end ended = record {

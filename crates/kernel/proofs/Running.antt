@@ -10,7 +10,7 @@ use Rattle.model.specs.Application.{Application, Limits, op_at}
 use Rattle.model.specs.Scripts.{AreLimits, IsWellFormed}
 use Rattle.model.specs.State.{State, Progress, progress_at}
 use Rattle.model.specs.Step.{act_unless, misuse, act_if, act_current, step}
-use Rattle.model.specs.declared.plan.Point.{Point}
+use Rattle.model.specs.declared.plan.Injection.{Injection}
 use Rattle.model.specs.Run.{Run, IsRun, end_of, injected, state_after, events_after}
 use Rattle.model.proofs.Injected.{from_one_more, goes_on_with, no_fewer}
 use Rattle.soundness.proofs.Passing.{elapsed-reset, elapsed-step}
@@ -64,16 +64,16 @@ told_after log before told e f = rw (e, f) refl
 -- ---- from step to step
 
 -- the steps that are done
-steps_after : (app : Application) (plan : List Point) (n : ℕ) → (state_after app plan n).steps ≡ n
+steps_after : (app : Application) (plan : List Injection) (n : ℕ) → (state_after app plan n).steps ≡ n
 unfolding step
 steps_after app plan zero = steps-reset app
 steps_after app plan (suc n) = let e = steps_after app plan n in omega arith
 
 -- the events from reset on, in a trail that had none
-pub events_from_reset : (app : Application) (plan : List Point) (first next : ℕ) → first ≡ 0 → (log : Logged) → log.before ≡ [] → log.told ≡ [] → all_of log ++ events_from app plan first next ≡ events_after app plan next
+pub events_from_reset : (app : Application) (plan : List Injection) (first next : ℕ) → first ≡ 0 → (log : Logged) → log.before ≡ [] → log.told ≡ [] → all_of log ++ events_from app plan first next ≡ events_after app plan next
 events_from_reset app plan first next z log before told = rw (before, told, z) refl
 
-module _ (app : Application) (formed : IsWellFormed app) (plan : List Point) (limits : Limits) (are : AreLimits limits.ticks limits.steps) (k : Machine) (h : IsUnderWay app plan limits k) (on : end_of app limits (state_after app plan k.steps) ≡ None) where
+module _ (app : Application) (formed : IsWellFormed app) (plan : List Injection) (limits : Limits) (are : AreLimits limits.ticks limits.steps) (k : Machine) (h : IsUnderWay app plan limits k) (on : end_of app limits (state_after app plan k.steps) ≡ None) where
   pub can_step : CanStep app k
   can_step = record {
     state = state_after app plan k.steps;
@@ -126,12 +126,12 @@ module _ (app : Application) (formed : IsWellFormed app) (plan : List Point) (li
 
 -- ---- steps that told nothing
 
-module _ (app : Application) (plan : List Point) (n m : ℕ) (l : n ≤ m) (silent : events_from app plan n m ≡ []) where
+module _ (app : Application) (plan : List Injection) (n m : ℕ) (l : n ≤ m) (silent : events_from app plan n m ≡ []) where
   pub same_events : events_after app plan m ≡ events_after app plan n
   same_events = sym (goes_on_with app plan n m l) ∙ ap (λ (es : List Event). events_after app plan n ++ es) silent ∙ append-nil (events_after app plan n)
 
 -- The ticks of a run, as far as it has gone
-ticks_by : (app : Application) (plan : List Point) (limits : Limits) → AreLimits limits.ticks limits.steps → (n : ℕ) → ((m : ℕ) → m < n → end_of app limits (state_after app plan m) ≡ None) → (state_after app plan n).elapsed ≤ 1000000
+ticks_by : (app : Application) (plan : List Injection) (limits : Limits) → AreLimits limits.ticks limits.steps → (n : ℕ) → ((m : ℕ) → m < n → end_of app limits (state_after app plan m) ≡ None) → (state_after app plan n).elapsed ≤ 1000000
 ticks_by app plan limits are zero g = let e = elapsed-reset app in omega arith
 ticks_by app plan limits are (suc n) g =
     let low = (below_limits app limits (state_after app plan n) (g n (omega arith))).0 in
@@ -139,17 +139,35 @@ ticks_by app plan limits are (suc n) g =
     let most = are.1 in
     omega arith
 
-pub ticks_low : (app : Application) (plan : List Point) (limits : Limits) → AreLimits limits.ticks limits.steps → (k : Machine) → IsUnderWay app plan limits k → k.clock.age + k.clock.held ≤ 1000000
+pub ticks_low : (app : Application) (plan : List Injection) (limits : Limits) → AreLimits limits.ticks limits.steps → (k : Machine) → IsUnderWay app plan limits k → k.clock.age + k.clock.held ≤ 1000000
 ticks_low app plan limits are k h = rw (elapsed_is k (state_after app plan k.steps) h.stands) (ticks_by app plan limits are k.steps h.goes_on)
+
+-- Where a run goes on, it has come less far than the limit of steps.
+pub steps_under : (app : Application) (plan : List Injection) (limits : Limits) (n : ℕ) → end_of app limits (state_after app plan n) ≡ None → n < limits.steps
+steps_under app plan limits n on =
+    let low = (below_limits app limits (state_after app plan n) on).1 in
+    let done = steps_after app plan n in
+    omega arith
+
+-- and its steps
+steps_by : (app : Application) (plan : List Injection) (limits : Limits) → AreLimits limits.ticks limits.steps → (n : ℕ) → ((m : ℕ) → m < n → end_of app limits (state_after app plan m) ≡ None) → n ≤ 1000000
+steps_by app plan limits are zero g = omega arith
+steps_by app plan limits are (suc n) g =
+    let low = steps_under app plan limits n (g n (omega arith)) in
+    let most = are.3 in
+    omega arith
+
+pub steps_low : (app : Application) (plan : List Injection) (limits : Limits) → AreLimits limits.ticks limits.steps → (k : Machine) → IsUnderWay app plan limits k → k.steps ≤ 1000000
+steps_low app plan limits are k h = steps_by app plan limits are k.steps h.goes_on
 
 -- ---- some steps, and then others
 
-more_from_first : (app : Application) (plan : List Point) (first n m : ℕ) → first ≤ n → n ≤ m → events_from app plan first m ≡ events_from app plan first n ++ events_from app plan n m
+more_from_first : (app : Application) (plan : List Injection) (first n m : ℕ) → first ≤ n → n ≤ m → events_from app plan first m ≡ events_from app plan first n ++ events_from app plan n m
 more_from_first app plan first n m l le =
     ap (λ (es : List Event). drop (length (events_after app plan first)) es) (sym (goes_on_with app plan n m le))
     ∙ drop-append-le (length (events_after app plan first)) (events_after app plan n) (events_from app plan n m) (no_fewer app plan first n l)
 
-pub more_from : (app : Application) (plan : List Point) (first n m : ℕ) → first ≤ n → n ≤ m → (begin events all : List Event) → events ≡ begin ++ events_from app plan first n → all ≡ events ++ events_from app plan n m → all ≡ begin ++ events_from app plan first m
+pub more_from : (app : Application) (plan : List Injection) (first n m : ℕ) → first ≤ n → n ≤ m → (begin events all : List Event) → events ≡ begin ++ events_from app plan first n → all ≡ events ++ events_from app plan n m → all ≡ begin ++ events_from app plan first m
 more_from app plan first n m l le begin events all e g =
     g
     ∙ ap (λ (es : List Event). es ++ events_from app plan n m) e
@@ -160,7 +178,7 @@ pub extends_on : (begin events all more : List Event) → events ≡ begin ++ mo
 extends_on begin events all more e x = (more ++ x.0, x.1 ∙ ap (λ (es : List Event). es ++ x.0) e ∙ append_assoc begin more x.0)
 
 -- In so many steps no more ticks pass.
-pub ticks_between : (app : Application) (plan : List Point) (n m : ℕ) → n ≤ m → (state_after app plan m).elapsed + n ≤ (state_after app plan n).elapsed + m
+pub ticks_between : (app : Application) (plan : List Injection) (n m : ℕ) → n ≤ m → (state_after app plan m).elapsed + n ≤ (state_after app plan n).elapsed + m
 ticks_between app plan n zero le = let z : n ≡ 0 = omega arith in rw z (omega arith)
 ticks_between app plan n (suc m) le = by_test (eqb n (suc m))
     (λ t. let same : n ≡ suc m = eqb-same n (suc m) t in rw same (omega arith))
@@ -171,7 +189,7 @@ ticks_between app plan n (suc m) le = by_test (eqb n (suc m))
     omega arith)
 
 -- Before a step up to which no limit is reached, the run goes on where it isn't over.
-pub free_before : (app : Application) (plan : List Point) (limits : Limits) (first : Machine) (until : ℕ) → IsUnderWay app plan limits first
+pub free_before : (app : Application) (plan : List Injection) (limits : Limits) (first : Machine) (until : ℕ) → IsUnderWay app plan limits first
     → (first.steps < until → first.clock.age + first.clock.held + until ≤ limits.ticks + first.steps) → (first.steps < until → until ≤ limits.steps)
     → (n : ℕ) → first.steps ≤ n → n < until → is_over app (state_after app plan n) ≡ false → end_of app limits (state_after app plan n) ≡ None
 free_before app plan limits first until begin ticks steps n on short going =
@@ -183,7 +201,7 @@ free_before app plan limits first until begin ticks steps n on short going =
     goes_if_not_over app limits (state_after app plan n) going (omega arith) (omega arith)
 
 -- It comes a step further where it went on.
-pub moves_on : (app : Application) (plan : List Point) (limits : Limits) (k new : Machine) (until : ℕ) → k.steps ≤ new.steps → k.steps < until → end_of app limits (state_after app plan k.steps) ≡ None
+pub moves_on : (app : Application) (plan : List Injection) (limits : Limits) (k new : Machine) (until : ℕ) → k.steps ≤ new.steps → k.steps < until → end_of app limits (state_after app plan k.steps) ≡ None
     → (new.steps < until → is_over app (state_after app plan new.steps) ≡ true) → k.steps < new.steps
 moves_on app plan limits k new until on short going there = by_test (eqb new.steps k.steps)
     (λ t.
@@ -195,7 +213,7 @@ moves_on app plan limits k new until on short going there = by_test (eqb new.ste
 
 -- ---- a run that is broken off has come no further than the run
 
-module _ (app : Application) (plan : List Point) (limits : Limits) (k : Machine) (way : IsUnderWay app plan limits k) (run : Run) (is : IsRun app plan limits run) where
+module _ (app : Application) (plan : List Injection) (limits : Limits) (k : Machine) (way : IsUnderWay app plan limits k) (run : Run) (is : IsRun app plan limits run) where
   pub no_further : k.steps ≤ run.steps
   no_further = by_test (leb k.steps run.steps)
       (λ t. leb-le k.steps run.steps t)

@@ -1,7 +1,7 @@
 -- The rest of a run, into which nothing is injected any more.
 use Rattle.std.specs.Prelude.{◌≡◌, ◌≤◌, ℕ, List, [], ◌++◌}
 use Rattle.model.specs.declared.event.Event.{Event}
-use Rattle.model.specs.declared.plan.Point.{Point}
+use Rattle.model.specs.declared.plan.Injection.{Injection}
 use Rattle.kernel.specs.declared.rests.RestEnding.{RestEnding}
 use Rattle.model.specs.Application.{Application, Limits}
 use Rattle.model.specs.Run.{Run, IsRun, events_after, injected}
@@ -11,7 +11,7 @@ use Rattle.machine.specs.Can.{IsUnderWay}
 -- The rest of every run that comes to this kernel, and into which nothing is injected from there on: it tells these events, and
 -- the run ends so, after so many steps and ticks in all.
 pub record IsRest (app : Application) (limits : Limits) (k : Machine) (rest : Run) : Type 0 where
-  pub of_each : (plan : List Point) → IsUnderWay app plan limits k → ((n : ℕ) → k.steps ≤ n → injected plan n ≡ [])
+  pub of_each : (plan : List Injection) → IsUnderWay app plan limits k → ((n : ℕ) → k.steps ≤ n → injected plan n ≡ [])
       → IsRun app plan limits (record { events = events_after app plan k.steps ++ rest.events; steps = rest.steps; ticks = rest.ticks; end = rest.end })
 
 -- The rest from this kernel ends so. Its events came behind the others that were kept.

@@ -14,7 +14,7 @@ use crate::in_call::{pass_leave, phase};
 use crate::quiet::pass_on;
 use crate::steps::{is_over_running, op_of};
 use machine::{Log, Machine, Trail};
-use model::{App, Limits, Op, Phase, Point, TaskId};
+use model::{App, Injection, Limits, Op, Phase, TaskId};
 use ops::event_groups::{end_set, leave_bits_wait};
 
 /// Whether an op sets bits, or waits for them.
@@ -75,18 +75,18 @@ fn step_letting_go<L: Log>(machine: &mut Machine, app: &App, task: TaskId, op: &
 }
 
 /// Does the step in which the running task's call on an event group lets go of the scheduler, where it has come to that. It comes before
-/// the step of this number, and before that one the plan has no point and no limit is reached.
+/// the step of this number, and before that one the plan has no injection and no limit is reached.
 #[inline(always)]
 fn pass_bits(
     kernel: &mut Machine,
     app: &App,
-    points: &[Point],
+    injections: &[Injection],
     until: u32,
     task: TaskId,
     limits: &Limits,
     trail: &mut Trail,
 )
-    requires free { IsFree app.now limits.now until kernel.old points.now }
+    requires free { IsFree app.now limits.now until kernel.old injections.now }
     requires soon { kernel.old.steps < until }
     requires runs { kernel.old.sched.current ≡ Some task }
     requires reached { (progress_in kernel.old.progress task).call.phase ≡ Leave }
@@ -118,13 +118,13 @@ fn pass_bits(
 pub(crate) fn pass_more(
     kernel: &mut Machine,
     app: &App,
-    points: &[Point],
+    injections: &[Injection],
     until: u32,
     may_follow: bool,
     limits: &Limits,
     trail: &mut Trail,
 )
-    requires free { IsFree app.now limits.now until kernel.old points.now }
+    requires free { IsFree app.now limits.now until kernel.old injections.now }
     requires soon { kernel.old.steps < until }
     ensures { GoesOn app.now limits.now until kernel.old kernel.new (all_of trail.old) (all_of trail.new) }
 {
@@ -133,10 +133,10 @@ pub(crate) fn pass_more(
         return;
     }
     if let Some(task) = letting_go(kernel) {
-        pass_bits(kernel, app, points, until, task, limits, trail);
+        pass_bits(kernel, app, injections, until, task, limits, trail);
         return;
     }
-    if let Some(task) = pass_on(kernel, app, points, until, true, limits) {
-        pass_leave(kernel, app, points, until, task, limits, trail);
+    if let Some(task) = pass_on(kernel, app, injections, until, true, limits) {
+        pass_leave(kernel, app, injections, until, task, limits, trail);
     }
 }

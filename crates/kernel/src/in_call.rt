@@ -3,7 +3,7 @@
 ghost use Rattle.std.specs.Prelude.{◌≡◌, ◌+◌, ◌≤◌, false, List, [], IfSome};
 ghost use Rattle.model.specs.declared.call.Phase as declared;
 ghost use Rattle.model.specs.declared.call.Phase.TheVariants.{Decide, Leave};
-ghost use Rattle.model.specs.declared.plan.Point as definitions;
+ghost use Rattle.model.specs.declared.plan.Injection as definitions;
 ghost use Rattle.model.specs.State.{State};
 ghost use Rattle.model.specs.Step.{step};
 ghost use Rattle.model.specs.Run.{state_after};
@@ -17,7 +17,7 @@ ghost use Rattle.kernel.specs.Along.{IsFree, GoesOn, NoneIsOver, IsGoing, GoesFu
 
 use crate::steps::op_of;
 use machine::{Log, Machine, Trail};
-use model::{Access, App, Limits, ObjectId, Op, Phase, Point, TaskId};
+use model::{Access, App, Injection, Limits, ObjectId, Op, Phase, TaskId};
 use ops::calls::{go_on_silently, leave_call};
 
 /// The phase that is next of a task's call.
@@ -85,22 +85,22 @@ fn step_leaving<L: Log>(machine: &mut Machine, app: &App, task: TaskId, log: &mu
 }
 
 /// One step along a run that is under way and not over, in which the running task's call on an object goes on in this phase. Neither has
-/// the plan a point at that step, nor is a limit reached before it. The run isn't over then either.
+/// the plan an injection at that step, nor is a limit reached before it. The run isn't over then either.
 #[inline(always)]
 fn pass_phase(
     kernel: &mut Machine,
     app: &App,
-    points: &[Point],
+    injections: &[Injection],
     task: TaskId,
     call: &(ObjectId, Access),
     phase: Phase,
     limits: &Limits,
 )
-    requires going { IsGoing app.now limits.now (kernel.old.steps + 1) kernel.old points.now }
+    requires going { IsGoing app.now limits.now (kernel.old.steps + 1) kernel.old injections.now }
     requires silent { IsSilent phase }
     requires call { IsInPhase app.now kernel.old task call.now.0 call.now.1 phase }
     ensures along { GoesFurther app.now limits.now (kernel.old.steps + 1) kernel.old kernel.new [] [] }
-    ensures going { (plan : List definitions.Point) → IsGoing app.now limits.now (kernel.old.steps + 1) kernel.old plan
+    ensures going { (plan : List definitions.Injection) → IsGoing app.now limits.now (kernel.old.steps + 1) kernel.old plan
         → is_over app.now (state_after app.now plan kernel.new.steps) ≡ false }
     ensures call { (next : declared.Phase) → (progress_in kernel.new.progress task).call.phase ≡ next
         → IsInPhase app.now kernel.new task call.now.0 call.now.1 next }
@@ -115,18 +115,18 @@ fn pass_phase(
 fn pass_if_next(
     kernel: &mut Machine,
     app: &App,
-    points: &[Point],
+    injections: &[Injection],
     task: TaskId,
     call: &(ObjectId, Access),
     next: Phase,
     limits: &Limits,
 )
-    requires going { IsGoing app.now limits.now (kernel.old.steps + 1) kernel.old points.now }
+    requires going { IsGoing app.now limits.now (kernel.old.steps + 1) kernel.old injections.now }
     requires silent { IsSilent next }
     requires call { (reached : declared.Phase) → (progress_in kernel.old.progress task).call.phase ≡ reached
         → IsInPhase app.now kernel.old task call.now.0 call.now.1 reached }
     ensures along { GoesFurther app.now limits.now (kernel.old.steps + 1) kernel.old kernel.new [] [] }
-    ensures going { (plan : List definitions.Point) → IsGoing app.now limits.now (kernel.old.steps + 1) kernel.old plan
+    ensures going { (plan : List definitions.Injection) → IsGoing app.now limits.now (kernel.old.steps + 1) kernel.old plan
         → is_over app.now (state_after app.now plan kernel.new.steps) ≡ false }
     ensures call { (reached : declared.Phase) → (progress_in kernel.new.progress task).call.phase ≡ reached
         → IsInPhase app.now kernel.new task call.now.0 call.now.1 reached }
@@ -134,22 +134,22 @@ fn pass_if_next(
     if phase(kernel, task) != next {
         return;
     }
-    pass_phase(kernel, app, points, task, call, next, limits);
+    pass_phase(kernel, app, injections, task, call, next, limits);
 }
 
 /// Does the steps of the running task's call, which has come to decide, until it lets go of the scheduler next, and answers the task
-/// where it has come to that: none where the plan may have a point, or a limit may be reached, before three steps are done.
+/// where it has come to that: none where the plan may have an injection, or a limit may be reached, before three steps are done.
 // Before it decides the task is Ready, so the run is over only if it has been stopped; and none of these steps ends it.
 #[inline(never)]
 pub(crate) fn pass_call(
     kernel: &mut Machine,
     app: &App,
-    points: &[Point],
+    injections: &[Injection],
     until: u32,
     task: TaskId,
     limits: &Limits,
 ) -> Option<TaskId>
-    requires free { IsFree app.now limits.now until kernel.old points.now }
+    requires free { IsFree app.now limits.now until kernel.old injections.now }
     requires runs { kernel.old.sched.current ≡ Some task }
     requires decides { (progress_in kernel.old.progress task).call.phase ≡ Decide }
     ensures along { GoesOn app.now limits.now until kernel.old kernel.new [] [] }
@@ -168,9 +168,9 @@ pub(crate) fn pass_call(
         return None;
     };
     let call = (object, access);
-    pass_phase(kernel, app, points, task, &call, Phase::Decide, limits);
-    pass_if_next(kernel, app, points, task, &call, Phase::Place, limits);
-    pass_if_next(kernel, app, points, task, &call, Phase::Unlock, limits);
+    pass_phase(kernel, app, injections, task, &call, Phase::Decide, limits);
+    pass_if_next(kernel, app, injections, task, &call, Phase::Place, limits);
+    pass_if_next(kernel, app, injections, task, &call, Phase::Unlock, limits);
     if phase(kernel, task) != Phase::Leave {
         return None;
     }
@@ -178,18 +178,18 @@ pub(crate) fn pass_call(
 }
 
 /// Does the step in which the running task's call lets go of the scheduler, to which it has come along a run that isn't over (`pass_call`
-/// tells): not where it is of this number, where the plan may have a point or a limit may be reached.
+/// tells): not where it is of this number, where the plan may have an injection or a limit may be reached.
 #[inline(always)]
 pub(crate) fn pass_leave(
     kernel: &mut Machine,
     app: &App,
-    points: &[Point],
+    injections: &[Injection],
     until: u32,
     task: TaskId,
     limits: &Limits,
     trail: &mut Trail,
 )
-    requires going { IsGoing app.now limits.now until kernel.old points.now }
+    requires going { IsGoing app.now limits.now until kernel.old injections.now }
     requires leaving { IsLeaving app.now kernel.old task }
     ensures { GoesFurther app.now limits.now until kernel.old kernel.new (all_of trail.old) (all_of trail.new) }
 {

@@ -7,7 +7,7 @@ ghost use Rattle.clock.specs.StandsFor.{StandsFor as ClockStandsFor, StandsBefor
 ghost use Rattle.objects.specs.Queues.{StandsFor as QueuesStandFor};
 ghost use Rattle.groups.specs.StandsFor.{StandsFor as GroupsStandFor};
 ghost use Rattle.machine.specs.StandsFor.{Stands, StandsFor, StandsBefore, decider};
-ghost use Rattle.model.specs.declared.plan.Point.{Point};
+ghost use Rattle.model.specs.declared.plan.Injection.{Injection};
 ghost use Rattle.model.specs.Application.{Limits};
 ghost use Rattle.model.specs.Step.{reset, step};
 ghost use Rattle.machine.specs.Can.{IsUnderWay};
@@ -46,7 +46,7 @@ impl Kernel {
         ensures stands { StandsFor result (reset app.now) }
         ensures steps { result.steps ≡ 0 }
         // Its run is under way, whatever handlers are to come, and whatever limits it has.
-        ensures way { (plan : List Point) (limits : Limits) → IsUnderWay app.now plan limits result }
+        ensures way { (plan : List Injection) (limits : Limits) → IsUnderWay app.now plan limits result }
     {
         Kernel {
             machine: Machine::boot(app),

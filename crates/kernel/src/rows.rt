@@ -1,5 +1,6 @@
 //! Rows of a campaign: runs with one point each, on a kernel that is used again.
-ghost use Rattle.std.specs.Prelude.{◌≡◌, ◌<◌, ◌≤◌, ◌+◌, ◌^◌, ℕ, [], ◌∷◌, None, IfOk, OnErr, OnOk, length, ◌++◌};
+ghost use Rattle.std.specs.Prelude.{◌≡◌, ◌<◌, ◌≤◌, ◌+◌, ◌^◌, ℕ, [], None, IfOk, OnErr, OnOk, length, ◌++◌};
+ghost use Rattle.model.specs.Points.{first_step};
 ghost use Rattle.model.specs.Run as definition;
 ghost use Rattle.model.specs.Run.{end_of, IsRun, state_after, events_after};
 ghost use Rattle.machine.specs.Logged.{all_of};
@@ -8,14 +9,14 @@ ghost use Rattle.kernel.specs.Rows.{IsRowFrom, Extends, events_from};
 
 use crate::kernel::Kernel;
 use crate::quiet::pass_on;
-use crate::steps::{count_steps, finish, go_to_step, step_along};
+use crate::steps::{count_steps, finish, go_to_step};
 use machine::{Machine, StepLog, Trail};
 use model::{App, End, Limits, Memory, Meter, Point};
 
 /// What is said of a row but its events.
 #[derive(Clone, Copy)]
 pub struct RowEnding {
-    /// How many events of the base run come before the row's injection, counted from where the kernel had come.
+    /// How many events of the base run come before the row's first injection, counted from where the kernel had come.
     pub before: usize,
     /// How many steps the row has.
     pub steps: u32,
@@ -28,7 +29,7 @@ pub struct RowEnding {
 /// What is said of the first part of a row but its events.
 #[derive(Clone, Copy)]
 pub struct RowBeginning {
-    /// How many events of the base run come before the row's injection, counted from where the kernel had come.
+    /// How many events of the base run come before the row's first injection, counted from where the kernel had come.
     pub before: usize,
     /// How the row ended, where it did; `None` where it goes on.
     pub end: Option<End>,
@@ -66,41 +67,51 @@ fn advance(
     count
 }
 
-/// Runs a row to its end, on a kernel that has come along the base run: the steps before the point are the base run's, so
-/// their events are only counted; then the point's handler comes before its step, and the run goes on to its end. The trail
-/// gains the events from the injection on, behind those that it has. The log is for the events of a step; what it has doesn't
+/// Runs a row to its end, on a kernel that has come along the base run: the steps before the point's first injection are the base
+/// run's, so their events are only counted; then its handlers come before their steps, and the run goes on to its end. The trail
+/// gains the events from the first injection on, behind those that it has. The log is for the events of a step; what it has doesn't
 /// matter.
 ///
-/// The base run gets beyond the point's step, which the kernel hasn't passed. The meter, which is below 2^62, rises by the
+/// The base run gets beyond the step of the first injection, which the kernel hasn't passed. The meter, which is below 2^62, rises by the
 /// steps that are done here. At `Err(Memory)`, answered only where a growth was refused, so never where the row tells
 /// nothing, it has risen by no more than that; the trail then has those that it had, and some of the row's behind them.
 pub fn run_row(
     kernel: &mut Kernel,
     app: &App,
-    point: Point,
+    point: &Point,
     limits: &Limits,
     meter: &mut Meter,
     log: &mut StepLog,
     trail: &mut Trail,
 ) -> Result<RowEnding, Memory>
     requires way { IsUnderWay app.now [] limits.now kernel.old }
-    requires ahead { kernel.old.steps ≤ point.step }
-    requires reached { (n : ℕ) → n ≤ point.step → end_of app.now limits.now (state_after app.now [] n) ≡ None }
+    requires ahead { kernel.old.steps ≤ first_step point.now }
+    requires reached { (n : ℕ) → n ≤ first_step point.now → end_of app.now limits.now (state_after app.now [] n) ≡ None }
     requires meter { meter.old < 2 ^ 62 }
     ensures row { IfOk result (λ row.
-        IsRowFrom app.now point limits.now (all_of trail.old) (all_of trail.new) row) }
+        IsRowFrom app.now point.now limits.now (all_of trail.old) (all_of trail.new) row) }
     ensures before { IfOk result (λ row. length (events_after app.now [] kernel.old.steps) + row.before
-        ≡ length (events_after app.now [] point.step)) }
+        ≡ length (events_after app.now [] (first_step point.now))) }
     ensures meter { IfOk result (λ row. meter.new + kernel.old.steps ≡ meter.old + row.steps) }
     ensures rises { meter.old ≤ meter.new }
     ensures kept { OnErr result (Extends (all_of trail.old) (all_of trail.new)) }
-    ensures refused { OnErr result ((run : definition.Run) → IsRun app.now (point ∷ []) limits.now run
+    ensures refused { OnErr result ((run : definition.Run) → IsRun app.now point.now limits.now run
         → (meter.new + kernel.old.steps ≤ meter.old + run.steps) × (0 < length run.events)) }
 {
     limits.well_formed();
-    let before = advance(&mut kernel.machine, app, point.step, limits, meter, log);
-    let points = [point];
-    let end = finish(&mut kernel.machine, app, &points, limits, meter, log, trail)?;
+    point.well_formed();
+    let first = point.first_step();
+    let before = advance(&mut kernel.machine, app, first, limits, meter, log);
+    let injections = point.injections();
+    let end = finish(
+        &mut kernel.machine,
+        app,
+        injections,
+        limits,
+        meter,
+        log,
+        trail,
+    )?;
     Ok(RowEnding {
         before,
         steps: kernel.machine.steps,
@@ -110,17 +121,18 @@ pub fn run_row(
 }
 
 /// Runs the first part of a row, up to this step or to the row's end before it, on a kernel that has come along the base run: the
-/// steps before the point are the base run's, so their events are only counted; then the point's handler comes before its step, and
-/// the run goes on. The trail gains the events from the injection on, behind those that it has. The log is for the events of a
-/// step; what it has doesn't matter.
+/// steps before the point's first injection are the base run's, so their events are only counted; then its handlers come before their
+/// steps, and the run goes on. The trail gains the events from the first injection on, behind those that it has. The log is for the
+/// events of a step; what it has doesn't matter.
 ///
-/// The base run gets beyond the point's step, which the kernel hasn't passed, and which comes before this one. The meter, which is
+/// The base run gets beyond the step of the first injection, which the kernel hasn't passed, and which comes before this one. The
+/// meter, which is
 /// below 2^62, rises by the steps that are done here. At `Err(Memory)`, answered only where a growth was refused, so never where
 /// the row tells nothing, the trail has those events that it had, and some of the row's behind them.
 pub fn begin_row(
     kernel: &mut Kernel,
     app: &App,
-    point: Point,
+    point: &Point,
     until: u32,
     limits: &Limits,
     meter: &mut Meter,
@@ -128,40 +140,33 @@ pub fn begin_row(
     trail: &mut Trail,
 ) -> Result<RowBeginning, Memory>
     requires way { IsUnderWay app.now [] limits.now kernel.old }
-    requires ahead { kernel.old.steps ≤ point.step }
-    requires reached { (n : ℕ) → n ≤ point.step → end_of app.now limits.now (state_after app.now [] n) ≡ None }
-    requires beyond { point.step < until }
+    requires ahead { kernel.old.steps ≤ first_step point.now }
+    requires reached { (n : ℕ) → n ≤ first_step point.now → end_of app.now limits.now (state_after app.now [] n) ≡ None }
+    requires beyond { first_step point.now < until }
     requires meter { meter.old < 2 ^ 62 }
-    ensures way { IsUnderWay app.now (point ∷ []) limits.now kernel.new }
-    ensures past { point.step < kernel.new.steps }
+    ensures way { IsUnderWay app.now point.now limits.now kernel.new }
+    ensures on { first_step point.now ≤ kernel.new.steps }
+    ensures past { OnOk result (first_step point.now < kernel.new.steps) }
     ensures far { kernel.new.steps ≤ until }
     ensures before { IfOk result (λ row. length (events_after app.now [] kernel.old.steps) + row.before
-        ≡ length (events_after app.now [] point.step)) }
+        ≡ length (events_after app.now [] (first_step point.now))) }
     ensures events { OnOk result
-        (all_of trail.new ≡ all_of trail.old ++ events_from app.now (point ∷ []) point.step kernel.new.steps) }
+        (all_of trail.new ≡ all_of trail.old ++ events_from app.now point.now (first_step point.now) kernel.new.steps) }
     ensures end { IfOk result
-        (λ row. row.end ≡ end_of app.now limits.now (state_after app.now (point ∷ []) kernel.new.steps)) }
+        (λ row. row.end ≡ end_of app.now limits.now (state_after app.now point.now kernel.new.steps)) }
     ensures there { IfOk result (λ row. row.end ≡ None → kernel.new.steps ≡ until) }
     ensures meter { meter.new + kernel.old.steps ≡ meter.old + kernel.new.steps }
     ensures kept { OnErr result (Extends (all_of trail.old) (all_of trail.new)) }
-    ensures refused { OnErr result ((run : definition.Run) → IsRun app.now (point ∷ []) limits.now run
+    ensures refused { OnErr result ((run : definition.Run) → IsRun app.now point.now limits.now run
         → (kernel.new.steps ≤ run.steps) × (0 < length run.events)) }
 {
-    app.well_formed();
-    limits.well_formed();
-    let before = advance(&mut kernel.machine, app, point.step, limits, meter, log);
-    step_along(
-        &mut kernel.machine,
-        app,
-        &[point.handler],
-        meter,
-        log,
-        trail,
-    )?;
+    point.well_formed();
+    let first = point.first_step();
+    let before = advance(&mut kernel.machine, app, first, limits, meter, log);
     let end = go_to_step(
         &mut kernel.machine,
         app,
-        &[point],
+        point.injections(),
         until,
         limits,
         meter,

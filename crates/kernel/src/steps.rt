@@ -5,9 +5,9 @@ ghost use Rattle.model.specs.Application.{Application, op_at};
 ghost use Rattle.model.specs.State.{State};
 ghost use Rattle.model.specs.Step.{act_current, step};
 ghost use Rattle.model.specs.Run as definition;
-ghost use Rattle.model.specs.declared.plan.Point as definitions;
+ghost use Rattle.model.specs.declared.plan.Injection as definitions;
 ghost use Rattle.model.specs.Plans.{IsPlan};
-ghost use Rattle.model.specs.Scripts.{Rises};
+ghost use Rattle.model.specs.Points.{Rises};
 ghost use Rattle.model.specs.Invariant.{IsState};
 ghost use Rattle.model.specs.Run.{end_of, injected, IsRun, state_after, events_after, are_all_ended, is_stuck};
 ghost use Rattle.machine.specs.Logged.{all_of};
@@ -23,11 +23,11 @@ use crate::acting::act;
 use crate::bits::pass_more;
 use crate::handlers::{inject_all, tick_interrupt};
 use crate::kernel::Kernel;
-use crate::quiet::{free_until, next_point};
+use crate::quiet::{free_until, next_injection};
 use crate::suspended::act_while_suspended;
 use arrayvec::ArrayVec;
 use machine::{Log, Machine, StepLog, Trail};
-use model::{App, End, HandlerId, Limits, Memory, Meter, Op, Plan, Point, Run, TaskId};
+use model::{App, End, HandlerId, Injection, Limits, Memory, Meter, Op, Plan, Run, TaskId};
 use std::alloc::Global;
 
 /// The handlers that come before a step: three at most (profile).
@@ -289,53 +289,53 @@ pub(crate) fn step_along(
     step_apart(kernel, app, handlers, meter, log, trail)
 }
 
-/// The handlers of a plan's points at this step, where these points are those from this step on.
-fn handlers_at(points: &[Point], step: u32) -> Injected
-    requires order { Rises (λ (p : definitions.Point). p.step) points.now }
-    requires left { AllByRecursion (λ (p : definitions.Point). step ≤ p.step) points.now }
-    requires few { length (injected points.now step) ≤ 3 }
-    ensures { result.items ≡ injected points.now step }
+/// The handlers of a plan's injections at this step, where these injections are those from this step on.
+fn handlers_at(injections: &[Injection], step: u32) -> Injected
+    requires order { Rises (λ (i : definitions.Injection). i.step) injections.now }
+    requires left { AllByRecursion (λ (i : definitions.Injection). step ≤ i.step) injections.now }
+    requires few { length (injected injections.now step) ≤ 3 }
+    ensures { result.items ≡ injected injections.now step }
 {
     let mut handlers = Injected::new();
-    for point in points {
-        if point.step != step {
+    for injection in injections {
+        if injection.step != step {
             break;
         }
-        handlers.push(point.handler);
+        handlers.push(injection.handler);
     }
     handlers
 }
 
-/// One step of the run, after the handlers of those points that are at it: these points are those from this step on. It
-/// answers the points after it.
+/// One step of the run, after the handlers of those injections that are at it: these injections are those from this step on. It
+/// answers the injections after it.
 #[inline(always)]
 fn step_by_plan<'a>(
     kernel: &mut Machine,
     app: &App,
-    points: &'a [Point],
+    injections: &'a [Injection],
     meter: &mut Meter,
     log: &mut StepLog,
     trail: &mut Trail,
-) -> Result<&'a [Point], Memory>
-    requires order { Rises (λ (p : definitions.Point). p.step) points.now }
-    requires left { AllByRecursion (λ (p : definitions.Point). kernel.old.steps ≤ p.step) points.now }
-    requires few { length (injected points.now kernel.old.steps) ≤ 3 }
+) -> Result<&'a [Injection], Memory>
+    requires order { Rises (λ (i : definitions.Injection). i.step) injections.now }
+    requires left { AllByRecursion (λ (i : definitions.Injection). kernel.old.steps ≤ i.step) injections.now }
+    requires few { length (injected injections.now kernel.old.steps) ≤ 3 }
     requires going { CanStep app.now kernel.old }
     requires meter { meter.old < 2 ^ 63 }
     ensures stands { (s : State) → Stands kernel.old s
-        → Stands kernel.new (step app.now (injected points.now kernel.old.steps) s) }
+        → Stands kernel.new (step app.now (injected injections.now kernel.old.steps) s) }
     ensures told { OnOk result ((s : State) → Stands kernel.old s
-        → all_of trail.new ≡ all_of trail.old ++ (step app.now (injected points.now kernel.old.steps) s).log) }
+        → all_of trail.new ≡ all_of trail.old ++ (step app.now (injected injections.now kernel.old.steps) s).log) }
     ensures later { IfOk result (λ later. later.now
-        ≡ drop (length (injected points.now kernel.old.steps)) points.now) }
+        ≡ drop (length (injected injections.now kernel.old.steps)) injections.now) }
     ensures meter { meter.new ≡ meter.old + 1 }
     ensures kept { OnErr result (all_of trail.new ≡ all_of trail.old) }
     ensures memory { OnErr result ((s : State) → Stands kernel.old s
-        → 0 < length (step app.now (injected points.now kernel.old.steps) s).log) }
+        → 0 < length (step app.now (injected injections.now kernel.old.steps) s).log) }
 {
-    let handlers = handlers_at(points, kernel.steps);
+    let handlers = handlers_at(injections, kernel.steps);
     step_along(kernel, app, handlers.as_slice(), meter, log, trail)?;
-    let (_, later) = points.split_at(handlers.len());
+    let (_, later) = injections.split_at(handlers.len());
     Ok(later)
 }
 
@@ -356,12 +356,12 @@ pub(crate) fn count_steps(meter: &mut Meter, steps: u32)
 fn go_on_in_room(
     kernel: &mut Machine,
     app: &App,
-    points: &[Point],
+    injections: &[Injection],
     until: u32,
     limits: &Limits,
     trail: &mut Trail,
 )
-    requires { IsFree app.now limits.now until kernel.old points.now }
+    requires { IsFree app.now limits.now until kernel.old injections.now }
     ensures { GoesOn app.now limits.now until kernel.old kernel.new (all_of trail.old) (all_of trail.new) }
 {
     app.well_formed();
@@ -375,40 +375,40 @@ fn go_on_in_room(
             return;
         }
         let may_follow = step_onto(kernel, app, &[], trail);
-        pass_more(kernel, app, points, until, may_follow, limits, trail);
+        pass_more(kernel, app, injections, until, may_follow, limits, trail);
     }
 }
 
 /// Goes on along a run that is under way, up to this step or to an end before it, and keeps the events from there on. The plan
-/// has no points before that step, and neither limit is reached before it, so none of this is looked at on the way; and so it does
+/// has no injections before that step, and neither limit is reached before it, so none of this is looked at on the way; and so it does
 /// the same for every such run that comes to this kernel.
 pub(crate) fn go_on(
     kernel: &mut Machine,
     app: &App,
-    points: &[Point],
+    injections: &[Injection],
     until: u32,
     limits: &Limits,
     meter: &mut Meter,
     log: &mut StepLog,
     trail: &mut Trail,
 ) -> Result<(), Memory>
-    requires free { IsFree app.now limits.now until kernel.old points.now }
+    requires free { IsFree app.now limits.now until kernel.old injections.now }
     requires ahead { kernel.old.steps ≤ until }
     requires meter { meter.old < 2 ^ 62 + kernel.old.steps }
     ensures to { GoesTo app.now limits.now until kernel.old kernel.new }
     ensures there { OnOk result (kernel.new.steps < until
-        → is_over app.now (state_after app.now points.now kernel.new.steps) ≡ true) }
+        → is_over app.now (state_after app.now injections.now kernel.new.steps) ≡ true) }
     ensures along { OnOk result
         (GoesOn app.now limits.now until kernel.old kernel.new (all_of trail.old) (all_of trail.new)) }
     ensures meter { meter.new + kernel.old.steps ≡ meter.old + kernel.new.steps }
     ensures kept { OnErr result (Extends (all_of trail.old) (all_of trail.new)) }
-    ensures memory { OnErr result (0 < length (events_after app.now points.now kernel.new.steps)) }
+    ensures memory { OnErr result (0 < length (events_after app.now injections.now kernel.new.steps)) }
 {
     app.well_formed();
     limits.well_formed();
     'steps: loop {
         let start = kernel.steps;
-        go_on_in_room(kernel, app, points, until, limits, trail);
+        go_on_in_room(kernel, app, injections, until, limits, trail);
         count_steps(meter, kernel.steps - start);
         if until <= kernel.steps {
             return Ok(());
@@ -420,75 +420,39 @@ pub(crate) fn go_on(
     }
 }
 
-/// Goes on to the end of a run that is under way, and keeps the events from there on. These points are its plan, all of
-/// them still to come.
-pub(crate) fn finish(
-    kernel: &mut Machine,
-    app: &App,
-    points: &[Point],
-    limits: &Limits,
-    meter: &mut Meter,
-    log: &mut StepLog,
-    trail: &mut Trail,
-) -> Result<End, Memory>
-    requires plan { IsPlan points.now }
-    requires ahead { AllByRecursion (λ (p : definitions.Point). kernel.old.steps ≤ p.step) points.now }
-    requires way { IsUnderWay app.now points.now limits.now kernel.old }
-    requires meter { meter.old < 2 ^ 62 + kernel.old.steps }
-    ensures way { IsUnderWay app.now points.now limits.now kernel.new }
-    ensures on { kernel.old.steps ≤ kernel.new.steps }
-    ensures events { OnOk result
-        (all_of trail.new ≡ all_of trail.old ++ events_from app.now points.now kernel.old.steps kernel.new.steps) }
-    ensures ended { IfOk result
-        (λ end. end_of app.now limits.now (state_after app.now points.now kernel.new.steps) ≡ Some end) }
-    ensures meter { meter.new + kernel.old.steps ≡ meter.old + kernel.new.steps }
-    ensures kept { OnErr result (Extends (all_of trail.old) (all_of trail.new)) }
-    // memory is asked for events alone
-    ensures memory { OnErr result (0 < length (events_after app.now points.now kernel.new.steps)) }
-{
-    app.well_formed();
-    limits.well_formed();
-    let mut left = points;
-    'steps: loop {
-        if let Some(end) = ended(kernel, app, limits) {
-            return Ok(end);
-        }
-        left = step_by_plan(kernel, app, left, meter, log, trail)?;
-        let until = free_until(kernel, next_point(left), limits);
-        go_on(kernel, app, points, until, limits, meter, log, trail)?;
-    }
-}
-
-/// Goes along a run that is under way, into which nothing is injected before this step, up to this step or to the run's end before
-/// it, and keeps the events from where it is. It answers how the run ends there; `None` where it goes on.
+/// Goes on along a run that is under way, up to this step or to the run's end before it, and keeps the events from there on. These
+/// injections are its plan, all of them still to come. It answers how the run ends there; `None` where it goes on.
 pub(crate) fn go_to_step(
     kernel: &mut Machine,
     app: &App,
-    points: &[Point],
+    injections: &[Injection],
     step: u32,
     limits: &Limits,
     meter: &mut Meter,
     log: &mut StepLog,
     trail: &mut Trail,
 ) -> Result<Option<End>, Memory>
-    requires way { IsUnderWay app.now points.now limits.now kernel.old }
-    requires alone { (n : ℕ) → kernel.old.steps ≤ n → n < step → injected points.now n ≡ [] }
-    requires ahead { kernel.old.steps ≤ step }
+    requires plan { IsPlan injections.now }
+    requires ahead { AllByRecursion (λ (i : definitions.Injection). kernel.old.steps ≤ i.step) injections.now }
+    requires way { IsUnderWay app.now injections.now limits.now kernel.old }
+    requires soon { kernel.old.steps ≤ step }
     requires meter { meter.old < 2 ^ 62 + kernel.old.steps }
-    ensures way { IsUnderWay app.now points.now limits.now kernel.new }
+    ensures way { IsUnderWay app.now injections.now limits.now kernel.new }
     ensures on { kernel.old.steps ≤ kernel.new.steps }
     ensures far { kernel.new.steps ≤ step }
     ensures events { OnOk result
-        (all_of trail.new ≡ all_of trail.old ++ events_from app.now points.now kernel.old.steps kernel.new.steps) }
+        (all_of trail.new ≡ all_of trail.old ++ events_from app.now injections.now kernel.old.steps kernel.new.steps) }
     ensures end { IfOk result
-        (λ end. end ≡ end_of app.now limits.now (state_after app.now points.now kernel.new.steps)) }
+        (λ end. end ≡ end_of app.now limits.now (state_after app.now injections.now kernel.new.steps)) }
     ensures there { IfOk result (λ end. end ≡ None → kernel.new.steps ≡ step) }
     ensures meter { meter.new + kernel.old.steps ≡ meter.old + kernel.new.steps }
     ensures kept { OnErr result (Extends (all_of trail.old) (all_of trail.new)) }
-    ensures memory { OnErr result (0 < length (events_after app.now points.now kernel.new.steps)) }
+    // memory is asked for events alone
+    ensures memory { OnErr result (0 < length (events_after app.now injections.now kernel.new.steps)) }
 {
     app.well_formed();
     limits.well_formed();
+    let mut left = injections;
     'steps: loop {
         if let Some(end) = ended(kernel, app, limits) {
             return Ok(Some(end));
@@ -496,8 +460,42 @@ pub(crate) fn go_to_step(
         if kernel.steps == step {
             return Ok(None);
         }
-        let until = free_until(kernel, step, limits);
-        go_on(kernel, app, points, until, limits, meter, log, trail)?;
+        left = step_by_plan(kernel, app, left, meter, log, trail)?;
+        let until = free_until(kernel, next_injection(left).min(step), limits);
+        go_on(kernel, app, injections, until, limits, meter, log, trail)?;
+    }
+}
+
+/// Goes on to the end of a run that is under way, and keeps the events from there on. These injections are its plan, all of
+/// them still to come.
+pub(crate) fn finish(
+    kernel: &mut Machine,
+    app: &App,
+    injections: &[Injection],
+    limits: &Limits,
+    meter: &mut Meter,
+    log: &mut StepLog,
+    trail: &mut Trail,
+) -> Result<End, Memory>
+    requires plan { IsPlan injections.now }
+    requires ahead { AllByRecursion (λ (i : definitions.Injection). kernel.old.steps ≤ i.step) injections.now }
+    requires way { IsUnderWay app.now injections.now limits.now kernel.old }
+    requires meter { meter.old < 2 ^ 62 + kernel.old.steps }
+    ensures way { IsUnderWay app.now injections.now limits.now kernel.new }
+    ensures on { kernel.old.steps ≤ kernel.new.steps }
+    ensures events { OnOk result
+        (all_of trail.new ≡ all_of trail.old ++ events_from app.now injections.now kernel.old.steps kernel.new.steps) }
+    ensures ended { IfOk result
+        (λ end. end_of app.now limits.now (state_after app.now injections.now kernel.new.steps) ≡ Some end) }
+    ensures meter { meter.new + kernel.old.steps ≡ meter.old + kernel.new.steps }
+    ensures kept { OnErr result (Extends (all_of trail.old) (all_of trail.new)) }
+    ensures memory { OnErr result (0 < length (events_after app.now injections.now kernel.new.steps)) }
+{
+    limits.well_formed();
+    match go_to_step(kernel, app, injections, u32::MAX, limits, meter, log, trail)? {
+        Some(end) => Ok(end),
+        // No run comes so far (profile).
+        None => unreachable!(),
     }
 }
 
@@ -540,7 +538,7 @@ pub fn follow(
     )
 }
 
-/// The run of an application with this plan, from reset to its end under these limits. A point of the plan past the end of
+/// The run of an application with this plan, from reset to its end under these limits. An injection of the plan past the end of
 /// the run does nothing.
 ///
 /// The meter, which is below 2^62, rises by the steps of the run. At `Err(Memory)`, answered only where a growth was
@@ -563,12 +561,12 @@ pub fn run(
     plan.well_formed();
     let mut trail = Trail::new(alloc);
     let mut kernel = Machine::boot(app);
-    let points = plan.points();
+    let injections = plan.injections();
     let mut log = StepLog::new();
     let end = finish(
         &mut kernel,
         app,
-        points,
+        injections,
         &limits,
         meter,
         &mut log,

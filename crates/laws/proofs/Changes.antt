@@ -27,7 +27,7 @@ use Rattle.model.specs.Objects.{possible, answer_to, object_after, list_woken, l
 use Rattle.model.specs.Mutexes.{set_priority, mutexes_held, lend, inherit_from, inherit, fall_back, after_timeout, disinherit, give_mutex}
 use Rattle.model.specs.Calls.{try, lock, decide, leave_call, await, do_now}
 use Rattle.model.specs.Time.{delayed_key, delayed_list, is_due, due, wake_due, advance, increment_tick, apply_one, apply_held, sleep, set_previous_wake}
-use Rattle.model.specs.declared.plan.Point.{Point}
+use Rattle.model.specs.declared.plan.Injection.{Injection}
 use Rattle.model.specs.declared.op.IsrOp.{IsrOp}
 use Rattle.model.specs.declared.op.IsrOp.TheVariants as isr_op
 use Rattle.model.specs.Handlers.{isr_told, isr, isr_each, handle, inject, interrupt, tick_interrupt}
@@ -540,7 +540,7 @@ module _ (P : State → Type 0)
       let s : State = for_each make_ready (with_ops 0 app.tasks) (nobody_ready app) in
       framed s (record s { current = choice s }) refl refl refl (kept-all_ready (with_ops 0 app.tasks) (nobody_ready app) h)
 
-  pub kept_after : (app : Application) → P (nobody_ready app) → (plan : List Point) (n : ℕ) → P (state_after app plan n)
+  pub kept_after : (app : Application) → P (nobody_ready app) → (plan : List Injection) (n : ℕ) → P (state_after app plan n)
   kept_after app h plan zero = kept-reset app h
   kept_after app h plan (suc n) = kept-step app (injected plan n) (state_after app plan n) (kept_after app h plan n)
 
@@ -675,7 +675,7 @@ later-passed s h i =
           subst Q (sym kept.0) (subst R (sym now) later)
     ]
 
-pub wake_later : (app : Application) (plan : List Point) (n task : ℕ) → Later (state_after app plan n).time (status_at (state_after app plan n) task)
+pub wake_later : (app : Application) (plan : List Injection) (n task : ℕ) → Later (state_after app plan n).time (status_at (state_after app plan n) task)
 unfolding nobody_ready
 wake_later app plan n task = kept_after WakeLater later-framed later-moved later-taken later-passed app (λ i. subst (Later app.start) (sym (ended_at_reset app.start app.tasks i)) tt) plan n task
 
@@ -785,5 +785,5 @@ apart-nobody app =
       apart = λ i j ticket a b. let f = none i in absurd (let g : None ≡ Some ticket = sym f ∙ a in cc);
     }
 
-pub tickets_apart : (app : Application) (plan : List Point) (n a b ticket : ℕ) → ticket_of (status_at (state_after app plan n) a) ≡ Some ticket → ticket_of (status_at (state_after app plan n) b) ≡ Some ticket → a ≡ b
+pub tickets_apart : (app : Application) (plan : List Injection) (n a b ticket : ℕ) → ticket_of (status_at (state_after app plan n) a) ≡ Some ticket → ticket_of (status_at (state_after app plan n) b) ≡ Some ticket → a ≡ b
 tickets_apart app plan n a b ticket = (kept_after TicketsApart apart-framed apart-moved apart-taken apart-passed app (apart-nobody app) plan n).apart a b ticket

@@ -19,7 +19,7 @@ use Rattle.model.specs.Waiting.{wait_in, set_deadline, is_expired, end_hold, unl
 use Rattle.model.specs.Objects.{possible, answer_to, list_for}
 use Rattle.model.specs.Mutexes.{inherit, after_timeout, give_mutex}
 use Rattle.model.specs.Calls.{try, lock, decide, leave_call, await, do_now}
-use Rattle.model.specs.declared.plan.Point.{Point}
+use Rattle.model.specs.declared.plan.Injection.{Injection}
 use Rattle.model.specs.Handlers.{handle, interrupt, tick_interrupt}
 use Rattle.model.specs.Time.{advance, due, increment_tick, sleep, set_previous_wake, wake_due}
 use Rattle.model.specs.Ops.{go_to, answer, use_up, delay, delay_until, expect, open_loop, turn, close_turn}
@@ -300,11 +300,11 @@ idle-reset : (app : Application) → IdleAlone (reset app)
 unfolding reset
 idle-reset app = λ e. chosen_none (ready_at_reset app) e
 
-idle_all : (app : Application) → IsWellFormed app → (plan : List Point) (n : ℕ) → IdleAlone (state_after app plan n)
+idle_all : (app : Application) → IsWellFormed app → (plan : List Injection) (n : ℕ) → IdleAlone (state_after app plan n)
 idle_all app formed plan zero = idle-reset app
 idle_all app formed plan (suc n) = idle-step app formed (injected plan n) (state_after app plan n) (reached_after app formed plan n)
 
-pub idle_after : (app : Application) → IsWellFormed app → (plan : List Point) (n task : ℕ) → (state_after app plan n).current ≡ None → is_ready (state_after app plan n) task ≡ false
+pub idle_after : (app : Application) → IsWellFormed app → (plan : List Injection) (n task : ℕ) → (state_after app plan n).current ≡ None → is_ready (state_after app plan n) task ≡ false
 idle_after app formed plan n task e = idle_all app formed plan n e task
 
 -- ---- after a tick

@@ -2,7 +2,7 @@
 use Rattle.std.proofs.Common.{◌≡◌, ◌≤◌, ◌+◌, ℕ, zero, suc, List, [], ◌∷◌, map, get_or, Option, Some, None, refl, ap, ◌∙◌}
 use Rattle.std.specs.Prelude.{slice_get}
 use Rattle.std.specs.Option.{IfSome}
-use Rattle.model.specs.declared.plan.Point.{Point}
+use Rattle.model.specs.declared.plan.Injection.{Injection}
 use Rattle.model.specs.Application.{Application, Definition, definition_of}
 use Rattle.model.specs.Scripts.{IsWellFormed}
 use Rattle.model.specs.State.{State, Status, Task, Ready, no_task, status_at, task_at, with_task, take_ticket, for_each}
@@ -45,7 +45,7 @@ module _ (app : Application) where
   unfolding nobody_ready
   base-nobody = λ i. refl
 
-  base-after : (plan : List Point) (n : ℕ) → AreAtReset (state_after app plan n)
+  base-after : (plan : List Injection) (n : ℕ) → AreAtReset (state_after app plan n)
   base-after plan n = kept_after AreAtReset base-framed base-moved (λ s i f is later. base-taken s i f) base-passed app base-nobody plan n
 
 -- ---- and those are the file's
@@ -55,11 +55,11 @@ of_file start [] i = tt
 of_file start (d ∷ ds) zero = refl
 of_file start (d ∷ ds) (suc i) = of_file start ds i
 
-pub base_of_file : (app : Application) (plan : List Point) (n task : ℕ) → IfSome (definition_of app task) (λ d. (task_at (state_after app plan n) task).base_priority ≡ d.priority)
+pub base_of_file : (app : Application) (plan : List Injection) (n task : ℕ) → IfSome (definition_of app task) (λ d. (task_at (state_after app plan n) task).base_priority ≡ d.priority)
 base_of_file app plan n task = by_definition (definition_of app task) (of_file app.start app.tasks task) where
   by_definition : (o : Option Definition) → IfSome o (λ d. base_at_reset app task ≡ d.priority) → IfSome o (λ d. (task_at (state_after app plan n) task).base_priority ≡ d.priority)
   by_definition None h = tt
   by_definition (Some d) h = base-after app plan n task ∙ h
 
-pub never_below_base : (app : Application) → IsWellFormed app → (plan : List Point) (n task : ℕ) → (task_at (state_after app plan n) task).base_priority ≤ (task_at (state_after app plan n) task).priority
+pub never_below_base : (app : Application) → IsWellFormed app → (plan : List Injection) (n task : ℕ) → (task_at (state_after app plan n) task).base_priority ≤ (task_at (state_after app plan n) task).priority
 never_below_base app formed plan n task = ((reached_after app formed plan n).sound.priorities task).0

@@ -6,7 +6,7 @@ use Rattle.model.specs.declared.op.Access.TheVariants.{Send, Receive, Peek}
 use Rattle.model.specs.declared.op.Op.TheVariants.{Delay, Mark, Await}
 use Rattle.model.specs.declared.op.IsrOp.{IsrOp}
 use Rattle.model.specs.declared.op.IsrOp.TheVariants as isr_op
-use Rattle.model.specs.declared.plan.Point.{Point}
+use Rattle.model.specs.declared.plan.Injection.{Injection}
 use Rattle.model.specs.declared.event.Event.{Event}
 use Rattle.model.specs.declared.event.What.{What}
 use Rattle.model.specs.declared.event.What.TheVariants as what
@@ -46,8 +46,12 @@ abbrev pub receives : ℕ → IsrOp
 receives queue = isr_op.Do queue Receive
 
 -- the handler comes before this step
-abbrev pub point_at : ℕ → Point
-point_at step = record { step = step; handler = h }
+abbrev pub at : ℕ → Injection
+at step = record { step = step; handler = h }
+
+-- the point of that alone
+abbrev pub point_at : ℕ → List Injection
+point_at step = at step ∷ []
 
 -- the handler's op of this index is answered with this number
 abbrev pub isr : ℕ → ℕ → What
@@ -56,7 +60,7 @@ isr op_index answer = what.Isr h op_index answer
 -- an application, what is injected, and what its run comes to
 pub record Injected : Type 0 where
   pub app : Application
-  pub plan : List Point
+  pub plan : List Injection
   pub run : Run
 
 -- The application's run with this plan comes to that.
@@ -66,7 +70,7 @@ RunsWith e = IsRun e.app e.plan e.app.limits e.run
 -- a point of an application, whether it is reached, and its row
 pub record Row : Type 0 where
   pub app : Application
-  pub point : Point
+  pub point : List Injection
   pub reached : Bool
   pub row : Run
 
@@ -170,6 +174,53 @@ rows =
     before_the_wait 0 ∷ before_the_wait 1 ∷ in_the_wait 2 ∷ in_the_wait 3 ∷ in_the_wait 4
     ∷ beside_idle ∷ at_the_last_step ∷ past_the_end ∷ []
 
+-- ---- one receive, with the handler at two of its phases
+
+-- The first wakes the task, and the second finds nobody who waits.
+abbrev pub twice : Row
+twice = record {
+  app = one_receive;
+  point = at 0 ∷ at 3 ∷ [];
+  reached = true;
+  row = record {
+    events =
+        sent_and_received 0 0 (sent_and_received 3 0 (
+        event_at 9 0 idles ∷ event_at 10 1 (runs a) ∷ event_at 11 1 (what.CallNone a 0) ∷ event_at 11 1 idles ∷ []));
+    steps = 12;
+    ticks = 1;
+    end = Pass;
+  };
+}
+
+-- the second past the end of the base run, but before that of the row
+abbrev pub past_the_base_run : Row
+past_the_base_run = record {
+  app = one_receive;
+  point = at 3 ∷ at 10 ∷ [];
+  reached = true;
+  row = record {
+    events =
+        sent_and_received 3 0 (event_at 9 0 idles ∷ sent_and_received 10 0 (
+        event_at 10 0 (runs a) ∷ event_at 14 0 idles ∷ event_at 15 1 (runs a) ∷ event_at 16 1 (what.CallNone a 0)
+        ∷ event_at 16 1 idles ∷ []));
+    steps = 17;
+    ticks = 1;
+    end = Pass;
+  };
+}
+
+-- the second past the end of the row too: it does nothing
+abbrev pub past_the_row : Row
+past_the_row = record at_the_last_step { point = at 6 ∷ at 7 ∷ [] }
+
+-- the first at the end of the base run, which is the row then
+abbrev pub from_the_end_on : Row
+from_the_end_on = record past_the_end { point = at 7 ∷ at 8 ∷ [] }
+
+-- the rows of these
+abbrev pub rows_of_two : List Row
+rows_of_two = twice ∷ past_the_base_run ∷ past_the_row ∷ from_the_end_on ∷ []
+
 -- ---- wakes through a locked queue
 
 -- Wakes through another queue come at once, those through the locked one at its unlock: so the task that was woken last
@@ -178,7 +229,7 @@ abbrev pub two_queues : Injected
 two_queues = record {
   app = with_handler (Queue 1 ∷ Queue 1 ∷ []) (sends 0 1 ∷ sends 1 2 ∷ []) (
       a_task (codes "a") (Await 1 Receive (Some 9) ∷ []) ∷ a_task (codes "b") (on_queue Receive 9 ∷ []) ∷ []);
-  plan = point_at 7 ∷ [];
+  plan = point_at 7;
   run = record {
     events =
         event_at 4 0 (runs b) ∷ event_at 7 0 (isr 0 1) ∷ event_at 7 0 (isr 1 1) ∷ event_at 9 0 (runs a)
@@ -195,7 +246,7 @@ fewer_items = record {
   app = with_handler (Queue 4 ∷ []) (sends 0 1 ∷ sends 0 2 ∷ []) (
       a_task_of 3 (codes "a") (on_queue_forever Receive ∷ []) ∷ a_task_of 2 (codes "b") (on_queue_forever Receive ∷ [])
       ∷ a_task_of 1 (codes "c") (on_queue_forever Receive ∷ []) ∷ []);
-  plan = point_at 13 ∷ [];
+  plan = point_at 13;
   run = record {
     events =
         event_at 4 0 (runs b) ∷ event_at 9 0 (runs c) ∷ event_at 13 0 (isr 0 1) ∷ event_at 13 0 (isr 1 1)
@@ -212,7 +263,7 @@ abbrev pub more_items : Injected
 more_items = record {
   app = with_handler (Queue 4 ∷ []) (sends 0 1 ∷ sends 0 2 ∷ sends 0 3 ∷ []) (
       a_task_of 2 (codes "a") (on_queue_forever Receive ∷ []) ∷ a_task_of 1 (codes "b") (on_queue_forever Receive ∷ []) ∷ []);
-  plan = point_at 8 ∷ [];
+  plan = point_at 8;
   run = record {
     events =
         event_at 4 0 (runs b) ∷ event_at 8 0 (isr 0 1) ∷ event_at 8 0 (isr 1 1) ∷ event_at 8 0 (isr 2 1)
@@ -229,7 +280,7 @@ abbrev pub room_taken : Injected
 room_taken = record {
   app = with_handler (Queue 1 ∷ []) (receives 0 ∷ sends 0 9 ∷ []) (
       a_task (codes "a") (on_queue (Send 1) 0 ∷ on_queue (Send 2) 3 ∷ []) ∷ []);
-  plan = point_at 4 ∷ [];
+  plan = point_at 4;
   run = record {
     events =
         event_at 0 0 (call a 0 1) ∷ event_at 4 0 (isr 0 1) ∷ event_at 4 0 (isr 1 1) ∷ event_at 10 0 idles
@@ -280,7 +331,7 @@ abbrev pub answers : Injected
 answers = record {
   app = with_handler (Queue 1 ∷ []) (isr_op.Mark 3 ∷ receives 0 ∷ sends 0 8 ∷ sends 0 9 ∷ isr_op.Do 0 Peek ∷ []) (
       a_task (codes "a") (Mark 1 ∷ []) ∷ []);
-  plan = point_at 0 ∷ [];
+  plan = point_at 0;
   run = record {
     events =
         event_at 0 0 (what.IsrMark h 3) ∷ event_at 0 0 (what.IsrNone h 1) ∷ event_at 0 0 (isr 2 1) ∷ event_at 0 0 (isr 3 0)

@@ -1,6 +1,6 @@
 //! What is true of the rows of a campaign, and of their totals.
 ghost use Rattle.std.specs.Prelude.{◌≡◌, ◌≤◌, ◌+◌, [], false, List};
-ghost use Rattle.model.specs.declared.plan.Point.{Point};
+ghost use Rattle.model.specs.declared.plan.Injection.{Injection};
 ghost use Rattle.model.specs.declared.totals.Totals.{Totals};
 ghost use Rattle.model.specs.Application.{Application, Limits};
 ghost use Rattle.model.specs.Campaign.{Row, totals_of};
@@ -16,6 +16,6 @@ pub fn ends_add_up()
 
 /// The row of a point that is not reached is the base run.
 pub fn unreached_row_is_the_base_run()
-    ensures { (app : Application) (limits : Limits) (point : Point) (run : Run)
+    ensures { (app : Application) (limits : Limits) (point : List Injection) (run : Run)
         → IsRow app limits point false run → IsRun app [] limits run }
 {}

@@ -2,7 +2,7 @@
 ghost use Rattle.std.specs.List.{AllByRecursion};
 ghost use Rattle.laws.specs.Examples.{examples, Runs};
 ghost use Rattle.laws.specs.MutexExamples.{mutex_examples};
-ghost use Rattle.laws.specs.HandlerExamples.{injected_examples, RunsWith, rows, RowIs};
+ghost use Rattle.laws.specs.HandlerExamples.{injected_examples, RunsWith, rows, rows_of_two, RowIs};
 ghost use Rattle.laws.specs.HoldExamples.{hold_examples};
 
 /// Each application of the table of worked examples runs as the table says: round robin, `delay 0` that yields, `delay 1`
@@ -38,4 +38,10 @@ pub fn examples_with_holds_run()
 /// One handler at each phase of one receive, and after them: the rows of these points.
 pub fn rows_of_one_receive()
     ensures { AllByRecursion RowIs rows }
+{}
+
+/// One handler twice in one receive: the second time past the end of the base run, where it comes, and at the row's own end, where it
+/// does nothing. Where the first is at the base run's end, the row is the base run.
+pub fn rows_of_two_injections()
+    ensures { AllByRecursion RowIs rows_of_two }
 {}

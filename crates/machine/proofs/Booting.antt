@@ -48,7 +48,7 @@ use Rattle.objects.proofs.Awake.{at_locked-nobody}
 use Rattle.objects.proofs.Kept.{stands_same}
 use Rattle.objects.proofs.Locking.{objects-all_ready}
 use Rattle.objects.proofs.Resetting.{nobody_waits-reset}
-use Rattle.model.specs.declared.plan.Point.{Point}
+use Rattle.model.specs.declared.plan.Injection.{Injection}
 use Rattle.model.specs.Run.{state_after}
 use Rattle.machine.specs.Can.{IsUnderWay}
 use Rattle.machine.proofs.Either.{steps_are}
@@ -300,7 +300,7 @@ steps-reset app = (keeps-all_ready (with_ops 0 app.tasks) (nobody_ready app)).st
 pub steps_begin : (app : Application) (k : Machine) → Stands k (reset app) → k.steps ≡ 0
 steps_begin app k h = steps_are k (reset app) h ∙ steps-reset app
 
-pub begins : (app : Application) (plan : List Point) (limits : Limits) (k : Machine) → Stands k (reset app) → IsUnderWay app plan limits k
+pub begins : (app : Application) (plan : List Injection) (limits : Limits) (k : Machine) → Stands k (reset app) → IsUnderWay app plan limits k
 begins app plan limits k h = record {
   stands = let Q : ℕ → Type 0 = λ n. Stands k (state_after app plan n) in subst Q (sym (steps_begin app k h)) h;
   goes_on = λ n l. let e = steps_begin app k h in absurd (omega arith);

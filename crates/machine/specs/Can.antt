@@ -2,7 +2,7 @@
 use Rattle.std.specs.Prelude.{◌≡◌, ◌≢◌, ◌<◌, ℕ, ◌+◌, ◌^◌, true, false, List, [], ◌∷◌, Option, Some, None, IfSome, length}
 use Rattle.std.specs.List.{AllByRecursion}
 use Rattle.model.specs.declared.op.Access.{Access}
-use Rattle.model.specs.declared.plan.Point.{Point}
+use Rattle.model.specs.declared.plan.Injection.{Injection}
 use Rattle.model.specs.Application.{Application, Limits}
 use Rattle.model.specs.State.{State, status_at}
 use Rattle.model.specs.Suspension.{can_resume}
@@ -48,7 +48,7 @@ IsAhead now deadline = IfSome deadline (λ time. (now < time) × (time < now + 2
 
 -- A run of which so many steps are done is under way: the kernel stands for the state after them, and none of them came
 -- after the end.
-pub record IsUnderWay (app : Application) (plan : List Point) (limits : Limits) (k : Machine) : Type 0 where
+pub record IsUnderWay (app : Application) (plan : List Injection) (limits : Limits) (k : Machine) : Type 0 where
   pub stands : Stands k (state_after app plan k.steps)
   pub goes_on : (n : ℕ) → n < k.steps → end_of app limits (state_after app plan n) ≡ None
 

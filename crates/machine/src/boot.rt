@@ -1,7 +1,7 @@
 //! The kernel at reset.
 ghost use Rattle.std.specs.Prelude.{◌≡◌, ◌<◌, ◌≤◌, ℕ, List, length, map, false, slice_index_or};
 ghost use Rattle.std.specs.List.{AllByRecursion};
-ghost use Rattle.model.specs.declared.plan.Point.{Point};
+ghost use Rattle.model.specs.declared.plan.Injection.{Injection};
 ghost use Rattle.model.specs.Application.{Limits};
 ghost use Rattle.model.specs.State.{State, no_task, no_progress, status_at, for_each};
 ghost use Rattle.model.specs.Switching.{make_ready};
@@ -87,7 +87,7 @@ impl Machine {
         ensures stands { StandsFor result (reset app.now) }
         ensures steps { result.steps ≡ 0 }
         // Its run is under way, whatever handlers are to come, and whatever limits it has.
-        ensures way { (plan : List Point) (limits : Limits) → IsUnderWay app.now plan limits result }
+        ensures way { (plan : List Injection) (limits : Limits) → IsUnderWay app.now plan limits result }
     {
         app.well_formed();
         let mut kernel = Machine::nobody_ready(app);

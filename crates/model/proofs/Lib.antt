@@ -12,3 +12,4 @@ pub mod Ticks
 pub mod Counting
 pub mod Injected
 pub mod OneRun
+pub mod Points

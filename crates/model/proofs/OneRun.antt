@@ -4,7 +4,8 @@ use Rattle.std.specs.Prelude.{Bool}
 use Rattle.std.proofs.lemmas.Bool.{cases_lt, cases_eq}
 use Rattle.model.specs.declared.event.Event.{Event}
 use Rattle.model.specs.declared.event.End.{End}
-use Rattle.model.specs.declared.plan.Point.{Point}
+use Rattle.model.specs.declared.plan.Injection.{Injection}
+use Rattle.model.specs.Points.{first_step}
 use Rattle.model.specs.Application.{Application, Limits}
 use Rattle.model.specs.Run.{Run, IsRun, IsRow, plan_of, state_after, events_after, end_of}
 
@@ -16,7 +17,7 @@ made {a} {b} events steps ticks end =
     ∙ ap (λ (n : ℕ). record a { events = b.events; steps = b.steps; ticks = n }) ticks
     ∙ ap (λ (e : End). record b { end = e }) end
 
-module _ (app : Application) (plan : List Point) (limits : Limits) (a b : Run) (h : IsRun app plan limits a) (k : IsRun app plan limits b) where
+module _ (app : Application) (plan : List Injection) (limits : Limits) (a b : Run) (h : IsRun app plan limits a) (k : IsRun app plan limits b) where
   -- no run ends before another
   not_less : a.steps < b.steps → a ≡ b
   not_less l = let none = k.goes_on a.steps l in let end = h.ends in absurd (cc)
@@ -40,12 +41,12 @@ module _ (app : Application) (plan : List Point) (limits : Limits) (a b : Run) (
 
 -- ---- rows
 
-module _ (app : Application) (limits : Limits) (point : Point) (here there : Bool) (a b : Run) (h : IsRow app limits point here a) (k : IsRow app limits point there b) where
+module _ (app : Application) (limits : Limits) (point : List Injection) (here there : Bool) (a b : Run) (h : IsRow app limits point here a) (k : IsRow app limits point there b) where
   same_base : h.base ≡ k.base
   same_base = one_run app [] limits h.base k.base h.is_base k.is_base
 
   same_reached : here ≡ there
-  same_reached = h.is_reached ∙ ap (λ (r : Run). ltb point.step r.steps) same_base ∙ sym k.is_reached
+  same_reached = h.is_reached ∙ ap (λ (r : Run). ltb (first_step point) r.steps) same_base ∙ sym k.is_reached
 
   pub one_row : (here ≡ there) × (a ≡ b)
   one_row = (same_reached, one_run app (plan_of there point) limits a b (subst (λ r. IsRun app (plan_of r point) limits a) same_reached h.is_row) k.is_row)

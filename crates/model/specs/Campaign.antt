@@ -3,7 +3,7 @@ use Rattle.std.specs.Prelude.{◌≡◌, ℕ, Bool, true, false, not, List, [], 
 use Rattle.std.specs.List.{AllByRecursion, flat_map, range_with_len}
 use Rattle.model.specs.declared.event.End.{End}
 use Rattle.model.specs.declared.event.End.TheVariants.{Pass, Check, Misuse, Ticks, Steps, Stuck}
-use Rattle.model.specs.declared.plan.Point.{Point}
+use Rattle.model.specs.declared.plan.Injection.{Injection}
 use Rattle.model.specs.declared.plan.PointEntry.{PointEntry}
 use Rattle.model.specs.declared.plan.PointEntry.TheVariants.{One, Every}
 use Rattle.model.specs.declared.totals.Totals.{Totals}
@@ -12,29 +12,33 @@ use Rattle.model.specs.Run.{Run, IsRow}
 
 -- ---- the points
 
+-- a point of one injection
+abbrev pub one_point : (handler step : ℕ) → List Injection
+one_point handler step = record { step = step; handler = handler } ∷ []
+
 -- the points of a handler before each of so many steps, from the first on
-abbrev pub every_step : (handler steps : ℕ) → List Point
-every_step handler steps = map (λ (step : ℕ). record { step = step; handler = handler }) (range_with_len 0 steps)
+abbrev pub every_step : (handler steps : ℕ) → List (List Injection)
+every_step handler steps = map (one_point handler) (range_with_len 0 steps)
 
 -- the points that an entry of the file stands for, where the base run has so many steps
-abbrev pub points_of : (steps : ℕ) → PointEntry → List Point
+abbrev pub points_of : (steps : ℕ) → PointEntry → List (List Injection)
 points_of steps (One point) = point ∷ []
 points_of steps (Every handler) = every_step handler steps
 
 -- the points of a file, in its order
-abbrev pub points_in : Application → (steps : ℕ) → List Point
+abbrev pub points_in : Application → (steps : ℕ) → List (List Injection)
 points_in app steps = flat_map (points_of steps) app.points
 
 -- ---- the rows
 
 -- a row: its point, whether the base run reaches it, and its run
 pub record Row : Type 0 where
-  pub point : Point
+  pub point : List Injection
   pub reached : Bool
   pub run : Run
 
 -- The rows of a campaign over these points.
-pub record AreRows (app : Application) (limits : Limits) (points : List Point) (rows : List Row) : Type 0 where
+pub record AreRows (app : Application) (limits : Limits) (points : List (List Injection)) (rows : List Row) : Type 0 where
   -- one for each point, in the order of the points
   pub one_each : map (λ (row : Row). row.point) rows ≡ points
   pub each : AllByRecursion (λ (row : Row). IsRow app limits row.point row.reached row.run) rows

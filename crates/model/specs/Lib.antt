@@ -1,3 +1,4 @@
+pub mod Points
 pub mod Application
 pub mod Words
 pub mod Coming

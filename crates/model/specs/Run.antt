@@ -5,7 +5,8 @@ use Rattle.std.specs.Option.{option_or}
 use Rattle.model.specs.declared.event.Event.{Event}
 use Rattle.model.specs.declared.event.End.{End}
 use Rattle.model.specs.declared.event.End.TheVariants.{Pass, Ticks, Steps, Stuck}
-use Rattle.model.specs.declared.plan.Point.{Point}
+use Rattle.model.specs.declared.plan.Injection.{Injection}
+use Rattle.model.specs.Points.{first_step}
 use Rattle.model.specs.Application.{Application, Interrupt, Limits}
 use Rattle.model.specs.State.{State, Task, wake_time_of}
 use Rattle.model.specs.Step.{is_ended, step, reset}
@@ -36,16 +37,16 @@ end_of app limits s = option_or s.stopped (
     else None)
 
 -- the handlers that a plan injects before the step of this number, in its order
-abbrev pub injected : List Point → ℕ → List ℕ
-injected plan n = map (λ (p : Point). p.handler) (filter (λ (p : Point). p.step == n) plan)
+abbrev pub injected : List Injection → ℕ → List ℕ
+injected plan n = map (λ (i : Injection). i.handler) (filter (λ (i : Injection). i.step == n) plan)
 
 -- the state after so many steps
-abbrev pub state_after : Application → List Point → ℕ → State
+abbrev pub state_after : Application → List Injection → ℕ → State
 state_after app plan zero = reset app
 state_after app plan (suc n) = step app (injected plan n) (state_after app plan n)
 
 -- the events of the first steps
-abbrev pub events_after : Application → List Point → ℕ → List Event
+abbrev pub events_after : Application → List Injection → ℕ → List Event
 events_after app plan zero = []
 events_after app plan (suc n) = events_after app plan n ++ (state_after app plan (suc n)).log
 
@@ -57,20 +58,20 @@ pub record Run : Type 0 where
   pub end : End
 
 -- The run of the application with this plan, under these limits, comes to this.
-pub record IsRun (app : Application) (plan : List Point) (limits : Limits) (run : Run) : Type 0 where
+pub record IsRun (app : Application) (plan : List Injection) (limits : Limits) (run : Run) : Type 0 where
   pub goes_on : (n : ℕ) → n < run.steps → end_of app limits (state_after app plan n) ≡ None
   pub ends : end_of app limits (state_after app plan run.steps) ≡ Some run.end
   pub trace : run.events ≡ events_after app plan run.steps
   pub elapsed : run.ticks ≡ (state_after app plan run.steps).elapsed
 
--- the plan of a row: its point, if it is reached
-abbrev pub plan_of : Bool → Point → List Point
-plan_of reached point = if reached then point ∷ [] else []
+-- the plan of a row: its point's injections, if it is reached
+abbrev pub plan_of : Bool → List Injection → List Injection
+plan_of reached point = if reached then point else []
 
--- A row. Its point is reached where the base run, into which nothing is injected, gets beyond the point's step. It is the
--- run with the point then, and else the base run.
-pub record IsRow (app : Application) (limits : Limits) (point : Point) (reached : Bool) (row : Run) : Type 0 where
+-- A row. Its point is reached where the base run, into which nothing is injected, gets beyond the step of its first injection. It is
+-- the run with all its injections then, of which those at or past its end do nothing, and else the base run.
+pub record IsRow (app : Application) (limits : Limits) (point : List Injection) (reached : Bool) (row : Run) : Type 0 where
   pub base : Run
   pub is_base : IsRun app [] limits base
-  pub is_reached : reached ≡ nat_lt point.step base.steps
+  pub is_reached : reached ≡ nat_lt (first_step point) base.steps
   pub is_row : IsRun app (plan_of reached point) limits row

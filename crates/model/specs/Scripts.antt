@@ -9,8 +9,10 @@ use Rattle.model.specs.declared.op.Op.{Op}
 use Rattle.model.specs.declared.op.Op.TheVariants.{Work, DelayUntil, Repeat, End, Await, Do, GiveMutex, MessagesWaiting, SpacesAvailable, SetBits, ClearBits, GetBits, WaitBits, Suspend, Resume}
 use Rattle.model.specs.declared.op.IsrOp.{IsrOp}
 use Rattle.model.specs.declared.op.IsrOp.TheVariants as isr
+use Rattle.model.specs.declared.plan.Injection.{Injection}
 use Rattle.model.specs.declared.plan.PointEntry.{PointEntry}
 use Rattle.model.specs.declared.plan.PointEntry.TheVariants.{One, Every}
+use Rattle.model.specs.Points.{IsPoint}
 use Rattle.model.specs.Application.{Application, Handler, Interrupt, Definition, interrupts_at}
 
 -- ---- how many there may be (profile)
@@ -234,13 +236,6 @@ knows_isr app (isr.Resume task) = has_task app task
 knows_isr app (isr.GetBits group) = has_group app group
 knows_isr app (isr.Mark n) = true
 
--- ---- order
-
--- The number that each has is at most that of those after it.
-abbrev pub Rises : {X : Type 0} → (X → ℕ) → List X → Type 0
-Rises number [] = Unit {0}
-Rises number (x ∷ xs) = AllByRecursion (λ y. number x ≤ number y) xs × Rises number xs
-
 -- ---- the application
 
 -- an object that an application may have (profile: its limits)
@@ -264,7 +259,8 @@ pub record IsInterrupt (app : Application) (interrupt : Interrupt) : Type 0 wher
 
 -- an entry of points that an application may have (profile: its limits)
 abbrev pub IsPointEntry : Application → PointEntry → Type 0
-IsPointEntry app (One point) = (point.step ≤ last_point) × (point.handler < length app.handlers)
+IsPointEntry app (One point) =
+    IsPoint point × AllByRecursion (λ (i : Injection). (i.step ≤ last_point) × (i.handler < length app.handlers)) point
 IsPointEntry app (Every handler) = handler < length app.handlers
 
 -- a task that an application may have (profile: its limits)

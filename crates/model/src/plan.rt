@@ -1,6 +1,7 @@
 //! Which handlers are injected before which steps.
-ghost use Rattle.std.specs.Prelude.{◌≡◌, ◌↔◌, ◌≤◌, ℕ, [], ◌∷◌, true, false, length, Err, IfOk};
-ghost use Rattle.model.specs.Plans.{AreInOrder, IsCrowded, IsPlan, most_injected};
+ghost use Rattle.std.specs.Prelude.{◌≡◌, ◌↔◌, ◌≤◌, ◌<◌, ℕ, [], ◌∷◌, true, false, length, Err, IfOk};
+ghost use Rattle.model.specs.Points.{AreInOrder, IsPoint, most_of_point, first_step, last_step};
+ghost use Rattle.model.specs.Plans.{IsCrowded, IsPlan, most_injected};
 ghost use Rattle.model.specs.Run.{injected};
 
 use crate::ids::HandlerId;
@@ -8,11 +9,128 @@ use crate::run::Memory;
 use std::alloc::Global;
 use std::marker::Model;
 
-/// An injection point: the handler runs before the step of this number, from 0.
+/// An injection: the handler runs before the step of this number, from 0.
 #[derive(Clone, Copy, PartialEq, Eq)]
-pub struct Point {
+pub struct Injection {
     pub step: u32,
     pub handler: HandlerId,
+}
+
+// What is in a place of a point that has no injection.
+const NONE: Injection = Injection {
+    step: 0,
+    handler: HandlerId { number: 0 },
+};
+
+impl Default for Injection {
+    /// What lies in a place of a list that is taken by none.
+    fn default() -> Self {
+        NONE
+    }
+}
+
+/// Why some injections are no point.
+#[derive(Clone, Copy)]
+pub enum BadPoint {
+    /// There is none.
+    Empty,
+    /// There are more than three (profile).
+    TooMany,
+    /// A step is less than the one before it.
+    Falling,
+}
+
+/// An injection point: one to three injections, in the order of their steps (profile).
+#[derive(Clone, Copy, PartialEq, Eq)]
+pub struct Point {
+    injections: [Injection; 3],
+    count: u8,
+}
+
+impl Model for Point {
+    ghost use Rattle.std.specs.Prelude.{◌≡◌, ◌≤◌, List, length, take};
+    ghost use Rattle.std.proofs.Common.{arith, length-take-le};
+    ghost use Rattle.model.specs.declared.plan.Injection.{Injection};
+    ghost use Rattle.model.specs.Points.{IsPoint, filled};
+
+    ghost Value = { List Injection };
+
+    ghost view = { λ p. take p.count p.injections };
+
+    ghost invariant = { λ p. (p.count ≤ 3) × (length p.injections ≡ 3) × (filled (take p.count p.injections) ≡ p.injections)
+        × IsPoint (take p.count p.injections) };
+
+    ghost inverse = { λ is. record { injections = filled is; count = length is } };
+
+    ghost inverse_ok = { λ p h i. record {
+      injections = h.2 i;
+      count = length-take-le p.count p.injections (omega (arith, h.0, h.1)) i;
+    } };
+}
+
+impl Point {
+    /// The point of these injections: `Empty` comes before `TooMany`, and that before `Falling`.
+    pub fn new(injections: &[Injection]) -> Result<Self, BadPoint>
+        ensures value { IfOk result (λ point. point ≡ injections.now) }
+        ensures empty { (result ≡ Err BadPoint.Empty) ↔ (injections.now ≡ []) }
+        ensures many { (result ≡ Err BadPoint.TooMany) ↔ (most_of_point < length injections.now) }
+        ensures falling { (result ≡ Err BadPoint.Falling)
+            ↔ ((1 ≤ length injections.now) × (length injections.now ≤ most_of_point) × (AreInOrder injections.now → ⊥)) }
+    {
+        let places = match injections {
+            [] => return Err(BadPoint::Empty),
+            [first] => [*first, NONE, NONE],
+            [first, second] => [*first, *second, NONE],
+            [first, second, third] => [*first, *second, *third],
+            _ => return Err(BadPoint::TooMany),
+        };
+        if falls(injections) {
+            return Err(BadPoint::Falling);
+        }
+        Ok(Point {
+            injections: places,
+            count: injections.len() as u8,
+        })
+    }
+
+    /// The point of one injection.
+    pub fn one(step: u32, handler: HandlerId) -> Self
+        ensures { result ≡ record { step = step; handler = handler } ∷ [] }
+    {
+        let injection = Injection { step, handler };
+        Point {
+            injections: [injection, NONE, NONE],
+            count: 1,
+        }
+    }
+
+    /// The injections, in order.
+    pub fn injections(&self) -> &[Injection]
+        ensures { result.now ≡ self.now }
+    {
+        &self.injections[..self.count as usize]
+    }
+
+    /// The step of the first injection.
+    pub fn first_step(&self) -> u32
+        ensures { result ≡ first_step self.now }
+    {
+        self.injections[0].step
+    }
+
+    /// The step of the last injection.
+    pub fn last_step(&self) -> u32
+        ensures { result ≡ last_step self.now }
+    {
+        self.injections[self.count as usize - 1].step
+    }
+
+    /// Does nothing: its contract tells callers what holds of every point.
+    pub fn well_formed(&self)
+        ensures { IsPoint self.now }
+    {
+        let _ = &self.count;
+    }
 }
 
 /// An entry of the list of points that a file has for its campaign.
@@ -24,57 +142,57 @@ pub enum PointEntry {
     Every(HandlerId),
 }
 
-/// Why some points are no plan.
+/// Why some injections are no plan.
 #[derive(Clone, Copy)]
 pub enum BadPlan {
     /// A step is less than the one before it.
     Falling,
-    /// More than three points are at one step (profile).
+    /// More than three are at one step (profile).
     Crowded,
 }
 
 /// The injections of one run, in the order of their steps, at most three at one step (profile).
 #[derive(Drop)]
 pub struct Plan {
-    points: Vec<Point>,
+    injections: Vec<Injection>,
 }
 
 impl Model for Plan {
     ghost use Rattle.std.specs.Prelude.{List};
-    ghost use Rattle.model.specs.declared.plan.Point.{Point};
+    ghost use Rattle.model.specs.declared.plan.Injection.{Injection};
     ghost use Rattle.model.specs.Plans.{IsPlan};
 
-    ghost Value = { List Point };
+    ghost Value = { List Injection };
 
-    ghost view = { λ p. p.points.items };
+    ghost view = { λ p. p.injections.items };
 
-    ghost invariant = { λ p. IsPlan p.points.items };
+    ghost invariant = { λ p. IsPlan p.injections.items };
 }
 
 // Whether some step is less than the one before it.
-fn falls(points: &[Point]) -> bool
-    ensures { (result ≡ false) ↔ AreInOrder points.now }
+fn falls(injections: &[Injection]) -> bool
+    ensures { (result ≡ false) ↔ AreInOrder injections.now }
 {
     let mut last = 0;
-    for point in points {
-        if point.step < last {
+    for injection in injections {
+        if injection.step < last {
             return true;
         }
-        last = point.step;
+        last = injection.step;
     }
     false
 }
 
-// Whether at some step there are more than three: then some point is at the step of the third after it.
-fn is_crowded(points: &[Point]) -> bool
-    requires { AreInOrder points.now }
-    ensures crowded { result ≡ true → IsCrowded points.now }
-    ensures few { result ≡ false → (n : ℕ) → length (injected points.now n) ≤ most_injected }
+// Whether at some step there are more than three: then some injection is at the step of the third after it.
+fn is_crowded(injections: &[Injection]) -> bool
+    requires { AreInOrder injections.now }
+    ensures crowded { result ≡ true → IsCrowded injections.now }
+    ensures few { result ≡ false → (n : ℕ) → length (injected injections.now n) ≤ most_injected }
 {
-    let mut left = points;
-    while let [point, after @ ..] = left {
+    let mut left = injections;
+    while let [injection, after @ ..] = left {
         if let Some(fourth) = after.get(2) {
-            if fourth.step == point.step {
+            if fourth.step == injection.step {
                 return true;
             }
         }
@@ -84,19 +202,19 @@ fn is_crowded(points: &[Point]) -> bool
 }
 
 impl Plan {
-    /// The plan of these points; `Falling` comes before `Crowded`.
-    pub fn new(points: Vec<Point>) -> Result<Self, BadPlan>
-        ensures value { IfOk result (λ plan. plan ≡ points.items) }
-        ensures falling { (result ≡ Err BadPlan.Falling) ↔ (AreInOrder points.items → ⊥) }
-        ensures crowded { (result ≡ Err BadPlan.Crowded) ↔ (AreInOrder points.items × IsCrowded points.items) }
+    /// The plan of these injections; `Falling` comes before `Crowded`.
+    pub fn new(injections: Vec<Injection>) -> Result<Self, BadPlan>
+        ensures value { IfOk result (λ plan. plan ≡ injections.items) }
+        ensures falling { (result ≡ Err BadPlan.Falling) ↔ (AreInOrder injections.items → ⊥) }
+        ensures crowded { (result ≡ Err BadPlan.Crowded) ↔ (AreInOrder injections.items × IsCrowded injections.items) }
     {
-        if falls(points.as_slice()) {
+        if falls(injections.as_slice()) {
             return Err(BadPlan::Falling);
         }
-        if is_crowded(points.as_slice()) {
+        if is_crowded(injections.as_slice()) {
             return Err(BadPlan::Crowded);
         }
-        Ok(Plan { points })
+        Ok(Plan { injections })
     }
 
     /// The plan that injects nothing. It takes no memory.
@@ -104,32 +222,33 @@ impl Plan {
         ensures { result ≡ [] }
     {
         Plan {
-            points: Vec::new(alloc),
+            injections: Vec::new(alloc),
         }
     }
 
-    /// The plan of one point. At `Err(Memory)` a growth was refused.
-    pub fn of(alloc: Global, point: Point) -> Result<Self, Memory>
-        ensures { IfOk result (λ plan. plan ≡ point ∷ []) }
+    /// The plan of a point's injections. At `Err(Memory)` a growth was refused.
+    pub fn of(alloc: Global, point: &Point) -> Result<Self, Memory>
+        ensures { IfOk result (λ plan. plan ≡ point.now) }
     {
-        let mut points = Vec::new(alloc);
-        if points.push(point).is_err() {
+        point.well_formed();
+        let mut injections = Vec::new(alloc);
+        if injections.extend_from_slice(point.injections()).is_err() {
             return Err(Memory);
         }
-        Ok(Plan { points })
+        Ok(Plan { injections })
     }
 
-    /// The points, in order.
-    pub fn points(&self) -> &[Point]
+    /// The injections, in order.
+    pub fn injections(&self) -> &[Injection]
         ensures { result.now ≡ self.now }
     {
-        self.points.as_slice()
+        self.injections.as_slice()
     }
 
     /// Does nothing: its contract tells callers what holds of every plan.
     pub fn well_formed(&self)
         ensures { IsPlan self.now }
     {
-        let _ = &self.points;
+        let _ = &self.injections;
     }
 }

@@ -64,7 +64,8 @@ pub(crate) fn row_of(alloc: Global, app: &App, shelf: &Shelf, step: u32) -> Resu
     requires { IsShelf app.now shelf.now }
 {
     let handler = HandlerId { number: 0 };
-    match shelf.run_point(alloc, app, Point { step, handler }, &mut Meter::new()) {
+    let point = Point::one(step, handler);
+    match shelf.run_point(alloc, app, point, &mut Meter::new()) {
         Ok(row) => Ok(row),
         Err(_) => Err(Fault::Memory),
     }

@@ -13,6 +13,7 @@ use Rattle.model.specs.declared.event.What.TheVariants as what
 use Rattle.model.specs.declared.event.End.TheVariants.{Pass, Check, Misuse}
 use Rattle.model.specs.declared.event.Misuse.TheVariants.{WhileSuspended, NotHolder}
 use Rattle.model.specs.declared.object.ObjectKind.TheVariants as kind
+use Rattle.model.specs.declared.plan.Injection.{Injection}
 use Rattle.model.specs.declared.totals.Totals.{Totals}
 use Rattle.report.specs.declared.title.Title.{Title}
 use Rattle.report.specs.declared.title.Title.TheVariants.{Row}
@@ -60,7 +61,7 @@ two_unlocks = record (app_of (a_task (codes "a") (Do 0 Give ∷ Await 0 Take (So
 
 -- the row of the handler before step 0
 abbrev pub two_unlocks_row : Title
-two_unlocks_row = Row 0 (record { step = 0; handler = 0 }) true
+two_unlocks_row = Row 0 (record { step = 0; handler = 0 } ∷ []) true
 
 abbrev pub two_unlocks_run : Run
 two_unlocks_run = record {
@@ -115,9 +116,17 @@ each_form_run = record {
   end = Check a 65535;
 }
 
--- a row of the greatest number and step, whose handler's name is of the greatest length
+-- the handler, whose name is of the greatest length, at the greatest step
+abbrev pub last_injection : Injection
+last_injection = record { step = 1000000; handler = 0 }
+
+-- a row of the greatest number, of that injection
 abbrev pub last_row : (reached : Bool) → Title
-last_row reached = Row 1000000 (record { step = 1000000; handler = 0 }) reached
+last_row reached = Row 1000000 (last_injection ∷ []) reached
+
+-- one of three of them
+abbrev pub longest_row : (reached : Bool) → Title
+longest_row reached = Row 1000000 (last_injection ∷ last_injection ∷ last_injection ∷ []) reached
 
 -- a task and a handler that mark
 abbrev pub two_marks : Application
@@ -130,7 +139,7 @@ one_mark = event_at 0 0 (what.Mark a 1) ∷ event_at 0 0 (what.Run None) ∷ []
 -- a row of the handler, whose run has these events
 abbrev pub marked_row : (step : ℕ) → (reached : Bool) → List Event → campaign.Row
 marked_row step reached events = record {
-  point = record { step = step; handler = 0 };
+  point = record { step = step; handler = 0 } ∷ [];
   reached = reached;
   run = record { events = events; steps = 1; ticks = 0; end = Pass };
 }

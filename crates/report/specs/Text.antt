@@ -13,7 +13,7 @@ use Rattle.model.specs.declared.event.End.{End}
 use Rattle.model.specs.declared.event.End.TheVariants as ending
 use Rattle.model.specs.declared.event.Misuse.{Misuse}
 use Rattle.model.specs.declared.event.Misuse.TheVariants.{WhileSuspended, NotSuspended, NotHolder, EndedSuspended}
-use Rattle.model.specs.declared.plan.Point.{Point}
+use Rattle.model.specs.declared.plan.Injection.{Injection}
 use Rattle.model.specs.declared.totals.Totals.{Totals}
 use Rattle.report.specs.declared.title.Title.{Title}
 use Rattle.report.specs.declared.title.Title.TheVariants.{Base, Row}
@@ -78,9 +78,18 @@ verdict_text app ending.Ticks = codes "ticks"
 verdict_text app ending.Steps = codes "steps"
 verdict_text app ending.Stuck = codes "stuck"
 
--- an injection point: the step, and the name of the handler
-abbrev pub point_text : Application → Point → List ℕ
-point_text app point = decimal point.step ++ codes " " ++ handler_name_of app point.handler
+-- an injection: the step, and the name of the handler
+abbrev pub injection_text : Application → Injection → List ℕ
+injection_text app i = decimal i.step ++ codes " " ++ handler_name_of app i.handler
+
+-- one behind another
+abbrev pub next_text : Application → Injection → List ℕ
+next_text app i = codes " " ++ injection_text app i
+
+-- an injection point: its injections, in order
+abbrev pub point_text : Application → List Injection → List ℕ
+point_text app [] = []
+point_text app (i ∷ is) = injection_text app i ++ flat_map (next_text app) is
 
 -- what is said of a point that is not reached
 abbrev pub reached_text : (reached : Bool) → List ℕ

@@ -1,6 +1,6 @@
 //! Laws of the definitions: each is the contract of a function that does nothing.
 ghost use Rattle.std.specs.Prelude.{◌≡◌, ◌++◌, codes, true, false, []};
-ghost use Rattle.report.specs.Examples.{delay_one, delay_one_run, two_unlocks, two_unlocks_row, two_unlocks_run, each_hold, each_hold_run, each_form, each_form_run, last_row, two_marks, two_rows, all_pass, each_end};
+ghost use Rattle.report.specs.Examples.{delay_one, delay_one_run, two_unlocks, two_unlocks_row, two_unlocks_run, each_hold, each_hold_run, each_form, each_form_run, last_row, longest_row, two_marks, two_rows, all_pass, each_end};
 ghost use Rattle.report.specs.Text.{head_text, run_text, verdict_text, total_text, campaign_text};
 ghost use Rattle.report.specs.declared.title.Title.TheVariants.{Base};
 ghost use Rattle.model.specs.Application.{Application};
@@ -75,12 +75,15 @@ pub fn report_of_each_form()
         ++ codes "1 10 mark ABCDEFGHIJKLMNOP 4294967295\n" }
 {}
 
-/// The head lines of a row, letter by letter: of one that is reached, and of one that isn't.
+/// The head lines of a row, letter by letter: of one that is reached, of one that isn't, and of one with three injections.
 pub fn heads_of_rows()
     ensures reached { head_text each_form (last_row true) 1000000 7 (Check 0 65535) ≡
         codes "row 1000000 at 1000000 ABCDEFGHIJKLMNOP: check abcdefghijklmnop 65535 in 1000000 steps, 7 ticks\n" }
     ensures not_reached { head_text each_form (last_row false) 12 0 Pass ≡
         codes "row 1000000 at 1000000 ABCDEFGHIJKLMNOP: not reached, pass in 12 steps, 0 ticks\n" }
+    ensures three { head_text each_form (longest_row false) 1000000 7 (Check 0 65535) ≡
+        codes "row 1000000 at 1000000 ABCDEFGHIJKLMNOP 1000000 ABCDEFGHIJKLMNOP 1000000 ABCDEFGHIJKLMNOP: "
+        ++ codes "not reached, check abcdefghijklmnop 65535 in 1000000 steps, 7 ticks\n" }
 {}
 
 /// The line that ends the report of a campaign, letter by letter.

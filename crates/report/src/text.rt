@@ -3,21 +3,21 @@
 //! A front is put at a place, and where it ends is answered, as `byte_io::place` does it.
 ghost use Rattle.std.specs.Prelude.{◌≡◌, ◌≤◌, ◌+◌, ◌++◌, length, take, decimal};
 ghost use Rattle.model.specs.Words.{name_of, handler_name_of};
-ghost use Rattle.report.specs.Text.{word_at, call_front, isr_word_at, isr_front, code_of, op_text, verdict_text, point_text, reached_text, title_text, head_text, total_text};
+ghost use Rattle.report.specs.Text.{word_at, call_front, isr_word_at, isr_front, code_of, op_text, verdict_text, injection_text, point_text, reached_text, title_text, head_text, total_text};
 ghost use Rattle.report.specs.Fronts.{mark_front, isr_mark_front, run_front};
 
 use crate::title::Title;
 use byte_io::Page;
 use byte_io::place::{put_number, put_text};
-use model::{App, End, Ending, HandlerId, Misuse, Point, TaskId, Totals};
+use model::{App, End, Ending, HandlerId, Injection, Misuse, Point, TaskId, Totals};
 
 // The room that the line of an event needs at most. The longest is that of a call: two numbers of 10 digits, two spaces, at most
 // 64 bytes of what happened, and a line feed. Texts that are copied whole end at most 88 bytes after the line's beginning.
 pub(crate) const MAX_LINE: usize = 128;
 
-// The room that a head line needs at most: its title and its verdict of at most 64 bytes each, two numbers of 10 digits, and 19
-// bytes of words.
-pub(crate) const MAX_HEAD: usize = 192;
+// The room that a head line needs at most: its title of at most 116 bytes, its verdict of at most 64, two numbers of 10 digits, and
+// 19 bytes of words.
+pub(crate) const MAX_HEAD: usize = 219;
 
 // The room that the line of totals needs at most: eight numbers of 10 digits, and 69 bytes of words.
 pub(crate) const MAX_TOTALS: usize = 149;
@@ -190,15 +190,32 @@ fn push_verdict(page: &mut Page, app: &App, end: End)
     }
 }
 
-// Adds an injection point: a number of at most 10 digits, a space, and a name of at most 16 bytes.
-fn push_point(page: &mut Page, app: &App, point: Point)
+// Adds an injection: a number of at most 10 digits, a space, and a name of at most 16 bytes.
+fn push_injection(page: &mut Page, app: &App, injection: Injection)
     requires { length page.old + 27 ≤ Page.SIZE }
-    ensures text { page.new ≡ page.old ++ point_text app.now point }
+    ensures text { page.new ≡ page.old ++ injection_text app.now injection }
     ensures size { length page.new ≤ length page.old + 27 }
 {
-    page.push_number(point.step);
+    page.push_number(injection.step);
     page.push_array(b" ");
-    page.push_text(handler_name(app, point.handler));
+    page.push_text(handler_name(app, injection.handler));
+}
+
+// Adds an injection point: one to three injections, with a space between two.
+fn push_point(page: &mut Page, app: &App, point: &Point)
+    requires { length page.old + 83 ≤ Page.SIZE }
+    ensures text { page.new ≡ page.old ++ point_text app.now point.now }
+    ensures size { length page.new ≤ length page.old + 83 }
+{
+    point.well_formed();
+    let Some((first, others)) = point.injections().split_first() else {
+        return;
+    };
+    push_injection(page, app, *first);
+    for other in others {
+        page.push_array(b" ");
+        push_injection(page, app, *other);
+    }
 }
 
 // Adds what is said of a point that is not reached.
@@ -213,9 +230,9 @@ fn push_reached(page: &mut Page, reached: bool)
 }
 
 fn push_title(page: &mut Page, app: &App, title: Title)
-    requires { length page.old + 64 ≤ Page.SIZE }
+    requires { length page.old + 116 ≤ Page.SIZE }
     ensures text { page.new ≡ page.old ++ title_text app.now title }
-    ensures size { length page.new ≤ length page.old + 64 }
+    ensures size { length page.new ≤ length page.old + 116 }
 {
     match title {
         Title::Base => page.push_array(b"base: "),
@@ -227,7 +244,7 @@ fn push_title(page: &mut Page, app: &App, title: Title)
             page.push_array(b"row ");
             page.push_number(number);
             page.push_array(b" at ");
-            push_point(page, app, point);
+            push_point(page, app, &point);
             page.push_array(b": ");
             push_reached(page, reached);
         }

@@ -6,9 +6,11 @@ use Rattle.std.proofs.lemmas.Bool.{eqb-true, ltb-false, leb-false, or_parts}
 use Rattle.std.proofs.lemmas.List.{append-nil, append_assoc, length-map, length-append}
 use Rattle.std.proofs.lemmas.List.Elements.{filter-append}
 use Rattle.toml.specs.Data.{Data, Members, as_str, as_integer, as_table, get_member}
+use Rattle.model.specs.declared.plan.Injection.{Injection}
 use Rattle.model.specs.declared.plan.PointEntry.{PointEntry}
 use Rattle.model.specs.declared.plan.PointEntry.TheVariants.{One, Every}
 use Rattle.model.specs.Application.{Application, Interrupt, interrupts_at}
+use Rattle.model.specs.Points.{IsPoint}
 use Rattle.model.specs.Scripts.{IsInterrupt, IsPointEntry, last_interrupt, last_point, most_at_once, most_interrupts, most_points}
 use Rattle.model.proofs.Nesting.{all-append}
 use Rattle.model.proofs.Sorting.{by_test}
@@ -23,7 +25,7 @@ use Rattle.script.specs.Values.{integer_fault, number_fault, integer_named, numb
 use Rattle.script.specs.Arrays.{array_of, elements_of, tables, each_fault, section_fault}
 use Rattle.script.specs.Sections.{data_at}
 use Rattle.grammar.specs.Grammar.{Word, words_of}
-use Rattle.grammar.specs.Points.{SpellsEntry, entry_of}
+use Rattle.grammar.specs.Points.{SpellsEntry, SpellsInjections, entry_of}
 use Rattle.script.specs.Points.{entry_named, point_elements, points_fault, campaign_fault, campaign_named}
 use Rattle.script.specs.Interrupts.{count_at, interrupt_named, interrupt_keys, interrupts_fault, interrupts_named}
 use Rattle.script.proofs.Checks.{none_fails, passes}
@@ -192,17 +194,24 @@ few_come app tick few =
 
 -- an entry of an application of so many handlers
 abbrev IsEntry : (handlers : ℕ) → PointEntry → Type 0
-IsEntry handlers (One point) = (point.step ≤ last_point) × (point.handler < handlers)
+IsEntry handlers (One point) = IsPoint point × AllByRecursion (λ (i : Injection). (i.step ≤ last_point) × (i.handler < handlers)) point
 IsEntry handlers (Every handler) = handler < handlers
 
+spelled_injections : (names ws : List Word) (is : List Injection) → SpellsInjections names is ws
+    → AllByRecursion (λ (i : Injection). (i.step ≤ last_point) × (i.handler < length names)) is
+spelled_injections names [] [] h = tt
+spelled_injections names (w ∷ []) [] h = absurd h
+spelled_injections names (w ∷ name ∷ ws) [] h = absurd h
+spelled_injections names [] (i ∷ is) h = absurd h
+spelled_injections names (w ∷ []) (i ∷ is) h = absurd h
+spelled_injections names (w ∷ name ∷ ws) (i ∷ is) h =
+    ((h.1, let below = below_from 0 name names i.handler h.3 in omega arith), spelled_injections names ws is h.4)
+
 spelled_entry : (names ws : List Word) (entry : PointEntry) → SpellsEntry names entry ws → IsEntry (length names) entry
-spelled_entry names [] (One point) h = absurd h
+spelled_entry names ws (One point) h = (h.0, spelled_injections names ws point h.1)
 spelled_entry names [] (Every handler) h = absurd h
-spelled_entry names (w ∷ []) (One point) h = absurd h
 spelled_entry names (w ∷ []) (Every handler) h = absurd h
-spelled_entry names (w ∷ name ∷ []) (One point) h = (h.1, let below = below_from 0 name names point.handler h.3 in omega arith)
 spelled_entry names (w ∷ name ∷ []) (Every handler) h = let below = below_from 0 name names handler h.2 in omega arith
-spelled_entry names (w ∷ name ∷ v ∷ vs) (One point) h = absurd h
 spelled_entry names (w ∷ name ∷ v ∷ vs) (Every handler) h = absurd h
 
 text_entry : (names : List Word) (text : Option (List ℕ)) (entry : PointEntry)

@@ -10,17 +10,16 @@ use Rattle.script.specs.declared.place.Section.TheVariants as section
 use Rattle.script.specs.declared.place.Key.TheVariants as key
 use Rattle.script.specs.Faults.{at_section, at_element, fault_at, fails_if, need, required}
 use Rattle.grammar.specs.Grammar.{Word, words_of}
-use Rattle.grammar.specs.Names.{index_of}
-use Rattle.grammar.specs.Points.{raw_of, entry_of}
+use Rattle.grammar.specs.Points.{raw_of, entry_from, entry_of}
 use Rattle.script.specs.Arrays.{Elements, alike, array_fault, elements_of}
 use Rattle.script.specs.Values.{member_of}
 use Rattle.script.specs.Sections.{data_at}
 
--- It is a text, which spells an entry whose handler is one of these.
+-- It is a text, which spells an entry whose handlers are among these.
 abbrev pub entry_fault : List Word → Place → Data → Option Fault
 entry_fault names p d = need (fault_at WrongKind p) (as_str d) (λ text.
     need (fault_at BadOp p) (raw_of (words_of text)) (λ raw.
-    fails_if (is_none (index_of raw.handler names)) (fault_at UnknownName p)))
+    fails_if (is_none (entry_from names raw)) (fault_at UnknownName p)))
 
 -- the entry that it names
 abbrev pub entry_named : List Word → Data → Option PointEntry

@@ -1,5 +1,6 @@
 //! The points of a document's campaign.
-ghost use Rattle.std.specs.Prelude.{◌≡◌, ◌≤◌, [], map, filter_map, length, vec_capacity, Some};
+ghost use Rattle.std.specs.Prelude.{◌≡◌, ◌≤◌, [], map, filter_map, length, option_map, true, vec_capacity, Some};
+ghost use Rattle.grammar.specs.Points.{all_known, entry_from, is_formed, may_be_point, pair_view, raw_view};
 ghost use Rattle.toml.specs.View.{view, table_view};
 ghost use Rattle.script.specs.Faults.{Judges, Loads, seen};
 ghost use Rattle.script.specs.Arrays.{each_fault, elements_of};
@@ -11,10 +12,48 @@ use crate::fault::{Fault, FaultKind, LoadError};
 use crate::interrupts::handler_among;
 use crate::place::{Key, Place, Section};
 use crate::values::{array, at_key, at_section};
-use grammar::read_point;
-use model::{App, PointEntry};
+use arrayvec::ArrayVec;
+use grammar::{RawInjection, RawPoint, read_point};
+use model::{App, Injection, Point, PointEntry};
 use std::alloc::Global;
 use toml::{Table, Value};
+
+// The injections, where there are handlers of their names.
+fn injections(
+    pairs: &[RawInjection<'_>],
+    entries: &NamedEntries<'_>,
+) -> Option<ArrayVec<Injection, 3>>
+    requires { length pairs.now ≤ 3 }
+    ensures { option_map (λ v. v.items) result ≡ all_known (isr_names (entries_view entries.now)) (map pair_view pairs.now) }
+{
+    let mut injections = ArrayVec::new();
+    for pair in pairs {
+        let handler = handler_among(entries, pair.handler)?;
+        let step = pair.step;
+        injections.push(Injection { step, handler });
+    }
+    Some(injections)
+}
+
+// The point of these injections, where there are handlers of their names.
+fn point_of(pairs: &[RawInjection<'_>], entries: &NamedEntries<'_>) -> Option<Point>
+    requires { may_be_point (map pair_view pairs.now) ≡ true }
+    ensures { result ≡ all_known (isr_names (entries_view entries.now)) (map pair_view pairs.now) }
+{
+    let injections = injections(pairs, entries)?;
+    Point::new(injections.as_slice()).ok()
+}
+
+// The entry, where there are handlers of its names.
+fn known_entry(raw: &RawPoint<'_>, entries: &NamedEntries<'_>) -> Option<PointEntry>
+    requires { is_formed (raw_view raw.now) ≡ true }
+    ensures { result ≡ entry_from (isr_names (entries_view entries.now)) (raw_view raw.now) }
+{
+    match raw {
+        RawPoint::One(pairs) => Some(PointEntry::One(point_of(pairs.as_slice(), entries)?)),
+        RawPoint::Every(name) => Some(PointEntry::Every(handler_among(entries, name)?)),
+    }
+}
 
 // The entry that a value spells.
 fn entry(value: &Value, place: Place, entries: &NamedEntries<'_>) -> Result<PointEntry, Fault>
@@ -28,10 +67,7 @@ fn entry(value: &Value, place: Place, entries: &NamedEntries<'_>) -> Result<Poin
     let Some(raw) = read_point(text.as_bytes()) else {
         return Err(FaultKind::BadOp.at(place));
     };
-    let Some(handler) = handler_among(entries, raw.handler) else {
-        return Err(FaultKind::UnknownName.at(place));
-    };
-    Ok(raw.with_handler(handler))
+    known_entry(&raw, entries).ok_or(FaultKind::UnknownName.at(place))
 }
 
 // Each of these entries in order, for which there is room.

@@ -7,12 +7,13 @@ use Rattle.std.proofs.lemmas.Option.{slice_get-get_or, slice_get_past}
 use Rattle.std.proofs.Math.Nat.{mod-add-div', div-lt_iff_lt-mul, suc-mul}
 use Rattle.std.proofs.Math.Seq.{get_or-append_seam}
 use Rattle.model.specs.declared.event.Event.{Event}
-use Rattle.model.specs.declared.plan.Point.{Point}
+use Rattle.model.specs.declared.plan.Injection.{Injection}
+use Rattle.model.specs.Points.{IsPoint, first_step}
 use Rattle.model.specs.Application.{Application, Limits}
 use Rattle.model.specs.State.{State}
 use Rattle.model.specs.Run.{Run, IsRun, IsRow, end_of, state_after, events_after}
 use Rattle.model.proofs.OneRun.{one_row}
-use Rattle.model.proofs.Injected.{same_state, begins_with}
+use Rattle.model.proofs.Injected.{same_state, begins_with, none_before}
 use Rattle.kernel.specs.declared.rows.RowEnding.{RowEnding}
 use Rattle.kernel.specs.Rows.{IsRowFrom}
 use Rattle.shelf.specs.declared.stops.Stop.{Stop}
@@ -74,7 +75,7 @@ module _ (app : Application) (shelf : Shelved) (h : IsShelf app shelf) (step : �
 
 -- ---- a run is the only one
 
-module _ (app : Application) (plan : List Point) (limits : Limits) where
+module _ (app : Application) (plan : List Injection) (limits : Limits) where
   no_longer : (one other : Run) → IsRun app plan limits one → IsRun app plan limits other → one.steps ≤ other.steps
   no_longer one other is also = elim (cases_lt other.steps one.steps) [
     | inl less ↦ let none = is.goes_on other.steps less in let end = also.ends in absurd (cc)
@@ -93,83 +94,85 @@ module _ (app : Application) (plan : List Point) (limits : Limits) where
 -- ---- the row of a point that is reached
 
 -- from a shelf, as it is kept inside, and the stop that is read there
-module _ (app : Application) (inside now : Shelved) (same : inside ≡ now) (kept : IsShelf app now) (point : Point) (reached : point.step < now.base.steps) where
+module _ (app : Application) (inside now : Shelved) (same : inside ≡ now) (kept : IsShelf app now) (point : List Injection) (reached : first_step point < now.base.steps) where
   h : IsShelf app inside
   h = subst (IsShelf app) (sym same) kept
 
-  l : point.step < inside.base.steps
-  l = subst (λ (s : Shelved). point.step < s.base.steps) (sym same) reached
+  l : first_step point < inside.base.steps
+  l = subst (λ (s : Shelved). first_step point < s.base.steps) (sym same) reached
 
-  pub read_is : (stop d : Stop) → stop ≡ get_or inside.stops (point.step / inside.stride) d → IsStop app inside.limits (point.step / inside.stride * inside.stride) stop
-  read_is stop d read = subst (IsStop app inside.limits (point.step / inside.stride * inside.stride)) (sym read) (stop_is app inside h point.step l d)
+  pub read_is : (step : ℕ) → step ≡ first_step point → (stop d : Stop) → stop ≡ get_or inside.stops (step / inside.stride) d → IsStop app inside.limits (first_step point / inside.stride * inside.stride) stop
+  read_is step first stop d read =
+      let there : stop ≡ get_or inside.stops (first_step point / inside.stride) d = read ∙ ap (λ (n : ℕ). get_or inside.stops (n / inside.stride) d) first in
+      subst (IsStop app inside.limits (first_step point / inside.stride * inside.stride)) (sym there) (stop_is app inside h (first_step point) l d)
 
   -- the step, by the stops before it
-  pub parts_of : point.step % now.stride + point.step / inside.stride * inside.stride ≡ point.step
-  parts_of = rw (← ap (λ (s : Shelved). s.stride) same) (split app inside h point.step l)
+  pub parts_of : first_step point % now.stride + first_step point / inside.stride * inside.stride ≡ first_step point
+  parts_of = rw (← ap (λ (s : Shelved). s.stride) same) (split app inside h (first_step point) l)
 
-  pub base_goes_on : (n : ℕ) → n ≤ point.step → end_of app inside.limits (state_after app [] n) ≡ None
-  base_goes_on = goes_on app inside h point.step l
+  pub base_goes_on : (n : ℕ) → n ≤ first_step point → end_of app inside.limits (state_after app [] n) ≡ None
+  base_goes_on = goes_on app inside h (first_step point) l
 
-  pub shares_few : length (events_after app [] point.step) ≤ length now.base.events
-  shares_few = few_before app now kept point.step reached
+  pub shares_few : length (events_after app [] (first_step point)) ≤ length now.base.events
+  shares_few = few_before app now kept (first_step point) reached
 
   -- the row ends behind the point's step
-  pub row_beyond : (run : Run) → IsRun app (point ∷ []) inside.limits run → point.step < run.steps
-  row_beyond run is = elim (cases_lt point.step run.steps) [
+  row_beyond : IsPoint point → (run : Run) → IsRun app point inside.limits run → first_step point < run.steps
+  row_beyond formed run is = elim (cases_lt (first_step point) run.steps) [
     | inl less ↦ less
     | inr more ↦
         let end = is.ends in
-        let none = ap (λ (s : State). end_of app inside.limits s) (same_state app point run.steps more) ∙ base_goes_on run.steps more in
+        let none = ap (λ (s : State). end_of app inside.limits s) (same_state app point (first_step point) (none_before point formed.in_order) run.steps more) ∙ base_goes_on run.steps more in
         absurd (cc)
   ]
 
-  pub cost_is : (steps : ℕ) → cost_of now point steps ≡ point.step % inside.stride + (steps - point.step)
+  pub cost_is : (steps : ℕ) → cost_of now point steps ≡ first_step point % inside.stride + (steps - first_step point)
   cost_is steps =
-      let t : nat_lt point.step now.base.steps ≡ true = lt-ltb point.step now.base.steps reached in
+      let t : nat_lt (first_step point) now.base.steps ≡ true = lt-ltb (first_step point) now.base.steps reached in
       rw (t, sym same) refl
 
   -- what a meter has risen by
-  module _ (old new start : ℕ) (from : start ≡ point.step / inside.stride * inside.stride) (run : Run) (is : IsRun app (point ∷ []) inside.limits run) where
+  module _ (formed : IsPoint point) (old new start : ℕ) (from : start ≡ first_step point / inside.stride * inside.stride) (run : Run) (is : IsRun app point inside.limits run) where
     pub risen : new + start ≡ old + run.steps → new ≡ old + cost_of now point run.steps
     risen e =
-        let beyond = row_beyond run is in
-        let parts = split app inside h point.step l in
+        let beyond = row_beyond formed run is in
+        let parts = split app inside h (first_step point) l in
         rw (cost_is run.steps) (omega (arith, e, beyond, parts, from))
 
     pub risen_by_less : new + start ≤ old + run.steps → new ≤ old + cost_of now point run.steps
     risen_by_less e =
-        let beyond = row_beyond run is in
-        let parts = split app inside h point.step l in
+        let beyond = row_beyond formed run is in
+        let parts = split app inside h (first_step point) l in
         rw (cost_is run.steps) (omega (arith, e, beyond, parts, from))
 
 -- ---- a row with all its events, from those that came into an empty trail
 
-module _ (app : Application) (shelf : Shelved) (h : IsShelf app shelf) (point : Point) (reached : point.step < shelf.base.steps)
+module _ (app : Application) (shelf : Shelved) (h : IsShelf app shelf) (point : List Injection) (reached : first_step point < shelf.base.steps)
     (old new : List Event) (none : old ≡ []) (ending : RowEnding) (row : IsRowFrom app point shelf.limits old new ending)
-    (before : ending.before ≡ length (events_after app [] point.step)) where
+    (before : ending.before ≡ length (events_after app [] (first_step point))) where
   is_own : new ≡ row.own
   is_own = row.kept ∙ ap (λ (events : List Event). events ++ row.own) none
 
   pub whole_row : (events : List Event) → events ≡ take ending.before shelf.base.events ++ new
-      → IsRun app (point ∷ []) shelf.limits (record { events = events; steps = ending.steps; ticks = ending.ticks; end = ending.end })
+      → IsRun app point shelf.limits (record { events = events; steps = ending.steps; ticks = ending.ticks; end = ending.end })
   whole_row events e =
-      subst (λ (events : List Event). IsRun app (point ∷ []) shelf.limits (record { events = events; steps = ending.steps; ticks = ending.ticks; end = ending.end }))
-      (sym (e ∙ ap₂ (λ (front own : List Event). front ++ own) (shared_is app shelf h point.step reached ending.before before) is_own)) row.run
+      subst (λ (events : List Event). IsRun app point shelf.limits (record { events = events; steps = ending.steps; ticks = ending.ticks; end = ending.end }))
+      (sym (e ∙ ap₂ (λ (front own : List Event). front ++ own) (shared_is app shelf h (first_step point) reached ending.before before) is_own)) row.run
 
   -- where there was no memory for them, the meter has risen by the row's steps all the same
   pub whole_refused : (from to : ℕ) → to ≡ from + cost_of shelf point ending.steps → 0 < ending.before + length new
-      → (run : Run) → IsRun app (point ∷ []) shelf.limits run → (to ≤ from + cost_of shelf point run.steps) × (0 < length run.events)
+      → (run : Run) → IsRun app point shelf.limits run → (to ≤ from + cost_of shelf point run.steps) × (0 < length run.events)
   whole_refused from to risen some run is =
-      let steps = same_steps app (point ∷ []) shelf.limits run _ is row.run in
-      let events = ap length (same_events app (point ∷ []) shelf.limits run _ is row.run) in
+      let steps = same_steps app point shelf.limits run _ is row.run in
+      let events = ap length (same_events app point shelf.limits run _ is row.run) in
       let own = ap length is_own in
-      let all = length-append (events_after app [] point.step) row.own in
+      let all = length-append (events_after app [] (first_step point)) row.own in
       (rw steps (omega (arith, risen)), omega (arith, events, own, all, some, before))
 
 -- ---- a point that the base run doesn't reach
 
 -- Its row is the base run.
-pub missed_few : {X E : Type 0} (app : Application) (shelf : Shelved) (point : Point) (from : ℕ) → IsShelf app shelf → false ≡ nat_lt point.step shelf.base.steps
+pub missed_few : {X E : Type 0} (app : Application) (shelf : Shelved) (point : List Injection) (from : ℕ) → IsShelf app shelf → false ≡ nat_lt (first_step point) shelf.base.steps
     → (r : Result X E) → OnErr r (0 < length shelf.base.events)
     → OnErr r ((reached : Bool) (run : Run) → IsRow app shelf.limits point reached run → (from ≤ from + cost_of shelf point run.steps) × (0 < length run.events))
 missed_few app shelf point from h missed (Ok x) some = tt

@@ -1,6 +1,7 @@
 -- A base run with the kernel as it stood along it, and what rows cost from there.
 use Rattle.std.specs.Prelude.{◌≡◌, ℕ, ◌+◌, ◌-◌, ◌*◌, ◌%◌, ◌<◌, ◌≤◌, List, [], IfSome, length, nat_lt, slice_get, if◌then◌else◌}
-use Rattle.model.specs.declared.plan.Point.{Point}
+use Rattle.model.specs.declared.plan.Injection.{Injection}
+use Rattle.model.specs.Points.{first_step}
 use Rattle.model.specs.Application.{Application, Limits}
 use Rattle.model.specs.Run.{Run, IsRun, events_after}
 use Rattle.machine.specs.Can.{IsUnderWay}
@@ -30,8 +31,8 @@ pub record IsShelf (app : Application) (shelf : Shelved) : Type 0 where
   pub are_stops : AreStops app shelf.limits shelf.stride shelf.stops
   pub enough : shelf.base.steps ≤ length shelf.stops * shelf.stride
 
--- How many steps are done for the row of a point, which ends after so many: those from the stop before the point on; none
--- where the base run doesn't reach the point.
-abbrev pub cost_of : Shelved → Point → ℕ → ℕ
+-- How many steps are done for the row of a point, which ends after so many: those from the stop before its first injection on; none
+-- where the base run doesn't reach that.
+abbrev pub cost_of : Shelved → List Injection → ℕ → ℕ
 cost_of shelf point steps =
-    if nat_lt point.step shelf.base.steps then point.step % shelf.stride + (steps - point.step) else 0
+    if nat_lt (first_step point) shelf.base.steps then first_step point % shelf.stride + (steps - first_step point) else 0

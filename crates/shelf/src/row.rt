@@ -2,11 +2,11 @@
 use model::{Point, Run};
 use std::marker::Model;
 
-/// A row of a campaign: the run with its point where the base run reaches the point's step, and else the base run.
+/// A row of a campaign: the run with its point's injections where the base run reaches the first of them, and else the base run.
 #[derive(Drop)]
 pub struct Row {
     pub point: Point,
-    /// Whether the base run reaches the point's step.
+    /// Whether the base run gets beyond the step of the point's first injection.
     pub reached: bool,
     pub run: Run,
 }

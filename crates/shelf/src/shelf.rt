@@ -1,5 +1,6 @@
 //! Rows from the nearest stop before their point.
-ghost use Rattle.std.specs.Prelude.{◌≡◌, Bool, true, false, nat_lt, ◌<◌, ◌≤◌, ◌+◌, ◌%◌, ◌^◌, ◌∷◌, ◌++◌, [], take, length, None, IfOk, OnErr, OnOk};
+ghost use Rattle.std.specs.Prelude.{◌≡◌, Bool, true, false, nat_lt, ◌<◌, ◌≤◌, ◌+◌, ◌%◌, ◌^◌, ◌++◌, [], min, take, length, None, IfOk, OnErr, OnOk};
+ghost use Rattle.model.specs.Points.{first_step, last_step};
 ghost use Rattle.model.specs.Run as definition;
 ghost use Rattle.model.specs.Run.{IsRun, IsRow, events_after};
 ghost use Rattle.machine.specs.Logged.{all_of};
@@ -95,11 +96,11 @@ impl Shelf {
         self.limits
     }
 
-    /// Whether the base run gets beyond the point's step.
+    /// Whether the base run gets beyond the step of the point's first injection.
     pub fn reaches(&self, point: &Point) -> bool
-        ensures { result ≡ nat_lt point.now.step self.now.base.steps }
+        ensures { result ≡ nat_lt (first_step point.now) self.now.base.steps }
     {
-        point.step < self.base.steps
+        point.first_step() < self.base.steps
     }
 
     /// The base run alone.
@@ -116,22 +117,22 @@ impl Shelf {
         self.base.events.len()
     }
 
-    /// Makes the kernel that of the stop before the step of a point that the base run reaches, and answers how many events the base
-    /// run had told by then.
+    /// Makes the kernel that of the stop before the first injection of a point that the base run reaches, and answers how many events
+    /// the base run had told by then.
     fn go_to_stop(&self, app: &App, point: &Point, kernel: &mut Kernel) -> usize
         requires shelf { IsShelf app.now self.now }
-        requires reached { point.now.step < self.now.base.steps }
+        requires reached { first_step point.now < self.now.base.steps }
         ensures way { IsUnderWay app.now [] self.now.limits kernel.new }
-        ensures there { kernel.new.steps + point.now.step % self.now.stride ≡ point.now.step }
+        ensures there { kernel.new.steps + first_step point.now % self.now.stride ≡ first_step point.now }
         ensures told { result ≡ length (events_after app.now [] kernel.new.steps) }
     {
-        let stop = &self.stops[(point.step / self.stride) as usize];
+        let stop = &self.stops[(point.first_step() / self.stride) as usize];
         kernel.restore(&stop.kernel);
         stop.before
     }
 
-    /// Runs the row of a point that the base run reaches, from the nearest stop before the point's step. The trail gains the
-    /// row's events from the injection on; those before it are the base run's, and the answer tells how many they are. What the
+    /// Runs the row of a point that the base run reaches, from the nearest stop before its first injection. The trail gains the
+    /// row's events from that injection on; those before it are the base run's, and the answer tells how many they are. What the
     /// kernel and the log have doesn't matter.
     ///
     /// The meter, which is below 2^62, rises by the steps from that stop to the row's end. At `Err(Memory)`, answered only
@@ -140,27 +141,28 @@ impl Shelf {
     pub fn run_reached(
         &self,
         app: &App,
-        point: Point,
+        point: &Point,
         kernel: &mut Kernel,
         meter: &mut Meter,
         log: &mut StepLog,
         trail: &mut Trail,
     ) -> Result<RowEnding, Memory>
         requires shelf { IsShelf app.now self.now }
-        requires reached { point.step < self.now.base.steps }
+        requires reached { first_step point.now < self.now.base.steps }
         requires meter { meter.old < 2 ^ 62 }
         ensures row { IfOk result (λ row.
-            IsRowFrom app.now point self.now.limits (all_of trail.old) (all_of trail.new) row) }
-        ensures before { IfOk result (λ row. row.before ≡ length (events_after app.now [] point.step)) }
-        ensures meter { IfOk result (λ row. meter.new ≡ meter.old + cost_of self.now point row.steps) }
+            IsRowFrom app.now point.now self.now.limits (all_of trail.old) (all_of trail.new) row) }
+        ensures before { IfOk result (λ row. row.before ≡ length (events_after app.now [] (first_step point.now))) }
+        ensures meter { IfOk result (λ row. meter.new ≡ meter.old + cost_of self.now point.now row.steps) }
         ensures rises { meter.old ≤ meter.new }
         ensures kept { OnErr result (all_of trail.new ≡ all_of trail.old) }
-        ensures refused { OnErr result ((run : definition.Run) → IsRun app.now (point ∷ []) self.now.limits run
-            → (meter.new ≤ meter.old + cost_of self.now point run.steps) × (0 < length run.events)) }
+        ensures refused { OnErr result ((run : definition.Run) → IsRun app.now point.now self.now.limits run
+            → (meter.new ≤ meter.old + cost_of self.now point.now run.steps) × (0 < length run.events)) }
     {
+        point.well_formed();
         // No row shares more events with the base run than that has, so the sum below fits.
         let _ = self.count_events();
-        let told = self.go_to_stop(app, &point, kernel);
+        let told = self.go_to_stop(app, point, kernel);
         let kept = trail.len();
         match run_row(kernel, app, point, &self.limits, meter, log, trail) {
             Ok(row) => Ok(RowEnding {
@@ -174,10 +176,10 @@ impl Shelf {
         }
     }
 
-    /// Begins the row of a point that the base run reaches, from the nearest stop before the point's step, and goes along it up to
-    /// the step `until`, which is behind the point's, or to its end before that. The trail gains the row's events from the injection
-    /// on; those before it are the base run's, and the answer tells how many they are. What the kernel and the log have doesn't
-    /// matter.
+    /// Begins the row of a point that the base run reaches, from the nearest stop before its first injection, and goes along it up to
+    /// the step `until`, which is behind the last injection or no less than the limit of steps, or to its end before that. The trail
+    /// gains the row's events from the first injection on; those before it are the base run's, and the answer tells how many they
+    /// are. What the kernel and the log have doesn't matter.
     ///
     /// The meter, which is below 2^62, rises by the steps that are done. At `Err(Memory)`, answered only where a growth was refused,
     /// so never where the row tells nothing, it has risen by no more than the row's steps from that stop on; the trail then has those
@@ -185,7 +187,7 @@ impl Shelf {
     pub fn begin_row(
         &self,
         app: &App,
-        point: Point,
+        point: &Point,
         until: u32,
         kernel: &mut Kernel,
         meter: &mut Meter,
@@ -193,22 +195,24 @@ impl Shelf {
         trail: &mut Trail,
     ) -> Result<RowBeginning, Memory>
         requires shelf { IsShelf app.now self.now }
-        requires reached { point.step < self.now.base.steps }
-        requires beyond { point.step < until }
+        requires reached { first_step point.now < self.now.base.steps }
+        requires beyond { min (last_step point.now + 1) self.now.limits.steps ≤ until }
         requires meter { meter.old < 2 ^ 62 }
         ensures far { kernel.new.steps ≤ until }
         ensures there { IfOk result (λ beginning. beginning.end ≡ None → kernel.new.steps ≡ until) }
-        ensures begun { IfOk result (HasBegun app.now point self.now.limits kernel.new (all_of trail.old) (all_of trail.new)) }
-        ensures before { IfOk result (λ beginning. beginning.before ≡ length (events_after app.now [] point.step)) }
-        ensures meter { OnOk result (meter.new + point.step ≡ meter.old + point.step % self.now.stride + kernel.new.steps) }
+        ensures begun { IfOk result (HasBegun app.now point.now self.now.limits kernel.new (all_of trail.old) (all_of trail.new)) }
+        ensures before { IfOk result (λ beginning. beginning.before ≡ length (events_after app.now [] (first_step point.now))) }
+        ensures meter { OnOk result
+            (meter.new + first_step point.now ≡ meter.old + first_step point.now % self.now.stride + kernel.new.steps) }
         ensures rises { meter.old ≤ meter.new }
         ensures kept { OnErr result (Extends (all_of trail.old) (all_of trail.new)) }
-        ensures refused { OnErr result ((run : definition.Run) → IsRun app.now (point ∷ []) self.now.limits run
-            → (meter.new ≤ meter.old + cost_of self.now point run.steps) × (0 < length run.events)) }
+        ensures refused { OnErr result ((run : definition.Run) → IsRun app.now point.now self.now.limits run
+            → (meter.new ≤ meter.old + cost_of self.now point.now run.steps) × (0 < length run.events)) }
     {
+        point.well_formed();
         // No row shares more events with the base run than that has, so the sum below fits.
         let _ = self.count_events();
-        let told = self.go_to_stop(app, &point, kernel);
+        let told = self.go_to_stop(app, point, kernel);
         let beginning = begin_row(kernel, app, point, until, &self.limits, meter, log, trail)?;
         Ok(RowBeginning {
             before: told + beginning.before,
@@ -257,13 +261,13 @@ impl Shelf {
         meter: &mut Meter,
     ) -> Result<Row, Memory>
         requires shelf { IsShelf app.now self.now }
-        requires reached { point.now.step < self.now.base.steps }
+        requires reached { first_step point.now < self.now.base.steps }
         requires meter { meter.old < 2 ^ 62 }
         ensures row { IfOk result (λ row. (row.point ≡ point.now) × (row.reached ≡ true)
-            × IsRun app.now (point.now ∷ []) self.now.limits row.run) }
+            × IsRun app.now point.now self.now.limits row.run) }
         ensures meter { IfOk result (λ row. meter.new ≡ meter.old + cost_of self.now point.now row.run.steps) }
         ensures rises { meter.old ≤ meter.new }
-        ensures refused { OnErr result ((run : definition.Run) → IsRun app.now (point.now ∷ []) self.now.limits run
+        ensures refused { OnErr result ((run : definition.Run) → IsRun app.now point.now self.now.limits run
             → (meter.new ≤ meter.old + cost_of self.now point.now run.steps) × (0 < length run.events)) }
     {
         let mut kernel = Kernel::boot(app);
@@ -274,7 +278,7 @@ impl Shelf {
             steps,
             ticks,
             end,
-        } = self.run_reached(app, *point, &mut kernel, meter, &mut log, &mut trail)?;
+        } = self.run_reached(app, point, &mut kernel, meter, &mut log, &mut trail)?;
         let events = self.with_shared(alloc, before, trail.events())?;
         let run = Run {
             events,
@@ -289,9 +293,10 @@ impl Shelf {
         })
     }
 
-    /// The row of a point: the run with the point where the base run reaches its step, and else the base run.
+    /// The row of a point: the run with all its injections where the base run gets beyond the step of the first, and else the base
+    /// run.
     ///
-    /// The meter, which is below 2^62, rises by the steps from the nearest stop before the point's step to the row's end; by
+    /// The meter, which is below 2^62, rises by the steps from the nearest stop before the first injection to the row's end; by
     /// none where the point isn't reached. At `Err(Memory)`, answered only where a growth was refused, so never where the row
     /// tells nothing, it has risen by no more than that.
     pub fn run_point(

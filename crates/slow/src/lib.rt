@@ -3,7 +3,7 @@
 #![tactic(auto)]
 
 use calls::Side;
-use model::{App, End, Event, Limits, Loop, Op, Phase, Point, TaskId, What};
+use model::{App, End, Event, Injection, Limits, Loop, Op, Phase, TaskId, What};
 use shared::Object;
 use std::alloc::Global;
 use waits_for_bits::BitWait;
@@ -569,10 +569,10 @@ impl SlowKernel {
         }
     }
 
-    /// A step, before which the handlers of these points are injected.
-    pub fn step(&mut self, app: &App, points: &[Point]) {
-        for point in points {
-            self.inject(app, point.handler);
+    /// A step, before which the handlers of these injections come.
+    pub fn step(&mut self, app: &App, injections: &[Injection]) {
+        for injection in injections {
+            self.inject(app, injection.handler);
         }
         self.act_current(app);
         if self.may_switch() && self.current.is_some_and(|id| !self.is_ready(id)) {

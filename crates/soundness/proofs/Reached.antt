@@ -17,7 +17,7 @@ use Rattle.model.specs.declared.call.Phase.{Phase}
 use Rattle.model.specs.declared.call.Phase.TheVariants.{Start, Try, Decide, Place, Unlock, Leave, Final}
 use Rattle.model.specs.declared.event.Event.{Event}
 use Rattle.model.specs.declared.event.End as ending
-use Rattle.model.specs.declared.plan.Point.{Point}
+use Rattle.model.specs.declared.plan.Injection.{Injection}
 use Rattle.model.specs.declared.event.What.TheVariants as what
 use Rattle.model.specs.Application.{Application, Definition, script_of, op_at}
 use Rattle.model.specs.Scripts.{IsDefinition, IsObjectKind, IsWellFormed, fits_object, is_wait}
@@ -543,12 +543,12 @@ module _ (app : Application) (formed : IsWellFormed app) where
   reached_reset = at_rest app formed _ (runs app formed free (ready_at_reset app) (choice (ready_at_reset app)) reached_ready (choice_within (ready_at_reset app))) reset_hold reset_calm (settled-reset app)
 
   -- every state of a run
-  pub reached_after : (plan : List Point) (n : ℕ) → IsState app (state_after app plan n)
+  pub reached_after : (plan : List Injection) (n : ℕ) → IsState app (state_after app plan n)
   reached_after plan zero = reached_reset
   reached_after plan (suc n) = reached_step app formed (injected plan n) (state_after app plan n) (reached_after plan n)
 
   -- no more `suspend_all` are in force than steps have been done
-  pub suspensions_after : (plan : List Point) (n : ℕ) → (state_after app plan n).suspensions ≤ n
+  pub suspensions_after : (plan : List Injection) (n : ℕ) → (state_after app plan n).suspensions ≤ n
   suspensions_after plan zero = let e : (reset app).suspensions ≡ 0 = ap (λ (x : Suspension). x.suspensions) (suspension-reset app) in omega arith
   suspensions_after plan (suc n) =
       let e = suspensions_after plan n in

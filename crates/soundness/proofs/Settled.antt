@@ -7,7 +7,7 @@ use Rattle.model.specs.Application.{Application}
 use Rattle.model.specs.State.{State, Status, Ready, Awake, Waiting, Asleep, WaitingForBits, Suspended, Ended, ticket_if_ready, task_at, for_one}
 use Rattle.model.specs.Order.{Key, Entry, key, first, task_of}
 use Rattle.model.specs.Switching.{ready_key, ready_list, is_ready, to_back, choice, is_same, choose, dispatch, yield_now, is_outranked, preempt, is_off, settle, is_held, unless_held}
-use Rattle.model.specs.declared.plan.Point.{Point}
+use Rattle.model.specs.declared.plan.Injection.{Injection}
 use Rattle.model.specs.Step.{act_current, before_step, step, ready_at_reset, reset}
 use Rattle.model.specs.Run.{injected, state_after}
 use Rattle.model.proofs.Sorting.{by_test}
@@ -91,6 +91,6 @@ pub settled-reset : (app : Application) → IsSettled (reset app)
 unfolding reset
 settled-reset app = choice_ready (ready_at_reset app)
 
-pub settled_after : (app : Application) (plan : List Point) (n : ℕ) → is_held (state_after app plan n) ≡ false → IsSettled (state_after app plan n)
+pub settled_after : (app : Application) (plan : List Injection) (n : ℕ) → is_held (state_after app plan n) ≡ false → IsSettled (state_after app plan n)
 settled_after app plan zero free = settled-reset app
 settled_after app plan (suc n) free = settled-step app (injected plan n) (state_after app plan n) free

@@ -1,6 +1,7 @@
 use Rattle.std.specs.Prelude.{nat_lt}
 use Rattle.std.proofs.Common.{◌∙◌, ◌+◌, ◌-◌, ◌++◌, ℕ, take, drop, ap, refl, sym, arith}
 use Rattle.machine.specs.Logged.{all_of}
+use Rattle.model.specs.Points.{first_step}
 use Rattle.model.specs.Campaign.{totals_of}
 use Rattle.campaign.specs.Report.{row_of, rows_of}
 use Rattle.campaign.proofs.Totalling.{one_row_more, rows_few, slice_few, slice_whole}
@@ -22,7 +23,7 @@ loop-row-preserved c =
       steps = c.loop-row.invariant.steps;
       totals = λ rows e. (
           c.count.ensures (rows ++ rows_of c.args.base.now trail (take c.loop-row.row-index slice)) (row_of c.args.base.now trail c.row-item.result) (c.loop-row.invariant.totals rows e)
-          (ap (λ (n : ℕ). nat_lt c.row-item.result.point.step n) (sym c.loop-row.invariant.steps)) refl
+          (ap (λ (n : ℕ). nat_lt n c.args.base.now.steps) (sym c.first_step.ensures) ∙ ap (λ (n : ℕ). nat_lt c.first_step.result n) (sym c.loop-row.invariant.steps)) refl
           ∙ ap totals_of (one_row_more c.args.base.now trail slice rows c.loop-row.row-index c.row-item.result c.loop-row-test.true c.row-item.is));
     }
 

@@ -13,8 +13,8 @@ use Rattle.kernel.proofs.bits.pass_bits.Goals as goal
 
 pub op_of-requires : goal.op_of-requires
 op_of-requires c =
-    let s = state_after c.args.app.now c.args.points.now c.args.kernel.now.steps in
-    subst (λ (o : Option ℕ). IfSome o (λ task. task < length c.args.app.now.tasks)) c.requires.runs (runs_there c.args.app.now c.args.kernel.now s (hold_of s) c.requires.free.way.stands (reached_after c.args.app.now c.well_formed-2.ensures c.args.points.now c.args.kernel.now.steps).sound)
+    let s = state_after c.args.app.now c.args.injections.now c.args.kernel.now.steps in
+    subst (λ (o : Option ℕ). IfSome o (λ task. task < length c.args.app.now.tasks)) c.requires.runs (runs_there c.args.app.now c.args.kernel.now s (hold_of s) c.requires.free.way.stands (reached_after c.args.app.now c.well_formed-2.ensures c.args.injections.now c.args.kernel.now.steps).sound)
 
 pub is_over_running-requires : goal.is_over_running-requires
 is_over_running-requires c = (c.args.task, c.requires.runs)
@@ -30,8 +30,8 @@ step_letting_go-requires-clause-letting c = record {
 
 pub step_letting_go-requires-clause-going : goal.step_letting_go-requires-clause-going
 step_letting_go-requires-clause-going c =
-    let going = going_free c.requires.soon (c.if-is_over_running.ensures c.args.app.now) c.args.points.now c.requires.free in
-    can_step c.args.app.now c.well_formed-2.ensures c.args.points.now c.args.limits.now c.well_formed-3.ensures c.args.kernel.now c.requires.free.way going
+    let going = going_free c.requires.soon (c.if-is_over_running.ensures c.args.app.now) c.args.injections.now c.requires.free in
+    can_step c.args.app.now c.well_formed-2.ensures c.args.injections.now c.args.limits.now c.well_formed-3.ensures c.args.kernel.now c.requires.free.way going
 
 pub returns-then-kernel-gt0 : goal.returns-then-kernel-gt0
 returns-then-kernel-gt0 c = tells_nothing refl

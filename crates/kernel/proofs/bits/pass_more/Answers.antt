@@ -7,7 +7,7 @@ pub returns-then-not-may_follow : goal.returns-then-not-may_follow
 returns-then-not-may_follow c = tells_nothing refl
 
 pub pass_leave-requires-clause-going : goal.pass_leave-requires-clause-going
-pass_leave-requires-clause-going c = record { free = free_next c.pass_on.ensures.along.to c.requires.free; going = c.in-Some-pass_on.ensures.going c.args.points.now c.requires.free }
+pass_leave-requires-clause-going c = record { free = free_next c.pass_on.ensures.along.to c.requires.free; going = c.in-Some-pass_on.ensures.going c.args.injections.now c.requires.free }
 
 pub returns-in-Some-pass_on : goal.returns-in-Some-pass_on
 returns-in-Some-pass_on c = tells_on (behind (all_of c.args.trail.now) c.pass_on.ensures.along) c.in-Some-pass_on.ensures.going c.pass_leave.ensures

@@ -1,7 +1,7 @@
 use Rattle.std.proofs.Common.{◌≡◌, ◌<◌, ◌≤◌, ◌+◌, ℕ, false, List, [], Option, Some, length, subst, sym, ◌∙◌, arith}
 use Rattle.std.specs.Option.{IfSome, is_some}
 use Rattle.model.specs.declared.call.Phase.TheVariants.{Decide, Leave}
-use Rattle.model.specs.declared.plan.Point.{Point}
+use Rattle.model.specs.declared.plan.Injection.{Injection}
 use Rattle.model.specs.Application.{Application, Limits}
 use Rattle.model.specs.Scripts.{IsWellFormed}
 use Rattle.model.specs.Run.{state_after}
@@ -19,8 +19,8 @@ use Rattle.kernel.proofs.in_call.pass_call.Goals as goal
 
 pub op_of-requires : goal.op_of-requires
 op_of-requires c =
-    let s = state_after c.args.app.now c.args.points.now c.args.kernel.now.steps in
-    subst (λ (o : Option ℕ). IfSome o (λ task. task < length c.args.app.now.tasks)) c.requires.runs (runs_there c.args.app.now c.args.kernel.now s (hold_of s) c.requires.free.way.stands (reached_after c.args.app.now c.well_formed-2.ensures c.args.points.now c.args.kernel.now.steps).sound)
+    let s = state_after c.args.app.now c.args.injections.now c.args.kernel.now.steps in
+    subst (λ (o : Option ℕ). IfSome o (λ task. task < length c.args.app.now.tasks)) c.requires.runs (runs_there c.args.app.now c.args.kernel.now s (hold_of s) c.requires.free.way.stands (reached_after c.args.app.now c.well_formed-2.ensures c.args.injections.now c.args.kernel.now.steps).sound)
 
 -- None is over before the task's call decides.
 none_over : (app : Application) → IsWellFormed app → (limits : Limits) (until : ℕ) (k : Machine) (task : ℕ) → k.sched.current ≡ Some task → (progress_in k.progress task).call.phase ≡ Decide → k.suspensions ≡ 0 → is_some k.stopped ≡ false → NoneIsOver app limits until k k
@@ -28,26 +28,26 @@ none_over app formed limits until k task runs decides none on = λ plan f. not_o
 
 -- Nor is one after the first phases,
 module _ {app : Application} {limits : Limits} {until : ℕ} {first second : Machine} (within : first.steps + 3 ≤ until) (none : NoneIsOver app limits until first first)
-    (one : GoesFurther app limits (first.steps + 1) first second [] []) (after_one : (plan : List Point) → IsGoing app limits (first.steps + 1) first plan → is_over app (state_after app plan second.steps) ≡ false) where
+    (one : GoesFurther app limits (first.steps + 1) first second [] []) (after_one : (plan : List Injection) → IsGoing app limits (first.steps + 1) first plan → is_over app (state_after app plan second.steps) ≡ false) where
   first_as_far : GoesFurther app limits until first second [] []
   first_as_far = further_as_far (omega arith) one
 
-  going_second : (plan : List Point) → IsFree app limits until first plan → IsGoing app limits until second plan
+  going_second : (plan : List Injection) → IsFree app limits until first plan → IsGoing app limits until second plan
   going_second plan f =
       let g : IsGoing app limits until first plan = record { free = f; going = none plan f } in
       goes_still first_as_far g (after_one plan (going_soon (omega arith) g))
 
-  module _ {third : Machine} (two : GoesFurther app limits (second.steps + 1) second third [] []) (after_two : (plan : List Point) → IsGoing app limits (second.steps + 1) second plan → is_over app (state_after app plan third.steps) ≡ false) where
+  module _ {third : Machine} (two : GoesFurther app limits (second.steps + 1) second third [] []) (after_two : (plan : List Injection) → IsGoing app limits (second.steps + 1) second plan → is_over app (state_after app plan third.steps) ≡ false) where
     second_as_far : GoesFurther app limits until second third [] []
     second_as_far = let far = one.far (omega arith) in further_as_far (omega arith) two
 
-    going_third : (plan : List Point) → IsFree app limits until first plan → IsGoing app limits until third plan
+    going_third : (plan : List Injection) → IsFree app limits until first plan → IsGoing app limits until third plan
     going_third plan f =
         let far = one.far (omega arith) in
         let g = going_second plan f in
         goes_still second_as_far g (after_two plan (going_soon (omega arith) g))
 
-    third_soon : (plan : List Point) → IsFree app limits until first plan → IsGoing app limits (third.steps + 1) third plan
+    third_soon : (plan : List Injection) → IsFree app limits until first plan → IsGoing app limits (third.steps + 1) third plan
     third_soon plan f = let far = one.far (omega arith) in let farther = two.far (omega arith) in going_soon (omega arith) (going_third plan f)
 
     -- so that all three are gone through along each run.
@@ -62,7 +62,7 @@ pass_phase-requires-clause-going c =
     let left = c.saturating_sub.ensures in
     let three = c.if-saturating_sub-lt3.false in
     let none = none_over c.args.app.now c.well_formed-2.ensures c.args.limits.now c.args.until c.args.kernel.now c.args.task c.requires.runs c.requires.decides (omega (arith, c.if-kernel-gt0.false)) (sym c.if-is_some.ensures) in
-    going_soon (omega arith) (record { free = c.requires.free; going = none c.args.points.now c.requires.free })
+    going_soon (omega arith) (record { free = c.requires.free; going = none c.args.injections.now c.requires.free })
 
 pub pass_if_next-requires-clause-going : goal.pass_if_next-requires-clause-going
 pass_if_next-requires-clause-going c =
@@ -70,14 +70,14 @@ pass_if_next-requires-clause-going c =
     let three = c.if-saturating_sub-lt3.false in
     let far = c.pass_phase.ensures.along.far (omega arith) in
     let none = none_over c.args.app.now c.well_formed-2.ensures c.args.limits.now c.args.until c.args.kernel.now c.args.task c.requires.runs c.requires.decides (omega (arith, c.if-kernel-gt0.false)) (sym c.if-is_some.ensures) in
-    going_soon (omega arith) (going_second (omega arith) none c.pass_phase.ensures.along c.pass_phase.ensures.going c.args.points.now c.requires.free)
+    going_soon (omega arith) (going_second (omega arith) none c.pass_phase.ensures.along c.pass_phase.ensures.going c.args.injections.now c.requires.free)
 
 pub pass_if_next-requires-2-clause-going : goal.pass_if_next-requires-2-clause-going
 pass_if_next-requires-2-clause-going c =
     let left = c.saturating_sub.ensures in
     let three = c.if-saturating_sub-lt3.false in
     let none = none_over c.args.app.now c.well_formed-2.ensures c.args.limits.now c.args.until c.args.kernel.now c.args.task c.requires.runs c.requires.decides (omega (arith, c.if-kernel-gt0.false)) (sym c.if-is_some.ensures) in
-    third_soon (omega arith) none c.pass_phase.ensures.along c.pass_phase.ensures.going c.pass_if_next.ensures.along c.pass_if_next.ensures.going c.args.points.now c.requires.free
+    third_soon (omega arith) none c.pass_phase.ensures.along c.pass_phase.ensures.going c.pass_if_next.ensures.along c.pass_if_next.ensures.going c.args.injections.now c.requires.free
 
 pub returns-then-ne-clause-along : goal.returns-then-ne-clause-along
 returns-then-ne-clause-along c =

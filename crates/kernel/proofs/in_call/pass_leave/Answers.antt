@@ -7,7 +7,7 @@ use Rattle.kernel.proofs.in_call.pass_leave.Goals as goal
 pub step_leaving-requires-clause-going : goal.step_leaving-requires-clause-going
 step_leaving-requires-clause-going c =
     let going = c.requires.going in
-    can_step c.args.app.now c.well_formed-2.ensures c.args.points.now c.args.limits.now c.well_formed-3.ensures c.args.kernel.now going.free.way
+    can_step c.args.app.now c.well_formed-2.ensures c.args.injections.now c.args.limits.now c.well_formed-3.ensures c.args.kernel.now going.free.way
     (ends_not (omega (arith, c.if-until-kernel.false)) going)
 
 pub returns-then-until-kernel : goal.returns-then-until-kernel

@@ -6,7 +6,7 @@ use Rattle.kernel.proofs.in_call.pass_phase.Goals as goal
 pub step_in_call-requires-clause-going : goal.step_in_call-requires-clause-going
 step_in_call-requires-clause-going c =
     let going = c.requires.going in
-    can_step c.args.app.now c.well_formed-2.ensures c.args.points.now c.args.limits.now c.well_formed-3.ensures c.args.kernel.now going.free.way (ends_not (omega arith) going)
+    can_step c.args.app.now c.well_formed-2.ensures c.args.injections.now c.args.limits.now c.well_formed-3.ensures c.args.kernel.now going.free.way (ends_not (omega arith) going)
 
 pub returns-clause-along : goal.returns-clause-along
 returns-clause-along c =

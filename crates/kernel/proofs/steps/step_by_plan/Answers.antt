@@ -6,7 +6,7 @@ use Rattle.kernel.proofs.Planned.{no_more, stands_as}
 use Rattle.kernel.proofs.steps.step_by_plan.Goals as goal
 
 pub split_at-requires : goal.split_at-requires
-split_at-requires c = subst (λ (n : ℕ). n ≤ length c.args.points.now) (sym (c.len.ensures.value ∙ ap (λ (hs : List ℕ). length hs) c.handlers_at-handlers.ensures)) (no_more c.args.points.now c.args.kernel.now.steps)
+split_at-requires c = subst (λ (n : ℕ). n ≤ length c.args.injections.now) (sym (c.len.ensures.value ∙ ap (λ (hs : List ℕ). length hs) c.handlers_at-handlers.ensures)) (no_more c.args.injections.now c.args.kernel.now.steps)
 
 pub returns-in_err-step_along-clause-stands : goal.returns-in_err-step_along-clause-stands
 returns-in_err-step_along-clause-stands c = stands_as c.args.app.now c.args.kernel.now c.step_along.new.kernel c.as_slice.result.now _ (c.as_slice.ensures.value ∙ c.handlers_at-handlers.ensures) c.in_err-step_along.ensures.stands

@@ -3,12 +3,12 @@ use Rattle.std.proofs.lemmas.Grind.{common_steps}
 use Rattle.model.proofs.Plans.{falls_from, in_order, falls_not}
 use Rattle.model.proofs.plan.falls.Goals as goal
 
-pub returns-then-point-last : goal.returns-then-point-last
-returns-then-point-last c =
-    let found : falls_from 0 c.args.points.now ≡ true = grind (arith, common_steps) in
-    (λ h. absurd (cc), λ rising. let isnt = falls_not c.args.points.now rising in absurd (cc))
+pub returns-then-injection-last : goal.returns-then-injection-last
+returns-then-injection-last c =
+    let found : falls_from 0 c.args.injections.now ≡ true = grind (arith, common_steps) in
+    (λ h. absurd (cc), λ rising. let isnt = falls_not c.args.injections.now rising in absurd (cc))
 
 pub returns : goal.returns
 returns c =
-    let isnt : falls_from 0 c.args.points.now ≡ false = grind (arith, common_steps) in
-    (λ h. in_order c.args.points.now isnt, λ h. refl)
+    let isnt : falls_from 0 c.args.injections.now ≡ false = grind (arith, common_steps) in
+    (λ h. in_order c.args.injections.now isnt, λ h. refl)

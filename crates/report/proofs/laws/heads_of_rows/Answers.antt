@@ -9,3 +9,7 @@ returns-clause-reached c = refl
 pub returns-clause-not_reached : goal.returns-clause-not_reached
 unfolding digits
 returns-clause-not_reached c = refl
+
+pub returns-clause-three : goal.returns-clause-three
+unfolding digits
+returns-clause-three c = refl

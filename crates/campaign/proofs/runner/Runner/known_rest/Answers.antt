@@ -14,5 +14,5 @@ returns-then-is_at c =
     let mark = c.in-Some.mark in
     let same = c.is_at.ensures c.if-is_at.true in
     let marked : IsRestIn app limits trail mark.kernel mark.rest = subst (λ (m : Option Mark). IsMarked app limits trail m) c.in-Some.is c.requires.mark in
-    rest_of app limits c.args.point.now c.args.self.now.kernel c.requires.way trail mark.rest c.requires.beyond
+    rest_of app limits c.args.point.now c.args.self.now.kernel c.requires.way trail mark.rest c.well_formed-2.ensures c.requires.beyond
     (subst (λ (k : Machine). IsRestIn app limits trail k mark.rest) (sym same) marked)

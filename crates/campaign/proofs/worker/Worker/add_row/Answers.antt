@@ -1,7 +1,8 @@
-use Rattle.std.proofs.Common.{◌∙◌, ◌++◌, ◌∷◌, [], refl, ap, sym}
+use Rattle.std.proofs.Common.{◌∙◌, ◌++◌, ◌∷◌, [], List, refl, ap, sym}
 use Rattle.std.specs.Prelude.{nat_lt}
 use Rattle.machine.specs.Logged.{all_of}
-use Rattle.model.specs.declared.plan.Point.{Point}
+use Rattle.model.specs.declared.plan.Injection.{Injection}
+use Rattle.model.specs.Points.{first_step}
 use Rattle.campaign.specs.Report.{row_of}
 use Rattle.campaign.proofs.Keeping.{gains_one}
 use Rattle.campaign.proofs.GoingOn.{knows_more}
@@ -15,7 +16,7 @@ returns-clause-row c =
     let trail = all_of c.row_of.new.self.runner.trail in
     gains_one setup.app.now shelf.limits shelf.base c.args.point.now c.args.self.now.kept.items c.push.new.kept.items (all_of c.args.self.now.runner.trail) trail c.args.seat.now c.count_row.new.seat c.in_ok-row.row row
     (c.in_ok-push.ensures ∙ ap (λ k. k.items ++ c.in_ok-row.row ∷ []) c.row_of.ensures.kept)
-    (c.count_row.ensures (row_of shelf.base trail c.in_ok-row.row) (ap (λ (p : Point). nat_lt p.step shelf.base.steps) row.row.at_point ∙ sym c.reaches-is_reached.ensures) refl)
+    (c.count_row.ensures (row_of shelf.base trail c.in_ok-row.row) (ap (λ (p : List Injection). nat_lt (first_step p) shelf.base.steps) row.row.at_point ∙ sym c.reaches-is_reached.ensures) refl)
 
 pub returns-clause-known : goal.returns-clause-known
 returns-clause-known c =

@@ -1,12 +1,13 @@
 use Rattle.std.proofs.Common.{◌++◌, ◌<◌, ◌+◌, List, length, take, ap, ap₂, subst, ◌∙◌, arith, refl}
 use Rattle.std.proofs.lemmas.Result.{err_from_is_err_and}
 use Rattle.model.specs.declared.event.Event.{Event}
+use Rattle.model.specs.Points.{first_step}
 use Rattle.shelf.proofs.Along.{few_before, whole_row, whole_refused}
 use Rattle.shelf.proofs.shelf.Shelf.reached_row.Goals as goal
 
 pub with_shared-requires : goal.with_shared-requires
 with_shared-requires c =
-    let few = few_before c.args.app.now c.args.self.now c.requires.shelf c.args.point.now.step c.requires.reached in
+    let few = few_before c.args.app.now c.args.self.now c.requires.shelf (first_step c.args.point.now) c.requires.reached in
     let before = c.in_ok-before.ensures.before in
     omega (arith, few, before)
 

@@ -1,4 +1,5 @@
-use Rattle.std.proofs.Common.{◌≡◌, ◌+◌, ◌*◌, ◌/◌, ℕ, [], ◌∷◌, ap, sym, subst, ◌∙◌, arith}
+use Rattle.std.proofs.Common.{◌≡◌, ◌+◌, ◌*◌, ◌/◌, ℕ, [], ap, sym, subst, ◌∙◌, arith}
+use Rattle.model.specs.Points.{first_step}
 use Rattle.model.specs.Application.{Limits}
 use Rattle.model.specs.Run.{IsRun}
 use Rattle.machine.specs.Can.{IsUnderWay}
@@ -16,22 +17,22 @@ pub overflow_add-result : goal.overflow_add-result
 overflow_add-result c =
     let told = c.go_to_stop-told.ensures.told in
     let sum = c.in-Ok.ensures.before in
-    let few = shares_few c.args.app.now _ c.args.self.now c.self.view_is c.requires.shelf c.args.point c.requires.reached in
+    let few = shares_few c.args.app.now _ c.args.self.now c.self.view_is c.requires.shelf c.args.point.now c.requires.reached in
     let all = c.count_events.ensures in
     let fits = c.count_events.type_inv in
     omega (arith, told, sum, few, all, fits)
 
 pub returns-in-Ok-clause-meter : goal.returns-in-Ok-clause-meter
 returns-in-Ok-clause-meter c =
-    let parts = parts_of c.args.app.now _ c.args.self.now c.self.view_is c.requires.shelf c.args.point c.requires.reached in
-    let there : c.go_to_stop-told.new.kernel.steps ≡ c.args.point.step / c.self.inside.stride * c.self.inside.stride = omega (arith, c.go_to_stop-told.ensures.there, parts) in
-    risen c.args.app.now _ c.args.self.now c.self.view_is c.requires.shelf c.args.point c.requires.reached c.args.meter.now c.run_row.new.meter c.go_to_stop-told.new.kernel.steps there _ c.in-Ok.ensures.row.run c.in-Ok.ensures.meter
+    let parts = parts_of c.args.app.now _ c.args.self.now c.self.view_is c.requires.shelf c.args.point.now c.requires.reached in
+    let there : c.go_to_stop-told.new.kernel.steps ≡ first_step c.args.point.now / c.self.inside.stride * c.self.inside.stride = omega (arith, c.go_to_stop-told.ensures.there, parts) in
+    risen c.args.app.now _ c.args.self.now c.self.view_is c.requires.shelf c.args.point.now c.requires.reached c.well_formed-2.ensures c.args.meter.now c.run_row.new.meter c.go_to_stop-told.new.kernel.steps there _ c.in-Ok.ensures.row.run c.in-Ok.ensures.meter
 
 pub returns-in-Err-clause-refused : goal.returns-in-Err-clause-refused
 returns-in-Err-clause-refused c =
-    let parts = parts_of c.args.app.now _ c.args.self.now c.self.view_is c.requires.shelf c.args.point c.requires.reached in
-    let there : c.go_to_stop-told.new.kernel.steps ≡ c.args.point.step / c.self.inside.stride * c.self.inside.stride = omega (arith, c.go_to_stop-told.ensures.there, parts) in
+    let parts = parts_of c.args.app.now _ c.args.self.now c.self.view_is c.requires.shelf c.args.point.now c.requires.reached in
+    let there : c.go_to_stop-told.new.kernel.steps ≡ first_step c.args.point.now / c.self.inside.stride * c.self.inside.stride = omega (arith, c.go_to_stop-told.ensures.there, parts) in
     λ run is.
-    let kept = subst (λ (s : Shelved). IsRun c.args.app.now (c.args.point ∷ []) s.limits run) (sym c.self.view_is) is in
+    let kept = subst (λ (s : Shelved). IsRun c.args.app.now c.args.point.now s.limits run) (sym c.self.view_is) is in
     let refused = c.in-Err.ensures.refused run kept in
-    (risen_by_less c.args.app.now _ c.args.self.now c.self.view_is c.requires.shelf c.args.point c.requires.reached c.args.meter.now c.run_row.new.meter c.go_to_stop-told.new.kernel.steps there run kept refused.0, refused.1)
+    (risen_by_less c.args.app.now _ c.args.self.now c.self.view_is c.requires.shelf c.args.point.now c.requires.reached c.well_formed-2.ensures c.args.meter.now c.run_row.new.meter c.go_to_stop-told.new.kernel.steps there run kept refused.0, refused.1)
