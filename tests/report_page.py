@@ -101,6 +101,8 @@ def pages_of_odd_reports():
     equal((empty["rows"], empty["classes"], empty["base"]), (0, [], None))
     alone = data_of(good_and_quick("html", text=RUN))
     equal((alone["rows"], alone["base"]["head"]), (0, RUN.partition("\n")[0]))
+    for run in ("base: pass in 0 steps, 0 ticks\n", "base: pass in 3 steps, 1 ticks\n1 0 run b\n2 1 run -\n"):
+        equal(data_of(good_and_quick("html", text=run))["base"]["lanes"]["endings"], [[1, 3]] if "run b" in run else [])
     cut = "".join(read(RACE).decode().splitlines(True)[:9])
     status, out, _ = quick("html", "--partial", text=cut)
     equal((status, data_of(out)["rows"]), (0, 1))

@@ -45,7 +45,7 @@ class Verdicts:
         return [it[2] for it in found if not functions or is_one(functions, [it[1].replace("/", "::")])]
 
     def goals(self, functions):
-        """The goals that refuse these functions: those that are open, and those for which something is handed over that doesn't show them."""
+        """The goals that refuse these functions: those that are open, and those whose answers don't show them."""
         lists = [it[1] for it in map(OPEN_GOALS.search, self.said_of(functions)) if it]
         are_open = [name for it in lists for name in NAME.findall(it)]
         errors = [NAME.match(it) for it in self.errors_of(functions) if not STALE.search(it)]

@@ -266,7 +266,7 @@ A_POINT = 'a point is a step, 0 to 1000000, and a handler, as "12 uart", or "all
 SEVERAL = 'a point is one to three pairs of a step and a handler, whose steps don\'t fall, as "12 uart 15 timer"'
 MOST_PAIRS = 3
 # How many of them the schema takes, which is for this version alone.
-PAIRS = 1
+PAIRS = 3
 MOST_POINTS = 1000000
 
 

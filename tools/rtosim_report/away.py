@@ -52,8 +52,7 @@ class AwayTimes:
 
     def before_the_first(self):
         """All tasks are Ready at reset; but who runs there isn't always known."""
-        is_first_known = UNNAMED not in self.builder.lanes
-        if not self.turns or not is_first_known or self.lane.name == UNNAMED:
+        if not self.turns or UNNAMED in self.builder.lanes:
             return []
         return list(self.known_bars(0, self.turns[0].start, Doing.READY, "", True))
 

@@ -9,7 +9,7 @@ from collections import Counter
 from .progress import walked
 
 CALLS = re.compile(rb"^[0-9]+ [0-9]+ (call|isr) ([A-Za-z][A-Za-z0-9_]*) ([0-9]+) ([a-z_]+) = (none|[0-9]+)$", re.MULTILINE)
-LAST_CALLS = re.compile(rb" call ([A-Za-z][A-Za-z0-9_]*) ([0-9]+) ([a-z_]+) = ")
+LAST_CALLS = re.compile(rb" call ([^ ]+) ([0-9]+ [a-z_]+) = ")
 # A handler's call that wasn't possible: no room, no item, nobody to resume.
 FAILED = rb"isr [A-Za-z0-9_]+ [0-9]+ (?:(?:send|send_front|give|resume) = 0|(?:receive|peek) = none)"
 FAILED_CALL, FAILED_LINE = re.compile(FAILED), re.compile(b" " + FAILED + rb"\n")
@@ -41,11 +41,11 @@ def failed_beyond(run, tail, base, position):
 
 def last_calls(run):
     """The last call of each task."""
-    return tuple(sorted({name: (op, word) for name, op, word in LAST_CALLS.findall(run.text)}.items()))
+    return tuple(sorted(dict(LAST_CALLS.findall(run.text)).items()))
 
 
 def words_of(calls):
-    return ", ".join(f"{name.decode()} after {op.decode()} {word.decode()}" for name, (op, word) in calls)
+    return ", ".join(f"{name.decode()} after {call.decode()}" for name, call in calls)
 
 
 class Causes:

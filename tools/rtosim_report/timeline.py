@@ -185,7 +185,7 @@ class Builder:
         found, endings, ops = [], [], {}
         changes = changes_of(self)
         for name, lane in self.lanes.items():
-            if lane.kind is LaneKind.TASK:
+            if lane.kind is LaneKind.TASK and name != UNNAMED:
                 turns = [it for it in self.turns if it.lane == lane]
                 notes = [it for it in self.notes if it.lane == lane]
                 script = self.application.tasks.get(name) if self.application else None
