@@ -236,11 +236,7 @@ fn act_on<T: Threads + Wait + Sync, W: Sink, F: Sink, G: Gate + Sync>(
 }
 
 // All bytes of the job's file. None are read where its step and its handler don't go together.
-fn all_for<R: Source>(
-    alloc: Global,
-    job: &Job<'_>,
-    reader: &mut R,
-) -> Result<Vec<u8>, ServeFault>
+fn all_for<R: Source>(alloc: Global, job: &Job<'_>, reader: &mut R) -> Result<Vec<u8>, ServeFault>
     requires { R.has_failed reader.old ≡ false }
     ensures read { MatchResult result
         (λ bytes. ReadsFor job.now (R.left reader.old) (R.has_failed reader.new) bytes.items)
@@ -291,11 +287,7 @@ pub fn act<T: Threads + Wait + Sync, R: Source, W: Sink, F: Sink, G: Gate + Sync
 const MOST: usize = 67_108_864;
 
 // The same bytes as `all_for`, where they are 64 MiB at most.
-fn bytes_for<R: Source>(
-    alloc: Global,
-    job: &Job<'_>,
-    reader: &mut R,
-) -> Result<Vec<u8>, JobFault>
+fn bytes_for<R: Source>(alloc: Global, job: &Job<'_>, reader: &mut R) -> Result<Vec<u8>, JobFault>
     requires { R.has_failed reader.old ≡ false }
     ensures read { MatchResult result
         (λ bytes. ReadsFor job.now (R.left reader.old) (R.has_failed reader.new) bytes.items)
