@@ -1,4 +1,6 @@
 //! What the gate of a campaign is told, and when.
+ghost use Rattle.std.specs.Prelude.{◌<◌, ◌≤◌};
+
 use crate::working::{Manner, campaign_in, divided, points_at};
 use campaign::Gate;
 use deal::Counts;
@@ -152,7 +154,10 @@ fn two_workers_are_in_two_blocks_at_once(rt: HostRuntime) {
 }
 
 // Each of so many workers is in a block while all others are.
-fn workers_assemble<R: Abort + Threads + Wait + Sync>(rt: &R, alloc: Global, workers: usize) {
+fn workers_assemble<R: Abort + Threads + Wait + Sync>(rt: &R, alloc: Global, workers: usize)
+    requires some { 0 < workers }
+    requires few { workers ≤ 64 }
+{
     let gate = Assembling::new(workers as u64);
     let manner = Manner {
         workers,
@@ -164,9 +169,9 @@ fn workers_assemble<R: Abort + Threads + Wait + Sync>(rt: &R, alloc: Global, wor
 
 #[test]
 fn all_workers_are_in_their_first_blocks_at_once(rt: HostRuntime) {
-    for workers in [2, 3, 4] {
-        workers_assemble(&rt, rt.alloc(), workers);
-    }
+    workers_assemble(&rt, rt.alloc(), 2);
+    workers_assemble(&rt, rt.alloc(), 3);
+    workers_assemble(&rt, rt.alloc(), 4);
 }
 
 #[test]
