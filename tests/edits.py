@@ -5,7 +5,7 @@ import re
 from dataclasses import dataclass
 
 FUNCTION = re.compile(r"^( *)(?:pub(?:\([^)]*\))? )?(?:const )?(?:unsafe )?(?:extern \S+ )?fn (\w+)")
-IMPL = re.compile(r"^(?:unsafe )?impl\b(?:<(?:[^<>]|<[^<>]*>)*>)? (?:(\w+)(?:<.*?>)? for )?(?:&(?:mut )?)?(?:\w+::)*(\w+)")
+IMPL = re.compile(r"^(?:unsafe )?impl\b(?:<(?:[^<>]|<[^<>]*>)*>)? (?:(\w+)(?:<(.*?)>)? for )?(?:&(?:mut )?)?(?:\w+::)*(\w+)")
 TRAIT = re.compile(r"^(?:pub(?:\([^)]*\))? )?trait (\w+)")
 CALL = re.compile(r"\b(\w+)(?:::<[^()]*>)?\(")
 
@@ -94,9 +94,9 @@ def read_edit(crate, file):
 
 
 def owner_of(line):
-    """The type, or the type and its trait as one word, whose functions stand below this line, if any do."""
+    """The type, or the type, its trait and what the trait is of as one word, whose functions stand below this line, if any do."""
     if found := IMPL.match(line):
-        return found[2] + (found[1] or "")
+        return found[3] + (found[1] or "") + "".join(re.findall(r"(?<!')\b\w+", found[2] or ""))
     found = TRAIT.match(line)
     return found[1] if found else None
 
