@@ -87,6 +87,9 @@ def problem_of_word(words, section):
         message = f'the program takes no such op: "{word}" is one of a later version'
         return Problem(start, end, message, all_ops(section))
     meant = near(word, OPS[section], MEANT_OPS) or near(without_isr(word), OPS[section], MEANT_OPS)
+    of_tasks = near(without_isr(word), OPS["task"], MEANT_OPS) if section == "handler" and not meant else None
+    if of_tasks:
+        return Problem(start, end, f'no op is called "{word}"; {op_of_tasks(of_tasks)}', all_ops("handler"))
     rule = OPS[section][meant].rule if meant else all_ops(section)
     return Problem(start, end, f'no op is called "{word}"{did_you_mean(quoted(meant))}', rule)
 
@@ -193,7 +196,8 @@ def no_number(argument, word):
     digits = decimal_digits(word)
     if digits and argument.fits(digits):
         return f"{word} is no decimal number{did_you_mean(digits)}"
-    return f'expected a number, {ends}, found "{word}"'
+    alone = ": a wait alone may be forever" if word == "forever" else ""
+    return f'expected a number, {ends}, found "{word}"{alone}'
 
 
 def decimal_digits(word):
@@ -250,7 +254,7 @@ def instead(context, op, other, names):
     ops = [it.word for it in known.values() if it.name_at() and other.section in it.name_at()[1]]
     kin = next((it for group in KIN if op.word in group for it in group if it in ops), None)
     if kin:
-        return did_you_mean(quoted(kin)), known[kin]
+        return did_you_mean(f'the op "{kin}"'), known[kin]
     if ops:
         return f"; ops of {one(other.section)} are {', '.join(ops)}", None
     return did_you_mean(listed(names)), None

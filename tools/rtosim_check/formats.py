@@ -250,7 +250,7 @@ MEANT_OPS = {
     "sleep": "delay", "recv": "receive", "read": "receive", "get": "receive", "pop": "receive", "put": "send", "push": "send",
     "write": "send", "post": "give", "release": "give", "signal": "give", "acquire": "take", "loop": "repeat", "for": "repeat",
     "assert": "expect", "print": "mark", "log": "mark", "trace": "mark", "now": "time", "compute": "work", "run": "work",
-    "notify": "give",
+    "notify": "give", "set_bits": "set", "clear_bits": "clear", "get_bits": "bits", "wait_bits": "wait",
 }
 # Ops that do the like to things of other kinds.
 KIN = (("receive", "take", "lock", "wait"), ("send", "give", "unlock", "set"), ("waiting", "bits"))
