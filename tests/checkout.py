@@ -22,7 +22,12 @@ RT = """#!/bin/sh
 # library that has its stamp it says nothing, but for the last one, which it checks and doesn't build.
 RT_SH = r"""
 . "$STAND_IN/says.sh"
+[ "$1" != version ] || { cat "$STAND_IN/version"; exit; }
 echo "$*" >>"$STAND_IN/calls"
+if [ "$1" = try ]; then
+    . "$STAND_IN/try"
+    exit
+fi
 build() {
     cat ../$1/src/*.rt | cmp -s - ../$1/out/rlib/stamp && return
     rm -rf ../$1/out/rlib
@@ -64,6 +69,29 @@ rtosim) . "$STAND_IN/plan"
 *) . "$STAND_IN/lowest" ;;
 esac
 says $3
+"""
+# What the stand-in for `rt try` does: it runs the program in a folder of its own, which has copies of the files that it is given.
+TRY = r"""
+make_program
+made=$PWD/out/rtosim
+folder=$(mktemp -d)
+shift
+while [ "$1" != -- ]; do
+    if [ "$1" = --data ]; then
+        name=$folder/${2%%=*}
+        mkdir -p "${name%/*}"
+        cp "${2#*=}" "$name"
+    fi
+    shift 2
+done
+shift
+(cd "$folder" && "$made" "$@")
+status=$?
+rm -r "$folder"
+echo "checked: ended status=$status" >&2
+echo "races: not looked for" >&2
+echo "run=ended status=$status runners=1 races=unchecked proved=no" >&2
+exit $status
 """
 # What rattle says of a crate that it proves, with the notes and the words that the case plans for the crate.
 SAYS = r"""
@@ -126,7 +154,7 @@ def stand_ins():
     """The text of each file of the kit's stand-in."""
     with open(f"{KIT}/bin/rt", encoding="utf-8") as rt, open(f"{KIT}/bin/rtlib.py", encoding="utf-8") as rtlib:
         tools = {"rt": RT + rt.read(), "rtlib.py": rtlib.read(), "rattle": RATTLE, "rattle-link": "#!/bin/sh\n"}
-    plans = {"rt.sh": RT_SH, "says.sh": SAYS, "program": PROGRAM}
+    plans = {"rt.sh": RT_SH, "says.sh": SAYS, "program": PROGRAM, "try": TRY, "version": f"{VERSION}\n"}
     plans.update(dict.fromkeys(("plan", "proofs", "lowest", "help", "calls", "said"), ""))
     prelude = {"rattle/std/specs/Prelude.antt": "pub use mathlib.Core.Path.{◌≡◌}\n"}
     return {**{f"bin/{it}": text for it, text in tools.items()}, "toolchain/bin/clang": READER_OF_CALLS, **plans, **prelude}
@@ -246,4 +274,5 @@ def keep_times(checkout):
 
 
 BUILT = "made of low add report text main\n"
+VERSION = "a stand-in for the kit"
 NO_PROGRAM = "rtosim: there is no program to run, since rt did not prove and build it"

@@ -1,0 +1,54 @@
+"""Has a signal that ends a command end what the command has started too: rt, and all that rt has started."""
+import os
+import signal
+import subprocess
+
+ENDING = (signal.SIGTERM, signal.SIGINT, signal.SIGHUP, signal.SIGQUIT)
+
+
+class Ended(BaseException):
+    """A signal has come that ends this command. It is no failure of what it comes to, which nothing is to catch as one."""
+
+
+def end(process):
+    """Ends a process that was started in a session of its own, which then ends all that it started."""
+    for number in (signal.SIGTERM, signal.SIGKILL):
+        try:
+            os.killpg(process.pid, number)
+            process.wait(timeout=2)
+        except (ProcessLookupError, subprocess.TimeoutExpired):
+            pass
+
+
+def run(words, work, **how):
+    """Starts a process by these words in a session of its own, and returns what the work on it returns. A signal that comes meanwhile
+    ends the process first."""
+    # No signal may come between the start of the process and the lines that end it.
+    mask = signal.pthread_sigmask(signal.SIG_BLOCK, ENDING)
+    unmask = lambda: signal.pthread_sigmask(signal.SIG_SETMASK, mask)
+    process = subprocess.Popen(words, preexec_fn=unmask, start_new_session=True, **how)
+    try:
+        unmask()
+        return work(process)
+    except Ended:
+        end(process)
+        raise
+
+
+def on_signal(number, _):
+    for it in ENDING:
+        signal.signal(it, signal.SIG_IGN)
+    raise Ended(number)
+
+
+def heeding_signals(work, *words):
+    """Returns what the work returns. A signal that comes meanwhile ends this process, once the work has ended what it started."""
+    for it in ENDING:
+        if signal.getsignal(it) is not signal.SIG_IGN:
+            signal.signal(it, on_signal)
+    try:
+        return work(*words)
+    except Ended as ended:
+        number = ended.args[0]
+        signal.signal(number, signal.SIG_DFL)
+        os.kill(os.getpid(), number)
