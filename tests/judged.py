@@ -415,6 +415,19 @@ def where_rattle_does_not_take_rt_s_words_rt_proves_alone_and_is_judged(a):
 
 
 @case
+def where_the_program_is_not_linked_as_rt_does_rt_proves_alone_and_is_judged(a):
+    links = f"{a.stand_in}/bin/rattle-link"
+    missing, other = lambda: os.remove(links), lambda: a.write(links, "#!/bin/sh\necho unknown flag\nexit 1\n")
+    for change, why in ((other, "unknown flag"), (missing, "rt is another than tools/from_nothing knows: FileNotFoundError: ")):
+        change()
+        status, out, err = a.start()
+        equal((status, out), (0, BUILT))
+        holds(err, f"{LONGER}{why}")
+        assert IS_NOT_LOOKED_FOR not in err, err
+        os.remove(a.path("crates/rtosim/out/rtosim"))
+
+
+@case
 def code_that_rattle_does_not_take_is_refused_and_rt_is_not_tried(a):
     a.plan_proofs('echo "src/lib.rt:3:1: error[unsupported-theorem]: not yet"; exit 2')
     status, _, err = a.start()
