@@ -127,8 +127,10 @@ def a_preview_without_an_answer_says_what_rt_says(a):
 
 @case
 def a_preview_of_code_that_is_refused_shows_where(a):
-    place = f"{a.root}/crates/low/src/lib.rt:1:1: error: no"
-    has_no_answer(a, [place], 'echo "${PWD%/crates/*}/crates/low/src/lib.rt:1:1: error: no" >&2; exit 1\n')
+    said = ("${PWD%/crates/*}/crates/low/src/lib.rt:1:1: error: no", "src/main.rt:2:1: error: no", "./src/main.rt:3:1: error: no")
+    places = ("low/src/lib.rt:1:1", "rtosim/src/main.rt:2:1", "rtosim/src/main.rt:3:1")
+    says = "".join(f'echo "{it}" >&2\n' for it in said)
+    has_no_answer(a, [f"{a.root}/crates/{it}: error: no" for it in places], f"{says}exit 1\n")
 
 
 @case
