@@ -5,6 +5,7 @@ import fcntl
 import json
 import os
 import re
+import shlex
 import subprocess
 import sys
 
@@ -59,6 +60,15 @@ def stored(name):
     """The bytes of a file of the repository."""
     with open(f"{ROOT}/{name}", "rb") as it:
         return it.read()
+
+
+def session(path):
+    """Each command of a session: its words, the lines that come of it, and its status."""
+    beginning, *commands = re.split(r"(?m)^\$ rtosim\b", stored(path).decode())
+    assert commands and not beginning, "a session begins with a command"
+    for command in commands:
+        words, lines, status = re.fullmatch(r"(.*)\n((?:.*\n)*?)(?:\[(\d+)\]\n)?", command).groups("0")
+        yield shlex.split(words), lines.encode(), int(status)
 
 
 def refused_texts(path):

@@ -15,7 +15,7 @@ import re
 import shlex
 
 from cases import case, case_named, equal
-from running import ROOT, refused_texts, run, stored, write
+from running import ROOT, refused_texts, run, session, stored, write
 
 ENDINGS = (".out", ".report", ".session", ".faults")
 OPTIONS = (
@@ -61,13 +61,9 @@ def reports_as_stored(path):
 
 
 def answers_as_stored(path):
-    beginning, *commands = re.split(r"(?m)^\$ rtosim\b", stored(path).decode())
-    assert commands and not beginning, "a session begins with a command"
-    for command in commands:
-        words, lines, status = re.fullmatch(r"(.*)\n((?:.*\n)*?)(?:\[(\d+)\]\n)?", command).groups("0")
-        wanted = (lines.encode(), b"") if int(status) < 2 else (b"", lines.encode())
-        found = run(*shlex.split(words), cwd=os.path.dirname(f"{ROOT}/{path}"))
-        answers(f"rtosim{words}", found, (int(status), *wanted))
+    for words, lines, status in session(path):
+        found = run(*words, cwd=os.path.dirname(f"{ROOT}/{path}"))
+        answers(f"rtosim {shlex.join(words)}", found, (status, *((lines, b"") if status < 2 else (b"", lines))))
 
 
 def refuses_as_stored(path):

@@ -1,0 +1,109 @@
+"""What the `--help` texts of a command and of its subcommands say, as clap and argparse write them."""
+import re
+from dataclasses import dataclass, field
+
+# Names of values that are files.
+FILES = ("FILE", "PATH", "REPORT", "OLD", "NEW")
+OPTION = re.compile(r"(?:-(?P<short>\w)|--(?P<long>[\w-]+))(?:[ =](?P<value><[^>]+>|\{[^}]+\}|[^\s,-][^\s,]*))?(?:, |$)")
+
+
+@dataclass
+class Entry:
+    """An argument, or an option: its names, `-o` and `--output`, if it is one; the value that it takes, as it is shown; what it is."""
+
+    names: list
+    value: str
+    text: str
+
+    @property
+    def words(self):
+        """The words that the value is one of, as far as the text shows them."""
+        shown = self.value or ""
+        listed = re.fullmatch(r"\{(.*)\}", shown)
+        words = listed[1].split(",") if listed else shown.split("|") if "|" in shown else []
+        return [it for it in words if it.islower()]
+
+    @property
+    def is_file(self):
+        return self.value in FILES
+
+    @property
+    def called(self):
+        """The value, as a manual names it."""
+        return "|".join(self.words) if self.value and self.value.startswith("{") else self.value
+
+
+@dataclass
+class Command:
+    """A command, with the words by which it is called: `rtosim`, or `rtosim run`."""
+
+    words: list
+    about: str = ""
+    usage: str = ""
+    arguments: list = field(default_factory=list)
+    options: list = field(default_factory=list)
+    notes: dict = field(default_factory=dict)
+    commands: list = field(default_factory=list)
+
+    @property
+    def name(self):
+        return self.words[-1]
+
+
+def paragraphs(text):
+    """The parts of a text between blank lines."""
+    return [it.strip("\n").split("\n") for it in re.split(r"\n{2,}", text.strip("\n"))]
+
+
+def entries(lines):
+    """Each entry of a list with its text, which may begin in the next line, further to the right."""
+    found = []
+    for line in lines:
+        depth = len(line) - len(line.lstrip())
+        if found and depth >= 20:
+            found[-1][1] = f"{found[-1][1]} {line.strip()}".strip()
+        else:
+            head, _, text = line.strip().partition("  ")
+            found.append([head, text.strip()])
+    return found
+
+
+def option(head, text):
+    """The option that is listed so."""
+    names, value = [], None
+    for it in OPTION.finditer(head):
+        names.append(f"-{it['short']}" if it["short"] else f"--{it['long']}")
+        value = it["value"] or value
+    assert names, f"no option is listed as {head!r}"
+    return Entry(sorted(names, key=len), value.strip("<>") if value else None, text)
+
+
+def read_section(command, title, lines):
+    """Takes in a list of the help text. Returns the names of the subcommands in it."""
+    if title in ("Options", "options", "optional arguments"):
+        command.options += [option(*it) for it in entries(lines)]
+    elif title == "Arguments":
+        command.arguments += [Entry([], head.strip("<>[]."), text) for head, text in entries(lines)]
+    elif title == "Commands":
+        return [(head, text) for head, text in entries(lines) if head != "help"]
+    elif title == "positional arguments":
+        if lines[0].strip() == "COMMAND":
+            return [(head, text) for head, text in entries(lines[1:])]
+        command.arguments += [Entry([], head, text) for head, text in entries(lines)]
+    else:
+        command.notes[title] = lines
+    return []
+
+
+def read(words, help_of, about=""):
+    """The command that is called by these words, with its subcommands. The function gives the help text of such words."""
+    command, below = Command(words, about), []
+    for first, *rest in paragraphs(help_of(words)):
+        if usage := re.match("[Uu]sage: (.*)", first):
+            command.usage = " ".join([usage[1], *map(str.strip, rest)])
+        elif title := re.fullmatch(r"(\w[\w ]*):", first):
+            below += read_section(command, title[1], rest)
+        else:
+            command.about = command.about or " ".join(map(str.strip, [first, *rest]))
+    command.commands = [read([*words, name], help_of, text) for name, text in below]
+    return command
