@@ -64,12 +64,9 @@ def lines_in(said):
 
 
 def toolchain():
-    """The toolchain's own line, or None."""
-    try:
-        ran = subprocess.run(["rt", "version"], stdin=subprocess.DEVNULL, capture_output=True, text=True, errors="replace")
-    except OSError:
-        return None
-    return ran.stdout.strip() or None
+    """The toolchain's own line."""
+    ran = subprocess.run(["rt", "version"], stdin=subprocess.DEVNULL, capture_output=True, text=True, errors="replace")
+    return " ".join(ran.stdout.split())
 
 
 def record(root=proving.ROOT):
@@ -82,19 +79,21 @@ def record(root=proving.ROOT):
         return None, {}
 
 
-def keep(said, root=proving.ROOT):
-    """Keeps the lines that are said of the sources as they stand. One of a proof over kept proofs takes no other's place."""
-    now, (before, lines) = toolchain(), record(root)
-    if now is None:
-        return
-    its_sums = sums(root)
+def with_said(said, root):
+    """The text of the record with the lines that are said. One of a proof over kept proofs takes no other's place."""
+    now, (before, lines), its_sums = toolchain(), record(root), sums(root)
     lines = {name: it for name, it in lines.items() if now == before and its_sums.get(name) == it[0]}
     for name, line in lines_in(said).items():
         if name in its_sums and not (name in lines and line.endswith(OVER_KEPT)):
             lines[name] = its_sums[name], line
-    text = "".join(f"{it}\n" for it in (now, *(f"{name} {' '.join(lines[name])}" for name in its_sums if name in lines)))
+    return "".join(f"{it}\n" for it in (now, *(f"{name} {' '.join(lines[name])}" for name in its_sums if name in lines)))
+
+
+def keep(said, root=proving.ROOT):
+    """Keeps the lines that are said of the sources as they stand, where that can be written."""
     with contextlib.suppress(OSError):
-        with open(f"{root}/{RECORD}.new", "w", encoding="utf-8") as file:
+        text = with_said(said, root)
+        with open(f"{root}/{RECORD}.new", "w", encoding="utf-8", errors="surrogateescape") as file:
             file.write(text)
         os.replace(f"{root}/{RECORD}.new", f"{root}/{RECORD}")
 
