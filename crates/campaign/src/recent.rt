@@ -14,8 +14,7 @@ pub(crate) struct Recent {
 fn place(point: &Point) -> usize
     ensures { result < 1024 }
 {
-    point.well_formed();
-    let first = &point.injections()[0];
+    let first = point.first();
     (first.step as usize % 64) * 16 + first.handler.number as usize
 }
 

@@ -257,7 +257,7 @@ pub(crate) fn points_text(
 ) -> Result<String, AllocError> {
     let mut text = String::new(alloc);
     for point in points {
-        push_injections(&mut text, app, point.injections())?;
+        push_injections(&mut text, app, point.injections().as_slice())?;
         text.push_str(",")?;
     }
     Ok(text)

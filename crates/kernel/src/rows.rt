@@ -106,7 +106,7 @@ pub fn run_row(
     let end = finish(
         &mut kernel.machine,
         app,
-        injections,
+        injections.as_slice(),
         limits,
         meter,
         log,
@@ -163,10 +163,11 @@ pub fn begin_row(
     point.well_formed();
     let first = point.first_step();
     let before = advance(&mut kernel.machine, app, first, limits, meter, log);
+    let injections = point.injections();
     let end = go_to_step(
         &mut kernel.machine,
         app,
-        point.injections(),
+        injections.as_slice(),
         until,
         limits,
         meter,

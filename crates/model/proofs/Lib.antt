@@ -12,4 +12,5 @@ pub mod Ticks
 pub mod Counting
 pub mod Injected
 pub mod OneRun
+pub mod Packing
 pub mod Points

@@ -1,39 +1,28 @@
 -- Points are the same where a test of their places says so.
-use Rattle.std.proofs.Common.{◌≡◌, ◌≤◌, ◌&&◌, ℕ, Bool, true, eqb, List, [], ◌∷◌, length, take, refl, ap, ap₂, sym, ◌∙◌, arith}
+use Rattle.std.proofs.Common.{◌≡◌, ◌≤◌, ◌&&◌, ℕ, true, eqb, List, [], ◌∷◌, length, take, refl, ap₂, sym, ◌∙◌}
 use lib.Pointwise.{pointwise}
 use Rattle.std.proofs.lemmas.Bool.{and_parts}
 use Rattle.model.specs.declared.plan.Injection.{Injection}
-use Rattle.model.specs.Points.{filled}
 use Rattle.model.proofs.Lists.{eqb-same}
+use Rattle.model.specs.Packing.{handlers_of, paired, steps_of}
+use Rattle.model.proofs.Packing.{kept}
 
-abbrev is_same : Injection → Injection → Bool
-is_same x y = eqb x.step y.step && eqb x.handler y.handler
-
-same_injection : (x y : Injection) → is_same x y ≡ true → x ≡ y
-same_injection x y e =
-    let parts = and_parts (eqb x.step y.step) (eqb x.handler y.handler) e in
-    ap (λ (n : ℕ). record x { step = n }) (eqb-same x.step y.step parts.0)
-    ∙ ap (λ (n : ℕ). record { step = y.step; handler = n }) (eqb-same x.handler y.handler parts.1)
-
-same_places : (xs ys : List Injection) → pointwise is_same xs ys ≡ true → xs ≡ ys
-same_places [] [] e = refl
-same_places [] (y ∷ ys) e = absurd (cc)
-same_places (x ∷ xs) [] e = absurd (cc)
-same_places (x ∷ xs) (y ∷ ys) e =
-    let parts = and_parts (is_same x y) (pointwise is_same xs ys) e in
-    ap₂ (λ (z : Injection) (zs : List Injection). z ∷ zs) (same_injection x y parts.0) (same_places xs ys parts.1)
-
-kept : (is : List Injection) → length is ≤ 3 → take (length is) (filled is) ≡ is
-kept [] few = refl
-kept (a ∷ []) few = refl
-kept (a ∷ b ∷ []) few = refl
-kept (a ∷ b ∷ c ∷ []) few = refl
-kept (a ∷ b ∷ c ∷ d ∷ is) few = absurd (omega arith)
+same_numbers : (xs ys : List ℕ) → pointwise eqb xs ys ≡ true → xs ≡ ys
+same_numbers [] [] e = refl
+same_numbers [] (y ∷ ys) e = absurd (cc)
+same_numbers (x ∷ xs) [] e = absurd (cc)
+same_numbers (x ∷ xs) (y ∷ ys) e =
+    let parts = and_parts (eqb x y) (pointwise eqb xs ys) e in
+    ap₂ (λ (z : ℕ) (zs : List ℕ). z ∷ zs) (eqb-same x y parts.0) (same_numbers xs ys parts.1)
 
 pub same_point : (xs ys : List Injection) → length xs ≤ 3 → length ys ≤ 3
-    → pointwise (λ x y. eqb x.step y.step && eqb x.handler y.handler) (filled xs) (filled ys) && eqb (length xs) (length ys) ≡ true → xs ≡ ys
+    → (pointwise eqb (steps_of xs) (steps_of ys) && pointwise eqb (handlers_of xs) (handlers_of ys)) && eqb (length xs) (length ys) ≡ true
+    → xs ≡ ys
 same_point xs ys few few' e =
-    let parts = and_parts (pointwise is_same (filled xs) (filled ys)) (eqb (length xs) (length ys)) e in
+    let parts = and_parts (pointwise eqb (steps_of xs) (steps_of ys) && pointwise eqb (handlers_of xs) (handlers_of ys)) (eqb (length xs) (length ys)) e in
+    let places = and_parts (pointwise eqb (steps_of xs) (steps_of ys)) (pointwise eqb (handlers_of xs) (handlers_of ys)) parts.0 in
+    let steps = same_numbers (steps_of xs) (steps_of ys) places.0 in
+    let handlers = same_numbers (handlers_of xs) (handlers_of ys) places.1 in
     sym (kept xs few)
-    ∙ ap₂ (λ (n : ℕ) (is : List Injection). take n is) (eqb-same (length xs) (length ys) parts.1) (same_places (filled xs) (filled ys) parts.0)
+    ∙ ap₂ (λ (n : ℕ) (is : List Injection). take n is) (eqb-same (length xs) (length ys) parts.1) (ap₂ paired steps handlers)
     ∙ kept ys few'

@@ -1,4 +1,5 @@
 pub mod Points
+pub mod Packing
 pub mod Application
 pub mod Words
 pub mod Coming

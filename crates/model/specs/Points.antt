@@ -32,14 +32,3 @@ abbrev pub last_step : List Injection → ℕ
 last_step [] = 0
 last_step (i ∷ []) = i.step
 last_step (i ∷ is) = last_step is
-
--- what is in a place that has none
-abbrev pub no_injection : Injection
-no_injection = record { step = 0; handler = 0 }
-
--- three places that begin with these
-abbrev pub filled : List Injection → List Injection
-filled [] = no_injection ∷ no_injection ∷ no_injection ∷ []
-filled (a ∷ []) = a ∷ no_injection ∷ no_injection ∷ []
-filled (a ∷ b ∷ []) = a ∷ b ∷ no_injection ∷ []
-filled (a ∷ b ∷ c ∷ is) = a ∷ b ∷ c ∷ []

@@ -1,5 +1,6 @@
 //! Which handlers are injected before which steps.
-ghost use Rattle.std.specs.Prelude.{◌≡◌, ◌↔◌, ◌≤◌, ◌<◌, ℕ, [], ◌∷◌, true, false, length, Err, IfOk};
+ghost use Rattle.std.specs.Prelude.{◌≡◌, ◌↔◌, ◌≤◌, ◌<◌, ℕ, List, [], ◌∷◌, true, false, length, slice_index_or, Err, IfOk};
+ghost use Rattle.model.specs.declared.plan.Injection as declared;
 ghost use Rattle.model.specs.Points.{AreInOrder, IsPoint, most_of_point, first_step, last_step};
 ghost use Rattle.model.specs.Plans.{IsCrowded, IsPlan, most_injected};
 ghost use Rattle.model.specs.Run.{injected};
@@ -16,18 +17,18 @@ pub struct Injection {
     pub handler: HandlerId,
 }
 
-// What is in a place of a point that has no injection.
-const NONE: Injection = Injection {
-    step: 0,
-    handler: HandlerId { number: 0 },
-};
-
 impl Default for Injection {
     /// What lies in a place of a list that is taken by none.
     fn default() -> Self {
-        NONE
+        Injection {
+            step: 0,
+            handler: NOBODY,
+        }
     }
 }
+
+// What is in a place of a point that has no injection.
+const NOBODY: HandlerId = HandlerId { number: 0 };
 
 /// Why some injections are no point.
 #[derive(Clone, Copy)]
@@ -41,30 +42,39 @@ pub enum BadPoint {
 }
 
 /// An injection point: one to three injections, in the order of their steps (profile).
+///
+/// A file may have a million points, so the steps and the handlers lie apart from each other, which leaves no gaps between them.
 #[derive(Clone, Copy, PartialEq, Eq)]
 pub struct Point {
-    injections: [Injection; 3],
+    steps: [u32; 3],
+    handlers: [HandlerId; 3],
     count: u8,
 }
 
+// A campaign keeps millions of points.
+const _: () = prove!(size_of::<Point>() == 16);
+
 impl Model for Point {
-    ghost use Rattle.std.specs.Prelude.{◌≡◌, ◌≤◌, List, length, take};
-    ghost use Rattle.std.proofs.Common.{arith, length-take-le};
+    ghost use Rattle.std.specs.Prelude.{List, length, take};
     ghost use Rattle.model.specs.declared.plan.Injection.{Injection};
-    ghost use Rattle.model.specs.Points.{IsPoint, filled};
+    ghost use Rattle.model.specs.Packing.{IsPacked, handlers_of, paired, steps_of};
 
     ghost Value = { List Injection };
 
-    ghost view = { λ p. take p.count p.injections };
+    ghost view = { λ p. take p.count (paired p.steps p.handlers) };
 
-    ghost invariant = { λ p. (p.count ≤ 3) × (length p.injections ≡ 3) × (filled (take p.count p.injections) ≡ p.injections)
-        × IsPoint (take p.count p.injections) };
+    ghost invariant = { λ p. IsPacked p.steps p.handlers p.count (take p.count (paired p.steps p.handlers)) };
 
-    ghost inverse = { λ is. record { injections = filled is; count = length is } };
+    ghost inverse = { λ is. record {
+      steps = steps_of is;
+      handlers = handlers_of is;
+      count = length is;
+    } };
 
     ghost inverse_ok = { λ p h i. record {
-      injections = h.2 i;
-      count = length-take-le p.count p.injections (omega (arith, h.0, h.1)) i;
+      steps = h.steps_are i;
+      handlers = h.handlers_are i;
+      count = h.count_is i;
     } };
 }
 
@@ -77,18 +87,19 @@ impl Point {
         ensures falling { (result ≡ Err BadPoint.Falling)
             ↔ ((1 ≤ length injections.now) × (length injections.now ≤ most_of_point) × (AreInOrder injections.now → ⊥)) }
     {
-        let places = match injections {
+        let (steps, handlers) = match injections {
             [] => return Err(BadPoint::Empty),
-            [first] => [*first, NONE, NONE],
-            [first, second] => [*first, *second, NONE],
-            [first, second, third] => [*first, *second, *third],
+            [a] => ([a.step, 0, 0], [a.handler, NOBODY, NOBODY]),
+            [a, b] => ([a.step, b.step, 0], [a.handler, b.handler, NOBODY]),
+            [a, b, c] => ([a.step, b.step, c.step], [a.handler, b.handler, c.handler]),
             _ => return Err(BadPoint::TooMany),
         };
         if falls(injections) {
             return Err(BadPoint::Falling);
         }
         Ok(Point {
-            injections: places,
+            steps,
+            handlers,
             count: injections.len() as u8,
         })
     }
@@ -97,32 +108,54 @@ impl Point {
     pub fn one(step: u32, handler: HandlerId) -> Self
         ensures { result ≡ record { step = step; handler = handler } ∷ [] }
     {
-        let injection = Injection { step, handler };
         Point {
-            injections: [injection, NONE, NONE],
+            steps: [step, 0, 0],
+            handlers: [handler, NOBODY, NOBODY],
             count: 1,
         }
     }
 
-    /// The injections, in order.
-    pub fn injections(&self) -> &[Injection]
-        ensures { result.now ≡ self.now }
+    // The injection in the place of this number.
+    fn at(&self, place: usize) -> Injection
+        requires { place < 3 }
+        ensures { place < length self.now → result ≡ slice_index_or self.now place result }
     {
-        &self.injections[..self.count as usize]
+        Injection {
+            step: self.steps[place],
+            handler: self.handlers[place],
+        }
+    }
+
+    /// The injections, in order.
+    pub fn injections(&self) -> Injections
+        ensures { result ≡ self.now }
+    {
+        Injections {
+            places: [self.at(0), self.at(1), self.at(2)],
+            count: self.count,
+        }
+    }
+
+    /// The first injection.
+    pub fn first(&self) -> Injection
+        ensures { (others : List declared.Injection) × (self.now ≡ result ∷ others) }
+    {
+        self.well_formed();
+        self.at(0)
     }
 
     /// The step of the first injection.
     pub fn first_step(&self) -> u32
         ensures { result ≡ first_step self.now }
     {
-        self.injections[0].step
+        self.first().step
     }
 
     /// The step of the last injection.
     pub fn last_step(&self) -> u32
         ensures { result ≡ last_step self.now }
     {
-        self.injections[self.count as usize - 1].step
+        self.at(self.count as usize - 1).step
     }
 
     /// Does nothing: its contract tells callers what holds of every point.
@@ -130,6 +163,33 @@ impl Point {
         ensures { IsPoint self.now }
     {
         let _ = &self.count;
+    }
+}
+
+/// The injections of a point, one after the other.
+#[derive(Drop)]
+pub struct Injections {
+    places: [Injection; 3],
+    count: u8,
+}
+
+impl Model for Injections {
+    ghost use Rattle.std.specs.Prelude.{◌≤◌, List, take};
+    ghost use Rattle.model.specs.declared.plan.Injection.{Injection};
+
+    ghost Value = { List Injection };
+
+    ghost view = { λ all. take all.count all.places };
+
+    ghost invariant = { λ all. all.count ≤ 3 };
+}
+
+impl Injections {
+    /// The injections, in order.
+    pub fn as_slice(&self) -> &[Injection]
+        ensures { result.now ≡ self.now }
+    {
+        &self.places[..self.count as usize]
     }
 }
 
@@ -231,8 +291,9 @@ impl Plan {
         ensures { IfOk result (λ plan. plan ≡ point.now) }
     {
         point.well_formed();
+        let given = point.injections();
         let mut injections = Vec::new(alloc);
-        if injections.extend_from_slice(point.injections()).is_err() {
+        if injections.extend_from_slice(given.as_slice()).is_err() {
             return Err(Memory);
         }
         Ok(Plan { injections })

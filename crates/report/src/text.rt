@@ -208,7 +208,8 @@ fn push_point(page: &mut Page, app: &App, point: &Point)
     ensures size { length page.new ≤ length page.old + 83 }
 {
     point.well_formed();
-    let Some((first, others)) = point.injections().split_first() else {
+    let injections = point.injections();
+    let Some((first, others)) = injections.as_slice().split_first() else {
         return;
     };
     push_injection(page, app, *first);

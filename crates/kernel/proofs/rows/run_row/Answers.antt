@@ -27,20 +27,20 @@ pub advance-before-requires-clause-reached : goal.advance-before-requires-clause
 advance-before-requires-clause-reached c n below = c.requires.reached n (let first = c.first_step-first.ensures in omega arith)
 
 pub finish-requires-clause-plan : goal.finish-requires-clause-plan
-finish-requires-clause-plan c = subst IsPlan (sym c.injections-injections.ensures) (point_is_plan c.args.point.now c.well_formed-3.ensures)
+finish-requires-clause-plan c = subst IsPlan (sym (c.as_slice.ensures ∙ c.injections-injections.ensures)) (point_is_plan c.args.point.now c.well_formed-3.ensures)
 
 pub finish-requires-clause-ahead : goal.finish-requires-clause-ahead
 finish-requires-clause-ahead c =
     let there = c.advance-before.ensures.there in
     let first = c.first_step-first.ensures in
-    subst (AllByRecursion (λ (i : Injection). c.advance-before.new.kernel.steps ≤ i.step)) (sym c.injections-injections.ensures)
+    subst (AllByRecursion (λ (i : Injection). c.advance-before.new.kernel.steps ≤ i.step)) (sym (c.as_slice.ensures ∙ c.injections-injections.ensures))
     (from_first c.args.point.now c.well_formed-3.ensures.in_order c.advance-before.new.kernel.steps (omega arith))
 
 pub finish-requires-clause-way : goal.finish-requires-clause-way
 finish-requires-clause-way c =
     let there = c.advance-before.ensures.there in
     let first = c.first_step-first.ensures in
-    subst (λ (is : List Injection). IsUnderWay c.args.app.now is c.args.limits.now c.advance-before.new.kernel) (sym c.injections-injections.ensures)
+    subst (λ (is : List Injection). IsUnderWay c.args.app.now is c.args.limits.now c.advance-before.new.kernel) (sym (c.as_slice.ensures ∙ c.injections-injections.ensures))
     (row_way c.args.app.now c.args.point.now c.well_formed-3.ensures c.args.limits.now c.advance-before.new.kernel c.advance-before.ensures.way (omega arith))
 
 pub finish-requires-clause-meter : goal.finish-requires-clause-meter
@@ -53,13 +53,13 @@ finish-requires-clause-meter c =
 pub overflow_cast-result : goal.overflow_cast-result
 overflow_cast-result c =
     let e = c.elapsed.ensures.elapsed in
-    let low = ticks_low c.args.app.now c.injections-injections.result.now c.args.limits.now c.well_formed-2.ensures c.finish.new.kernel c.in_ok-end.ensures.way in
+    let low = ticks_low c.args.app.now c.as_slice.result.now c.args.limits.now c.well_formed-2.ensures c.finish.new.kernel c.in_ok-end.ensures.way in
     omega arith
 
 pub returns-clause-row : goal.returns-clause-row
 returns-clause-row c =
     let e = c.in_ok-end.ensures in
-    let same = c.injections-injections.ensures in
+    let same = (c.as_slice.ensures ∙ c.injections-injections.ensures) in
     let there : c.advance-before.new.kernel.steps ≡ first_step c.args.point.now = c.advance-before.ensures.there ∙ c.first_step-first.ensures in
     row_kept c.args.app.now c.args.point.now c.well_formed-3.ensures c.args.limits.now c.finish.new.kernel (subst (λ (is : List Injection). IsUnderWay c.args.app.now is c.args.limits.now c.finish.new.kernel) same e.way)
     c.advance-before.new.kernel.steps there e.on (all_of c.args.trail.now) (all_of c.finish.new.trail)
@@ -75,10 +75,10 @@ returns-clause-before c =
 
 pub returns-in_err-end-clause-refused : goal.returns-in_err-end-clause-refused
 returns-in_err-end-clause-refused c = let p = err_from_is_err_and c.from_residual.result c.from_residual.ensures.1 in rw p.1 (λ run is.
-    let its = subst (λ (point : List Injection). IsRun c.args.app.now point c.args.limits.now run) (sym c.injections-injections.ensures) is in
-    let no_more = no_further c.args.app.now c.injections-injections.result.now c.args.limits.now c.finish.new.kernel c.in_err-end.ensures.way run its in
+    let its = subst (λ (point : List Injection). IsRun c.args.app.now point c.args.limits.now run) (sym (c.as_slice.ensures ∙ c.injections-injections.ensures)) is in
+    let no_more = no_further c.args.app.now c.as_slice.result.now c.args.limits.now c.finish.new.kernel c.in_err-end.ensures.way run its in
     let there = c.advance-before.ensures.there in
     let first = c.advance-before.ensures.meter in
     let then = c.in_err-end.ensures.meter in
     let seen = ap (λ (k : Machine). k.steps) c.kernel.view_is in
-    (omega arith, told_some c.args.app.now c.injections-injections.result.now c.args.limits.now c.finish.new.kernel c.in_err-end.ensures.way run its c.in_err-end.ensures.memory))
+    (omega arith, told_some c.args.app.now c.as_slice.result.now c.args.limits.now c.finish.new.kernel c.in_err-end.ensures.way run its c.in_err-end.ensures.memory))
