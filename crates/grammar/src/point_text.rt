@@ -93,12 +93,11 @@ fn name_of_every(text: &[u8]) -> Option<&[u8]>
 {
     let mut words = Words::new(text);
     let first = words.next()?;
-    let name = words.next()?;
-    if words.is_at_end() && first == b"all".as_slice() {
-        Some(name)
-    } else {
-        None
+    if first != b"all".as_slice() {
+        return None;
     }
+    let name = words.next()?;
+    if words.is_at_end() { Some(name) } else { None }
 }
 
 /// The entry that a text spells, where some handlers have its names; `None` where it spells none, whatever handlers there are.
