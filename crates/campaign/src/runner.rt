@@ -146,10 +146,11 @@ impl Runner {
         point.well_formed();
         let kernel = self.snapshot();
         let before = self.trail.len();
+        let injections = point.injections();
         let ending = run_rest(
             &mut self.kernel,
             app,
-            point.injections(),
+            injections.as_slice(),
             limits,
             meter,
             &mut self.log,

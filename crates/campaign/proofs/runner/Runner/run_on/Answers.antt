@@ -1,5 +1,5 @@
 use Rattle.machine.specs.Logged.{all_of}
-use Rattle.std.proofs.Common.{◌≡◌, List, [], ℕ, ◌≤◌, sym, subst}
+use Rattle.std.proofs.Common.{◌≡◌, ◌∙◌, List, [], ℕ, ◌≤◌, sym, subst}
 use Rattle.model.specs.declared.plan.Injection.{Injection}
 use Rattle.model.specs.Run.{injected}
 use Rattle.campaign.proofs.GoingOn.{gained_rest, marked_at, none_from, rest_of}
@@ -24,5 +24,5 @@ returns-clause-mark c =
 pub run_rest-requires-clause-past : goal.run_rest-requires-clause-past
 run_rest-requires-clause-past c =
     let kernel = c.args.self.now.kernel in
-    subst (λ (is : List Injection). (n : ℕ) → kernel.steps ≤ n → injected is n ≡ []) (sym c.injections.ensures)
+    subst (λ (is : List Injection). (n : ℕ) → kernel.steps ≤ n → injected is n ≡ []) (sym (c.as_slice.ensures ∙ c.injections-injections.ensures))
     (none_from c.args.app.now c.args.limits.now c.args.point.now c.well_formed-2.ensures kernel c.requires.beyond)
