@@ -190,7 +190,7 @@ pub done_refused : (work : Work) (job : Job) (done : Done) → done.refused ≡ 
 done_refused work job done is e = absurd (cc)
 
 pub done_whole : (work : Work) (job : Job) (done : Done) → done.lane.game ≡ job.lane.game → HasSeenAll done.lane
-    → HasWorked work done.part.kept.items (all_of done.part.trail) done.part.blocks.items done.lane.answered job.seat done.seat → IsDone work job done
+    → HasWorked work done.part.kept (all_of done.part.trail) done.part.blocks.items done.lane.answered job.seat done.seat → IsDone work job done
 done_whole work job done lane all worked e = record {
   lane = lane;
   seat = worked.same;

@@ -85,7 +85,7 @@ module _ (rows : Rows) (cursor : Cursor) (at : IsAt rows cursor) where
     }
 
     module _ (count : ℕ) (some : cursor.row + count ≤ place.count) where
-      enough : cursor.number + count ≤ length (whole rows)
+      pub enough : cursor.number + count ≤ length (whole rows)
       enough =
           let long = ap length behind_both in
           let left = length-drop cursor.number (whole rows) in
@@ -110,7 +110,7 @@ module _ (rows : Rows) (cursor : Cursor) (at : IsAt rows cursor) where
           let row = row_of rows.base (all_of part.trail) in
           let them = rows_there rows.base rows.parts.items place part its_place.at_part in
           let some_them = rows_there rows.base rows.parts.items (record { part = place.part; first = place.first + cursor.row; count = count }) part its_place.at_part in
-          some_them ∙ sym (some_of_some row part.kept.items place.first place.count cursor.row count some)
+          some_them ∙ sym (some_of_some row part.kept place.first place.count cursor.row count some)
           ∙ ap (λ (rs : List Row). take count (drop cursor.row rs)) (sym them)
           ∙ sym (of_first (f place) (flat_map f (drop (cursor.place + 1) rows.places.items)) cursor.row count (omega (arith, its_count)))
           ∙ ap (take count) (sym behind_both)

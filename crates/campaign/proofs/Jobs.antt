@@ -1,6 +1,5 @@
 -- Jobs of lanes and seats.
-use Rattle.std.proofs.Common.{◌≡◌, ◌+◌, ℕ, List, [], ◌∷◌, ◌++◌, slice_index, ap, subst, ◌∙◌, arith, Vec}
-use Rattle.std.specs.declared.alloc.Global.{Global}
+use Rattle.std.proofs.Common.{◌≡◌, ◌+◌, ℕ, List, [], ◌∷◌, ◌++◌, slice_index, ap, subst, ◌∙◌, arith}
 use Rattle.std.proofs.lemmas.List.{map_push}
 use Rattle.deal.specs.Sharing.{Game, Sight}
 use Rattle.deal.specs.Tallies.{Sheet, Tallied, added_in}
@@ -11,7 +10,7 @@ use Rattle.campaign.specs.declared.rows.KeptRow.{KeptRow}
 use Rattle.campaign.specs.Working.{AreIdle, AreJobs, AreReady, seats_of}
 
 -- the last lane and the last seat get a job, without rows
-pub jobs_more : (deal : Game) (tally : Sheet) (count : ℕ) (lanes others : List Sight) (seats rest : List Tallied) (lane : Sight) (seat : Tallied) (jobs new : List Job) (number : ℕ) (kept : Vec KeptRow Global) → kept.items ≡ []
+pub jobs_more : (deal : Game) (tally : Sheet) (count : ℕ) (lanes others : List Sight) (seats rest : List Tallied) (lane : Sight) (seat : Tallied) (jobs new : List Job) (number : ℕ) (kept : List KeptRow) → kept ≡ []
     → lanes ≡ others ++ lane ∷ [] → seats ≡ rest ++ seat ∷ [] → new ≡ jobs ++ record { number = number; lane = lane; seat = seat; kept = kept } ∷ []
     → AreIdle deal lanes × AreReady tally count seats × AreJobs deal tally count jobs → AreIdle deal others × AreReady tally count rest × AreJobs deal tally count new
 jobs_more deal tally count lanes others seats rest lane seat jobs new number kept none e f g all =
@@ -25,7 +24,7 @@ jobs_more deal tally count lanes others seats rest lane seat jobs new number kep
     )
 
 -- and the seat's counts go with it
-pub added_more : (kind : ℕ) (seats rest : List Tallied) (lane : Sight) (seat : Tallied) (jobs new : List Job) (number whole : ℕ) (kept : Vec KeptRow Global)
+pub added_more : (kind : ℕ) (seats rest : List Tallied) (lane : Sight) (seat : Tallied) (jobs new : List Job) (number whole : ℕ) (kept : List KeptRow)
     → seats ≡ rest ++ seat ∷ [] → new ≡ jobs ++ record { number = number; lane = lane; seat = seat; kept = kept } ∷ []
     → added_in kind (seats_of jobs) + added_in kind seats ≡ whole → added_in kind (seats_of new) + added_in kind rest ≡ whole
 added_more kind seats rest lane seat jobs new number whole kept f g sum =

@@ -1,5 +1,6 @@
 -- Rows that are kept.
-use Rattle.std.specs.Prelude.{nat_lt}
+use Rattle.std.specs.Prelude.{nat_lt, slice_get, Some}
+use Rattle.std.proofs.lemmas.Option.{slice_get_within}
 use Rattle.std.proofs.lemmas.Bool.Decides.{nat_tests}
 use Rattle.std.proofs.Common.{◌≡◌, ℕ, ◌≤◌, ◌<◌, ◌+◌, ◌-◌, zero, suc, true, false, List, [], ◌∷◌, ◌++◌, length, length-append, slice_index, slice_index_or, take, drop, refl, sym, ap, subst, ◌∙◌, append-nil, append_assoc, arith}
 use Rattle.std.specs.List.{AllByRecursion}
@@ -22,8 +23,9 @@ use Rattle.campaign.specs.declared.rows.Stretch.{Stretch}
 use Rattle.campaign.specs.declared.mark.Rest.{Rest}
 use Rattle.campaign.specs.Kinds.{kind_in}
 use Rattle.campaign.specs.Report.{row_of, rows_of, told_in, IsStretch, IsKept}
-use Rattle.campaign.specs.Working.{AreKnown, IsAmong, IsKeptRow, IsRestOf, GainsRow, Gained, GainsRows}
+use Rattle.campaign.specs.Working.{AreKnown, IsAmong, IsKeptRow, IsRestOf, GainsRow, Gained, GainsRows, KeepsRow}
 use Rattle.campaign.proofs.Ends.{kind_in-append, kind_in-few}
+use Rattle.campaign.proofs.LookedUp.{all_got}
 
 less : (a b : ℕ) → a < b → nat_lt a b ≡ true
 less a b l = grind (arith, nat_tests)
@@ -216,20 +218,32 @@ next_point points index point l is = take_more points index point l ∙ ap (λ (
 
 -- ---- a point that was run before
 
-all_at : {X : Type 0} (P : X → Type 0) (xs : List X) (i : ℕ) (x : X) → i < length xs → x ≡ slice_index_or xs i x → AllByRecursion P xs → P x
-all_at P [] i x l is all = absurd (omega arith)
-all_at P (y ∷ ys) zero x l is all = rw is all.0
-all_at P (y ∷ ys) (suc i) x l is all = all_at P ys i x (omega arith) is all.1
+-- there are so many rows
+pub among_within : (rows : List KeptRow) (point : List Injection) (number : ℕ) → IsAmong rows point number → number < length rows
+among_within rows point number among = slice_get_within rows number among.row among.is
 
 module _ (app : Application) (limits : Limits) (base : Run) where
   -- its row is kept
-  pub row_again : (point : List Injection) (trail : List Event) (kept : List KeptRow) (k : KeptRow) → AreKnown app limits base kept trail → IsAmong kept point k
-      → GainsRow app limits base point trail trail k
-  row_again point trail kept k known among = record {
+  row_again : (point : List Injection) (trail : List Event) (kept : List KeptRow) (number : ℕ) → AreKnown app limits base kept trail → (among : IsAmong kept point number)
+      → GainsRow app limits base point trail trail among.row
+  row_again point trail kept number known among = record {
     own = [];
     trail = sym (append-nil trail);
-    row = subst (λ (p : List Injection). IsKeptRow app limits base trail p k) among.at_point (all_at _ kept among.number k among.within among.is known);
+    row = subst (λ (p : List Injection). IsKeptRow app limits base trail p among.row) among.at_point (all_got _ kept number among.row among.is known);
   }
+
+  -- and kept once more
+  pub kept_again : (point : List Injection) (trail : List Event) (kept kept' : List KeptRow) (number : ℕ) → AreKnown app limits base kept trail
+      → (among : IsAmong kept point number) → ((row : KeptRow) → slice_get kept number ≡ Some row → kept' ≡ kept ++ row ∷ [])
+      → (row : KeptRow) → slice_get kept number ≡ Some row → KeepsRow app limits base point kept kept' trail trail row.end
+  kept_again point trail kept kept' number known among more row is =
+      let same : Some among.row ≡ Some row = sym among.is ∙ is in
+      record {
+        row = among.row;
+        rows_are = more among.row among.is;
+        ends = cc;
+        gains = row_again point trail kept number known among;
+      }
 
   still_known : (kept : List KeptRow) (trail more : List Event) → AreKnown app limits base kept trail → AreKnown app limits base kept (trail ++ more)
   still_known [] trail more known = tt

@@ -8,6 +8,7 @@ pub mod Faulty
 mod GoingOn
 mod Jobs
 mod Keeping
+mod LookedUp
 mod Multiplicity
 mod Pieces
 mod Placed

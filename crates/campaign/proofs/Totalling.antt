@@ -29,16 +29,6 @@ module _ (base : Run) (trail : List Event) (slice : List KeptRow) where
       let within = length-take index slice in
       omega arith
 
--- the rows of a place stand there
-pub slice_few : (items : List KeptRow) (first count : ℕ) → length (take (first + count - first) (drop first items)) ≤ count
-slice_few items first count = let within = length-take (first + count - first) (drop first items) in omega arith
-
-pub slice_whole : (items kept : List KeptRow) (first count index : ℕ) → items ≡ kept → length (take (first + count - first) (drop first items)) ≤ index
-    → take index (take (first + count - first) (drop first items)) ≡ take count (drop first kept)
-slice_whole items kept first count index same end =
-    let n : first + count - first ≡ count = omega arith in
-    take_all index (take (first + count - first) (drop first items)) end ∙ ap₂ (λ (m : ℕ) (xs : List KeptRow). take m (drop first xs)) n same
-
 -- ---- the rows of several places
 
 flat_suc : {X A : Type 0} (f : X → List A) (xs : List X) (index : ℕ) (x : X) → index < length xs → x ≡ slice_index_or xs index x → flat_map f (take (suc index) xs) ≡ flat_map f (take index xs) ++ f x
@@ -89,7 +79,7 @@ any_default (y ∷ xs) (suc i) d e l = any_default xs i d e (omega arith)
 
 pub length_at : (base : Run) (parts : List Part) (place : Place) → IsPlace parts place → length (rows_at base parts place) ≡ place.count
 length_at base parts place is =
-    let items = is.part.kept.items in
+    let items = is.part.kept in
     let within = is.within in
     let there = ap length (rows_there base parts place is.part is.at_part) in
     let same = length-map (take place.count (drop place.first items)) (row_of base (all_of is.part.trail)) in

@@ -127,7 +127,7 @@ below_of work kept trail (b ∷ blocks) all = (all.0.is_block, below_of work kep
 
 pub parts_below : (work : Work) (parts : List Part) → AllByRecursion (IsKeptPart work) parts → AreBelow (length work.lengths) parts
 parts_below work [] all = tt
-parts_below work (part ∷ parts) all = (below_of work part.kept.items (all_of part.trail) part.blocks.items all.0.blocks, parts_below work parts all.1)
+parts_below work (part ∷ parts) all = (below_of work part.kept (all_of part.trail) part.blocks.items all.0.blocks, parts_below work parts all.1)
 
 pub parts_kept : (work : Work) (parts : List Part) → AllByRecursion (IsKeptPart work) parts → AllByRecursion (AreKept work.base) parts
 parts_kept work [] all = tt
@@ -144,7 +144,7 @@ module _ (work : Work) (parts : List Part) where
   HavePlaces blocks places = (b : ℕ) (d : Place) → 0 < times b blocks → IsPlaceOf work parts b (slice_index_or places b d)
 
   -- a block more
-  put_one : (n : ℕ) (part : Part) → slice_get parts n ≡ Some part → (block : KeptBlock) → IsKeptBlock work part.kept.items (all_of part.trail) block
+  put_one : (n : ℕ) (part : Part) → slice_get parts n ≡ Some part → (block : KeptBlock) → IsKeptBlock work part.kept (all_of part.trail) block
       → (places : List Place) → length work.lengths ≤ length places → (blocks : List ℕ) → HavePlaces blocks places → HavePlaces (blocks ++ block.number ∷ []) (set places block.number (place_of n block))
   put_one n part at block is places long blocks have b d there =
       let place = place_of n block in
@@ -164,7 +164,7 @@ module _ (work : Work) (parts : List Part) where
       rw same (have b d before))
       (same_or b block.number)
 
-  put_all : (n : ℕ) (part : Part) → slice_get parts n ≡ Some part → (own : List KeptBlock) → AreKeptBlocks work part.kept.items (all_of part.trail) own
+  put_all : (n : ℕ) (part : Part) → slice_get parts n ≡ Some part → (own : List KeptBlock) → AreKeptBlocks work part.kept (all_of part.trail) own
       → (places : List Place) → length work.lengths ≤ length places → (blocks : List ℕ) → HavePlaces blocks places → HavePlaces (blocks ++ numbers_of own) (placed n own places)
   put_all n part at [] all places long blocks have = rw (append-nil blocks) have
   put_all n part at (block ∷ own) all places long blocks have =

@@ -49,7 +49,7 @@ pub record IsKept (base : Run) (trail : List Event) (kept : KeptRow) : Type 0 wh
 
 -- so many rows of a part, from the first on
 abbrev pub rows_in : Run → Part → (first count : ℕ) → List Row
-rows_in base part first count = rows_of base (all_of part.trail) (take count (drop first part.kept.items))
+rows_in base part first count = rows_of base (all_of part.trail) (take count (drop first part.kept))
 
 abbrev pub rows_in_some : Run → Option Part → (first count : ℕ) → List Row
 rows_in_some base (Some part) first count = rows_in base part first count
@@ -63,14 +63,14 @@ rows_at base parts place = rows_in_some base (slice_get parts place.part) place.
 pub record IsPlace (parts : List Part) (place : Place) : Type 0 where
   pub part : Part
   pub at_part : slice_get parts place.part ≡ Some part
-  pub within : place.first + place.count ≤ length part.kept.items
+  pub within : place.first + place.count ≤ length part.kept
 
 -- the rows that the parts keep in these places, one place after the other
 abbrev pub whole : Rows → List Row
 whole rows = flat_map (rows_at rows.base rows.parts.items) rows.places.items
 
 abbrev pub AreKept : Run → Part → Type 0
-AreKept base part = AllByRecursion (IsKept base (all_of part.trail)) part.kept.items
+AreKept base part = AllByRecursion (IsKept base (all_of part.trail)) part.kept
 
 -- Each row is there, and they add up to these totals.
 pub record IsSound (rows : Rows) : Type 0 where

@@ -1,9 +1,10 @@
 -- What workers make: the rows of blocks.
-use Rattle.std.specs.Prelude.{◌≡◌, ℕ, ◌+◌, ◌<◌, ◌≤◌, ◌^◌, false, List, [], ◌∷◌, ◌++◌, length, map, take, drop, sum, slice_index, slice_index_or, nat_lt, Option, IfSome}
+use Rattle.std.specs.Prelude.{◌≡◌, ℕ, ◌+◌, ◌<◌, ◌≤◌, ◌^◌, false, List, [], ◌∷◌, ◌++◌, length, map, take, drop, sum, slice_get, slice_index, nat_lt, Option, Some, IfSome}
 use Rattle.std.specs.List.{AllByRecursion}
 use Rattle.machine.specs.Logged.{all_of}
 use Rattle.machine.specs.declared.machine.Machine.{Machine}
 use Rattle.kernel.specs.Rests.{IsRest}
+use Rattle.model.specs.declared.event.End.{End}
 use Rattle.model.specs.declared.event.Event.{Event}
 use Rattle.model.specs.declared.plan.Injection.{Injection}
 use Rattle.model.specs.Points.{first_step}
@@ -50,12 +51,19 @@ pub record GainsRow (app : Application) (limits : Limits) (base : Run) (point : 
 abbrev pub AreKnown : Application → Limits → Run → List KeptRow → (trail : List Event) → Type 0
 AreKnown app limits base kept trail = AllByRecursion (λ (k : KeptRow). IsKeptRow app limits base trail k.point k) kept
 
--- The row is one of these, and of this point.
-pub record IsAmong (rows : List KeptRow) (point : List Injection) (kept : KeptRow) : Type 0 where
-  pub at_point : kept.point ≡ point
-  pub number : ℕ
-  pub within : number < length rows
-  pub is : kept ≡ slice_index_or rows number kept
+-- The row of this number is one of these, and of this point.
+pub record IsAmong (rows : List KeptRow) (point : List Injection) (number : ℕ) : Type 0 where
+  pub row : KeptRow
+  pub is : slice_get rows number ≡ Some row
+  pub at_point : row.point ≡ point
+
+-- Behind these rows comes that of this point, with the events that the trail gains, and ends so.
+pub record KeepsRow (app : Application) (limits : Limits) (base : Run) (point : List Injection) (kept kept' : List KeptRow)
+    (old new : List Event) (end : End) : Type 0 where
+  pub row : KeptRow
+  pub rows_are : kept' ≡ kept ++ row ∷ []
+  pub ends : row.end ≡ end
+  pub gains : GainsRow app limits base point old new row
 
 -- ---- how rows go on
 
@@ -124,7 +132,7 @@ AreKeptBlocks work kept trail blocks = AllByRecursion (IsKeptBlock work kept tra
 -- A worker's part: rows that are there, of blocks.
 pub record IsKeptPart (work : Work) (part : Part) : Type 0 where
   pub rows : AreKept work.base part
-  pub blocks : AreKeptBlocks work part.kept.items (all_of part.trail) part.blocks.items
+  pub blocks : AreKeptBlocks work part.kept (all_of part.trail) part.blocks.items
 
 -- the numbers of the blocks
 abbrev pub numbers_of : List KeptBlock → List ℕ
@@ -151,7 +159,7 @@ pub record IsJob (deal : Game) (tally : Sheet) (count : ℕ) (job : Job) : Type 
   pub fresh : job.lane.answered ≡ []
   pub seat : job.seat.sheet ≡ tally
   pub room : HasRoom count job.seat
-  pub none : job.kept.items ≡ []
+  pub none : job.kept ≡ []
 
 abbrev pub AreJobs : Game → Sheet → ℕ → List Job → Type 0
 AreJobs deal tally count jobs = AllByRecursion (IsJob deal tally count) jobs

@@ -71,6 +71,8 @@ impl Cursor {
         ensures rows { rows_at rows.now.base rows.now.parts.items result ≡ some_of (whole rows.now) self.old.number result.count }
     {
         let place = self.leave_ended(rows);
+        // A part has no more rows than fit, so the sums below do.
+        let _ = rows.parts[place.part].kept.len();
         let first = place.first + self.row;
         let count = most.min(place.count - self.row);
         self.row += count;

@@ -6,7 +6,8 @@ ghost use Rattle.deal.specs.Tallies.{Sheet, added_in};
 ghost use Rattle.campaign.specs.declared.worker.Done as worker;
 ghost use Rattle.campaign.specs.Working.{AreIdle, AreJobs, AreReady, lanes_in, parts_in, seats_in, seats_of};
 
-use crate::rows::{Part, room_for};
+use crate::kept_rows::KeptRows;
+use crate::rows::Part;
 use crate::worker::{Done, Job};
 use deal::{Lane, TallySeat};
 use model::Memory;
@@ -37,7 +38,7 @@ pub(crate) fn jobs_of(
     let mut jobs = Vec::new(alloc);
     while let (Some(lane), Some(seat)) = (lanes.pop(), seats.pop()) {
         let number = lanes.len();
-        let kept = room_for(alloc, rows);
+        let kept = KeptRows::with_room(alloc, rows);
         let job = Job {
             number,
             lane,

@@ -9,6 +9,7 @@ mod desk;
 mod file;
 mod gate;
 mod gathering;
+mod kept_rows;
 mod lanes;
 mod making;
 mod mark;

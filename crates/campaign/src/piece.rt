@@ -25,7 +25,7 @@ fn guess(rows: &Rows, place: &Place) -> usize
     requires some { 0 < place.now.count }
     ensures { 0 < result }
 {
-    let row = &rows.parts[place.part].kept[place.first];
+    let row = rows.parts[place.part].kept.at(place.first);
     let own = row.own.to.saturating_sub(row.own.from);
     let rest = row.rest.to.saturating_sub(row.rest.from);
     let lines = row.shared.saturating_add(own).saturating_add(rest);

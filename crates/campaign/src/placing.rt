@@ -55,12 +55,15 @@ pub(crate) fn places_of(alloc: Global, parts: &[Part], count: usize) -> Result<V
 
 // Counts the rows of a place of this part.
 fn count_rows(base: &Run, part: &Part, first: usize, count: usize, totals: &mut Totals)
-    requires within { first + count ≤ length part.now.kept.items }
+    requires within { first + count ≤ length part.now.kept }
     requires few { (rows : List Row) × (totals.old ≡ totals_of rows) × (length rows + count ≤ most_points) }
     ensures { (rows : List Row) → totals.old ≡ totals_of rows → totals.new ≡ totals_of (rows ++ rows_in base.now part.now first count) }
 {
     let steps = base.steps;
-    for row in &part.kept[first..first + count] {
+    // A part has no more rows than fit, so the sums below do.
+    let _ = part.kept.len();
+    for index in 0..count {
+        let row = part.kept.at(first + index);
         let is_reached = row.point.first_step() < steps;
         totals.count(is_reached, row.end);
     }

@@ -1,9 +1,7 @@
 //! Rows of a campaign, as workers keep them.
-ghost use Rattle.std.specs.Prelude.{◌≡◌, ◌++◌, ◌∷◌, [], OnOk};
-
+use crate::kept_rows::KeptRows;
 use kernel::Trail;
-use model::{End, Memory, Point};
-use std::alloc::Global;
+use model::{End, Point};
 
 /// The events of a trail between two places.
 #[derive(Clone, Copy)]
@@ -48,47 +46,7 @@ pub(crate) struct Place {
 /// that injection on stand in the trail.
 #[derive(Drop)]
 pub(crate) struct Part {
-    pub(crate) kept: Vec<KeptRow>,
+    pub(crate) kept: KeptRows,
     pub(crate) trail: Trail,
     pub(crate) blocks: Vec<KeptBlock>,
-}
-
-/// No rows yet, with room for so many where there is memory for it. Rows that needn't move as they become more leave no gaps
-/// behind, and room that isn't used is mostly none of the machine's memory.
-pub(crate) fn room_for(alloc: Global, count: usize) -> Vec<KeptRow>
-    ensures { result.items ≡ [] }
-{
-    let mut kept = Vec::new(alloc);
-    // Where there is none for all, there may be for those that come.
-    let _refused = kept.reserve_exact(count).is_err();
-    kept
-}
-
-/// Appends a row.
-pub(crate) fn push(kept: &mut Vec<KeptRow>, row: KeptRow) -> Result<(), Memory>
-    ensures { OnOk result (kept.new.items ≡ kept.old.items ++ row ∷ []) }
-{
-    // Taken apart and made again, since the check proves no push of the whole.
-    let KeptRow {
-        point,
-        shared,
-        own,
-        rest,
-        steps,
-        ticks,
-        end,
-    } = row;
-    let row = KeptRow {
-        point,
-        shared,
-        own,
-        rest,
-        steps,
-        ticks,
-        end,
-    };
-    if kept.push(row).is_err() {
-        return Err(Memory);
-    }
-    Ok(())
 }

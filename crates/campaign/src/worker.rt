@@ -2,16 +2,17 @@
 ghost use Rattle.std.specs.Prelude.{◌≡◌, ◌≤◌, ◌+◌, ◌++◌, ◌∷◌, [], None, length, sum, take, drop, IfOk, IfSome, OnOk};
 ghost use Rattle.machine.specs.Logged.{all_of};
 ghost use Rattle.shelf.specs.Shelves.{IsShelf};
-ghost use Rattle.campaign.specs.Working.{GainsRow, GainsRows, HasRoom, IsAmong, IsDone, IsJob, IsMarked, Knows};
+ghost use Rattle.campaign.specs.Working.{GainsRows, HasRoom, IsAmong, IsDone, IsJob, IsMarked, KeepsRow, Knows};
 ghost use Rattle.campaign.specs.Setup.{work_of};
 
 use crate::gate::Gate;
+use crate::kept_rows::KeptRows;
 use crate::recent::Recent;
-use crate::rows::{KeptBlock, KeptRow, Part, push};
+use crate::rows::{KeptBlock, Part};
 use crate::runner::Runner;
 use crate::tallying::count_row;
 use deal::{Lane, Next, Tally, TallySeat};
-use model::{App, Memory, Point};
+use model::{App, End, Memory, Point};
 use shelf::Shelf;
 use std::alloc::Global;
 use std::sync::Wait;
@@ -32,7 +33,7 @@ pub(crate) struct Job {
     pub(crate) number: usize,
     pub(crate) lane: Lane,
     pub(crate) seat: TallySeat,
-    pub(crate) kept: Vec<KeptRow>,
+    pub(crate) kept: KeptRows,
 }
 
 /// What a worker hands on when it is joined. It is refused where it, or another, found no memory; then its part is of no use.
@@ -48,20 +49,21 @@ pub(crate) struct Done {
 #[derive(Drop)]
 struct Worker {
     runner: Runner,
-    kept: Vec<KeptRow>,
+    kept: KeptRows,
     blocks: Vec<KeptBlock>,
     recent: Recent,
 }
 
-// The row that is kept of this point, where the one that was made last of it is found.
-fn again(kept: &[KeptRow], recent: &Recent, point: &Point) -> Option<KeptRow>
+// The number of the row that is kept of this point, where the one that was made last of it is found.
+fn again(kept: &KeptRows, recent: &Recent, point: &Point) -> Option<usize>
     ensures { IfSome result (IsAmong kept.now point.now) }
 {
-    let row = kept.get(recent.row(point))?;
+    let number = recent.row(point);
+    let row = kept.get(number)?;
     row.point.well_formed();
     point.well_formed();
     if row.point == *point {
-        Some(*row)
+        Some(number)
     } else {
         None
     }
@@ -69,8 +71,8 @@ fn again(kept: &[KeptRow], recent: &Recent, point: &Point) -> Option<KeptRow>
 
 impl Worker {
     // A worker that has made nothing, with this room for rows.
-    fn new(alloc: Global, app: &App, kept: Vec<KeptRow>) -> Worker
-        ensures kept { result.kept.items ≡ kept.items }
+    fn new(alloc: Global, app: &App, kept: KeptRows) -> Worker
+        ensures kept { result.kept ≡ kept }
         ensures blocks { result.blocks.items ≡ [] }
         ensures mark { result.runner.mark ≡ None }
     {
@@ -82,20 +84,25 @@ impl Worker {
         }
     }
 
-    // The row of a point: that of the same point before, where it is found, or else it is made.
-    fn row_of(&mut self, app: &App, shelf: &Shelf, point: &Point) -> Result<KeptRow, Memory>
+    // Keeps the row of a point: once more that of the same point before, where it is found, or else it is made. Answers how it ends.
+    fn keep_row(&mut self, app: &App, shelf: &Shelf, point: &Point) -> Result<End, Memory>
         requires shelf { IsShelf app.now shelf.now }
-        requires known { Knows app.now shelf.now.limits shelf.now.base self.old.kept.items (all_of self.old.runner.trail) self.old.runner.mark }
-        ensures kept { self.new.kept ≡ self.old.kept }
+        requires known { Knows app.now shelf.now.limits shelf.now.base self.old.kept (all_of self.old.runner.trail) self.old.runner.mark }
         ensures blocks { self.new.blocks ≡ self.old.blocks }
-        ensures row { IfOk result (GainsRow app.now shelf.now.limits shelf.now.base point.now
+        ensures row { IfOk result (KeepsRow app.now shelf.now.limits shelf.now.base point.now self.old.kept self.new.kept
             (all_of self.old.runner.trail) (all_of self.new.runner.trail)) }
         ensures mark { OnOk result (IsMarked app.now shelf.now.limits (all_of self.new.runner.trail) self.new.runner.mark) }
     {
-        match again(&self.kept, &self.recent, point) {
-            Some(row) => Ok(row),
-            None => self.runner.run(app, shelf, point),
+        if let Some(number) = again(&self.kept, &self.recent, point) {
+            let end = self.kept.at(number).end;
+            self.kept.repeat(number)?;
+            return Ok(end);
         }
+        let row = self.runner.run(app, shelf, point)?;
+        let end = row.end;
+        self.recent.set(point, self.kept.len());
+        self.kept.push(row)?;
+        Ok(end)
     }
 
     // Makes the row of a point, and then adds it to the seat. At `Err(Memory)` the worker is of no more use.
@@ -106,20 +113,17 @@ impl Worker {
         point: &Point,
     ) -> Result<(), Memory>
         requires shelf { IsShelf setup.now.app.now setup.now.shelf.now }
-        requires known { Knows setup.now.app.now setup.now.shelf.now.limits setup.now.shelf.now.base self.old.kept.items (all_of self.old.runner.trail) self.old.runner.mark }
+        requires known { Knows setup.now.app.now setup.now.shelf.now.limits setup.now.shelf.now.base self.old.kept (all_of self.old.runner.trail) self.old.runner.mark }
         requires seat { seat.old.sheet ≡ setup.now.tally.now }
         requires room { HasRoom 1 seat.old }
-        ensures known { OnOk result (Knows setup.now.app.now setup.now.shelf.now.limits setup.now.shelf.now.base self.new.kept.items (all_of self.new.runner.trail) self.new.runner.mark) }
+        ensures known { OnOk result (Knows setup.now.app.now setup.now.shelf.now.limits setup.now.shelf.now.base self.new.kept (all_of self.new.runner.trail) self.new.runner.mark) }
         ensures blocks { self.new.blocks ≡ self.old.blocks }
         ensures row { OnOk result (GainsRows setup.now.app.now setup.now.shelf.now.limits setup.now.shelf.now.base (point.now ∷ [])
-            self.old.kept.items self.new.kept.items (all_of self.old.runner.trail) (all_of self.new.runner.trail) seat.old seat.new) }
+            self.old.kept self.new.kept (all_of self.old.runner.trail) (all_of self.new.runner.trail) seat.old seat.new) }
     {
         let shelf = setup.shelf;
         let is_reached = shelf.reaches(point);
-        let row = self.row_of(setup.app, shelf, point)?;
-        let end = row.end;
-        self.recent.set(point, self.kept.len());
-        push(&mut self.kept, row)?;
+        let end = self.keep_row(setup.app, shelf, point)?;
         count_row(setup.tally, seat, is_reached, end);
         Ok(())
     }
@@ -134,16 +138,16 @@ impl Worker {
         count: usize,
     ) -> Result<(), Memory>
         requires shelf { IsShelf setup.now.app.now setup.now.shelf.now }
-        requires known { Knows setup.now.app.now setup.now.shelf.now.limits setup.now.shelf.now.base self.old.kept.items (all_of self.old.runner.trail) self.old.runner.mark }
+        requires known { Knows setup.now.app.now setup.now.shelf.now.limits setup.now.shelf.now.base self.old.kept (all_of self.old.runner.trail) self.old.runner.mark }
         requires seat { seat.old.sheet ≡ setup.now.tally.now }
         requires points { first + count ≤ length setup.now.points.now }
         requires room { HasRoom count seat.old }
-        ensures known { OnOk result (Knows setup.now.app.now setup.now.shelf.now.limits setup.now.shelf.now.base self.new.kept.items (all_of self.new.runner.trail) self.new.runner.mark) }
+        ensures known { OnOk result (Knows setup.now.app.now setup.now.shelf.now.limits setup.now.shelf.now.base self.new.kept (all_of self.new.runner.trail) self.new.runner.mark) }
         ensures block { OnOk result (self.new.blocks.items ≡ self.old.blocks.items
-            ++ record { number = number; first = length self.old.kept.items; count = count } ∷ []) }
+            ++ record { number = number; first = length self.old.kept; count = count } ∷ []) }
         ensures rows { OnOk result (GainsRows setup.now.app.now setup.now.shelf.now.limits setup.now.shelf.now.base
             (take count (drop first setup.now.points.now))
-            self.old.kept.items self.new.kept.items (all_of self.old.runner.trail) (all_of self.new.runner.trail) seat.old seat.new) }
+            self.old.kept self.new.kept (all_of self.old.runner.trail) (all_of self.new.runner.trail) seat.old seat.new) }
     {
         let points = &setup.points[first..first + count];
         let block = KeptBlock {

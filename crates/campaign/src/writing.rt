@@ -83,15 +83,17 @@ fn add_place<W: Sink>(
     requires base { events.now.events ≡ base.now.events }
     requires few { number + count ≤ most_points }
     requires kept { AreKept base.now part.now }
-    requires within { first + count ≤ length part.now.kept.items }
+    requires within { first + count ≤ length part.now.kept }
     ensures app { text.new.app ≡ text.old.app }
     ensures text { Adds (W.held writer.old) (W.held writer.new) text.old.page text.new.page result
         (rows_text text.old.app number (rows_in base.now part.now first count)) }
     ensures failed { W.has_failed writer.new ≡ is_err result }
 {
     let trail = part.trail.events();
-    let rows = &part.kept[first..first + count];
-    for (index, row) in rows.iter().enumerate() {
+    // A part has no more rows than fit, so the sums below do.
+    let _ = part.kept.len();
+    for index in 0..count {
+        let row = part.kept.at(first + index);
         add_row(writer, text, number + index, row, base, events, trail)?;
     }
     Ok(())

@@ -1,11 +1,12 @@
-use Rattle.std.proofs.Common.{◌≡◌, ◌++◌, take, List}
+use Rattle.std.proofs.Common.{◌≡◌, ◌++◌, take, drop, List}
 use Rattle.machine.specs.Logged.{all_of}
 use Rattle.model.specs.Campaign.{Row, totals_of}
 use Rattle.campaign.specs.Report.{rows_of}
 use Rattle.campaign.proofs.placing.count_rows.Given as goal
 
-abbrev pub invariant-loop-row : goal.invariant-loop-row
-invariant-loop-row l = record {
+abbrev pub invariant-loop-index : goal.invariant-loop-index
+invariant-loop-index l = record {
   steps : l.steps ≡ l.base.steps;
-  totals : (rows : List Row) → l.fn.totals ≡ totals_of rows → l.totals ≡ totals_of (rows ++ rows_of l.base (all_of l.part.trail) (take l.row-index l.row-items));
+  totals : (rows : List Row) → l.fn.totals ≡ totals_of rows
+      → l.totals ≡ totals_of (rows ++ rows_of l.base (all_of l.part.trail) (take l.index (take l.count (drop l.first l.part.kept))));
 }

@@ -13,8 +13,7 @@ same xs ys few few' e =
 
 pub returns-then-eq : goal.returns-then-eq
 returns-then-eq c = record {
-  at_point = same c.in_ok-row.row.now.point c.args.point.now c.well_formed-2.ensures.few c.well_formed-3.ensures.few (sym c.eq.ensures ∙ c.if-eq.true);
-  number = c.row.result;
-  within = search rules;
+  row = c.in_ok-row.row.now;
   is = search rules;
+  at_point = same c.in_ok-row.row.now.point c.args.point.now c.well_formed-2.ensures.few c.well_formed-3.ensures.few (sym c.eq.ensures ∙ c.if-eq.true);
 }

@@ -37,7 +37,7 @@ loop-preserved-else-is_err g c =
       refused = c.loop.invariant.refused;
       game = game;
       known = on_ok_at c.add_block.result ok c.add_block.ensures.known;
-      worked = subst (λ (l : List ℕ). HasWorked work c.add_block.new.self.kept.items (all_of c.add_block.new.self.runner.trail) c.add_block.new.self.blocks.items l c.args.job.seat c.add_block.new.seat) (sym next.2) more;
+      worked = subst (λ (l : List ℕ). HasWorked work c.add_block.new.self.kept (all_of c.add_block.new.self.runner.trail) c.add_block.new.self.blocks.items l c.args.job.seat c.add_block.new.seat) (sym next.2) more;
     }
 
 pub returns : goal.returns
@@ -48,7 +48,7 @@ returns g c = elim c.match-next.branch [
   | in-Some+else-load-ne0+in-Empty w ↦
       let work = work_of c.args.setup.now c.args.job.lane.game.lengths in
       let next = w.in-Empty.ensures.next in
-      let worked = subst (λ (l : List ℕ). HasWorked work c.loop.worker.kept.items (all_of c.loop.worker.runner.trail) c.loop.worker.blocks.items l c.args.job.seat c.loop.seat) (sym next.0) c.loop.invariant.worked in
+      let worked = subst (λ (l : List ℕ). HasWorked work c.loop.worker.kept (all_of c.loop.worker.runner.trail) c.loop.worker.blocks.items l c.args.job.seat c.loop.seat) (sym next.0) c.loop.invariant.worked in
       rw (c.into_trail-trail.ensures, w.lane-is, w.seat-is, w.worker-is)
       (done_whole work c.args.job _ (w.next-in-loop.ensures.goes.0 ∙ c.loop.invariant.game) next.1 worked)
 ]

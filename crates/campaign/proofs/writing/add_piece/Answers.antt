@@ -80,7 +80,7 @@ add_place-requires g c =
       base = c.requires.base;
       few = omega (arith, e.few, c.loop-cursor-test.true, c.requires.piece.within, c.requires.sound.few);
       kept = parts_kept rows.base rows.parts.items place.part part there c.requires.sound.kept;
-      within = subst (λ (p : Part). place.first + place.count ≤ length p.kept.items) (same_part e.place.part part (sym e.place.at_part ∙ there)) e.place.within;
+      within = subst (λ (p : Part). place.first + place.count ≤ length p.kept) (same_part e.place.part part (sym e.place.at_part ∙ there)) e.place.within;
     }
 
 pub returns-clause-text : goal.returns-clause-text

@@ -10,7 +10,7 @@ pub loop-point-init : goal.loop-point-init
 loop-point-init c = record {
   blocks = refl;
   known = c.requires.known;
-  rows = gains_none c.args.setup.now.app.now c.args.setup.now.shelf.now.limits c.args.setup.now.shelf.now.base c.args.self.now.kept.items (all_of c.args.self.now.runner.trail) c.args.seat.now;
+  rows = gains_none c.args.setup.now.app.now c.args.setup.now.shelf.now.limits c.args.setup.now.shelf.now.base c.args.self.now.kept (all_of c.args.self.now.runner.trail) c.args.seat.now;
 }
 
 pub add_row-requires-clause-seat : goal.add_row-requires-clause-seat
@@ -48,5 +48,5 @@ returns-clause-rows c =
     let end : length points ≤ c.loop-point.point-index = omega (arith, c.loop-point-test.false) in
     let count : c.args.first + c.args.count - c.args.first ≡ c.args.count = omega arith in
     let same = take_all c.loop-point.point-index points end ∙ ap (λ (n : ℕ). take n after) count in
-    subst (λ (ps : List (List Injection)). GainsRows setup.app.now setup.shelf.now.limits setup.shelf.now.base ps c.args.self.now.kept.items c.loop-point.self.kept.items (all_of c.args.self.now.runner.trail) (all_of c.loop-point.self.runner.trail) c.args.seat.now c.loop-point.seat)
+    subst (λ (ps : List (List Injection)). GainsRows setup.app.now setup.shelf.now.limits setup.shelf.now.base ps c.args.self.now.kept c.loop-point.self.kept (all_of c.args.self.now.runner.trail) (all_of c.loop-point.self.runner.trail) c.args.seat.now c.loop-point.seat)
     same c.loop-point.invariant.rows

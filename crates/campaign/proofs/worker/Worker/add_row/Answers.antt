@@ -1,4 +1,4 @@
-use Rattle.std.proofs.Common.{◌∙◌, ◌++◌, ◌∷◌, [], List, refl, ap, sym}
+use Rattle.std.proofs.Common.{◌∙◌, ◌∷◌, [], List, ap, sym}
 use Rattle.std.specs.Prelude.{nat_lt}
 use Rattle.machine.specs.Logged.{all_of}
 use Rattle.model.specs.declared.plan.Injection.{Injection}
@@ -12,14 +12,14 @@ pub returns-clause-row : goal.returns-clause-row
 returns-clause-row c =
     let setup = c.args.setup.now in
     let shelf = setup.shelf.now in
-    let row = c.in_ok-row.ensures.row in
-    let trail = all_of c.row_of.new.self.runner.trail in
-    gains_one setup.app.now shelf.limits shelf.base c.args.point.now c.args.self.now.kept.items c.push.new.kept.items (all_of c.args.self.now.runner.trail) trail c.args.seat.now c.count_row.new.seat c.in_ok-row.row row
-    (c.in_ok-push.ensures ∙ ap (λ k. k.items ++ c.in_ok-row.row ∷ []) c.row_of.ensures.kept)
-    (c.count_row.ensures (row_of shelf.base trail c.in_ok-row.row) (ap (λ (p : List Injection). nat_lt (first_step p) shelf.base.steps) row.row.at_point ∙ sym c.reaches-is_reached.ensures) refl)
+    let keeps = c.in_ok-end.ensures.row in
+    let trail = all_of c.keep_row.new.self.runner.trail in
+    gains_one setup.app.now shelf.limits shelf.base c.args.point.now c.args.self.now.kept c.keep_row.new.self.kept (all_of c.args.self.now.runner.trail) trail c.args.seat.now c.count_row.new.seat keeps.row keeps.gains
+    keeps.rows_are
+    (c.count_row.ensures (row_of shelf.base trail keeps.row) (ap (λ (p : List Injection). nat_lt (first_step p) shelf.base.steps) keeps.gains.row.at_point ∙ sym c.reaches-is_reached.ensures) keeps.ends)
 
 pub returns-clause-known : goal.returns-clause-known
 returns-clause-known c =
     let setup = c.args.setup.now in
     let shelf = setup.shelf.now in
-    knows_more setup.app.now shelf.limits shelf.base (c.args.point.now ∷ []) _ _ _ _ _ _ _ _ c.requires.known (returns-clause-row c) c.in_ok-row.ensures.mark
+    knows_more setup.app.now shelf.limits shelf.base (c.args.point.now ∷ []) _ _ _ _ _ _ _ _ c.requires.known (returns-clause-row c) c.in_ok-end.ensures.mark
