@@ -81,8 +81,9 @@ impl Default for HandlerId {
     }
 }
 
-/// An object that tasks share, by its index among all of them: 0 to 31. Queues come first, then binary semaphores, counting
-/// ones and mutexes, those of a kind in the order of the file.
+/// An object that tasks share, by its index among all of them: 0 to 32. Queues come first, then binary semaphores, counting
+/// ones and mutexes, those of a kind in the order of the file. A file has 32 at most, so that one number is left, for a queue
+/// that is in no file.
 #[derive(Clone, Copy, PartialEq, Eq)]
 pub struct ObjectId {
     pub number: u8,
@@ -96,18 +97,18 @@ impl Model for ObjectId {
 
     ghost view = { λ object. object.number };
 
-    ghost invariant = { λ object. object.number < 32 };
+    ghost invariant = { λ object. object.number < 33 };
 
     ghost inverse = { λ number. record { number = number } };
 }
 
 impl ObjectId {
-    /// The object of this index; `None` from 32 on.
+    /// The object of this index; `None` from 33 on.
     pub fn new(number: u8) -> Option<Self>
-        ensures known { IsSome result ↔ (number < 32) }
+        ensures known { IsSome result ↔ (number < 33) }
         ensures value { IfSome result (λ object. object ≡ number) }
     {
-        if number < 32 {
+        if number < 33 {
             Some(ObjectId { number })
         } else {
             None

@@ -3,6 +3,7 @@ use Rattle.std.proofs.Common.{◌≡◌, ℕ, ◌+◌, ◌<◌, ◌≤◌, inl, 
 use Rattle.std.proofs.lemmas.Bool.{cases_lt}
 use Rattle.std.proofs.lemmas.List.{get_or_default}
 use Rattle.model.specs.State.{no_object}
+use Rattle.objects.specs.Places.{last_place, object_places}
 use Rattle.objects.specs.Items.{object_in}
 use Rattle.objects.specs.Rings.{Fields, IsFront, base_of, count_of, head_of, listed, object_of, objects_of, place, ring, size_of, wrap}
 use Rattle.objects.proofs.Listed.{listed-same}
@@ -12,19 +13,19 @@ use Rattle.objects.proofs.Rings.{object-is, place-in}
 abbrev pub AreAlike : Fields → Fields → ℕ → ℕ → Type 0
 AreAlike a b q count = (k : ℕ) → k < count → get_or a.pool (place a q k) 0 ≡ get_or b.pool (place b q k) 0
 
-pub same_queue : (a b : Fields) (q : ℕ) → q < 32 → size_of a q ≡ size_of b q → count_of a q ≡ count_of b q → AreAlike a b q (count_of a q) → object_in (objects_of a) q ≡ object_in (objects_of b) q
+pub same_queue : (a b : Fields) (q : ℕ) → q < object_places → size_of a q ≡ size_of b q → count_of a q ≡ count_of b q → AreAlike a b q (count_of a q) → object_in (objects_of a) q ≡ object_in (objects_of b) q
 same_queue a b q hq sizes counts alike =
     let items : ring a q ≡ ring b q =
     listed-same (λ k. get_or a.pool (place a q k) 0) (λ k. get_or b.pool (place b q k) 0) (count_of a q) alike
     ∙ ap (listed (λ k. get_or b.pool (place b q k) 0)) counts in
     object-is a q hq ∙ ap₂ (λ (size : ℕ) (xs : List ℕ). record no_object { size = size; items = xs }) sizes items ∙ sym (object-is b q hq)
 
-pub same_queues : (a b : Fields) → ((q : ℕ) → q < 32 → object_in (objects_of a) q ≡ object_in (objects_of b) q) → objects_of a ≡ objects_of b
+pub same_queues : (a b : Fields) → ((q : ℕ) → q < object_places → object_in (objects_of a) q ≡ object_in (objects_of b) q) → objects_of a ≡ objects_of b
 unfolding objects_of
-same_queues a b same = listed-same (object_of a) (object_of b) 32 (λ q hq. sym (object-is a q hq) ∙ same q hq ∙ object-is b q hq)
+same_queues a b same = listed-same (object_of a) (object_of b) object_places (λ q hq. sym (object-is a q hq) ∙ same q hq ∙ object-is b q hq)
 
 -- item k of a queue, which is read `at` places behind the base, lies in the front of a pool
-module _ {a : Fields} (h : IsFront a) (q k size at : ℕ) (hq : q < 32) (hk : k < count_of a q) (sizes : size ≡ size_of a q) (steps : at ≡ wrap size (head_of a q + k)) where
+module _ {a : Fields} (h : IsFront a) (q k size at : ℕ) (hq : q < object_places) (hk : k < count_of a q) (sizes : size ≡ size_of a q) (steps : at ≡ wrap size (head_of a q + k)) where
   place_is : base_of a q + at ≡ place a q k
   place_is = ap (λ (p : ℕ). base_of a q + p) (steps ∙ ap (λ (n : ℕ). wrap n (head_of a q + k)) sizes)
 
@@ -34,10 +35,10 @@ module _ {a : Fields} (h : IsFront a) (q k size at : ℕ) (hq : q < 32) (hk : k 
       let here = (place-in h.storage q k hq (omega (arith, few, hk))).1 in
       let is = place_is in
       let front = h.front in
-      elim (cases_lt q 31) [
-        | inl less ↦ let far = h.storage.apart q 31 less (omega arith) in omega (arith, is, here, front, far)
+      elim (cases_lt q last_place) [
+        | inl less ↦ let far = h.storage.apart q last_place less (omega arith) in omega (arith, is, here, front, far)
         | inr more ↦
-            let end : base_of a q + size_of a q ≡ base_of a 31 + size_of a 31 = ap (λ (r : ℕ). base_of a r + size_of a r) (omega (arith, hq, more)) in
+            let end : base_of a q + size_of a q ≡ base_of a last_place + size_of a last_place = ap (λ (r : ℕ). base_of a r + size_of a r) (omega (arith, hq, more)) in
             omega (arith, is, here, front, end)
       ]
 

@@ -9,6 +9,7 @@ use Rattle.model.specs.declared.object.ObjectKind.TheVariants.{Queue, Semaphore,
 use Rattle.model.specs.Scripts.{IsObjectKind}
 use Rattle.model.specs.State.{Object, no_object}
 use Rattle.model.specs.Step.{object_at_reset}
+use Rattle.objects.specs.Places.{object_places}
 
 -- the number of an object of this index
 abbrev pub number_at : (Object → ℕ) → List ObjectKind → ℕ → ℕ
@@ -18,21 +19,21 @@ number_at f kinds i = f (get_or (map object_at_reset kinds) i no_object)
 pub record IsFilled (f : Object → ℕ) (kinds : List ObjectKind) (xs : List ℕ) (i : ℕ) : Type 0 where
   pub done : (j : ℕ) → j < i → get_or xs j 0 ≡ number_at f kinds j
   pub rest : (j : ℕ) → i ≤ j → get_or xs j 0 ≡ 0
-  pub full : length xs ≡ 32
+  pub full : length xs ≡ object_places
 
 nothing : (n i : ℕ) → let none : ℕ = 0 in get_or (replicate n none) i none ≡ none
 nothing zero i = refl
 nothing (suc n) zero = refl
 nothing (suc n) (suc i) = nothing n i
 
-pub nothing_small : (i : ℕ) → let none : ℕ = 0 in get_or (replicate 32 none) i none < 65536
-nothing_small i = rw (nothing 32 i) (omega arith)
+pub nothing_small : (i : ℕ) → let none : ℕ = 0 in get_or (replicate object_places none) i none < 65536
+nothing_small i = rw (nothing object_places i) (omega arith)
 
 module _ (f : Object → ℕ) (kinds : List ObjectKind) where
-  pub filled_none : IsFilled f kinds (let none : ℕ = 0 in replicate 32 none) 0
-  filled_none = record { done = λ j l. absurd (omega (arith, l)); rest = λ j l. nothing 32 j; full = refl }
+  pub filled_none : IsFilled f kinds (let none : ℕ = 0 in replicate object_places none) 0
+  filled_none = record { done = λ j l. absurd (omega (arith, l)); rest = λ j l. nothing object_places j; full = refl }
 
-  pub filled_one_more : (xs : List ℕ) (i v : ℕ) (k : ObjectKind) → length kinds ≤ 32 → i < length kinds → v ≡ f (object_at_reset (get_or kinds i k)) → IsFilled f kinds xs i → IsFilled f kinds (set xs i v) (i + 1)
+  pub filled_one_more : (xs : List ℕ) (i v : ℕ) (k : ObjectKind) → length kinds ≤ object_places → i < length kinds → v ≡ f (object_at_reset (get_or kinds i k)) → IsFilled f kinds xs i → IsFilled f kinds (set xs i v) (i + 1)
   filled_one_more xs i v k few l e h = record {
     done = λ j m. elim (cases_eq j i) [
       | inl same ↦

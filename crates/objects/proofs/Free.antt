@@ -17,6 +17,7 @@ use Rattle.model.proofs.Lists.{HasKey, eqb-refl, eqb-same, list_has, list_withou
 use Rattle.model.proofs.Members.{has_task-key}
 use Rattle.task_lists.specs.Priorities.{with_priorities}
 use Rattle.task_lists.proofs.Priorities.{has_node-with_priorities}
+use Rattle.objects.specs.Places.{list_places}
 use Rattle.objects.specs.WaitingLists.{number_of, waiting_in}
 use Rattle.task_lists.specs.Tasks.{insert_by_priority}
 use Rattle.objects.specs.WaitersStand.{Decider, standing}
@@ -127,17 +128,17 @@ wait_cases None P n w = n refl
 wait_cases (Some x) P n w = w x refl
 
 -- It is, where it waits.
-pub waiting_is : (v : List (List (ℕ × ℕ))) (s : State) (i : ℕ) → IsSound 64 32 v → ((list : WaitList) → has_node i (waiting_in v list) ≡ has_node i (with_priorities (standing s list))) → is_some (place_of v i) ≡ is_some (wait_of (status_at s i))
+pub waiting_is : (v : List (List (ℕ × ℕ))) (s : State) (i : ℕ) → IsSound list_places 32 v → ((list : WaitList) → has_node i (waiting_in v list) ≡ has_node i (with_priorities (standing s list))) → is_some (place_of v i) ≡ is_some (wait_of (status_at s i))
 waiting_is v s i sound listed = wait_cases (wait_of (status_at s i)) (λ o. is_some (place_of v i) ≡ is_some o)
     (λ none. ap is_some (no_place v i (λ list. apart_from_test i (waiting_in v list) (listed list ∙ has_node-apart i (with_priorities (standing s list)) (standing_apart s i list (no_wait s i list none))))))
     (λ w is.
     let keyed : standing_key w.list (task_at s i) ≡ Some (key w.priority w.ticket) = ap (option_and_then (wait_key w.list)) is ∙ (let t = same_list-refl w.list in rw t refl) in
     ap is_some (sound.one_place i (number_of w.list) (listed w.list ∙ standing_has s i w.list (key w.priority w.ticket) keyed)))
 
-pub stands_waiting : (v : Exchange) (s : State) (i : ℕ) → IsSound 64 32 v.waiting → StandsFor v None s → is_some (place_of v.waiting i) ≡ is_some (wait_of (status_at s i))
+pub stands_waiting : (v : Exchange) (s : State) (i : ℕ) → IsSound list_places 32 v.waiting → StandsFor v None s → is_some (place_of v.waiting i) ≡ is_some (wait_of (status_at s i))
 stands_waiting v s i sound h = waiting_is v.waiting s i sound (λ list. ap (has_node i) (h.waiters.lists list))
 
-pub stands_placing : (v : Exchange) (s : State) (d : Decider) (i : ℕ) → IsSound 64 32 v.waiting → StandsFor v (Some d) s → is_some (place_of v.waiting i) ≡ (not (i == d.task) && is_some (wait_of (status_at s i)))
+pub stands_placing : (v : Exchange) (s : State) (d : Decider) (i : ℕ) → IsSound list_places 32 v.waiting → StandsFor v (Some d) s → is_some (place_of v.waiting i) ≡ (not (i == d.task) && is_some (wait_of (status_at s i)))
 stands_placing v s d i sound h = by_test (i == d.task)
     (λ t. rw t (ap is_some (subst (λ (k : ℕ). place_of v.waiting k ≡ None) (sym (eqb-same i d.task t)) (still_free v s d h))))
     (λ t. rw t (waiting_is v.waiting s i sound (others_listed v s d h i (λ e. let u : eqb i d.task ≡ true = rw e (eqb-refl i) in absurd cc))))

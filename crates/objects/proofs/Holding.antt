@@ -5,6 +5,7 @@ use Rattle.std.proofs.lemmas.List.{get_or-replicate, get_or-set_same, get_or-set
 use Rattle.model.specs.Switching.{is_same}
 use Rattle.model.proofs.Sorting.{by_test}
 use Rattle.model.proofs.Lists.{eqb-apart, eqb-refl}
+use Rattle.objects.specs.Places.{object_places}
 use Rattle.objects.specs.Mutexes.{AreMutexes, count_held, holder_in}
 
 -- 1 where this task is the holder
@@ -34,19 +35,19 @@ none_held : (task n : ℕ) → count_held task (replicate n None) ≡ 0
 none_held task zero = refl
 none_held task (suc n) = none_held task n
 
-pub free_at_first : AreMutexes (replicate 32 None) (let none : ℕ = 0 in replicate 32 none)
+pub free_at_first : AreMutexes (replicate object_places None) (let none : ℕ = 0 in replicate 32 none)
 free_at_first = record {
   as_many = refl;
   for_all = refl;
-  counted = λ task l. get_or-replicate 32 task 0 0 l ∙ sym (none_held task 32);
+  counted = λ task l. get_or-replicate 32 task 0 0 l ∙ sym (none_held task object_places);
 }
 
 -- A holder of one more, and of one less: the counts of the others stay.
-module _ (holders : List (Option ℕ)) (held : List ℕ) (h : AreMutexes holders held) (o : ℕ) (known : o < 32) where
+module _ (holders : List (Option ℕ)) (held : List ℕ) (h : AreMutexes holders held) (o : ℕ) (known : o < object_places) where
   there : o < length holders
   there = let n = h.as_many in omega (arith, n, known)
 
-  pub few_held : (task : ℕ) → task < 32 → get_or held task 0 ≤ 32
+  pub few_held : (task : ℕ) → task < 32 → get_or held task 0 ≤ object_places
   few_held task l =
       let n = h.as_many in
       let most = count_most task holders in

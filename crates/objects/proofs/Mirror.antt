@@ -7,6 +7,7 @@ use Rattle.std.proofs.lemmas.List.{length-map, get_or-map, get_or_past}
 use Rattle.lists.specs.Lists.{Each, EachOnce, IsSound, entries_of, first_of, has_node, insert_sorted, place_of, without}
 use Rattle.lists.proofs.Entries.{Each-insert_sorted, Each-without, insert_sorted-after, insert_sorted-before, without-other, without-same}
 use Rattle.lists.proofs.Laws.{entries_of-set_other, entries_of-set_same, entries_of-without}
+use Rattle.objects.specs.Places.{list_places}
 use Rattle.objects.specs.WaitingLists.{AreWaitingLists, mirror, mirrored}
 use Rattle.task_lists.specs.Tasks.{insert_by_priority}
 
@@ -97,20 +98,20 @@ sound-mirrored {L} {N} {ls} h =
 
 -- what the calls make of the lists of the table
 
-pub are_waiting_empty : (n : ℕ) → IsSound 64 32 (replicate n []) → AreWaitingLists (replicate n [])
+pub are_waiting_empty : (n : ℕ) → IsSound list_places 32 (replicate n []) → AreWaitingLists (replicate n [])
 are_waiting_empty n sound = record { sound = sound; known = λ l. none n l } where
   none : (m l : ℕ) → Each (λ e. e.1 ≤ 31) (entries_of (replicate m []) l)
   none zero l = tt
   none (suc m) zero = tt
   none (suc m) (suc l) = none m l
 
-pub are_waiting_without : {ls : List (List (ℕ × ℕ))} → AreWaitingLists ls → (n : ℕ) → IsSound 64 32 (map (without n) ls) → AreWaitingLists (map (without n) ls)
+pub are_waiting_without : {ls : List (List (ℕ × ℕ))} → AreWaitingLists ls → (n : ℕ) → IsSound list_places 32 (map (without n) ls) → AreWaitingLists (map (without n) ls)
 are_waiting_without {ls} h n sound = record {
   sound = sound;
   known = λ l. subst (Each (λ e. e.1 ≤ 31)) (sym (entries_of-without n l ls)) (Each-without (λ e. e.1 ≤ 31) n (entries_of ls l) (h.known l));
 }
 
-pub are_waiting_put : {ls : List (List (ℕ × ℕ))} → AreWaitingLists ls → (l n v : ℕ) → l < 64 → v ≤ 31 → IsSound 64 32 (set ls l (insert_sorted (n, v) (entries_of ls l))) → AreWaitingLists (set ls l (insert_sorted (n, v) (entries_of ls l)))
+pub are_waiting_put : {ls : List (List (ℕ × ℕ))} → AreWaitingLists ls → (l n v : ℕ) → l < list_places → v ≤ 31 → IsSound list_places 32 (set ls l (insert_sorted (n, v) (entries_of ls l))) → AreWaitingLists (set ls l (insert_sorted (n, v) (entries_of ls l)))
 are_waiting_put {ls} h l n v below fits sound = record {
   sound = sound;
   known = λ k. elim (cases_eq k l) [

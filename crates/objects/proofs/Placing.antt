@@ -13,6 +13,7 @@ use Rattle.model.specs.Waiting.{same_list, wait_in}
 use Rattle.model.proofs.Sorting.{by_test}
 use Rattle.model.proofs.Tables.{table-taken, ticket_at}
 use Rattle.task_lists.specs.Priorities.{with_priorities}
+use Rattle.objects.specs.Places.{list_places}
 use Rattle.objects.specs.WaitingLists.{number_of, waiting_in}
 use Rattle.task_lists.specs.Tasks.{insert_by_priority}
 use Rattle.objects.specs.WaitersStand.{Decider, WaitersStand, joined_by, standing}
@@ -53,7 +54,7 @@ module _ (v : List (List (ℕ × ℕ))) (i : ℕ) (absent : (list : WaitList) �
       takes t q (task_at s i).priority (call_at s i).deadline before (subst (λ (k : ℕ). i < k) (sym (length-set s.tasks i u)) l)
 
 -- It is placed: the lists come to be what they were counted as.
-pub stands_placed : (v : List (List (ℕ × ℕ))) (s : State) (q : WaitList) (p i : ℕ) → length v ≡ 64 → number_of q < 64 → WaitersStand v (Some (record { task = i; list = q; priority = p })) s
+pub stands_placed : (v : List (List (ℕ × ℕ))) (s : State) (q : WaitList) (p i : ℕ) → length v ≡ list_places → number_of q < list_places → WaitersStand v (Some (record { task = i; list = q; priority = p })) s
     → WaitersStand (set v (number_of q) (insert_by_priority (i, p) (waiting_in v q))) None s
 stands_placed v s q p i many known h =
     let new : List (ℕ × ℕ) = insert_by_priority (i, p) (waiting_in v q) in
@@ -71,7 +72,7 @@ stands_placed v s q p i many known h =
     }
 
 -- Both at once.
-pub stands_begun : (v : List (List (ℕ × ℕ))) (s : State) (q : WaitList) (p i : ℕ) → IsSound 64 32 v → place_of v i ≡ None → number_of q < 64 → WaitersStand v None s → i < length s.tasks → (task_at s i).priority ≡ p
+pub stands_begun : (v : List (List (ℕ × ℕ))) (s : State) (q : WaitList) (p i : ℕ) → IsSound list_places 32 v → place_of v i ≡ None → number_of q < list_places → WaitersStand v None s → i < length s.tasks → (task_at s i).priority ≡ p
     → WaitersStand (set v (number_of q) (insert_by_priority (i, p) (waiting_in v q))) None (wait_in i q s)
 stands_begun v s q p i sound free known h l priority =
     stands_placed v (wait_in i q s) q p i sound.as_many known

@@ -19,6 +19,7 @@ use Rattle.model.proofs.Lists.{HasKey, list_has}
 use Rattle.model.proofs.Resets.{call-reset, holders-reset, none_taken}
 use Rattle.model.proofs.Tables.{each-set, table-make_ready}
 use Rattle.model.proofs.Unlocking.{locked-all_ready}
+use Rattle.objects.specs.Places.{object_places}
 use Rattle.objects.specs.Items.{object_in}
 use Rattle.objects.specs.Semaphores.{Counts, count_in, max_count_in}
 use Rattle.objects.specs.Mutexes.{holder_in}
@@ -85,15 +86,15 @@ none_held zero o = refl
 none_held (suc n) zero = refl
 none_held (suc n) (suc o) = none_held n o
 
-pub objects_fresh : (kinds : List ObjectKind) (queues : List Object) (semaphores : Counts) (mutexes : List (Option ℕ)) → length kinds ≤ 32
+pub objects_fresh : (kinds : List ObjectKind) (queues : List Object) (semaphores : Counts) (mutexes : List (Option ℕ)) → length kinds ≤ object_places
     → ((o : ℕ) → object_in queues o ≡ record no_object { size = (get_or (map object_at_reset kinds) o no_object).size })
     → ((o : ℕ) → max_count_in semaphores o ≡ (get_or (map object_at_reset kinds) o no_object).max_count)
     → ((o : ℕ) → count_in semaphores o ≡ (get_or (map object_at_reset kinds) o no_object).count)
-    → mutexes ≡ replicate 32 None
+    → mutexes ≡ replicate object_places None
     → (o : ℕ) → object_in (objects_of_all queues semaphores mutexes) o ≡ get_or (map object_at_reset kinds) o no_object
-objects_fresh kinds queues semaphores mutexes few empty most first free o = elim (cases_lt o 32) [
+objects_fresh kinds queues semaphores mutexes few empty most first free o = elim (cases_lt o object_places) [
   | inl below ↦
-      let held : holder_in mutexes o ≡ None = ap (λ (hs : List (Option ℕ)). holder_in hs o) free ∙ none_held 32 o in
+      let held : holder_in mutexes o ≡ None = ap (λ (hs : List (Option ℕ)). holder_in hs o) free ∙ none_held object_places o in
       object_is queues semaphores mutexes o below ∙ rw (empty o, most o, first o, held) (bare kinds o)
   | inr past ↦ object_past queues semaphores mutexes o past ∙ sym (get_or_past (map object_at_reset kinds) o no_object (rw length-map (omega (arith, few, past))))
 ]

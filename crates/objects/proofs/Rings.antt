@@ -5,6 +5,7 @@ use Rattle.std.proofs.Math.Seq.{take-append_seam}
 use Rattle.std.proofs.lemmas.Bool.{cases_eq, cases_lt, lt-ltb, le-ltb}
 use Rattle.std.specs.Prelude.{nat_lt, slice_get}
 use Rattle.model.specs.State.{Object, no_object}
+use Rattle.objects.specs.Places.{item_places, last_place, object_places}
 use Rattle.objects.specs.Items.{IsSound, object_in, holding}
 use Rattle.objects.specs.Rings.{Fields, IsItems, IsFront, with_pool, listed, wrap, place, ring, object_of, objects_of, base_of, size_of, head_of, count_of}
 use Rattle.objects.proofs.Listed.{length-listed, get_or-listed, listed-same, listed-more, listed-set, listed-none, listed-first, listed-rest, listed-add, set-own}
@@ -59,32 +60,32 @@ wrap-back size head h = elim (cases_eq head 0) [
 ]
 
 -- the objects, as callers see them
-pub object-is : (a : Fields) (q : ℕ) → q < 32 → object_in (objects_of a) q ≡ object_of a q
+pub object-is : (a : Fields) (q : ℕ) → q < object_places → object_in (objects_of a) q ≡ object_of a q
 unfolding objects_of
-object-is a q h = get_or-listed (object_of a) 32 q no_object h
+object-is a q h = get_or-listed (object_of a) object_places q no_object h
 
 pub ring-length : (a : Fields) (q : ℕ) → length (ring a q) ≡ count_of a q
 ring-length a q = length-listed (λ k. get_or a.pool (place a q k) 0) (count_of a q)
 
-pub count-is : (a : Fields) (q : ℕ) → q < 32 → length (object_in (objects_of a) q).items ≡ count_of a q
+pub count-is : (a : Fields) (q : ℕ) → q < object_places → length (object_in (objects_of a) q).items ≡ count_of a q
 count-is a q h = ap (λ (o : Object). length o.items) (object-is a q h) ∙ ring-length a q
 
-pub size-is : (a : Fields) (q : ℕ) → q < 32 → (object_in (objects_of a) q).size ≡ size_of a q
+pub size-is : (a : Fields) (q : ℕ) → q < object_places → (object_in (objects_of a) q).size ≡ size_of a q
 size-is a q h = ap (λ (o : Object). o.size) (object-is a q h)
 
-no_more : (a : Fields) (q : ℕ) → 32 ≤ q → object_in (objects_of a) q ≡ no_object
+no_more : (a : Fields) (q : ℕ) → object_places ≤ q → object_in (objects_of a) q ≡ no_object
 unfolding objects_of
-no_more a q past = let as_many = length-listed (object_of a) 32 in get_or_past (listed (object_of a) 32) q no_object (omega (arith, as_many, past))
+no_more a q past = let as_many = length-listed (object_of a) object_places in get_or_past (listed (object_of a) object_places) q no_object (omega (arith, as_many, past))
 
 pub sound : {a : Fields} → IsItems a → IsSound (objects_of a)
 unfolding objects_of
 sound {a} h = record {
-  as_many = length-listed (object_of a) 32;
-  small = λ q. elim (cases_lt q 32) [
+  as_many = length-listed (object_of a) object_places;
+  small = λ q. elim (cases_lt q object_places) [
     | inl known ↦ let e = size-is a q known in let small = h.small q known in omega (arith, e, small)
     | inr past ↦ let e = ap (λ (o : Object). o.size) (no_more a q past) in omega (arith, e)
   ];
-  few = λ q. elim (cases_lt q 32) [
+  few = λ q. elim (cases_lt q object_places) [
     | inl known ↦ let e = count-is a q known in let f = size-is a q known in let few = h.few q known in omega (arith, e, f, few)
     | inr past ↦
         let e = ap (λ (o : Object). length o.items) (no_more a q past) in
@@ -98,14 +99,14 @@ written a q p x head count = record { pool = set a.pool p x; bases = a.bases; le
 
 module _ {a : Fields} (h : IsItems a) where
   -- the places of a queue lie in its region
-  pub place-in : (q k : ℕ) → q < 32 → k < size_of a q → (base_of a q ≤ place a q k) × (place a q k < base_of a q + size_of a q)
+  pub place-in : (q k : ℕ) → q < object_places → k < size_of a q → (base_of a q ≤ place a q k) × (place a q k < base_of a q + size_of a q)
   place-in q k hq hk =
       let head = h.started q hq (omega (arith, hk)) in
       let below = wrap-below (size_of a q) (head_of a q + k) (omega (arith, head, hk)) in
       (omega arith, omega (arith, below))
 
   -- they are apart from the region of another queue
-  pub place-apart : (q r k p : ℕ) → q < 32 → r < 32 → r ≢ q → k < size_of a r → base_of a q ≤ p → p < base_of a q + size_of a q → place a r k ≢ p
+  pub place-apart : (q r k p : ℕ) → q < object_places → r < object_places → r ≢ q → k < size_of a r → base_of a q ≤ p → p < base_of a q + size_of a q → place a r k ≢ p
   place-apart q r k p hq hr ne hk from to = λ same.
       let lies = place-in r k hr hk in
       let lies_from = lies.0 in
@@ -115,7 +116,7 @@ module _ {a : Fields} (h : IsItems a) where
         | inr more ↦ let far = h.apart r q (omega (arith, more, ne)) hq in omega (arith, far, from, lies_to, same)
       ]
 
-  module _ (q p x head count : ℕ) (hq : q < 32) (from : base_of a q ≤ p) (to : p < base_of a q + size_of a q) (hh : head < size_of a q) (hc : count ≤ size_of a q) where
+  module _ (q p x head count : ℕ) (hq : q < object_places) (from : base_of a q ≤ p) (to : p < base_of a q + size_of a q) (hh : head < size_of a q) (hc : count ≤ size_of a q) where
     pub here_head : head_of (written a q p x head count) q ≡ head
     here_head = let n = h.heads_length in get_or-set_same a.heads q head 0 (omega (arith, n, hq))
 
@@ -143,7 +144,7 @@ module _ {a : Fields} (h : IsItems a) where
     }
 
     -- another queue's items stay
-    other_ring : (r : ℕ) → r < 32 → r ≢ q → ring (written a q p x head count) r ≡ ring a r
+    other_ring : (r : ℕ) → r < object_places → r ≢ q → ring (written a q p x head count) r ≡ ring a r
     other_ring r hr ne =
         let few = h.few r hr in
         let same_head : head_of (written a q p x head count) r ≡ head_of a r = get_or-set_other a.heads q r head 0 ne in
@@ -160,11 +161,11 @@ module _ {a : Fields} (h : IsItems a) where
         let b = written a q p x head count in
         let here : ring b q ≡ xs =
         ap₂ (λ (i n : ℕ). listed (λ k. get_or (set a.pool p x) (base_of a q + wrap (size_of a q) (i + k)) 0) n) here_head here_count ∙ e in
-        listed-set (object_of a) (object_of b) 32 q hq (λ r hr ne. ap (λ (xs : List ℕ). record no_object { size = size_of a r; items = xs }) (other_ring r hr ne))
-        ∙ ap (λ (ys : List ℕ). set (listed (object_of a) 32) q (record no_object { size = size_of a q; items = ys })) here
+        listed-set (object_of a) (object_of b) object_places q hq (λ r hr ne. ap (λ (xs : List ℕ). record no_object { size = size_of a r; items = xs }) (other_ring r hr ne))
+        ∙ ap (λ (ys : List ℕ). set (listed (object_of a) object_places) q (record no_object { size = size_of a q; items = ys })) here
 
   -- an item is put behind the others
-  pub pushed_back : (q x : ℕ) → q < 32 → count_of a q < size_of a q → listed (λ k. get_or (set a.pool (place a q (count_of a q)) x) (place a q k) 0) (count_of a q + 1) ≡ ring a q ++ x ∷ []
+  pub pushed_back : (q x : ℕ) → q < object_places → count_of a q < size_of a q → listed (λ k. get_or (set a.pool (place a q (count_of a q)) x) (place a q k) 0) (count_of a q + 1) ≡ ring a q ++ x ∷ []
   pushed_back q x hq room =
       let p = place a q (count_of a q) in
       let head = h.started q hq (omega (arith, room)) in
@@ -180,7 +181,7 @@ module _ {a : Fields} (h : IsItems a) where
       listed-add f (count_of a q) ∙ listed-more f (count_of a q) ∙ ap₂ (λ (xs : List ℕ) (y : ℕ). xs ++ y ∷ []) kept last
 
   -- an item is put before the others
-  pub pushed_front : (q x head : ℕ) → q < 32 → count_of a q < size_of a q → head < size_of a q → wrap (size_of a q) (head + 1) ≡ head_of a q → listed (λ k. get_or (set a.pool (base_of a q + head) x) (base_of a q + wrap (size_of a q) (head + k)) 0) (count_of a q + 1) ≡ x ∷ ring a q
+  pub pushed_front : (q x head : ℕ) → q < object_places → count_of a q < size_of a q → head < size_of a q → wrap (size_of a q) (head + 1) ≡ head_of a q → listed (λ k. get_or (set a.pool (base_of a q + head) x) (base_of a q + wrap (size_of a q) (head + k)) 0) (count_of a q + 1) ≡ x ∷ ring a q
   pushed_front q x head hq room hh next =
       let size = size_of a q in
       let base = base_of a q in
@@ -200,7 +201,7 @@ module _ {a : Fields} (h : IsItems a) where
       listed-add (λ k. get_or (set a.pool p x) (base + wrap size (head + k)) 0) (count_of a q) ∙ ap₂ (λ (y : ℕ) (xs : List ℕ). y ∷ xs) first kept
 
   -- the first item of a queue that has one
-  pub first_at : (q : ℕ) → q < 32 → 0 < count_of a q → place a q 0 ≡ base_of a q + head_of a q
+  pub first_at : (q : ℕ) → q < object_places → 0 < count_of a q → place a q 0 ≡ base_of a q + head_of a q
   first_at q hq some =
       let few = h.few q hq in
       let head = h.started q hq (omega (arith, some, few)) in
@@ -213,14 +214,14 @@ pub record Becomes (b : Fields) (s : List Object) (q : ℕ) (xs : List ℕ) : Ty
   pub sound : IsSound (objects_of b)
 
 module _ {a : Fields} (h : IsItems a) {s : List Object} (seen : objects_of a ≡ s) where
-  pub room_is : (q : ℕ) → q < 32 → length (object_in s q).items < (object_in s q).size → count_of a q < size_of a q
+  pub room_is : (q : ℕ) → q < object_places → length (object_in s q).items < (object_in s q).size → count_of a q < size_of a q
   room_is q hq room =
       let r = subst (λ (t : List Object). length (object_in t q).items < (object_in t q).size) (sym seen) room in
       let count = count-is a q hq in
       let size = size-is a q hq in
       omega (arith, r, count, size)
 
-  becomes : (b : Fields) (q : ℕ) (f : List ℕ → List ℕ) → q < 32 → IsItems b → objects_of b ≡ set (objects_of a) q (record no_object { size = size_of a q; items = f (ring a q) }) → Becomes b s q (f (object_in s q).items)
+  becomes : (b : Fields) (q : ℕ) (f : List ℕ → List ℕ) → q < object_places → IsItems b → objects_of b ≡ set (objects_of a) q (record no_object { size = size_of a q; items = f (ring a q) }) → Becomes b s q (f (object_in s q).items)
   becomes b q f hq is items =
       let here : objects_of b ≡ set (objects_of a) q (holding (object_in (objects_of a) q) (f (object_in (objects_of a) q).items)) =
       items ∙ ap (λ (o : Object). set (objects_of a) q (holding o (f o.items))) (sym (object-is a q hq)) in
@@ -233,10 +234,10 @@ module _ {a : Fields} (h : IsItems a) {s : List Object} (seen : objects_of a ≡
   pub sound_is : IsSound s
   sound_is = subst IsSound seen (sound h)
 
-  pub no_first : (q : ℕ) → q < 32 → count_of a q ≡ 0 → (object_in s q).items ≡ []
+  pub no_first : (q : ℕ) → q < object_places → count_of a q ≡ 0 → (object_in s q).items ≡ []
   no_first q hq none = subst (λ (t : List Object). (object_in t q).items ≡ []) seen (ap (λ (o : Object). o.items) (object-is a q hq) ∙ listed-none (λ k. get_or a.pool (place a q k) 0) (count_of a q) none)
 
-  pub first_is : (q : ℕ) → q < 32 → 0 < count_of a q → Some (get_or a.pool (base_of a q + head_of a q) 0) ≡ slice_get (object_in s q).items 0
+  pub first_is : (q : ℕ) → q < object_places → 0 < count_of a q → Some (get_or a.pool (base_of a q + head_of a q) 0) ≡ slice_get (object_in s q).items 0
   first_is q hq some =
       let f : ℕ → ℕ = λ k. get_or a.pool (place a q k) 0 in
       subst (λ (t : List Object). Some (get_or a.pool (base_of a q + head_of a q) 0) ≡ slice_get (object_in t q).items 0) seen
@@ -244,19 +245,19 @@ module _ {a : Fields} (h : IsItems a) {s : List Object} (seen : objects_of a ≡
       ∙ sym (listed-first f (count_of a q) some)
       ∙ ap (λ (xs : List ℕ). slice_get xs 0) (sym (ap (λ (o : Object). o.items) (object-is a q hq))))
 
-  pub head_in : (q : ℕ) → q < 32 → 0 < size_of a q → base_of a q + head_of a q < 8192
+  pub head_in : (q : ℕ) → q < object_places → 0 < size_of a q → base_of a q + head_of a q < item_places
   head_in q hq some =
       let head = h.started q hq some in
       let fits = h.fits q hq in
       omega (arith, head, fits)
 
-  pub back_in : (q at : ℕ) → q < 32 → length (object_in s q).items < (object_in s q).size → at ≡ wrap (size_of a q) (head_of a q + count_of a q) → base_of a q + at < 8192
+  pub back_in : (q at : ℕ) → q < object_places → length (object_in s q).items < (object_in s q).size → at ≡ wrap (size_of a q) (head_of a q + count_of a q) → base_of a q + at < item_places
   back_in q at hq room is =
       let lies = (place-in h q (count_of a q) hq (room_is q hq room)).1 in
       let fits = h.fits q hq in
       omega (arith, lies, fits, is)
 
-  pub front_in : (q head : ℕ) → q < 32 → length (object_in s q).items < (object_in s q).size → head ≡ wrap (size_of a q) (head_of a q + size_of a q - 1) → base_of a q + head < 8192
+  pub front_in : (q head : ℕ) → q < object_places → length (object_in s q).items < (object_in s q).size → head ≡ wrap (size_of a q) (head_of a q + size_of a q - 1) → base_of a q + head < item_places
   front_in q head hq room is =
       let has = room_is q hq room in
       let old = h.started q hq (omega (arith, has)) in
@@ -264,7 +265,7 @@ module _ {a : Fields} (h : IsItems a) {s : List Object} (seen : objects_of a ≡
       let fits = h.fits q hq in
       omega (arith, below, fits, is)
 
-  pub room_left : (q : ℕ) → q < 32 → size_of a q - count_of a q + length (object_in s q).items ≡ (object_in s q).size
+  pub room_left : (q : ℕ) → q < object_places → size_of a q - count_of a q + length (object_in s q).items ≡ (object_in s q).size
   room_left q hq =
       let count = count-is a q hq in
       let size = size-is a q hq in
@@ -272,13 +273,13 @@ module _ {a : Fields} (h : IsItems a) {s : List Object} (seen : objects_of a ≡
       let e : size_of a q - count_of a q + length (object_in (objects_of a) q).items ≡ (object_in (objects_of a) q).size = omega (arith, count, size, few) in
       subst (λ (t : List Object). size_of a q - count_of a q + length (object_in t q).items ≡ (object_in t q).size) seen e
 
-  pub none_taken : (q : ℕ) → q < 32 → count_of a q ≡ 0 → s ≡ set s q (holding (object_in s q) (drop 1 (object_in s q).items))
+  pub none_taken : (q : ℕ) → q < object_places → count_of a q ≡ 0 → s ≡ set s q (holding (object_in s q) (drop 1 (object_in s q).items))
   none_taken q hq none =
       let e : (object_in s q).items ≡ [] = no_first q hq none in
       let same : holding (object_in s q) (drop 1 (object_in s q).items) ≡ object_in s q = ap (λ (xs : List ℕ). holding (object_in s q) (drop 1 xs)) e ∙ ap (holding (object_in s q)) (sym e) in
       sym (ap (set s q) same ∙ set-own s q no_object)
 
-  pub put_back : (q x at : ℕ) → q < 32 → length (object_in s q).items < (object_in s q).size → at ≡ wrap (size_of a q) (head_of a q + count_of a q)
+  pub put_back : (q x at : ℕ) → q < object_places → length (object_in s q).items < (object_in s q).size → at ≡ wrap (size_of a q) (head_of a q + count_of a q)
       → Becomes (record { pool = set a.pool (base_of a q + at) x; bases = a.bases; lengths = a.lengths; heads = a.heads; counts = set a.counts q (count_of a q + 1) }) s q ((object_in s q).items ++ x ∷ [])
   put_back q x at hq room is =
       let n = count_of a q in
@@ -293,7 +294,7 @@ module _ {a : Fields} (h : IsItems a) {s : List Object} (seen : objects_of a ≡
       subst (λ (i : ℕ). Becomes (record { pool = set a.pool (base_of a q + i) x; bases = a.bases; lengths = a.lengths; heads = a.heads; counts = set a.counts q (n + 1) }) s q ((object_in s q).items ++ x ∷ [])) (sym is)
       (subst (λ (heads : List ℕ). Becomes (b heads) s q ((object_in s q).items ++ x ∷ [])) (set-own a.heads q 0) made)
 
-  pub put_front : (q x head : ℕ) → q < 32 → length (object_in s q).items < (object_in s q).size → head ≡ wrap (size_of a q) (head_of a q + size_of a q - 1)
+  pub put_front : (q x head : ℕ) → q < object_places → length (object_in s q).items < (object_in s q).size → head ≡ wrap (size_of a q) (head_of a q + size_of a q - 1)
       → Becomes (record { pool = set a.pool (base_of a q + head) x; bases = a.bases; lengths = a.lengths; heads = set a.heads q head; counts = set a.counts q (count_of a q + 1) }) s q (x ∷ (object_in s q).items)
   put_front q x head hq room is =
       let n = count_of a q in
@@ -306,7 +307,7 @@ module _ {a : Fields} (h : IsItems a) {s : List Object} (seen : objects_of a ≡
       becomes (written a q p x head (n + 1)) q (λ xs. x ∷ xs) hq (written_is h q p x head (n + 1) hq (omega arith) (omega (arith, hh)) hh (omega (arith, has)))
       (written_queues h q p x head (n + 1) hq (omega arith) (omega (arith, hh)) hh (omega (arith, has)) (x ∷ ring a q) (pushed_front h q x head hq has hh next))
 
-  pub taken : (q head : ℕ) → q < 32 → 0 < count_of a q → head ≡ wrap (size_of a q) (head_of a q + 1)
+  pub taken : (q head : ℕ) → q < object_places → 0 < count_of a q → head ≡ wrap (size_of a q) (head_of a q + 1)
       → Becomes (record { pool = a.pool; bases = a.bases; lengths = a.lengths; heads = set a.heads q head; counts = set a.counts q (count_of a q - 1) }) s q (drop 1 (object_in s q).items)
   taken q head hq some is =
       let n = count_of a q in
@@ -332,13 +333,13 @@ module _ {a : Fields} (h : IsItems a) {s : List Object} (seen : objects_of a ≡
       (written_queues h q p x head (n - 1) hq (omega arith) (omega (arith, old)) hh (omega (arith, few)) (drop 1 (ring a q)) rest) in
       subst (λ (pool : List ℕ). Becomes (b pool) s q (drop 1 (object_in s q).items)) (set-own a.pool p 0) made
 
-  pub long_is : (q : ℕ) → q < 32 → 0 < (object_in s q).size → 0 < size_of a q
+  pub long_is : (q : ℕ) → q < object_places → 0 < (object_in s q).size → 0 < size_of a q
   long_is q hq long =
       let r = subst (λ (t : List Object). 0 < (object_in t q).size) (sym seen) long in
       let size = size-is a q hq in
       omega (arith, r, size)
 
-  pub replaced : (q x : ℕ) → q < 32 → 0 < (object_in s q).size
+  pub replaced : (q x : ℕ) → q < object_places → 0 < (object_in s q).size
       → Becomes (record { pool = set a.pool (base_of a q + head_of a q) x; bases = a.bases; lengths = a.lengths; heads = a.heads; counts = set a.counts q 1 }) s q (x ∷ [])
   replaced q x hq long =
       let size = size_of a q in
@@ -358,24 +359,24 @@ module _ {a : Fields} (h : IsItems a) {s : List Object} (seen : objects_of a ≡
       subst (λ (heads : List ℕ). Becomes (b heads) s q (x ∷ [])) (set-own a.heads q 0) made
 
 -- a pool that is the same as far as the last region ends holds the same queues
-pub same_front : {a : Fields} → IsItems a → (pool : List ℕ) → ((i : ℕ) → i < base_of a 31 + size_of a 31 → get_or pool i 0 ≡ get_or a.pool i 0) → objects_of (record { pool = pool; bases = a.bases; lengths = a.lengths; heads = a.heads; counts = a.counts }) ≡ objects_of a
+pub same_front : {a : Fields} → IsItems a → (pool : List ℕ) → ((i : ℕ) → i < base_of a last_place + size_of a last_place → get_or pool i 0 ≡ get_or a.pool i 0) → objects_of (record { pool = pool; bases = a.bases; lengths = a.lengths; heads = a.heads; counts = a.counts }) ≡ objects_of a
 unfolding objects_of
 same_front {a} h pool same =
     let b : Fields = record { pool = pool; bases = a.bases; lengths = a.lengths; heads = a.heads; counts = a.counts } in
-    listed-same (object_of b) (object_of a) 32 (λ q hq. ap (λ (xs : List ℕ). record no_object { size = size_of a q; items = xs })
+    listed-same (object_of b) (object_of a) object_places (λ q hq. ap (λ (xs : List ℕ). record no_object { size = size_of a q; items = xs })
     (listed-same (λ k. get_or pool (place a q k) 0) (λ k. get_or a.pool (place a q k) 0) (count_of a q) (λ k hk.
     let few = h.few q hq in
     let lies = (place-in h q k hq (omega (arith, hk, few))).1 in
-    same (place a q k) (elim (cases_lt q 31) [
-      | inl less ↦ let far = h.apart q 31 less (omega arith) in omega (arith, far, lies)
-      | inr last ↦ let is : q ≡ 31 = omega (arith, last, hq) in subst (λ (r : ℕ). place a q k < base_of a r + size_of a r) is lies
+    same (place a q k) (elim (cases_lt q last_place) [
+      | inl less ↦ let far = h.apart q last_place less (omega arith) in omega (arith, far, lies)
+      | inr last ↦ let is : q ≡ last_place = omega (arith, last, hq) in subst (λ (r : ℕ). place a q k < base_of a r + size_of a r) is lies
     ]))))
 
 -- a pool whose front is copied
-pub copied : {a : Fields} → IsItems a → (front back : List ℕ) → front ≡ take (base_of a 31 + size_of a 31) a.pool → objects_of (record { pool = front ++ back; bases = a.bases; lengths = a.lengths; heads = a.heads; counts = a.counts }) ≡ objects_of a
+pub copied : {a : Fields} → IsItems a → (front back : List ℕ) → front ≡ take (base_of a last_place + size_of a last_place) a.pool → objects_of (record { pool = front ++ back; bases = a.bases; lengths = a.lengths; heads = a.heads; counts = a.counts }) ≡ objects_of a
 copied {a} h front back e =
-    let used = base_of a 31 + size_of a 31 in
-    let fits = h.fits 31 (omega arith) in
+    let used = base_of a last_place + size_of a last_place in
+    let fits = h.fits last_place (omega arith) in
     let pool = h.pool_length in
     let len : length front ≡ used = ap length e ∙ length-take used a.pool ∙ omega (arith, fits, pool) in
     same_front h (front ++ back) (λ i hi.
@@ -384,11 +385,11 @@ copied {a} h front back e =
 -- ---- a storage without what lies behind its last region
 
 -- It is the front of the storage's pool, and holds the same queues.
-module _ {a : Fields} (h : IsItems a) (front : List ℕ) (e : front ≡ take (base_of a 31 + size_of a 31) a.pool) where
+module _ {a : Fields} (h : IsItems a) (front : List ℕ) (e : front ≡ take (base_of a last_place + size_of a last_place) a.pool) where
   pub front_is : IsFront (with_pool front a)
   front_is =
-      let used = base_of a 31 + size_of a 31 in
-      let fits = h.fits 31 (omega arith) in
+      let used = base_of a last_place + size_of a last_place in
+      let fits = h.fits last_place (omega arith) in
       let pool = h.pool_length in
       record {
         back = drop used a.pool;
@@ -401,7 +402,7 @@ module _ {a : Fields} (h : IsItems a) (front : List ℕ) (e : front ≡ take (ba
 
 -- Whatever comes behind it, it holds the same queues.
 module _ {a : Fields} (h : IsFront a) (back : List ℕ) where
-  refilled_front : a.pool ≡ take (base_of a 31 + size_of a 31) (a.pool ++ h.back)
+  refilled_front : a.pool ≡ take (base_of a last_place + size_of a last_place) (a.pool ++ h.back)
   refilled_front = sym (ap (λ (n : ℕ). take n (a.pool ++ h.back)) (sym h.front) ∙ take-append_seam a.pool h.back)
 
   pub refilled : objects_of (with_pool (a.pool ++ back) a) ≡ objects_of a

@@ -9,6 +9,7 @@ use Rattle.lists.proofs.Laws.{without-first, without-others, entries_of-set_same
 use Rattle.model.specs.declared.call.WaitList.{WaitList}
 use Rattle.model.specs.State.{State, for_each}
 use Rattle.model.specs.Switching.{make_ready}
+use Rattle.objects.specs.Places.{list_places}
 use Rattle.objects.specs.WaitingLists.{number_of, waiting_in}
 use Rattle.task_lists.specs.Tasks.{tasks_in}
 use Rattle.objects.specs.WaitersStand.{WaitersStand}
@@ -36,7 +37,7 @@ head_below ls l n first = elim (cases_lt l (length ls)) [
 ]
 
 -- without its first task a list is the rest of it, and the others stay
-pub first_out : (ls : List (List (ℕ × ℕ))) (l n : ℕ) → IsSound 64 32 ls → Some n ≡ first_of (entries_of ls l) → map (without n) ls ≡ set ls l (drop 1 (entries_of ls l))
+pub first_out : (ls : List (List (ℕ × ℕ))) (l n : ℕ) → IsSound list_places 32 ls → Some n ≡ first_of (entries_of ls l) → map (without n) ls ≡ set ls l (drop 1 (entries_of ls l))
 first_out ls l n sound first =
     let h = first_split n (entries_of ls l) first in
     let rest : List (ℕ × ℕ) = h.1 in
@@ -73,7 +74,7 @@ none_out ls l first = sym (set-self ls l (drop 1 (entries_of ls l)) (none (entri
 pub record TakenOut (old new : List (List (ℕ × ℕ))) (list : WaitList) (count : ℕ) (taken : List ℕ) : Type 0 where
   pub tasks : taken ≡ take count (tasks_in (waiting_in old list))
   pub left : new ≡ set old (number_of list) (drop count (waiting_in old list))
-  pub sound : IsSound 64 32 new
+  pub sound : IsSound list_places 32 new
   -- those taken became Ready, one after another
   pub woken : (s : State) → WaitersStand old None s → WaitersStand new None (for_each make_ready taken s)
 
@@ -99,7 +100,7 @@ take-last (suc k) [] e = refl
 take-last zero (x ∷ xs) e = absurd (none-some x.0 e)
 take-last (suc k) (x ∷ xs) e = ap (λ (ms : List ℕ). x.0 ∷ ms) (take-last k xs e)
 
-module _ (old new : List (List (ℕ × ℕ))) (list : WaitList) (count : ℕ) (taken : List ℕ) (sound : IsSound 64 32 old) (h : TakenOut old new list count taken) where
+module _ (old new : List (List (ℕ × ℕ))) (list : WaitList) (count : ℕ) (taken : List ℕ) (sound : IsSound list_places 32 old) (h : TakenOut old new list count taken) where
   -- what is left of the list
   left_in : waiting_in new list ≡ drop count (waiting_in old list)
   left_in = ap (λ (ls : List (List (ℕ × ℕ))). waiting_in ls list) h.left ∙ entries_of-dropped old (number_of list) count
@@ -111,7 +112,7 @@ module _ (old new : List (List (ℕ × ℕ))) (list : WaitList) (count : ℕ) (t
       ∙ ap (λ (ls : List (List (ℕ × ℕ))). set ls (number_of list) (drop (suc count) (waiting_in old list))) h.left
       ∙ set-set old (number_of list) (drop count (waiting_in old list)) (drop (suc count) (waiting_in old list))
 
-  pub takes_next : (n : ℕ) → Some n ≡ first_of (waiting_in new list) → (newer : List (List (ℕ × ℕ))) → newer ≡ set new (number_of list) (drop 1 (waiting_in new list)) → IsSound 64 32 newer
+  pub takes_next : (n : ℕ) → Some n ≡ first_of (waiting_in new list) → (newer : List (List (ℕ × ℕ))) → newer ≡ set new (number_of list) (drop 1 (waiting_in new list)) → IsSound list_places 32 newer
       → ((s : State) → WaitersStand new None s → WaitersStand newer None (make_ready n s)) → TakenOut old newer list (suc count) (taken ++ n ∷ [])
   takes_next n first newer is s more = record {
     tasks = ap (λ (ms : List ℕ). ms ++ n ∷ []) h.tasks ∙ take-next count n (waiting_in old list) (first ∙ ap first_of left_in);
@@ -120,7 +121,7 @@ module _ (old new : List (List (ℕ × ℕ))) (list : WaitList) (count : ℕ) (t
     woken = λ s stand. subst (WaitersStand newer None) (sym (each_more s taken n)) (more (for_each make_ready taken s) (h.woken s stand));
   }
 
-  pub takes_no_more : None ≡ first_of (waiting_in new list) → (newer : List (List (ℕ × ℕ))) → newer ≡ set new (number_of list) (drop 1 (waiting_in new list)) → IsSound 64 32 newer
+  pub takes_no_more : None ≡ first_of (waiting_in new list) → (newer : List (List (ℕ × ℕ))) → newer ≡ set new (number_of list) (drop 1 (waiting_in new list)) → IsSound list_places 32 newer
       → ((s : State) → WaitersStand new None s → WaitersStand newer None s) → TakenOut old newer list (suc count) taken
   takes_no_more first newer is s more = record {
     tasks = h.tasks ∙ take-last count (waiting_in old list) (first ∙ ap first_of left_in);

@@ -5,6 +5,7 @@ use Rattle.std.proofs.lemmas.List.{get_or-set_same, get_or-set_other, get_or_pas
 use Rattle.model.specs.State.{Object, no_object}
 use Rattle.model.specs.Switching.{is_same}
 use Rattle.model.proofs.Sorting.{by_test}
+use Rattle.objects.specs.Places.{object_places}
 use Rattle.objects.specs.declared.queues.Queues.TheInside.{Inside}
 use Rattle.objects.specs.contracts.queues.Queues.{the_view}
 use Rattle.objects.specs.Items.{holding, object_in}
@@ -15,23 +16,23 @@ use Rattle.objects.specs.Queues.{Exchange}
 use Rattle.objects.proofs.Listed.{get_or-listed, length-listed, listed-set}
 
 module _ (queues : List Object) (semaphores : Counts) (mutexes : List (Option ℕ)) where
-  pub object_is : (o : ℕ) → o < 32 → object_in (objects_of_all queues semaphores mutexes) o ≡ object_of_all queues semaphores mutexes o
+  pub object_is : (o : ℕ) → o < object_places → object_in (objects_of_all queues semaphores mutexes) o ≡ object_of_all queues semaphores mutexes o
   unfolding objects_of_all
-  object_is o h = get_or-listed (object_of_all queues semaphores mutexes) 32 o no_object h
+  object_is o h = get_or-listed (object_of_all queues semaphores mutexes) object_places o no_object h
 
-  pub object_past : (o : ℕ) → 32 ≤ o → object_in (objects_of_all queues semaphores mutexes) o ≡ no_object
+  pub object_past : (o : ℕ) → object_places ≤ o → object_in (objects_of_all queues semaphores mutexes) o ≡ no_object
   unfolding objects_of_all
   object_past o past = get_or_past (objects_of_all queues semaphores mutexes) o no_object (rw length-listed past)
 
 -- The queues, as a clause sees them, and an object of this number.
-module _ (q : Inside) (v : Exchange) (is : the_view q ≡ v) (n o : ℕ) (same : n ≡ o) (known : n < 32) where
+module _ (q : Inside) (v : Exchange) (is : the_view q ≡ v) (n o : ℕ) (same : n ≡ o) (known : n < object_places) where
   pub seen : object_of_all q.items q.semaphores q.mutexes n ≡ object_in v.objects o
   seen = sym (object_is q.items q.semaphores q.mutexes n known) ∙ ap (λ (w : Exchange). object_in w.objects n) is ∙ ap (object_in v.objects) same
 
   pub many_seen : o < length v.objects
   unfolding objects_of_all
   many_seen =
-      let many : length v.objects ≡ 32 = ap (λ (w : Exchange). length w.objects) (sym is) ∙ length-listed (object_of_all q.items q.semaphores q.mutexes) 32 in
+      let many : length v.objects ≡ object_places = ap (λ (w : Exchange). length w.objects) (sym is) ∙ length-listed (object_of_all q.items q.semaphores q.mutexes) object_places in
       omega (arith, many, same, known)
 
   -- another object stands there, and the others stay
@@ -42,14 +43,14 @@ module _ (q : Inside) (v : Exchange) (is : the_view q ≡ v) (n o : ℕ) (same :
   unfolding objects_of_all
   put qs c hs f others own =
       let here : objects_of_all qs c hs ≡ set (objects_of_all q.items q.semaphores q.mutexes) n (f (object_in v.objects o)) =
-      listed-set (object_of_all q.items q.semaphores q.mutexes) (object_of_all qs c hs) 32 n known (λ k l ne. others k ne)
+      listed-set (object_of_all q.items q.semaphores q.mutexes) (object_of_all qs c hs) object_places n known (λ k l ne. others k ne)
       ∙ ap (set (objects_of_all q.items q.semaphores q.mutexes) n) (own ∙ ap f seen) in
       ap (λ (os : List Object). record { number = q.number; objects = os; waiting = q.waiting; lock = q.lock }) (here ∙ ap (λ (k : ℕ). set (objects_of_all q.items q.semaphores q.mutexes) k (f (object_in v.objects o))) same)
       ∙ ap (λ (w : Exchange). record w { objects = set w.objects o (f (object_in v.objects o)) }) is
 
   -- ---- a queue has other items
 
-  pub queue_put : (qs : List Object) (f : List ℕ → List ℕ) → qs ≡ set q.items n (holding (object_in q.items n) (f (object_in q.items n).items)) → length qs ≡ 32
+  pub queue_put : (qs : List Object) (f : List ℕ → List ℕ) → qs ≡ set q.items n (holding (object_in q.items n) (f (object_in q.items n).items)) → length qs ≡ object_places
       → record { number = q.number; objects = objects_of_all qs q.semaphores q.mutexes; waiting = q.waiting; lock = q.lock } ≡ record v { objects = set v.objects o (record (object_in v.objects o) { items = f (object_in v.objects o).items }) }
   queue_put qs f e many =
       let x : Object = holding (object_in q.items n) (f (object_in q.items n).items) in
@@ -75,7 +76,7 @@ module _ (q : Inside) (v : Exchange) (is : the_view q ≡ v) (n o : ℕ) (same :
 
   -- ---- a mutex has another holder
 
-  pub holder_put : (hs : List (Option ℕ)) (holder : Option ℕ) → hs ≡ set q.mutexes n holder → length hs ≡ 32
+  pub holder_put : (hs : List (Option ℕ)) (holder : Option ℕ) → hs ≡ set q.mutexes n holder → length hs ≡ object_places
       → record { number = q.number; objects = objects_of_all q.items q.semaphores hs; waiting = q.waiting; lock = q.lock } ≡ record v { objects = set v.objects o (record (object_in v.objects o) { holder = holder }) }
   holder_put hs holder e many =
       let within : n < length q.mutexes = let l = length-set q.mutexes n holder in let m = ap length e in omega (arith, l, m, many, known) in
@@ -98,9 +99,9 @@ count_alike p q x y a b (u ∷ xs) (v ∷ ys) h =
     (λ t. let s : p u ≡ true = e ∙ t in rw (s, t) (ap suc rest))
     (λ t. let s : p u ≡ false = e ∙ t in rw (s, t) rest)
 
-pub held_is : (queues : List Object) (semaphores : Counts) (mutexes : List (Option ℕ)) (task : ℕ) → length mutexes ≡ 32 → held_of (objects_of_all queues semaphores mutexes) task ≡ count_held task mutexes
+pub held_is : (queues : List Object) (semaphores : Counts) (mutexes : List (Option ℕ)) (task : ℕ) → length mutexes ≡ object_places → held_of (objects_of_all queues semaphores mutexes) task ≡ count_held task mutexes
 held_is queues semaphores mutexes task n =
-    count_alike (λ (o : Object). is_same o.holder (Some task)) (λ holder. is_same holder (Some task)) no_object None refl refl (objects_of_all queues semaphores mutexes) mutexes (λ i. elim (cases_lt i 32) [
+    count_alike (λ (o : Object). is_same o.holder (Some task)) (λ holder. is_same holder (Some task)) no_object None refl refl (objects_of_all queues semaphores mutexes) mutexes (λ i. elim (cases_lt i object_places) [
       | inl below ↦ ap (λ (o : Object). is_same o.holder (Some task)) (object_is queues semaphores mutexes i below)
       | inr past ↦ ap (λ (o : Object). is_same o.holder (Some task)) (object_past queues semaphores mutexes i past) ∙ ap (λ holder. is_same holder (Some task)) (sym (get_or_past mutexes i None (rw n past)))
     ])

@@ -1,3 +1,4 @@
+pub mod Places
 pub mod Items
 pub mod Rings
 pub mod Semaphores

@@ -2,6 +2,7 @@
 use Rattle.std.specs.Prelude.{ℕ, Option, Some, List, length, filter}
 use Rattle.model.specs.State.{Object}
 use Rattle.model.specs.Switching.{is_same}
+use Rattle.objects.specs.Places.{object_places}
 use Rattle.objects.specs.Items.{object_in}
 use Rattle.objects.specs.Rings.{listed}
 use Rattle.objects.specs.Semaphores.{Counts, count_in, max_count_in}
@@ -19,7 +20,7 @@ object_of_all queues semaphores mutexes object = record {
 
 -- all of them, by number
 unfoldable pub objects_of_all : List Object → Counts → List (Option ℕ) → List Object
-objects_of_all queues semaphores mutexes = listed (object_of_all queues semaphores mutexes) 32
+objects_of_all queues semaphores mutexes = listed (object_of_all queues semaphores mutexes) object_places
 
 -- how many of these objects a task holds
 abbrev pub held_of : List Object → ℕ → ℕ

@@ -1,6 +1,7 @@
 -- How one pool holds the items of all queues, each in a region of its own, around which they go.
 use Rattle.std.specs.Prelude.{◌≡◌, ℕ, zero, suc, ◌+◌, ◌-◌, ◌<◌, ◌≤◌, nat_lt, if◌then◌else◌, List, [], ◌∷◌, ◌++◌, get_or, length}
 use Rattle.model.specs.State.{Object, no_object}
+use Rattle.objects.specs.Places.{item_places, last_place, object_places}
 
 -- the first n values of f
 abbrev pub listed : {X : Type 0} → (ℕ → X) → ℕ → List X
@@ -45,20 +46,20 @@ abbrev pub object_of : Fields → ℕ → Object
 object_of a q = record no_object { size = size_of a q; items = ring a q }
 
 unfoldable pub objects_of : Fields → List Object
-objects_of a = listed (object_of a) 32
+objects_of a = listed (object_of a) object_places
 
 -- what is true of the arrays between two calls
 pub record IsItems (a : Fields) : Type 0 where
-  pub pool_length : length a.pool ≡ 8192
-  pub bases_length : length a.bases ≡ 32
-  pub lengths_length : length a.lengths ≡ 32
-  pub heads_length : length a.heads ≡ 32
-  pub counts_length : length a.counts ≡ 32
-  pub small : (q : ℕ) → q < 32 → size_of a q ≤ 256
-  pub fits : (q : ℕ) → q < 32 → base_of a q + size_of a q ≤ 8192
-  pub apart : (q r : ℕ) → q < r → r < 32 → base_of a q + size_of a q ≤ base_of a r
-  pub started : (q : ℕ) → q < 32 → 0 < size_of a q → head_of a q < size_of a q
-  pub few : (q : ℕ) → q < 32 → count_of a q ≤ size_of a q
+  pub pool_length : length a.pool ≡ item_places
+  pub bases_length : length a.bases ≡ object_places
+  pub lengths_length : length a.lengths ≡ object_places
+  pub heads_length : length a.heads ≡ object_places
+  pub counts_length : length a.counts ≡ object_places
+  pub small : (q : ℕ) → q < object_places → size_of a q ≤ 256
+  pub fits : (q : ℕ) → q < object_places → base_of a q + size_of a q ≤ item_places
+  pub apart : (q r : ℕ) → q < r → r < object_places → base_of a q + size_of a q ≤ base_of a r
+  pub started : (q : ℕ) → q < object_places → 0 < size_of a q → head_of a q < size_of a q
+  pub few : (q : ℕ) → q < object_places → count_of a q ≤ size_of a q
 
 -- the same arrays, with another pool
 abbrev pub with_pool : List ℕ → Fields → Fields
@@ -68,4 +69,4 @@ with_pool pool a = record { pool = pool; bases = a.bases; lengths = a.lengths; h
 pub record IsFront (a : Fields) : Type 0 where
   pub back : List ℕ
   pub storage : IsItems (with_pool (a.pool ++ back) a)
-  pub front : length a.pool ≡ base_of a 31 + size_of a 31
+  pub front : length a.pool ≡ base_of a last_place + size_of a last_place

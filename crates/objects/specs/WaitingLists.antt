@@ -4,6 +4,7 @@ use Rattle.model.specs.declared.call.WaitList.{WaitList}
 use Rattle.model.specs.declared.call.WaitList.TheVariants.{ToReceive, ToSend}
 use Rattle.lists.specs.Lists.{Each, IsSound, entries_of}
 use Rattle.task_lists.specs.Tasks.{tasks_in}
+use Rattle.objects.specs.Places.{list_places}
 
 -- the number of a list: there are two for each object
 abbrev pub number_of : WaitList → ℕ
@@ -42,5 +43,5 @@ mirrored lists = map (map mirror) lists
 
 -- what is true of the entries between two calls: each value is that of a priority
 pub record AreWaitingLists (lists : List (List (ℕ × ℕ))) : Type 0 where
-  pub sound : IsSound 64 32 lists
+  pub sound : IsSound list_places 32 lists
   pub known : (list : ℕ) → Each (λ e. e.1 ≤ 31) (entries_of lists list)

@@ -5,20 +5,28 @@ ghost use Rattle.model.specs.Scripts.{IsObjectKind};
 ghost use Rattle.model.specs.State.{no_object};
 ghost use Rattle.model.specs.Step.{object_at_reset};
 ghost use Rattle.objects.specs.Items.{holding, object_in, IsSound};
+ghost use Rattle.objects.specs.Places.{object_places};
 ghost use Rattle.objects.specs.Rings.{wrap};
 
+use crate::OBJECTS;
 use model::{Memory, ObjectKind};
 use std::alloc::Global;
 use std::marker::Model;
 
-/// The items of 32 queues, in one pool.
+/// How many items the pool has room for: 256 of each object.
+const ITEMS: usize = 256 * OBJECTS;
+
+/// The last object's place, whose region ends the pool's front.
+const LAST: usize = OBJECTS - 1;
+
+/// The items of all queues, in one pool.
 #[derive(Drop)]
 pub(crate) struct Items {
-    pool: [u32; 8192],
-    bases: [u16; 32],
-    lengths: [u16; 32],
-    heads: [u16; 32],
-    counts: [u16; 32],
+    pool: [u32; ITEMS],
+    bases: [u16; OBJECTS],
+    lengths: [u16; OBJECTS],
+    heads: [u16; OBJECTS],
+    counts: [u16; OBJECTS],
 }
 
 // Clauses see the objects of the definitions.
@@ -34,14 +42,14 @@ impl Model for Items {
     ghost invariant = { λ s. IsItems (record { pool = s.pool; bases = s.bases; lengths = s.lengths; heads = s.heads; counts = s.counts }) };
 }
 
-/// The items of 32 queues as they stood once: of the pool only the regions of the queues.
+/// The items of all queues as they stood once: of the pool only the regions of the queues.
 #[derive(Drop)]
 pub(crate) struct ItemsSnapshot {
     pool: Vec<u32>,
-    bases: [u16; 32],
-    lengths: [u16; 32],
-    heads: [u16; 32],
-    counts: [u16; 32],
+    bases: [u16; OBJECTS],
+    lengths: [u16; OBJECTS],
+    heads: [u16; OBJECTS],
+    counts: [u16; OBJECTS],
 }
 
 // Clauses see the objects of the definitions, as they stood.
@@ -76,15 +84,15 @@ fn length_of(object: ObjectKind) -> u16
 }
 
 /// The lengths of the queues among these objects, and 0 in the places after them.
-fn lengths_of(objects: &[ObjectKind]) -> [u16; 32]
-    requires few { length objects.now ≤ 32 }
+fn lengths_of(objects: &[ObjectKind]) -> [u16; OBJECTS]
+    requires few { length objects.now ≤ object_places }
     requires kinds { AllByRecursion IsObjectKind objects.now }
     ensures lengths { (object : ℕ) → slice_index_or result object 0
         ≡ (slice_index_or (map object_at_reset objects.now) object no_object).size }
     ensures small { All (λ length. length ≤ 256) result }
-    ensures full { length result ≡ 32 }
+    ensures full { length result ≡ object_places }
 {
-    let mut lengths = [0; 32];
+    let mut lengths = [0; OBJECTS];
     for (index, object) in objects.iter().enumerate() {
         lengths[index] = length_of(*object);
     }
@@ -92,9 +100,9 @@ fn lengths_of(objects: &[ObjectKind]) -> [u16; 32]
 }
 
 impl Items {
-    /// The queues among these objects, 32 at most, all empty. Any other object has length 0.
+    /// The queues among these objects, 33 at most, all empty. Any other object has length 0.
     pub(crate) fn new(objects: &[ObjectKind]) -> Self
-        requires few { length objects.now ≤ 32 }
+        requires few { length objects.now ≤ object_places }
         requires kinds { AllByRecursion IsObjectKind objects.now }
         ensures empty { (queue : ℕ) → object_in result queue ≡ record no_object {
           size = (slice_index_or (map object_at_reset objects.now) queue no_object).size;
@@ -104,35 +112,35 @@ impl Items {
         Items::of_lengths(&lengths_of(objects))
     }
 
-    /// Empty queues of these lengths, each 256 at most. There are 32 lengths at most, and the queues past them have
+    /// Empty queues of these lengths, each 256 at most. There are 33 lengths at most, and the queues past them have
     /// length 0.
     fn of_lengths(lengths: &[u16]) -> Self
-        requires few { length lengths.now ≤ 32 }
+        requires few { length lengths.now ≤ object_places }
         requires small { All (λ length. length ≤ 256) lengths.now }
-        ensures empty { (queue : ℕ) → queue < 32
+        ensures empty { (queue : ℕ) → queue < object_places
             → object_in result queue ≡ record no_object { size = slice_index_or lengths.now queue 0 } }
         ensures sound { IsSound result }
     {
-        let mut sizes = [0; 32];
+        let mut sizes = [0; OBJECTS];
         sizes[..lengths.len()].copy_from_slice(lengths);
-        let mut bases = [0; 32];
+        let mut bases = [0; OBJECTS];
         let mut used = 0;
-        for queue in 0..32 {
+        for queue in 0..OBJECTS {
             bases[queue] = used;
             used += sizes[queue];
         }
         Items {
-            pool: [0; 8192],
+            pool: [0; ITEMS],
             bases,
             lengths: sizes,
-            heads: [0; 32],
-            counts: [0; 32],
+            heads: [0; OBJECTS],
+            counts: [0; OBJECTS],
         }
     }
 
     /// The number of items in a queue.
     pub(crate) fn len(&self, queue: usize) -> usize
-        requires { queue < 32 }
+        requires { queue < object_places }
         ensures len { result ≡ length (object_in self.now queue).items }
         ensures sound { IsSound self.now }
     {
@@ -141,7 +149,7 @@ impl Items {
 
     /// The number of items that a queue still has room for.
     pub(crate) fn room(&self, queue: usize) -> usize
-        requires { queue < 32 }
+        requires { queue < object_places }
         ensures room { result + length (object_in self.now queue).items ≡ (object_in self.now queue).size }
         ensures sound { IsSound self.now }
     {
@@ -150,7 +158,7 @@ impl Items {
 
     /// The item that leaves a queue first; `None` where it is empty.
     pub(crate) fn first(&self, queue: usize) -> Option<u32>
-        requires { queue < 32 }
+        requires { queue < object_places }
         ensures first { result ≡ slice_get (object_in self.now queue).items 0 }
         ensures sound { IsSound self.now }
     {
@@ -163,7 +171,7 @@ impl Items {
 
     /// Puts an item behind those of a queue that has room (`room` tells).
     pub(crate) fn push_back(&mut self, queue: usize, item: u32)
-        requires known { queue < 32 }
+        requires known { queue < object_places }
         requires room { length (object_in self.old queue).items < (object_in self.old queue).size }
         ensures items { self.new ≡ slice_set self.old queue
             (holding (object_in self.old queue) ((object_in self.old queue).items ++ item ∷ [])) }
@@ -176,7 +184,7 @@ impl Items {
 
     /// Puts an item before those of a queue that has room (`room` tells).
     pub(crate) fn push_front(&mut self, queue: usize, item: u32)
-        requires known { queue < 32 }
+        requires known { queue < object_places }
         requires room { length (object_in self.old queue).items < (object_in self.old queue).size }
         ensures items { self.new ≡ slice_set self.old queue
             (holding (object_in self.old queue) (item ∷ (object_in self.old queue).items)) }
@@ -192,7 +200,7 @@ impl Items {
     /// Takes the first item out of a queue; `None` where it is empty.
     #[inline(always)]
     pub(crate) fn pop_front(&mut self, queue: usize) -> Option<u32>
-        requires { queue < 32 }
+        requires { queue < object_places }
         ensures first { result ≡ slice_get (object_in self.old queue).items 0 }
         ensures items { self.new ≡ slice_set self.old queue
             (holding (object_in self.old queue) (drop 1 (object_in self.old queue).items)) }
@@ -210,7 +218,7 @@ impl Items {
 
     /// Makes an item the only one of a queue that can hold one.
     pub(crate) fn replace(&mut self, queue: usize, item: u32)
-        requires known { queue < 32 }
+        requires known { queue < object_places }
         requires long { 0 < (object_in self.old queue).size }
         ensures items { self.new ≡ slice_set self.old queue
             (holding (object_in self.old queue) (item ∷ [])) }
@@ -225,7 +233,7 @@ impl Items {
         ensures same { self.new ≡ other.now }
         ensures sound { IsSound self.new }
     {
-        let used = other.bases[31] as usize + other.lengths[31] as usize;
+        let used = other.bases[LAST] as usize + other.lengths[LAST] as usize;
         self.pool[..used].copy_from_slice(&other.pool[..used]);
         self.bases = other.bases;
         self.lengths = other.lengths;
@@ -237,7 +245,7 @@ impl Items {
     pub(crate) fn snapshot(&self, alloc: Global) -> Result<ItemsSnapshot, Memory>
         ensures { IfOk result (λ snapshot. snapshot ≡ self.now) }
     {
-        let used = self.bases[31] as usize + self.lengths[31] as usize;
+        let used = self.bases[LAST] as usize + self.lengths[LAST] as usize;
         let mut pool = Vec::new(alloc);
         pool.reserve_exact(used)?;
         pool.extend_from_slice(&self.pool[..used])?;
@@ -259,7 +267,7 @@ impl Items {
         if self.counts != snapshot.counts {
             return false;
         }
-        for queue in 0..32 {
+        for queue in 0..OBJECTS {
             if !self.is_queue_at(queue, snapshot) {
                 return false;
             }
@@ -269,7 +277,7 @@ impl Items {
 
     /// Whether a queue stands as in a snapshot.
     fn is_queue_at(&self, queue: usize, snapshot: &ItemsSnapshot) -> bool
-        requires { queue < 32 }
+        requires { queue < object_places }
         ensures { result ≡ true → object_in self.now queue ≡ object_in snapshot.now queue }
     {
         let size = self.lengths[queue];

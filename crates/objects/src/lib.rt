@@ -13,3 +13,6 @@ mod waiting_lists;
 pub use lock::Lock;
 pub use queues::{NotHolder, Queues, QueuesSnapshot};
 pub use waiting_lists::{Taken, Unlocked};
+
+/// How many objects the tables have room for: the 32 that a file may have, and one more, for a queue that is in no file.
+const OBJECTS: usize = 33;

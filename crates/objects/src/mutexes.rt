@@ -1,15 +1,17 @@
 //! Who holds the mutexes.
 ghost use Rattle.std.specs.Prelude.{◌≡◌, ◌<◌, length, replicate, slice_set, true, Some, None};
 ghost use Rattle.objects.specs.Mutexes.{count_held, holder_in};
+ghost use Rattle.objects.specs.Places.{object_places};
 
+use crate::OBJECTS;
 use model::TaskId;
 use std::marker::Model;
 
-/// The holder of each of 32 objects, and how many each task holds, which is kept and never searched for. An object that is
+/// The holder of each object, and how many each task holds, which is kept and never searched for. An object that is
 /// free, or is no mutex, has no holder.
 #[derive(Drop)]
 pub(crate) struct Mutexes {
-    holders: [Option<TaskId>; 32],
+    holders: [Option<TaskId>; OBJECTS],
     held: [u8; 32],
 }
 
@@ -28,10 +30,10 @@ impl Model for Mutexes {
 impl Mutexes {
     /// Nobody holds anything.
     pub(crate) fn new() -> Self
-        ensures free { result ≡ replicate 32 None }
+        ensures free { result ≡ replicate object_places None }
     {
         Mutexes {
-            holders: [None; 32],
+            holders: [None; OBJECTS],
             held: [0; 32],
         }
     }
@@ -62,7 +64,7 @@ impl Mutexes {
 
     /// The holder of an object; `None` where it has none.
     pub(crate) fn holder(&self, object: usize) -> Option<TaskId>
-        requires { object < 32 }
+        requires { object < object_places }
         ensures holder { result ≡ holder_in self.now object }
     {
         self.holders[object]
@@ -71,17 +73,17 @@ impl Mutexes {
     /// How many mutexes a task holds (`uxMutexesHeld`).
     pub(crate) fn held_by(&self, task: TaskId) -> u8
         ensures held { result ≡ count_held task self.now }
-        ensures many { length self.now ≡ 32 }
+        ensures many { length self.now ≡ object_places }
     {
         self.held[task.number as usize]
     }
 
     /// Makes a task the holder of a free mutex. With no task it stays free.
     pub(crate) fn lock(&mut self, object: usize, task: Option<TaskId>)
-        requires known { object < 32 }
+        requires known { object < object_places }
         requires free { holder_in self.old object ≡ None }
         ensures locked { self.new ≡ slice_set self.old object task }
-        ensures many { length self.new ≡ 32 }
+        ensures many { length self.new ≡ object_places }
     {
         self.holders[object] = task;
         // Through a reference, since the borrow checker takes a value that was stored for moved.
@@ -92,10 +94,10 @@ impl Mutexes {
 
     /// Frees a mutex that this task holds.
     pub(crate) fn unlock(&mut self, object: usize, task: TaskId)
-        requires known { object < 32 }
+        requires known { object < object_places }
         requires held { holder_in self.old object ≡ Some task }
         ensures free { self.new ≡ slice_set self.old object None }
-        ensures many { length self.new ≡ 32 }
+        ensures many { length self.new ≡ object_places }
     {
         self.holders[object] = None;
         self.held[task.number as usize] -= 1;

@@ -19,6 +19,7 @@ ghost use Rattle.model.specs.Objects.{allows, object_after, reply};
 ghost use Rattle.model.specs.Mutexes as mutexes;
 ghost use Rattle.objects.specs.Items.{object_in};
 ghost use Rattle.objects.specs.Objects.{held_of};
+ghost use Rattle.objects.specs.Places.{list_places, object_places};
 ghost use Rattle.objects.specs.WaitingLists.{first_priority, number_of, waiting_in};
 ghost use Rattle.task_lists.specs.Tasks.{insert_by_priority};
 ghost use Rattle.objects.specs.WaitersStand.{AreAwakened, AtLocked, Decider, opened};
@@ -37,10 +38,10 @@ use std::marker::Model;
 #[derive(Clone, Copy, PartialEq, Eq)]
 pub struct NotHolder;
 
-/// 32 objects, each a queue, a semaphore or a mutex, and the tasks that wait at them.
+/// 33 objects at most, each a queue, a semaphore or a mutex, and the tasks that wait at them.
 #[derive(Drop)]
 pub struct Queues {
-    // How many objects the application has, 0 to 32.
+    // How many objects the application has, 0 to 33.
     number: u8,
     items: Items,
     semaphores: Semaphores,
@@ -81,15 +82,15 @@ impl Model for QueuesSnapshot {
 }
 
 impl Queues {
-    /// These objects as they are at reset, 32 at most, where nobody waits and nothing is locked: queues are empty, semaphores
+    /// These objects as they are at reset, 33 at most, where nobody waits and nothing is locked: queues are empty, semaphores
     /// have their initial counts, mutexes are free. Those past the last have no room, no count and no holder.
     pub fn new(objects: &[ObjectKind]) -> Self
-        requires few { length objects.now ≤ 32 }
+        requires few { length objects.now ≤ object_places }
         requires kinds { AllByRecursion IsObjectKind objects.now }
         ensures number { result.number ≡ length objects.now }
         ensures objects { (object : ℕ) → object_in result.objects object
             ≡ slice_index_or (map object_at_reset objects.now) object no_object }
-        ensures nobody { result.waiting ≡ replicate 64 [] }
+        ensures nobody { result.waiting ≡ replicate list_places [] }
         ensures free { result.lock ≡ None }
         // They are those of an application that has these objects.
         ensures stands { (app : Application) → app.objects ≡ objects.now → length app.tasks ≤ 32
@@ -274,7 +275,7 @@ impl Queues {
         self.mutexes.holder(object.number as usize)
     }
 
-    /// How many mutexes a task holds, 0 to 32 (`uxMutexesHeld`).
+    /// How many mutexes a task holds, 0 to 33 (`uxMutexesHeld`).
     pub fn mutexes_held(&self, task: TaskId) -> u8
         ensures held { result ≡ held_of self.now.objects task }
         ensures stands { (s : State) (decider : Option Decider) → StandsFor self.now decider s

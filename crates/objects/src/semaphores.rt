@@ -4,16 +4,18 @@ ghost use Rattle.std.specs.List.{AllByRecursion};
 ghost use Rattle.model.specs.Scripts.{IsObjectKind};
 ghost use Rattle.model.specs.State.{no_object};
 ghost use Rattle.model.specs.Step.{object_at_reset};
+ghost use Rattle.objects.specs.Places.{object_places};
 ghost use Rattle.objects.specs.Semaphores.{AreSemaphores, count_in, max_count_in};
 
+use crate::OBJECTS;
 use model::ObjectKind;
 use std::marker::Model;
 
-/// The greatest count and the count of each of 32 objects; both are 0 of one that is no semaphore.
+/// The greatest count and the count of each object; both are 0 of one that is no semaphore.
 #[derive(Drop)]
 pub(crate) struct Semaphores {
-    max_counts: [u16; 32],
-    counts: [u16; 32],
+    max_counts: [u16; OBJECTS],
+    counts: [u16; OBJECTS],
 }
 
 impl Model for Semaphores {
@@ -38,17 +40,17 @@ fn counts_of(object: ObjectKind) -> (u16, u16)
 }
 
 impl Semaphores {
-    /// The counts of these objects at reset, 32 at most.
+    /// The counts of these objects at reset, 33 at most.
     pub(crate) fn new(objects: &[ObjectKind]) -> Self
-        requires { length objects.now ≤ 32 }
+        requires { length objects.now ≤ object_places }
         ensures max_counts { (object : ℕ) → max_count_in result object
             ≡ (slice_index_or (map object_at_reset objects.now) object no_object).max_count }
         ensures counts { (object : ℕ) → count_in result object
             ≡ (slice_index_or (map object_at_reset objects.now) object no_object).count }
         ensures sound { AreSemaphores result }
     {
-        let mut max_counts = [0; 32];
-        let mut counts = [0; 32];
+        let mut max_counts = [0; OBJECTS];
+        let mut counts = [0; OBJECTS];
         for (index, object) in objects.iter().enumerate() {
             let (max_count, initial_count) = counts_of(*object);
             max_counts[index] = max_count;
@@ -84,7 +86,7 @@ impl Semaphores {
 
     /// Whether one can be taken from a count.
     pub(crate) fn can_take(&self, object: usize) -> bool
-        requires { object < 32 }
+        requires { object < object_places }
         ensures { result ≡ nat_lt 0 (count_in self.now object) }
     {
         self.counts[object] > 0
@@ -92,7 +94,7 @@ impl Semaphores {
 
     /// Whether a count is below its greatest.
     pub(crate) fn can_give(&self, object: usize) -> bool
-        requires { object < 32 }
+        requires { object < object_places }
         ensures { result ≡ nat_lt (count_in self.now object) (max_count_in self.now object) }
     {
         self.counts[object] < self.max_counts[object]
@@ -100,7 +102,7 @@ impl Semaphores {
 
     /// Takes one from a count that isn't 0 (`can_take` tells).
     pub(crate) fn take(&mut self, object: usize)
-        requires known { object < 32 }
+        requires known { object < object_places }
         requires possible { 0 < count_in self.old object }
         ensures taken { self.new ≡ record self.old {
           counts = slice_set self.old.counts object (count_in self.old object - 1);
@@ -112,7 +114,7 @@ impl Semaphores {
 
     /// Adds one to a count below its greatest (`can_give` tells).
     pub(crate) fn give(&mut self, object: usize)
-        requires known { object < 32 }
+        requires known { object < object_places }
         requires possible { count_in self.old object < max_count_in self.old object }
         ensures given { self.new ≡ record self.old {
           counts = slice_set self.old.counts object (count_in self.old object + 1);

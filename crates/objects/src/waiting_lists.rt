@@ -10,15 +10,23 @@ ghost use Rattle.model.specs.Switching.{make_ready};
 ghost use Rattle.model.specs.Waiting as waiting;
 ghost use Rattle.model.specs.Waiting.{is_locked, waiters, wait_in, wake_best};
 ghost use Rattle.model.specs.Invariant.{IsTable};
+ghost use Rattle.objects.specs.Places.{list_places};
 ghost use Rattle.objects.specs.WaitingLists.{best_of, first_priority, number_of, waiting_in, without_woken};
 ghost use Rattle.task_lists.specs.Tasks.{insert_by_priority, tasks_in};
 ghost use Rattle.objects.specs.WaitersStand.{AreAwakened, AtLocked, Decider, StandLocked, WaitersStand, opened, standing};
 
+use crate::OBJECTS;
 use arrayvec::ArrayVec;
 use lists::ListId;
 use model::{ObjectId, TaskId, WaitList};
 use std::marker::Model;
 use task_lists::TaskLists;
+
+/// How many waiting lists there are: two of each object.
+const LISTS: usize = 2 * OBJECTS;
+
+/// How many links they have: one for each list, and one for each of 32 tasks.
+const LINKS: usize = LISTS + 32;
 
 /// Tasks that were taken out of a list, 32 at most, in the order in which they stood there.
 pub type Taken = ArrayVec<TaskId, 32>;
@@ -37,7 +45,7 @@ pub struct Unlocked {
 /// `vListInsert` puts the highest priority first.
 #[derive(Drop)]
 pub(crate) struct WaitingLists {
-    lists: TaskLists<64, 96>,
+    lists: TaskLists<LISTS, LINKS>,
 }
 
 // Clauses see for each list its tasks in order, each with its priority.
@@ -55,7 +63,7 @@ impl Model for WaitingLists {
 /// The number of a list.
 fn list_id(list: WaitList) -> ListId
     ensures number { result.number ≡ number_of list }
-    ensures known { result.number < 64 }
+    ensures known { result.number < list_places }
 {
     let number = match list {
         WaitList::ToReceive(object) => 2 * object.number,
@@ -69,10 +77,10 @@ fn list_id(list: WaitList) -> ListId
 impl WaitingLists {
     /// Nobody waits.
     pub(crate) fn new() -> Self
-        ensures empty { result ≡ replicate 64 [] }
+        ensures empty { result ≡ replicate list_places [] }
         ensures stand { (s : State) → IsTable s
             → ((list : definitions.WaitList) → standing s list ≡ []) → WaitersStand result None s }
-        ensures sound { IsSound 64 32 result }
+        ensures sound { IsSound list_places 32 result }
     {
         WaitingLists {
             lists: TaskLists::new(),
@@ -105,7 +113,7 @@ impl WaitingLists {
     /// Whether a task is in a list.
     pub(crate) fn is_waiting(&self, task: TaskId) -> bool
         ensures waiting { result ≡ is_some (place_of self.now task) }
-        ensures sound { IsSound 64 32 self.now }
+        ensures sound { IsSound list_places 32 self.now }
     {
         self.lists.contains(task)
     }
@@ -125,7 +133,7 @@ impl WaitingLists {
         ensures places { (s : State)
             → WaitersStand self.old (Some (record { task = task; list = list; priority = priority })) s
             → WaitersStand self.new None s }
-        ensures sound { IsSound 64 32 self.new }
+        ensures sound { IsSound list_places 32 self.new }
     {
         self.lists
             .insert_sorted(list_id(list), task, 31 - priority as u32);
@@ -138,7 +146,7 @@ impl WaitingLists {
         ensures waiter { (s : State) (decider : Option Decider) → WaitersStand self.now decider s
             → AtLocked decider s → is_locked s.locked list ≡ false
             → result ≡ order.task_of (order.first (waiters s list)) }
-        ensures sound { IsSound 64 32 self.now }
+        ensures sound { IsSound list_places 32 self.now }
     {
         self.lists.first(list_id(list))
     }
@@ -174,7 +182,7 @@ impl WaitingLists {
         // and in any case who is taken out becomes Ready.
         ensures woken { (s : State) → WaitersStand self.old None s
             → WaitersStand self.new None (for_one make_ready result s) }
-        ensures sound { IsSound 64 32 self.new }
+        ensures sound { IsSound list_places 32 self.new }
     {
         let best = self.best(list)?;
         self.drop_waiter(best);
@@ -195,7 +203,7 @@ impl WaitingLists {
             → task < length s.tasks → task ≢ decider.task
             → has_node task (waiting_in self.old decider.list) ≡ false
             → WaitersStand self.new (Some decider) (make_ready task s) }
-        ensures sound { IsSound 64 32 self.new }
+        ensures sound { IsSound list_places 32 self.new }
     {
         self.lists.remove(task);
     }
@@ -208,7 +216,7 @@ impl WaitingLists {
         // In the definitions they become Ready, one after another.
         ensures woken { (s : State) → WaitersStand self.old None s
             → WaitersStand self.new None (for_each make_ready result.items s) }
-        ensures sound { IsSound 64 32 self.new }
+        ensures sound { IsSound list_places 32 self.new }
     {
         self.in_order();
         let mut taken = ArrayVec::new();
@@ -235,7 +243,7 @@ impl WaitingLists {
             ≡ for_each make_ready (result.to_receive.items ++ result.to_send.items) (opened s) }
         ensures unlocks { (s : State) → StandLocked self.old None object receivers senders s
             → WaitersStand self.new None (waiting.unlock s) }
-        ensures sound { IsSound 64 32 self.new }
+        ensures sound { IsSound list_places 32 self.new }
     {
         let to_receive = self.take(WaitList::ToReceive(object), receivers);
         let to_send = self.take(WaitList::ToSend(object), senders);
@@ -247,7 +255,7 @@ impl WaitingLists {
 
     /// Does nothing: its contract tells what holds of the lists.
     fn in_order(&self)
-        ensures sound { IsSound 64 32 self.now }
+        ensures sound { IsSound list_places 32 self.now }
     {
         let _ = &self.lists;
     }

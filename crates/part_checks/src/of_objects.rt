@@ -37,6 +37,16 @@ fn objects() -> Queues
     ])
 }
 
+/// The last place for an object, which none of a file has.
+const LAST: ObjectId = ObjectId { number: 32 };
+
+/// As many of the longest queues as there are places.
+fn most_queues() -> Queues
+    ensures { result.number ≡ 33 }
+{
+    Queues::new(&[ObjectKind::Queue(256); 33])
+}
+
 /// Compares the greatest priority of those who wait to receive.
 fn has_best(rt: &impl Abort, queues: &Queues, expected: u8) {
     assert!(rt;
@@ -132,6 +142,22 @@ fn items_leave_in_order(rt: HostRuntime) {
     succeed(&rt, &mut queues, None, QUEUE, Access::SendFront(9));
     assert!(rt; queues.waiting(QUEUE) == 2 && queues.spaces(QUEUE) == 0);
     assert!(rt; !queues.possible(QUEUE, Access::Send(7)));
+}
+
+#[test]
+fn the_last_place_has_room_too(rt: HostRuntime) {
+    let mut queues = most_queues();
+    succeed(&rt, &mut queues, None, LAST, Access::Send(8));
+    assert!(rt; queues.waiting(LAST) == 1 && queues.spaces(LAST) == 255);
+    assert!(rt; queues.waiting(QUEUE) == 0 && queues.spaces(QUEUE) == 256);
+    let snapshot = queues.snapshot(rt.alloc()).ok().expect(&rt, "memory");
+    put(&rt, &mut queues, WaitList::ToSend(LAST), 4, 1);
+    put(&rt, &mut queues, RECEIVERS, 9, 2);
+    assert!(rt; !queues.is_at(&snapshot));
+    assert!(rt; queues.wake_best(WaitList::ToSend(LAST)) == TaskId::new(4));
+    wake_all(&rt, &mut queues, &[9]);
+    assert!(rt; queues.is_at(&snapshot));
+    assert!(rt; !most_queues().is_at(&snapshot));
 }
 
 #[test]

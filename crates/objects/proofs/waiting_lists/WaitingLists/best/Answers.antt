@@ -1,5 +1,6 @@
 use Rattle.std.proofs.Common.{ℕ, List, ◌∙◌, ap, subst}
 use Rattle.lists.specs.Lists.{IsSound, entries_of, first_of}
+use Rattle.objects.specs.Places.{list_places}
 use Rattle.objects.proofs.Mirror.{first_mirrored, sound-mirrored}
 use Rattle.objects.proofs.Waking.{best_waiter}
 use Rattle.objects.proofs.waiting_lists.WaitingLists.best.Goals as goal
@@ -15,4 +16,4 @@ pub returns-clause-waiter : goal.returns-clause-waiter
 returns-clause-waiter c = λ s d h at shut. returns-clause-best c ∙ best_waiter c.args.self.now s d c.args.list h at shut
 
 pub returns-clause-sound : goal.returns-clause-sound
-returns-clause-sound c = subst (IsSound 64 32) c.self.view_is (sound-mirrored c.self.invariant.sound)
+returns-clause-sound c = subst (IsSound list_places 32) c.self.view_is (sound-mirrored c.self.invariant.sound)

@@ -2,6 +2,7 @@ use Rattle.std.proofs.Common.{ℕ, List, Some, None, map, sym, ◌∙◌, ap, su
 use Rattle.lists.specs.Lists.{IsSound, without}
 use Rattle.model.specs.State.{Suspended, with_status}
 use Rattle.model.specs.Switching.{make_ready}
+use Rattle.objects.specs.Places.{list_places}
 use Rattle.objects.specs.WaitingLists.{AreWaitingLists, mirrored}
 use Rattle.objects.specs.WaitersStand.{WaitersStand}
 use Rattle.objects.proofs.Mirror.{are_waiting_without, mirrored-without, sound-mirrored}
@@ -12,7 +13,7 @@ use Rattle.objects.proofs.waiting_lists.WaitingLists.drop_waiter.Goals as goal
 pub invariant_of-self : goal.invariant_of-self
 invariant_of-self c =
     let removed = c.remove.ensures.removed in
-    subst AreWaitingLists (sym removed) (are_waiting_without c.self.invariant c.args.task (subst (IsSound 64 32) removed c.remove.ensures.sound))
+    subst AreWaitingLists (sym removed) (are_waiting_without c.self.invariant c.args.task (subst (IsSound list_places 32) removed c.remove.ensures.sound))
 
 pub returns-clause-gone : goal.returns-clause-gone
 returns-clause-gone c =

@@ -1,6 +1,7 @@
 use Rattle.std.proofs.Common.{ℕ, List, sym, ◌∙◌, ap, subst}
 use Rattle.std.specs.Option.{is_some}
 use Rattle.lists.specs.Lists.{IsSound, place_of}
+use Rattle.objects.specs.Places.{list_places}
 use Rattle.objects.proofs.Mirror.{place_of-mirrored, sound-mirrored}
 use Rattle.objects.proofs.waiting_lists.WaitingLists.is_waiting.Goals as goal
 
@@ -13,4 +14,4 @@ returns-clause-waiting c =
     )
 
 pub returns-clause-sound : goal.returns-clause-sound
-returns-clause-sound c = subst (IsSound 64 32) c.self.view_is (sound-mirrored c.self.invariant.sound)
+returns-clause-sound c = subst (IsSound list_places 32) c.self.view_is (sound-mirrored c.self.invariant.sound)
