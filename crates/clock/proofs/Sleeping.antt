@@ -92,13 +92,14 @@ module _ {ls : List (List (ℕ × ℕ))} {age base tick current overflow : ℕ} 
         ahead = subst (Each (λ e. tick < e.1)) (sym here) (Each-insert_sorted (λ e. tick < e.1) n w (entries_of ls current) later h.ahead);
         fits = subst (Each (λ e. e.1 < 2 ^ 32)) (sym here) (Each-insert_sorted (λ e. e.1 < 2 ^ 32) n w (entries_of ls current) fits h.fits);
         overflow_fits = subst (Each (λ e. e.1 < 2 ^ 32)) (sym there) h.overflow_fits;
+        near = subst (Each (λ e. e.1 < tick)) (sym there) h.near;
         sorted = subst IsSorted (sym here) (IsSorted-insert_sorted n w (entries_of ls current) h.sorted);
         overflow_sorted = subst IsSorted (sym there) h.overflow_sorted;
       }
 
   -- and one of the next turn into the overflow list
-  pub into_overflow : (n w : ℕ) → w < 2 ^ 32 → IsSound 2 32 (set ls overflow (insert_sorted (n, w) (entries_of ls overflow))) → IsClock (set ls overflow (insert_sorted (n, w) (entries_of ls overflow))) age base tick current overflow
-  into_overflow n w fits sound =
+  pub into_overflow : (n w : ℕ) → w < 2 ^ 32 → w < tick → IsSound 2 32 (set ls overflow (insert_sorted (n, w) (entries_of ls overflow))) → IsClock (set ls overflow (insert_sorted (n, w) (entries_of ls overflow))) age base tick current overflow
+  into_overflow n w fits soon sound =
       let new = insert_sorted (n, w) (entries_of ls overflow) in
       let here = entries_of-set_same ls overflow new (subst (λ (k : ℕ). overflow < k) (sym h.sound.as_many) h.overflow_known) in
       let there = entries_of-set_other ls overflow current new h.differ in
@@ -112,6 +113,7 @@ module _ {ls : List (List (ℕ × ℕ))} {age base tick current overflow : ℕ} 
         ahead = subst (Each (λ e. tick < e.1)) (sym there) h.ahead;
         fits = subst (Each (λ e. e.1 < 2 ^ 32)) (sym there) h.fits;
         overflow_fits = subst (Each (λ e. e.1 < 2 ^ 32)) (sym here) (Each-insert_sorted (λ e. e.1 < 2 ^ 32) n w (entries_of ls overflow) fits h.overflow_fits);
+        near = subst (Each (λ e. e.1 < tick)) (sym here) (Each-insert_sorted (λ e. e.1 < tick) n w (entries_of ls overflow) soon h.near);
         sorted = subst IsSorted (sym there) h.sorted;
         overflow_sorted = subst IsSorted (sym here) (IsSorted-insert_sorted n w (entries_of ls overflow) h.overflow_sorted);
       }
@@ -152,6 +154,7 @@ module _ {ls : List (List (ℕ × ℕ))} {age base tick current overflow : ℕ} 
         ahead = subst (Each (λ e. tick < e.1)) (sym here) (Each-without (λ e. tick < e.1) n (entries_of ls current) h.ahead);
         fits = subst (Each (λ e. e.1 < 2 ^ 32)) (sym here) (Each-without (λ e. e.1 < 2 ^ 32) n (entries_of ls current) h.fits);
         overflow_fits = subst (Each (λ e. e.1 < 2 ^ 32)) (sym there) (Each-without (λ e. e.1 < 2 ^ 32) n (entries_of ls overflow) h.overflow_fits);
+        near = subst (Each (λ e. e.1 < tick)) (sym there) (Each-without (λ e. e.1 < tick) n (entries_of ls overflow) h.near);
         sorted = subst IsSorted (sym here) (IsSorted-without n (entries_of ls current) h.sorted);
         overflow_sorted = subst IsSorted (sym there) (IsSorted-without n (entries_of ls overflow) h.overflow_sorted);
       }

@@ -10,7 +10,7 @@ use Rattle.std.proofs.lemmas.List.Elements.{filter-append}
 use Rattle.model.specs.State.{State, Status, Task, Ready, Awake, Waiting, Asleep, WaitingForBits, Suspended, Ended, for_each, no_task, status_at, task_at, progress_at, call_at, with_call, take_ticket, ticket_if_ready, ticket_of, wake_time_of, with_status}
 use Rattle.model.specs.Order.{Entry, Key, entry, key, list_by, put, tasks_of}
 use Rattle.model.specs.Switching.{is_ready, is_scheduler_suspended, make_ready}
-use Rattle.model.specs.Time.{advance, delayed_key, due, increment_tick, sleep, wake_due}
+use Rattle.model.specs.Time.{advance, delayed_key, due, increment_tick, jump, sleep, wake_due}
 use Rattle.model.specs.Invariant.{HasTicketBelow, AllTicketsBelow, IsTable}
 use Rattle.model.proofs.Sorting.{IsAfterEntry, by_test, put_last}
 use Rattle.model.proofs.Lists.{HasKey, eqb-refl, filter-without, list-entered, list-gone, list-kept, list_below, list_has, list_without, other}
@@ -23,8 +23,8 @@ use Rattle.model.proofs.Statuses.{ready_awake}
 use Rattle.model.proofs.Tables.{below_delayed, table-make_ready, table-set, table-taken, ticket_at}
 use Rattle.lists.specs.Lists.{Each, EachOnce, IsSorted, has_node, insert_sorted, without}
 use Rattle.lists.proofs.Entries.{EachOnce-insert_sorted, EachOnce-without, IsSorted-insert_sorted, IsSorted-without, Each-imp, apart_from_test, has_node-other, has_node-same, has_node-without_other, has_or_not, insert_sorted-after, insert_sorted-before, without-apart, without-same}
-use Rattle.clock.specs.Timeline.{Advances, Timeline, all_until, is_asleep}
-use Rattle.clock.specs.StandsFor.{StandsFor, StandsBefore, before_held, at_next_tick, at_time, tasks_at, with_deadline}
+use Rattle.clock.specs.Timeline.{Advances, Jumps, Timeline, all_until, is_asleep}
+use Rattle.clock.specs.StandsFor.{StandsFor, StandsBefore, before_held, at_next_tick, at_jump, at_time, tasks_at, with_deadline}
 
 -- the tasks that sleep until a time
 
@@ -309,21 +309,27 @@ all_woken (d ∷ ds) t rest s h is =
     let next : StandsFor (record t { delayed_list = later }) (make_ready d s) = subst (λ (es : List (ℕ × ℕ)). StandsFor (record t { delayed_list = es }) (make_ready d s)) left one in
     all_woken ds (record t { delayed_list = later }) rest (make_ready d s) next refl
 
--- the sleepers when a tick has passed, before anyone wakes
-stands_next : (old new : Timeline) (s : State) (ds : List ℕ) → Advances old new ds → StandsFor old s → StandsFor (record new { delayed_list = old.delayed_list }) (at_next_tick s)
-stands_next old new s ds a h = record {
-  now = a.now ∙ ap (λ (n : ℕ). n + 1) h.now;
-  age = let e = h.age in ap₂ (λ (m n : ℕ). m + n) a.age a.held ∙ omega (arith, e);
-  held = a.held ∙ h.held;
-  sorted = h.sorted;
-  once = h.once;
-  delayed = h.delayed;
-  table = record { tickets = h.table.tickets; few = h.table.few; current = h.table.current; holders = h.table.holders };
-}
+-- ---- ticks pass
 
-pub due_next : (old new : Timeline) (s : State) (ds : List ℕ) → Advances old new ds → StandsFor old s → ds ≡ tasks_of (due (at_next_tick s))
-due_next old new s ds a h =
-    let time : new.now ≡ s.time + 1 = a.now ∙ ap (λ (n : ℕ). n + 1) h.now in
+-- the sleepers when so many have passed, before anyone wakes
+stands_jump : (ticks : ℕ) (old new : Timeline) (s : State) (ds : List ℕ) → Jumps ticks old new ds → StandsFor old s → StandsFor (record new { delayed_list = old.delayed_list }) (at_jump ticks s)
+stands_jump ticks old new s ds a h =
+    let age = h.age in
+    let grown = a.age in
+    let same = a.held in
+    record {
+      now = a.now ∙ ap (λ (n : ℕ). n + ticks) h.now;
+      age = omega (arith, age, grown, same);
+      held = a.held ∙ h.held;
+      sorted = h.sorted;
+      once = h.once;
+      delayed = h.delayed;
+      table = record { tickets = h.table.tickets; few = h.table.few; current = h.table.current; holders = h.table.holders };
+    }
+
+pub due_jump : (ticks : ℕ) (old new : Timeline) (s : State) (ds : List ℕ) → Jumps ticks old new ds → StandsFor old s → ds ≡ tasks_of (due (at_jump ticks s))
+due_jump ticks old new s ds a h =
+    let time : new.now ≡ s.time + ticks = a.now ∙ ap (λ (n : ℕ). n + ticks) h.now in
     sym (append-nil ds)
     ∙ ap₂ (λ (xs ys : List ℕ). xs ++ ys) (sym (tasks_at-all_until new.now ds)) (sym (tasks_at-later new.now new.delayed_list a.later))
     ∙ sym (tasks_at-append new.now (all_until new.now ds) new.delayed_list)
@@ -331,12 +337,20 @@ due_next old new s ds a h =
     ∙ h.delayed new.now
     ∙ ap (λ (m : ℕ). due_in s.tasks m) time
 
+-- they come at once
+pub stands_jumped : (ticks : ℕ) (old new : Timeline) (s : State) (ds : List ℕ) → Jumps ticks old new ds → StandsFor old s → StandsFor new (jump ticks s)
+unfolding jump wake_due
+stands_jumped ticks old new s ds a h =
+    let woken = all_woken ds (record new { delayed_list = old.delayed_list }) new.delayed_list (at_jump ticks s) (stands_jump ticks old new s ds a h) a.delayed in
+    subst (λ (es : List ℕ). StandsFor new (for_each make_ready es (at_jump ticks s))) (due_jump ticks old new s ds a h) woken
+
+pub due_next : (old new : Timeline) (s : State) (ds : List ℕ) → Advances old new ds → StandsFor old s → ds ≡ tasks_of (due (at_next_tick s))
+due_next old new s ds a h = due_jump 1 old new s ds a h
+
 -- a tick comes and isn't held
 pub stands_advanced : (old new : Timeline) (s : State) (ds : List ℕ) → Advances old new ds → StandsFor old s → is_scheduler_suspended s ≡ false → StandsFor new (increment_tick s)
-unfolding increment_tick advance wake_due
-stands_advanced old new s ds a h free =
-    let woken = all_woken ds (record new { delayed_list = old.delayed_list }) new.delayed_list (at_next_tick s) (stands_next old new s ds a h) a.delayed in
-    rw free (subst (λ (es : List ℕ). StandsFor new (for_each make_ready es (at_next_tick s))) (due_next old new s ds a h) woken)
+unfolding increment_tick advance jump wake_due
+stands_advanced old new s ds a h free = rw free (stands_jumped 1 old new s ds a h)
 
 -- the clock, where so many ticks are held
 abbrev pub holding : Timeline → ℕ → Timeline

@@ -17,9 +17,13 @@ tasks_at time delayed_list = tasks_in (filter (λ e. e.1 == time) delayed_list)
 abbrev pub at_time : State → ℕ → State
 at_time s time = record s { time = time }
 
--- the state when a tick has come that isn't held, before anyone wakes
+-- the state when so many ticks have come that aren't held, before anyone wakes
+abbrev pub at_jump : ℕ → State → State
+at_jump ticks s = record s { time = s.time + ticks; elapsed = s.elapsed + ticks }
+
+-- the state when one has
 abbrev pub at_next_tick : State → State
-at_next_tick s = record s { time = s.time + 1; elapsed = s.elapsed + 1 }
+at_next_tick s = at_jump 1 s
 
 -- the state before the last of the held ticks came
 abbrev pub before_held : State → State

@@ -25,13 +25,23 @@ abbrev pub first_at : ℕ → List (ℕ × ℕ) → Option ℕ
 first_at time [] = None
 first_at time (e ∷ entries) = if e.1 == time then Some e.0 else None
 
--- One tick passes: the sleepers whose wake time has come are due, and the others sleep on. Held ticks stay held.
-pub record Advances (old new : Timeline) (due : List ℕ) : Type 0 where
-  pub now : new.now ≡ old.now + 1
-  pub age : new.age ≡ old.age + 1
+-- So many ticks pass, before the last of which nobody is due: the sleepers whose wake time has come then are due, in the order
+-- in which they began, and the others sleep on. Held ticks stay held.
+pub record Jumps (ticks : ℕ) (old new : Timeline) (due : List ℕ) : Type 0 where
+  pub now : new.now ≡ old.now + ticks
+  pub age : new.age ≡ old.age + ticks
   pub held : new.held ≡ old.held
   pub delayed : old.delayed_list ≡ all_until new.now due ++ new.delayed_list
   pub later : Each (λ e. new.now < e.1) new.delayed_list
+
+-- One tick passes.
+abbrev pub Advances : Timeline → Timeline → List ℕ → Type 0
+Advances old new due = Jumps 1 old new due
+
+-- the first wake time, where anybody sleeps
+abbrev pub first_time : List (ℕ × ℕ) → Option ℕ
+first_time [] = None
+first_time (e ∷ entries) = Some e.1
 
 -- the entries of a list, with their ticks counted from `base`
 abbrev pub count_from : ℕ → List (ℕ × ℕ) → List (ℕ × ℕ)
@@ -58,9 +68,11 @@ pub record IsClock (lists : List (List (ℕ × ℕ))) (age base tick current ove
   pub overflow_known : overflow < 2
   pub differ : current ≢ overflow
   pub young : base + tick ≤ age + 2 ^ 32
-  pub countable : age ≤ 2 ^ 62
+  pub countable : age ≤ 2 ^ 62 + 2 ^ 32
   pub ahead : Each (λ e. tick < e.1) (entries_of lists current)
   pub fits : Each (λ e. e.1 < 2 ^ 32) (entries_of lists current)
   pub overflow_fits : Each (λ e. e.1 < 2 ^ 32) (entries_of lists overflow)
+  -- nobody sleeps for 2^32 ticks
+  pub near : Each (λ e. e.1 < tick) (entries_of lists overflow)
   pub sorted : IsSorted (entries_of lists current)
   pub overflow_sorted : IsSorted (entries_of lists overflow)

@@ -1,13 +1,13 @@
 //! The clock: its tick, and its two lists of sleepers.
-ghost use Rattle.std.specs.Prelude.{◌≡◌, ◌+◌, ◌-◌, ◌*◌, ◌^◌, ◌<◌, ◌≤◌, ◌%◌, [], min, true, false, length, IsTrue, ◌↔◌, Some, ◌≢◌, ℕ, Option};
+ghost use Rattle.std.specs.Prelude.{◌≡◌, ◌+◌, ◌-◌, ◌*◌, ◌^◌, ◌<◌, ◌≤◌, ◌%◌, [], min, true, false, length, IsTrue, ◌↔◌, Some, ◌≢◌, ℕ, Option, MatchOption, option_map};
 ghost use Rattle.lists.specs.Lists.{insert_sorted, without, Each};
 ghost use Rattle.model.specs.State.{State, Suspended, with_status};
 ghost use Rattle.model.specs.Order.{tasks_of};
 ghost use Rattle.model.specs.Switching as switching;
 ghost use Rattle.model.specs.Switching.{is_scheduler_suspended};
 ghost use Rattle.model.specs.Time as time;
-ghost use Rattle.clock.specs.Timeline.{is_asleep, Advances};
-ghost use Rattle.clock.specs.StandsFor.{StandsFor, StandsBefore, before_held, at_next_tick};
+ghost use Rattle.clock.specs.Timeline.{is_asleep, first_time, Advances, Jumps};
+ghost use Rattle.clock.specs.StandsFor.{StandsFor, StandsBefore, before_held, at_next_tick, at_jump};
 
 use crate::due::{Due, first_due, take_due};
 use lists::ListId;
@@ -121,13 +121,22 @@ impl Clock {
         Mark { moment: self.now() }
     }
 
+    /// The ticks since a mark of this clock, however many. Held ticks haven't advanced, so they don't count. The mark is not
+    /// after now.
+    pub fn lag(&self, mark: Mark) -> u64
+        requires { mark.moment ≤ self.now.now }
+        ensures lag { result ≡ self.now.now - mark.moment }
+    {
+        self.now() - mark.moment
+    }
+
     /// The ticks since a mark of this clock, or 4294967295 where there are more (profile). Held ticks haven't advanced, so
     /// they don't count. The mark is not after now.
     pub fn elapsed_since(&self, mark: Mark) -> u32
         requires { mark.moment ≤ self.now.now }
         ensures elapsed { result ≡ min (self.now.now - mark.moment) 4294967295 }
     {
-        let elapsed = self.now() - mark.moment;
+        let elapsed = self.lag(mark);
         if elapsed < u32::MAX as u64 {
             elapsed as u32
         } else {
@@ -352,5 +361,62 @@ impl Clock {
     {
         self.age += 1;
         self.tick += 1;
+    }
+
+    /// How many ticks it is until the first sleeper wakes, 1 to 4294967295; `None` where nobody sleeps.
+    pub fn nearest(&self) -> Option<u32>
+        ensures nearest { result
+            ≡ option_map (λ time. time - self.now.now) (first_time self.now.delayed_list) }
+        // It is at least one, and nobody wakes before.
+        ensures ahead { MatchOption result (self.now.delayed_list ≡ [])
+            (λ ticks. (0 < ticks) × Each (λ e. self.now.now + ticks ≤ e.1) self.now.delayed_list) }
+    {
+        if let Some(first) = self.lists.first(self.current) {
+            return Some(self.lists.value(first) - self.tick);
+        }
+        let first = self.lists.first(self.overflow)?;
+        Some(u32::MAX - self.tick + self.lists.value(first) + 1)
+    }
+
+    /// Lets so many ticks pass at once, 1 to 4294967295, as an idle that has slept through them does (`vTaskStepTick`): before
+    /// the last of them nobody's sleep ends (so they are at most as many as `nearest` answers, where it answers any). Ends the
+    /// sleep of the tasks whose wake time has come: they are answered in the order in which they began to sleep. Before the
+    /// call the age is below 2^62 ticks. Ticks that are held stay held.
+    pub fn jump(&mut self, ticks: u32) -> Due
+        requires some { 0 < ticks }
+        requires soon { Each (λ e. self.old.now + ticks ≤ e.1) self.old.delayed_list }
+        requires age { self.old.age < 2 ^ 62 }
+        ensures jumps { Jumps ticks self.old self.new result.items }
+        // They are those whom the definitions have due then.
+        ensures due { (s : State) → StandsFor self.old s
+            → result.items ≡ tasks_of (time.due (at_jump ticks s)) }
+        // Once they are Ready too, the ticks have come.
+        ensures woken { (s : State) → StandsFor self.old s → StandsFor self.new (time.jump ticks s) }
+    {
+        let mut due = Due::new();
+        self.jump_into(ticks, &mut due);
+        due
+    }
+
+    /// As `jump`, but writes the tasks into the list `due`, in place of what it has.
+    pub fn jump_into(&mut self, ticks: u32, due: &mut Due)
+        requires some { 0 < ticks }
+        requires soon { Each (λ e. self.old.now + ticks ≤ e.1) self.old.delayed_list }
+        requires age { self.old.age < 2 ^ 62 }
+        ensures jumps { Jumps ticks self.old self.new due.new.items }
+        ensures due { (s : State) → StandsFor self.old s
+            → due.new.items ≡ tasks_of (time.due (at_jump ticks s)) }
+        ensures woken { (s : State) → StandsFor self.old s → StandsFor self.new (time.jump ticks s) }
+    {
+        due.clear();
+        self.age += ticks as u64;
+        let tick = self.tick.wrapping_add(ticks);
+        let wraps = tick < self.tick;
+        self.tick = tick;
+        if wraps {
+            self.overflows += 1;
+            mem::swap(&mut self.current, &mut self.overflow);
+        }
+        take_due(&mut self.lists, self.current, tick, due);
     }
 }

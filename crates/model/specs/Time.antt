@@ -40,6 +40,10 @@ increment_tick s =
     let t : State = record s { elapsed = s.elapsed + 1 } in
     if is_scheduler_suspended s then record t { held_ticks = s.held_ticks + 1 } else advance t
 
+-- So many ticks come at once, before the last of which nobody is due: idle slept through them (`vTaskStepTick`).
+unfoldable pub jump : ℕ → State → State
+jump ticks s = wake_due (record s { time = s.time + ticks; elapsed = s.elapsed + ticks })
+
 -- A tick that was held is applied.
 unfoldable pub apply_one : State → State
 apply_one s = advance (record s { held_ticks = s.held_ticks - 1 })

@@ -1,5 +1,6 @@
 //! Sleepers across the wrap of the tick.
-ghost use Rattle.std.specs.Prelude.{◌<◌};
+ghost use Rattle.lists.specs.Lists.{Each};
+ghost use Rattle.std.specs.Prelude.{◌+◌, ◌<◌, ◌≤◌};
 
 use clock::{Clock, Mark};
 use model::TaskId;
@@ -58,6 +59,37 @@ fn has_elapsed(rt: &impl Abort, clock: &Clock, mark: Mark, expected: u32) {
     );
 }
 
+/// Compares how many ticks lie between the mark and now, however many.
+fn lags(rt: &impl Abort, clock: &Clock, mark: Mark, expected: u64) {
+    assert!(rt; mark.moment <= clock.mark().moment);
+    assert!(rt; clock.lag(mark) == expected, "{expected} ticks behind");
+}
+
+/// Compares how many ticks it is until the first sleeper wakes.
+fn has_nearest(rt: &impl Abort, clock: &Clock, expected: Option<u32>) {
+    assert!(rt; clock.nearest() == expected, "{expected:?} is nearest");
+}
+
+/// Nobody wakes before the last of so many ticks.
+fn reaches(rt: &impl Abort, clock: &Clock, ticks: u32)
+    ensures { Each (λ e. clock.now.now + ticks ≤ e.1) clock.now.delayed_list }
+{
+    match clock.nearest() {
+        None => {}
+        Some(nearest) => assert!(rt; ticks <= nearest, "{nearest} is nearer"),
+    }
+}
+
+/// Lets so many ticks pass at once, and compares the tasks that wake.
+fn jump(rt: &impl Abort, clock: &mut Clock, ticks: u32, expected: &[TaskId])
+    requires { 0 < ticks }
+{
+    assert!(rt; clock.age() < 1 << 40);
+    reaches(rt, clock, ticks);
+    let due = clock.jump(ticks);
+    assert!(rt; due.as_slice() == expected, "{expected:?} wake");
+}
+
 #[test]
 fn sleepers_wake_across_the_wrap(rt: HostRuntime) {
     let mut clock = Clock::new(u32::MAX - 1);
@@ -105,4 +137,85 @@ fn a_sleep_that_is_over_makes_no_difference(rt: HostRuntime) {
     assert!(rt; clock.is_same(&other));
     hold_tick(&rt, &mut other);
     assert!(rt; !clock.is_same(&other));
+}
+
+#[test]
+fn a_jump_ends_where_the_first_sleeper_wakes(rt: HostRuntime) {
+    let mut clock = Clock::new(5);
+    has_nearest(&rt, &clock, None);
+    sleep(&rt, &mut clock, TaskId { number: 3 }, 9);
+    sleep(&rt, &mut clock, TaskId { number: 4 }, 2);
+    sleep(&rt, &mut clock, TaskId { number: 1 }, 9);
+    has_nearest(&rt, &clock, Some(2));
+    jump(&rt, &mut clock, 1, &[]);
+    has_nearest(&rt, &clock, Some(1));
+    jump(&rt, &mut clock, 1, &[TaskId { number: 4 }]);
+    has_nearest(&rt, &clock, Some(7));
+    hold_tick(&rt, &mut clock);
+    let last = [TaskId { number: 3 }, TaskId { number: 1 }];
+    jump(&rt, &mut clock, 7, &last);
+    shows(&rt, &clock, 14, 9, 1);
+    has_nearest(&rt, &clock, None);
+}
+
+#[test]
+fn a_jump_goes_across_the_wrap(rt: HostRuntime) {
+    let mut clock = Clock::new(u32::MAX - 9);
+    let mark = clock.mark();
+    sleep(&rt, &mut clock, TaskId { number: 9 }, 12);
+    has_nearest(&rt, &clock, Some(12));
+    jump(&rt, &mut clock, 11, &[]);
+    shows(&rt, &clock, 1, 11, 0);
+    has_nearest(&rt, &clock, Some(1));
+    jump(&rt, &mut clock, 1, &[TaskId { number: 9 }]);
+    shows(&rt, &clock, 2, 12, 0);
+    lags(&rt, &clock, mark, 12);
+    assert!(rt; clock.now() == (1 << 32) + 2);
+}
+
+#[test]
+fn a_jump_ends_at_the_wrap(rt: HostRuntime) {
+    let mut clock = Clock::new(u32::MAX - 9);
+    sleep(&rt, &mut clock, TaskId { number: 4 }, 10);
+    sleep(&rt, &mut clock, TaskId { number: 9 }, 12);
+    sleep(&rt, &mut clock, TaskId { number: 2 }, 10);
+    has_nearest(&rt, &clock, Some(10));
+    let both = [TaskId { number: 4 }, TaskId { number: 2 }];
+    jump(&rt, &mut clock, 10, &both);
+    shows(&rt, &clock, 0, 10, 0);
+    has_nearest(&rt, &clock, Some(2));
+    advance_if_none_due(&rt, &mut clock, true);
+    advance(&rt, &mut clock, &[TaskId { number: 9 }]);
+    shows(&rt, &clock, 2, 12, 0);
+}
+
+#[test]
+fn jumps_go_over_several_wraps(rt: HostRuntime) {
+    let mut clock = Clock::new(1);
+    let mark = clock.mark();
+    sleep(&rt, &mut clock, TaskId { number: 6 }, u32::MAX);
+    has_nearest(&rt, &clock, Some(u32::MAX));
+    jump(&rt, &mut clock, u32::MAX, &[TaskId { number: 6 }]);
+    shows(&rt, &clock, 0, u32::MAX as u64, 0);
+    lags(&rt, &clock, mark, u32::MAX as u64);
+    jump(&rt, &mut clock, u32::MAX, &[]);
+    sleep(&rt, &mut clock, TaskId { number: 6 }, 3);
+    jump(&rt, &mut clock, 3, &[TaskId { number: 6 }]);
+    shows(&rt, &clock, 2, (2 << 32) + 1, 0);
+    lags(&rt, &clock, mark, (2 << 32) + 1);
+    has_elapsed(&rt, &clock, mark, u32::MAX);
+    assert!(rt; clock.now() == (2 << 32) + 2);
+}
+
+#[test]
+fn a_jump_is_as_many_ticks_one_by_one(rt: HostRuntime) {
+    let mut clock = Clock::new(u32::MAX);
+    sleep(&rt, &mut clock, TaskId { number: 3 }, 3);
+    let mut other = clock.copy();
+    jump(&rt, &mut clock, 3, &[TaskId { number: 3 }]);
+    advance(&rt, &mut other, &[]);
+    advance(&rt, &mut other, &[]);
+    assert!(rt; !clock.is_same(&other));
+    advance(&rt, &mut other, &[TaskId { number: 3 }]);
+    assert!(rt; clock.is_same(&other));
 }

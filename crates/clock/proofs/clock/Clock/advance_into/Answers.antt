@@ -1,7 +1,7 @@
 use Rattle.std.proofs.Common.{◌≡◌, ◌+◌, ◌*◌, ◌^◌, sym, ap, subst, arith}
 use Rattle.clock.specs.Timeline.{Timeline}
 use Rattle.clock.specs.declared.clock.Clock.TheInside.{Inside}
-use Rattle.clock.proofs.Advancing.{Turned, turned_over, ticked, clock_after, advances}
+use Rattle.clock.proofs.Advancing.{Turned, turned_over, ticked, clock_after, jumps}
 use Rattle.clock.proofs.Standing.{due_next, stands_advanced}
 use Rattle.clock.proofs.clock.Clock.advance_into.Goals.{then-self, else-self}
 use Rattle.clock.proofs.clock.Clock.advance_into.Goals as goal
@@ -15,7 +15,7 @@ invariant_of-self c =
       | then-self w ↦ subst P (sym w.self-inside-is) (rw (w.swap.ensures.x_after, w.swap.ensures.y_after) (turned_over c.self.invariant c.self.view_is (2 ^ 32 * (q.overflows + 1)) (omega arith) (omega (arith, w.if-self.true))))
       | else-self w ↦ subst P (sym w.self-inside-is) (ticked c.self.invariant c.self.view_is (let ne = w.if-self.false in omega (arith, ne)))
     ] in
-    clock_after turned c.take_due.new.lists _ c.take_due.ensures.due c.take_due.ensures.later c.take_due.ensures.others c.take_due.ensures.sound c.requires
+    clock_after turned c.take_due.new.lists _ c.take_due.ensures.due c.take_due.ensures.later c.take_due.ensures.others c.take_due.ensures.sound c.requires (omega arith)
 
 pub returns-clause-advances : goal.returns-clause-advances
 returns-clause-advances c =
@@ -31,7 +31,7 @@ returns-clause-advances c =
       | then-self w ↦ subst H (sym w.self-inside-is) (ap (λ (t : Timeline). t.held) c.self.view_is)
       | else-self w ↦ subst H (sym w.self-inside-is) (ap (λ (t : Timeline). t.held) c.self.view_is)
     ] in
-    advances turned c.take_due.new.lists _ c.take_due.ensures.due c.take_due.ensures.later c.take_due.ensures.others s.held held
+    jumps turned c.take_due.new.lists _ c.take_due.ensures.due c.take_due.ensures.later c.take_due.ensures.others s.held held
 
 pub returns-clause-due : goal.returns-clause-due
 returns-clause-due c = λ s h. due_next c.args.self.now _ s _ (returns-clause-advances c) h

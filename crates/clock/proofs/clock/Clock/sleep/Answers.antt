@@ -33,8 +33,10 @@ invariant_of-self-in-None c =
     let w = (q.tick + c.args.ticks) % 2 ^ 32 in
     let put = c.insert_sorted_from_back-in-None.ensures.put in
     let fits : w < 2 ^ 32 = omega arith in
+    let past : 2 ^ 32 ≤ q.tick + c.args.ticks = omega (arith, c.in-None.ensures) in
+    let soon : w < q.tick = omega (arith, past) in
     let P : List (List (ℕ × ℕ)) → Type 0 = λ ls. IsClock ls q.age (2 ^ 32 * q.overflows) q.tick q.current.number q.overflow.number in
-    subst P (sym put) (into_overflow c.self.invariant c.args.task w fits (subst (IsSound 2 32) put c.insert_sorted_from_back-in-None.ensures.sound))
+    subst P (sym put) (into_overflow c.self.invariant c.args.task w fits soon (subst (IsSound 2 32) put c.insert_sorted_from_back-in-None.ensures.sound))
 
 pub returns-in-Some-clause-delayed : goal.returns-in-Some-clause-delayed
 returns-in-Some-clause-delayed c =
