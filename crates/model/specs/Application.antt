@@ -1,14 +1,16 @@
 -- An application, as its file has it.
-use Rattle.std.specs.Prelude.{ℕ, ◌==◌, List, [], length, map, filter, Option, slice_get, option_map, unwrap_or}
+use Rattle.std.specs.Prelude.{ℕ, ◌-◌, ◌==◌, Bool, false, List, [], ◌∷◌, length, map, filter, take, Option, Some, None, slice_get, option_map, unwrap_or, if◌then◌else◌}
 use Rattle.model.specs.declared.object.ObjectKind.{ObjectKind}
 use Rattle.model.specs.declared.op.Op.{Op}
 use Rattle.model.specs.declared.op.IsrOp.{IsrOp}
 use Rattle.model.specs.declared.plan.PointEntry.{PointEntry}
 
--- a task of the file
+-- a task of the file, or the daemon
 pub record Definition : Type 0 where
   pub name : List ℕ
   pub priority : ℕ
+  -- No run waits for its end.
+  pub endless : Bool
   pub script : List Op
 
 -- an interrupt handler of the file
@@ -36,9 +38,27 @@ pub record Application : Type 0 where
   pub group_count : ℕ
   pub handlers : List Handler
   pub interrupts : List Interrupt
+  -- those of the file, and behind them the daemon, where there is one
   pub tasks : List Definition
+  -- the number of the daemon; its queue is the last object
+  pub daemon : Option ℕ
   -- of the campaign, which no run depends on
   pub points : List PointEntry
+
+-- of these, one for each task, those of the tasks of the file: all before the daemon's
+abbrev pub of_file : {X : Type 0} → (daemon : Option ℕ) → List X → List X
+of_file None xs = xs
+of_file (Some daemon) xs = take daemon xs
+
+-- the number of the daemon's queue
+abbrev pub commands_of : Application → ℕ
+commands_of app = length app.objects - 1
+
+-- of these, one for each task, all but those of the endless tasks
+abbrev pub without_endless : {X : Type 0} → List Definition → List X → List X
+without_endless [] xs = xs
+without_endless (d ∷ ds) [] = []
+without_endless (d ∷ ds) (x ∷ xs) = if d.endless then without_endless ds xs else x ∷ without_endless ds xs
 
 -- the task of this number, as the file has it
 abbrev pub definition_of : Application → ℕ → Option Definition
@@ -47,6 +67,10 @@ definition_of app task = slice_get app.tasks task
 -- the script of a task
 abbrev pub script_of : Application → ℕ → List Op
 script_of app task = unwrap_or (option_map (λ (d : Definition). d.script) (definition_of app task)) []
+
+-- No run waits for the end of this task.
+abbrev pub is_endless : Application → ℕ → Bool
+is_endless app task = unwrap_or (option_map (λ (d : Definition). d.endless) (definition_of app task)) false
 
 -- the op of this index in a task's script
 abbrev pub op_at : Application → ℕ → ℕ → Option Op

@@ -1,16 +1,18 @@
 -- Interrupt handlers: they do their ops without waiting, before a step or at a tick.
 use Rattle.std.specs.Prelude.{ℕ, ◌+◌, List, [], ◌∷◌, Option, Some, None}
 use Rattle.model.specs.declared.op.IsrOp.{IsrOp}
-use Rattle.model.specs.declared.op.IsrOp.TheVariants.{Do, Resume, GetBits, Mark}
+use Rattle.model.specs.declared.op.IsrOp.TheVariants.{Do, Command, Resume, GetBits, Mark}
+use Rattle.model.specs.declared.op.Access.TheVariants.{Send}
 use Rattle.model.specs.declared.event.What.{What}
 use Rattle.model.specs.declared.event.What.TheVariants.{Isr, IsrNone, IsrMark}
-use Rattle.model.specs.Application.{Application, ops_of, interrupts_at}
+use Rattle.model.specs.Application.{Application, ops_of, commands_of, interrupts_at}
 use Rattle.model.specs.State.{State, status_at, bits_at, for_each}
 use Rattle.model.specs.Switching.{write, preempt, slice, unless_held}
 use Rattle.model.specs.Time.{increment_tick}
 use Rattle.model.specs.Ops.{one_if}
 use Rattle.model.specs.Objects.{answer_to, attempt}
 use Rattle.model.specs.Suspension.{can_resume, resume}
+use Rattle.model.specs.Daemon.{item_of}
 
 -- what an op of a handler tells: its answer, or that this is `none`
 abbrev pub isr_told : ℕ → ℕ → Option ℕ → What
@@ -19,22 +21,24 @@ isr_told handler op_index None = IsrNone handler op_index
 
 -- what each op of a handler does, and its event: a call is done if it is possible (`xQueueSendFromISR` and the like); the
 -- answer of resume, and mark, are profile
-abbrev pub isr : ℕ → ℕ → IsrOp → State → State
-isr handler op_index (Do object access) s =
+abbrev pub isr : Application → ℕ → ℕ → IsrOp → State → State
+isr app handler op_index (Do object access) s =
     write (isr_told handler op_index (answer_to s object access)) (attempt None object access s)
-isr handler op_index (Resume task) s =
+isr app handler op_index (Command c) s =
+    write (isr_told handler op_index (answer_to s (commands_of app) (Send (item_of c)))) (attempt None (commands_of app) (Send (item_of c)) s)
+isr app handler op_index (Resume task) s =
     write (isr_told handler op_index (one_if (can_resume (status_at s task)))) (resume task s)
-isr handler op_index (GetBits group) s = write (isr_told handler op_index (Some (bits_at s group))) s
-isr handler op_index (Mark n) s = write (IsrMark handler n) s
+isr app handler op_index (GetBits group) s = write (isr_told handler op_index (Some (bits_at s group))) s
+isr app handler op_index (Mark n) s = write (IsrMark handler n) s
 
 -- ops of a handler, one after another; the first is the one of this index
-abbrev pub isr_each : ℕ → ℕ → List IsrOp → State → State
-isr_each handler op_index [] s = s
-isr_each handler op_index (op ∷ ops) s = isr_each handler (op_index + 1) ops (isr handler op_index op s)
+abbrev pub isr_each : Application → ℕ → ℕ → List IsrOp → State → State
+isr_each app handler op_index [] s = s
+isr_each app handler op_index (op ∷ ops) s = isr_each app handler (op_index + 1) ops (isr app handler op_index op s)
 
 -- The handler runs.
 unfoldable pub handle : Application → ℕ → State → State
-handle app handler s = isr_each handler 0 (ops_of app handler) s
+handle app handler s = isr_each app handler 0 (ops_of app handler) s
 
 -- An injected handler runs, and a higher task may run after it (`portYIELD_FROM_ISR`).
 unfoldable pub inject : Application → ℕ → State → State

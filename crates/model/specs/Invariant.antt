@@ -3,8 +3,9 @@ use Rattle.std.specs.Prelude.{◌≡◌, ◌<◌, ◌≤◌, ℕ, ◌+◌, Bool,
 use Rattle.std.specs.List.{AllByRecursion}
 use Rattle.model.specs.declared.object.ObjectKind.{ObjectKind}
 use Rattle.model.specs.declared.object.ObjectKind.TheVariants.{Queue, Semaphore}
+use Rattle.model.specs.declared.op.Access.TheVariants.{Receive}
 use Rattle.model.specs.declared.op.Op.{Op}
-use Rattle.model.specs.declared.op.Op.TheVariants.{Work, Await, SetBits, WaitBits}
+use Rattle.model.specs.declared.op.Op.TheVariants.{Work, Await, SetBits, WaitBits, NextCommand, Obey}
 use Rattle.model.specs.declared.call.Phase.{Phase}
 use Rattle.model.specs.declared.call.Phase.TheVariants.{Start, Try, Decide, Place, Unlock, Leave, Final}
 use Rattle.model.specs.declared.call.WaitList.{WaitList}
@@ -86,6 +87,8 @@ abbrev pub course : Option Op → Course
 course (Some (Await object access ticks)) = OnObject object
 course (Some (WaitBits group condition ticks)) = ForBits
 course (Some (SetBits group mask)) = ToSetBits
+course (Some (NextCommand object)) = OnObject object
+course (Some Obey) = ToSetBits
 course _ = InOne
 
 -- A task whose op goes so may be in this phase: in Place and Unlock the object is locked, and in Leave none is.
@@ -104,6 +107,7 @@ IsPhaseOf hold _ _ = ⊥
 -- the list in which a task waits in this op
 abbrev pub list_of_op : Option Op → Option WaitList
 list_of_op (Some (Await object access ticks)) = Some (list_for object access)
+list_of_op (Some (NextCommand object)) = Some (list_for object Receive)
 list_of_op _ = None
 
 -- A wait is that of this op, and of the call that has this deadline.

@@ -15,6 +15,7 @@ pub mod Objects
 pub mod Calls
 pub mod Groups
 pub mod Suspension
+pub mod Daemon
 pub mod Handlers
 pub mod Step
 pub mod Run

@@ -1,5 +1,5 @@
 -- A run of the kernel, from reset to its end, with handlers injected by a plan.
-use Rattle.std.specs.Prelude.{◌≡◌, ℕ, zero, suc, ◌<◌, ◌==◌, ◌&&◌, Bool, not, List, [], ◌∷◌, ◌++◌, map, filter, Option, Some, None, is_some, is_none, nat_lt, nat_le, if◌then◌else◌}
+use Rattle.std.specs.Prelude.{◌≡◌, ℕ, zero, suc, ◌<◌, ◌==◌, ◌&&◌, Bool, not, List, [], ◌++◌, map, filter, Option, Some, None, is_some, is_none, nat_lt, nat_le, if◌then◌else◌}
 use Rattle.std.specs.List.{list_any, list_all}
 use Rattle.std.specs.Option.{option_or}
 use Rattle.model.specs.declared.event.Event.{Event}
@@ -7,13 +7,13 @@ use Rattle.model.specs.declared.event.End.{End}
 use Rattle.model.specs.declared.event.End.TheVariants.{Pass, Ticks, Steps, Stuck}
 use Rattle.model.specs.declared.plan.Injection.{Injection}
 use Rattle.model.specs.Points.{first_step}
-use Rattle.model.specs.Application.{Application, Interrupt, Limits}
+use Rattle.model.specs.Application.{Application, Interrupt, Limits, without_endless}
 use Rattle.model.specs.State.{State, Task, wake_time_of}
 use Rattle.model.specs.Step.{is_ended, step, reset}
 
--- Every task has come to the end of its script.
-abbrev pub are_all_ended : State → Bool
-are_all_ended s = list_all (λ (t : Task). is_ended t.status) s.tasks
+-- Every task but the endless ones has come to the end of its script.
+abbrev pub are_all_ended : Application → State → Bool
+are_all_ended app s = list_all (λ (t : Task). is_ended t.status) (without_endless app.tasks s.tasks)
 
 -- Some task will wake by itself.
 abbrev pub will_wake : State → Bool
@@ -30,7 +30,7 @@ is_stuck app s = is_none s.current && not (will_wake s) && not (is_interrupt_to_
 -- the end of a run before the next step: the first of these that holds (profile)
 abbrev pub end_of : Application → Limits → State → Option End
 end_of app limits s = option_or s.stopped (
-    if are_all_ended s then Some Pass
+    if are_all_ended app s then Some Pass
     else if nat_le limits.ticks s.elapsed then Some Ticks
     else if nat_le limits.steps s.steps then Some Steps
     else if is_stuck app s then Some Stuck

@@ -1,19 +1,19 @@
 -- Which scripts, handlers and applications are well formed.
-use Rattle.std.specs.Prelude.{◌≡◌, ◌<◌, ◌≤◌, ℕ, ◌+◌, ◌-◌, ◌&&◌, ◌==◌, nat_lt, nat_le, Bool, true, false, not, List, [], ◌∷◌, length, Option, Some, None, slice_get, option_map, unwrap_or}
+use Rattle.std.specs.Prelude.{◌≡◌, ◌<◌, ◌≤◌, ℕ, ◌+◌, ◌-◌, ◌&&◌, ◌==◌, nat_lt, nat_le, Bool, true, false, not, List, [], ◌∷◌, length, Option, Some, None, is_some, IfSome, slice_get, option_map, unwrap_or, if◌then◌else◌}
 use Rattle.std.specs.List.{AllByRecursion}
 use Rattle.model.specs.declared.object.ObjectKind.{ObjectKind}
 use Rattle.model.specs.declared.object.ObjectKind.TheVariants.{Queue, Semaphore, Mutex}
 use Rattle.model.specs.declared.op.Access.{Access}
 use Rattle.model.specs.declared.op.Access.TheVariants.{Send, SendFront, Overwrite, Receive, Peek, Take, Give, Lock}
 use Rattle.model.specs.declared.op.Op.{Op}
-use Rattle.model.specs.declared.op.Op.TheVariants.{Work, DelayUntil, Repeat, End, Await, Do, GiveMutex, MessagesWaiting, SpacesAvailable, SetBits, ClearBits, GetBits, WaitBits, Suspend, Resume}
+use Rattle.model.specs.declared.op.Op.TheVariants.{Work, DelayUntil, Repeat, End, Await, Do, GiveMutex, MessagesWaiting, SpacesAvailable, SetBits, ClearBits, GetBits, WaitBits, Suspend, Resume, NextCommand, Obey}
 use Rattle.model.specs.declared.op.IsrOp.{IsrOp}
 use Rattle.model.specs.declared.op.IsrOp.TheVariants as isr
 use Rattle.model.specs.declared.plan.Injection.{Injection}
 use Rattle.model.specs.declared.plan.PointEntry.{PointEntry}
 use Rattle.model.specs.declared.plan.PointEntry.TheVariants.{One, Every}
 use Rattle.model.specs.Points.{IsPoint}
-use Rattle.model.specs.Application.{Application, Handler, Interrupt, Definition, interrupts_at}
+use Rattle.model.specs.Application.{Application, Handler, Interrupt, Definition, interrupts_at, of_file, commands_of, script_of, is_endless}
 
 -- ---- how many there may be (profile)
 
@@ -29,7 +29,7 @@ most_name_bytes = 16
 abbrev pub priorities : ℕ
 priorities = 32
 
--- of objects of an application, of all kinds together
+-- of objects of an application, of all kinds together; the queue of the daemon is one more
 abbrev pub most_objects : ℕ
 most_objects = 32
 
@@ -206,11 +206,11 @@ may_interrupt _ = true
 abbrev pub has_group : Application → ℕ → Bool
 has_group app group = nat_lt group app.group_count
 
--- The application has the task.
+-- The file has the task: nobody names the daemon.
 abbrev pub has_task : Application → ℕ → Bool
-has_task app task = nat_lt task (length app.tasks)
+has_task app task = nat_lt task (length (of_file app.daemon app.tasks))
 
--- The application has what the op speaks of.
+-- The application has what the op speaks of; the daemon's ops are in no file.
 abbrev pub knows : Application → Op → Bool
 knows app (Await object access ticks) = fits_object app object access && may_wait access
 knows app (Do object access) = fits_object app object access && not (may_wait access)
@@ -221,6 +221,8 @@ knows app (SetBits group mask) = has_group app group
 knows app (ClearBits group mask) = has_group app group
 knows app (GetBits group) = has_group app group
 knows app (WaitBits group condition ticks) = has_group app group
+knows app (NextCommand object) = false
+knows app Obey = false
 knows app (Suspend other) = has_task app other
 knows app (Resume other) = has_task app other
 knows app _ = true
@@ -232,6 +234,7 @@ KnowsAll app task = AllByRecursion (λ op. knows app op ≡ true) task.script
 -- the same of an op of a handler, where no call waits
 abbrev pub knows_isr : Application → IsrOp → Bool
 knows_isr app (isr.Do object access) = fits_object app object access && may_interrupt access
+knows_isr app (isr.Command c) = is_some app.daemon && (has_group app c.group && is_mask c.mask)
 knows_isr app (isr.Resume task) = has_task app task
 knows_isr app (isr.GetBits group) = has_group app group
 knows_isr app (isr.Mark n) = true
@@ -269,21 +272,31 @@ pub record IsDefinition (task : Definition) : Type 0 where
   pub priority : task.priority < priorities
   pub script : IsScript task.script
 
+-- The daemon is the task behind those of the file, of which there is one at least. It asks for a command and does it, again and
+-- again, without an end; its queue is the last object (profile).
+pub record IsDaemon (app : Application) (daemon : ℕ) : Type 0 where
+  pub last : daemon + 1 ≡ length app.tasks
+  pub some : 1 ≤ daemon
+  pub endless : is_endless app daemon ≡ true
+  pub script : script_of app daemon ≡ NextCommand (commands_of app) ∷ Obey ∷ []
+  pub queue : fits_object app (commands_of app) Receive ≡ true
+
 -- an application that is not refused (profile: its limits)
 pub record IsWellFormed (app : Application) : Type 0 where
   pub some : 1 ≤ length app.tasks
   pub few : length app.tasks ≤ most_tasks
   pub tasks : AllByRecursion IsDefinition app.tasks
   pub objects : AllByRecursion IsObjectKind app.objects
-  pub few_objects : length app.objects ≤ most_objects
+  pub few_objects : length app.objects ≤ most_objects + (if is_some app.daemon then 1 else 0)
+  pub daemon : IfSome app.daemon (IsDaemon app)
   pub few_groups : app.group_count ≤ most_groups
   pub handlers : AllByRecursion (IsHandler app) app.handlers
   pub few_handlers : length app.handlers ≤ most_handlers
   pub interrupts : AllByRecursion (IsInterrupt app) app.interrupts
   pub few_interrupts : length app.interrupts ≤ most_interrupts
   pub few_at_once : (tick : ℕ) → length (interrupts_at app tick) ≤ most_at_once
-  -- each op speaks of what there is
-  pub known : AllByRecursion (KnowsAll app) app.tasks
+  -- each op of the file speaks of what there is
+  pub known : AllByRecursion (KnowsAll app) (of_file app.daemon app.tasks)
   pub points : AllByRecursion (IsPointEntry app) app.points
   pub few_points : length app.points ≤ most_points
   pub start : app.start < 4294967296

@@ -3,7 +3,7 @@ use Rattle.std.specs.Prelude.{ℕ, ◌+◌, ◌-◌, ◌&&◌, ◌==◌, Bool, t
 use Rattle.model.specs.declared.object.ObjectKind.{ObjectKind}
 use Rattle.model.specs.declared.object.ObjectKind.TheVariants.{Queue, Semaphore, Mutex}
 use Rattle.model.specs.declared.op.Op.{Op}
-use Rattle.model.specs.declared.op.Op.TheVariants.{Work, Delay, DelayUntil, Yield, Time, Mark, Expect, Repeat, End, Await, Do, GiveMutex, MessagesWaiting, SpacesAvailable, SetBits, ClearBits, GetBits, WaitBits, Suspend, Resume, SuspendAll, ResumeAll}
+use Rattle.model.specs.declared.op.Op.TheVariants.{Work, Delay, DelayUntil, Yield, Time, Mark, Expect, Repeat, End, Await, Do, GiveMutex, MessagesWaiting, SpacesAvailable, SetBits, ClearBits, GetBits, WaitBits, Suspend, Resume, SuspendAll, ResumeAll, NextCommand, Obey}
 use Rattle.model.specs.declared.event.What.TheVariants as what
 use Rattle.model.specs.declared.event.End.TheVariants as end
 use Rattle.model.specs.declared.event.Misuse.{Misuse}
@@ -16,6 +16,7 @@ use Rattle.model.specs.Calls.{await, do_now}
 use Rattle.model.specs.Mutexes.{give_mutex}
 use Rattle.model.specs.Groups.{set_bits, clear, wait_bits}
 use Rattle.model.specs.Suspension.{call_suspend, call_resume, suspend_all, resume_all}
+use Rattle.model.specs.Daemon.{next_command, obey, command_at}
 use Rattle.model.specs.Handlers.{inject, tick_interrupt}
 
 -- what each op does; that yield answers 0, and all of mark, is profile
@@ -43,6 +44,8 @@ act app task (Suspend other) s = call_suspend app task other s
 act app task (Resume other) s = call_resume app task other s
 act app task SuspendAll s = suspend_all app task s
 act app task ResumeAll s = resume_all app task s
+act app task (NextCommand object) s = next_command app task object (call_at s task).phase s
+act app task Obey s = obey app task (command_at s task) (call_at s task).phase s
 
 -- ---- misuse (profile)
 
@@ -58,6 +61,8 @@ may_switch (SetBits group mask) = true
 may_switch (WaitBits group condition ticks) = true
 may_switch (Suspend other) = true
 may_switch (Resume other) = true
+may_switch (NextCommand object) = true
+may_switch Obey = true
 may_switch _ = false
 
 -- what the op asks of the state by itself: `resume_all` that a `suspend_all` is in force, `unlock` that the task is the holder

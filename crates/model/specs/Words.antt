@@ -1,11 +1,12 @@
 -- The words of ops, with which their texts in a file begin, and the names of tasks and handlers: by these reports name them.
-use Rattle.std.specs.Prelude.{ℕ, List, [], codes, Option, slice_get, option_map, unwrap_or}
+use Rattle.std.specs.Prelude.{ℕ, List, [], codes, Option, slice_get, option_map, unwrap_or, if◌then◌else◌}
 use Rattle.std.specs.List.{position_from}
 use Rattle.std.specs.Str.{bytes_eq}
 use Rattle.model.specs.declared.op.Access.{Access}
 use Rattle.model.specs.declared.op.Access.TheVariants.{Send, SendFront, Overwrite, Receive, Peek, Take, Give, Lock}
 use Rattle.model.specs.declared.op.Op.{Op}
-use Rattle.model.specs.declared.op.Op.TheVariants.{Work, Delay, DelayUntil, Yield, Time, Mark, Expect, Repeat, End, Await, Do, GiveMutex, MessagesWaiting, SpacesAvailable, SetBits, ClearBits, GetBits, WaitBits, Suspend, Resume, SuspendAll, ResumeAll}
+use Rattle.model.specs.declared.op.Op.TheVariants.{Work, Delay, DelayUntil, Yield, Time, Mark, Expect, Repeat, End, Await, Do, GiveMutex, MessagesWaiting, SpacesAvailable, SetBits, ClearBits, GetBits, WaitBits, Suspend, Resume, SuspendAll, ResumeAll, NextCommand, Obey}
+use Rattle.model.specs.declared.op.Command.{Command}
 use Rattle.model.specs.declared.op.IsrOp.{IsrOp}
 use Rattle.model.specs.declared.op.IsrOp.TheVariants as isr
 use Rattle.model.specs.Application.{Application, Definition, Handler, definition_of, ops_of}
@@ -45,10 +46,17 @@ word_of (Suspend other) = codes "suspend"
 word_of (Resume other) = codes "resume"
 word_of SuspendAll = codes "suspend_all"
 word_of ResumeAll = codes "resume_all"
+word_of (NextCommand object) = []
+word_of Obey = []
+
+-- the first word of the text of a command
+abbrev pub word_of_command : Command → List ℕ
+word_of_command c = if c.clear then codes "clear" else codes "set"
 
 -- the first word of the text of a handler's op
 abbrev pub word_of_isr : IsrOp → List ℕ
 word_of_isr (isr.Do object access) = word_of_access access
+word_of_isr (isr.Command c) = word_of_command c
 word_of_isr (isr.Resume task) = codes "resume"
 word_of_isr (isr.GetBits group) = codes "bits"
 word_of_isr (isr.Mark n) = codes "mark"

@@ -3,12 +3,12 @@
 ghost use Rattle.std.specs.Prelude.{◌≡◌, ◌<◌, ◌≤◌, true, [], length, map, nat_lt, string_bytes};
 ghost use Rattle.std.specs.List.{list_any};
 ghost use Rattle.model.specs.Application as application;
-ghost use Rattle.model.specs.Application.{op_at, op_count, interrupts_at, ops_of};
+ghost use Rattle.model.specs.Application.{commands_of, interrupts_at, is_endless, op_at, op_count, ops_of};
 ghost use Rattle.model.specs.Words.{name_of, handler_name_of, handler_named, isr_op_at};
 ghost use Rattle.model.specs.Coming.{AreComing};
 ghost use Rattle.model.specs.Scripts.{IsScript, IsDefinition, IsWellFormed, most_handler_ops, most_name_bytes};
 
-use crate::ids::{HandlerId, TaskId};
+use crate::ids::{HandlerId, ObjectId, TaskId};
 use crate::interrupts::{BaseInterrupts, Interrupt};
 use crate::limits::Limits;
 use crate::object::ObjectKind;
@@ -22,6 +22,7 @@ use std::marker::Model;
 pub struct TaskDefinition {
     name: String,
     priority: u8,
+    endless: bool,
     script: Script,
 }
 
@@ -31,21 +32,28 @@ impl Model for TaskDefinition {
 
     ghost Value = { Definition };
 
-    ghost view = { λ t. record { name = string_bytes t.name; priority = t.priority; script = t.script } };
+    ghost view = { λ t. record {
+      name = string_bytes t.name;
+      priority = t.priority;
+      endless = t.endless;
+      script = t.script;
+    } };
 }
 
 impl TaskDefinition {
-    /// A task of this name (at most 16 bytes), priority (0 to 31, a larger number is a higher priority) and script.
-    pub fn new(name: String, priority: u8, script: Script) -> Self
+    /// A task of this name (at most 16 bytes), priority (0 to 31, a larger number is a higher priority) and script. No run waits for
+    /// the end of one that is endless.
+    pub fn new(name: String, priority: u8, endless: bool, script: Script) -> Self
         requires name { length (string_bytes name) ≤ 16 }
         requires priority { priority < 32 }
         requires script { IsScript script }
-        ensures value { result ≡ record { name = string_bytes name; priority = priority; script = script } }
+        ensures value { result ≡ record { name = string_bytes name; priority = priority; endless = endless; script = script } }
         ensures formed { IsDefinition result }
     {
         TaskDefinition {
             name,
             priority,
+            endless,
             script,
         }
     }
@@ -64,12 +72,31 @@ impl TaskDefinition {
         self.priority
     }
 
+    /// Whether no run waits for its end.
+    pub fn is_endless(&self) -> bool
+        ensures { result ≡ self.now.endless }
+    {
+        self.endless
+    }
+
     /// The ops of the script.
     pub fn ops(&self) -> &[Op]
         ensures { result.now ≡ self.now.script }
     {
         self.script.ops()
     }
+}
+
+// Whether some task is endless.
+fn is_any_endless(tasks: &[TaskDefinition]) -> bool
+    ensures { result ≡ list_any (λ (d : application.Definition). d.endless) tasks.now }
+{
+    for task in tasks {
+        if task.is_endless() {
+            return true;
+        }
+    }
+    false
 }
 
 /// An interrupt handler as the file has it: a name, and ops (profile).
@@ -128,11 +155,16 @@ pub struct App {
     handlers: Vec<HandlerDefinition>,
     interrupts: BaseInterrupts,
     tasks: Vec<TaskDefinition>,
+    daemon: Option<TaskId>,
     points: Vec<PointEntry>,
+    // whether some task is endless
+    has_endless: bool,
 }
 
 impl Model for App {
-    ghost use Rattle.model.specs.Application.{Application};
+    ghost use Rattle.std.specs.Prelude.{◌≡◌};
+    ghost use Rattle.std.specs.List.{list_any};
+    ghost use Rattle.model.specs.Application.{Application, Definition};
     ghost use Rattle.model.specs.Scripts.{IsWellFormed};
 
     ghost Value = { Application };
@@ -145,6 +177,7 @@ impl Model for App {
       handlers = a.handlers.items;
       interrupts = a.interrupts;
       tasks = a.tasks.items;
+      daemon = a.daemon;
       points = a.points.items;
     } };
 
@@ -156,8 +189,9 @@ impl Model for App {
       handlers = a.handlers.items;
       interrupts = a.interrupts;
       tasks = a.tasks.items;
+      daemon = a.daemon;
       points = a.points.items;
-    }) };
+    }) × (a.has_endless ≡ list_any (λ (d : Definition). d.endless) a.tasks.items) };
 }
 
 impl App {
@@ -180,8 +214,8 @@ impl App {
     pub const MOST_POINTS: usize = 1_000_000;
 
     /// An application of these objects, so many event groups, these handlers, base interrupts and tasks, whose time at reset
-    /// is `start`, and whose campaign has these points. They are well formed together: each is within the limits, and each op
-    /// speaks of what is there and allows it.
+    /// is `start`, and whose campaign has these points. The daemon, if there is one, is the last task, and its queue the last object.
+    /// They are well formed together: each is within the limits, and each op speaks of what is there and allows it.
     pub fn new(
         start: u32,
         limits: Limits,
@@ -190,6 +224,7 @@ impl App {
         handlers: Vec<HandlerDefinition>,
         interrupts: BaseInterrupts,
         tasks: Vec<TaskDefinition>,
+        daemon: Option<TaskId>,
         points: Vec<PointEntry>,
     ) -> Self
         requires { IsWellFormed (record {
@@ -200,6 +235,7 @@ impl App {
           handlers = handlers.items;
           interrupts = interrupts;
           tasks = tasks.items;
+          daemon = daemon;
           points = points.items;
         }) }
         ensures { result ≡ record {
@@ -210,9 +246,11 @@ impl App {
           handlers = handlers.items;
           interrupts = interrupts;
           tasks = tasks.items;
+          daemon = daemon;
           points = points.items;
         } }
     {
+        let has_endless = is_any_endless(tasks.as_slice());
         App {
             start,
             limits,
@@ -221,7 +259,9 @@ impl App {
             handlers,
             interrupts,
             tasks,
+            daemon,
             points,
+            has_endless,
         }
     }
 
@@ -308,11 +348,45 @@ impl App {
         self.interrupts.has_after(tick)
     }
 
-    /// The tasks, in the order of the file.
+    /// The tasks, in the order of the file; the daemon is the last.
     pub fn tasks(&self) -> &[TaskDefinition]
         ensures { result.now ≡ self.now.tasks }
     {
         self.tasks.as_slice()
+    }
+
+    /// The daemon: the task that sets and clears event bits for handlers.
+    pub fn daemon(&self) -> Option<TaskId>
+        ensures { result ≡ self.now.daemon }
+    {
+        self.daemon
+    }
+
+    /// The daemon's queue, where there is a daemon: the last object.
+    pub fn commands(&self) -> ObjectId
+        ensures { result ≡ commands_of self.now }
+    {
+        ObjectId {
+            number: self.objects.len().saturating_sub(1) as u8,
+        }
+    }
+
+    /// Whether some task is endless.
+    #[inline]
+    pub fn has_endless(&self) -> bool
+        ensures { result ≡ list_any (λ (d : application.Definition). d.endless) self.now.tasks }
+    {
+        self.has_endless
+    }
+
+    /// Whether no run waits for the end of this task; `false` where there is no such task.
+    pub fn is_endless(&self, task: TaskId) -> bool
+        ensures { result ≡ is_endless self.now task }
+    {
+        match self.tasks.get(task.number as usize) {
+            None => false,
+            Some(definition) => definition.is_endless(),
+        }
     }
 
     /// The points of its campaign, in the order of the file.

@@ -8,6 +8,8 @@ pub enum What {
     Call(TaskId, u16, u32),
     /// The same, with the answer `none`.
     CallNone(TaskId, u16),
+    /// The daemon has done a command, with this answer: it set bits, or (true) cleared them.
+    Obeyed(TaskId, bool, u32),
     /// The task told this mark.
     Mark(TaskId, u32),
     /// The handler did its op of this index, with this answer.

@@ -24,7 +24,7 @@ pub use interrupts::{BaseInterrupts, Interrupt};
 pub use limits::{Limits, Meter};
 pub use loops::Loop;
 pub use object::ObjectKind;
-pub use op::{Access, IsrOp, Op};
+pub use op::{Access, Command, IsrOp, Op};
 pub use plan::{BadPlan, BadPoint, Injection, Injections, Plan, Point, PointEntry};
 pub use run::{Ending, Memory, Run};
 pub use script::{NestingFault, Script, ScriptBuilder};

@@ -73,6 +73,53 @@ impl Access {
     }
 }
 
+/// What a handler has the daemon do to the bits of an event group (`xEventGroupSetBitsFromISR`, `xEventGroupClearBitsFromISR`).
+#[derive(Clone, Copy, PartialEq, Eq)]
+pub struct Command {
+    /// The event group.
+    pub group: GroupId,
+    /// The bits, 1 to 16,777,215.
+    pub mask: u32,
+    /// Whether they are cleared, or set.
+    pub clear: bool,
+}
+
+impl Command {
+    ghost use Rattle.std.specs.Prelude.{◌≡◌, ◌<◌};
+    ghost use Rattle.model.specs.Daemon.{command_of, item_of};
+    ghost use Rattle.model.specs.Words.{word_of_command};
+
+    /// The first word of its text.
+    pub fn word(self) -> &'static str
+        ensures { result.now ≡ word_of_command self }
+    {
+        if self.clear { "clear" } else { "set" }
+    }
+
+    /// The item that it is in the daemon's queue. The mask is below 2^24.
+    pub fn item(self) -> u32
+        requires { self.mask < 16777216 }
+        ensures value { result ≡ item_of self }
+        ensures same { command_of result ≡ self }
+    {
+        let kind = if self.clear { 16 } else { 0 };
+        self.mask + 16777216 * (self.group.number as u32 + kind)
+    }
+
+    /// The command that this item is.
+    pub fn of_item(item: u32) -> Self
+        ensures { result ≡ command_of item }
+    {
+        Command {
+            group: GroupId {
+                number: (item / 16777216 % 16) as u8,
+            },
+            mask: item % 16777216,
+            clear: item >= 268435456,
+        }
+    }
+}
+
 /// An op of a task's script. The numbers are those of the op's text, in the ranges of docs/FORMATS.md.
 #[derive(Clone, Copy, PartialEq, Eq)]
 pub enum Op {
@@ -123,6 +170,10 @@ pub enum Op {
     SuspendAll,
     /// Takes one `suspend_all` back (`xTaskResumeAll`).
     ResumeAll,
+    /// Waits for the next command of this queue: an op of the daemon, which no file has.
+    NextCommand(ObjectId),
+    /// Does the command that was received: an op of the daemon, which no file has.
+    Obey,
 }
 
 impl Op {
@@ -155,6 +206,7 @@ impl Op {
             Op::Resume(_) => "resume",
             Op::SuspendAll => "suspend_all",
             Op::ResumeAll => "resume_all",
+            Op::NextCommand(_) | Op::Obey => "",
         }
     }
 }
@@ -165,6 +217,8 @@ pub enum IsrOp {
     /// A call on an object, done if it is possible: send, send_front, overwrite, receive, peek or give (`xQueueSendFromISR`,
     /// `xSemaphoreGiveFromISR` and the like).
     Do(ObjectId, Access),
+    /// Sends a command to the daemon's queue, if it has room (`xEventGroupSetBitsFromISR`, `xEventGroupClearBitsFromISR`).
+    Command(Command),
     /// Resumes a suspended task (`xTaskResumeFromISR`).
     Resume(TaskId),
     /// Answers which bits of an event group are set (`xEventGroupGetBitsFromISR`).
@@ -183,6 +237,7 @@ impl IsrOp {
     {
         match *self {
             IsrOp::Do(_, access) => access.word(),
+            IsrOp::Command(command) => command.word(),
             IsrOp::Resume(_) => "resume",
             IsrOp::GetBits(_) => "bits",
             IsrOp::Mark(_) => "mark",

@@ -208,7 +208,7 @@ module _ (app : Application) (formed : IsWellFormed app) where
         (subst (λ x. IsSound app x (go_on i Leave t)) (sym same) after) (st.current ∙ runs) (rw st.tasks l) (ap (λ (x : Hold). x.held) same) refl (λ e. absurd (cc)) (λ e. setting (ap course (sym op_is) ∙ e))
         (λ j ne. ap holds (st.phase j) ∙ others_free app formed s h none j) (k.suspension ∙ calm)
 
-    pub set_begun : (group mask : ℕ) → op ≡ SetBits group mask → IsState app (begin_set i group mask s)
+    pub set_begun : (group mask : ℕ) → course (Some op) ≡ ToSetBits → IsState app (begin_set i group mask s)
     unfolding begin_set begun holding
     set_begun group mask e =
         let u : State = set group mask begun in
@@ -251,7 +251,7 @@ module _ (app : Application) (formed : IsWellFormed app) where
 -- ---- the phase Leave
 
 -- a task whose op waits in no list waits in none
-listless : (op : Option Op) (until : Option ℕ) (o : Option Wait) → list_of_op op ≡ None → IfSome o (λ w. IsWaitOf op until w) → o ≡ None
+pub listless : (op : Option Op) (until : Option ℕ) (o : Option Wait) → list_of_op op ≡ None → IfSome o (λ w. IsWaitOf op until w) → o ≡ None
 listless op until None e h = refl
 listless op until (Some w) e h = let f = h.list in absurd (cc)
 

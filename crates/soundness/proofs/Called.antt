@@ -240,9 +240,9 @@ module _ (app : Application) (formed : IsWellFormed app) (hold : Hold) where
       preempted app formed hold _ (replied s (attempt (Some i) o a s) i (Do o a) (answer_to s o a) (attempted app formed hold s (Some i) o a h same fit l) (spared_attempt s i (Some i) o a r) r is (λ n. refl))
 
   -- a wait begins
-  pub began : (s : State) (i o : ℕ) (a : Access) (ticks : Option ℕ) → IsSound app hold s → i < length s.tasks → is_ready s i ≡ true → op_at app i (progress_at s i).op_index ≡ Some (Await o a ticks) → IsSound app hold (wait_in i (list_for o a) s)
+  pub began : (s : State) (i o : ℕ) (a : Access) (op : Op) → IsSound app hold s → i < length s.tasks → is_ready s i ≡ true → op_at app i (progress_at s i).op_index ≡ Some op → list_of_op (Some op) ≡ Some (list_for o a) → IsSound app hold (wait_in i (list_for o a) s)
   unfolding wait_in
-  began s i o a ticks h l r is =
+  began s i o a op h l r is listed =
       let list : WaitList = list_for o a in
       let call : CallProgress = record (call_at s i) { waits = true } in
       let t : Task = record (task_at s i) { progress = record (progress_at s i) { call = call } } in
@@ -258,7 +258,7 @@ module _ (app : Application) (formed : IsWellFormed app) (hold : Hold) where
       let K : Task → Type 0 = λ u. IsKept app formed hold s.time i (record u { status = f s.next_ticket }) in
       taken app formed hold s1 i f h1 (omega arith) (subst K (sym at) (
         record { nests = a0.nests; loops = a0.loops; used = a0.used; reckoned = past },
-        record { phase = c0.phase; wait = record { list = subst L (sym is) refl; deadline = refl }; awake = tt; near = c0.near },
+        record { phase = c0.phase; wait = record { list = subst L (sym is) listed; deadline = refl }; awake = tt; near = c0.near },
         ((h.priorities i).0, (h.priorities i).1, (h.priorities i).1),
       ))
 

@@ -1,8 +1,9 @@
 -- What a deed leaves as it was, as one record for each deed: a field more of the state is a field more here.
-use Rattle.std.proofs.Common.{max, ◌≡◌, ◌+◌, ◌-◌, ◌||◌, ℕ, eqb, leb, ltb, List, [], ◌∷◌, Option, Some, None, refl, sym, subst, ◌∙◌, length}
+use Rattle.std.proofs.Common.{max, ◌≡◌, ◌+◌, ◌-◌, ◌||◌, ℕ, Bool, true, eqb, leb, ltb, List, [], ◌∷◌, Option, Some, None, refl, sym, subst, ◌∙◌, length}
 use Rattle.std.specs.Option.{option_map}
 use Rattle.std.proofs.Math.ListN.{length-set}
 use Rattle.model.specs.declared.op.Access.{Access}
+use Rattle.model.specs.declared.op.Access.TheVariants.{Send, Receive}
 use Rattle.model.specs.declared.call.CallProgress.{CallProgress}
 use Rattle.model.specs.declared.call.Phase.TheVariants.{Decide}
 use Rattle.model.specs.declared.call.WaitList.{WaitList}
@@ -12,7 +13,7 @@ use Rattle.model.specs.declared.event.What.{What}
 use Rattle.model.specs.declared.event.What.TheVariants as what
 use Rattle.model.specs.declared.op.IsrOp.{IsrOp}
 use Rattle.model.specs.declared.op.IsrOp.TheVariants as isr_op
-use Rattle.model.specs.Application.{Application, op_count, ops_of, interrupts_at}
+use Rattle.model.specs.Application.{Application, commands_of, op_count, ops_of, interrupts_at}
 use Rattle.model.specs.State.{State, Task, Object, Progress, Status, Ready, Asleep, Suspended, task_at, status_at, progress_at, call_at, object_at, with_task, with_progress, with_call, with_object, bits_at, with_bits, take_ticket, for_one, for_each}
 use Rattle.model.specs.Order.{tasks_of, task_of, first}
 use Rattle.model.specs.Switching.{make_ready, to_back, dispatch, choose, choice, is_same, is_ready, yield_now, is_outranked, is_sharing, preempt, slice, settle, is_held, unless_held, is_off, write}
@@ -24,6 +25,7 @@ use Rattle.model.specs.Ops.{one_if, go_to, moved_to, called, answer, use_up, del
 use Rattle.model.specs.declared.call.Condition.{Condition}
 use Rattle.model.specs.Groups.{is_met, bits_without, bits_left, keep_answer, met_by, wake_with_bits, bits_set, bits_after_set, set, clear, answer_bits}
 use Rattle.model.specs.Suspension.{can_suspend, can_resume, suspend, resumed, resume, call_suspend, call_resume}
+use Rattle.model.specs.Daemon.{item_of, received, take_command, obeyed, clear_by_daemon}
 use Rattle.model.specs.Mutexes.{set_priority, mutexes_held, lend, inherits, inherit_from, inherit, best_priority, fall_back, after_timeout, disinherit, give_mutex}
 use Rattle.model.specs.Invariant.{hold_of, suspension_of}
 use Rattle.model.specs.Handlers.{isr_told, isr, isr_each, handle, inject, interrupt}
@@ -335,32 +337,65 @@ pub keeps-call_resume : (app : Application) (i other : ℕ) (s : State) → Keep
 unfolding call_resume
 keeps-call_resume app i other s = keeps-replied app i (one_if (can_resume (status_at s other))) s (resume other s) (keeps-resume other s)
 
+-- ---- the daemon
+
+pub keeps-received : (app : Application) (i : ℕ) (a : Option ℕ) (s : State) → Keeps s (received app i a s)
+unfolding received
+keeps-received app i a s = keeps-go_to app i ((progress_at s i).op_index + 1) (record (progress_at s i) { answer = a }) s
+
+pub keeps-take_command : (app : Application) (i o : ℕ) (s : State) → Keeps s (take_command app i o s)
+unfolding take_command
+keeps-take_command app i o s =
+    let t : State = fulfil (Some i) o Receive s in
+    let u : State = received app i (answer_to s o Receive) t in
+    by_test (possible s o Receive)
+    (λ p. rw p (keeps_both s t (preempt u) (keeps-fulfil (Some i) o Receive s) (keeps_both t u (preempt u) (keeps-received app i (answer_to s o Receive) t) (keeps-preempt u))))
+    (λ p. rw p (keeps-with_call i (record (call_at s i) { phase = Decide }) s))
+
+pub keeps-obeyed : (app : Application) (i : ℕ) (clear : Bool) (bits : ℕ) (s : State) → Keeps s (obeyed app i clear bits s)
+unfolding obeyed
+keeps-obeyed app i clear bits s =
+    let k = keeps-go_to app i 0 (record (progress_at s i) { answer = Some bits }) (write (what.Obeyed i clear bits) s) in
+    record { time = k.time; elapsed = k.elapsed; steps = k.steps; stopped = k.stopped; tasks = k.tasks; hold = k.hold; suspension = k.suspension }
+
+pub keeps-clear_by_daemon : (app : Application) (i group mask : ℕ) (s : State) → Keeps s (clear_by_daemon app i group mask s)
+unfolding clear_by_daemon
+keeps-clear_by_daemon app i group mask s =
+    let bits : ℕ = bits_without (bits_at s group) mask in
+    let t : State = with_bits group bits s in
+    keeps_both s t (obeyed app i true (bits_at s group) t) (keeps-with_bits group bits s) (keeps-obeyed app i true (bits_at s group) t)
+
 -- ---- handlers
 
 pub keeps-write : (w : What) (s : State) → Keeps s (write w s)
 keeps-write w s = record { time = refl; elapsed = refl; steps = refl; stopped = refl; tasks = refl; hold = refl; suspension = refl }
 
-pub keeps-isr : (handler op_index : ℕ) (op : IsrOp) (s : State) → Keeps s (isr handler op_index op s)
-keeps-isr handler op_index (isr_op.Do o a) s =
+pub keeps-isr : (app : Application) (handler op_index : ℕ) (op : IsrOp) (s : State) → Keeps s (isr app handler op_index op s)
+keeps-isr app handler op_index (isr_op.Do o a) s =
     let t : State = attempt None o a s in
     let w : What = isr_told handler op_index (answer_to s o a) in
     keeps_both s t (write w t) (keeps-attempt None o a s) (keeps-write w t)
-keeps-isr handler op_index (isr_op.Resume task) s =
+keeps-isr app handler op_index (isr_op.Command c) s =
+    let send : Access = Send (item_of c) in
+    let t : State = attempt None (commands_of app) send s in
+    let w : What = isr_told handler op_index (answer_to s (commands_of app) send) in
+    keeps_both s t (write w t) (keeps-attempt None (commands_of app) send s) (keeps-write w t)
+keeps-isr app handler op_index (isr_op.Resume task) s =
     let t : State = resume task s in
     let w : What = isr_told handler op_index (one_if (can_resume (status_at s task))) in
     keeps_both s t (write w t) (keeps-resume task s) (keeps-write w t)
-keeps-isr handler op_index (isr_op.GetBits group) s = keeps-write (isr_told handler op_index (Some (bits_at s group))) s
-keeps-isr handler op_index (isr_op.Mark n) s = keeps-write (what.IsrMark handler n) s
+keeps-isr app handler op_index (isr_op.GetBits group) s = keeps-write (isr_told handler op_index (Some (bits_at s group))) s
+keeps-isr app handler op_index (isr_op.Mark n) s = keeps-write (what.IsrMark handler n) s
 
-keeps-isr_each : (handler op_index : ℕ) (ops : List IsrOp) (s : State) → Keeps s (isr_each handler op_index ops s)
-keeps-isr_each handler op_index [] s = keeps s
-keeps-isr_each handler op_index (op ∷ ops) s =
-    let t : State = isr handler op_index op s in
-    keeps_both s t (isr_each handler (op_index + 1) ops t) (keeps-isr handler op_index op s) (keeps-isr_each handler (op_index + 1) ops t)
+keeps-isr_each : (app : Application) (handler op_index : ℕ) (ops : List IsrOp) (s : State) → Keeps s (isr_each app handler op_index ops s)
+keeps-isr_each app handler op_index [] s = keeps s
+keeps-isr_each app handler op_index (op ∷ ops) s =
+    let t : State = isr app handler op_index op s in
+    keeps_both s t (isr_each app handler (op_index + 1) ops t) (keeps-isr app handler op_index op s) (keeps-isr_each app handler (op_index + 1) ops t)
 
 pub keeps-handle : (app : Application) (handler : ℕ) (s : State) → Keeps s (handle app handler s)
 unfolding handle
-keeps-handle app handler s = keeps-isr_each handler 0 (ops_of app handler) s
+keeps-handle app handler s = keeps-isr_each app handler 0 (ops_of app handler) s
 
 pub keeps-inject : (app : Application) (handler : ℕ) (s : State) → Keeps s (inject app handler s)
 unfolding inject

@@ -4,7 +4,7 @@ use Rattle.std.specs.List.{AllByRecursion, filter}
 use Rattle.std.specs.Option.{is_some, option_eq}
 use Rattle.std.proofs.lemmas.Option.{slice_get_past}
 use Rattle.model.specs.declared.op.Op.{Op}
-use Rattle.model.specs.declared.op.Op.TheVariants.{Work, Delay, DelayUntil, Yield, Time, Mark, Expect, Repeat, End, Await, Do, GiveMutex, MessagesWaiting, SpacesAvailable, SetBits, ClearBits, GetBits, WaitBits, Suspend, Resume, SuspendAll, ResumeAll}
+use Rattle.model.specs.declared.op.Op.TheVariants.{Work, Delay, DelayUntil, Yield, Time, Mark, Expect, Repeat, End, Await, Do, GiveMutex, MessagesWaiting, SpacesAvailable, SetBits, ClearBits, GetBits, WaitBits, Suspend, Resume, SuspendAll, ResumeAll, NextCommand, Obey}
 use Rattle.model.specs.declared.loops.Loop.{Loop}
 use Rattle.model.specs.declared.event.What.TheVariants as what
 use Rattle.model.specs.Application.{Application, script_of, op_at, op_count, interrupts_at}
@@ -160,6 +160,8 @@ module _ (app : Application) (i : ℕ) where
   acted_on (Resume j) s q ne on used l r = absurd (cc)
   acted_on SuspendAll s q ne on used l r = suspended_on s l r
   acted_on ResumeAll s q ne on used l r = absurd (ne refl)
+  acted_on (NextCommand o) s q ne on used l r = absurd (cc)
+  acted_on Obey s q ne on used l r = absurd (cc)
 
 -- ---- a `suspend_all` taken back
 

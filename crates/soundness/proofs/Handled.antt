@@ -1,19 +1,23 @@
 -- What a handler keeps of a state, and what it spares.
 use Rattle.std.proofs.Common.{◌≡◌, ◌<◌, ◌+◌, ◌&&◌, ◌||◌, ℕ, Bool, true, false, ltb, ap₂, inl, inr, get_or, set, List, [], ◌∷◌, Option, Some, None, refl, ap, sym, subst, ◌∙◌}
-use Rattle.std.specs.List.{AllByRecursion}
-use Rattle.std.specs.Option.{IfSome, is_some}
+use Rattle.std.specs.List.{AllByRecursion, slice_get}
+use Rattle.std.specs.Option.{IfSome, is_some, option_map, unwrap_or}
+use Rattle.model.specs.declared.object.ObjectKind.{ObjectKind}
+use Rattle.model.specs.declared.object.ObjectKind.TheVariants.{Queue, Semaphore, Mutex}
 use Rattle.model.specs.declared.op.Op.{Op}
-use Rattle.model.specs.declared.op.Op.TheVariants.{Work, Delay, DelayUntil, Yield, Time, Mark, Expect, Repeat, End, Await, Do, GiveMutex, MessagesWaiting, SpacesAvailable, SetBits, ClearBits, GetBits, WaitBits, Suspend, Resume, SuspendAll, ResumeAll}
+use Rattle.model.specs.declared.op.Op.TheVariants.{Work, Delay, DelayUntil, Yield, Time, Mark, Expect, Repeat, End, Await, Do, GiveMutex, MessagesWaiting, SpacesAvailable, SetBits, ClearBits, GetBits, WaitBits, Suspend, Resume, SuspendAll, ResumeAll, NextCommand, Obey}
 use Rattle.model.specs.declared.op.IsrOp.{IsrOp}
 use Rattle.model.specs.declared.op.IsrOp.TheVariants as isr_op
 use Rattle.model.specs.declared.op.Access.{Access}
+use Rattle.model.specs.declared.op.Access.TheVariants.{Send, Receive}
 use Rattle.model.specs.declared.call.Phase.{Phase}
 use Rattle.model.specs.declared.call.Phase.TheVariants.{Start, Try, Decide, Place, Unlock, Leave, Final}
 use Rattle.model.specs.declared.call.WaitList.{WaitList}
 use Rattle.model.specs.declared.event.What.{What}
 use Rattle.model.specs.declared.event.What.TheVariants as what
-use Rattle.model.specs.Application.{Application, op_at, ops_of, interrupts_at}
-use Rattle.model.specs.Scripts.{IsWellFormed, fits_object, knows_isr}
+use Rattle.model.specs.Application.{Application, commands_of, op_at, ops_of, interrupts_at}
+use Rattle.model.specs.Scripts.{IsDaemon, IsWellFormed, fits, fits_object, has_group, is_mask, knows_isr}
+use Rattle.model.specs.Daemon.{item_of}
 use Rattle.model.specs.State.{State, Task, Progress, Object, Status, Wait, Ready, Awake, Waiting, Asleep, WaitingForBits, Suspended, Ended, ticket_if_ready, task_at, status_at, progress_at, call_at, object_at, bits_at, with_object, with_progress, for_one, for_each, no_task}
 use Rattle.model.specs.Order.{Entry, first, task_of}
 use Rattle.model.specs.Ops.{one_if}
@@ -44,20 +48,44 @@ pub and_right : (a b : Bool) → (a && b) ≡ true → b ≡ true
 and_right true b t = t
 and_right false b t = absurd (cc)
 
+-- where a receive may be, a send may be
+sends_where_receives : (app : Application) (o n : ℕ) → fits_object app o Receive ≡ true → fits_object app o (Send n) ≡ true
+sends_where_receives app o n fit = by_kind (slice_get app.objects o) fit where
+  Fits : Option ObjectKind → Access → Type 0
+  Fits kind access = unwrap_or (option_map (λ k. fits k access) kind) false ≡ true
+
+  by_kind : (kind : Option ObjectKind) → Fits kind Receive → Fits kind (Send n)
+  by_kind None fit = fit
+  by_kind (Some (Queue size)) fit = fit
+  by_kind (Some (Semaphore most first)) fit = fit
+  by_kind (Some Mutex) fit = fit
+
+-- a command may be sent to the daemon's queue, where there is a daemon
+pub commands_fit : (app : Application) → IsWellFormed app → (n : ℕ) → is_some app.daemon ≡ true → fits_object app (commands_of app) (Send n) ≡ true
+commands_fit app formed n some = by_daemon app.daemon some formed.daemon where
+  by_daemon : (o : Option ℕ) → is_some o ≡ true → IfSome o (IsDaemon app) → fits_object app (commands_of app) (Send n) ≡ true
+  by_daemon None t d = absurd (cc)
+  by_daemon (Some daemon) t d = sends_where_receives app (commands_of app) n d.queue
+
 -- ---- what is kept, while this is held and locked
 
 module _ (app : Application) (formed : IsWellFormed app) (hold : Hold) where
-  isr_done : (s : State) (handler op_index : ℕ) (op : IsrOp) → knows_isr app op ≡ true → IsSound app hold s → s.locked ≡ hold.locked → IsSound app hold (isr handler op_index op s)
+  isr_done : (s : State) (handler op_index : ℕ) (op : IsrOp) → knows_isr app op ≡ true → IsSound app hold s → s.locked ≡ hold.locked → IsSound app hold (isr app handler op_index op s)
   isr_done s handler op_index (isr_op.Do o a) known h same = let t : State = attempt None o a s in logged app formed hold t _ t.steps t.stopped (attempted app formed hold s None o a h same (and_left (fits_object app o a) _ known) tt)
+  isr_done s handler op_index (isr_op.Command c) known h same =
+      let send : Access = Send (item_of c) in
+      let t : State = attempt None (commands_of app) send s in
+      let some : is_some app.daemon ≡ true = and_left (is_some app.daemon) (has_group app c.group && is_mask c.mask) known in
+      logged app formed hold t _ t.steps t.stopped (attempted app formed hold s None (commands_of app) send h same (commands_fit app formed (item_of c) some) tt)
   isr_done s handler op_index (isr_op.Resume task) known h same = let t : State = resume task s in logged app formed hold t _ t.steps t.stopped (resumed_task app formed hold s task h)
   isr_done s handler op_index (isr_op.GetBits group) known h same = logged app formed hold s _ s.steps s.stopped h
   isr_done s handler op_index (isr_op.Mark n) known h same = logged app formed hold s _ s.steps s.stopped h
 
-  each_done : (ops : List IsrOp) (s : State) (handler op_index : ℕ) → AllByRecursion (λ (op : IsrOp). knows_isr app op ≡ true) ops → IsSound app hold s → s.locked ≡ hold.locked → IsSound app hold (isr_each handler op_index ops s)
+  each_done : (ops : List IsrOp) (s : State) (handler op_index : ℕ) → AllByRecursion (λ (op : IsrOp). knows_isr app op ≡ true) ops → IsSound app hold s → s.locked ≡ hold.locked → IsSound app hold (isr_each app handler op_index ops s)
   each_done [] s handler op_index known h same = h
   each_done (op ∷ ops) s handler op_index known h same =
-      let t : State = isr handler op_index op s in
-      each_done ops t handler (op_index + 1) known.1 (isr_done s handler op_index op known.0 h same) (ap (λ (x : Hold). x.locked) (keeps-isr handler op_index op s).hold ∙ same)
+      let t : State = isr app handler op_index op s in
+      each_done ops t handler (op_index + 1) known.1 (isr_done s handler op_index op known.0 h same) (ap (λ (x : Hold). x.locked) (keeps-isr app handler op_index op s).hold ∙ same)
 
   pub handled : (s : State) (handler : ℕ) → IsSound app hold s → s.locked ≡ hold.locked → IsSound app hold (handle app handler s)
   unfolding handle
@@ -277,27 +305,32 @@ spares-resume j s = by_test (can_resume (status_at s j))
     (λ t. rw t (spares-resumed s j t))
     (λ t. rw t (spares s))
 
-spares-isr : (handler op_index : ℕ) (op : IsrOp) (s : State) → Spares s (isr handler op_index op s)
-spares-isr handler op_index (isr_op.Do o a) s =
+spares-isr : (app : Application) (handler op_index : ℕ) (op : IsrOp) (s : State) → Spares s (isr app handler op_index op s)
+spares-isr app handler op_index (isr_op.Do o a) s =
     let t : State = attempt None o a s in
     let w : What = isr_told handler op_index (answer_to s o a) in
     spares_both s t (write w t) (spares-attempt None o a s) (spares-write w t)
-spares-isr handler op_index (isr_op.Resume j) s =
+spares-isr app handler op_index (isr_op.Command c) s =
+    let send : Access = Send (item_of c) in
+    let t : State = attempt None (commands_of app) send s in
+    let w : What = isr_told handler op_index (answer_to s (commands_of app) send) in
+    spares_both s t (write w t) (spares-attempt None (commands_of app) send s) (spares-write w t)
+spares-isr app handler op_index (isr_op.Resume j) s =
     let t : State = resume j s in
     let w : What = isr_told handler op_index (one_if (can_resume (status_at s j))) in
     spares_both s t (write w t) (spares-resume j s) (spares-write w t)
-spares-isr handler op_index (isr_op.GetBits group) s = spares-write (isr_told handler op_index (Some (bits_at s group))) s
-spares-isr handler op_index (isr_op.Mark n) s = spares-write (what.IsrMark handler n) s
+spares-isr app handler op_index (isr_op.GetBits group) s = spares-write (isr_told handler op_index (Some (bits_at s group))) s
+spares-isr app handler op_index (isr_op.Mark n) s = spares-write (what.IsrMark handler n) s
 
-spares-isr_each : (handler op_index : ℕ) (ops : List IsrOp) (s : State) → Spares s (isr_each handler op_index ops s)
-spares-isr_each handler op_index [] s = spares s
-spares-isr_each handler op_index (op ∷ ops) s =
-    let t : State = isr handler op_index op s in
-    spares_both s t (isr_each handler (op_index + 1) ops t) (spares-isr handler op_index op s) (spares-isr_each handler (op_index + 1) ops t)
+spares-isr_each : (app : Application) (handler op_index : ℕ) (ops : List IsrOp) (s : State) → Spares s (isr_each app handler op_index ops s)
+spares-isr_each app handler op_index [] s = spares s
+spares-isr_each app handler op_index (op ∷ ops) s =
+    let t : State = isr app handler op_index op s in
+    spares_both s t (isr_each app handler (op_index + 1) ops t) (spares-isr app handler op_index op s) (spares-isr_each app handler (op_index + 1) ops t)
 
 pub spares-handle : (app : Application) (handler : ℕ) (s : State) → Spares s (handle app handler s)
 unfolding handle
-spares-handle app handler s = spares-isr_each handler 0 (ops_of app handler) s
+spares-handle app handler s = spares-isr_each app handler 0 (ops_of app handler) s
 
 -- ---- so every state stays one of a run
 
@@ -329,6 +362,11 @@ place_locked hold (Some (Suspend j)) list p e = absurd p
 place_locked hold (Some (Resume j)) list p e = absurd p
 place_locked hold (Some SuspendAll) list p e = absurd p
 place_locked hold (Some ResumeAll) list p e = absurd p
+place_locked hold (Some (NextCommand o)) list p e =
+    let same : list_for o Receive ≡ list = cc in
+    let P : Option ℕ → WaitList → Type 0 = λ l x. is_locked l x ≡ true in
+    subst (P hold.locked) same (subst (λ l. P l (list_for o Receive)) (sym p.1) (is_locked-own o Receive))
+place_locked hold (Some Obey) list p e = absurd p
 
 module _ (app : Application) (formed : IsWellFormed app) (s t : State) (h : IsState app s) (sound : IsSound app (hold_of s) t) (sp : Spares s t) where
   same_held : t.call_hold ≡ s.call_hold

@@ -11,6 +11,7 @@ pub mod Handled
 pub mod Unlocked
 pub mod Phases
 pub mod Bits
+pub mod Daemon
 pub mod Going
 pub mod Obeyed
 pub mod Reached

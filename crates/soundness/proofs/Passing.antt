@@ -3,8 +3,10 @@ use Rattle.std.proofs.Common.{ap₂, Bool, ap, ◌≡◌, ◌≢◌, ◌≤◌, 
 use Rattle.std.specs.Prelude.{if◌then◌else◌}
 use Rattle.std.specs.Option.{option_eq, is_some}
 use Rattle.model.specs.declared.op.Op.{Op}
-use Rattle.model.specs.declared.op.Op.TheVariants.{Work, Delay, DelayUntil, Yield, Time, Mark, Expect, Repeat, End, Await, Do, GiveMutex, MessagesWaiting, SpacesAvailable, SetBits, ClearBits, GetBits, WaitBits, Suspend, Resume, SuspendAll, ResumeAll}
+use Rattle.model.specs.declared.op.Op.TheVariants.{Work, Delay, DelayUntil, Yield, Time, Mark, Expect, Repeat, End, Await, Do, GiveMutex, MessagesWaiting, SpacesAvailable, SetBits, ClearBits, GetBits, WaitBits, Suspend, Resume, SuspendAll, ResumeAll, NextCommand, Obey}
 use Rattle.model.specs.declared.op.Access.{Access}
+use Rattle.model.specs.declared.op.Access.TheVariants.{Receive}
+use Rattle.model.specs.declared.op.Command.{Command}
 use Rattle.model.specs.declared.call.Condition.{Condition}
 use Rattle.model.specs.declared.call.Phase.{Phase}
 use Rattle.model.specs.declared.call.Phase.TheVariants.{Start, Try, Decide, Place, Unlock, Leave, Final}
@@ -23,11 +25,12 @@ use Rattle.model.specs.Objects.{possible}
 use Rattle.model.specs.Calls.{decide, leave_call, await}
 use Rattle.model.specs.Groups.{is_met, begin_set, set_bits, wait_for_bits, begin_bits_wait, check, final_bits, wait_bits}
 use Rattle.model.specs.Suspension.{suspend_all, resume_scheduler, resume_all}
+use Rattle.model.specs.Daemon.{next_command, obeyed, clear_by_daemon, end_set_by_daemon, obey, command_at}
 use Rattle.model.specs.Handlers.{interrupt, tick_interrupt}
 use Rattle.model.specs.Step.{is_ended, judge, act, act_unless, own_misuse, misuse, act_if, act_current, before_step, step, reset, nobody_ready, ready_at_reset, with_ops}
 use Rattle.model.specs.Invariant.{Hold, hold_of, InOne, course, Suspension, suspension_of}
 use Rattle.model.proofs.Sorting.{by_test}
-use Rattle.soundness.proofs.Frames.{Keeps, keeps, keeps_both, keeps-choose, keeps-yield_now, keeps-preempt, keeps-slice, keeps-settle, keeps-unless_held, keeps-all_ready, keeps-wake_due, keeps-go_to, keeps-answer, keeps-use_up, keeps-delay, keeps-delay_until, keeps-open_loop, keeps-close_turn, keeps-set_deadline, keeps-inherit, keeps-give_mutex, keeps-try, keeps-do_now, keeps-set, keeps-clear, keeps-answer_bits, keeps-call_suspend, keeps-call_resume, keeps-interrupt, keeps-before_step}
+use Rattle.soundness.proofs.Frames.{Keeps, keeps, keeps_both, keeps-choose, keeps-yield_now, keeps-preempt, keeps-slice, keeps-settle, keeps-unless_held, keeps-all_ready, keeps-wake_due, keeps-go_to, keeps-answer, keeps-use_up, keeps-delay, keeps-delay_until, keeps-open_loop, keeps-close_turn, keeps-set_deadline, keeps-inherit, keeps-give_mutex, keeps-try, keeps-do_now, keeps-set, keeps-clear, keeps-answer_bits, keeps-call_suspend, keeps-call_resume, keeps-take_command, keeps-obeyed, keeps-clear_by_daemon, keeps-interrupt, keeps-before_step}
 
 -- ---- a call in its phases lets no time pass
 
@@ -112,6 +115,32 @@ lasts-wait_bits app i group c ticks Decide s = lasts s _ (lasts-final_bits app i
 lasts-wait_bits app i group c ticks Place s = lasts s _ (lasts-final_bits app i group c (call_at s i).kept s)
 lasts-wait_bits app i group c ticks Unlock s = lasts s _ (lasts-final_bits app i group c (call_at s i).kept s)
 lasts-wait_bits app i group c ticks Final s = lasts s _ (lasts-final_bits app i group c (call_at s i).kept s)
+
+lasts-next_command : (app : Application) (i o : ℕ) (phase : Phase) (s : State) → Lasts s (next_command app i o phase s)
+lasts-next_command app i o Start s = lasts s _ (keeps-take_command app i o s)
+lasts-next_command app i o Try s = lasts s _ (keeps-take_command app i o s)
+lasts-next_command app i o Decide s = lasts-await app i o Receive None Decide s
+lasts-next_command app i o Place s = lasts-await app i o Receive None Place s
+lasts-next_command app i o Unlock s = lasts-await app i o Receive None Unlock s
+lasts-next_command app i o Leave s = lasts-await app i o Receive None Leave s
+lasts-next_command app i o Final s = lasts-await app i o Receive None Final s
+
+pub lasts-end_command : (app : Application) (i group : ℕ) (s : State) → Lasts s (end_set_by_daemon app i group s)
+lasts-end_command app i group s =
+    let free : State = end_hold i Start s in
+    let told : State = obeyed app i false (bits_at s group) free in
+    lasts_both s free (preempt told) (record { elapsed = refl; suspension = refl }) (keeps_both free told (preempt told) (keeps-obeyed app i false (bits_at s group) free) (keeps-preempt told))
+
+lasts-obey : (app : Application) (i : ℕ) (c : Command) (phase : Phase) (s : State) → Lasts s (obey app i c phase s)
+lasts-obey app i c Start s = by_test c.clear
+    (λ t. rw t (lasts s _ (keeps-clear_by_daemon app i c.group c.mask s)))
+    (λ t. rw t (lasts-begin_set i c.group c.mask s))
+lasts-obey app i c Try s = lasts-end_command app i c.group s
+lasts-obey app i c Decide s = lasts-end_command app i c.group s
+lasts-obey app i c Place s = lasts-end_command app i c.group s
+lasts-obey app i c Unlock s = lasts-end_command app i c.group s
+lasts-obey app i c Leave s = lasts-end_command app i c.group s
+lasts-obey app i c Final s = lasts-end_command app i c.group s
 
 -- the other op that may change nothing of a task, and yet does something
 pub record Ends (old new : State) : Type 0 where
@@ -277,6 +306,8 @@ by_op P w s r f (Suspend j) = f (Suspend j) refl
 by_op P w s r f (Resume j) = f (Resume j) refl
 by_op P w s r f SuspendAll = s
 by_op P w s r f ResumeAll = r
+by_op P w s r f (NextCommand o) = f (NextCommand o) refl
+by_op P w s r f Obey = f Obey refl
 
 -- an instant op in one phase
 ends-act : (app : Application) (i : ℕ) (op : Op) (s : State) → is_instant op ≡ true → course (Some op) ≡ InOne → Ends s (act app i op s)
@@ -302,6 +333,8 @@ ends-act app i (Suspend j) s t w = ends s _ (keeps-call_suspend app i j s)
 ends-act app i (Resume j) s t w = ends s _ (keeps-call_resume app i j s)
 ends-act app i SuspendAll s t w = absurd (cc)
 ends-act app i ResumeAll s t w = absurd (cc)
+ends-act app i (NextCommand o) s t w = absurd (cc)
+ends-act app i Obey s t w = absurd (cc)
 
 pub lasts-act : (app : Application) (i : ℕ) (op : Op) (s : State) → is_instant op ≡ true → Lasts s (act app i op s)
 lasts-act app i (Work n) s t = absurd (cc)
@@ -326,6 +359,8 @@ lasts-act app i (Suspend j) s t = (ends-act app i (Suspend j) s refl refl).lasts
 lasts-act app i (Resume j) s t = (ends-act app i (Resume j) s refl refl).lasts
 lasts-act app i SuspendAll s t = absurd (cc)
 lasts-act app i ResumeAll s t = absurd (cc)
+lasts-act app i (NextCommand o) s t = lasts-next_command app i o (call_at s i).phase s
+lasts-act app i Obey s t = lasts-obey app i (command_at s i) (call_at s i).phase s
 
 -- an op in one phase holds nothing, and lets go of nothing
 pub hold-act : (app : Application) (i : ℕ) (op : Op) (s : State) → course (Some op) ≡ InOne → hold_of (act app i op s) ≡ hold_of s

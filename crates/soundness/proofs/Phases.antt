@@ -5,7 +5,6 @@ use Rattle.std.specs.Option.{IfSome, option_map, is_some, unwrap_or}
 use Rattle.std.proofs.Math.ListN.{length-set}
 use Rattle.std.proofs.lemmas.Bool.{leb-false}
 use Rattle.model.specs.declared.op.Op.{Op}
-use Rattle.model.specs.declared.op.Op.TheVariants.{Await}
 use Rattle.model.specs.declared.op.Access.{Access}
 use Rattle.model.specs.declared.call.Phase.{Phase}
 use Rattle.model.specs.declared.call.Phase.TheVariants.{Try, Place, Unlock, Leave}
@@ -17,7 +16,7 @@ use Rattle.model.specs.Waiting.{is_locked, wait_in, is_expired, end_hold, unlock
 use Rattle.model.specs.Objects.{list_for, possible}
 use Rattle.model.specs.Calls.{lock, decide, leave_call}
 use Rattle.model.specs.Mutexes.{inherit}
-use Rattle.model.specs.Invariant.{Hold, hold_of, Course, OnObject, ToSetBits, course, IsPhaseOf, IsSound, holds, IsPlacing, IsRunning, RunsIn, Suspension, suspension_of, IsState, wait_of}
+use Rattle.model.specs.Invariant.{Hold, hold_of, Course, OnObject, ToSetBits, course, list_of_op, IsPhaseOf, IsSound, holds, IsPlacing, IsRunning, RunsIn, Suspension, suspension_of, IsState, wait_of}
 use Rattle.model.proofs.Sorting.{by_test}
 use Rattle.model.proofs.Tables.{ticket_at, each-set_but}
 use Rattle.model.proofs.Unlocking.{opened_by, none_left, still_at, current-all_ready, none_awake}
@@ -95,13 +94,15 @@ module _ (app : Application) (formed : IsWellFormed app) where
   still_to_come None now t = tt
   still_to_come (Some d) now t = leb-false d now t
 
-  module _ (s : State) (i o : ℕ) (a : Access) (ticks : Option ℕ) (h : IsSound app (hold_of s) s) (none : s.call_hold ≡ false) (unlocked : s.locked ≡ None) (calm : suspension_of s ≡ unsuspended)
-      (runs : s.current ≡ Some i) (l : i < length s.tasks) (r : is_ready s i ≡ true) (is : op_at app i (progress_at s i).op_index ≡ Some (Await o a ticks)) where
+  -- of a call on an object that waits in the list for it
+  module _ (s : State) (i o : ℕ) (a : Access) (op : Op) (h : IsSound app (hold_of s) s) (none : s.call_hold ≡ false) (unlocked : s.locked ≡ None) (calm : suspension_of s ≡ unsuspended)
+      (runs : s.current ≡ Some i) (l : i < length s.tasks) (r : is_ready s i ≡ true) (is : op_at app i (progress_at s i).op_index ≡ Some op) (way : course (Some op) ≡ OnObject o)
+      (listed : list_of_op (Some op) ≡ Some (list_for o a)) where
     locking : Hold
     locking = record { held = true; locked = Some o }
 
     phase_there : (phase : Phase) → IsPhaseOf locking (OnObject o) phase → IsPhaseOf locking (course (op_at app i (progress_at s i).op_index)) phase
-    phase_there phase p = let P : Option Op → Type 0 = λ op. IsPhaseOf locking (course op) phase in subst P (sym is) p
+    phase_there phase p = let P : Course → Type 0 = λ c. IsPhaseOf locking c phase in subst P (sym way ∙ ap course (sym is)) p
 
     decided_not : IsState app (lock i o Unlock s)
     unfolding locking
@@ -109,7 +110,7 @@ module _ (app : Application) (formed : IsWellFormed app) where
         let t : State = record s { call_hold = true; locked = Some o } in
         let h1 : IsSound app locking t = framed app formed locking s s.log s.steps s.stopped (Some o) true (held_by_all s locking h none unlocked) in
         in_hold t i (record (task_at s i) { progress = record (progress_at s i) { call = record (call_at s i) { phase = Unlock } } })
-        (went_on app formed locking t i Unlock h1 (phase_there Unlock (refl, refl))) runs l refl refl (λ e. absurd (cc)) (λ e. let f : OnObject o ≡ ToSetBits = ap course (sym is) ∙ e in absurd (cc)) (λ j ne. others_free s h none j) calm
+        (went_on app formed locking t i Unlock h1 (phase_there Unlock (refl, refl))) runs l refl refl (λ e. absurd (cc)) (λ e. let f : OnObject o ≡ ToSetBits = sym way ∙ ap course (sym is) ∙ e in absurd (cc)) (λ j ne. others_free s h none j) calm
 
     -- what the task is when it has begun to wait
     waiting_task : Task
@@ -149,7 +150,7 @@ module _ (app : Application) (formed : IsWellFormed app) where
     decided_to_wait to_come =
         let b : State = wait_in i (list_for o a) s in
         let t : State = record b { call_hold = true; locked = Some o } in
-        let h1 : IsSound app locking t = framed app formed locking b b.log b.steps b.stopped (Some o) true (began app formed locking s i o a ticks (held_by_all s locking h none unlocked) l r is) in
+        let h1 : IsSound app locking t = framed app formed locking b b.log b.steps b.stopped (Some o) true (began app formed locking s i o a op (held_by_all s locking h none unlocked) l r is listed) in
         let O : Task → Type 0 = λ (u : Task). IsPhaseOf locking (course (op_at app i u.progress.op_index)) Place in
         let F : ℕ → Task → Type 0 = λ now u. IsPlacing now (record u { progress = record u.progress { call = record u.progress.call { phase = Place } } }) (wait_of u.status) in
         let later : IfSome (call_at s i).deadline (λ d. s.time < d) = still_to_come (call_at s i).deadline s.time to_come in
@@ -158,17 +159,18 @@ module _ (app : Application) (formed : IsWellFormed app) where
         (went_on app formed locking t i Place h1 (subst O (sym begun_at) (phase_there Place (refl, refl))))
         (begun_kept.1 ∙ runs) (rw begun_length l) refl refl
         (λ _. subst (λ now. F now (task_at b i)) (sym begun_kept.0) (subst (F s.time) (sym begun_at) placing))
-        (λ e. let f : OnObject o ≡ ToSetBits = ap course (sym is) ∙ sym (ap (λ (u : Task). course (op_at app i u.progress.op_index)) begun_at) ∙ e in absurd (cc))
+        (λ e. let f : OnObject o ≡ ToSetBits = sym way ∙ ap course (sym is) ∙ sym (ap (λ (u : Task). course (op_at app i u.progress.op_index)) begun_at) ∙ e in absurd (cc))
         (λ j ne. subst (λ (u : Task). holds u.progress.call.phase ≡ false) (sym (begun_others j ne)) (others_free s h none j)) (begun_calm ∙ calm)
 
-  module _ (s : State) (i o : ℕ) (a : Access) (ticks : Option ℕ) (h : IsSound app (hold_of s) s) (none : s.call_hold ≡ false) (unlocked : s.locked ≡ None) (calm : suspension_of s ≡ unsuspended)
-      (runs : s.current ≡ Some i) (l : i < length s.tasks) (r : is_ready s i ≡ true) (is : op_at app i (progress_at s i).op_index ≡ Some (Await o a ticks)) where
+  module _ (s : State) (i o : ℕ) (a : Access) (op : Op) (h : IsSound app (hold_of s) s) (none : s.call_hold ≡ false) (unlocked : s.locked ≡ None) (calm : suspension_of s ≡ unsuspended)
+      (runs : s.current ≡ Some i) (l : i < length s.tasks) (r : is_ready s i ≡ true) (is : op_at app i (progress_at s i).op_index ≡ Some op) (way : course (Some op) ≡ OnObject o)
+      (listed : list_of_op (Some op) ≡ Some (list_for o a)) where
     pub decided : IsState app (decide i o a s)
     unfolding decide
     decided = by_test (possible s o a || is_expired s i)
-        (λ t. rw t (decided_not s i o a ticks h none unlocked calm runs l r is))
-        (λ t. rw t (decided_to_wait lent i o a ticks lent_sound (ap (λ (x : Hold). x.held) kept.hold ∙ none) (ap (λ (x : Hold). x.locked) kept.hold ∙ unlocked) (kept.suspension ∙ calm)
-        (ranks.current ∙ runs) (rw kept.tasks l) ((ranks.at i).ready ∙ r) (ap (op_at app i) (ranks.at i).op_index ∙ is) (still_ahead ∙ expired_not (possible s o a) (is_expired s i) t))) where
+        (λ t. rw t (decided_not s i o a op h none unlocked calm runs l r is way listed))
+        (λ t. rw t (decided_to_wait lent i o a op lent_sound (ap (λ (x : Hold). x.held) kept.hold ∙ none) (ap (λ (x : Hold). x.locked) kept.hold ∙ unlocked) (kept.suspension ∙ calm)
+        (ranks.current ∙ runs) (rw kept.tasks l) ((ranks.at i).ready ∙ r) (ap (op_at app i) (ranks.at i).op_index ∙ is) way listed (still_ahead ∙ expired_not (possible s o a) (is_expired s i) t))) where
           lent : State
           lent = inherit i o s
 

@@ -10,8 +10,10 @@ use Rattle.model.specs.declared.object.ObjectKind.TheVariants.{Queue, Semaphore,
 use Rattle.model.specs.declared.op.Op.{Op}
 use Rattle.model.specs.declared.event.Misuse.{Misuse}
 use Rattle.model.specs.declared.event.Misuse.TheVariants.{WhileSuspended, NotSuspended, EndedSuspended}
-use Rattle.model.specs.declared.op.Op.TheVariants.{Work, Delay, DelayUntil, Yield, Time, Mark, Expect, Repeat, End, Await, Do, GiveMutex, MessagesWaiting, SpacesAvailable, SetBits, ClearBits, GetBits, WaitBits, Suspend, Resume, SuspendAll, ResumeAll}
+use Rattle.model.specs.declared.op.Op.TheVariants.{Work, Delay, DelayUntil, Yield, Time, Mark, Expect, Repeat, End, Await, Do, GiveMutex, MessagesWaiting, SpacesAvailable, SetBits, ClearBits, GetBits, WaitBits, Suspend, Resume, SuspendAll, ResumeAll, NextCommand, Obey}
 use Rattle.model.specs.declared.op.Access.{Access}
+use Rattle.model.specs.declared.op.Access.TheVariants.{Receive}
+use Rattle.model.specs.declared.op.Command.{Command}
 use Rattle.model.specs.declared.call.Condition.{Condition}
 use Rattle.model.specs.declared.call.Phase.{Phase}
 use Rattle.model.specs.declared.call.Phase.TheVariants.{Start, Try, Decide, Place, Unlock, Leave, Final}
@@ -21,17 +23,19 @@ use Rattle.model.specs.declared.plan.Injection.{Injection}
 use Rattle.model.specs.declared.event.What.TheVariants as what
 use Rattle.model.specs.Application.{Application, Definition, script_of, op_at}
 use Rattle.model.specs.Scripts.{IsDefinition, IsObjectKind, IsWellFormed, fits_object, is_wait}
-use Rattle.model.specs.State.{State, task_at, progress_at, status_at, call_at, bits_at, no_task, no_object, for_each}
+use Rattle.model.specs.State.{State, task_at, progress_at, status_at, call_at, bits_at, go_on, no_task, no_object, for_each}
 use Rattle.model.specs.Switching.{make_ready, choose, choice, is_ready, preempt, settle, is_scheduler_suspended, is_held, unless_held, write}
-use Rattle.model.specs.Waiting.{set_deadline, end_hold}
+use Rattle.model.specs.Waiting.{set_deadline, end_hold, unlock}
 use Rattle.model.specs.Ops.{answer, use_up}
-use Rattle.model.specs.Calls.{await}
+use Rattle.model.specs.Objects.{list_for}
+use Rattle.model.specs.Calls.{await, decide, leave_call}
 use Rattle.model.specs.Groups.{is_met, begin_set, set_bits, check, final_bits, wait_bits}
 use Rattle.model.specs.Suspension.{suspend_all, resume_all}
+use Rattle.model.specs.Daemon.{take_command, next_command, obeyed, obey, command_at}
 use Rattle.model.specs.Handlers.{handle, inject}
 use Rattle.model.specs.Step.{is_ended, judge, misused, act, act_unless, may_switch, misuse, act_if, act_current, before_step, step, reset, nobody_ready, ready_at_reset, task_at_reset, object_at_reset, with_ops}
 use Rattle.model.specs.Run.{injected, state_after}
-use Rattle.model.specs.Invariant.{IsAt, Hold, hold_of, InOne, ForBits, ToSetBits, course, IsPhaseOf, IsObject, HasPriority, IsSound, holds, IsStranded, IsRunning, RunsIn, Suspension, suspension_of, IsState}
+use Rattle.model.specs.Invariant.{IsAt, Hold, hold_of, InOne, OnObject, ForBits, ToSetBits, course, list_of_op, IsPhaseOf, IsObject, HasPriority, IsSound, holds, IsStranded, IsRunning, RunsIn, Suspension, suspension_of, IsState}
 use Rattle.model.proofs.Sorting.{by_test}
 use Rattle.model.proofs.Lists.{eqb-same}
 use Rattle.model.proofs.Chosen.{choice_within}
@@ -39,14 +43,15 @@ use Rattle.model.proofs.Statuses.{ready_free}
 use Rattle.model.proofs.Resets.{none_taken, call-reset, holders-reset}
 use Rattle.soundness.proofs.Settled.{IsSettled, settled-settle, settled-preempt, settled-reset, when_held, when_free, held_by_call, held_by_none}
 use Rattle.soundness.proofs.InScripts.{script_formed, used_none, range_at, known_at}
-use Rattle.soundness.proofs.Frames.{keeps-settle, keeps-choose, keeps-answer, keeps-answer_bits, keeps-try, keeps-set_deadline, keeps-all_ready, keeps-use_up, keeps-preempt}
-use Rattle.soundness.proofs.Passing.{is_instant, lasts-act, lasts-leave_call, lasts-end_set, lasts-final_bits, hold-tick, hold-act, suspension-tick, suspensions-tick, suspends-all, resumes-all, suspensions-step, suspension-reset}
+use Rattle.soundness.proofs.Frames.{keeps-settle, keeps-choose, keeps-answer, keeps-answer_bits, keeps-try, keeps-set_deadline, keeps-all_ready, keeps-use_up, keeps-preempt, keeps-take_command, keeps-obeyed, keeps-clear_by_daemon}
+use Rattle.soundness.proofs.Passing.{is_instant, lasts-act, lasts-leave_call, lasts-end_set, lasts-end_command, lasts-final_bits, hold-tick, hold-act, suspension-tick, suspensions-tick, suspends-all, resumes-all, suspensions-step, suspension-reset}
 use Rattle.soundness.proofs.Sound.{CanBeReady, all_made_ready, runs, logged, settled, preempted, yielded, answered, used_up, expected, opened, closed, plain, delayed, delayed_until, call_none}
 use Rattle.soundness.proofs.Handled.{and_left, and_right, ticked, handled_between}
 use Rattle.soundness.proofs.Trying.{tried, gave}
 use Rattle.soundness.proofs.Called.{done_now, dated, dated_at, phase_free, course_of_one}
 use Rattle.soundness.proofs.Phases.{free, unsuspended, suspended_not, calm_where, calm_held, decided, decided_held, placed, unlocked, unlocked_held, left, left_hold}
 use Rattle.soundness.proofs.Bits.{cleared, answered_bits, final_done, set_begun, begun_held, wait_begun, waits_held, set_ended, wait_left}
+use Rattle.soundness.proofs.Daemon.{command_taken, cleared_by_daemon, set_ended_by_daemon}
 use Rattle.soundness.proofs.Going.{GoesOn, Continues, suspended_held, suspended_on, acted_on, resumed_on}
 use Rattle.soundness.proofs.Obeyed.{call_suspended, call_resumed, all_suspended, all_resumed}
 
@@ -170,6 +175,8 @@ module _ (app : Application) (formed : IsWellFormed app) where
   acted s i (Resume j) h u l r is w = call_resumed app formed free s i h l r j is
   acted s i SuspendAll h u l r is w = all_suspended app formed free s i h l r is
   acted s i ResumeAll h u l r is w = all_resumed app formed free s i h l r is
+  acted s i (NextCommand o) h u l r is w = absurd (cc)
+  acted s i Obey h u l r is w = absurd (cc)
 
   module _ (s : State) (i : ℕ) (h : IsState app s) (on : s.current ≡ Some i) where
     running : IsRunning app s i
@@ -232,8 +239,21 @@ module _ (app : Application) (formed : IsWellFormed app) where
             let op_is : op_at app i (progress_at t i).op_index ≡ Some (Await o a ticks) = ap (op_at app i) at.1 ∙ is in
             settled_at_rest _ (tried app formed free t i o a ticks h1 unlocked_ (rw k.tasks there) (at.0 ∙ ready_now) op_is fit) ((keeps-try app i o a t).hold ∙ k.hold ∙ hold_none s h none) ((keeps-try app i o a t).suspension ∙ k.suspension ∙ calm)
 
-        decided_next : IsState app (unless_held settle (await app i o a ticks Decide s))
-        decided_next = still_held _ (decided app formed s i o a ticks h.sound none (h.locked none) calm on there ready_now is) (decided_held app formed s i o a ticks h.sound none (h.locked none) calm on there ready_now is)
+      -- ---- the daemon
+
+      command_next : (o : ℕ) → op_at app i (progress_at s i).op_index ≡ Some (NextCommand o) → IsState app (unless_held settle (take_command app i o s))
+      command_next o is =
+          let k = keeps-take_command app i o s in
+          let fit : fits_object app o Receive ≡ true = (known_at app formed i (progress_at s i).op_index (NextCommand o) is).2 in
+          settled_at_rest _ (command_taken app formed free s i o (sound_free s h none) (h.locked none) there (ready_at (NextCommand o) none is) is fit) (k.hold ∙ hold_none s h none) (k.suspension ∙ calm)
+
+      obeyed_next : (c : Command) → op_at app i (progress_at s i).op_index ≡ Some Obey → IsState app (unless_held settle (obey app i c Start s))
+      obeyed_next c is =
+          let r : is_ready s i ≡ true = ready_at Obey none is in
+          let k = keeps-clear_by_daemon app i c.group c.mask s in
+          by_test c.clear
+          (λ t. rw t (settled_at_rest _ (cleared_by_daemon app formed free s i c.group c.mask (sound_free s h none) (ready_free (status_at s i) r) is) (k.hold ∙ hold_none s h none) (k.suspension ∙ calm)))
+          (λ t. rw t (still_held _ (set_begun app formed s i Obey h.sound none (h.locked none) calm on there r is c.group c.mask refl) (begun_held app formed s i Obey h.sound none (h.locked none) calm on there r is c.group c.mask)))
 
       -- ---- calls on an event group
 
@@ -278,17 +298,64 @@ module _ (app : Application) (formed : IsWellFormed app) where
     start_only op w is = free_in Start (course_of_one (hold_of s) (call_at s i).phase (subst (λ way. IsPhaseOf (hold_of s) way (call_at s i).phase) (ap course is ∙ w) (h.sound.calls i).phase)) refl
 
     module _ (off : is_scheduler_suspended s ≡ false) where
+      -- a call on an object decides, and comes to the phases after that
+      module _ (o : ℕ) (a : Access) (op : Op) (is : op_at app i (progress_at s i).op_index ≡ Some op) (way : course (Some op) ≡ OnObject o) where
+        on_object : course (op_at app i (progress_at s i).op_index) ≡ OnObject o
+        on_object = ap course is ∙ way
+
+        decided_next : (call_at s i).phase ≡ Decide → list_of_op (Some op) ≡ Some (list_for o a) → IsState app (unless_held settle (decide i o a s))
+        decided_next e listed =
+            let none = free_in Decide e refl in
+            let r : is_ready s i ≡ true = ready_at op none is in
+            still_held _ (decided app formed s i o a op h.sound none (h.locked none) (calm none off) on there r is way listed) (decided_held app formed s i o a op h.sound none (h.locked none) (calm none off) on there r is way listed)
+
+        placed_next : (call_at s i).phase ≡ Place → IsState app (unless_held settle (go_on i Unlock s))
+        placed_next e = let held = held_in Place e refl in still_held _ (placed app formed s i o h on there on_object held e) held
+
+        unlocked_next : (call_at s i).phase ≡ Unlock → IsState app (unless_held settle (go_on i Leave (unlock s)))
+        unlocked_next e = let held = held_in Unlock e refl in still_held _ (unlocked app formed s i o h on there on_object held e) (unlocked_held app formed s i o h on there on_object held e)
+
+        left_next : (call_at s i).phase ≡ Leave → IsState app (unless_held settle (leave_call i s))
+        left_next e =
+            let held = held_in Leave e refl in
+            settled_at_rest _ (left app formed s i o h on there on_object held e) (left_hold app formed s i o h on there on_object held e) ((lasts-leave_call i s).suspension ∙ calm_held app s h held)
+
       -- the phase that is next, of a call on an object
       next : (o : ℕ) (a : Access) (ticks : Option ℕ) → op_at app i (progress_at s i).op_index ≡ Some (Await o a ticks) → (phase : Phase) → (call_at s i).phase ≡ phase → IsState app (unless_held settle (await app i o a ticks phase s))
       next o a ticks is Start e = tried_first (free_in Start e refl) off o a ticks is
       next o a ticks is Try e = tried_again (free_in Try e refl) off o a ticks is
-      next o a ticks is Decide e = decided_next (free_in Decide e refl) off o a ticks is
-      next o a ticks is Place e = let held = held_in Place e refl in still_held _ (placed app formed s i o h on there (ap course is) held e) held
-      next o a ticks is Unlock e = let held = held_in Unlock e refl in still_held _ (unlocked app formed s i o h on there (ap course is) held e) (unlocked_held app formed s i o h on there (ap course is) held e)
-      next o a ticks is Leave e =
-          let held = held_in Leave e refl in
-          settled_at_rest _ (left app formed s i o h on there (ap course is) held e) (left_hold app formed s i o h on there (ap course is) held e) ((lasts-leave_call i s).suspension ∙ calm_held app s h held)
+      next o a ticks is Decide e = decided_next o a (Await o a ticks) is refl e refl
+      next o a ticks is Place e = placed_next o a (Await o a ticks) is refl e
+      next o a ticks is Unlock e = unlocked_next o a (Await o a ticks) is refl e
+      next o a ticks is Leave e = left_next o a (Await o a ticks) is refl e
       next o a ticks is Final e = absurd (phase_of (Await o a ticks) is Final e)
+
+      -- of the daemon's receive
+      next_of_command : (o : ℕ) → op_at app i (progress_at s i).op_index ≡ Some (NextCommand o) → (phase : Phase) → (call_at s i).phase ≡ phase → IsState app (unless_held settle (next_command app i o phase s))
+      next_of_command o is Start e = command_next (free_in Start e refl) off o is
+      next_of_command o is Try e = command_next (free_in Try e refl) off o is
+      next_of_command o is Decide e = decided_next o Receive (NextCommand o) is refl e refl
+      next_of_command o is Place e = placed_next o Receive (NextCommand o) is refl e
+      next_of_command o is Unlock e = unlocked_next o Receive (NextCommand o) is refl e
+      next_of_command o is Leave e = left_next o Receive (NextCommand o) is refl e
+      next_of_command o is Final e = absurd (phase_of (NextCommand o) is Final e)
+
+      -- of a command that it does
+      next_of_obey : (c : Command) → op_at app i (progress_at s i).op_index ≡ Some Obey → (phase : Phase) → (call_at s i).phase ≡ phase → IsState app (unless_held settle (obey app i c phase s))
+      next_of_obey c is Start e = obeyed_next (free_in Start e refl) off c is
+      next_of_obey c is Leave e =
+          let held = held_in Leave e refl in
+          let at : IsPhaseOf (hold_of s) ToSetBits Leave = phase_of Obey is Leave e in
+          let ended : State = end_hold i Start s in
+          let done : State = obeyed app i false (bits_at s c.group) ended in
+          let same : hold_of ended ≡ free = ap (λ l. record { held = false; locked = l }) at.1 in
+          settled_at_rest (preempt done) (preempted app formed free done (set_ended_by_daemon app formed s i h on there at.1 (bits_at s c.group) is))
+          ((keeps-preempt done).hold ∙ (keeps-obeyed app i false (bits_at s c.group) ended).hold ∙ same) ((lasts-end_command app i c.group s).suspension ∙ calm_held app s h held)
+      next_of_obey c is Try e = absurd (phase_of Obey is Try e)
+      next_of_obey c is Decide e = absurd (phase_of Obey is Decide e)
+      next_of_obey c is Place e = absurd (phase_of Obey is Place e)
+      next_of_obey c is Unlock e = absurd (phase_of Obey is Unlock e)
+      next_of_obey c is Final e = absurd (phase_of Obey is Final e)
 
       -- of a set
       next_of_set : (g m : ℕ) → op_at app i (progress_at s i).op_index ≡ Some (SetBits g m) → (phase : Phase) → (call_at s i).phase ≡ phase → IsState app (unless_held settle (set_bits app i g m phase s))
@@ -345,6 +412,8 @@ module _ (app : Application) (formed : IsWellFormed app) where
       calm_done (Suspend j) is e = instant (start_only (Suspend j) refl is) off (Suspend j) is refl refl
       calm_done (Resume j) is e = instant (start_only (Resume j) refl is) off (Resume j) is refl refl
       calm_done SuspendAll is e = suspended_first (start_only SuspendAll refl is) off is
+      calm_done (NextCommand o) is e = next_of_command o is (call_at s i).phase refl
+      calm_done Obey is e = next_of_obey (command_at s i) is (call_at s i).phase refl
       calm_done ResumeAll is e = let f : Some NotSuspended ≡ None = (rw off at e) in absurd (cc)
 
     -- ---- while a `suspend_all` is in force
@@ -411,6 +480,8 @@ module _ (app : Application) (formed : IsWellFormed app) where
       suspended_done (Suspend j) is q = absurd (cc)
       suspended_done (Resume j) is q = absurd (cc)
       suspended_done SuspendAll is q = goes_on SuspendAll is refl (let e = (suspends-all app i s).suspensions in lt-ltb 0 (suspend_all app i s).suspensions (omega arith)) (suspended_on app i s there (ready_at SuspendAll none_holds is))
+      suspended_done (NextCommand o) is q = absurd (cc)
+      suspended_done Obey is q = absurd (cc)
       suspended_done ResumeAll is q = by_test (eqb s.suspensions 1) (resumed_last is) (resumed_more is)
 
     act_done : (op : Op) → op_at app i (progress_at s i).op_index ≡ Some op → misuse s i op ≡ None → IsState app (unless_held settle (act app i op s))

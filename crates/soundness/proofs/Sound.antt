@@ -322,6 +322,10 @@ module _ (app : Application) (formed : IsWellFormed app) (hold : Hold) where
       pub plain : (a : Option ℕ) → nesting_past (length (progress_at s i).loops) op ≡ length (progress_at s i).loops → IsSound app hold (complete app i (record (progress_at s i) { answer = a }) s)
       plain a e = gone ((progress_at s i).op_index + 1) (record (progress_at s i) { answer = a }) refl (rw e at past_it) (h.progress i).loops
 
+    -- back to the first op, where no loop is open
+    pub restarted : (a : Option ℕ) → (progress_at s i).loops ≡ [] → IsSound app hold (go_to app i 0 (record (progress_at s i) { answer = a }) s)
+    restarted a none = gone 0 (record (progress_at s i) { answer = a }) refl (rw none (script_formed app formed i).nests) (rw none tt)
+
   module _ (s : State) (i : ℕ) (op : Op) (h : IsSound app hold s) (free : wait_of (status_at s i) ≡ None) (is : op_at app i (progress_at s i).op_index ≡ Some op) where
     pub answered : (a : Option ℕ) → nesting_past (length (progress_at s i).loops) op ≡ length (progress_at s i).loops → IsSound app hold (answer app i a s)
     unfolding answer
