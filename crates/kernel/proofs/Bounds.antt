@@ -13,14 +13,15 @@ use Rattle.model.specs.declared.event.End.{End}
 use Rattle.model.specs.declared.event.End.TheVariants as ending
 use Rattle.model.specs.declared.call.Condition.{Condition}
 use Rattle.model.specs.declared.op.Access.{Access}
+use Rattle.model.specs.declared.op.Access.TheVariants.{Receive}
 use Rattle.model.specs.declared.op.Op.{Op}
-use Rattle.model.specs.declared.op.Op.TheVariants.{Work, Delay, DelayUntil, Yield, Time, Mark, Expect, Repeat, End as EndLoop, Await, Do, GiveMutex, MessagesWaiting, SpacesAvailable, SetBits, ClearBits, GetBits, WaitBits, Suspend, Resume, SuspendAll, ResumeAll}
+use Rattle.model.specs.declared.op.Op.TheVariants.{Work, Delay, DelayUntil, Yield, Time, Mark, Expect, Repeat, End as EndLoop, Await, Do, GiveMutex, MessagesWaiting, SpacesAvailable, SetBits, ClearBits, GetBits, WaitBits, Suspend, Resume, SuspendAll, ResumeAll, NextCommand, Obey}
 use Rattle.model.specs.Application.{Application, Limits, script_of, op_at}
-use Rattle.model.specs.Scripts.{may_stand, fits_object, is_in_range, is_wait, knows, IsWellFormed}
+use Rattle.model.specs.Scripts.{may_stand, fits_object, is_in_range, is_wait, IsWellFormed}
 use Rattle.model.specs.State.{State, Progress, Wait, task_at, progress_at, call_at, status_at}
 use Rattle.model.specs.Run.{end_of, are_all_ended, is_stuck}
-use Rattle.model.specs.Invariant.{Hold, IsSound, IsState, IsUsedBy, IsRunning, IsPlacing, IsWaitOf, RunsIn, InOne, ToSetBits, course, IsPhaseOf, hold_of, holds, Suspension, wait_of}
-use Rattle.soundness.proofs.InScripts.{script_formed, stands_at, known_at, range_at}
+use Rattle.model.specs.Invariant.{Hold, IsSound, IsState, IsUsedBy, IsRunning, IsPlacing, IsWaitOf, RunsIn, Course, InOne, OnObject, ToSetBits, course, IsPhaseOf, hold_of, holds, Suspension, wait_of}
+use Rattle.soundness.proofs.InScripts.{Known, script_formed, stands_at, known_at, range_at}
 use Rattle.soundness.proofs.Sound.{ready_reckoned}
 use Rattle.soundness.proofs.Frames.{keeps-before_step}
 use Rattle.soundness.proofs.Reached.{reached_before_step, start_only}
@@ -58,7 +59,7 @@ or_right true b e = absurd (cc)
 
 pub below_limits : (app : Application) (limits : Limits) (s : State) → end_of app limits s ≡ None → (s.elapsed < limits.ticks) × (s.steps < limits.steps)
 below_limits app limits s h =
-    let u = unended s.stopped (are_all_ended s) (leb limits.ticks s.elapsed) (leb limits.steps s.steps) (is_stuck app s) h in
+    let u = unended s.stopped (are_all_ended app s) (leb limits.ticks s.elapsed) (leb limits.steps s.steps) (is_stuck app s) h in
     (leb-less limits.ticks s.elapsed u.0, leb-less limits.steps s.steps u.1)
 
 loop_room : (op : Op) (nesting : ℕ) → may_stand nesting op ≡ true → HasLoopRoom op nesting
@@ -84,34 +85,38 @@ loop_room (Suspend j) nesting h = tt
 loop_room (Resume j) nesting h = tt
 loop_room SuspendAll nesting h = tt
 loop_room ResumeAll nesting h = tt
+loop_room (NextCommand o) nesting h = tt
+loop_room Obey nesting h = tt
 
 -- an op of one phase
 abbrev IsBrief : Op → Type 0
 IsBrief op = course (Some op) ≡ InOne
 
-known_object : (app : Application) (op : Op) → IsBrief op → knows app op ≡ true → (k : Machine) → HasObjects app k → HasObject k op
-known_object app (Work n) brief t k room = tt
-known_object app (Delay n) brief t k room = tt
-known_object app (DelayUntil n) brief t k room = tt
-known_object app Yield brief t k room = tt
-known_object app Time brief t k room = tt
-known_object app (Mark n) brief t k room = tt
-known_object app (Expect a) brief t k room = tt
-known_object app (Repeat n) brief t k room = tt
-known_object app EndLoop brief t k room = tt
-known_object app (Await o a w) brief t k room = absurd (cc)
-known_object app (Do o a) brief t k room = room o a (and_left (fits_object app o a) _ t)
-known_object app (GiveMutex o) brief t k room = tt
-known_object app (MessagesWaiting o) brief t k room = tt
-known_object app (SpacesAvailable o) brief t k room = tt
-known_object app (SetBits g m) brief t k room = absurd (cc)
-known_object app (ClearBits g m) brief t k room = tt
-known_object app (GetBits g) brief t k room = tt
-known_object app (WaitBits g c w) brief t k room = absurd (cc)
-known_object app (Suspend j) brief t k room = tt
-known_object app (Resume j) brief t k room = tt
-known_object app SuspendAll brief t k room = tt
-known_object app ResumeAll brief t k room = tt
+known_object : (app : Application) (task op_index : ℕ) (op : Op) → IsBrief op → Known app task op_index op → (k : Machine) → HasObjects app k → HasObject k op
+known_object app i p (Work n) brief t k room = tt
+known_object app i p (Delay n) brief t k room = tt
+known_object app i p (DelayUntil n) brief t k room = tt
+known_object app i p Yield brief t k room = tt
+known_object app i p Time brief t k room = tt
+known_object app i p (Mark n) brief t k room = tt
+known_object app i p (Expect a) brief t k room = tt
+known_object app i p (Repeat n) brief t k room = tt
+known_object app i p EndLoop brief t k room = tt
+known_object app i p (Await o a w) brief t k room = absurd (cc)
+known_object app i p (Do o a) brief t k room = room o a (and_left (fits_object app o a) _ t)
+known_object app i p (GiveMutex o) brief t k room = tt
+known_object app i p (MessagesWaiting o) brief t k room = tt
+known_object app i p (SpacesAvailable o) brief t k room = tt
+known_object app i p (SetBits g m) brief t k room = absurd (cc)
+known_object app i p (ClearBits g m) brief t k room = tt
+known_object app i p (GetBits g) brief t k room = tt
+known_object app i p (WaitBits g c w) brief t k room = absurd (cc)
+known_object app i p (Suspend j) brief t k room = tt
+known_object app i p (Resume j) brief t k room = tt
+known_object app i p SuspendAll brief t k room = tt
+known_object app i p ResumeAll brief t k room = tt
+known_object app i p (NextCommand o) brief t k room = absurd (cc)
+known_object app i p Obey brief t k room = absurd (cc)
 
 short : (ticks : Option ℕ) → is_wait ticks ≡ true → IsShort ticks
 short None t = tt
@@ -208,7 +213,7 @@ module _ (app : Application) (formed : IsWellFormed app) (k : Machine) (state : 
       ready_here : state.call_hold ≡ false → is_ready state task ≡ true
       ready_here free = elim (running.ready free) [ inl r ↦ r | inr x ↦ let f : None ≡ Some op = sym x.1 ∙ at_op in absurd (cc) ]
 
-      known : knows app op ≡ true
+      known : Known app task (progress_at state task).op_index op
       known = known_at app formed task (progress_at state task).op_index op at_op
 
       low : (progress_in k.progress task).op_index < 256
@@ -257,7 +262,7 @@ module _ (app : Application) (formed : IsWellFormed app) (k : Machine) (state : 
           tick = can_tick awake free;
           used = used;
           nesting = nesting;
-          object = known_object app op brief known k rooms;
+          object = known_object app task (progress_at state task).op_index op brief known k rooms;
           previous_wake = previous;
           time = let l = time_low in omega arith;
         }
@@ -271,13 +276,10 @@ module _ (app : Application) (formed : IsWellFormed app) (k : Machine) (state : 
       can_leave : k.suspensions ≡ 0 → (call_at state task).phase ≡ Leave → CanLeave k task
       can_leave awake e = record { call = in_call Leave e (λ q. absurd (cc)); held = held_once awake (held_in Leave e refl); awake = awake }
 
-    -- a call that waits
-    module _ (object : ℕ) (access : Access) (ticks : Option ℕ) (is : op_at app task (progress_in k.progress task).op_index ≡ Some (Await object access ticks)) (awake : k.suspensions ≡ 0) where
-      fit : fits_object app object access ≡ true
-      fit = and_left (fits_object app object access) _ (known (Await object access ticks) is)
-
+    -- a call on an object that waits there, at most for so many ticks
+    module _ (object : ℕ) (access : Access) (ticks : Option ℕ) (op : Op) (is : op_at app task (progress_in k.progress task).op_index ≡ Some op) (way : course (Some op) ≡ OnObject object) (fit : fits_object app object access ≡ true) (range : is_wait ticks ≡ true) (awake : k.suspensions ≡ 0) where
       can_try : state.call_hold ≡ false → CanTry k task object access
-      can_try free = record { runs = runs_on (Await object access ticks) is free; agrees = (state, placed free); free = no_lock free; depth = not_held awake free; room = rooms object access fit }
+      can_try free = record { runs = runs_on op is free; agrees = (state, placed free); free = no_lock free; depth = not_held awake free; room = rooms object access fit }
 
       in_state : (wait : Option Wait) (deadline : Option ℕ) → IfSome wait (λ w. IsWaitOf (op_at app task (progress_at state task).op_index) deadline w) → IsPlacing state.time (task_at state task) wait → IfSome deadline (λ d. d < state.time + 4294967296) → IsAhead state.time deadline
       in_state None deadline w p near = absurd p
@@ -306,31 +308,31 @@ module _ (app : Application) (formed : IsWellFormed app) (k : Machine) (state : 
             }
 
       goes_on : (phase : Phase) → (call_at state task).phase ≡ phase → CanGoOn k task object access ticks phase
-      goes_on Start e = (can_try (free_in Start e refl), short ticks (in_range (Await object access ticks) is), let l = time_low in omega arith)
+      goes_on Start e = (can_try (free_in Start e refl), short ticks range, let l = time_low in omega arith)
       goes_on Try e = can_try (free_in Try e refl)
-      goes_on Decide e = can_decide (Await object access ticks) is (free_in Decide e refl) awake
+      goes_on Decide e = can_decide op is (free_in Decide e refl) awake
       goes_on Place e = before e
       goes_on Unlock e = in_call Unlock e (λ q. absurd (cc))
-      goes_on Leave e = can_leave (Await object access ticks) is awake e
-      goes_on Final e = absurd (fits_phase (Await object access ticks) is Final e)
+      goes_on Leave e = can_leave op is awake e
+      goes_on Final e = absurd (subst (λ (c : Course). IsPhaseOf (hold_of state) c Final) way (fits_phase op is Final e))
 
-    -- a set of bits
-    sets : (group mask : ℕ) → op_at app task (progress_in k.progress task).op_index ≡ Some (SetBits group mask) → k.suspensions ≡ 0 → (phase : Phase) → (call_at state task).phase ≡ phase → CanSetBits k task phase
-    sets group mask is awake Start e = can_decide (SetBits group mask) is (free_in Start e refl) awake
-    sets group mask is awake Leave e =
-        let can = can_leave (SetBits group mask) is awake e in
-        let way : course (op_at app task (progress_at state task).op_index) ≡ ToSetBits = ap course (at_op (SetBits group mask) is) in
+    -- a set of bits, by an op that goes so
+    sets : (op : Op) → op_at app task (progress_in k.progress task).op_index ≡ Some op → course (Some op) ≡ ToSetBits → k.suspensions ≡ 0 → (phase : Phase) → (call_at state task).phase ≡ phase → CanSetBits k task phase
+    sets op is goes awake Start e = can_decide op is (free_in Start e refl) awake
+    sets op is goes awake Leave e =
+        let can = can_leave op is awake e in
+        let way : course (op_at app task (progress_at state task).op_index) ≡ ToSetBits = ap course (at_op op is) ∙ goes in
         (runs_placed can.call.agrees (running.setting (held_in Leave e refl) way), can) where
           runs_placed : Agrees k → is_ready state task ≡ true → Runs k task
           runs_placed a ready = by_stands stands where
             by_stands : Stands k state → Runs k task
-            by_stands (Placed h) = runs_ready (SetBits group mask) is h ready
+            by_stands (Placed h) = runs_ready op is h ready
             by_stands (Placing other list b) = absurd (a.1.rest.placed other (ap (λ (p : Progress). p.call.phase) (b.progress other) ∙ b.phase))
-    sets group mask is awake Try e = absurd (fits_phase (SetBits group mask) is Try e)
-    sets group mask is awake Decide e = absurd (fits_phase (SetBits group mask) is Decide e)
-    sets group mask is awake Place e = absurd (fits_phase (SetBits group mask) is Place e)
-    sets group mask is awake Unlock e = absurd (fits_phase (SetBits group mask) is Unlock e)
-    sets group mask is awake Final e = absurd (fits_phase (SetBits group mask) is Final e)
+    sets op is goes awake Try e = absurd (subst (λ (c : Course). IsPhaseOf (hold_of state) c Try) goes (fits_phase op is Try e))
+    sets op is goes awake Decide e = absurd (subst (λ (c : Course). IsPhaseOf (hold_of state) c Decide) goes (fits_phase op is Decide e))
+    sets op is goes awake Place e = absurd (subst (λ (c : Course). IsPhaseOf (hold_of state) c Place) goes (fits_phase op is Place e))
+    sets op is goes awake Unlock e = absurd (subst (λ (c : Course). IsPhaseOf (hold_of state) c Unlock) goes (fits_phase op is Unlock e))
+    sets op is goes awake Final e = absurd (subst (λ (c : Course). IsPhaseOf (hold_of state) c Final) goes (fits_phase op is Final e))
 
     -- a wait for bits
     waits : (group : ℕ) (condition : Condition) (ticks : Option ℕ) → op_at app task (progress_in k.progress task).op_index ≡ Some (WaitBits group condition ticks) → k.suspensions ≡ 0 → (phase : Phase) → (call_at state task).phase ≡ phase → CanWaitBits k task ticks phase
@@ -352,12 +354,12 @@ module _ (app : Application) (formed : IsWellFormed app) (k : Machine) (state : 
     can_op awake (Expect a) is = brief_can (Expect a) is awake refl
     can_op awake (Repeat n) is = brief_can (Repeat n) is awake refl
     can_op awake EndLoop is = brief_can EndLoop is awake refl
-    can_op awake (Await o a w) is = subst (λ (p : Progress). CanGoOn k task o a w p.call.phase) (sym same) (goes_on o a w is awake (call_at state task).phase refl)
+    can_op awake (Await o a w) is = subst (λ (p : Progress). CanGoOn k task o a w p.call.phase) (sym same) (goes_on o a w (Await o a w) is refl (and_left (fits_object app o a) _ (known (Await o a w) is)) (in_range (Await o a w) is) awake (call_at state task).phase refl)
     can_op awake (Do o a) is = brief_can (Do o a) is awake refl
     can_op awake (GiveMutex o) is = brief_can (GiveMutex o) is awake refl
     can_op awake (MessagesWaiting o) is = brief_can (MessagesWaiting o) is awake refl
     can_op awake (SpacesAvailable o) is = brief_can (SpacesAvailable o) is awake refl
-    can_op awake (SetBits g m) is = subst (λ (p : Progress). CanSetBits k task p.call.phase) (sym same) (sets g m is awake (call_at state task).phase refl)
+    can_op awake (SetBits g m) is = subst (λ (p : Progress). CanSetBits k task p.call.phase) (sym same) (sets (SetBits g m) is refl awake (call_at state task).phase refl)
     can_op awake (ClearBits g m) is = brief_can (ClearBits g m) is awake refl
     can_op awake (GetBits g) is = brief_can (GetBits g) is awake refl
     can_op awake (WaitBits g c w) is = subst (λ (p : Progress). CanWaitBits k task w p.call.phase) (sym same) (waits g c w is awake (call_at state task).phase refl)
@@ -365,6 +367,8 @@ module _ (app : Application) (formed : IsWellFormed app) (k : Machine) (state : 
     can_op awake (Resume j) is = brief_can (Resume j) is awake refl
     can_op awake SuspendAll is = brief_can SuspendAll is awake refl
     can_op awake ResumeAll is = brief_can ResumeAll is awake refl
+    can_op awake (NextCommand o) is = subst (λ (p : Progress). CanGoOn k task o Receive None p.call.phase) (sym same) (goes_on o Receive None (NextCommand o) is refl (known (NextCommand o) is).2 refl awake (call_at state task).phase refl)
+    can_op awake Obey is = subst (λ (p : Progress). CanSetBits k task p.call.phase) (sym same) (sets Obey is refl awake (call_at state task).phase refl)
 
     -- a `suspend_all` is in force
     can_hold : 0 < k.suspensions → state.suspensions < 1000000 → (op : Op) → op_at app task (progress_in k.progress task).op_index ≡ Some op → CanHold app k task op

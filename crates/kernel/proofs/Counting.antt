@@ -1,9 +1,11 @@
 -- No op changes how many steps are done: only the step itself counts.
-use Rattle.std.proofs.Common.{◌≡◌, ◌+◌, ◌-◌, ◌||◌, ◌&&◌, ℕ, zero, suc, true, eqb, List, ◌++◌, Option, Some, None, refl, sym, ◌∙◌, length}
+use Rattle.std.proofs.Common.{◌≡◌, ◌+◌, ◌-◌, ◌||◌, ◌&&◌, ℕ, zero, suc, true, false, eqb, List, ◌++◌, Option, Some, None, refl, sym, ◌∙◌, length}
 use Rattle.std.specs.Option.{option_eq}
 use Rattle.model.specs.declared.op.Op.{Op}
-use Rattle.model.specs.declared.op.Op.TheVariants.{Work, Delay, DelayUntil, Yield, Time, Mark, Expect, Repeat, End, Await, Do, GiveMutex, MessagesWaiting, SpacesAvailable, SetBits, ClearBits, GetBits, WaitBits, Suspend, Resume, SuspendAll, ResumeAll}
+use Rattle.model.specs.declared.op.Op.TheVariants.{Work, Delay, DelayUntil, Yield, Time, Mark, Expect, Repeat, End, Await, Do, GiveMutex, MessagesWaiting, SpacesAvailable, SetBits, ClearBits, GetBits, WaitBits, Suspend, Resume, SuspendAll, ResumeAll, NextCommand, Obey}
 use Rattle.model.specs.declared.op.Access.{Access}
+use Rattle.model.specs.declared.op.Access.TheVariants.{Receive}
+use Rattle.model.specs.declared.op.Command.{Command}
 use Rattle.model.specs.declared.call.Condition.{Condition}
 use Rattle.model.specs.declared.call.Phase.{Phase}
 use Rattle.model.specs.declared.call.Phase.TheVariants.{Start, Try, Decide, Place, Unlock, Leave, Final}
@@ -21,6 +23,7 @@ use Rattle.model.specs.Objects.{possible}
 use Rattle.model.specs.Calls.{decide, leave_call, await}
 use Rattle.model.specs.Groups.{is_met, begin_set, set_bits, wait_for_bits, begin_bits_wait, check, wait_bits}
 use Rattle.model.specs.Suspension.{suspend_all, resume_scheduler, resume_all}
+use Rattle.model.specs.Daemon.{next_command, obeyed, end_set_by_daemon, obey, command_at}
 use Rattle.model.specs.Handlers.{interrupt, tick_interrupt}
 use Rattle.model.specs.Step.{is_ended, judge, act, act_unless, misuse, act_if, act_current, before_step}
 use Rattle.model.proofs.Sorting.{by_test}
@@ -29,7 +32,7 @@ use Rattle.model.specs.declared.event.Event.{Event}
 use Rattle.machine.specs.declared.machine.Machine.{Machine}
 use Rattle.machine.specs.StandsFor.{Stands, AtAny}
 use Rattle.machine.proofs.Either.{steps_are}
-use Rattle.soundness.proofs.Frames.{keeps-choose, keeps-yield_now, keeps-preempt, keeps-slice, keeps-settle, keeps-unless_held, keeps-all_ready, keeps-wake_due, keeps-go_to, keeps-answer, keeps-use_up, keeps-delay, keeps-delay_until, keeps-open_loop, keeps-close_turn, keeps-set_deadline, keeps-inherit, keeps-give_mutex, keeps-try, keeps-do_now, keeps-set, keeps-clear, keeps-answer_bits, keeps-call_suspend, keeps-call_resume, keeps-interrupt, keeps-before_step}
+use Rattle.soundness.proofs.Frames.{keeps-choose, keeps-yield_now, keeps-preempt, keeps-slice, keeps-settle, keeps-unless_held, keeps-all_ready, keeps-wake_due, keeps-go_to, keeps-answer, keeps-use_up, keeps-delay, keeps-delay_until, keeps-open_loop, keeps-close_turn, keeps-set_deadline, keeps-inherit, keeps-give_mutex, keeps-try, keeps-do_now, keeps-set, keeps-clear, keeps-answer_bits, keeps-call_suspend, keeps-call_resume, keeps-take_command, keeps-obeyed, keeps-clear_by_daemon, keeps-interrupt, keeps-before_step}
 
 steps-unlock : (s : State) → (unlock s).steps ≡ s.steps
 unfolding unlock
@@ -94,6 +97,32 @@ steps-wait_bits app i group c ticks Decide s = (lasts-final_bits app i group c (
 steps-wait_bits app i group c ticks Place s = (lasts-final_bits app i group c (call_at s i).kept s).steps
 steps-wait_bits app i group c ticks Unlock s = (lasts-final_bits app i group c (call_at s i).kept s).steps
 steps-wait_bits app i group c ticks Final s = (lasts-final_bits app i group c (call_at s i).kept s).steps
+
+steps-next_command : (app : Application) (i o : ℕ) (phase : Phase) (s : State) → (next_command app i o phase s).steps ≡ s.steps
+steps-next_command app i o Start s = (keeps-take_command app i o s).steps
+steps-next_command app i o Try s = (keeps-take_command app i o s).steps
+steps-next_command app i o Decide s = steps-await app i o Receive None Decide s
+steps-next_command app i o Place s = steps-await app i o Receive None Place s
+steps-next_command app i o Unlock s = steps-await app i o Receive None Unlock s
+steps-next_command app i o Leave s = steps-await app i o Receive None Leave s
+steps-next_command app i o Final s = steps-await app i o Receive None Final s
+
+steps-end_command : (app : Application) (i group : ℕ) (s : State) → (end_set_by_daemon app i group s).steps ≡ s.steps
+steps-end_command app i group s =
+    let free : State = end_hold i Start s in
+    let told : State = obeyed app i false (bits_at s group) free in
+    (keeps-preempt told).steps ∙ (keeps-obeyed app i false (bits_at s group) free).steps
+
+steps-obey : (app : Application) (i : ℕ) (c : Command) (phase : Phase) (s : State) → (obey app i c phase s).steps ≡ s.steps
+steps-obey app i c Start s = by_test c.clear
+    (λ t. rw t (keeps-clear_by_daemon app i c.group c.mask s).steps)
+    (λ t. rw t (steps-begin_set i c.group c.mask s))
+steps-obey app i c Try s = steps-end_command app i c.group s
+steps-obey app i c Decide s = steps-end_command app i c.group s
+steps-obey app i c Place s = steps-end_command app i c.group s
+steps-obey app i c Unlock s = steps-end_command app i c.group s
+steps-obey app i c Leave s = steps-end_command app i c.group s
+steps-obey app i c Final s = steps-end_command app i c.group s
 
 steps-expect : (app : Application) (i : ℕ) (a : Option ℕ) (s : State) → (expect app i a s).steps ≡ s.steps
 unfolding expect
@@ -166,6 +195,8 @@ steps-act app i (Suspend j) s = (keeps-call_suspend app i j s).steps
 steps-act app i (Resume j) s = (keeps-call_resume app i j s).steps
 steps-act app i SuspendAll s = steps-suspends_all app i s
 steps-act app i ResumeAll s = steps-resumes_all app i s
+steps-act app i (NextCommand o) s = steps-next_command app i o (call_at s i).phase s
+steps-act app i Obey s = steps-obey app i (command_at s i) (call_at s i).phase s
 
 steps-judged : (i op_index : ℕ) (s : State) → (judge i op_index s).steps ≡ s.steps
 unfolding judge

@@ -1,14 +1,15 @@
 -- When a run ends.
-use Rattle.std.proofs.Common.{◌≡◌, ◌+◌, ◌<◌, ◌≤◌, ℕ, zero, suc, Bool, true, false, not, ◌&&◌, ◌||◌, eqb, leb, ltb, List, [], ◌∷◌, length, get_or, Option, Some, None, inl, inr, refl, ap, sym, subst, ◌∙◌, arith}
+use Rattle.std.proofs.Common.{◌≡◌, ◌≢◌, ◌+◌, ◌<◌, ◌≤◌, ℕ, zero, suc, Bool, true, false, not, ◌&&◌, ◌||◌, eqb, leb, ltb, List, [], ◌∷◌, length, get_or, Option, Some, None, inl, inr, refl, ap, sym, subst, ◌∙◌, arith}
 use Rattle.std.proofs.lemmas.Bool.Decides.{nat_tests}
 use Rattle.std.specs.List.{list_all, list_any, filter, AllByRecursion}
 use Rattle.std.specs.Prelude.{IsTrue, ◌↔◌, if◌then◌else◌, nat_lt}
-use Rattle.std.specs.Option.{option_eq, option_or, option_and_then, is_none, is_some}
+use Rattle.std.specs.Prelude.{slice_get}
+use Rattle.std.specs.Option.{option_eq, option_or, option_and_then, option_map, unwrap_or, is_none, is_some}
 use Rattle.std.proofs.lemmas.List.{length-map}
 use Rattle.model.specs.declared.event.Event.{Event}
 use Rattle.model.specs.declared.event.End.{End}
 use Rattle.model.specs.declared.event.End.TheVariants.{Pass, Ticks, Steps, Stuck}
-use Rattle.model.specs.Application.{Application, Limits}
+use Rattle.model.specs.Application.{Application, Definition, Limits, is_endless, without_endless}
 use Rattle.model.specs.State.{State, Task, Progress, Status, Ready, Awake, Waiting, Asleep, WaitingForBits, Suspended, Ended, ticket_if_ready, wake_time_of, task_at, status_at, no_task, for_each}
 use Rattle.model.specs.Order.{Key, Entry, key, keyed, list_by, in_order, tasks_of}
 use Rattle.model.specs.Switching.{is_held, is_ready, is_scheduler_suspended, ready_key, settle, unless_held}
@@ -21,7 +22,7 @@ use Rattle.model.specs.Step.{is_ended, act_current, before_step, step}
 use Rattle.model.specs.Run.{are_all_ended, is_interrupt_to_come, is_stuck, end_of}
 use Rattle.model.specs.Invariant.{IsRunning, IsState, RunsIn, holds, wait_of}
 use Rattle.model.proofs.Sorting.{length-in_order, by_test}
-use Rattle.model.proofs.Lists.{eqb-apart, eqb-refl, HasKey, list_has}
+use Rattle.model.proofs.Lists.{eqb-apart, eqb-refl, eqb-same, HasKey, list_has}
 use Rattle.lists.specs.Lists.{first_of, has_node}
 use Rattle.task_lists.specs.Priorities.{with_priorities}
 use Rattle.sched.specs.Schedule.{lined_up}
@@ -139,22 +140,26 @@ asleep o (t ∷ ts) = by_status t t.status (asleep (o + 1) ts) where
   by_status t Suspended later = later
   by_status t Ended later = later
 
+-- whether every task is Ended, the endless ones too
+abbrev pub is_everybody_ended : State → Bool
+is_everybody_ended s = list_all (λ (t : Task). is_ended t.status) s.tasks
+
 -- whether nobody sleeps
 abbrev is_quiet : State → Bool
 is_quiet s = eqb (length (keyed delayed_key 0 s.tasks)) 0
 
 -- What the parts of the kernel say of an end.
 module _ (k : Machine) (s : State) (h : StandsFor k s) where
-  over_is : not (is_some (first_of (lined_up k.sched))) && is_quiet s && not (list_any is_blocked s.tasks) ≡ are_all_ended s
+  over_is : not (is_some (first_of (lined_up k.sched))) && is_quiet s && not (list_any is_blocked s.tasks) ≡ is_everybody_ended s
   over_is = rw (none_first (lined_up k.sched), h.sched.ready, length-ready s.tasks) (over 0 s.tasks)
 
   stuck_is : (app : Application) → is_none k.sched.current && is_quiet s && not (is_interrupt_to_come app s) ≡ is_stuck app s
   stuck_is app = rw (h.sched.current, asleep 0 s.tasks) refl
 
-  ended_if : (ready q w : Bool) → ready ≡ is_some (first_of (lined_up k.sched)) → (IsTrue q ↔ (k.clock.delayed_list ≡ [])) → w ≡ list_any is_blocked s.tasks → not ready && q && not w ≡ are_all_ended s
+  ended_if : (ready q w : Bool) → ready ≡ is_some (first_of (lined_up k.sched)) → (IsTrue q ↔ (k.clock.delayed_list ≡ [])) → w ≡ list_any is_blocked s.tasks → not ready && q && not w ≡ is_everybody_ended s
   ended_if ready q w r is waiting = rw (r, quiet k.clock s h.rest.clock q is, waiting) over_is
 
-  not_over : is_some (first_of (lined_up k.sched)) ≡ true → false ≡ are_all_ended s
+  not_over : is_some (first_of (lined_up k.sched)) ≡ true → false ≡ is_everybody_ended s
   not_over some = rw some at over_is
 
   is_stuck_by : (idle q later : Bool) (app : Application) → idle ≡ is_none k.sched.current → (IsTrue q ↔ (k.clock.delayed_list ≡ [])) → later ≡ is_interrupt_to_come app s → idle && q && not later ≡ is_stuck app s
@@ -177,8 +182,8 @@ put_in_some : (e : ℕ × ℕ) (es : List (ℕ × ℕ)) → insert_by_priority e
 put_in_some e [] h = absurd (cc)
 put_in_some e (f ∷ fs) h = by_test (ltb f.1 e.1) (λ t. let g = rw t at h in absurd (cc)) (λ t. let g = rw t at h in absurd (cc))
 
-waits_before : (k : Machine) (s : State) (task : ℕ) (list : WaitList) → StandsBefore task list k s → false ≡ are_all_ended s
-waits_before k s task list b = by_test (are_all_ended s)
+waits_before : (k : Machine) (s : State) (task : ℕ) (list : WaitList) → StandsBefore task list k s → false ≡ is_everybody_ended s
+waits_before k s task list b = by_test (is_everybody_ended s)
     (λ t.
     let none : standing s list ≡ [] = ap in_order (standing_none list 0 s.tasks t) in
     let joined : joined_by (Some (decider task list s)) list (waiting_in k.queues.waiting list) ≡ [] = b.queues.waiters.lists list ∙ ap with_priorities none in
@@ -197,15 +202,15 @@ runs_before app k s task list b = rw b.current refl
 
 -- Whether or not a task is still to be placed.
 module _ (k : Machine) (s : State) (ready q : Bool) (r : ready ≡ is_some (first_of (lined_up k.sched))) (is : IsTrue q ↔ (k.clock.delayed_list ≡ [])) where
-  pub over_by : Stands k s → ready ≡ false → q ≡ true → (w : Bool) → (StandsFor k s → w ≡ list_any is_blocked s.tasks) → not w ≡ are_all_ended s
+  pub over_by : Stands k s → ready ≡ false → q ≡ true → (w : Bool) → (StandsFor k s → w ≡ list_any is_blocked s.tasks) → not w ≡ is_everybody_ended s
   over_by (Placed h) none still w waiting = let e = ended_if k s h ready q w r is (waiting h) in rw (none, still) at e
   over_by (Placing task list b) none still w waiting = let some : ready ≡ true = r ∙ ready_before k s task list b in absurd (cc)
 
-  pub on_by : Stands k s → not ready && q ≡ false → are_all_ended s ≡ false
+  pub on_by : Stands k s → not ready && q ≡ false → is_everybody_ended s ≡ false
   on_by (Placed h) on = let e = ended_if k s h ready q (list_any is_blocked s.tasks) r is refl in sym (rw on at e)
   on_by (Placing task list b) on = sym (waits_before k s task list b)
 
-pub not_over_by : (k : Machine) (s : State) (ready : Bool) → ready ≡ is_some (first_of (lined_up k.sched)) → Stands k s → ready ≡ true → are_all_ended s ≡ false
+pub not_over_by : (k : Machine) (s : State) (ready : Bool) → ready ≡ is_some (first_of (lined_up k.sched)) → Stands k s → ready ≡ true → is_everybody_ended s ≡ false
 not_over_by k s ready r (Placed h) some = sym (not_over k s h (sym r ∙ some))
 not_over_by k s ready r (Placing task list b) some = sym (waits_before k s task list b)
 
@@ -223,13 +228,106 @@ not_all_ended (t ∷ ts) (suc i) e = by_test (is_ended t.status)
     (λ u. rw u (not_all_ended ts i e))
     (λ u. rw u refl)
 
--- So it is in a state that a run comes to, where a task runs and nothing holds the scheduler, since that task is Ready.
-on_unheld : (app : Application) (s : State) (task : ℕ) → IsState app s → s.current ≡ Some task → is_held s ≡ false → are_all_ended s ≡ false
-on_unheld app s task is runs free =
+-- The same of all but the endless ones.
+
+when_true : {X : Type 0} (b : Bool) (x y : X) → b ≡ true → (if b then x else y) ≡ x
+when_true true x y e = refl
+when_true false x y e = absurd (cc)
+
+when_false : {X : Type 0} (b : Bool) (x y : X) → b ≡ false → (if b then x else y) ≡ y
+when_false true x y e = absurd (cc)
+when_false false x y e = refl
+
+and_right_false : (a b : Bool) → b ≡ false → a && b ≡ false
+and_right_false true b e = e
+and_right_false false b e = refl
+
+and_of_true : (a b : Bool) → a && b ≡ false → a ≡ true → b ≡ false
+and_of_true true b e t = e
+and_of_true false b e t = absurd (cc)
+
+-- where none is endless, all are meant
+pub all_meant : {X : Type 0} (ds : List Definition) (xs : List X) → list_any (λ (d : Definition). d.endless) ds ≡ false → without_endless ds xs ≡ xs
+all_meant [] xs e = refl
+all_meant (d ∷ ds) [] e = refl
+all_meant (d ∷ ds) (x ∷ xs) e = by_first d.endless e (λ f. all_meant ds xs f) where
+  by_first : (b : Bool) → b || list_any (λ (d : Definition). d.endless) ds ≡ false → (list_any (λ (d : Definition). d.endless) ds ≡ false → without_endless ds xs ≡ xs) → (if b then without_endless ds xs else x ∷ without_endless ds xs) ≡ x ∷ xs
+  by_first true f later = absurd (cc)
+  by_first false f later = ap (λ ys. x ∷ ys) (later f)
+
+pub some_left : (ds : List Definition) (ts : List Task) → list_all (λ (t : Task). is_ended t.status) (without_endless ds ts) ≡ false → (i : ℕ) × (unwrap_or (option_map (λ (d : Definition). d.endless) (slice_get ds i)) false ≡ false) × (is_ended (get_or ts i no_task).status ≡ false)
+some_left [] ts e = let one = some_on ts e in (one.0, refl, one.1)
+some_left (d ∷ ds) [] e = absurd (cc)
+some_left (d ∷ ds) (t ∷ ts) e = by_test d.endless
+    (λ u.
+    let later = some_left ds ts (sym (ap (λ (xs : List Task). list_all (λ (t : Task). is_ended t.status) xs) (when_true d.endless (without_endless ds ts) (t ∷ without_endless ds ts) u)) ∙ e) in
+    (suc later.0, later.1, later.2))
+    (λ u.
+    let here : is_ended t.status && list_all (λ (t : Task). is_ended t.status) (without_endless ds ts) ≡ false = sym (ap (λ (xs : List Task). list_all (λ (t : Task). is_ended t.status) xs) (when_false d.endless (without_endless ds ts) (t ∷ without_endless ds ts) u)) ∙ e in
+    by_test (is_ended t.status)
+    (λ v. let later = some_left ds ts (and_of_true (is_ended t.status) _ here v) in (suc later.0, later.1, later.2))
+    (λ v. (0, u, v)))
+
+pub not_all_but : (ds : List Definition) (ts : List Task) (i : ℕ) → unwrap_or (option_map (λ (d : Definition). d.endless) (slice_get ds i)) false ≡ false → is_ended (get_or ts i no_task).status ≡ false → list_all (λ (t : Task). is_ended t.status) (without_endless ds ts) ≡ false
+not_all_but [] ts i e on = not_all_ended ts i on
+not_all_but (d ∷ ds) [] i e on = absurd (cc)
+not_all_but (d ∷ ds) (t ∷ ts) zero e on = ap (λ (xs : List Task). list_all (λ (t : Task). is_ended t.status) xs) (when_false d.endless (without_endless ds ts) (t ∷ without_endless ds ts) e) ∙ rw on refl
+not_all_but (d ∷ ds) (t ∷ ts) (suc i) e on =
+    let later = not_all_but ds ts i e on in
+    by_test d.endless
+    (λ u. ap (λ (xs : List Task). list_all (λ (t : Task). is_ended t.status) xs) (when_true d.endless (without_endless ds ts) (t ∷ without_endless ds ts) u) ∙ later)
+    (λ u. ap (λ (xs : List Task). list_all (λ (t : Task). is_ended t.status) xs) (when_false d.endless (without_endless ds ts) (t ∷ without_endless ds ts) u) ∙ and_right_false (is_ended t.status) _ later)
+
+each_ended : (ts : List Task) → ((i : ℕ) → i < length ts → is_ended (get_or ts i no_task).status ≡ true) → list_all (λ (t : Task). is_ended t.status) ts ≡ true
+each_ended [] h = refl
+each_ended (t ∷ ts) h = let first : is_ended t.status ≡ true = h 0 (omega arith) in rw first (each_ended ts (λ i l. h (suc i) (omega arith)))
+
+pub or_false_left : (a b : Bool) → a || b ≡ true → a ≡ false → b ≡ true
+or_false_left true b e f = absurd (cc)
+or_false_left false b e f = e
+
+pub all_but : (ds : List Definition) (ts : List Task) → ((i : ℕ) → i < length ts → (unwrap_or (option_map (λ (d : Definition). d.endless) (slice_get ds i)) false || is_ended (get_or ts i no_task).status) ≡ true) → list_all (λ (t : Task). is_ended t.status) (without_endless ds ts) ≡ true
+all_but [] ts h = each_ended ts (λ i l. h i l)
+all_but (d ∷ ds) [] h = refl
+all_but (d ∷ ds) (t ∷ ts) h =
+    let later = all_but ds ts (λ i l. h (suc i) (omega arith)) in
+    by_test d.endless
+    (λ u. ap (λ (xs : List Task). list_all (λ (t : Task). is_ended t.status) xs) (when_true d.endless (without_endless ds ts) (t ∷ without_endless ds ts) u) ∙ later)
+    (λ u.
+    let first : is_ended t.status ≡ true = or_false_left d.endless (is_ended t.status) (h 0 (omega arith)) u in
+    ap (λ (xs : List Task). list_all (λ (t : Task). is_ended t.status) xs) (when_false d.endless (without_endless ds ts) (t ∷ without_endless ds ts) u) ∙ rw (first, later) refl)
+
+-- and each is meant
+pub none_endless : (ds : List Definition) (i : ℕ) → list_any (λ (d : Definition). d.endless) ds ≡ false → unwrap_or (option_map (λ (d : Definition). d.endless) (slice_get ds i)) false ≡ false
+none_endless [] i e = refl
+none_endless (d ∷ ds) zero e = first_of_two d.endless (list_any (λ (d : Definition). d.endless) ds) e where
+  first_of_two : (a b : Bool) → a || b ≡ false → a ≡ false
+  first_of_two true b f = absurd (cc)
+  first_of_two false b f = refl
+none_endless (d ∷ ds) (suc i) e = none_endless ds i (second_of_two d.endless (list_any (λ (d : Definition). d.endless) ds) e) where
+  second_of_two : (a b : Bool) → a || b ≡ false → b ≡ false
+  second_of_two true b f = absurd (cc)
+  second_of_two false b f = f
+
+-- what is true below a number, and of it
+pub each_below : (p : ℕ → Bool) (n : ℕ) → ((i : ℕ) → i < n → p i ≡ true) → p n ≡ true → (i : ℕ) → i < n + 1 → p i ≡ true
+each_below p n below at i l = by_test (eqb i n)
+    (λ t. subst (λ j. p j ≡ true) (sym (eqb-same i n t)) at)
+    (λ t. let apart : i ≢ n = (λ e. let u : eqb i n ≡ true = rw e (eqb-refl n) in absurd (cc)) in below i (omega arith))
+
+-- there are few tasks
+pub few_tasks : (k : Machine) (s : State) → Stands k s → length s.tasks ≤ 32
+few_tasks k s (Placed h) = h.sched.table.few
+few_tasks k s (Placing task list b) = b.sched.table.few
+
+-- So it is in a state that a run comes to, where a task that isn't endless runs and nothing holds the scheduler, since that task is
+-- Ready.
+pub on_unheld : (app : Application) (s : State) (task : ℕ) → is_endless app task ≡ false → IsState app s → s.current ≡ Some task → is_held s ≡ false → are_all_ended app s ≡ false
+on_unheld app s task awaited is runs free =
     let running : IsRunning app s task = subst (RunsIn app s) runs is.runs in
     let none = neither s.call_hold (is_scheduler_suspended s) free in
     let ready : is_ready s task ≡ true = elim (running.ready none.0) [ inl r ↦ r | inr x ↦ let t : is_scheduler_suspended s ≡ true = x.0 in let f = none.1 in absurd (cc) ] in
-    not_all_ended s.tasks task (ready_on (status_at s task) ready) where
+    not_all_but app.tasks s.tasks task awaited (ready_on (status_at s task) ready) where
       neither : (a b : Bool) → a || b ≡ false → (a ≡ false) × (b ≡ false)
       neither true b e = absurd (cc)
       neither false b e = (refl, e)
@@ -243,11 +341,22 @@ on_unheld app s task is runs free =
       ready_on Suspended t = absurd (cc)
       ready_on Ended t = absurd (cc)
 
-pub not_over_unheld : (app : Application) (k : Machine) (s : State) (task : ℕ) → Stands k s → IsState app s → k.sched.current ≡ Some task → k.sched.depth ≡ 0 → are_all_ended s ≡ false
-not_over_unheld app k s task (Placing other list b) is runs free = sym (waits_before k s other list b)
-not_over_unheld app k s task (Placed h) is runs free =
+placed_free : (k : Machine) (s : State) (other : ℕ) (list : WaitList) → StandsBefore other list k s → k.sched.depth ≡ 0 → ⊥
+placed_free k s other list b free =
+    let depth : k.sched.depth ≡ s.suspensions + (if s.call_hold then 1 else 0) = b.sched.depth in
+    let one : s.suspensions + 1 ≡ 0 = sym (ap (λ (h : Bool). s.suspensions + (if h then 1 else 0)) b.held) ∙ sym depth ∙ free in
+    absurd (omega arith)
+
+and_true_not : (a b : Bool) → (a ≡ false → b ≡ false) → a && b ≡ b
+and_true_not true b f = refl
+and_true_not false b f = sym (f refl)
+
+-- Where a task runs and nothing holds the scheduler, all but the endless ones are Ended only if it is endless.
+pub alone_unheld : (app : Application) (k : Machine) (s : State) (task : ℕ) → Stands k s → IsState app s → k.sched.current ≡ Some task → k.sched.depth ≡ 0 → is_endless app task && are_all_ended app s ≡ are_all_ended app s
+alone_unheld app k s task (Placing other list b) is runs free = absurd (placed_free k s other list b free)
+alone_unheld app k s task (Placed h) is runs free =
     let held : is_held s ≡ false = held_by_depth s ∙ ap (λ (n : ℕ). nat_lt 0 n) (sym h.sched.depth ∙ free) in
-    on_unheld app s task is (sym h.sched.current ∙ runs) held
+    and_true_not (is_endless app task) (are_all_ended app s) (λ e. on_unheld app s task e is (sym h.sched.current ∙ runs) held)
 
 pub stuck_by : (app : Application) (k : Machine) (s : State) (idle q later : Bool) → Stands k s → idle ≡ is_none k.sched.current → (IsTrue q ↔ (k.clock.delayed_list ≡ [])) → later ≡ is_interrupt_to_come app s → idle && q && not later ≡ is_stuck app s
 stuck_by app k s idle q later (Placed h) n is come = is_stuck_by k s h idle q later app n is come
@@ -267,15 +376,15 @@ neither_of true b c e = absurd (cc)
 neither_of false true c e = absurd (cc)
 neither_of false false c e = (refl, refl)
 
--- Nor is it over before the task's call decides, unless it has been stopped: a call holds nothing then.
-pub not_over_undecided : (app : Application) (k : Machine) (s : State) (task : ℕ) → Stands k s → IsState app s → k.sched.current ≡ Some task → (progress_in k.progress task).call.phase ≡ Decide → k.suspensions ≡ 0 → is_some k.stopped ≡ false → is_over app s ≡ false
-not_over_undecided app k s task h is runs decides none on =
+-- Nor is it over before the task's call decides, unless it has been stopped, or an endless task is left alone: a call holds nothing then.
+pub not_over_undecided : (app : Application) (k : Machine) (s : State) (task : ℕ) → Stands k s → IsState app s → k.sched.current ≡ Some task → (progress_in k.progress task).call.phase ≡ Decide → k.suspensions ≡ 0 → is_some k.stopped ≡ false → is_endless app task && are_all_ended app s ≡ false → is_over app s ≡ false
+not_over_undecided app k s task h is runs decides none on more =
     let current : s.current ≡ Some task = sym (current_is k s h) ∙ runs in
     let running : IsRunning app s task = subst (RunsIn app s) current is.runs in
     let no_call : s.call_hold ≡ false = sym running.holding ∙ ap (λ (p : Progress). holds p.call.phase) (sym (progress_is k s h task)) ∙ ap holds decides in
     let awake : s.suspensions ≡ 0 = sym (suspensions_are k s h) ∙ none in
     let free : is_held s ≡ false = rw (no_call, awake) refl in
-    none_of (is_some s.stopped) (are_all_ended s) (is_stuck app s) (ap (λ (o : Option End). is_some o) (sym (stopped_is k s h)) ∙ on) (on_unheld app s task is current free) (runs_on app s task current)
+    none_of (is_some s.stopped) (are_all_ended app s) (is_stuck app s) (ap (λ (o : Option End). is_some o) (sym (stopped_is k s h)) ∙ on) (sym (and_true_not (is_endless app task) (are_all_ended app s) (λ e. on_unheld app s task e is current free)) ∙ more) (runs_on app s task current)
 
 pub idle_by : (o : Option ℕ) → is_some o ≡ false → true ≡ is_none o
 idle_by None e = refl
@@ -287,10 +396,10 @@ not_stopped (Some end) t = absurd (cc)
 
 -- Which end it is.
 module _ (app : Application) (limits : Limits) (s : State) (none : s.stopped ≡ None) where
-  pub ends_pass : are_all_ended s ≡ true → Some Pass ≡ end_of app limits s
+  pub ends_pass : are_all_ended app s ≡ true → Some Pass ≡ end_of app limits s
   ends_pass over = rw (none, over) refl
 
-  module _ (on : are_all_ended s ≡ false) where
+  module _ (on : are_all_ended app s ≡ false) where
     pub ends_ticks : limits.ticks ≤ s.elapsed → Some Ticks ≡ end_of app limits s
     ends_ticks le = rw (none, on, leb-yes limits.ticks s.elapsed le) refl
 
@@ -319,9 +428,9 @@ module _ (app : Application) (limits : Limits) (s : State) where
   -- where neither limit is reached, the run goes on if it isn't over
   pub goes_if_not_over : is_over app s ≡ false → s.elapsed < limits.ticks → s.steps < limits.steps → end_of app limits s ≡ None
   goes_if_not_over on early few =
-      let both : is_some s.stopped || are_all_ended s ≡ false = first_false (is_some s.stopped || are_all_ended s) (is_stuck app s) on in
-      let none : s.stopped ≡ None = not_stopped s.stopped (first_false (is_some s.stopped) (are_all_ended s) both) in
-      sym (ends_not app limits s none (second_false (is_some s.stopped) (are_all_ended s) both) early few (second_false (is_some s.stopped || are_all_ended s) (is_stuck app s) on)) where
+      let both : is_some s.stopped || are_all_ended app s ≡ false = first_false (is_some s.stopped || are_all_ended app s) (is_stuck app s) on in
+      let none : s.stopped ≡ None = not_stopped s.stopped (first_false (is_some s.stopped) (are_all_ended app s) both) in
+      sym (ends_not app limits s none (second_false (is_some s.stopped) (are_all_ended app s) both) early few (second_false (is_some s.stopped || are_all_ended app s) (is_stuck app s) on)) where
         first_false : (a b : Bool) → a || b ≡ false → a ≡ false
         first_false true b e = absurd (cc)
         first_false false b e = refl
@@ -332,7 +441,7 @@ module _ (app : Application) (limits : Limits) (s : State) where
 
   -- and it doesn't go on if it is
   pub not_over_if_going : end_of app limits s ≡ None → is_over app s ≡ false
-  not_over_if_going on = over_not s.stopped (are_all_ended s) (leb limits.ticks s.elapsed) (leb limits.steps s.steps) (is_stuck app s) on
+  not_over_if_going on = over_not s.stopped (are_all_ended app s) (leb limits.ticks s.elapsed) (leb limits.steps s.steps) (is_stuck app s) on
 
 -- A step begins with no event told, and ends with one step more.
 

@@ -1,15 +1,19 @@
 -- Handlers: what their ops, and one handler after another, make of a state.
-use Rattle.std.proofs.Common.{◌≡◌, ◌<◌, ◌≤◌, ◌+◌, ℕ, zero, suc, List, [], ◌∷◌, ◌++◌, length, map, get_or, take, false, true, Option, None, ap, sym, subst, ◌∙◌, arith, Some}
+use Rattle.std.proofs.lemmas.Bool.{leb-true}
+use Rattle.std.proofs.Common.{◌≡◌, ◌<◌, ◌≤◌, ◌+◌, ◌&&◌, leb, ℕ, zero, suc, List, [], ◌∷◌, ◌++◌, length, map, get_or, take, false, true, Option, None, ap, sym, subst, ◌∙◌, arith, Some}
 use Rattle.std.specs.List.{AllByRecursion}
 use Rattle.std.proofs.lemmas.List.{length-take-le, take_more}
 use Rattle.model.specs.declared.event.What.{What}
 use Rattle.model.specs.declared.event.What.TheVariants.{IsrMark}
 use Rattle.model.specs.declared.op.IsrOp.{IsrOp}
-use Rattle.model.specs.declared.op.IsrOp.TheVariants.{Do, Resume, GetBits, Mark}
+use Rattle.model.specs.declared.op.Command as command
+use Rattle.model.specs.declared.op.IsrOp.TheVariants.{Do, Command, Resume, GetBits, Mark}
+use Rattle.model.specs.declared.op.Access.TheVariants.{Send}
 use Rattle.model.specs.declared.op.Access.{Access}
 use Rattle.std.specs.Prelude.{option_map, slice_get, unwrap_or}
-use Rattle.model.specs.Application.{Application, Handler, ops_of}
-use Rattle.model.specs.Scripts.{fits_object, IsHandler, IsWellFormed, knows_isr}
+use Rattle.model.specs.Application.{Application, Handler, commands_of, ops_of}
+use Rattle.model.specs.Daemon.{item_of}
+use Rattle.model.specs.Scripts.{fits_object, has_group, is_mask, IsHandler, IsWellFormed, knows_isr}
 use Rattle.model.specs.State.{State, for_each, status_at, bits_at}
 use Rattle.model.specs.declared.event.Event.{Event}
 use Rattle.model.specs.Switching.{is_held, preempt, write}
@@ -22,10 +26,10 @@ use Rattle.machine.specs.declared.machine.Machine.{Machine}
 use Rattle.machine.specs.StandsFor.{Stands, At, AtAny}
 use Rattle.machine.proofs.Parts.{rest_again}
 use Rattle.machine.proofs.Either.{any, either}
-use Rattle.soundness.proofs.Handled.{and_left}
+use Rattle.soundness.proofs.Handled.{and_left, and_right, commands_fit}
 use Rattle.ops.specs.Can.{HasIsrObject, HasObjects}
 use Rattle.machine.specs.Can.{Leaves}
-use Rattle.std.specs.Option.{option_map}
+use Rattle.std.specs.Option.{option_map, is_some}
 use Rattle.model.specs.Suspension.{can_resume, resume}
 use Rattle.objects.proofs.Kept.{same}
 use Rattle.groups.specs.StandsFor as groups
@@ -34,25 +38,38 @@ use Rattle.model.specs.Ops.{answer, one_if}
 
 -- ---- an op
 
-pub did_op : (P : State → Type 0) (s : State) (handler op_index : ℕ) (op : IsrOp) (o : ℕ) (a : Access) (given : Option ℕ) (what : What) → op ≡ Do o a → what ≡ isr_told handler op_index given → given ≡ answer_to s o a
-    → P (write what (attempt None o a s)) → P (isr handler op_index op s)
-did_op P s handler op_index op o a given what is told answer h =
+pub did_op : (P : State → Type 0) (app : Application) (s : State) (handler op_index : ℕ) (op : IsrOp) (o : ℕ) (a : Access) (given : Option ℕ) (what : What) → op ≡ Do o a → what ≡ isr_told handler op_index given → given ≡ answer_to s o a
+    → P (write what (attempt None o a s)) → P (isr app handler op_index op s)
+did_op P app s handler op_index op o a given what is told answer h =
     let one : what ≡ isr_told handler op_index (answer_to s o a) = told ∙ ap (isr_told handler op_index) answer in
     rw is (subst (λ (w : What). P (write w (attempt None o a s))) one h)
 
-pub did_mark : (P : State → Type 0) (s : State) (handler op_index : ℕ) (op : IsrOp) (n : ℕ) → op ≡ Mark n → P (write (IsrMark handler n) s) → P (isr handler op_index op s)
-did_mark P s handler op_index op n is h = rw is h
+pub did_command : (P : State → Type 0) (app : Application) (s : State) (handler op_index : ℕ) (op : IsrOp) (c : command.Command) (o item : ℕ) (given : Option ℕ) (what : What) → op ≡ Command c → o ≡ commands_of app → item ≡ item_of c → what ≡ isr_told handler op_index given → given ≡ answer_to s o (Send item)
+    → P (write what (attempt None o (Send item) s)) → P (isr app handler op_index op s)
+did_command P app s handler op_index op c o item given what is last same told answer h =
+    let one : what ≡ isr_told handler op_index (answer_to s o (Send item)) = told ∙ ap (isr_told handler op_index) answer in
+    let Q : ℕ → ℕ → Type 0 = λ x n. P (write (isr_told handler op_index (answer_to s x (Send n))) (attempt None x (Send n) s)) in
+    rw is (subst (λ (x : ℕ). Q x (item_of c)) last (subst (λ (n : ℕ). Q o n) same (subst (λ (w : What). P (write w (attempt None o (Send item) s))) one h)))
+
+pub did_mark : (P : State → Type 0) (app : Application) (s : State) (handler op_index : ℕ) (op : IsrOp) (n : ℕ) → op ≡ Mark n → P (write (IsrMark handler n) s) → P (isr app handler op_index op s)
+did_mark P app s handler op_index op n is h = rw is h
 
 -- its object has room for what it puts in
-pub op_fits : (app : Application) (formed : IsWellFormed app) (k : Machine) (handler i : ℕ) (op : IsrOp) → HasObjects app k → i < length (ops_of app handler) → op ≡ get_or (ops_of app handler) i op → HasIsrObject k op
+pub op_fits : (app : Application) (formed : IsWellFormed app) (k : Machine) (handler i : ℕ) (op : IsrOp) → HasObjects app k → i < length (ops_of app handler) → op ≡ get_or (ops_of app handler) i op → HasIsrObject app k op
 op_fits app formed k handler i op room l e = by_op op (at (ops_of app handler) i (isr_known app formed handler) l e) where
   at : (ops : List IsrOp) (i : ℕ) → AllByRecursion (λ (x : IsrOp). knows_isr app x ≡ true) ops → i < length ops → op ≡ get_or ops i op → knows_isr app op ≡ true
   at [] i known l e = absurd (omega arith)
   at (x ∷ xs) zero known l e = rw e known.0
   at (x ∷ xs) (suc i) known l e = at xs i known.1 (omega arith) e
 
-  by_op : (x : IsrOp) → knows_isr app x ≡ true → HasIsrObject k x
+  by_op : (x : IsrOp) → knows_isr app x ≡ true → HasIsrObject app k x
   by_op (Do o a) known = room o a (and_left (fits_object app o a) _ known)
+  by_op (Command c) known =
+      let some : is_some app.daemon ≡ true = and_left (is_some app.daemon) (has_group app c.group && is_mask c.mask) known in
+      let mask : is_mask c.mask ≡ true = and_right (has_group app c.group) (is_mask c.mask) (and_right (is_some app.daemon) (has_group app c.group && is_mask c.mask) known) in
+      let most : leb c.mask 16777215 ≡ true = and_right (leb 1 c.mask) (leb c.mask 16777215) mask in
+      let low = leb-true c.mask 16777215 most in
+      (room (commands_of app) (Send (item_of c)) (commands_fit app formed (item_of c) some), omega arith)
   by_op (Resume i) known = tt
   by_op (GetBits g) known = tt
   by_op (Mark n) known = tt
@@ -67,18 +84,18 @@ handler_short app formed handler = by_index app.handlers handler formed.handlers
 
 -- ---- one op after another
 
-each_op : (handler n : ℕ) (ops : List IsrOp) (op : IsrOp) (s : State) → isr_each handler n (ops ++ op ∷ []) s ≡ isr handler (n + length ops) op (isr_each handler n ops s)
-each_op handler n [] op s = let same : n ≡ n + 0 = omega arith in ap (λ (m : ℕ). isr handler m op s) same
-each_op handler n (x ∷ xs) op s =
+each_op : (app : Application) (handler n : ℕ) (ops : List IsrOp) (op : IsrOp) (s : State) → isr_each app handler n (ops ++ op ∷ []) s ≡ isr app handler (n + length ops) op (isr_each app handler n ops s)
+each_op app handler n [] op s = let same : n ≡ n + 0 = omega arith in ap (λ (m : ℕ). isr app handler m op s) same
+each_op app handler n (x ∷ xs) op s =
     let same : n + 1 + length xs ≡ n + suc (length xs) = omega arith in
-    each_op handler (n + 1) xs op (isr handler n x s) ∙ ap (λ (m : ℕ). isr handler m op (isr_each handler (n + 1) xs (isr handler n x s))) same
+    each_op app handler (n + 1) xs op (isr app handler n x s) ∙ ap (λ (m : ℕ). isr app handler m op (isr_each app handler (n + 1) xs (isr app handler n x s))) same
 
-pub op_more : (P : State → Type 0) (handler : ℕ) (ops : List IsrOp) (s : State) (i : ℕ) (op : IsrOp) → i < length ops → op ≡ get_or ops i op → P (isr handler i op (isr_each handler 0 (take i ops) s)) → P (isr_each handler 0 (take (i + 1) ops) s)
-op_more P handler ops s i op l e h =
+pub op_more : (P : State → Type 0) (app : Application) (handler : ℕ) (ops : List IsrOp) (s : State) (i : ℕ) (op : IsrOp) → i < length ops → op ≡ get_or ops i op → P (isr app handler i op (isr_each app handler 0 (take i ops) s)) → P (isr_each app handler 0 (take (i + 1) ops) s)
+op_more P app handler ops s i op l e h =
     let more : take (i + 1) ops ≡ take i ops ++ op ∷ [] = take_more ops i op l ∙ ap (λ (x : IsrOp). take i ops ++ x ∷ []) (sym e) in
     let many : length (take i ops) ≡ i = length-take-le i ops (omega arith) in
     let same : 0 + length (take i ops) ≡ i = omega (arith, many) in
-    rw (more, each_op handler 0 (take i ops) op s, same) h
+    rw (more, each_op app handler 0 (take i ops) op s, same) h
 
 -- ---- one after another
 
@@ -128,12 +145,12 @@ groups_stand k s (Placing task list b) = b.groups
 
 -- ---- in a handler
 
-pub told_bits : (P : State → Type 0) (s : State) (handler op_index : ℕ) (op : IsrOp) (group bits : ℕ) (what : What) → op ≡ GetBits group → what ≡ isr_told handler op_index (Some bits) → bits ≡ bits_at s group → P (write what s) → P (isr handler op_index op s)
-told_bits P s handler op_index op group bits what is told same h =
+pub told_bits : (P : State → Type 0) (app : Application) (s : State) (handler op_index : ℕ) (op : IsrOp) (group bits : ℕ) (what : What) → op ≡ GetBits group → what ≡ isr_told handler op_index (Some bits) → bits ≡ bits_at s group → P (write what s) → P (isr app handler op_index op s)
+told_bits P app s handler op_index op group bits what is told same h =
     let one : what ≡ isr_told handler op_index (Some (bits_at s group)) = told ∙ ap (λ (n : ℕ). isr_told handler op_index (Some n)) same in
     rw is (subst (λ (w : What). P (write w s)) one h)
 
-pub told_resume : (P : State → Type 0) (s : State) (handler op_index : ℕ) (op : IsrOp) (i n : ℕ) (what : What) → op ≡ Resume i → what ≡ isr_told handler op_index (Some n) → Some n ≡ one_if (can_resume (status_at s i)) → P (write what (resume i s)) → P (isr handler op_index op s)
-told_resume P s handler op_index op i n what is told same h =
+pub told_resume : (P : State → Type 0) (app : Application) (s : State) (handler op_index : ℕ) (op : IsrOp) (i n : ℕ) (what : What) → op ≡ Resume i → what ≡ isr_told handler op_index (Some n) → Some n ≡ one_if (can_resume (status_at s i)) → P (write what (resume i s)) → P (isr app handler op_index op s)
+told_resume P app s handler op_index op i n what is told same h =
     let one : what ≡ isr_told handler op_index (one_if (can_resume (status_at s i))) = told ∙ ap (isr_told handler op_index) same in
     rw is (subst (λ (w : What). P (write w (resume i s))) one h)

@@ -6,7 +6,7 @@ use Rattle.model.specs.declared.event.End.TheVariants as ending
 use Rattle.model.specs.declared.event.Misuse.{Misuse}
 use Rattle.model.specs.declared.event.Misuse.TheVariants.{WhileSuspended, NotSuspended, EndedSuspended}
 use Rattle.model.specs.declared.op.Op.{Op}
-use Rattle.model.specs.declared.op.Op.TheVariants.{Work, Delay, DelayUntil, Yield, Time, Mark, Expect, Repeat, End as EndLoop, Await, Do, GiveMutex, MessagesWaiting, SpacesAvailable, SetBits, ClearBits, GetBits, WaitBits, Suspend, Resume, SuspendAll, ResumeAll}
+use Rattle.model.specs.declared.op.Op.TheVariants.{Work, Delay, DelayUntil, Yield, Time, Mark, Expect, Repeat, End as EndLoop, Await, Do, GiveMutex, MessagesWaiting, SpacesAvailable, SetBits, ClearBits, GetBits, WaitBits, Suspend, Resume, SuspendAll, ResumeAll, NextCommand, Obey}
 use Rattle.model.specs.Application.{Application}
 use Rattle.model.specs.State.{State, status_at, progress_at}
 use Rattle.model.specs.Switching.{is_held, is_scheduler_suspended, slice}
@@ -97,6 +97,8 @@ goes_on s i (Suspend j) is t = absurd (cc)
 goes_on s i (Resume j) is t = absurd (cc)
 goes_on s i SuspendAll is t = rw is refl
 goes_on s i ResumeAll is t = rw is refl
+goes_on s i (NextCommand o) is t = absurd (cc)
+goes_on s i Obey is t = absurd (cc)
 
 -- every other op may switch
 pub no_other : {X : Type 0} (op : Op) → may_switch op ≡ false → ((n : ℕ) → op ≢ Work n) → (op ≢ Time) → ((n : ℕ) → op ≢ Mark n) → ((a : Option ℕ) → op ≢ Expect a) → ((n : ℕ) → op ≢ Repeat n) → (op ≢ EndLoop) → ((o : ℕ) → op ≢ MessagesWaiting o) → ((o : ℕ) → op ≢ SpacesAvailable o) → ((group mask : ℕ) → op ≢ ClearBits group mask) → ((group : ℕ) → op ≢ GetBits group) → (op ≢ SuspendAll) → (op ≢ ResumeAll) → X
@@ -122,6 +124,8 @@ no_other (Suspend j) t work time mark expect repeat end_ messages spaces clear g
 no_other (Resume j) t work time mark expect repeat end_ messages spaces clear get suspend_ resume_ = absurd (cc)
 no_other SuspendAll t work time mark expect repeat end_ messages spaces clear get suspend_ resume_ = absurd (suspend_ refl)
 no_other ResumeAll t work time mark expect repeat end_ messages spaces clear get suspend_ resume_ = absurd (resume_ refl)
+no_other (NextCommand o) t work time mark expect repeat end_ messages spaces clear get suspend_ resume_ = absurd (cc)
+no_other Obey t work time mark expect repeat end_ messages spaces clear get suspend_ resume_ = absurd (cc)
 
 -- `suspend_all` is none in any case
 pub no_misuse : (s : State) (i : ℕ) → misuse s i SuspendAll ≡ None

@@ -1,7 +1,7 @@
 -- Where a call on an event group lets go of the scheduler.
 use Rattle.std.proofs.Common.{◌≡◌, ◌≢◌, ℕ, true, Option, refl, subst, arith}
 use Rattle.model.specs.declared.op.Op.{Op}
-use Rattle.model.specs.declared.op.Op.TheVariants.{Work, Delay, DelayUntil, Yield, Time, Mark, Expect, Repeat, End, Await, Do, GiveMutex, MessagesWaiting, SpacesAvailable, SetBits, ClearBits, GetBits, WaitBits, Suspend, Resume, SuspendAll, ResumeAll}
+use Rattle.model.specs.declared.op.Op.TheVariants.{Work, Delay, DelayUntil, Yield, Time, Mark, Expect, Repeat, End, Await, Do, GiveMutex, MessagesWaiting, SpacesAvailable, SetBits, ClearBits, GetBits, WaitBits, Suspend, Resume, SuspendAll, ResumeAll, NextCommand, Obey}
 use Rattle.model.specs.declared.call.Condition.{Condition}
 use Rattle.model.specs.declared.call.Phase.TheVariants.{Start, Leave, Final}
 use Rattle.model.specs.Application.{Application}
@@ -65,5 +65,7 @@ no_other (Suspend j) e sets waits = absurd (cc)
 no_other (Resume j) e sets waits = absurd (cc)
 no_other SuspendAll e sets waits = absurd (cc)
 no_other ResumeAll e sets waits = absurd (cc)
+no_other (NextCommand o) e sets waits = absurd (cc)
+no_other Obey e sets waits = absurd (cc)
 no_other (SetBits group mask) e sets waits = sets group mask refl
 no_other (WaitBits group condition ticks) e sets waits = waits group condition ticks refl

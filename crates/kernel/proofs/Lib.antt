@@ -1,6 +1,7 @@
 pub mod Acted
 pub mod Bounds
 pub mod Ending
+pub mod Left
 pub mod Running
 pub mod Injecting
 pub mod Ticking

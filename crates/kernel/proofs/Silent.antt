@@ -24,7 +24,7 @@ use Rattle.soundness.proofs.Frames.{keeps-inherit, keeps-all_ready, keeps-settle
 use Rattle.soundness.proofs.Passing.{acts_calm}
 use Rattle.ops.specs.InCall.{IsSilent}
 use Rattle.kernel.specs.Over.{is_over}
-use Rattle.kernel.proofs.Ending.{neither_of, none_of, not_all_ended, runs_on, some_on}
+use Rattle.kernel.proofs.Ending.{neither_of, none_of, not_all_but, runs_on, some_left}
 
 -- Whoever wasn't Ended isn't.
 abbrev EndsNobody : State → State → Type 0
@@ -158,9 +158,9 @@ module _ (app : Application) (task object : ℕ) (access : Access) (ticks : Opti
       let does : acted ≡ await app task object access ticks phase begun = acts_silently begun runs is reached none in
       let ended : State = step app [] s in
       let stopped : ended.stopped ≡ s.stopped = (keeps-unless_held settle acted keeps-settle).stopped ∙ ap (λ (x : State). x.stopped) does ∙ stopped-await app task object access ticks phase begun silent in
-      let one = some_on s.tasks (neither_of (is_some s.stopped) (are_all_ended s) (is_stuck app s) going).1 in
-      let on : is_ended (status_at acted one.0) ≡ false = subst (λ (x : State). is_ended (status_at x one.0) ≡ false) (sym does) (on-await app task object access ticks phase begun silent one.0 one.1) in
-      none_of (is_some ended.stopped) (are_all_ended ended) (is_stuck app ended)
-      (ap (λ (o : Option End). is_some o) stopped ∙ (neither_of (is_some s.stopped) (are_all_ended s) (is_stuck app s) going).0)
-      (not_all_ended ended.tasks one.0 (on-unless_held acted one.0 on))
+      let one = some_left app.tasks s.tasks (neither_of (is_some s.stopped) (are_all_ended app s) (is_stuck app s) going).1 in
+      let on : is_ended (status_at acted one.0) ≡ false = subst (λ (x : State). is_ended (status_at x one.0) ≡ false) (sym does) (on-await app task object access ticks phase begun silent one.0 one.2) in
+      none_of (is_some ended.stopped) (are_all_ended app ended) (is_stuck app ended)
+      (ap (λ (o : Option End). is_some o) stopped ∙ (neither_of (is_some s.stopped) (are_all_ended app s) (is_stuck app s) going).0)
+      (not_all_but app.tasks ended.tasks one.0 one.1 (on-unless_held acted one.0 on))
       (runs_on app ended task still)

@@ -1,7 +1,7 @@
 -- Steps in which nothing happens but that a tick passes.
-use Rattle.std.proofs.Common.{◌≡◌, ◌≢◌, ◌<◌, ◌≤◌, ◌+◌, ◌^◌, ◌%◌, ℕ, zero, suc, Bool, true, false, not, ◌&&◌, eqb, leb, ltb, List, [], ◌∷◌, length, map, get_or, Option, Some, None, refl, ap, sym, subst, ◌∙◌, arith, get_or-set_same}
+use Rattle.std.proofs.Common.{◌≡◌, ◌≢◌, ◌<◌, ◌≤◌, ◌+◌, ◌^◌, ◌%◌, ℕ, zero, suc, Bool, true, false, not, ◌&&◌, ◌||◌, eqb, leb, ltb, List, [], ◌∷◌, length, map, get_or, Option, Some, None, refl, ap, sym, subst, ◌∙◌, arith, get_or-set_same}
 use Rattle.std.specs.Prelude.{◌==◌, if◌then◌else◌}
-use Rattle.std.specs.List.{filter}
+use Rattle.std.specs.List.{filter, list_all, list_any}
 use Rattle.std.specs.Option.{is_none, is_some}
 use Rattle.std.proofs.lemmas.Bool.{eq-eqb, ne_eqb}
 use Rattle.std.specs.List.Sorted.{IsNonDecreasingBy}
@@ -10,14 +10,14 @@ use Rattle.std.proofs.lemmas.List.{get_or_default}
 use Rattle.model.specs.declared.event.Event.{Event}
 use Rattle.model.specs.declared.op.Op.{Op}
 use Rattle.model.specs.declared.op.Op.TheVariants.{Work}
-use Rattle.model.specs.Application.{Application, Interrupt, Limits, op_at, interrupts_at}
+use Rattle.model.specs.Application.{Application, Definition, Interrupt, Limits, op_at, interrupts_at}
 use Rattle.model.specs.Coming.{AreComing}
-use Rattle.model.specs.State.{State, Progress, no_progress, progress_at}
+use Rattle.model.specs.State.{State, Task, Progress, no_progress, progress_at}
 use Rattle.model.specs.Switching.{is_ready, slice, settle, unless_held}
 use Rattle.model.specs.Time.{increment_tick}
 use Rattle.model.specs.Ops.{use_up}
 use Rattle.model.specs.Handlers.{interrupt, tick_interrupt}
-use Rattle.model.specs.Step.{act_if, act_current, before_step, step}
+use Rattle.model.specs.Step.{is_ended, act_if, act_current, before_step, step}
 use Rattle.model.specs.Run.{are_all_ended, end_of, is_interrupt_to_come, is_stuck}
 use Rattle.model.proofs.Sorting.{by_test}
 use Rattle.model.proofs.Ticks.{filter-taken}
@@ -25,7 +25,7 @@ use Rattle.soundness.proofs.Settled.{when_free}
 use Rattle.soundness.proofs.Passing.{acts_calm}
 use Rattle.lists.specs.Lists.{Each, first_of, has_node}
 use Rattle.lists.proofs.Entries.{Each-imp}
-use Rattle.sched.specs.Schedule.{is_steady, lined_up}
+use Rattle.sched.specs.Schedule.{is_steady, lined_up, is_ready as is_ready_in}
 use Rattle.sched.proofs.Standing as on_sched
 use Rattle.clock.specs.Timeline.{Timeline, Advances}
 use Rattle.clock.proofs.Standing.{due_next, stands_advanced}
@@ -36,7 +36,8 @@ use Rattle.kernel.specs.Quiet.{IsQuiet, Passes, WorksOn, used_by}
 use Rattle.ops.proofs.Working.{used_more}
 use Rattle.machine.proofs.Acting.{within}
 use Rattle.machine.proofs.Either.{any, current_is, elapsed_is, steps_are, stopped_is}
-use Rattle.kernel.proofs.Ending.{begun, ends_not, not_over_by, on_by, stepped, stuck_by}
+use Rattle.kernel.proofs.Ending.{all_meant, begun, ends_not, is_everybody_ended, not_over_by, on_by, stepped, stuck_by}
+use Rattle.kernel.proofs.Left.{any_left}
 use Rattle.machine.proofs.Switches.{settled_either, settled_idle, settled_on, unheld_by}
 use Rattle.machine.proofs.Waking.{groups-ticked, queues-ticked, sched-ticked, woken}
 
@@ -249,6 +250,7 @@ module _ (app : Application) (limits : Limits) (count : ℕ) (k : Machine) (q : 
         ticks = omega arith;
         steps = omega arith;
         works = still_works s (placed_by k s q.depth h) k.sched.current refl q.works;
+        left = λ some. let one = q.left some in (one.0, one.1, subst (λ (es : List (ℕ × ℕ)). is_ready_in k.sched one.0 || has_node one.0 es ≡ true) a.delayed one.2);
       }
 
 module _ (app : Application) (limits : Limits) (count : ℕ) (k new : Machine) (q : IsQuiet app limits (suc count) k) (p : Passes k new) where
@@ -276,9 +278,14 @@ module _ (app : Application) (limits : Limits) (count : ℕ) (k : Machine) (q : 
   abbrev ready : Bool
   ready = is_some (first_of (lined_up k.sched))
 
-  not_ended : (o : Option ℕ) → WorksOn app (suc count) k o → are_all_ended s ≡ false
-  not_ended None w = on_by k s ready false refl ((λ t. absurd (cc)), (λ none. absurd (w none))) h (and_none ready)
-  not_ended (Some task) w = not_over_by k s ready refl h (listed_some task (lined_up k.sched) w.0)
+  somebody_left : (o : Option ℕ) → WorksOn app (suc count) k o → is_everybody_ended s ≡ false
+  somebody_left None w = on_by k s ready false refl ((λ t. absurd (cc)), (λ none. absurd (w none))) h (and_none ready)
+  somebody_left (Some task) w = not_over_by k s ready refl h (listed_some task (lined_up k.sched) w.0)
+
+  not_ended : (o : Option ℕ) → WorksOn app (suc count) k o → are_all_ended app s ≡ false
+  not_ended o w = by_test (list_any (λ (d : Definition). d.endless) app.tasks)
+      (λ t. any_left app k s (placed_by k s q.depth h) (q.left t))
+      (λ t. ap (λ (ts : List Task). list_all (λ (u : Task). is_ended u.status) ts) (all_meant app.tasks s.tasks t) ∙ somebody_left o w)
 
   not_stuck : (o : Option ℕ) → k.sched.current ≡ o → WorksOn app (suc count) k o → is_stuck app s ≡ false
   not_stuck None e w = sym (stuck_by app k s true false (is_interrupt_to_come app s) h (ap is_none (sym e)) ((λ t. absurd (cc)), (λ none. absurd (w none))) refl)
@@ -321,6 +328,7 @@ quiet_fewer app limits count few k le q =
       ticks = omega arith;
       steps = omega arith;
       works = by_current k.sched.current q.works;
+      left = q.left;
     } where
       by_current : (o : Option ℕ) → WorksOn app count k o → WorksOn app few k o
       by_current None w = w

@@ -1,7 +1,8 @@
 -- What a step asks of the kernel: that the running task can do its op, and idle let a tick pass.
 use Rattle.std.specs.Prelude.{◌≡◌, ◌<◌, ◌≤◌, ℕ, Some, None}
 use Rattle.model.specs.declared.op.Op.{Op}
-use Rattle.model.specs.declared.op.Op.TheVariants.{Await, SetBits, WaitBits}
+use Rattle.model.specs.declared.op.Access.TheVariants.{Receive}
+use Rattle.model.specs.declared.op.Op.TheVariants.{Await, SetBits, WaitBits, NextCommand, Obey}
 use Rattle.model.specs.declared.ids.TaskId.{TaskId}
 use Rattle.model.specs.Application.{Application, Limits, op_at}
 use Rattle.model.specs.State.{State}
@@ -16,6 +17,8 @@ abbrev pub CanOp : Application → Machine → ℕ → Op → Type 0
 CanOp app k task (Await object access ticks) = CanGoOn k task object access ticks (progress_in k.progress task).call.phase
 CanOp app k task (SetBits group mask) = CanSetBits k task (progress_in k.progress task).call.phase
 CanOp app k task (WaitBits group condition ticks) = CanWaitBits k task ticks (progress_in k.progress task).call.phase
+CanOp app k task (NextCommand queue) = CanGoOn k task queue Receive None (progress_in k.progress task).call.phase
+CanOp app k task Obey = CanSetBits k task (progress_in k.progress task).call.phase
 CanOp app k task op = Can app k task op
 
 -- The running task can do its op, and idle can let a tick pass.

@@ -7,3 +7,4 @@ pub mod Quiet
 pub mod Over
 pub mod InCall
 pub mod Bits
+pub mod Left

@@ -1,13 +1,15 @@
 -- Steps in which nothing happens but that a tick passes.
 use Rattle.std.specs.Prelude.{◌≡◌, ◌≢◌, ◌<◌, ◌≤◌, ℕ, ◌+◌, ◌^◌, ◌%◌, true, List, [], Option, Some, None, slice_set}
 use Rattle.model.specs.declared.op.Op.TheVariants.{Work}
-use Rattle.model.specs.Application.{Application, Limits, interrupts_at, op_at}
+use Rattle.std.specs.List.{list_any}
+use Rattle.model.specs.Application.{Application, Definition, Limits, interrupts_at, op_at}
 use Rattle.model.specs.State.{Progress}
 use Rattle.lists.specs.Lists.{Each}
 use Rattle.sched.specs.Schedule.{is_ready, is_steady}
 use Rattle.clock.specs.Timeline.{Advances}
 use Rattle.machine.specs.declared.machine.Machine.{Machine}
 use Rattle.machine.specs.StandsFor.{progress_in}
+use Rattle.kernel.specs.Left.{IsAnyLeft}
 
 -- The running task has more than so much of a `work` before it; or idle runs, and somebody sleeps.
 abbrev pub WorksOn : Application → ℕ → Machine → Option ℕ → Type 0
@@ -29,6 +31,8 @@ pub record IsQuiet (app : Application) (limits : Limits) (count : ℕ) (k : Mach
   pub ticks : k.clock.age + k.clock.held + count ≤ limits.ticks
   pub steps : k.steps + count ≤ limits.steps
   pub works : WorksOn app count k k.sched.current
+  -- and it isn't over
+  pub left : list_any (λ (d : Definition). d.endless) app.tasks ≡ true → IsAnyLeft app k
 
 -- one more of its `work` is used up by the running task, if there is one
 abbrev pub used_by : Option ℕ → List Progress → List Progress

@@ -12,6 +12,7 @@ use crate::suspended::call_suspend_all;
 use machine::{Log, Machine};
 use model::{App, Misuse, Op, TaskId};
 use ops::calls::go_on_waiting;
+use ops::daemon::{next_command, obey};
 use ops::event_groups::{clear_bits, get_bits, set_bits, wait_bits};
 use ops::mutexes::give_mutex;
 use ops::queues::{do_now, messages_waiting, spaces_available};
@@ -84,6 +85,8 @@ pub(crate) fn act<L: Log>(
         Op::Resume(other) => call_resume(machine, app, task, other, log),
         Op::SuspendAll => call_suspend_all(machine, app, task, log),
         Op::ResumeAll => machine.misuse(task, Misuse::NotSuspended),
+        Op::NextCommand(queue) => next_command(machine, app, task, queue, log),
+        Op::Obey => obey(machine, app, task, log),
     }
     false
 }

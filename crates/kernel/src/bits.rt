@@ -103,7 +103,7 @@ fn pass_bits(
     if !is_for_bits(op) {
         return;
     }
-    if is_over_running(kernel) {
+    if is_over_running(kernel, app) {
         return;
     }
     if trail.begin().is_err() {

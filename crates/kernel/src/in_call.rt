@@ -15,7 +15,7 @@ ghost use Rattle.kernel.specs.InCall.{IsInPhase, IsLeaving};
 ghost use Rattle.kernel.specs.Over.{is_over};
 ghost use Rattle.kernel.specs.Along.{IsFree, GoesOn, NoneIsOver, IsGoing, GoesFurther};
 
-use crate::steps::op_of;
+use crate::steps::{is_left_alone, op_of};
 use machine::{Log, Machine, Trail};
 use model::{Access, App, Injection, Limits, ObjectId, Op, Phase, TaskId};
 use ops::calls::{go_on_silently, leave_call};
@@ -139,7 +139,8 @@ fn pass_if_next(
 
 /// Does the steps of the running task's call, which has come to decide, until it lets go of the scheduler next, and answers the task
 /// where it has come to that: none where the plan may have an injection, or a limit may be reached, before three steps are done.
-// Before it decides the task is Ready, so the run is over only if it has been stopped; and none of these steps ends it.
+// Before it decides the task is Ready, so the run is over only if it has been stopped, or if the task is endless and left alone; and
+// none of these steps ends it.
 #[inline(never)]
 pub(crate) fn pass_call(
     kernel: &mut Machine,
@@ -158,6 +159,9 @@ pub(crate) fn pass_call(
 {
     app.well_formed();
     if kernel.stopped.is_some() {
+        return None;
+    }
+    if is_left_alone(kernel, app, task) {
         return None;
     }
     if kernel.suspensions > 0 || until.saturating_sub(kernel.steps) < 3 {

@@ -1,9 +1,9 @@
 //! Steps, and whole runs.
-ghost use Rattle.std.specs.Prelude.{◌≡◌, true, false, ℕ, ◌<◌, ◌≤◌, ◌+◌, ◌^◌, ◌++◌, [], Some, None, ◌||◌, IfSome, IsNone, IfOk, OnOk, OnErr, drop, length};
-ghost use Rattle.std.specs.List.{AllByRecursion, list_any};
-ghost use Rattle.model.specs.Application.{Application, op_at};
-ghost use Rattle.model.specs.State.{State};
-ghost use Rattle.model.specs.Step.{act_current, step};
+ghost use Rattle.std.specs.Prelude.{◌≡◌, true, false, ℕ, ◌<◌, ◌≤◌, ◌+◌, ◌^◌, ◌++◌, [], Some, None, ◌||◌, ◌&&◌, IfSome, IsNone, IfOk, OnOk, OnErr, drop, length};
+ghost use Rattle.std.specs.List.{AllByRecursion, list_all, list_any};
+ghost use Rattle.model.specs.Application.{is_endless, op_at};
+ghost use Rattle.model.specs.State.{State, Task};
+ghost use Rattle.model.specs.Step.{act_current, is_ended, step};
 ghost use Rattle.model.specs.Run as definition;
 ghost use Rattle.model.specs.declared.plan.Injection as definitions;
 ghost use Rattle.model.specs.Plans.{IsPlan};
@@ -24,7 +24,7 @@ use crate::bits::pass_more;
 use crate::handlers::{inject_all, tick_interrupt};
 use crate::kernel::Kernel;
 use crate::quiet::{free_until, next_injection};
-use crate::suspended::act_while_suspended;
+use crate::suspended::{act_while_suspended, is_ended};
 use arrayvec::ArrayVec;
 use machine::{Log, Machine, StepLog, Trail};
 use model::{App, End, HandlerId, Injection, Limits, Memory, Meter, Op, Plan, Run, TaskId};
@@ -141,12 +141,52 @@ fn has_waiter(machine: &Machine) -> bool
     machine.queues.has_waiter() || machine.groups.has_waiter() || machine.sched.has_suspended()
 }
 
-/// Whether every task is Ended: nobody is Ready, sleeps, waits or is suspended.
+/// Whether every task is Ended, the endless ones too: nobody is Ready, sleeps, waits or is suspended.
 #[inline(always)]
-fn are_all_ended(machine: &Machine) -> bool
-    ensures { (s : State) → Stands machine.now s → result ≡ are_all_ended s }
+fn is_nobody_left(machine: &Machine) -> bool
+    ensures { (s : State) → Stands machine.now s
+        → result ≡ list_all (λ (t : Task). is_ended t.status) s.tasks }
 {
     !machine.sched.has_ready() && machine.clock.is_quiet() && !has_waiter(machine)
+}
+
+/// Whether every task that isn't endless is Ended, whoever else is.
+// Few applications have endless tasks.
+#[cold]
+#[inline(never)]
+fn are_others_ended(machine: &Machine, app: &App) -> bool
+    ensures { (s : State) → Stands machine.now s → result ≡ are_all_ended app.now s }
+{
+    for number in 0..32 {
+        let task = TaskId { number };
+        if !app.is_endless(task) && !is_ended(machine, task) {
+            return false;
+        }
+    }
+    true
+}
+
+/// Whether every task but the endless ones is Ended.
+#[inline(always)]
+fn are_all_ended(machine: &Machine, app: &App) -> bool
+    ensures { (s : State) → Stands machine.now s → result ≡ are_all_ended app.now s }
+{
+    if app.has_endless() {
+        return are_others_ended(machine, app);
+    }
+    is_nobody_left(machine)
+}
+
+/// Whether a task is endless, and every other that isn't is Ended.
+#[inline(always)]
+pub(crate) fn is_left_alone(machine: &Machine, app: &App, task: TaskId) -> bool
+    ensures { (s : State) → Stands machine.now s
+        → result ≡ is_endless app.now task && are_all_ended app.now s }
+{
+    if !app.has_endless() {
+        return false;
+    }
+    app.is_endless(task) && are_others_ended(machine, app)
 }
 
 /// Whether idle runs, no task will wake by itself, and no base interrupt is to come.
@@ -171,7 +211,7 @@ pub(crate) fn is_over(machine: &Machine, app: &App) -> bool
     if machine.stopped.is_some() {
         return true;
     }
-    if are_all_ended(machine) {
+    if are_all_ended(machine, app) {
         return true;
     }
     is_stuck(machine, app)
@@ -179,30 +219,36 @@ pub(crate) fn is_over(machine: &Machine, app: &App) -> bool
 
 /// The same where a task runs: then the run isn't stuck.
 #[inline(always)]
-pub(crate) fn is_over_running(machine: &Machine) -> bool
+pub(crate) fn is_over_running(machine: &Machine, app: &App) -> bool
     requires { (task : ℕ) × (machine.now.sched.current ≡ Some task) }
-    ensures { (app : Application) (s : State) → Stands machine.now s → result ≡ is_over app s }
+    ensures { (s : State) → Stands machine.now s → result ≡ is_over app.now s }
 {
     if machine.stopped.is_some() {
         return true;
     }
-    are_all_ended(machine)
+    are_all_ended(machine, app)
 }
 
 /// The same in a state that a run comes to. A task that runs there while nothing holds the scheduler is Ready, so the run is over only if
-/// it has been stopped.
+/// it has been stopped, or that task is endless and left alone.
 #[inline(always)]
 fn is_over_on_the_way(machine: &Machine, app: &App) -> bool
     ensures { (s : State) → Stands machine.now s → IsState app.now s → result ≡ is_over app.now s }
 {
-    if machine.sched.current().is_none() || machine.sched.depth() > 0 {
+    let Some(task) = machine.sched.current() else {
+        return is_over(machine, app);
+    };
+    if machine.sched.depth() > 0 {
         return is_over(machine, app);
     }
-    machine.stopped.is_some()
+    if machine.stopped.is_some() {
+        return true;
+    }
+    is_left_alone(machine, app, task)
 }
 
 /// The end of the run before its next step, under these limits: the first that holds of a failed `expect` or a misuse,
-/// every task Ended, the ticks, the steps, stuck (profile). `None` where the run goes on.
+/// every task but the endless ones Ended, the ticks, the steps, stuck (profile). `None` where the run goes on.
 #[inline(always)]
 pub(crate) fn ended(machine: &Machine, app: &App, limits: &Limits) -> Option<End>
     ensures { (s : State) → Stands machine.now s → result ≡ end_of app.now limits.now s }
@@ -210,7 +256,7 @@ pub(crate) fn ended(machine: &Machine, app: &App, limits: &Limits) -> Option<End
     if machine.stopped.is_some() {
         return machine.stopped;
     }
-    if are_all_ended(machine) {
+    if are_all_ended(machine, app) {
         return Some(End::Pass);
     }
     if limits.ticks as u64 <= machine.clock.elapsed() {

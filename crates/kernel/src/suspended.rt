@@ -6,7 +6,7 @@ ghost use Rattle.model.specs.Application.{op_at};
 ghost use Rattle.model.specs.State.{State, status_at};
 ghost use Rattle.model.specs.Handlers.{tick_interrupt};
 ghost use Rattle.model.specs.Step.{act, act_current, act_unless, is_ended, judge, may_switch, misuse};
-ghost use Rattle.machine.specs.StandsFor.{Does, DoesAny, Moves, StandsFor, progress_in};
+ghost use Rattle.machine.specs.StandsFor.{Does, DoesAny, Moves, Stands, progress_in};
 ghost use Rattle.machine.specs.Can.{Agrees};
 ghost use Rattle.ops.specs.Can.{Can, CanHold, HasObjects};
 
@@ -17,7 +17,7 @@ use model::{App, End, Misuse, Op, TaskId};
 use ops::event_groups::{clear_bits, get_bits};
 use ops::queues::{messages_waiting, spaces_available};
 use ops::script::{close_turn, expect, mark, open_loop};
-use ops::suspension::{can_suspend, resume_all, suspend_all};
+use ops::suspension::{resume_all, suspend_all};
 use ops::time::{time, use_up};
 
 /// Whether an op may switch, or wait.
@@ -36,14 +36,28 @@ fn may_switch(op: &Op) -> bool
             | Op::WaitBits(_, _, _)
             | Op::Suspend(_)
             | Op::Resume(_)
+            | Op::NextCommand(_)
+            | Op::Obey
     )
 }
 
-/// Whether a task's script is done.
-fn is_ended(machine: &Machine, task: TaskId) -> bool
-    ensures { (s : State) → StandsFor machine.now s → result ≡ is_ended (status_at s task) }
+/// Whether a task's script is done: it is in no list, and isn't suspended.
+pub(crate) fn is_ended(machine: &Machine, task: TaskId) -> bool
+    ensures { (s : State) → Stands machine.now s → result ≡ is_ended (status_at s task) }
 {
-    !can_suspend(machine, task) && !machine.sched.is_suspended(task)
+    if machine.sched.is_ready(task) {
+        return false;
+    }
+    if machine.clock.is_asleep(task) {
+        return false;
+    }
+    if machine.queues.is_waiting(task) {
+        return false;
+    }
+    if machine.groups.is_waiting(task) {
+        return false;
+    }
+    !machine.sched.is_suspended(task)
 }
 
 /// A task that came to the end of its script with the op of this index, while a `suspend_all` is in force, has misused the

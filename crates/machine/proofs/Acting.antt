@@ -1,17 +1,19 @@
 -- A task goes on, and its call answers: what that makes of the states that the kernel stands for.
-use Rattle.std.proofs.Common.{◌≡◌, ◌≢◌, ◌<◌, ◌+◌, ℕ, true, set, List, length, get_or-set_same, Option, Some, refl, ap, sym, subst, ◌∙◌}
+use Rattle.std.proofs.Common.{◌≡◌, ◌≢◌, ◌<◌, ◌+◌, ℕ, Bool, true, set, List, length, get_or-set_same, Option, Some, refl, ap, sym, subst, ◌∙◌}
 use Rattle.std.specs.Option.{is_some, IfSome}
 use Rattle.std.proofs.lemmas.Bool.{eq-eqb, ne_eqb}
 use Rattle.std.proofs.lemmas.List.{set-set}
 use Rattle.model.specs.declared.call.Phase.TheVariants.{Place}
 use Rattle.model.specs.declared.event.Event.{Event}
 use Rattle.model.specs.declared.event.What.{What}
+use Rattle.model.specs.declared.event.What.TheVariants as what
 use Rattle.model.specs.declared.event.End.{End}
 use Rattle.model.specs.Application.{Application, op_count}
 use Rattle.model.specs.State.{no_call, State, Task, Progress, task_at, progress_at, status_at, call_at, with_task, no_task}
 use Rattle.model.specs.State as state
 use Rattle.model.specs.Switching.{write, is_ready}
 use Rattle.model.specs.Ops.{go_to, moved_to, complete, called, answer}
+use Rattle.model.specs.Daemon.{received, obeyed}
 use Rattle.machine.specs.declared.machine.Machine.{Machine}
 use Rattle.sched.specs.Schedule.{Schedule, block}
 use Rattle.sched.proofs.Standing as on_sched
@@ -72,6 +74,22 @@ answered app k mid new log told s h i r v e a w one written is g =
     let told_is : w ≡ called i p.op_index a = one ∙ ap (λ (x : Progress). called i x.op_index a) same in
     completes app k mid new told (write (called i p.op_index a) s) (subst W told_is written) i r (record (progress_in k.progress i) { answer = a }) (record p { answer = a }) is
     (ap (λ (x : Progress). record x { answer = a }) (h.stands.rest.progress i)) (h.stands.rest.placed i) refl g
+
+-- an op is complete with an answer, and tells nothing
+pub received_at : (app : Application) (k mid new : Machine) (log : List Event) (s : State) → At k log s → (i : ℕ) → k.sched.current ≡ Some i → (a : Option ℕ)
+    → mid ≡ with_progress i (record (progress_in k.progress i) { answer = a }) k → Completes app mid i new → At new log (received app i a s)
+unfolding received
+received_at app k mid new log s h i r a is g =
+    completes app k mid new log s h i r (record (progress_in k.progress i) { answer = a }) (record (progress_at s i) { answer = a }) is
+    (ap (λ (x : Progress). record x { answer = a }) (h.stands.rest.progress i)) (h.stands.rest.placed i) refl g
+
+-- a command is done, and its event is told
+pub obeyed_at : (app : Application) (k mid new : Machine) (told : List Event) (s : State) (i : ℕ) → k.sched.current ≡ Some i → (clear : Bool) (bits : ℕ) → At k told (write (what.Obeyed i clear bits) s)
+    → mid ≡ with_progress i (record (progress_in k.progress i) { answer = Some bits }) k → Goes app mid i 0 new → At new told (obeyed app i clear bits s)
+unfolding obeyed
+obeyed_at app k mid new told s i r clear bits h is g =
+    goes app k mid new told (write (what.Obeyed i clear bits) s) h i r (record (progress_in k.progress i) { answer = Some bits }) (record (progress_at s i) { answer = Some bits }) is
+    (ap (λ (x : Progress). record x { answer = Some bits }) (h.stands.rest.progress i)) (h.stands.rest.placed i) refl 0 g
 
 -- the step brings about an end
 pub stopped_at : (k : Machine) (log : List Event) (s : State) → At k log s → (end same : End) → end ≡ same → At (record k { stopped = Some end }) log (record s { stopped = Some same })

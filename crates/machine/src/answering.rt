@@ -2,6 +2,7 @@
 ghost use Rattle.std.specs.Prelude.{◌≡◌, ◌<◌, ◌≤◌, ◌+◌, Some, None};
 ghost use Rattle.model.specs.State.{progress_at};
 ghost use Rattle.model.specs.Ops.{go_to, complete, called, answer, one_if};
+ghost use Rattle.model.specs.Daemon.{obeyed, received};
 ghost use Rattle.model.specs.Step.{misuse, misused};
 ghost use Rattle.machine.specs.StandsFor.{Does, Moves};
 ghost use Rattle.machine.specs.Can.{Runs};
@@ -91,6 +92,29 @@ impl Machine {
         ensures queues { self.new.queues ≡ self.old.queues }
     {
         self.answer_given(app, task, Some(number), log);
+    }
+
+    /// The op of the running task is complete with this answer, and tells nothing.
+    pub fn received(&mut self, app: &App, task: TaskId, given: Option<u32>)
+        requires { Runs self.old task }
+        ensures does { Moves self.old self.new (received app.now task given) }
+        ensures depth { self.new.sched.depth ≡ self.old.sched.depth }
+    {
+        self.set_answer(task, given);
+        self.complete(app, task);
+    }
+
+    /// The running task has done a command, with these bits as its answer, and goes on at its first op.
+    pub fn obeyed<L: Log>(&mut self, app: &App, task: TaskId, clear: bool, bits: u32, log: &mut L)
+        requires room { 1 ≤ (L.logged log.old).room }
+        requires runs { Runs self.old task }
+        ensures does { Does 1 self.old (L.logged log.old) self.new (L.logged log.new)
+            (obeyed app.now task clear bits) }
+        ensures depth { self.new.sched.depth ≡ self.old.sched.depth }
+    {
+        self.write(log, What::Obeyed(task, clear, bits));
+        self.set_answer(task, Some(bits));
+        self.go_to(app, task, 0);
     }
 
     /// The op of a task is a misuse, which ends the run.

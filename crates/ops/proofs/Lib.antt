@@ -8,3 +8,4 @@ pub mod Before
 pub mod Calling
 pub mod Suspending
 pub mod Held
+pub mod Commanding

@@ -1,6 +1,7 @@
 -- What a deed of the kernel asks of it: that the numbers of the code suffice, and that the parts agree.
 use Rattle.std.specs.Prelude.{◌≡◌, ◌<◌, ◌≤◌, ℕ, ◌+◌, ◌^◌, true, Option, Some, None, IfSome, length}
 use Rattle.model.specs.declared.op.Access.{Access}
+use Rattle.model.specs.declared.op.Access.TheVariants.{Send}
 use Rattle.model.specs.declared.op.IsrOp.{IsrOp}
 use Rattle.model.specs.declared.op.IsrOp.TheVariants as isr
 use Rattle.model.specs.declared.op.Op.{Op}
@@ -8,7 +9,8 @@ use Rattle.model.specs.declared.op.Op.TheVariants.{Repeat, Do}
 use Rattle.model.specs.declared.call.Phase.{Phase}
 use Rattle.model.specs.declared.call.Phase.TheVariants.{Start, Try, Decide, Place, Unlock, Leave, Final}
 use Rattle.model.specs.declared.call.WaitList.{WaitList}
-use Rattle.model.specs.Application.{Application}
+use Rattle.model.specs.Application.{Application, commands_of}
+use Rattle.model.specs.Daemon.{item_of}
 use Rattle.model.specs.Scripts.{fits_object}
 use Rattle.model.specs.State.{State}
 use Rattle.model.specs.Invariant.{IsUsedBy}
@@ -31,10 +33,11 @@ abbrev pub HasObject : Machine → Op → Type 0
 HasObject k (Do object access) = HasRoom k object access
 HasObject k _ = Unit {0}
 
--- the same of an op of a handler
-abbrev pub HasIsrObject : Machine → IsrOp → Type 0
-HasIsrObject k (isr.Do object access) = HasRoom k object access
-HasIsrObject k _ = Unit {0}
+-- the same of an op of a handler; the bits of a command are the 24 of an event group
+abbrev pub HasIsrObject : Application → Machine → IsrOp → Type 0
+HasIsrObject app k (isr.Do object access) = HasRoom k object access
+HasIsrObject app k (isr.Command c) = HasRoom k (commands_of app) (Send (item_of c)) × (c.mask < 16777216)
+HasIsrObject app k _ = Unit {0}
 
 -- Each object on which the application may make a call has such room.
 abbrev pub HasObjects : Application → Machine → Type 0

@@ -1,5 +1,5 @@
 use Rattle.std.proofs.Common.{◌∙◌, ◌<◌, ap, arith, refl, subst, sym}
-use Rattle.model.specs.declared.op.Op.TheVariants.{Work, Delay, DelayUntil, Yield, Time, Mark, Expect, Repeat, End as EndLoop, Await, Do, MessagesWaiting, SpacesAvailable, SetBits, ClearBits, GetBits, WaitBits, Suspend, Resume, ResumeAll}
+use Rattle.model.specs.declared.op.Op.TheVariants.{Work, Delay, DelayUntil, Yield, Time, Mark, Expect, Repeat, End as EndLoop, Await, Do, MessagesWaiting, SpacesAvailable, SetBits, ClearBits, GetBits, WaitBits, Suspend, Resume, ResumeAll, NextCommand, Obey}
 use Rattle.model.specs.declared.event.Misuse.TheVariants.{NotSuspended}
 use Rattle.model.specs.State.{Progress}
 use Rattle.machine.specs.StandsFor.{progress_in}
@@ -200,3 +200,19 @@ call_resume-requires g c =
 pub call_suspend_all-requires : goal.call_suspend_all-requires
 call_suspend_all-requires g c =
     record { room = room_for_one (g.L.Log.logged c.args.log.now).room c.requires.room; can = subst (CanOp c.args.app.now c.args.machine.now c.args.task) c.in-SuspendAll.is c.requires.can }
+
+pub returns-in-NextCommand : goal.returns-in-NextCommand
+returns-in-NextCommand g c =
+    any_by_form c.args.app.now c.args.machine.now c.next_command.new.machine (g.L.Log.logged c.args.log.now) (g.L.Log.logged c.next_command.new.log) c.args.task c.args.op.now (NextCommand c.in-NextCommand.queue) c.in-NextCommand.is c.requires.awake (λ s. refl) refl 2 two_within c.next_command.ensures
+
+pub next_command-requires : goal.next_command-requires
+next_command-requires g c =
+    record { room = room_for_two (g.L.Log.logged c.args.log.now).room c.requires.room; can = subst (CanOp c.args.app.now c.args.machine.now c.args.task) c.in-NextCommand.is c.requires.can }
+
+pub returns-in-Obey : goal.returns-in-Obey
+returns-in-Obey g c =
+    any_by_form c.args.app.now c.args.machine.now c.obey.new.machine (g.L.Log.logged c.args.log.now) (g.L.Log.logged c.obey.new.log) c.args.task c.args.op.now Obey c.in-Obey.is c.requires.awake (λ s. refl) refl 2 two_within c.obey.ensures
+
+pub obey-requires : goal.obey-requires
+obey-requires g c =
+    record { room = room_for_two (g.L.Log.logged c.args.log.now).room c.requires.room; can = subst (CanOp c.args.app.now c.args.machine.now c.args.task) c.in-Obey.is c.requires.can }

@@ -22,12 +22,12 @@ loop-op_index-preserved g c =
     let so = c.loop-op_index.invariant in
     record {
       does = record {
-        at = λ s h. op_more (At c.isr.new.machine (g.L.Log.logged c.isr.new.log).told) c.args.handler c.handler_ops-ops.result.now s c.loop-op_index.op_index c.index-ops-op_index.result c.loop-op_index-test.true c.index-ops-op_index.is (c.isr.ensures.does.at _ (so.does.at s h));
+        at = λ s h. op_more (At c.isr.new.machine (g.L.Log.logged c.isr.new.log).told) c.args.app.now c.args.handler c.handler_ops-ops.result.now s c.loop-op_index.op_index c.index-ops-op_index.result c.loop-op_index-test.true c.index-ops-op_index.is (c.isr.ensures.does.at _ (so.does.at s h));
         few = let a = so.does.few in let b = c.isr.ensures.does.few in omega arith;
         before = c.isr.ensures.does.before ∙ so.does.before;
       };
       any = record {
-        at = λ s h. op_more (AtAny c.isr.new.machine (g.L.Log.logged c.isr.new.log).told) c.args.handler c.handler_ops-ops.result.now s c.loop-op_index.op_index c.index-ops-op_index.result c.loop-op_index-test.true c.index-ops-op_index.is (c.isr.ensures.any.at _ (so.any.at s h));
+        at = λ s h. op_more (AtAny c.isr.new.machine (g.L.Log.logged c.isr.new.log).told) c.args.app.now c.args.handler c.handler_ops-ops.result.now s c.loop-op_index.op_index c.index-ops-op_index.result c.loop-op_index-test.true c.index-ops-op_index.is (c.isr.ensures.any.at _ (so.any.at s h));
         few = let a = so.any.few in let b = c.isr.ensures.any.few in omega arith;
         before = c.isr.ensures.any.before ∙ so.any.before;
       };
@@ -39,7 +39,7 @@ unfolding handle
 returns-clause-does g c =
     let so = c.loop-op_index.invariant in
     record {
-      at = λ s h. subst (λ (ops : List IsrOp). At c.loop-op_index.machine (g.L.Log.logged c.loop-op_index.log).told (isr_each c.args.handler 0 ops s)) (take_all _ _ c.loop-op_index-test.false ∙ c.handler_ops-ops.ensures) (so.does.at s h);
+      at = λ s h. subst (λ (ops : List IsrOp). At c.loop-op_index.machine (g.L.Log.logged c.loop-op_index.log).told (isr_each c.args.app.now c.args.handler 0 ops s)) (take_all _ _ c.loop-op_index-test.false ∙ c.handler_ops-ops.ensures) (so.does.at s h);
       few = let a = so.does.few in let l = c.loop-op_index.auto.op_index-end in let m = handler_short c.args.app.now c.well_formed-2.ensures c.args.handler in let e = c.handler_ops-ops.ensures in omega (arith, ap (λ (ops : List IsrOp). length ops) e);
       before = so.does.before;
     }
@@ -49,7 +49,7 @@ unfolding handle
 returns-clause-any g c =
     let so = c.loop-op_index.invariant in
     record {
-      at = λ s h. subst (λ (ops : List IsrOp). AtAny c.loop-op_index.machine (g.L.Log.logged c.loop-op_index.log).told (isr_each c.args.handler 0 ops s)) (take_all _ _ c.loop-op_index-test.false ∙ c.handler_ops-ops.ensures) (so.any.at s h);
+      at = λ s h. subst (λ (ops : List IsrOp). AtAny c.loop-op_index.machine (g.L.Log.logged c.loop-op_index.log).told (isr_each c.args.app.now c.args.handler 0 ops s)) (take_all _ _ c.loop-op_index-test.false ∙ c.handler_ops-ops.ensures) (so.any.at s h);
       few = let a = so.any.few in let l = c.loop-op_index.auto.op_index-end in let m = handler_short c.args.app.now c.well_formed-2.ensures c.args.handler in let e = c.handler_ops-ops.ensures in omega (arith, ap (λ (ops : List IsrOp). length ops) e);
       before = so.any.before;
     }

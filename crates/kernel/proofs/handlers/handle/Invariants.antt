@@ -6,7 +6,7 @@ use Rattle.kernel.proofs.handlers.handle.Given as goal
 
 abbrev pub invariant-loop-op_index : goal.invariant-loop-op_index
 invariant-loop-op_index g l = record {
-  does : Does l.op_index l.fn.machine (g.L.Log.logged l.fn.log) l.machine (g.L.Log.logged l.log) (isr_each l.handler 0 (take l.op_index l.ops));
-  any : DoesAny l.op_index l.fn.machine (g.L.Log.logged l.fn.log) l.machine (g.L.Log.logged l.log) (isr_each l.handler 0 (take l.op_index l.ops));
+  does : Does l.op_index l.fn.machine (g.L.Log.logged l.fn.log) l.machine (g.L.Log.logged l.log) (isr_each l.app l.handler 0 (take l.op_index l.ops));
+  any : DoesAny l.op_index l.fn.machine (g.L.Log.logged l.fn.log) l.machine (g.L.Log.logged l.log) (isr_each l.app l.handler 0 (take l.op_index l.ops));
   leaves : Leaves l.fn.machine l.machine;
 }

@@ -10,14 +10,14 @@ use Rattle.kernel.proofs.steps.is_over.Goals as goal
 pub returns-then-is_some : goal.returns-then-is_some
 returns-then-is_some c = λ s h.
     let stopped : is_some s.stopped ≡ true = ap (λ (o : Option End). is_some o) (sym (stopped_is _ s h)) ∙ sym c.if-is_some.ensures in
-    any_first (is_some s.stopped) (are_all_ended s) (is_stuck c.args.app.now s) (is_over c.args.app.now s) refl stopped
+    any_first (is_some s.stopped) (are_all_ended c.args.app.now s) (is_stuck c.args.app.now s) (is_over c.args.app.now s) refl stopped
 
 pub returns-then-are_all_ended : goal.returns-then-are_all_ended
 returns-then-are_all_ended c = λ s h.
     let on : is_some s.stopped ≡ false = ap (λ (o : Option End). is_some o) (sym (stopped_is _ s h)) ∙ sym c.if-is_some.ensures in
-    any_second (is_some s.stopped) (are_all_ended s) (is_stuck c.args.app.now s) (is_over c.args.app.now s) refl on (sym (c.if-are_all_ended.ensures s h))
+    any_second (is_some s.stopped) (are_all_ended c.args.app.now s) (is_stuck c.args.app.now s) (is_over c.args.app.now s) refl on (sym (c.if-are_all_ended.ensures s h))
 
 pub returns : goal.returns
 returns c = λ s h.
     let on : is_some s.stopped ≡ false = ap (λ (o : Option End). is_some o) (sym (stopped_is _ s h)) ∙ sym c.if-is_some.ensures in
-    c.is_stuck.ensures s h ∙ any_third (is_some s.stopped) (are_all_ended s) (is_stuck c.args.app.now s) (is_over c.args.app.now s) refl on (sym (c.if-are_all_ended.ensures s h))
+    c.is_stuck.ensures s h ∙ any_third (is_some s.stopped) (are_all_ended c.args.app.now s) (is_stuck c.args.app.now s) (is_over c.args.app.now s) refl on (sym (c.if-are_all_ended.ensures s h))

@@ -8,12 +8,12 @@ use Rattle.kernel.proofs.Ending.{any_first, any_middle, runs_on}
 use Rattle.kernel.proofs.steps.is_over_running.Goals as goal
 
 pub returns-then-is_some : goal.returns-then-is_some
-returns-then-is_some c = λ app s h.
+returns-then-is_some c = λ s h.
     let stopped : is_some s.stopped ≡ true = ap (λ (o : Option End). is_some o) (sym (stopped_is _ s h)) ∙ sym c.if-is_some.ensures in
-    any_first (is_some s.stopped) (are_all_ended s) (is_stuck app s) (is_over app s) refl stopped
+    any_first (is_some s.stopped) (are_all_ended c.args.app.now s) (is_stuck c.args.app.now s) (is_over c.args.app.now s) refl stopped
 
 pub returns : goal.returns
-returns c = λ app s h.
+returns c = λ s h.
     let on : is_some s.stopped ≡ false = ap (λ (o : Option End). is_some o) (sym (stopped_is _ s h)) ∙ sym c.if-is_some.ensures in
-    let moves = runs_on app s c.requires.0 (sym (current_is c.args.machine.now s h) ∙ c.requires.1) in
-    c.are_all_ended.ensures s h ∙ any_middle (is_some s.stopped) (are_all_ended s) (is_stuck app s) (is_over app s) refl on moves
+    let moves = runs_on c.args.app.now s c.requires.0 (sym (current_is c.args.machine.now s h) ∙ c.requires.1) in
+    c.are_all_ended.ensures s h ∙ any_middle (is_some s.stopped) (are_all_ended c.args.app.now s) (is_stuck c.args.app.now s) (is_over c.args.app.now s) refl on moves

@@ -1,0 +1,15 @@
+use Rattle.std.proofs.Common.{◌≡◌, ◌&&◌, Bool, true, false, refl, ap, sym, ◌∙◌}
+use Rattle.model.specs.Run.{are_all_ended}
+use Rattle.kernel.proofs.Ending.{none_endless}
+use Rattle.kernel.proofs.steps.is_left_alone.Goals as goal
+
+pub returns-then-not-has_endless : goal.returns-then-not-has_endless
+returns-then-not-has_endless c = λ s h.
+    sym (ap (λ (b : Bool). b && are_all_ended c.args.app.now s) (none_endless c.args.app.now.tasks c.args.task (sym c.has_endless.ensures ∙ c.if-not-has_endless.true)))
+
+pub returns-then-is_endless : goal.returns-then-is_endless
+returns-then-is_endless c = λ s h.
+    c.are_others_ended.ensures s h ∙ sym (ap (λ (b : Bool). b && are_all_ended c.args.app.now s) (sym c.is_endless.ensures ∙ c.if-is_endless.true))
+
+pub returns-else-is_endless : goal.returns-else-is_endless
+returns-else-is_endless c = λ s h. c.if-is_endless.false ∙ sym (ap (λ (b : Bool). b && are_all_ended c.args.app.now s) (sym c.is_endless.ensures ∙ c.if-is_endless.false))
