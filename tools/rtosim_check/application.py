@@ -1,5 +1,5 @@
 """What a document holds of the format, as far as it can be read: entries, names, texts of ops and points."""
-from .formats import NAME, NAMED, NUMBER, SECTIONS
+from .formats import DAEMON, NAME, NAMED, NUMBER, SECTIONS
 from .nodes import Array, Integer, Table, Text
 
 
@@ -23,16 +23,22 @@ class Entry:
 
 
 class Application:
-    """The document by sections and by names."""
+    """The document by sections and by names. `daemon` is the entry of the daemon, or None."""
 
     def __init__(self, root):
         self.root = root
+        daemon = root.get(DAEMON)
+        self.daemon = Entry(DAEMON, 0, daemon) if isinstance(daemon, Table) else None
         self.entries = {name: list(self.entries_of(name)) for name, section in SECTIONS.items() if section.is_list}
         self.named = {}
-        for section in NAMED:
-            for entry in self.entries[section]:
-                if entry.name is not None:
-                    self.named.setdefault(entry.name, entry)
+        for entry in self.all_entries():
+            if entry.name is not None:
+                self.named.setdefault(entry.name, entry)
+
+    def all_entries(self):
+        """What has a name, in the order in which the names are checked."""
+        entries = [it for section in NAMED for it in self.entries[section]]
+        return entries + [self.daemon] * (self.daemon is not None)
 
     def entries_of(self, section):
         array = self.root.get(section)

@@ -5,7 +5,7 @@ import re
 from . import explaining_ops, explaining_points
 from .context import Context
 from .findings import FAULT, Finding
-from .formats import (CALLED, EXAMPLE_OF_A_TASK, MEANT_KEYS, MEANT_SECTIONS, NAME, NAMED, OBJECTS, PLURALS, SECTIONS)
+from .formats import CALLED, DAEMON, EXAMPLE_OF_A_TASK, MEANT_KEYS, MEANT_SECTIONS, NAME, OBJECTS, PLURALS, SECTIONS
 from .nearness import did_you_mean, near, quoted
 from .nodes import Array, Float, Integer, Table, Text
 from .verdict import Place
@@ -149,13 +149,14 @@ def double_name(context):
     node = context.node
     if not isinstance(node, Text):
         return None
-    first = next((it for section in NAMED for it in context.application.entries[section] if it.name == node.value), None)
+    first = context.application.named.get(node.value)
     if first is None:
         return None
     line = context.line_of(first.table.get("name").start)
     message = f'{context.label}: the name "{node.value}" is already that of the {CALLED[first.section]} of line {line}'
     return node.span, message, (
-        "all names of a file are different: those of queues, semaphores, mutexes, event groups, handlers and tasks together")
+        "all names of a file are different: those of queues, semaphores, mutexes, event groups, handlers, tasks and the daemon "
+        "together")
 
 
 # -- what is too many
@@ -170,6 +171,8 @@ def too_many(context):
         return there, f"{context.label}: {len(node.items):,} {what}, and at most {most:,} are allowed", context.key.rule
     if place.section == "interrupt" and place.index is not None:
         return fifth_interrupt(context)
+    if place.words == [DAEMON]:
+        return daemon_too_many(context)
     if isinstance(node, Array) and context.section is not None:
         return too_many_entries(context, node)
     return None
@@ -185,6 +188,13 @@ def too_many_entries(context, node):
         count, most, what = count + before, most - before, "queues, semaphores and mutexes" if before else what
     there = node.items[most].span if 0 <= most < len(node.items) else context.nearest
     return there, f"there are {count:,} {what}, and at most {section.most:,} are allowed", section.rule
+
+
+def daemon_too_many(context):
+    """The daemon of a file that has all tasks without it."""
+    most = SECTIONS["task"].most
+    message = f"the file has {len(context.application.entries['task'])} tasks, and the daemon is one more: at most {most} are allowed"
+    return context.nearest, message, context.section.rule
 
 
 def fifth_interrupt(context):
@@ -223,5 +233,5 @@ def bad_op(context):
 EXPLANATIONS = {
     "Missing": missing, "WrongKind": wrong_kind, "OutOfRange": out_of_range, "DoubleName": double_name, "TooMany": too_many,
     "BadOp": bad_op, "UnknownName": unknown_name, "OverwriteLength": explaining_ops.overwrite_length,
-    "BadNesting": explaining_ops.bad_nesting,
+    "BadNesting": explaining_ops.bad_nesting, "NoDaemon": explaining_ops.no_daemon,
 }

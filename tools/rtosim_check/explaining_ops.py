@@ -2,8 +2,8 @@
 import re
 
 from .explaining_points import listed
-from .formats import (CALLED, DEEPEST, KIN, LATER_OPS, MEANT_NONE, MEANT_OPS, MEANT_WAITS, NUMBER, OPS, PLURALS, Answer, Choice,
-                      Name, Wait, op_of, words_of)
+from .formats import (CALLED, COMMANDS, DAEMON, DEEPEST, EXAMPLE_OF_A_DAEMON, KIN, LATER_OPS, MEANT_NONE, MEANT_OPS, MEANT_WAITS,
+                      NUMBER, OPS, PLURALS, SECTIONS, Answer, Choice, Name, Wait, op_of, words_of)
 from .nearness import did_you_mean, near, quoted
 from .nodes import Array, Integer, Text
 
@@ -231,8 +231,10 @@ def no_such(context, op, word, kinds):
     wanted, plural = ("semaphore", "semaphores") if is_semaphore else (CALLED[kinds[0]], PLURALS[kinds[0]])
     other, names = context.application.named.get(word), context.application.names_of(kinds)
     if other is not None:
-        end, meant = instead(context, op, other, names)
         line = context.line_of(other.table.start)
+        if other.section == DAEMON and kinds == ("task",):
+            return f'"{word}" is the daemon (line {line}), and no op can {op.word} it', op.rule
+        end, meant = instead(context, op, other, names)
         return f'"{word}" is {one(other.section)} (line {line}), and {op.word} speaks of {plural}{end}', (meant or op).rule
     start, meant = f'no {wanted} is called "{word}"', near(word, names)
     if meant:
@@ -244,7 +246,9 @@ def no_such(context, op, word, kinds):
 
 
 def one(section):
-    """As `a queue`, `an event group`."""
+    """As `a queue`, `an event group`, `the daemon`."""
+    if section == DAEMON:
+        return "the daemon"
     return ("an " if CALLED[section][0] in "aeiou" else "a ") + CALLED[section]
 
 
@@ -258,6 +262,19 @@ def instead(context, op, other, names):
     if ops:
         return f"; ops of {one(other.section)} are {', '.join(ops)}", None
     return did_you_mean(listed(names)), None
+
+
+def no_daemon(context):
+    """A command of a handler in a file without a daemon."""
+    node = context.node
+    words = words_of(node.value) if isinstance(node, Text) and context.place.section == "handler" else []
+    if not words or words[0][0] not in COMMANDS:
+        return None
+    word, start, end = words[0]
+    there = context.lost([DAEMON]) or f"the file has no {SECTIONS[DAEMON].header}"
+    message = told(context, f"a handler has the daemon {word} bits, since it can't itself; {there}")
+    rule = f"the daemon is the task that sets and clears bits for handlers, as {EXAMPLE_OF_A_DAEMON}"
+    return node.part(start, end), message, rule
 
 
 def overwrite_length(context):

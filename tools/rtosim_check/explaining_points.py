@@ -1,7 +1,7 @@
 """Why the program refuses a point."""
 import re
 
-from .formats import A_POINT, MOST_PAIRS, NAME, SEVERAL, STEP, words_of
+from .formats import A_POINT, DAEMON, MOST_PAIRS, NAME, SEVERAL, STEP, words_of
 from .nearness import did_you_mean, near, quoted
 from .nodes import Integer, Text
 
@@ -12,7 +12,8 @@ def no_handler(context, name):
     handlers = application.names_of(("handler",))
     other = application.named.get(name)
     if other is not None:
-        return f'"{name}" is a {other.section}, not a handler' + (f"; the handlers are {listed(handlers)}" if handlers else "")
+        what = "the daemon" if other.section == DAEMON else f"a {other.section}"
+        return f'"{name}" is {what}, not a handler' + (f"; the handlers are {listed(handlers)}" if handlers else "")
     meant = near(name, handlers)
     if meant:
         return f'no handler is called "{name}"' + did_you_mean(quoted(meant))

@@ -9,10 +9,12 @@ NAME = re.compile("[A-Za-z][A-Za-z0-9_]{0,15}")
 A_NAME = "a name is 1 to 16 ASCII letters, digits and `_`, and begins with a letter"
 OBJECTS = ("queue", "binary", "counting", "mutex")
 NAMED = (*OBJECTS, "group", "handler", "task")
+# The section of the task that does handlers' commands, of which a file has one.
+DAEMON = "daemon"
 # How a message calls what a section names.
 CALLED = {
     "queue": "queue", "binary": "binary semaphore", "counting": "counting semaphore", "mutex": "mutex", "group": "event group",
-    "handler": "handler", "task": "task", "interrupt": "interrupt",
+    "handler": "handler", "task": "task", "interrupt": "interrupt", DAEMON: "daemon",
 }
 PLURALS = {
     "queue": "queues", "binary": "binary semaphores", "counting": "counting semaphores", "mutex": "mutexes",
@@ -71,6 +73,9 @@ SECTIONS = {it.name: it for it in (
     Section("task", True, 32, "a file has 1 to 32 tasks, each under a line [[task]]", THE_NAME,
             number_key("priority", 0, 31, "the base priority, where a larger number is a higher priority"),
             texts_key("script", 256, "script is what the task does: an array of at most 256 texts", '["work 3", "give s"]')),
+    Section(DAEMON, False, 1, "[daemon] is the task that sets and clears bits for handlers, one of the 32 tasks", THE_NAME,
+            number_key("priority", 0, 31, "the daemon's priority, where a larger number is a higher priority"),
+            number_key("length", 1, 256, "how many commands wait for the daemon at most")),
     Section("interrupt", True, 1024, "a file has at most 1024 base interrupts, 4 of them at one tick",
             number_key("tick", 1, 1000000, "the elapsed tick at which the handler runs"),
             Key("handler", "a handler's name", "handler is the name of the [[handler]] that runs at that tick")),
@@ -80,18 +85,20 @@ SECTIONS = {it.name: it for it in (
 START = number_key("start", 0, MOST_OF_A_NUMBER, "the time at reset, above the first table", 0)
 # The keys above the first table.
 TOP_KEYS = {START.name: START}
+EXAMPLE_OF_A_DAEMON = '[daemon] with name = "daemon", priority = 31, length = 10'
 EXAMPLE_OF_A_TASK = '[[task]] with name = "a", priority = 1, script = ["work 3"]'
 
 # What else people write for a section or a key.
 MEANT_SECTIONS = {
     "semaphore": "binary", "sem": "binary", "binary_semaphore": "binary", "counting_semaphore": "counting", "event_group": "group",
     "events": "group", "event": "group", "isr": "handler", "irq": "interrupt", "thread": "task", "points": "campaign",
-    "injection": "campaign",
+    "injection": "campaign", "timer_task": DAEMON, "daemon_task": DAEMON, "timer_service": DAEMON, "tmr_svc": DAEMON,
 }
 MEANT_KEYS = {
     "prio": "priority", "size": "length", "capacity": "length", "depth": "length", "ops": "script", "code": "script",
     "script": "ops", "body": "ops", "maximum": "max", "init": "initial", "count": "initial", "time": "tick", "at": "tick",
     "isr": "handler", "irq": "handler", "ticks": "tick", "tick": "ticks", "point": "points",
+    "configtimer_task_priority": "priority", "configtimer_queue_length": "length", "queue_length": "length",
 }
 
 
@@ -229,15 +236,20 @@ HANDLER_OPS = table_of(
     TASK_OPS["overwrite"],
     Op("receive", Q, does="takes the first item of a queue, if there is one"),
     Op("peek", Q, does="answers the first item of a queue, if there is one"),
-    TASK_OPS["give"], TASK_OPS["resume"], TASK_OPS["bits"], TASK_OPS["mark"],
+    TASK_OPS["give"], TASK_OPS["resume"],
+    Op("set", G, B, does="has the daemon set bits of an event group, where its queue has room for the command"),
+    Op("clear", G, B, does="has the daemon clear bits of an event group, where its queue has room for the command"),
+    TASK_OPS["bits"], TASK_OPS["mark"],
 )
 # How deep loops are at most.
 DEEPEST = 4
 OPS = {"task": TASK_OPS, "handler": HANDLER_OPS}
+# Ops of handlers that are commands to the daemon.
+COMMANDS = ("set", "clear")
 # Words of ops of later versions. When the program takes one, it moves up, with its arguments.
-LATER_OPS = {"task": ("if", "else", "break", "stamp", "since"), "handler": ("expect", "if", "else", "end", "set", "clear")}
+LATER_OPS = {"task": ("if", "else", "break", "stamp", "since"), "handler": ("expect", "if", "else", "end")}
 # Keys of later versions, by section, "" for those above the first table.
-LATER_KEYS = {"": ("daemon", "tickless"), "task": ("endless",)}
+LATER_KEYS = {"": ("tickless",), "task": ("endless",)}
 
 # What FreeRTOS and others call the ops.
 MEANT_OPS = {

@@ -48,9 +48,9 @@ def of_section(member):
 
 
 def owner_of(key):
-    """The header of the only section that has the key, or None."""
+    """The header of the section that has the key, or the headers of two; None where there are more."""
     owners = [it.header for it in SECTIONS.values() if key in it.keys]
-    return owners[0] if len(owners) == 1 else None
+    return " or ".join(owners) if 0 < len(owners) < 3 else None
 
 
 def of_table(section, label, table):

@@ -20,6 +20,7 @@ PROBE = {
     "group": '[[group]]\nname = "g"\n',
     "handler": '[[handler]]\nname = "h"\nops = []\n',
     "task": '[[task]]\nname = "a"\npriority = 0\nscript = []\n',
+    "daemon": '[daemon]\nname = "d"\npriority = 0\nlength = 1\n',
     "interrupt": '[[interrupt]]\ntick = 1\nhandler = "h"\n',
     "campaign": "[campaign]\npoints = [POINT]\n",
 }

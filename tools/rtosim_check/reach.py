@@ -4,10 +4,12 @@ Both are sure. What a task waits for is taken to come wherever an op that brings
 to come at any time. Where an op isn't known, nothing is said."""
 from .application import integer_of
 from .findings import WARNING, Finding
-from .formats import LATER_KEYS, op_of
+from .formats import COMMANDS, LATER_KEYS, op_of
 
 NOBODY = "no op that is ever reached"
 WRITES = ("send", "send_front", "overwrite")
+# In the place of a name: the daemon's queue has none.
+NAMELESS = ""
 
 
 def warnings(application):
@@ -124,11 +126,13 @@ def of_handlers(application, handlers):
     room = {it.name: integer_of(it.table, "length") for it in application.entries["queue"]}
     room.update({it.name: 1 for it in application.entries["binary"]})
     room.update({it.name: integer_of(it.table, "max") for it in application.entries["counting"]})
+    if application.daemon is not None:
+        room[NAMELESS] = integer_of(application.daemon.table, "length")
     for script in handlers:
         put = {}
         for at, (words, node) in enumerate(script.ops):
-            name = words[1]
-            if words[0] in ("send", "send_front", "give"):
+            name = NAMELESS if words[0] in COMMANDS else words[1]
+            if words[0] in ("send", "send_front", "give", *COMMANDS):
                 if put.get(name, 0) >= room.get(name, 1 << 32):
                     yield always_fails(script, at, node, room[name])
                 put[name] = min(put.get(name, 0) + 1, room.get(name, 1 << 32))
@@ -142,5 +146,7 @@ def always_fails(script, at, node, room):
     words = node.value.split()
     count = "its greatest count is" if words[0] == "give" else "its length is"
     why = f'{count} {room}, and the handler has filled "{words[1]}" before'
+    if words[0] in COMMANDS:
+        why = f"the length of the daemon's queue is {room}, and the handler has filled it before"
     message = f'{script.entry.label}, ops {at}, "{node.value}": this call always fails: {why}'
     return Finding(WARNING, "AlwaysFails", node.span, message, "no task runs between the ops of a handler, so nobody makes room")

@@ -1,7 +1,7 @@
 """Warnings of what nothing uses: objects, event groups, handlers; of handlers without a point; of interrupts that never come."""
 from .application import integer_of, pairs_of
 from .findings import WARNING, Finding
-from .formats import CALLED, OBJECTS, OPS, SECTIONS, op_of
+from .formats import CALLED, COMMANDS, OBJECTS, OPS, SECTIONS, op_of
 from .nodes import Text
 
 
@@ -11,6 +11,7 @@ def warnings(application):
         for entry in application.entries[section]:
             if entry.name not in used:
                 yield Finding(WARNING, "Unused", entry.table.span, f'no op uses the {CALLED[section]} "{entry.name}"')
+    yield from of_daemon(application)
     yield from of_handlers(application)
     yield from of_interrupts(application)
 
@@ -31,6 +32,16 @@ def names_in(section, text):
         return words
     place = op.name_at()
     return [words[place[0] + 1]] if place else []
+
+
+def of_daemon(application):
+    """A daemon that no handler has a command for. An op that isn't known may be one."""
+    daemon = application.daemon
+    texts = (node.value for it in application.entries["handler"] for _, node in it.texts())
+    spelled = [op_of("handler", it)[1] for it in texts]
+    if daemon is not None and all(op and op.word not in COMMANDS for op in spelled):
+        message = f'no handler sets or clears bits, so the daemon "{daemon.name}" has nothing to do'
+        yield Finding(WARNING, "Unused", daemon.table.span, message, OPS["handler"]["set"].rule)
 
 
 def of_handlers(application):
