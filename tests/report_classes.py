@@ -8,7 +8,7 @@ from reports import LOST, RACE, ROOT, Dice, good, good_and_quick, is_refused, re
 from rtosim_report import base_run, classes
 from rtosim_report.source import Source
 
-FAILED = re.compile(r"isr \S+ \d+ ((send|send_front|give|resume) = 0|(receive|peek) = none)\n")
+FAILED = re.compile(r"isr \S+ \d+ ((send|send_front|give|resume|set|clear) = 0|(receive|peek) = none)\n")
 
 
 def without_numbers(lines, is_exact):

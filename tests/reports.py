@@ -108,7 +108,7 @@ class Dice:
             f"call {name} {self.random.randrange(2)} receive = {self.random.choice(['none', 1, 2])}",
             f"run {self.random.choice('ab-')}",
             f"mark {name} {self.random.randrange(2)}",
-            f"isr h 0 give = {self.random.randrange(2)}",
+            f"isr h 0 {self.random.choice(('give', 'set'))} = {self.random.randrange(2)}",
         ))
 
     def lines(self, first, steps, tick):
@@ -137,7 +137,7 @@ class Dice:
         if step >= steps:
             return step, handler, False, base_end, base
         before = [it for it in base if int(it.split()[0]) < step]
-        own = [f"{step} {step} isr {handler} {at} send = {self.random.random() < 0.8:d}\n" for at in range(self.random.randrange(3))]
+        own = [f"{step} {step} isr {handler} {at} {self.random.choice(('send', 'clear'))} = {self.random.random() < 0.8:d}\n" for at in range(self.random.randrange(3))]
         if self.random.random() < 0.4:
             return step, handler, True, base_end, before + own + base[len(before) :]
         end, tail = self.random.choice(tails) if self.random.random() < 0.7 else (self.end(step + 9), self.lines(0, 3, 0))

@@ -34,7 +34,8 @@ class AwayTimes:
             back = self.turns[at + 1] if at + 1 < len(self.turns) else None
             doing, word = self.after(turn, back, word)
             end = back.start if back else self.builder.head.steps
-            found += self.known_bars(turn.end, end, doing, word or "", back is not None)
+            if (self.lane, turn.end) not in self.endings:
+                found += self.known_bars(turn.end, end, doing, word or "", back is not None)
         return found + self.before_the_first()
 
     def known_bars(self, start, end, doing, word, comes_back):

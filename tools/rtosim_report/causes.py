@@ -10,8 +10,8 @@ from .progress import walked
 
 CALLS = re.compile(rb"^[0-9]+ [0-9]+ (call|isr) ([A-Za-z][A-Za-z0-9_]*) ([0-9]+) ([a-z_]+) = (none|[0-9]+)$", re.MULTILINE)
 LAST_CALLS = re.compile(rb" call ([^ ]+) ([0-9]+ [a-z_]+) = ")
-# A handler's call that wasn't possible: no room, no item, nobody to resume.
-FAILED = rb"isr [A-Za-z0-9_]+ [0-9]+ (?:(?:send|send_front|give|resume) = 0|(?:receive|peek) = none)"
+# A handler's call that wasn't possible: no room, also for a command, no item, nobody to resume.
+FAILED = rb"isr [A-Za-z0-9_]+ [0-9]+ (?:(?:send|send_front|give|resume|set|clear) = 0|(?:receive|peek) = none)"
 FAILED_CALL, FAILED_LINE = re.compile(FAILED), re.compile(b" " + FAILED + rb"\n")
 # Of so many calls it is kept where they lead.
 MOST_KEPT = 1 << 16

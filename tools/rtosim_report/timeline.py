@@ -3,9 +3,11 @@
 A report tells changes of the processor and the ends of calls. What isn't shown by them, nor by the scripts where the application is
 known, isn't drawn."""
 import bisect
+from itertools import combinations
 from typing import Dict, List
 
 from .away import UNNAMED, AwayTimes
+from .daemon import commands_of, find_daemon
 from .injections import groups_of, position_of, stretches_of_step
 from .lanes import Bar, Clock, Doing, Lane, LaneKind, Note, Timeline
 from .report import IDLE, Kind, event_of
@@ -22,23 +24,33 @@ def of_base(base, application=None):
 
 
 def of_row(run, base, application=None):
-    """The timeline of a row. The base run tells whether a change of the processor at the injection is the step's own."""
+    """The timeline of a row. The base run tells whether a change of the processor at the injection is the step's own; and so does
+    the daemon, which can't do in fewer steps what it does."""
     lines = run.checked_lines()
-    injected = injected_lines(lines, run.head.point, base) if run.head.is_reached else set()
-    return Builder(run.head, [event_of(it) for it in lines], injected, application).build()
+    own, switches = injected_lines(lines, run.head.point, base) if run.head.is_reached else (set(), set())
+    events, first = [event_of(it) for it in lines], None
+    for count in range(len(switches) + 1):
+        for left_out in combinations(sorted(switches), count):
+            builder = Builder(run.head, events, own | switches.difference(left_out), application)
+            built = builder.build()
+            if not builder.is_contradicted:
+                return built
+            first = first or built
+    return first
 
 
 def injected_lines(lines, point, base):
     """Which lines come before their step: the handlers' own, and the changes of the processor that they bring about."""
-    found = set()
+    found, switches = set(), set()
     for step, injections in groups_of(point):
         first = position_of(lines, step)
         at, count = stretches_of_step(lines, first, injections)[-1]
         own, following = lines[first : at + count], lines[at + count : at + count + 2]
         is_first = step == point.first_step
-        switches = bool(own or is_first) and bool(following) and is_switch_of_injection(own, following, step, base)
-        found.update(range(first, at + count + switches))
-    return found
+        found.update(range(first, at + count))
+        if (own or is_first) and following and is_switch_of_injection(own, following, step, base):
+            switches.add(at + count)
+    return found, switches
 
 
 def is_switch_of_injection(own, following, injected_at, base):
@@ -57,10 +69,12 @@ class Builder:
     def __init__(self, head, events, injected=frozenset(), application=None):
         self.head, self.events, self.injected, self.application = head, events, injected, application
         self.lanes: Dict[str, Lane] = {}
+        self.commands = commands_of(self)
         self.name_lanes()
         self.clock = self.clock_of_lines()
         self.turns: List[Bar] = []
         self.notes: List[Note] = []
+        self.is_contradicted = False
 
     def name_lanes(self):
         """Tasks as they are told of, idle, handlers. A mark's name alone tells not which it is."""
@@ -71,6 +85,7 @@ class Builder:
         if self.head.verdict.task is not None:
             (handlers if self.is_handler(self.head.verdict.task, handlers) else tasks).append(self.head.verdict.task)
         tasks += [it.name for it in self.events if it.kind is Kind.MARK and it.name not in handlers]
+        tasks += [self.daemon_name] * bool(self.daemon_name and self.commands)
         first = self.first_runner(set(handlers))
         for name in dict.fromkeys([first, *tasks]):
             self.lanes[name] = Lane(name, LaneKind.TASK)
@@ -78,6 +93,12 @@ class Builder:
             self.lanes[IDLE] = Lane("idle", LaneKind.IDLE)
         for name in dict.fromkeys(handlers):
             self.lanes.setdefault(name, Lane(name, LaneKind.HANDLER))
+
+    @property
+    def daemon_name(self):
+        """The daemon's name, or None where it isn't known by the application."""
+        daemon = self.application.daemon if self.application else None
+        return None if daemon is None else daemon.name
 
     def is_handler(self, name, handlers):
         """Whether it is a handler that ends the run by a check."""
@@ -153,11 +174,16 @@ class Builder:
 
     def build(self):
         self.walk()
-        waits, endings, ops = self.away()
+        daemon, self.is_contradicted = find_daemon(self)
+        waits, endings, ops = self.away(None if daemon is None else daemon.lane)
+        windows = self.windows(waits)
+        if daemon is not None:
+            waits += daemon.bars(UNNAMED not in self.lanes)
+            windows += daemon.windows
         bars = [it for it in self.turns if it.end > it.start] + waits
         used = {it.lane for it in bars} | {it.lane for it in self.notes}
         lanes = [it for it in self.lanes.values() if it in used or it.name != UNNAMED]
-        return Timeline(self.head, lanes, bars, self.notes, self.windows(waits), self.clock, self.injections(),
+        return Timeline(self.head, lanes, bars, self.notes, windows, self.clock, self.injections(),
                         endings, ops)
 
     def injections(self):
@@ -168,24 +194,31 @@ class Builder:
 
     def walk(self):
         """Turns on the processor, and notes."""
-        runner, since = next(iter(self.lanes)), 0
+        runner, since, commands = next(iter(self.lanes)), 0, iter(self.commands)
         for index, event in enumerate(self.events):
             at = self.boundary(index)
             if event.kind is Kind.RUN:
                 self.turns.append(Bar(self.lanes[runner], since, at, Doing.RUNS))
                 runner, since = event.name, at
             else:
-                op = self.application.op(event.name, event.op) if self.application and event.op is not None else None
-                about = op.object or "" if op is not None else ""
+                about = self.about(event, commands)
                 self.notes.append(Note(self.lanes[event.name], event.step, event, index in self.injected, about))
         self.turns.append(Bar(self.lanes[runner], since, self.head.steps, Doing.RUNS))
 
-    def away(self):
-        """What the tasks do between their turns, as far as it is known, where they end, and which ops they are in."""
+    def about(self, event, commands):
+        """What a call is about, as far as it is known. The daemon does the commands that found room in their order."""
+        if event.kind is Kind.CALL and event.name == self.daemon_name:
+            command = next(commands, None)
+            return command.group if command is not None else ""
+        op = self.application.op(event.name, event.op) if self.application and event.op is not None else None
+        return op.object or "" if op is not None else ""
+
+    def away(self, daemon):
+        """What the tasks but the daemon do between their turns, as far as it is known, where they end, and which ops they are in."""
         found, endings, ops = [], [], {}
         changes = changes_of(self)
         for name, lane in self.lanes.items():
-            if lane.kind is LaneKind.TASK and name != UNNAMED:
+            if lane.kind is LaneKind.TASK and name not in (UNNAMED, self.daemon_name) and lane != daemon:
                 turns = [it for it in self.turns if it.lane == lane]
                 notes = [it for it in self.notes if it.lane == lane]
                 script = self.application.tasks.get(name) if self.application else None
