@@ -267,6 +267,37 @@ def edges_of_handlers():
 
 
 @case
+def edges_of_the_daemon():
+    daemon = '[daemon]\nname = "d"\npriority = 0\nlength = 1\n'
+    lines = ["0 0 mark a 7", "0 0 run d"]
+    tells(TASK + daemon, "pass in 1 steps, 0 ticks", *lines)
+    tells(TASK + daemon.replace("length = 1", "length = 256"), "pass in 1 steps, 0 ticks", *lines)
+    tells(TASK + daemon.replace("priority = 0", "priority = 31"), "pass in 6 steps, 0 ticks", "4 0 run a", "5 0 mark a 7", "5 0 run -")
+    refuses_numbers(TASK + daemon.replace("0", "N"), "daemon priority", -1, 32, 2**32)
+    refuses_numbers(TASK + daemon.replace("1", "N"), "daemon length", -1, 0, 257)
+    # it is one of the 32 tasks, and its queue none of the 32 objects
+    others = entries("task", 30, "priority = 0\nscript = []\n")
+    tells(TASK + others + daemon + entries("mutex", 32), "pass in 1 steps, 0 ticks", *lines)
+    faults(TASK + others + entries("task", 1, "priority = 0\nscript = []\n", "u") + daemon, "9 TooMany: daemon")
+    # it is there wherever it stands in the file, and its name is one of all names
+    tells(daemon + GROUP + TASK + HANDLER.replace("[]", '["set g 1"]'), "pass in 1 steps, 0 ticks", *lines)
+    for name in ("q", "s", "m", "g", "h", "a"):
+        faults(EACH_KIND + TASK + HANDLER + daemon.replace('"d"', f'"{name}"'), "6 DoubleName: daemon name")
+    tells(TASK + daemon.replace('"d"', '"a2345678901234_6"'), "pass in 1 steps, 0 ticks", lines[0], "0 0 run a2345678901234_6")
+    faults(TASK + daemon.replace('"d"', '"a23456789012345_7"'), "3 OutOfRange: daemon name")
+
+
+@case
+def a_step_with_as_many_commands_as_handlers_have():
+    ops = json.dumps([f"{'clear' if it % 3 else 'set'} g {it + 1}" for it in range(16)])
+    handlers = "".join(f'[[handler]]\nname = "h{it}"\nops = {ops}\n' for it in range(4))
+    text = GROUP + handlers + task("work 1") + "".join(f'[[interrupt]]\ntick = 1\nhandler = "h{it}"\n' for it in range(4))
+    for length in (1, 63, 64, 256):
+        lines = [f"0 1 isr h{it // 16} {it % 16} {'clear' if it % 16 % 3 else 'set'} = {int(it < length)}" for it in range(64)]
+        tells(text + f'[daemon]\nname = "d"\npriority = 0\nlength = {length}\n', "pass in 1 steps, 1 ticks", *lines, "0 1 run d")
+
+
+@case
 def edges_of_base_interrupts():
     at = '[[interrupt]]\ntick = {}\nhandler = "h"\n'.format
     four = HANDLER + task("work 1") + at(1) * 4

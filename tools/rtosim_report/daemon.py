@@ -1,8 +1,8 @@
 """The daemon, step by step. No line shows its receive; but what it does follows from the steps in which it runs, and from the
 commands of handlers that found room, each of which has a line.
 
-It is known by its name with the application. Else it is the one whose calls are those that a daemon makes in these steps, if there
-is just one such task."""
+It is known by its name with the application. Else it is the one whose calls are those that a daemon makes in these steps and that
+has begun to wait in them, if there is just one such task."""
 import enum
 from typing import List, NamedTuple, Tuple
 
@@ -125,7 +125,7 @@ def times_of(builder, name):
 def may_be_daemon(builder, name):
     """Whether what is told of a task may be told of the daemon."""
     told = [it for it in builder.events if it.name == name and it.kind is not Kind.RUN]
-    return bool(told) and all(it.kind is Kind.CALL and it.op == OP_OF_COMMAND and it.word in COMMANDS for it in told)
+    return bool(told) and builder.head.verdict.task != name and all(it.kind is Kind.CALL and it.op == OP_OF_COMMAND and it.word in COMMANDS for it in told)
 
 
 def find_daemon(builder):
@@ -136,5 +136,5 @@ def find_daemon(builder):
         names = [daemon.name] if daemon is not None and daemon.name in builder.lanes else []
     else:
         names = [it for it in builder.lanes if builder.commands and may_be_daemon(builder, it)]
-    found = [it for it in (times_of(builder, name) for name in names) if it.is_known]
+    found = [it for it in (times_of(builder, name) for name in names) if it.is_known and (builder.application or it.windows)]
     return found[0] if len(found) == 1 else None, bool(names) and not found
