@@ -8,8 +8,9 @@ best, and the peak memory. The runs take turns. The program is crates/rtosim/out
 as bin/rtosim does. With OTHER, the same of that program with one worker.
 
 The campaigns: `dense`, 5,000 rows of tasks that call a queue and a mutex in nearly each step, each row to the step limit
-of 5,000; `computing`, the same with more `work` between the calls, and 2,000 rows of 2,000 steps; `million`, 1,000,000
-single points of a short application, each of which ends after some ten steps."""
+of 5,000; `computing`, the same with more `work` between the calls, and 2,000 rows of 2,000 steps; `commands`, 3,000 rows of tasks
+that wait for bits, which a handler has the daemon set and clear; `million`, 1,000,000 single points of a short application, each of
+which ends after some ten steps."""
 import ctypes
 import os
 import random
@@ -52,6 +53,18 @@ def producer_and_consumer(steps, work):
     )
 
 
+def sensor_and_daemon(steps):
+    """A task that waits for bits, one that computes below the daemon, and commands to the daemon before each step."""
+    return (
+        f"[limits]\nsteps = {steps}\n"
+        '[[group]]\nname = "g"\n[[handler]]\nname = "h"\nops = ["set g 1", "clear g 2"]\n'
+        + task("sensor", 3, turns("wait g 3 any clear 4"))
+        + task("filter", 1, turns("work 2", "set g 2"))
+        + '[daemon]\nname = "d"\npriority = 2\nlength = 4\n'
+        + '[campaign]\npoints = ["all h"]\n'
+    )
+
+
 def million_points():
     """A million points over an application that ends after some ten steps."""
     dice = random.Random(5)
@@ -90,7 +103,8 @@ def main():
     os.environ["GLIBC_TUNABLES"] = "glibc.malloc.hugetlb=1"
     ctypes.CDLL(None).prctl(PR_SET_CHILD_SUBREAPER, 1, 0, 0, 0)
     programs = sys.argv[1:3] or [PROGRAM]
-    texts = {"dense": producer_and_consumer(5000, 2), "computing": producer_and_consumer(2000, 200), "million": million_points()}
+    texts = {"dense": producer_and_consumer(5000, 2), "computing": producer_and_consumer(2000, 200),
+             "commands": sensor_and_daemon(3000), "million": million_points()}
     with tempfile.TemporaryDirectory() as folder:
         for name, text in texts.items():
             path = os.path.join(folder, f"{name}.toml")
