@@ -111,6 +111,12 @@ MILLION_STEPS = {
         task("work 1000000", "mark 1"),
         *[f'[[interrupt]]\ntick = {1 + it // 4}\nhandler = "h"\n' for it in range(1024)],
     ], "ticks in 1000000 steps, 1000000 ticks", "39a259b9e925afed"),
+    "a daemon between tasks that wait for its bits": ([
+        GROUP, '[[handler]]\nname = "h"\nops = ' + json.dumps(["set g 85", "clear g 20", "set g 170", "bits g"] * 4) + "\n",
+        *[task(*without_end(f"wait g {1 << it} any clear {it + 1}", "work 1"), name=f"t{it}", priority=it) for it in range(8)],
+        '[daemon]\nname = "d"\npriority = 4\nlength = 9\n',
+        *[f'[[interrupt]]\ntick = {3 * it + 1}\nhandler = "h"\n' for it in range(1024)],
+    ], "steps in 1000000 steps, 218312 ticks", "1b342261470cbe73"),
     "nobody but an interrupt at the last tick": ([
         QUEUE, HANDLER, *[task("receive q forever", name=f"t{it}") for it in range(32)],
         '[[interrupt]]\ntick = 1000000\nhandler = "h"\n',
