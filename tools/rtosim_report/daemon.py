@@ -122,10 +122,14 @@ def times_of(builder, name):
     return DaemonTimes(lane, turns, calls, builder.commands, builder.head.steps)
 
 
-def may_be_daemon(builder, name):
-    """Whether what is told of a task may be told of the daemon."""
-    told = [it for it in builder.events if it.name == name and it.kind is not Kind.RUN]
-    return bool(told) and builder.head.verdict.task != name and all(it.kind is Kind.CALL and it.op == OP_OF_COMMAND and it.word in COMMANDS for it in told)
+def who_may_be_it(builder):
+    """Those of whom nothing is told that isn't told of a daemon; nobody where no command has found room."""
+    like_it, others = set(), {builder.head.verdict.task}
+    for it in builder.events if builder.commands else ():
+        if it.kind is not Kind.RUN:
+            is_like_it = it.kind is Kind.CALL and it.op == OP_OF_COMMAND and it.word in COMMANDS
+            (like_it if is_like_it else others).add(it.name)
+    return [it for it in builder.lanes if it in like_it - others]
 
 
 def find_daemon(builder):
@@ -135,6 +139,6 @@ def find_daemon(builder):
         daemon = builder.application.daemon
         names = [daemon.name] if daemon is not None and daemon.name in builder.lanes else []
     else:
-        names = [it for it in builder.lanes if builder.commands and may_be_daemon(builder, it)]
+        names = who_may_be_it(builder)
     found = [it for it in (times_of(builder, name) for name in names) if it.is_known and (builder.application or it.windows)]
     return found[0] if len(found) == 1 else None, bool(names) and not found

@@ -49,8 +49,8 @@ class Run(NamedTuple):
             last = step
 
     def check_end(self, last_line: Optional[Line]):
-        """In its last step a run that passes goes from a task that ends to idle, or to one that serves for ever: without that line
-        some are missing."""
+        """In its last step a run that passes goes from a task that ends to idle, to the daemon, or to one that serves for ever: without
+        that line some are missing."""
         if not self.head.verdict.passes or self.head.steps == 0:
             return
         if last_line is None or not last_line[2].startswith(b"run ") or int(last_line[0]) != self.head.steps - 1:
