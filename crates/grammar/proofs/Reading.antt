@@ -8,8 +8,8 @@ use Rattle.std.proofs.lemmas.Bool.{and_parts, not-true}
 use Rattle.model.specs.declared.op.Op.{Op}
 use Rattle.model.specs.declared.op.IsrOp.{IsrOp}
 use Rattle.model.specs.Words.{word_of, word_of_isr}
-use Rattle.model.specs.Scripts.{is_in_range, InRange}
-use Rattle.grammar.specs.Grammar.{Word, Naming, Form, Done, Number, NumberUnless, Choice, Name, forms, isr_forms, number_of, number_unless, choice_of, Writes, WritesBy, Spells, SpellsIsr, read, read_by, if_in_range, op_of, isr_op_of}
+use Rattle.model.specs.Scripts.{is_in_range}
+use Rattle.grammar.specs.Grammar.{Word, Naming, Form, Done, Number, NumberUnless, Choice, Name, forms, isr_forms, number_of, number_unless, choice_of, Writes, WritesBy, Spells, SpellsIsr, is_isr_in_range, read, read_by, op_of, isr_op_of}
 
 -- which branch of a test it was
 pub chosen : {X : Type 0} (b : Bool) (x y z : X) → cond b x y ≡ z
@@ -144,17 +144,18 @@ isr_forms_distinct = refl
 
 -- ---- the ranges
 
-ranged : (o : Option Op) (op : Op) → option_and_then if_in_range o ≡ Some op → (o ≡ Some op) × InRange op
-ranged None op e = cc
-ranged (Some made) op e = elim (chosen (is_in_range made) _ _ _ e) [
-  | inl within ↦ (within.1, let same : made ≡ op = cc in subst InRange same within.0)
+ranged : {O : Type 0} (test : O → Bool) (o : Option O) (op : O) → option_and_then (λ made. cond (test made) (Some made) None) o ≡ Some op
+    → (o ≡ Some op) × (test op ≡ true)
+ranged test None op e = cc
+ranged test (Some made) op e = elim (chosen (test made) _ _ _ e) [
+  | inl within ↦ (within.1, let same : made ≡ op = cc in subst (λ o. test o ≡ true) same within.0)
   | inr out ↦ cc
 ]
 
 pub sound : (named : Naming) (ws : List Word) (op : Op) → op_of named ws ≡ Some op → Spells named op ws
 sound named [] op e = cc
 sound named (w ∷ ws) op e =
-    let r = ranged (read_by named forms w ws) op e in
+    let r = ranged is_in_range (read_by named forms w ws) op e in
     let b = by_sound word_of named forms own_words w ws op r.0 in
     (b.0, b.1, r.1)
 
@@ -164,9 +165,12 @@ complete named (w ∷ ws) op h = rw (h.0, by_complete word_of named forms own_wo
 
 pub isr_sound : (named : Naming) (ws : List Word) (op : IsrOp) → isr_op_of named ws ≡ Some op → SpellsIsr named op ws
 isr_sound named [] op e = cc
-isr_sound named (w ∷ ws) op e = by_sound word_of_isr named isr_forms isr_own_words w ws op e
+isr_sound named (w ∷ ws) op e =
+    let r = ranged is_isr_in_range (read_by named isr_forms w ws) op e in
+    let b = by_sound word_of_isr named isr_forms isr_own_words w ws op r.0 in
+    (b.0, b.1, r.1)
 
 pub isr_complete : (named : Naming) (ws : List Word) (op : IsrOp) → SpellsIsr named op ws → isr_op_of named ws ≡ Some op
 isr_complete named [] op h = absurd h
 isr_complete named (w ∷ ws) op h =
-    rw (h.0, by_complete word_of_isr named isr_forms isr_own_words isr_forms_distinct ws op h.1) refl
+    rw (h.0, by_complete word_of_isr named isr_forms isr_own_words isr_forms_distinct ws op h.1, h.2) refl

@@ -11,7 +11,7 @@ use Rattle.model.specs.declared.op.Op.TheVariants.{Work, Delay, DelayUntil, Yiel
 use Rattle.model.specs.declared.op.IsrOp.{IsrOp}
 use Rattle.model.specs.declared.op.IsrOp.TheVariants as isr
 use Rattle.model.specs.Words.{word_of, word_of_isr}
-use Rattle.model.specs.Scripts.{is_in_range, InRange}
+use Rattle.model.specs.Scripts.{is_in_range, is_mask, InRange}
 use Rattle.grammar.specs.declared.object_sort.ObjectSort.{ObjectSort}
 use Rattle.grammar.specs.declared.object_sort.ObjectSort.TheVariants.{Queue, Semaphore, Mutex}
 
@@ -150,6 +150,10 @@ forms =
     ∷ (codes "end", Done End)
     ∷ object_forms
 
+-- the arguments of a command, which sets bits or clears them
+abbrev pub CommandForm : (clear : Bool) → Form IsrOp
+CommandForm clear = GroupName (λ group. Number (λ mask. Done (isr.Command (record { group = group; mask = mask; clear = clear }))))
+
 -- those of each op of a handler, which never waits
 abbrev pub isr_forms : List (Word × Form IsrOp)
 isr_forms =
@@ -160,6 +164,8 @@ isr_forms =
     ∷ (codes "peek", ObjectName Queue (λ queue. Done (isr.Do queue Peek)))
     ∷ (codes "give", ObjectName Semaphore (λ semaphore. Done (isr.Do semaphore Give)))
     ∷ (codes "resume", TaskName (λ task. Done (isr.Resume task)))
+    ∷ (codes "set", CommandForm false)
+    ∷ (codes "clear", CommandForm true)
     ∷ (codes "bits", GroupName (λ group. Done (isr.GetBits group)))
     ∷ (codes "mark", Number (λ n. Done (isr.Mark n)))
     ∷ []
@@ -183,10 +189,19 @@ abbrev pub Spells : Naming → Op → List Word → Type 0
 Spells named op [] = ⊥
 Spells named op (w ∷ ws) = (w ≡ word_of op) × WritesBy named forms ws op × InRange op
 
--- the same of a handler's op, each of whose numbers is any of 32 bits
+-- The numbers of a handler's op are in their ranges (profile). A number that is not named here is any of 32 bits.
+abbrev pub is_isr_in_range : IsrOp → Bool
+is_isr_in_range (isr.Command c) = is_mask c.mask
+is_isr_in_range _ = true
+
+-- the same as a fact
+abbrev pub IsrInRange : IsrOp → Type 0
+IsrInRange op = is_isr_in_range op ≡ true
+
+-- Words spell a handler's op, as they do a task's.
 abbrev pub SpellsIsr : Naming → IsrOp → List Word → Type 0
 SpellsIsr named op [] = ⊥
-SpellsIsr named op (w ∷ ws) = (w ≡ word_of_isr op) × WritesBy named isr_forms ws op
+SpellsIsr named op (w ∷ ws) = (w ≡ word_of_isr op) × WritesBy named isr_forms ws op × IsrInRange op
 
 -- ---- the same as a reading
 
@@ -219,6 +234,9 @@ op_of named [] = None
 op_of named (w ∷ ws) = option_and_then if_in_range (read_by named forms w ws)
 
 -- the same of a handler's op
+abbrev pub if_isr_in_range : IsrOp → Option IsrOp
+if_isr_in_range op = if is_isr_in_range op then Some op else None
+
 abbrev pub isr_op_of : Naming → List Word → Option IsrOp
 isr_op_of named [] = None
-isr_op_of named (w ∷ ws) = read_by named isr_forms w ws
+isr_op_of named (w ∷ ws) = option_and_then if_isr_in_range (read_by named isr_forms w ws)

@@ -8,12 +8,12 @@ ghost use Rattle.model.specs.declared.op.IsrOp.TheVariants as isr;
 ghost use Rattle.model.specs.declared.op.IsrOp.{IsrOp};
 ghost use Rattle.model.specs.Scripts.{InRange};
 ghost use Rattle.grammar.specs.declared.object_sort.ObjectSort.TheVariants.{Queue};
-ghost use Rattle.grammar.specs.Grammar.{Naming, words_of, Done, Number, ObjectName, GroupName, Bits, WaitTime, forms, object_forms, semaphore_forms, group_forms, suspension_forms, isr_forms, read, read_by, if_in_range, op_of, isr_op_of, Spells, SpellsIsr};
+ghost use Rattle.grammar.specs.Grammar.{Naming, words_of, Done, Number, ObjectName, GroupName, Bits, WaitTime, forms, object_forms, semaphore_forms, group_forms, suspension_forms, CommandForm, isr_forms, read, read_by, if_in_range, is_isr_in_range, op_of, isr_op_of, Spells, SpellsIsr};
 
 use crate::finding::Finding;
 use crate::object_sort::ObjectSort;
 use crate::words::Words;
-use model::{Access, Condition, IsrOp, Op};
+use model::{Access, Command, Condition, IsrOp, Op};
 
 // The call that sends an item to the front or the back of a queue.
 fn sending(to_front: bool, item: u32) -> Access
@@ -304,6 +304,19 @@ fn isr_send_op<F: Finding>(to_front: bool, words: &mut Words<'_>, finding: &F) -
     Some(IsrOp::Do(queue, sending(to_front, item)))
 }
 
+// The op of a handler that has the daemon set or clear the bits that the word after the next says of the group that the next
+// word names.
+fn command_op<F: Finding>(clear: bool, words: &mut Words<'_>, finding: &F) -> Option<IsrOp>
+    // What is still to be read is whether the text ends here.
+    ensures { MatchOption result
+        (read (F.naming finding.now) (CommandForm clear) words.old ≡ None)
+        (λ op. read (F.naming finding.now) (CommandForm clear) words.old ≡ read (F.naming finding.now) (Done op) words.new) }
+{
+    let group = words.group(finding)?;
+    let mask = words.number()?;
+    Some(IsrOp::Command(Command { group, mask, clear }))
+}
+
 // The op of a handler of this word that is none of the five on a queue, whose arguments are the next words.
 fn other_isr_op_after<F: Finding>(word: &[u8], words: &mut Words<'_>, finding: &F) -> Option<IsrOp>
     // What is still to be read is whether the text ends here.
@@ -316,6 +329,10 @@ fn other_isr_op_after<F: Finding>(word: &[u8], words: &mut Words<'_>, finding: &
         isr_do_op(Access::Give, ObjectSort::Semaphore, words, finding)
     } else if is(word, "resume") {
         Some(IsrOp::Resume(words.task(finding)?))
+    } else if is(word, "set") {
+        command_op(false, words, finding)
+    } else if is(word, "clear") {
+        command_op(true, words, finding)
     } else if is(word, "bits") {
         Some(IsrOp::GetBits(words.group(finding)?))
     } else if is(word, "mark") {
@@ -349,6 +366,16 @@ fn isr_op_after<F: Finding>(word: &[u8], words: &mut Words<'_>, finding: &F) -> 
     }
 }
 
+// Whether the numbers of a handler's op are in their ranges.
+fn is_isr_in_range(op: &IsrOp) -> bool
+    ensures { result ≡ is_isr_in_range op.now }
+{
+    match *op {
+        IsrOp::Command(command) => 1 <= command.mask && command.mask <= Op::MOST_BITS,
+        _ => true,
+    }
+}
+
 /// The op of a handler that a text spells, where names are read so; `None` where it spells none.
 pub fn isr_op_of<F: Finding>(text: &[u8], finding: &F) -> Option<IsrOp>
     ensures { result ≡ isr_op_of (F.naming finding.now) (words_of text.now) }
@@ -356,7 +383,11 @@ pub fn isr_op_of<F: Finding>(text: &[u8], finding: &F) -> Option<IsrOp>
     let mut words = Words::new(text);
     let word = words.next()?;
     let op = isr_op_after(word, &mut words, finding)?;
-    if words.is_at_end() { Some(op) } else { None }
+    if words.is_at_end() && is_isr_in_range(&op) {
+        Some(op)
+    } else {
+        None
+    }
 }
 
 /// However names are read, what the reader of ops takes is what the grammar spells.
