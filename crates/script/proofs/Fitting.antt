@@ -1,6 +1,6 @@
 -- An entry that a name finds is what the op asks for.
-use Rattle.std.proofs.Common.{◌≡◌, ◌+◌, ◌<◌, ℕ, zero, suc, Bool, true, false, List, [], ◌∷◌, length, map, Some, refl, sym, subst, inl, inr, arith, ◌∙◌}
-use Rattle.std.specs.Prelude.{nat_lt}
+use Rattle.std.proofs.Common.{◌≡◌, ◌+◌, ◌++◌, ◌<◌, ℕ, zero, suc, Bool, true, false, List, [], ◌∷◌, length, map, Option, Some, None, refl, sym, subst, inl, inr, arith, ◌∙◌}
+use Rattle.std.specs.Prelude.{is_some, is_none, nat_lt}
 use Rattle.std.specs.List.{slice_get, position_from}
 use Rattle.std.specs.Option.{option_map, unwrap_or}
 use Rattle.std.specs.Str.{bytes_eq}
@@ -14,7 +14,7 @@ use Rattle.model.specs.Scripts.{fits, fits_object, is_of_semaphore, is_of_mutex,
 use Rattle.grammar.specs.declared.object_sort.ObjectSort.{ObjectSort}
 use Rattle.grammar.specs.declared.object_sort.ObjectSort.TheVariants.{Queue, Semaphore, Mutex}
 use Rattle.grammar.specs.Grammar.{Word, NameSort, OfObject, OfGroup, OfTask}
-use Rattle.script.specs.Entries.{ObjectEntry, GroupEntry, Raw, Entries, HasEntries}
+use Rattle.script.specs.Entries.{ObjectEntry, GroupEntry, Raw, DaemonEntry, Entries, HasEntries, command_queue}
 use Rattle.grammar.specs.Finding.{is_of_sort}
 use Rattle.script.specs.Finding.{is_called, among}
 use Rattle.script.specs.Ops.{allows}
@@ -99,6 +99,16 @@ sort_fits sort access fit [] n at = cc
 sort_fits sort access fit (o ∷ os) zero at = kind_fits sort access fit o.kind at
 sort_fits sort access fit (o ∷ os) (suc n) at = sort_fits sort access fit os n at
 
+-- the same of these objects and others behind them
+fits_before : (kinds others : List ObjectKind) (n : ℕ) (access : Access) → fits_at kinds n access ≡ true → fits_at (kinds ++ others) n access ≡ true
+fits_before [] others n access at = cc
+fits_before (k ∷ ks) others zero access at = at
+fits_before (k ∷ ks) others (suc n) access at = fits_before ks others n access at
+
+some_daemon : (o : Option DaemonEntry) → is_none o ≡ false → is_some o ≡ true
+some_daemon None e = cc
+some_daemon (Some d) e = refl
+
 same_fit : (access : Access) (objects : List ObjectEntry) (n : ℕ)
     → allows objects n access ≡ fits_at (map (λ (o : ObjectEntry). o.kind) objects) n access
 same_fit access [] n = refl
@@ -108,10 +118,17 @@ same_fit access (o ∷ os) (suc n) = same_fit access os n
 module _ (app : Application) (entries : Entries) (has : HasEntries app entries) where
   pub at_fits : (sort : ObjectSort) (access : Access) → Fit sort access → (n : ℕ) → IsAt entries (OfObject sort) n
       → fits_object app n access ≡ true
-  at_fits sort access fit n at = rw has.objects (sort_fits sort access fit entries.objects n at)
+  at_fits sort access fit n at =
+      let kinds = map (λ (o : ObjectEntry). o.kind) entries.objects in
+      rw has.objects (fits_before kinds (command_queue entries.daemon) n access (sort_fits sort access fit entries.objects n at))
 
   pub allowed_fits : (access : Access) (n : ℕ) → allows entries.objects n access ≡ true → fits_object app n access ≡ true
-  allowed_fits access n allowed = rw has.objects (sym (same_fit access entries.objects n) ∙ allowed)
+  allowed_fits access n allowed =
+      let kinds = map (λ (o : ObjectEntry). o.kind) entries.objects in
+      rw has.objects (fits_before kinds (command_queue entries.daemon) n access (sym (same_fit access entries.objects n) ∙ allowed))
+
+  pub has_daemon : is_none entries.daemon ≡ false → is_some app.daemon ≡ true
+  has_daemon some = has.daemon ∙ some_daemon entries.daemon some
 
   pub at_group : (n : ℕ) → IsAt entries OfGroup n → has_group app n ≡ true
   at_group n at = rw has.groups at

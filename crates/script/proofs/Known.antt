@@ -1,5 +1,6 @@
 -- Every op that is taken, of a script or of a handler, speaks of what there is.
-use Rattle.std.proofs.Common.{◌≡◌, ◌+◌, ◌≤◌, ℕ, true, List, [], ◌∷◌, length, map, Option, Some, None, refl}
+use Rattle.std.proofs.Common.{◌≡◌, ◌+◌, ◌≤◌, ℕ, Bool, true, false, List, [], ◌∷◌, length, map, Option, Some, None, refl}
+use Rattle.std.specs.Prelude.{◌&&◌, is_none}
 use Rattle.std.specs.List.{AllByRecursion, cons_option}
 use Rattle.std.specs.Option.{option_and_then, IfSome}
 use Rattle.toml.specs.Data.{Data, as_str}
@@ -12,20 +13,20 @@ use Rattle.model.proofs.Sorting.{by_test}
 use Rattle.grammar.specs.declared.object_sort.ObjectSort.TheVariants.{Queue, Semaphore, Mutex}
 use Rattle.script.specs.declared.place.Place.{Place}
 use Rattle.script.specs.Arrays.{each_fault}
-use Rattle.grammar.specs.Grammar.{Word, Form, forms, object_forms, semaphore_forms, group_forms, suspension_forms, isr_forms, read_by, if_in_range, op_of, isr_op_of, words_of}
+use Rattle.grammar.specs.Grammar.{Word, Form, forms, object_forms, semaphore_forms, group_forms, suspension_forms, CommandForm, isr_forms, read_by, if_in_range, is_isr_in_range, if_isr_in_range, op_of, isr_op_of, words_of}
 use Rattle.script.specs.Entries.{RawIsr, Raw, Entries, HasEntries}
 use Rattle.script.specs.Finding.{among}
-use Rattle.script.specs.Ops.{Ops, task_ops, handler_ops, is_allowed, is_isr_allowed, op_in, nesting_with, op_elements, op_fault, script_fault, script_named, handler_scripts, task_scripts, scripts_fault, handler_ops_fault, with_script, with_isr_ops}
+use Rattle.script.specs.Ops.{Ops, task_ops, handler_ops, is_allowed, is_isr_allowed, is_command, op_in, nesting_with, op_elements, op_fault, script_fault, script_named, handler_scripts, task_scripts, scripts_fault, handler_ops_fault, with_script, with_isr_ops}
 use Rattle.script.proofs.Checks.{none_fails}
 use Rattle.grammar.proofs.Forms.{Makes, read_by_holds}
-use Rattle.script.proofs.Fitting.{IsAt, found_at, at_fits, allowed_fits, at_group, at_task}
+use Rattle.script.proofs.Fitting.{IsAt, found_at, at_fits, allowed_fits, at_group, at_task, has_daemon}
 use Rattle.script.proofs.Scripts.{taken_stands}
 
--- ---- the ops of any kind, where those that its texts spell are known wherever their object allows them
+-- ---- the ops of any kind, where those that its texts spell are known wherever their object allows them and there is a daemon for them
 
 module _ {O : Type 0} (ops : Ops O) (entries : Entries) (Knows : O → Type 0) where
   abbrev pub Known : Option O → Type 0
-  Known o = IfSome o (λ (op : O). ops.is_allowed entries.objects op ≡ true → Knows op)
+  Known o = IfSome o (λ (op : O). ops.is_allowed entries.objects op ≡ true → (ops.is_command op && is_none entries.daemon) ≡ false → Knows op)
 
   module _ (known : (ws : List Word) → Known (ops.of_words (among entries) ws)) where
     text_known : (text : Option (List ℕ)) → Known (option_and_then (λ text. ops.of_words (among entries) (words_of text)) text)
@@ -35,7 +36,9 @@ module _ {O : Type 0} (ops : Ops O) (entries : Entries) (Knows : O → Type 0) w
     one_more : (nesting : ℕ) (p : Place) (d : Data) (o : Option O) (others : List O) → op_in ops (among entries) d ≡ o
         → op_fault ops entries nesting p d ≡ None → Known o → AllByRecursion Knows others → AllByRecursion Knows (cons_option o others)
     one_more nesting p d None others is none spelt h = h
-    one_more nesting p d (Some op) others is none spelt h = (spelt (taken_stands ops entries nesting p d op none is).allowed, h)
+    one_more nesting p d (Some op) others is none spelt h =
+        let taken = taken_stands ops entries nesting p d op none is in
+        (spelt taken.allowed taken.served, h)
 
     each_known : (p : Place) (nesting i : ℕ) (ds : List Data) → each_fault (op_elements ops entries p) nesting i ds ≡ None
         → AllByRecursion Knows (script_named ops entries ds)
@@ -137,11 +140,14 @@ module _ (app : Application) (entries : Entries) (has : HasEntries app entries) 
     ),
   )
 
-  range_known : (o : Option Op) → IfSome o IsKnown → IfSome (option_and_then if_in_range o) IsKnown
-  range_known None known = tt
-  range_known (Some op) known = by_test (is_in_range op) (λ t. rw t known) (λ t. rw t tt)
+  abbrev AreKnown : Option Op → Type 0
+  AreKnown = Known task_ops entries (λ (op : Op). knows app op ≡ true)
 
-  op_known : (ws : List Word) → IfSome (op_of (among entries) ws) IsKnown
+  range_known : (o : Option Op) → IfSome o IsKnown → AreKnown (option_and_then if_in_range o)
+  range_known None known = tt
+  range_known (Some op) known = by_test (is_in_range op) (λ t. rw t (λ a served. known a)) (λ t. rw t tt)
+
+  op_known : (ws : List Word) → AreKnown (op_of (among entries) ws)
   op_known [] = tt
   op_known (w ∷ ws) =
       let holds = read_by_holds (among entries) IsKnown (IsAt entries) (found_at entries) forms w ws forms_known in
@@ -164,24 +170,32 @@ module _ (app : Application) (entries : Entries) (has : HasEntries app entries) 
   -- ---- of handlers
 
   abbrev IsIsrKnown : IsrOp → Type 0
-  IsIsrKnown op = is_isr_allowed entries.objects op ≡ true → knows_isr app op ≡ true
+  IsIsrKnown op = is_isr_in_range op ≡ true → is_isr_allowed entries.objects op ≡ true → (is_command op && is_none entries.daemon) ≡ false
+      → knows_isr app op ≡ true
+
+  command_known : (clear : Bool) → Makes IsIsrKnown (IsAt entries) (CommandForm clear)
+  command_known clear g at mask within a served =
+      rw (has_daemon app entries has served, at_group app entries has g at, within) refl
 
   isr_forms_known : AllByRecursion (λ (form : Word × Form IsrOp). Makes IsIsrKnown (IsAt entries) form.1) isr_forms
   isr_forms_known = (
-    (λ q at n a. rw (at_fits app entries has Queue (Send n) (λ size. refl) q at) refl),
+    (λ q at n r a s. rw (at_fits app entries has Queue (Send n) (λ size. refl) q at) refl),
     (
-      (λ q at n a. rw (at_fits app entries has Queue (SendFront n) (λ size. refl) q at) refl),
+      (λ q at n r a s. rw (at_fits app entries has Queue (SendFront n) (λ size. refl) q at) refl),
       (
-        (λ q at n allowed. rw (allowed_fits app entries has (Overwrite n) q allowed) refl),
+        (λ q at n r allowed s. rw (allowed_fits app entries has (Overwrite n) q allowed) refl),
         (
-          (λ q at a. rw (at_fits app entries has Queue Receive (λ size. refl) q at) refl),
+          (λ q at r a s. rw (at_fits app entries has Queue Receive (λ size. refl) q at) refl),
           (
-            (λ q at a. rw (at_fits app entries has Queue Peek (λ size. refl) q at) refl),
+            (λ q at r a s. rw (at_fits app entries has Queue Peek (λ size. refl) q at) refl),
             (
-              (λ s at a. rw (at_fits app entries has Semaphore Give refl s at) refl),
+              (λ o at r a s. rw (at_fits app entries has Semaphore Give refl o at) refl),
               (
-                (λ t at a. at_task app entries has t at),
-                ((λ g at a. at_group app entries has g at), ((λ n a. refl), tt)),
+                (λ t at r a s. at_task app entries has t at),
+                (
+                  command_known false,
+                  (command_known true, ((λ g at r a s. at_group app entries has g at), ((λ n r a s. refl), tt))),
+                ),
               ),
             ),
           ),
@@ -190,9 +204,18 @@ module _ (app : Application) (entries : Entries) (has : HasEntries app entries) 
     ),
   )
 
-  isr_op_known : (ws : List Word) → IfSome (isr_op_of (among entries) ws) IsIsrKnown
+  abbrev AreIsrKnown : Option IsrOp → Type 0
+  AreIsrKnown = Known handler_ops entries (λ (op : IsrOp). knows_isr app op ≡ true)
+
+  isr_range_known : (o : Option IsrOp) → IfSome o IsIsrKnown → AreIsrKnown (option_and_then if_isr_in_range o)
+  isr_range_known None known = tt
+  isr_range_known (Some op) known = by_test (is_isr_in_range op) (λ t. rw t (known t)) (λ t. rw t tt)
+
+  isr_op_known : (ws : List Word) → AreIsrKnown (isr_op_of (among entries) ws)
   isr_op_known [] = tt
-  isr_op_known (w ∷ ws) = read_by_holds (among entries) IsIsrKnown (IsAt entries) (found_at entries) isr_forms w ws isr_forms_known
+  isr_op_known (w ∷ ws) =
+      let holds = read_by_holds (among entries) IsIsrKnown (IsAt entries) (found_at entries) isr_forms w ws isr_forms_known in
+      isr_range_known (read_by (among entries) isr_forms w ws) holds
 
   handlers_known : (i : ℕ) (hs : List RawIsr) → each_fault (handler_scripts entries) tt i (map (λ (h : RawIsr). h.ops) hs) ≡ None
       → AllByRecursion (λ (h : Handler). (length h.name ≤ most_name_bytes) × (length h.ops ≤ most_handler_ops)) (map (with_isr_ops entries) hs)

@@ -1,6 +1,6 @@
 -- The objects, event groups, handlers and tasks of a document that is taken have names of their own.
-use Rattle.std.proofs.Common.{◌≡◌, ◌≢◌, ◌<◌, ◌+◌, ◌-◌, ◌++◌, ℕ, false, not, List, [], ◌∷◌, length, map, get_or, Option, Some, None, nat_lt, refl, sym, ap, subst, ◌∙◌, append_assoc, append-nil, arith}
-use Rattle.std.specs.Prelude.{◌||◌, unwrap_or, codes}
+use Rattle.std.proofs.Common.{◌≡◌, ◌≢◌, ◌<◌, ◌+◌, ◌-◌, ◌++◌, ℕ, false, not, List, [], ◌∷◌, length, map, get_or, Option, Some, None, option_map, nat_lt, nat_le, refl, sym, ap, subst, ◌∙◌, append_assoc, append-nil, arith}
+use Rattle.std.specs.Prelude.{◌==◌, ◌||◌, unwrap_or, option_and_then, codes}
 use Rattle.std.specs.List.{list_any, fold}
 use Rattle.std.specs.Str.{bytes_eq}
 use Rattle.std.proofs.lemmas.Bool.{true≢false}
@@ -23,10 +23,10 @@ use Rattle.grammar.specs.Names.{is_name}
 use Rattle.script.specs.Names.{task_names, AreDistinct}
 use Rattle.script.specs.Values.{name_fault, name_named, text_named}
 use Rattle.script.specs.Arrays.{array_of, tables, each_fault, section_fault, section_named}
-use Rattle.script.specs.Entries.{ObjectEntry, GroupEntry, RawIsr, Raw, Entries, names_of}
-use Rattle.script.specs.Sections.{data_at, no_entries, section_of, object_keys, object_named, object_sections, with_objects, more_objects_fault, each_objects_fault, objects_fault, objects_named, group_keys, group_named, groups_fault, groups_named, handler_keys, handler_named, handlers_fault, handlers_named, task_keys, task_named, tasks_fault, tasks_named}
-use Rattle.script.specs.Ops.{with_script, with_isr_ops}
-use Rattle.script.specs.Load.{with_no_groups, with_no_handlers, with_no_tasks, entries_of, entries_fault, load_fault, app_named, document_names}
+use Rattle.script.specs.Entries.{ObjectEntry, GroupEntry, RawIsr, Raw, DaemonEntry, Entries, names_of}
+use Rattle.script.specs.Sections.{data_at, no_entries, section_of, object_keys, object_named, object_sections, with_objects, more_objects_fault, each_objects_fault, objects_fault, objects_named, group_keys, group_named, groups_fault, groups_named, handler_keys, handler_named, handlers_fault, handlers_named, task_keys, task_named, tasks_fault, tasks_named, daemon_keys, daemon_entry, daemon_fault, daemon_named}
+use Rattle.script.specs.Ops.{with_script, with_isr_ops, daemon_task, all_tasks}
+use Rattle.script.specs.Load.{with_no_groups, with_no_handlers, with_no_tasks, with_no_daemon, entries_of, entries_fault, load_fault, app_named, document_names}
 use Rattle.script.proofs.Checks.{none_fails, passes}
 use Rattle.script.proofs.Passing.{passed}
 
@@ -176,12 +176,54 @@ tasks_differ earlier document none distinct =
     (λ before p ms none. name_is_new p _ ms (none_fails (required p key.Name (name_fault _) ms) _ none).0)
     most_tasks section.Task [] (data_at section.Task document) none (subst AreDistinct (sym (append-nil (names_of earlier))) distinct)
 
+-- ---- the daemon
+
+-- its name, where there is a daemon
+abbrev daemon_names : Option DaemonEntry → List (List ℕ)
+daemon_names None = []
+daemon_names (Some d) = d.name ∷ []
+
+daemon_is_new : (earlier : Entries) (p : Place) (table : Option Members)
+    → need (fault_at WrongKind p) table (λ ms. first_fault (
+    fails_if (nat_le most_tasks (length earlier.tasks)) (fault_at TooMany p) ∷ daemon_keys earlier p ms ∷ [])) ≡ None
+    → IsNew (names_of earlier) (name_named table)
+daemon_is_new earlier p None none = cc
+daemon_is_new earlier p (Some ms) none =
+    let room = none_fails (fails_if (nat_le most_tasks (length earlier.tasks)) (fault_at TooMany p)) _ none in
+    let keys = none_fails (daemon_keys earlier p ms) [] room.1 in
+    name_is_new p (names_of earlier) ms (none_fails (required p key.Name (name_fault (names_of earlier)) ms) _ keys.0).0
+
+section_is_new : (earlier : Entries) (d : Option Data)
+    → option_and_then (λ d. need (fault_at WrongKind (at_section section.Daemon)) (as_table d) (λ ms. first_fault (
+    fails_if (nat_le most_tasks (length earlier.tasks)) (fault_at TooMany (at_section section.Daemon))
+    ∷ daemon_keys earlier (at_section section.Daemon) ms ∷ []))) d ≡ None
+    → AreDistinct (names_of earlier) → AreDistinct (names_of earlier ++ daemon_names (option_map (λ d. daemon_entry (as_table d)) d))
+section_is_new earlier None none distinct = subst AreDistinct (sym (append-nil (names_of earlier))) distinct
+section_is_new earlier (Some d) none distinct =
+    longer (names_of earlier) (name_named (as_table d)) distinct (daemon_is_new earlier (at_section section.Daemon) (as_table d) none)
+
+daemon_differs : (earlier : Entries) (document : Members) → daemon_fault earlier document ≡ None → AreDistinct (names_of earlier)
+    → AreDistinct (names_of earlier ++ daemon_names (daemon_named document))
+unfolding daemon_fault daemon_named
+daemon_differs earlier document none distinct = section_is_new earlier (data_at section.Daemon document) none distinct
+
 -- ---- the document
 
 with_ops_names : (entries : Entries) (tasks : List Raw)
     → map (λ (d : Definition). d.name) (map (with_script entries) tasks) ≡ map (λ (t : Raw). t.name) tasks
 with_ops_names entries [] = refl
 with_ops_names entries (t ∷ ts) = ap (λ names. t.name ∷ names) (with_ops_names entries ts)
+
+daemon_task_names : (commands : ℕ) (o : Option DaemonEntry) → map (λ (d : Definition). d.name) (daemon_task commands o) ≡ daemon_names o
+daemon_task_names commands None = refl
+daemon_task_names commands (Some d) = refl
+
+all_tasks_names : (entries : Entries)
+    → map (λ (d : Definition). d.name) (all_tasks entries) ≡ map (λ (t : Raw). t.name) entries.tasks ++ daemon_names entries.daemon
+all_tasks_names entries =
+    map-append (λ (d : Definition). d.name) (map (with_script entries) entries.tasks) (daemon_task (length entries.objects) entries.daemon)
+    ∙ ap (λ names. names ++ map (λ (d : Definition). d.name) (daemon_task (length entries.objects) entries.daemon)) (with_ops_names entries entries.tasks)
+    ∙ ap (λ names. map (λ (t : Raw). t.name) entries.tasks ++ names) (daemon_task_names (length entries.objects) entries.daemon)
 
 with_isr_ops_names : (entries : Entries) (handlers : List RawIsr)
     → map (λ (h : Handler). h.name) (map (with_isr_ops entries) handlers) ≡ map (λ (h : RawIsr). h.name) handlers
@@ -190,7 +232,7 @@ with_isr_ops_names entries (h ∷ hs) = ap (λ names. h.name ∷ names) (with_is
 
 entries_differ : (document : Members) → entries_fault document ≡ None
     → AreDistinct ((names_of (with_no_handlers document) ++ map (λ (h : RawIsr). h.name) (handlers_named document))
-    ++ map (λ (t : Raw). t.name) (tasks_named document))
+    ++ (map (λ (t : Raw). t.name) (tasks_named document) ++ daemon_names (daemon_named document)))
 unfolding entries_fault
 entries_differ document none =
     let objects = none_fails (objects_fault document) _ none in
@@ -204,8 +246,17 @@ entries_differ document none =
     let third = handlers_differ (with_no_handlers document) document handlers.0 (subst AreDistinct grouped second) in
     let handled : names_of (with_no_handlers document) ++ map (λ (h : RawIsr). h.name) (handlers_named document) ≡ names_of (with_no_tasks document) =
     simp (append_assoc, append-nil) in
-    subst (λ names. AreDistinct (names ++ map (λ (t : Raw). t.name) (tasks_named document))) (sym handled)
-    (tasks_differ (with_no_tasks document) document tasks.0 (subst AreDistinct handled third))
+    let fourth = tasks_differ (with_no_tasks document) document tasks.0 (subst AreDistinct handled third) in
+    let all : names_of (with_no_tasks document) ++ map (λ (t : Raw). t.name) (tasks_named document) ≡ names_of (with_no_daemon document) =
+    simp (append_assoc, append-nil) in
+    let some = none_fails (fails_if (length (tasks_named document) == 0) (fault_at Missing (at_section section.Task)))
+    (daemon_fault (with_no_daemon document) document ∷ []) tasks.1 in
+    let daemon = none_fails (daemon_fault (with_no_daemon document) document) [] some.1 in
+    let fifth = daemon_differs (with_no_daemon document) document daemon.0 (subst AreDistinct all fourth) in
+    subst (λ names. AreDistinct (names ++ (map (λ (t : Raw). t.name) (tasks_named document) ++ daemon_names (daemon_named document)))) (sym handled)
+    (subst AreDistinct (append_assoc (names_of (with_no_tasks document)) (map (λ (t : Raw). t.name) (tasks_named document))
+    (daemon_names (daemon_named document)))
+    (subst (λ names. AreDistinct (names ++ daemon_names (daemon_named document))) (sym all) fifth))
 
 pub names_differ : (document : Members) → load_fault document ≡ None → AreDistinct (document_names document)
 unfolding entries_of
@@ -214,4 +265,4 @@ names_differ document none =
     subst (λ isr_names. AreDistinct ((names_of (with_no_handlers document) ++ isr_names) ++ task_names (app_named document)))
     (sym (with_isr_ops_names (entries_of document) (handlers_named document)))
     (subst (λ others. AreDistinct ((names_of (with_no_handlers document) ++ map (λ (h : RawIsr). h.name) (handlers_named document)) ++ others))
-    (sym (with_ops_names (entries_of document) (tasks_named document))) (entries_differ document entries))
+    (sym (all_tasks_names (entries_of document))) (entries_differ document entries))

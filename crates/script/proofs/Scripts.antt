@@ -1,6 +1,6 @@
 -- What the checks of a script give, where none finds a fault.
 use Rattle.std.proofs.Common.{◌≡◌, ◌+◌, ◌≤◌, ℕ, true, false, Bool, List, [], ◌∷◌, map, Option, Some, None, refl, ap, sym, subst, ◌∙◌, ◌++◌, arith}
-use Rattle.std.specs.Prelude.{not, is_none, nat_lt}
+use Rattle.std.specs.Prelude.{◌&&◌, not, is_none, nat_lt}
 use Rattle.std.specs.List.{AllByRecursion, cons_option, fold}
 use Rattle.std.specs.Option.{option_map_or, option_and_then}
 use Rattle.std.proofs.lemmas.Bool.{ltb-false}
@@ -10,7 +10,7 @@ use Rattle.model.specs.Application.{Definition}
 use Rattle.model.specs.Scripts.{InRange, Nests, may_stand, nesting_past, nesting_after}
 use Rattle.model.proofs.Nesting.{nesting_after-append}
 use Rattle.script.specs.Arrays.{each_fault}
-use Rattle.script.specs.declared.fault.FaultKind.TheVariants.{BadOp, UnknownName, OverwriteLength, BadNesting}
+use Rattle.script.specs.declared.fault.FaultKind.TheVariants.{BadOp, UnknownName, NoDaemon, OverwriteLength, BadNesting}
 use Rattle.script.specs.declared.place.Place.{Place}
 use Rattle.script.specs.Faults.{fault_at, fails_if, need}
 use Rattle.script.specs.Entries.{Raw, Entries}
@@ -25,17 +25,20 @@ pub not_false : (b : Bool) → not b ≡ false → b ≡ true
 not_false true e = refl
 not_false false e = cc
 
--- an op that is taken stands where it may, on an object that allows it
+-- an op that is taken stands where it may, on an object that allows it; there is a daemon for it
 pub record Stands {O : Type 0} (ops : Ops O) (entries : Entries) (nesting : ℕ) (op : O) : Type 0 where
+  pub served : (ops.is_command op && is_none entries.daemon) ≡ false
   pub allowed : ops.is_allowed entries.objects op ≡ true
   pub stands : ops.may_stand nesting op ≡ true
 
 module _ {O : Type 0} (ops : Ops O) (entries : Entries) where
   standing : (nesting : ℕ) (p : Place) (op : O) → standing_fault ops entries nesting p op ≡ None → Stands ops entries nesting op
   standing nesting p op none =
-      let here = none_fails (fails_if (not (ops.is_allowed entries.objects op)) (fault_at OverwriteLength p)) _ none in
+      let first = none_fails (fails_if (ops.is_command op && is_none entries.daemon) (fault_at NoDaemon p)) _ none in
+      let here = none_fails (fails_if (not (ops.is_allowed entries.objects op)) (fault_at OverwriteLength p)) _ first.1 in
       let last = none_fails (fails_if (not (ops.may_stand nesting op)) (fault_at BadNesting p)) [] here.1 in
       record {
+        served = passes (ops.is_command op && is_none entries.daemon) (fault_at NoDaemon p) first.0;
         allowed = not_false (ops.is_allowed entries.objects op) (passes _ (fault_at OverwriteLength p) here.0);
         stands = not_false (ops.may_stand nesting op) (passes _ (fault_at BadNesting p) last.0);
       }

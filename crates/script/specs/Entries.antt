@@ -1,13 +1,15 @@
 -- The entries of a document that have names, as the file has them: the ops of handlers and tasks are still its texts.
-use Rattle.std.specs.Prelude.{◌≡◌, ℕ, List, ◌++◌, length, map}
+use Rattle.std.specs.Prelude.{◌≡◌, ℕ, List, [], ◌∷◌, ◌++◌, length, map, Option, Some, None, is_some, option_map}
 use Rattle.toml.specs.Data.{Data}
 use Rattle.toml.specs.View.{view}
 use Rattle.model.specs.declared.object.ObjectKind.{ObjectKind}
-use Rattle.model.specs.Application.{Application}
+use Rattle.model.specs.declared.object.ObjectKind.TheVariants as kind
+use Rattle.model.specs.Application.{Application, of_file}
 use Rattle.script.specs.declared.named_object.NamedObject.{NamedObject}
 use Rattle.script.specs.declared.named_group.NamedGroup.{NamedGroup}
 use Rattle.script.specs.declared.raw_handler.RawHandler.{RawHandler}
 use Rattle.script.specs.declared.raw_task.RawTask.{RawTask}
+use Rattle.script.specs.declared.named_daemon.NamedDaemon.{NamedDaemon}
 use Rattle.script.specs.declared.entries.NamedEntries.{NamedEntries}
 
 pub record ObjectEntry : Type 0 where
@@ -26,11 +28,18 @@ pub record Raw : Type 0 where
   pub priority : ℕ
   pub script : List Data
 
+-- the daemon, and how many commands its queue holds
+pub record DaemonEntry : Type 0 where
+  pub name : List ℕ
+  pub priority : ℕ
+  pub size : ℕ
+
 pub record Entries : Type 0 where
   pub objects : List ObjectEntry
   pub groups : List GroupEntry
   pub handlers : List RawIsr
   pub tasks : List Raw
+  pub daemon : Option DaemonEntry
 
 -- ---- the same of what the code keeps
 
@@ -46,12 +55,16 @@ isr_view h = record { name = h.name.now; ops = map view h.ops.now }
 abbrev pub raw_view : RawTask → Raw
 raw_view t = record { name = t.name.now; priority = t.priority; script = map view t.script.now }
 
+abbrev pub daemon_view : NamedDaemon → DaemonEntry
+daemon_view d = record { name = d.name.now; priority = d.priority; size = d.size }
+
 abbrev pub entries_view : NamedEntries → Entries
 entries_view e = record {
   objects = map object_view e.objects.items;
   groups = map group_view e.groups.items;
   handlers = map isr_view e.handlers.items;
   tasks = map raw_view e.tasks.items;
+  daemon = option_map daemon_view e.daemon;
 }
 
 -- ---- what is asked of them
@@ -60,15 +73,29 @@ entries_view e = record {
 abbrev pub isr_names : Entries → List (List ℕ)
 isr_names entries = map (λ (h : RawIsr). h.name) entries.handlers
 
--- all names, section by section
+-- all names but the daemon's, section by section
 abbrev pub names_of : Entries → List (List ℕ)
 names_of entries =
     map (λ (o : ObjectEntry). o.name) entries.objects
     ++ (map (λ (g : GroupEntry). g.name) entries.groups
     ++ (isr_names entries ++ map (λ (t : Raw). t.name) entries.tasks))
 
--- The application has these objects, so many event groups and so many tasks.
+-- the daemon's queue, where there is a daemon
+abbrev pub command_queue : Option DaemonEntry → List ObjectKind
+command_queue None = []
+command_queue (Some d) = kind.Queue d.size ∷ []
+
+-- all objects: those of the sections, and behind them the daemon's queue
+abbrev pub all_objects : Entries → List ObjectKind
+all_objects entries = map (λ (o : ObjectEntry). o.kind) entries.objects ++ command_queue entries.daemon
+
+-- the daemon's number, where there is a daemon: it is the task behind those of the section
+abbrev pub daemon_of : Entries → Option ℕ
+daemon_of entries = option_map (λ (d : DaemonEntry). length entries.tasks) entries.daemon
+
+-- The application has these objects, so many event groups, so many tasks of the file, and a daemon where these have one.
 pub record HasEntries (app : Application) (entries : Entries) : Type 0 where
-  pub objects : app.objects ≡ map (λ (o : ObjectEntry). o.kind) entries.objects
+  pub objects : app.objects ≡ all_objects entries
   pub groups : app.group_count ≡ length entries.groups
-  pub tasks : length app.tasks ≡ length entries.tasks
+  pub tasks : length (of_file app.daemon app.tasks) ≡ length entries.tasks
+  pub daemon : is_some app.daemon ≡ is_some entries.daemon

@@ -3,7 +3,7 @@ use Rattle.std.specs.Prelude.{◌≡◌, ℕ, Bool, List, [], ◌∷◌, Option,
 use Rattle.std.specs.Fmt.{decimal}
 use Rattle.toml.specs.Data.{Data, Members, get_member}
 use Rattle.script.specs.declared.fault.FaultKind.{FaultKind}
-use Rattle.script.specs.declared.fault.FaultKind.TheVariants.{Missing, WrongKind, OutOfRange, BadOp, UnknownName, DoubleName, BadNesting, OverwriteLength, TooMany}
+use Rattle.script.specs.declared.fault.FaultKind.TheVariants.{Missing, WrongKind, OutOfRange, BadOp, UnknownName, DoubleName, BadNesting, OverwriteLength, TooMany, NoDaemon}
 use Rattle.script.specs.declared.fault.Fault.{Fault}
 use Rattle.script.specs.declared.fault.LoadError.{LoadError}
 use Rattle.script.specs.declared.fault.LoadError.TheVariants as error
@@ -46,6 +46,7 @@ section_word section.Mutex = codes "mutex"
 section_word section.Group = codes "group"
 section_word section.Handler = codes "handler"
 section_word section.Task = codes "task"
+section_word section.Daemon = codes "daemon"
 section_word section.Interrupt = codes "interrupt"
 section_word section.Campaign = codes "campaign"
 
@@ -92,6 +93,7 @@ fault_code DoubleName = 6
 fault_code BadNesting = 7
 fault_code OverwriteLength = 8
 fault_code TooMany = 9
+fault_code NoDaemon = 11
 
 -- the name of a fault of this kind, as its line has it (profile)
 abbrev pub fault_name : FaultKind → List ℕ
@@ -104,6 +106,7 @@ fault_name DoubleName = codes "DoubleName"
 fault_name BadNesting = codes "BadNesting"
 fault_name OverwriteLength = codes "OverwriteLength"
 fault_name TooMany = codes "TooMany"
+fault_name NoDaemon = codes "NoDaemon"
 
 -- a fault of this kind at a place
 abbrev pub fault_at : FaultKind → Place → Fault

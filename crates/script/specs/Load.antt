@@ -9,9 +9,9 @@ use Rattle.script.specs.declared.place.Key.TheVariants as key
 use Rattle.script.specs.Faults.{at_section, fault_at, first_fault, fails_if, need, optional}
 use Rattle.script.specs.Names.{handler_names, task_names}
 use Rattle.script.specs.Values.{member_of, number_fault, number_or}
-use Rattle.script.specs.Entries.{ObjectEntry, Entries, isr_names, names_of}
-use Rattle.script.specs.Sections.{data_at, no_entries, objects_fault, objects_named, groups_fault, groups_named, handlers_fault, handlers_named, tasks_fault, tasks_named}
-use Rattle.script.specs.Ops.{handler_ops_fault, scripts_fault, with_isr_ops, with_script}
+use Rattle.script.specs.Entries.{Entries, all_objects, daemon_of, isr_names, names_of}
+use Rattle.script.specs.Sections.{data_at, no_entries, objects_fault, objects_named, groups_fault, groups_named, handlers_fault, handlers_named, tasks_fault, tasks_named, daemon_fault, daemon_named}
+use Rattle.script.specs.Ops.{handler_ops_fault, scripts_fault, with_isr_ops, all_tasks}
 use Rattle.script.specs.Interrupts.{interrupts_fault, interrupts_named}
 use Rattle.script.specs.Points.{campaign_fault, campaign_named}
 
@@ -46,10 +46,13 @@ with_no_handlers document = record (with_no_groups document) { groups = groups_n
 abbrev pub with_no_tasks : Members → Entries
 with_no_tasks document = record (with_no_handlers document) { handlers = handlers_named document }
 
-unfoldable pub entries_of : Members → Entries
-entries_of document = record (with_no_tasks document) { tasks = tasks_named document }
+abbrev pub with_no_daemon : Members → Entries
+with_no_daemon document = record (with_no_tasks document) { tasks = tasks_named document }
 
--- all their checks, but those of ops; there is a task
+unfoldable pub entries_of : Members → Entries
+entries_of document = record (with_no_daemon document) { daemon = daemon_named document }
+
+-- all their checks, but those of ops; there is a task, and the daemon comes last
 unfoldable pub entries_fault : Members → Option Fault
 entries_fault document = first_fault (
     objects_fault document
@@ -57,6 +60,7 @@ entries_fault document = first_fault (
     ∷ handlers_fault (with_no_handlers document) document
     ∷ tasks_fault (with_no_tasks document) document
     ∷ fails_if (length (tasks_named document) == 0) (fault_at Missing (at_section section.Task))
+    ∷ daemon_fault (with_no_daemon document) document
     ∷ [])
 
 -- ---- the document
@@ -83,11 +87,12 @@ app_named document =
     record {
       start = number_or 0 (data_at section.Start document);
       limits = limits_named (data_at section.Limits document);
-      objects = map (λ (o : ObjectEntry). o.kind) entries.objects;
+      objects = all_objects entries;
       group_count = length entries.groups;
       handlers = map (with_isr_ops entries) entries.handlers;
       interrupts = interrupts_named (isr_names entries) document;
-      tasks = map (with_script entries) entries.tasks;
+      tasks = all_tasks entries;
+      daemon = daemon_of entries;
       points = campaign_named (isr_names entries) document;
     }
 

@@ -1,23 +1,23 @@
 -- Pass two: the ops of handlers and of tasks.
-use Rattle.std.specs.Prelude.{ℕ, Bool, true, false, not, nat_lt, List, [], ◌∷◌, length, map, fold, filter_map, Option, is_none, slice_get, option_and_then}
+use Rattle.std.specs.Prelude.{ℕ, Bool, true, false, ◌&&◌, not, nat_lt, List, [], ◌∷◌, length, map, fold, filter_map, ◌++◌, Option, Some, None, is_none, slice_get, option_and_then}
 use Rattle.std.specs.Option.{option_map_or}
 use Rattle.toml.specs.Data.{Data, as_str}
 use Rattle.model.specs.declared.op.Access.{Access}
 use Rattle.model.specs.declared.op.Op.{Op}
-use Rattle.model.specs.declared.op.Op.TheVariants.{Do}
+use Rattle.model.specs.declared.op.Op.TheVariants.{Do, NextCommand, Obey}
 use Rattle.model.specs.declared.op.IsrOp.{IsrOp}
 use Rattle.model.specs.declared.op.IsrOp.TheVariants as isr
 use Rattle.model.specs.Application.{Definition, Handler}
 use Rattle.model.specs.Scripts.{fits, may_stand, nesting_past}
 use Rattle.script.specs.declared.fault.Fault.{Fault}
-use Rattle.script.specs.declared.fault.FaultKind.TheVariants.{BadOp, UnknownName, OverwriteLength, BadNesting}
+use Rattle.script.specs.declared.fault.FaultKind.TheVariants.{BadOp, UnknownName, NoDaemon, OverwriteLength, BadNesting}
 use Rattle.script.specs.declared.place.Place.{Place}
 use Rattle.script.specs.declared.place.Section.TheVariants as section
 use Rattle.script.specs.declared.place.Key.TheVariants as key
 use Rattle.script.specs.Faults.{at_entry, at_key, at_element, fault_at, first_fault, fails_if, need}
 use Rattle.script.specs.Arrays.{Elements, each_fault, alike}
 use Rattle.grammar.specs.Grammar.{Word, Naming, words_of, op_of, isr_op_of}
-use Rattle.script.specs.Entries.{ObjectEntry, RawIsr, Raw, Entries}
+use Rattle.script.specs.Entries.{ObjectEntry, RawIsr, Raw, DaemonEntry, Entries}
 use Rattle.grammar.specs.Finding.{any_name}
 use Rattle.script.specs.Finding.{among}
 
@@ -25,10 +25,11 @@ use Rattle.script.specs.Finding.{among}
 abbrev pub allows : List ObjectEntry → ℕ → Access → Bool
 allows objects object access = option_map_or (λ (o : ObjectEntry). fits o.kind access) (slice_get objects object) false
 
--- What tells the ops of tasks from those of handlers: which words spell which, whether an object allows it, and where it
--- may stand and how many loops are open after it, where so many are open before it.
+-- What tells the ops of tasks from those of handlers: which words spell which, whether the daemon has to do it, whether an object
+-- allows it, and where it may stand and how many loops are open after it, where so many are open before it.
 pub record Ops (O : Type 0) : Type 0 where
   pub of_words : Naming → List Word → Option O
+  pub is_command : O → Bool
   pub is_allowed : List ObjectEntry → O → Bool
   pub may_stand : ℕ → O → Bool
   pub nesting_past : ℕ → O → ℕ
@@ -43,14 +44,26 @@ abbrev pub is_isr_allowed : List ObjectEntry → IsrOp → Bool
 is_isr_allowed objects (isr.Do object access) = allows objects object access
 is_isr_allowed objects _ = true
 
+-- It is a command for the daemon.
+abbrev pub is_command : IsrOp → Bool
+is_command (isr.Command c) = true
+is_command _ = false
+
 -- the ops of tasks
 abbrev pub task_ops : Ops Op
-task_ops = record { of_words = op_of; is_allowed = is_allowed; may_stand = may_stand; nesting_past = nesting_past }
+task_ops = record {
+  of_words = op_of;
+  is_command = λ op. false;
+  is_allowed = is_allowed;
+  may_stand = may_stand;
+  nesting_past = nesting_past;
+}
 
 -- the ops of handlers, which have no loops
 abbrev pub handler_ops : Ops IsrOp
 handler_ops = record {
   of_words = isr_op_of;
+  is_command = is_command;
   is_allowed = is_isr_allowed;
   may_stand = λ nesting op. true;
   nesting_past = λ nesting op. nesting;
@@ -62,10 +75,11 @@ handler_ops = record {
 abbrev pub op_in : {O : Type 0} → Ops O → Naming → Data → Option O
 op_in ops named d = option_and_then (λ text. ops.of_words named (words_of text)) (as_str d)
 
--- Its object allows it, and it may stand where so many loops are open.
+-- There is a daemon if it is a command, its object allows it, and it may stand where so many loops are open.
 abbrev pub standing_fault : {O : Type 0} → Ops O → Entries → ℕ → Place → O → Option Fault
 standing_fault ops entries nesting p op = first_fault (
-    fails_if (not (ops.is_allowed entries.objects op)) (fault_at OverwriteLength p)
+    fails_if (ops.is_command op && is_none entries.daemon) (fault_at NoDaemon p)
+    ∷ fails_if (not (ops.is_allowed entries.objects op)) (fault_at OverwriteLength p)
     ∷ fails_if (not (ops.may_stand nesting op)) (fault_at BadNesting p)
     ∷ [])
 
@@ -121,4 +135,19 @@ with_isr_ops entries h = record { name = h.name; ops = script_named handler_ops 
 
 -- a task with its script
 abbrev pub with_script : Entries → Raw → Definition
-with_script entries t = record { name = t.name; priority = t.priority; script = script_named task_ops entries t.script }
+with_script entries t = record {
+  name = t.name;
+  priority = t.priority;
+  endless = false;
+  script = script_named task_ops entries t.script;
+}
+
+-- the daemon as a task, where there is one: without an end it asks for a command of the queue of this number, and does it
+abbrev pub daemon_task : (commands : ℕ) → Option DaemonEntry → List Definition
+daemon_task commands None = []
+daemon_task commands (Some d) =
+    record { name = d.name; priority = d.priority; endless = true; script = NextCommand commands ∷ Obey ∷ [] } ∷ []
+
+-- all tasks: those of the section, and behind them the daemon, whose queue is behind the objects of the sections
+abbrev pub all_tasks : Entries → List Definition
+all_tasks entries = map (with_script entries) entries.tasks ++ daemon_task (length entries.objects) entries.daemon

@@ -1,28 +1,29 @@
 -- The sections of a document whose entries have names. `.._keys` are the checks of an entry's keys in their order, `.._named`
 -- is what it names, or what all of them name, and `.._fault` are all checks of the section.
-use Rattle.std.specs.Prelude.{◌-◌, List, [], ◌∷◌, ◌++◌, map, fold, Option, Some, None}
-use Rattle.toml.specs.Data.{Data, Members, get_member}
+use Rattle.std.specs.Prelude.{◌-◌, nat_le, List, [], ◌∷◌, ◌++◌, length, map, fold, Option, Some, None, option_map, option_and_then}
+use Rattle.toml.specs.Data.{Data, Members, as_table, get_member}
 use Rattle.model.specs.declared.object.ObjectKind.{ObjectKind}
 use Rattle.model.specs.declared.object.ObjectKind.TheVariants as kind
 use Rattle.model.specs.Scripts.{most_objects, most_groups, most_handlers, most_tasks, most_items, most_count, most_handler_ops, most_ops, priorities}
 use Rattle.script.specs.declared.fault.Fault.{Fault}
+use Rattle.script.specs.declared.fault.FaultKind.TheVariants.{WrongKind, TooMany}
 use Rattle.script.specs.declared.place.Place.{Place}
 use Rattle.script.specs.declared.place.Section.{Section}
 use Rattle.script.specs.declared.place.Section.TheVariants as section
 use Rattle.script.specs.declared.place.Key.TheVariants as key
 use Rattle.script.specs.declared.object_section.ObjectSection.{ObjectSection}
 use Rattle.script.specs.declared.object_section.ObjectSection.TheVariants.{Queue, Binary, Counting, Mutex}
-use Rattle.script.specs.Faults.{section_word, first_fault, required, optional}
+use Rattle.script.specs.Faults.{at_section, fault_at, section_word, first_fault, fails_if, need, required, optional}
 use Rattle.script.specs.Values.{number_fault, number_named, name_fault, name_named, texts_fault, texts_named}
 use Rattle.script.specs.Arrays.{section_fault, section_named}
-use Rattle.script.specs.Entries.{ObjectEntry, GroupEntry, RawIsr, Raw, Entries, names_of}
+use Rattle.script.specs.Entries.{ObjectEntry, GroupEntry, RawIsr, Raw, DaemonEntry, Entries, names_of}
 
 -- what stands at a section
 abbrev pub data_at : Section → Members → Option Data
 data_at s document = get_member (section_word s) document
 
 abbrev pub no_entries : Entries
-no_entries = record { objects = []; groups = []; handlers = []; tasks = [] }
+no_entries = record { objects = []; groups = []; handlers = []; tasks = []; daemon = None }
 
 -- ---- objects
 
@@ -137,3 +138,33 @@ tasks_fault earlier document =
 
 unfoldable pub tasks_named : Members → List Raw
 tasks_named document = section_named task_named (data_at section.Task document)
+
+-- ---- the daemon, after all other entries
+
+-- its keys; none of the entries has its name
+abbrev pub daemon_keys : Entries → Place → Members → Option Fault
+daemon_keys earlier p ms = first_fault (
+    required p key.Name (name_fault (names_of earlier)) ms
+    ∷ required p key.Priority (number_fault 0 (priorities - 1)) ms
+    ∷ required p key.Length (number_fault 1 most_items) ms
+    ∷ [])
+
+abbrev pub daemon_entry : Option Members → DaemonEntry
+daemon_entry ms = record {
+  name = name_named ms;
+  priority = number_named key.Priority ms;
+  size = number_named key.Length ms;
+}
+
+-- It is one table, and may be left out. The daemon is one more task, of which there may be no more than that.
+unfoldable pub daemon_fault : Entries → Members → Option Fault
+daemon_fault earlier document =
+    let p = at_section section.Daemon in
+    option_and_then (λ d. need (fault_at WrongKind p) (as_table d) (λ ms. first_fault (
+    fails_if (nat_le most_tasks (length earlier.tasks)) (fault_at TooMany p)
+    ∷ daemon_keys earlier p ms
+    ∷ [])))
+    (data_at section.Daemon document)
+
+unfoldable pub daemon_named : Members → Option DaemonEntry
+daemon_named document = option_map (λ d. daemon_entry (as_table d)) (data_at section.Daemon document)

@@ -1,5 +1,5 @@
 //! An application from a document.
-ghost use Rattle.std.specs.Prelude.{◌≡◌, ◌≤◌, ◌∷◌, [], Option, map, length, option_and_then, IfOk};
+ghost use Rattle.std.specs.Prelude.{◌≡◌, ◌≤◌, ◌<◌, ◌+◌, ◌∷◌, [], Option, map, length, is_some, option_and_then, IfOk, IfSome, if◌then◌else◌};
 ghost use Rattle.std.specs.List.{AllByRecursion};
 ghost use Rattle.toml.specs.Data.{Members};
 ghost use Rattle.toml.specs.View.{table_view};
@@ -8,18 +8,18 @@ ghost use Rattle.script.specs.declared.place.Section.TheVariants as section;
 ghost use Rattle.model.specs.Application.{Handler, Definition};
 ghost use Rattle.model.specs.Scripts.{IsObjectKind, IsDefinition, Nests, most_objects, most_handlers, most_handler_ops, most_name_bytes, most_tasks};
 ghost use Rattle.script.specs.Faults.{Judges, Loads, first_fault};
-ghost use Rattle.script.specs.Entries.{ObjectEntry, isr_names, entries_view};
+ghost use Rattle.script.specs.Entries.{all_objects, daemon_of, isr_names, entries_view};
 ghost use Rattle.script.specs.Sections.{data_at};
-ghost use Rattle.script.specs.Ops.{handler_ops_fault, scripts_fault, with_isr_ops, with_script};
+ghost use Rattle.script.specs.Ops.{all_tasks, handler_ops_fault, scripts_fault, with_isr_ops, with_script};
 ghost use Rattle.script.specs.Interrupts.{interrupts_fault, interrupts_named};
 ghost use Rattle.script.specs.Points.{campaign_fault, campaign_named};
 ghost use Rattle.script.specs.Load.{limits_fault, limits_named, load_fault, app_named};
 
+use crate::daemon::{all_objects, all_tasks};
 use crate::entries::NamedEntries;
 use crate::fault::{Fault, FaultKind, LoadError};
 use crate::interrupts::interrupts;
-use crate::objects::kinds_of;
-use crate::ops::{check_handlers, check_scripts, handlers_of, tasks_of};
+use crate::ops::{check_handlers, check_scripts, handlers_of};
 use crate::place::{Key, Place, Section};
 use crate::points::points;
 use crate::readers::named_entries;
@@ -68,24 +68,26 @@ fn parts_of(
     entries: &NamedEntries<'_>,
     listed: &[Interrupt],
 ) -> Result<Parts, AllocError>
-    requires { AllByRecursion (λ (t : Definition). Nests 0 t.script)
+    requires nest { AllByRecursion (λ (t : Definition). Nests 0 t.script)
         (map (with_script (entries_view entries.now)) (entries_view entries.now).tasks) }
+    requires room { IfSome entries.now.daemon (λ d. length entries.now.tasks.items < most_tasks) }
     ensures objects { IfOk result (λ parts.
-        (parts.objects.items ≡ map (λ (o : ObjectEntry). o.kind) (entries_view entries.now).objects)
-        × AllByRecursion IsObjectKind parts.objects.items × (length parts.objects.items ≤ most_objects)) }
+        (parts.objects.items ≡ all_objects (entries_view entries.now))
+        × AllByRecursion IsObjectKind parts.objects.items
+        × (length parts.objects.items ≤ most_objects + (if is_some (daemon_of (entries_view entries.now)) then 1 else 0))) }
     ensures handlers { IfOk result (λ parts.
         (parts.handlers.items ≡ map (with_isr_ops (entries_view entries.now)) (entries_view entries.now).handlers)
         × AllByRecursion (λ (h : Handler). (length h.name ≤ most_name_bytes) × (length h.ops ≤ most_handler_ops)) parts.handlers.items
         × (length parts.handlers.items ≤ most_handlers)) }
     ensures interrupts { IfOk result (λ parts. parts.interrupts ≡ listed.now) }
     ensures tasks { IfOk result (λ parts.
-        (parts.tasks.items ≡ map (with_script (entries_view entries.now)) (entries_view entries.now).tasks)
+        (parts.tasks.items ≡ all_tasks (entries_view entries.now))
         × AllByRecursion IsDefinition parts.tasks.items × (length parts.tasks.items ≤ most_tasks)) }
 {
-    let objects = kinds_of(alloc, entries.objects.as_slice())?;
+    let objects = all_objects(alloc, entries)?;
     let handlers = handlers_of(alloc, entries)?;
     let interrupts = BaseInterrupts::new(alloc, listed)?;
-    let tasks = tasks_of(alloc, entries)?;
+    let tasks = all_tasks(alloc, entries)?;
     Ok(Parts {
         objects,
         handlers,
@@ -102,7 +104,8 @@ fn app_of(
     limits: Limits,
     entries: &NamedEntries<'_>,
 ) -> Result<App, LoadError>
-    requires { 1 ≤ length entries.now.tasks.items }
+    requires some { 1 ≤ length entries.now.tasks.items }
+    requires room { IfSome entries.now.daemon (λ d. length entries.now.tasks.items < most_tasks) }
     ensures { Loads result
         (first_fault (handler_ops_fault (entries_view entries.now) ∷ scripts_fault (entries_view entries.now)
         ∷ interrupts_fault (isr_names (entries_view entries.now)) (table_view document.now)
@@ -110,11 +113,12 @@ fn app_of(
         (record {
           start = start;
           limits = limits;
-          objects = map (λ (o : ObjectEntry). o.kind) (entries_view entries.now).objects;
+          objects = all_objects (entries_view entries.now);
           group_count = length (entries_view entries.now).groups;
           handlers = map (with_isr_ops (entries_view entries.now)) (entries_view entries.now).handlers;
           interrupts = interrupts_named (isr_names (entries_view entries.now)) (table_view document.now);
-          tasks = map (with_script (entries_view entries.now)) (entries_view entries.now).tasks;
+          tasks = all_tasks (entries_view entries.now);
+          daemon = daemon_of (entries_view entries.now);
           points = campaign_named (isr_names (entries_view entries.now)) (table_view document.now);
         }) }
 {
@@ -132,6 +136,7 @@ fn app_of(
         parts.handlers,
         parts.interrupts,
         parts.tasks,
+        entries.daemon_number(),
         points,
     ))
 }

@@ -1,16 +1,18 @@
 //! The entries of a document that have names.
-ghost use Rattle.std.specs.Prelude.{◌≡◌, ◌≤◌, [], length};
+ghost use Rattle.std.specs.Prelude.{◌≡◌, ◌≤◌, ◌<◌, [], false, None, nat_le, length, is_none, IfSome};
 ghost use Rattle.std.specs.List.{list_any};
 ghost use Rattle.std.specs.Str.{bytes_eq};
-ghost use Rattle.model.specs.Scripts.{most_groups};
-ghost use Rattle.script.specs.Entries.{entries_view, names_of};
+ghost use Rattle.model.specs.Scripts.{most_groups, most_tasks};
+ghost use Rattle.script.specs.Entries.{daemon_of, entries_view, names_of};
 
 use crate::named::{Named, has_name};
+use crate::named_daemon::NamedDaemon;
 use crate::named_group::{Groups, NamedGroup};
 use crate::named_object::{NamedObject, Objects};
 use crate::raw_handler::{RawHandler, RawHandlers};
-use crate::raw_task::{RawTask, RawTasks};
+use crate::raw_task::{MOST_TASKS, RawTask, RawTasks};
 use arrayvec::ArrayVec;
+use model::{ObjectId, TaskId};
 
 /// The entries of a document that have names, as far as they have been read. The ops of handlers and tasks are still texts.
 #[derive(Drop)]
@@ -19,6 +21,7 @@ pub(crate) struct NamedEntries<'a> {
     pub(crate) groups: Groups<'a>,
     pub(crate) handlers: RawHandlers<'a>,
     pub(crate) tasks: RawTasks<'a>,
+    pub(crate) daemon: Option<NamedDaemon<'a>>,
 }
 
 impl Named for NamedObject<'_> {
@@ -84,16 +87,18 @@ impl NamedEntries<'_> {
         ensures groups { result.groups.items ≡ [] }
         ensures handlers { result.handlers.items ≡ [] }
         ensures tasks { result.tasks.items ≡ [] }
+        ensures daemon { result.daemon ≡ None }
     {
         NamedEntries {
             objects: ArrayVec::new(),
             groups: ArrayVec::new(),
             handlers: ArrayVec::new(),
             tasks: ArrayVec::new(),
+            daemon: None,
         }
     }
 
-    /// Whether one of them has this name.
+    /// Whether one of them but the daemon has this name.
     pub(crate) fn has_name(&self, name: &str) -> bool
         ensures { result ≡ list_any (bytes_eq name.now) (names_of (entries_view self.now)) }
     {
@@ -107,6 +112,46 @@ impl NamedEntries<'_> {
             return true;
         }
         has_name(self.tasks.as_slice(), name)
+    }
+
+    /// Whether there is no daemon.
+    pub(crate) fn lacks_daemon(&self) -> bool
+        ensures { result ≡ is_none (entries_view self.now).daemon }
+    {
+        match &self.daemon {
+            None => true,
+            Some(_) => false,
+        }
+    }
+
+    /// Whether there are as many tasks as there may be.
+    pub(crate) fn is_full(&self) -> bool
+        ensures full { result ≡ nat_le most_tasks (length (entries_view self.now).tasks) }
+        ensures room { result ≡ false → length self.now.tasks.items < most_tasks }
+    {
+        self.tasks.as_slice().len() >= MOST_TASKS
+    }
+
+    /// The number of the daemon, which is the task behind the others. There is room for it.
+    pub(crate) fn daemon_number(&self) -> Option<TaskId>
+        requires { IfSome self.now.daemon (λ d. length self.now.tasks.items < most_tasks) }
+        ensures { result ≡ daemon_of (entries_view self.now) }
+    {
+        match &self.daemon {
+            None => None,
+            Some(_) => Some(TaskId {
+                number: self.tasks.as_slice().len() as u8,
+            }),
+        }
+    }
+
+    /// The number of the daemon's queue, which is the object behind the others.
+    pub(crate) fn commands(&self) -> ObjectId
+        ensures { result ≡ length (entries_view self.now).objects }
+    {
+        ObjectId {
+            number: self.objects.as_slice().len() as u8,
+        }
     }
 
     /// How many event groups they are.

@@ -26,13 +26,15 @@ pub enum FaultKind {
     OverwriteLength,
     /// More entries than there may be.
     TooMany,
+    /// A command of a handler, where there is no daemon.
+    NoDaemon,
 }
 
 impl FaultKind {
     ghost use Rattle.std.specs.Prelude.{◌≡◌};
     ghost use Rattle.script.specs.Faults.{fault_code, fault_at};
 
-    /// The number of the fault, 1 to 9.
+    /// The number of the fault: 1 to 9, or 11.
     pub fn code(self) -> u8
         ensures { result ≡ fault_code self }
     {
@@ -46,6 +48,7 @@ impl FaultKind {
             FaultKind::BadNesting => 7,
             FaultKind::OverwriteLength => 8,
             FaultKind::TooMany => 9,
+            FaultKind::NoDaemon => 11,
         }
     }
 

@@ -1,6 +1,7 @@
 //! Loads an application from a TOML document: the one that the document names, or the first of its checks that fails.
 #![tactic(auto)]
 
+mod daemon;
 mod document;
 mod entries;
 mod fault;
@@ -8,6 +9,7 @@ mod finding;
 mod interrupts;
 mod laws;
 mod named;
+mod named_daemon;
 mod named_group;
 mod named_object;
 mod object_section;

@@ -22,7 +22,7 @@ use toml::Table;
 // ---- the keys of an object beside its name
 
 // The most items of a queue, as a number of the file.
-const MOST_ITEMS: u32 = ObjectKind::MOST_ITEMS as u32;
+pub(crate) const MOST_ITEMS: u32 = ObjectKind::MOST_ITEMS as u32;
 
 // The most that a semaphore counts to (profile).
 const MOST_COUNT: u32 = u16::MAX as u32;

@@ -36,6 +36,10 @@ pub(crate) trait TextOp: Copy {
     fn of_text<F: Finding>(text: &[u8], finding: &F) -> Option<Self>
         ensures { result ≡ ops.of_words (F.naming finding.now) (words_of text.now) };
 
+    /// Whether it is a command for the daemon.
+    fn is_command(&self) -> bool
+        ensures { result ≡ ops.is_command self.now };
+
     /// Whether the object of which it speaks allows it.
     fn is_allowed(&self, objects: &[NamedObject<'_>]) -> bool
         ensures { result ≡ ops.is_allowed (map object_view objects.now) self.now };
@@ -65,6 +69,10 @@ impl TextOp for Op {
         op_of(text, finding)
     }
 
+    fn is_command(&self) -> bool {
+        false
+    }
+
     fn is_allowed(&self, objects: &[NamedObject<'_>]) -> bool {
         match *self {
             Op::Do(object, access) => allows(objects, object, access),
@@ -84,6 +92,13 @@ impl TextOp for IsrOp {
 
     fn of_text<F: Finding>(text: &[u8], finding: &F) -> Option<IsrOp> {
         isr_op_of(text, finding)
+    }
+
+    fn is_command(&self) -> bool {
+        match self {
+            IsrOp::Command(_) => true,
+            _ => false,
+        }
     }
 
     fn is_allowed(&self, objects: &[NamedObject<'_>]) -> bool {
@@ -108,7 +123,7 @@ fn op_in<O: TextOp, F: Finding>(value: &Value, finding: &F) -> Option<O>
 }
 
 // How many loops are open after the op that a value spells, where so many are open before it. Its names are those of
-// entries, which allow it.
+// entries, which allow it; there is a daemon if it is a command.
 fn nesting_with<O: TextOp>(
     entries: &NamedEntries<'_>,
     nesting: u8,
@@ -125,6 +140,9 @@ fn nesting_with<O: TextOp>(
     let Some(op) = op_in::<O, NamedEntries<'_>>(value, entries) else {
         return Err(FaultKind::UnknownName.at(place));
     };
+    if op.is_command() && entries.lacks_daemon() {
+        return Err(FaultKind::NoDaemon.at(place));
+    }
     if !op.is_allowed(entries.objects.as_slice()) {
         return Err(FaultKind::OverwriteLength.at(place));
     }
@@ -231,8 +249,8 @@ pub(crate) fn handlers_of(
     Ok(definitions)
 }
 
-// Appends an op, which may stand there.
-fn push(builder: &mut ScriptBuilder, op: Op) -> Result<(), AllocError>
+/// Appends an op, which may stand there.
+pub(crate) fn push(builder: &mut ScriptBuilder, op: Op) -> Result<(), AllocError>
     requires range { InRange op }
     requires room { length builder.old < most_ops }
     requires stands { may_stand (nesting_after 0 builder.old) op ≡ true }
@@ -282,7 +300,7 @@ fn task_of(
 {
     let script = script_of(alloc, entries, task.script)?;
     let name = String::from_str(alloc, task.name)?;
-    Ok(TaskDefinition::new(name, task.priority, script))
+    Ok(TaskDefinition::new(name, task.priority, false, script))
 }
 
 /// The tasks with their scripts, whose loops are closed.

@@ -12,6 +12,7 @@ pub enum Section {
     Group,
     Handler,
     Task,
+    Daemon,
     Interrupt,
     Campaign,
 }
@@ -34,6 +35,7 @@ impl Section {
             Section::Group => "group",
             Section::Handler => "handler",
             Section::Task => "task",
+            Section::Daemon => "daemon",
             Section::Interrupt => "interrupt",
             Section::Campaign => "campaign",
         }

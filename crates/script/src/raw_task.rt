@@ -28,7 +28,7 @@ impl Default for RawTask<'_> {
 }
 
 // The most tasks (profile).
-const MOST_TASKS: usize = 32;
+pub(crate) const MOST_TASKS: usize = 32;
 
 /// The tasks of a document, whose ops are still texts.
 pub(crate) type RawTasks<'a> = ArrayVec<RawTask<'a>, MOST_TASKS>;

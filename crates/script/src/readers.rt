@@ -1,11 +1,13 @@
 //! The event groups, the handlers and the tasks of a document.
-ghost use Rattle.std.specs.Prelude.{◌≤◌, map, length, IfOk};
+ghost use Rattle.std.specs.Prelude.{◌≤◌, ◌<◌, map, length, IfOk, IfSome};
 ghost use Rattle.toml.specs.View.{table_view};
+ghost use Rattle.model.specs.Scripts.{most_tasks};
 ghost use Rattle.script.specs.Faults.{Judges, seen};
 ghost use Rattle.script.specs.Entries.{group_view, isr_view, raw_view, entries_view};
 ghost use Rattle.script.specs.Sections.{groups_fault, groups_named, handlers_fault, handlers_named, tasks_fault, tasks_named};
 ghost use Rattle.script.specs.Load.{entries_fault, entries_of};
 
+use crate::daemon::daemon;
 use crate::entries::NamedEntries;
 use crate::fault::{Fault, FaultKind};
 use crate::named_group::{Groups, NamedGroup};
@@ -19,7 +21,7 @@ use model::{HandlerDefinition, Script};
 use toml::Table;
 
 // The highest priority (profile).
-const HIGHEST_PRIORITY: u32 = 31;
+pub(crate) const HIGHEST_PRIORITY: u32 = 31;
 
 // Each reads the entries of a section after the entries of earlier sections.
 #[derive(Drop)]
@@ -137,12 +139,13 @@ fn tasks<'a>(document: &'a Table, earlier: &NamedEntries<'_>) -> Result<RawTasks
     whole_section(&TaskReader(earlier), Section::Task, document)
 }
 
-/// The entries of a document that have names, of which at least one is a task.
+/// The entries of a document that have names, of which at least one is a task. There is room for one more where there is a daemon.
 #[tactic(auto, unfolding(crate::specs::Load::entries_fault, crate::specs::Load::entries_of))]
 pub(crate) fn named_entries(document: &Table) -> Result<NamedEntries<'_>, Fault>
     ensures checks { Judges (seen entries_view result)
         (entries_fault (table_view document.now)) (entries_of (table_view document.now)) }
     ensures some { IfOk result (λ entries. 1 ≤ length entries.tasks.items) }
+    ensures room { IfOk result (λ entries. IfSome entries.daemon (λ d. length entries.tasks.items < most_tasks)) }
 {
     let mut entries = NamedEntries::none();
     entries.objects = objects(document)?;
@@ -152,5 +155,6 @@ pub(crate) fn named_entries(document: &Table) -> Result<NamedEntries<'_>, Fault>
     if entries.tasks.is_empty() {
         return Err(FaultKind::Missing.at(Place::section(Section::Task)));
     }
+    entries.daemon = daemon(document, &entries)?;
     Ok(entries)
 }

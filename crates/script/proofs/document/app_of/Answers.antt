@@ -1,14 +1,16 @@
-use Rattle.std.proofs.Common.{◌≡◌, ◌≤◌, length, map, ap, subst, sym, arith, ◌∙◌}
+use Rattle.std.proofs.Common.{◌≡◌, ◌+◌, ◌≤◌, ℕ, Option, length, length-append, map, ap, subst, sym, arith, ◌∙◌}
+use Rattle.std.specs.Prelude.{is_some, if◌then◌else◌}
 use Rattle.std.specs.List.{AllByRecursion}
 use Rattle.std.proofs.lemmas.Grind.{common_steps}
 use Rattle.std.proofs.lemmas.List.{length-map}
-use Rattle.model.specs.Application.{Application, Handler}
-use Rattle.model.specs.Scripts.{IsHandler, KnowsAll, most_name_bytes, most_handler_ops}
+use Rattle.model.specs.Application.{Application, Handler, of_file}
+use Rattle.model.specs.Scripts.{IsHandler, KnowsAll, most_name_bytes, most_handler_ops, most_objects}
 use Rattle.toml.specs.View.{table_view}
 use Rattle.script.specs.Entries.{RawIsr, Entries, HasEntries, isr_names, raw_view, entries_view}
-use Rattle.script.specs.Ops.{with_script, with_isr_ops}
+use Rattle.script.specs.Ops.{with_script, with_isr_ops, daemon_task}
 use Rattle.script.specs.Interrupts.{interrupts_named}
 use Rattle.script.specs.Points.{campaign_named}
+use Rattle.script.proofs.Daemons.{tasks_of_file, has_entries, daemon_formed}
 use Rattle.script.proofs.Known.{known_tasks, known_handlers}
 use Rattle.script.proofs.Scripts.{tasks_nest}
 use Rattle.script.proofs.Formed.{AreInterrupts, ArePoints, taken_interrupts, are_interrupts, few_come, taken_points, are_entries}
@@ -18,7 +20,10 @@ abbrev HasFewOps : Handler → Type 0
 HasFewOps h = (length h.name ≤ most_name_bytes) × (length h.ops ≤ most_handler_ops)
 
 pub parts_of-requires : goal.parts_of-requires
-parts_of-requires c = tasks_nest (entries_view c.args.entries.now) c.in_ok-check_scripts.ensures.0
+parts_of-requires c = record {
+  nest = tasks_nest (entries_view c.args.entries.now) c.in_ok-check_scripts.ensures.0;
+  room = c.requires.room;
+}
 
 pub new-requires : goal.new-requires
 new-requires c =
@@ -32,23 +37,22 @@ new-requires c =
       handlers = c.in_ok-parts.parts.handlers.items;
       interrupts = c.in_ok-parts.parts.interrupts;
       tasks = c.in_ok-parts.parts.tasks.items;
+      daemon = c.daemon_number.result;
       points = c.in_ok-points.points.items;
     } in
     let document = table_view c.args.document.now in
     let names = isr_names entries in
     let of_handlers : app.handlers ≡ map (with_isr_ops entries) entries.handlers = parts.handlers.0 in
-    let of_tasks : app.tasks ≡ map (with_script entries) entries.tasks = parts.tasks.0 in
+    let of_file_tasks : of_file app.daemon app.tasks ≡ map (with_script entries) entries.tasks =
+    tasks_of_file app entries parts.objects.0 parts.tasks.0 c.daemon_number.ensures in
     let of_interrupts : app.interrupts ≡ interrupts_named names document =
     parts.interrupts ∙ c.as_slice.ensures.value ∙ c.in_ok-listed.ensures.1 in
     let of_points : app.points ≡ campaign_named names document = c.in_ok-points.ensures.1 in
     let count : length names ≡ length app.handlers =
     length-map entries.handlers (λ (h : RawIsr). h.name)
     ∙ sym (ap length of_handlers ∙ length-map entries.handlers (with_isr_ops entries)) in
-    let has : HasEntries app entries = record {
-      objects = parts.objects.0;
-      groups = c.group_count.ensures.count;
-      tasks = ap length of_tasks ∙ length-map entries.tasks (with_script entries);
-    } in
+    let has : HasEntries app entries =
+    has_entries app entries parts.objects.0 parts.tasks.0 c.daemon_number.ensures c.group_count.ensures.count in
     let interrupts : AreInterrupts (length app.handlers) app.interrupts =
     subst (λ n. AreInterrupts n app.interrupts) count
     (subst (AreInterrupts (length names)) (sym of_interrupts) (taken_interrupts names document c.in_ok-listed.ensures.0)) in
@@ -57,15 +61,20 @@ new-requires c =
     (subst (ArePoints (length names)) (sym of_points) (taken_points names document c.in_ok-points.ensures.0)) in
     let few : AllByRecursion HasFewOps (map (with_isr_ops entries) entries.handlers) =
     subst (AllByRecursion HasFewOps) of_handlers parts.handlers.1 in
-    let task_count : length app.tasks ≡ length c.args.entries.now.tasks.items =
-    ap length of_tasks ∙ (length-map entries.tasks (with_script entries) ∙ length-map c.args.entries.now.tasks.items raw_view) in
-    let some = c.requires in
+    let some : 1 ≤ length entries.tasks =
+    subst (λ n. 1 ≤ n) (sym (length-map c.args.entries.now.tasks.items raw_view)) c.requires.some in
+    let task_count : length app.tasks ≡ length entries.tasks + length (daemon_task (length entries.objects) entries.daemon) =
+    ap length parts.tasks.0
+    ∙ length-append (map (with_script entries) entries.tasks) (daemon_task (length entries.objects) entries.daemon)
+    ∙ ap (λ n. n + length (daemon_task (length entries.objects) entries.daemon)) (length-map entries.tasks (with_script entries)) in
     record {
       some = omega (arith, task_count, some);
       few = parts.tasks.2;
       tasks = parts.tasks.1;
       objects = parts.objects.1;
-      few_objects = parts.objects.2;
+      few_objects =
+          subst (λ (o : Option ℕ). length app.objects ≤ most_objects + (if is_some o then 1 else 0)) (sym c.daemon_number.ensures) parts.objects.2;
+      daemon = daemon_formed app entries parts.objects.0 parts.tasks.0 c.daemon_number.ensures some;
       few_groups = c.group_count.ensures.few;
       handlers =
           subst (AllByRecursion (IsHandler app)) (sym of_handlers)
@@ -75,7 +84,7 @@ new-requires c =
       few_interrupts = interrupts.few;
       few_at_once = λ tick. few_come app tick (interrupts.few_at_once tick);
       known =
-          subst (AllByRecursion (KnowsAll app)) (sym of_tasks)
+          subst (AllByRecursion (KnowsAll app)) (sym of_file_tasks)
           (known_tasks app entries has c.in_ok-check_scripts.ensures.0);
       points = are_entries app app.points points.entries;
       few_points = points.few;

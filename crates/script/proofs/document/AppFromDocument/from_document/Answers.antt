@@ -8,9 +8,9 @@ use Rattle.script.specs.declared.fault.LoadError.{LoadError}
 use Rattle.script.specs.declared.place.Section.TheVariants as section
 use Rattle.script.specs.Faults.{Loads, first_fault, at_section}
 use Rattle.script.specs.Values.{data_of, number_fault, number_or}
-use Rattle.script.specs.Entries.{ObjectEntry, Entries, isr_names, entries_view}
+use Rattle.script.specs.Entries.{Entries, all_objects, daemon_of, isr_names, entries_view}
 use Rattle.script.specs.Sections.{data_at}
-use Rattle.script.specs.Ops.{handler_ops_fault, scripts_fault, with_isr_ops, with_script}
+use Rattle.script.specs.Ops.{handler_ops_fault, scripts_fault, with_isr_ops, all_tasks}
 use Rattle.script.specs.Interrupts.{interrupts_fault, interrupts_named}
 use Rattle.script.specs.Points.{campaign_fault, campaign_named}
 use Rattle.script.specs.Load.{limits_fault, limits_named, entries_fault, entries_of, load_fault, app_named}
@@ -31,11 +31,12 @@ abbrev app_with : Members → Entries → ℕ → Limits → Application
 app_with document entries start limits = record {
   start = start;
   limits = limits;
-  objects = map (λ (o : ObjectEntry). o.kind) entries.objects;
+  objects = all_objects entries;
   group_count = length entries.groups;
   handlers = map (with_isr_ops entries) entries.handlers;
   interrupts = interrupts_named (isr_names entries) document;
-  tasks = map (with_script entries) entries.tasks;
+  tasks = all_tasks entries;
+  daemon = daemon_of entries;
   points = campaign_named (isr_names entries) document;
 }
 
