@@ -1,7 +1,8 @@
 -- How long the words of a line are at most.
-use Rattle.std.proofs.Common.{◌≤◌, length, lit≤}
+use Rattle.std.proofs.Common.{◌≤◌, Bool, true, false, length, lit≤}
+use Rattle.std.specs.Prelude.{codes, if◌then◌else◌}
 use Rattle.model.specs.declared.op.Op.{Op}
-use Rattle.model.specs.declared.op.Op.TheVariants.{Work, Delay, DelayUntil, Yield, Time, Mark, Expect, Repeat, End, Await, Do, GiveMutex, MessagesWaiting, SpacesAvailable, SetBits, ClearBits, GetBits, WaitBits, Suspend, Resume, SuspendAll, ResumeAll}
+use Rattle.model.specs.declared.op.Op.TheVariants.{Work, Delay, DelayUntil, Yield, Time, Mark, Expect, Repeat, End, Await, Do, GiveMutex, MessagesWaiting, SpacesAvailable, SetBits, ClearBits, GetBits, WaitBits, Suspend, Resume, SuspendAll, ResumeAll, NextCommand, Obey}
 use Rattle.model.specs.declared.op.Access.{Access}
 use Rattle.model.specs.declared.op.Access.TheVariants.{Send, SendFront, Overwrite, Receive, Peek, Take, Give, Lock}
 use Rattle.model.specs.declared.op.IsrOp.{IsrOp}
@@ -42,10 +43,17 @@ word_short (Suspend t) = lit≤ tt
 word_short (Resume t) = lit≤ tt
 word_short SuspendAll = lit≤ tt
 word_short ResumeAll = lit≤ tt
+word_short (NextCommand o) = lit≤ tt
+word_short Obey = lit≤ tt
+
+command_short : (clear : Bool) → length (if clear then codes "clear" else codes "set") ≤ 11
+command_short true = lit≤ tt
+command_short false = lit≤ tt
 
 -- So has that of an op of a handler.
 pub isr_word_short : (op : IsrOp) → length (word_of_isr op) ≤ 11
 isr_word_short (isr_op.Do o a) = access_short a
+isr_word_short (isr_op.Command c) = command_short c.clear
 isr_word_short (isr_op.Resume t) = lit≤ tt
 isr_word_short (isr_op.GetBits g) = lit≤ tt
 isr_word_short (isr_op.Mark n) = lit≤ tt

@@ -6,6 +6,7 @@ use Rattle.model.specs.Campaign as campaign
 use Rattle.model.specs.declared.op.Op.{Op}
 use Rattle.model.specs.declared.op.Op.TheVariants.{Delay, DelayUntil, Mark, Await, Do, GiveMutex, SetBits, ClearBits, GetBits, WaitBits, Suspend, Resume, SuspendAll, ResumeAll}
 use Rattle.model.specs.declared.op.Access.TheVariants.{SendFront, Take, Give, Lock}
+use Rattle.model.specs.declared.op.IsrOp.{IsrOp}
 use Rattle.model.specs.declared.op.IsrOp.TheVariants as isr_op
 use Rattle.model.specs.declared.event.Event.{Event}
 use Rattle.model.specs.declared.event.What.{What}
@@ -20,11 +21,11 @@ use Rattle.report.specs.declared.title.Title.TheVariants.{Row}
 
 -- an application of these tasks, from tick 0 and under no limits but the most
 abbrev pub app_of : List Definition → Application
-app_of tasks = record { start = 0; limits = record { ticks = 1000000; steps = 1000000 }; objects = []; group_count = 0; handlers = []; interrupts = []; tasks = tasks; points = [] }
+app_of tasks = record { start = 0; limits = record { ticks = 1000000; steps = 1000000 }; objects = []; group_count = 0; handlers = []; interrupts = []; tasks = tasks; daemon = None; points = [] }
 
 -- a task of priority 1
 abbrev pub a_task : List ℕ → List Op → Definition
-a_task name script = record { name = name; priority = 1; script = script }
+a_task name script = record { name = name; priority = 1; endless = false; script = script }
 
 -- the tasks by their numbers
 abbrev pub a : ℕ
@@ -73,13 +74,17 @@ two_unlocks_run = record {
   end = Misuse a 4 NotHolder;
 }
 
+-- an op of a handler that has the daemon set a bit, or clear it
+abbrev pub command : (clear : Bool) → IsrOp
+command clear = isr_op.Command (record { group = 0; mask = 1; clear = clear })
+
 -- a task that has to do with an event group, with itself and with the scheduler, and a handler that does too
 abbrev pub each_hold : Application
 each_hold = record (app_of (a_task (codes "a") (
     SetBits 0 5 ∷ WaitBits 0 (record { mask = 4; all = false; clear = true }) None ∷ ClearBits 0 1 ∷ GetBits 0
     ∷ Resume 0 ∷ Suspend 0 ∷ SuspendAll ∷ ResumeAll ∷ []) ∷ [])) {
       group_count = 1;
-      handlers = record { name = codes "h"; ops = isr_op.GetBits 0 ∷ isr_op.Resume 0 ∷ [] } ∷ [];
+      handlers = record { name = codes "h"; ops = isr_op.GetBits 0 ∷ isr_op.Resume 0 ∷ command false ∷ command true ∷ [] } ∷ [];
     }
 
 -- one event of each of their ops; no run tells these events
@@ -88,8 +93,9 @@ each_hold_run = record {
   events =
       event_at 1 0 (what.Call a 0 5) ∷ event_at 2 0 (what.Call a 1 5) ∷ event_at 3 0 (what.Call a 2 1)
       ∷ event_at 4 0 (what.Call a 3 0) ∷ event_at 5 0 (what.Call a 4 0) ∷ event_at 6 0 (what.Call a 5 1)
-      ∷ event_at 7 0 (what.Isr 0 0 0) ∷ event_at 7 0 (what.Isr 0 1 1) ∷ event_at 8 0 (what.Call a 6 0)
-      ∷ event_at 9 0 (what.Call a 7 0) ∷ [];
+      ∷ event_at 7 0 (what.Isr 0 0 0) ∷ event_at 7 0 (what.Isr 0 1 1) ∷ event_at 7 0 (what.Isr 0 2 1) ∷ event_at 7 0 (what.Isr 0 3 0)
+      ∷ event_at 8 0 (what.Call a 6 0) ∷ event_at 9 0 (what.Call a 7 0) ∷ event_at 9 0 (what.Obeyed a false 1)
+      ∷ event_at 9 0 (what.Obeyed a true 1) ∷ [];
   steps = 10;
   ticks = 0;
   end = Misuse a 7 WhileSuspended;
@@ -107,7 +113,7 @@ abbrev pub each_form_run : Run
 each_form_run = record {
   events =
       event_at 4294967295 4294967295 (what.Call a 0 4294967295) ∷ event_at 0 0 (what.CallNone a 0)
-      ∷ event_at 0 0 (what.CallNone a 1) ∷ event_at 1 10 (what.Mark a 4294967295)
+      ∷ event_at 0 0 (what.CallNone a 1) ∷ event_at 1 10 (what.Obeyed a true 4294967295) ∷ event_at 1 10 (what.Mark a 4294967295)
       ∷ event_at 1 10 (what.Run (Some a)) ∷ event_at 1 10 (what.Run None)
       ∷ event_at 1 10 (what.Isr 0 0 4294967295) ∷ event_at 1 10 (what.IsrNone 0 0) ∷ event_at 1 10 (what.IsrNone 0 1)
       ∷ event_at 1 10 (what.IsrMark 0 4294967295) ∷ [];

@@ -1,5 +1,5 @@
 -- The text of a run, and of a campaign.
-use Rattle.std.specs.Prelude.{ℕ, ◌+◌, Bool, true, false, List, [], ◌∷◌, ◌++◌, codes, decimal, Option, Some, None, option_map, unwrap_or}
+use Rattle.std.specs.Prelude.{ℕ, ◌+◌, Bool, true, false, List, [], ◌∷◌, ◌++◌, codes, decimal, Option, Some, None, option_map, unwrap_or, if◌then◌else◌}
 use Rattle.std.specs.List.{flat_map}
 use Rattle.model.specs.Application.{Application, op_at}
 use Rattle.model.specs.Words.{name_of, isr_op_at, handler_name_of, word_of, word_of_isr}
@@ -27,6 +27,11 @@ abbrev pub call_front : Application → (task op_index : ℕ) → List ℕ
 call_front app task op_index =
     codes "call " ++ name_of app task ++ codes " " ++ decimal op_index ++ codes " " ++ word_at app task op_index ++ codes " = "
 
+-- the same of a command that the daemon has done, which is told as an op of index 1 (profile)
+abbrev pub obeyed_front : Application → (task : ℕ) → (clear : Bool) → List ℕ
+obeyed_front app task clear =
+    codes "call " ++ name_of app task ++ codes " 1 " ++ (if clear then codes "clear" else codes "set") ++ codes " = "
+
 -- the first word of a handler's op of this index; empty where no op is
 abbrev pub isr_word_at : Application → ℕ → ℕ → List ℕ
 isr_word_at app handler op_index = unwrap_or (option_map word_of_isr (isr_op_at app handler op_index)) []
@@ -46,6 +51,7 @@ runner_text app (Some task) = name_of app task
 abbrev pub what_text : Application → What → List ℕ
 what_text app (what.Call task op_index answer) = call_front app task op_index ++ decimal answer
 what_text app (what.CallNone task op_index) = call_front app task op_index ++ codes "none"
+what_text app (what.Obeyed task clear bits) = obeyed_front app task clear ++ decimal bits
 what_text app (what.Mark task mark) = codes "mark " ++ name_of app task ++ codes " " ++ decimal mark
 what_text app (what.Isr handler op_index answer) = isr_front app handler op_index ++ decimal answer
 what_text app (what.IsrNone handler op_index) = isr_front app handler op_index ++ codes "none"

@@ -1,11 +1,12 @@
 //! The fronts of an application's lines, each spelled once.
 ghost use Rattle.std.specs.Prelude.{◌≡◌, ◌<◌, ◌≤◌, ◌+◌, ◌++◌, length, take};
-ghost use Rattle.report.specs.Text.{call_front, isr_front};
+ghost use Rattle.report.specs.Text.{call_front, isr_front, obeyed_front};
 ghost use Rattle.report.specs.Fronts.{mark_front, isr_mark_front, run_front};
 
 use crate::label::{Label, OpLabel};
 use crate::text::{
-    put_call_front, put_isr_front, put_isr_mark_front, put_mark_front, put_run_front,
+    put_call_front, put_isr_front, put_isr_mark_front, put_mark_front, put_obeyed_front,
+    put_run_front,
 };
 use byte_io::place::put_front;
 use model::{App, HandlerId, TaskId};
@@ -162,6 +163,15 @@ impl<'a> Labels<'a> {
         ensures end { result ≤ at + 48 }
     {
         put_isr_mark_front(bytes, at, self.app, handler)
+    }
+
+    /// Puts what the line of a command that the daemon has done says before its answer. It isn't kept.
+    pub(crate) fn put_obeyed(&self, bytes: &mut [u8], at: usize, task: TaskId, clear: bool) -> usize
+        requires { at + 48 ≤ length bytes.old }
+        ensures text { take result bytes.new ≡ take at bytes.old ++ obeyed_front self.now task clear }
+        ensures end { result ≤ at + 48 }
+    {
+        put_obeyed_front(bytes, at, self.app, task, clear)
     }
 
     // Spells and keeps the front of a task that runs.

@@ -31,7 +31,7 @@ pub fn report_of_two_unlocks()
         ++ codes "3 0 call a 3 unlock = 1\n" }
 {}
 
-/// The words of ops on an event group, and of those that suspend and resume, letter by letter.
+/// The words of ops on an event group, of those that suspend and resume, and of the commands of the daemon, letter by letter.
 pub fn report_of_each_hold()
     ensures { run_text each_hold Base each_hold_run ≡
         codes "base: misuse a 7 1 in 10 steps, 0 ticks\n"
@@ -43,8 +43,12 @@ pub fn report_of_each_hold()
         ++ codes "6 0 call a 5 suspend = 1\n"
         ++ codes "7 0 isr h 0 bits = 0\n"
         ++ codes "7 0 isr h 1 resume = 1\n"
+        ++ codes "7 0 isr h 2 set = 1\n"
+        ++ codes "7 0 isr h 3 clear = 0\n"
         ++ codes "8 0 call a 6 suspend_all = 0\n"
-        ++ codes "9 0 call a 7 resume_all = 0\n" }
+        ++ codes "9 0 call a 7 resume_all = 0\n"
+        ++ codes "9 0 call a 1 set = 1\n"
+        ++ codes "9 0 call a 1 clear = 1\n" }
 {}
 
 /// How each misuse is told, letter by letter.
@@ -66,6 +70,7 @@ pub fn report_of_each_form()
         ++ codes "4294967295 4294967295 call abcdefghijklmnop 0 delay_until = 4294967295\n"
         ++ codes "0 0 call abcdefghijklmnop 0 delay_until = none\n"
         ++ codes "0 0 call abcdefghijklmnop 1  = none\n"
+        ++ codes "1 10 call abcdefghijklmnop 1 clear = 4294967295\n"
         ++ codes "1 10 mark abcdefghijklmnop 4294967295\n"
         ++ codes "1 10 run abcdefghijklmnop\n"
         ++ codes "1 10 run -\n"

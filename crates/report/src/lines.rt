@@ -93,6 +93,10 @@ impl<'a> Lines<'a> {
                 let at = self.labels.put_call(bytes, at, task, op_index);
                 put_none(bytes, at)
             }
+            What::Obeyed(task, clear, bits) => {
+                let at = self.labels.put_obeyed(bytes, at, task, clear);
+                put_last(bytes, at, &mut self.number, bits)
+            }
             What::Mark(task, mark) => {
                 let at = self.labels.put_mark(bytes, at, task);
                 put_last(bytes, at, &mut self.number, mark)

@@ -1,9 +1,9 @@
 //! The head line of a run, into a page that has room for it, and the fronts of other lines, into bytes that have.
 //!
 //! A front is put at a place, and where it ends is answered, as `byte_io::place` does it.
-ghost use Rattle.std.specs.Prelude.{◌≡◌, ◌≤◌, ◌+◌, ◌++◌, length, take, decimal};
+ghost use Rattle.std.specs.Prelude.{◌≡◌, ◌≤◌, ◌+◌, ◌++◌, length, take, codes, decimal, if◌then◌else◌};
 ghost use Rattle.model.specs.Words.{name_of, handler_name_of};
-ghost use Rattle.report.specs.Text.{word_at, call_front, isr_word_at, isr_front, code_of, op_text, verdict_text, injection_text, point_text, reached_text, title_text, head_text, total_text};
+ghost use Rattle.report.specs.Text.{word_at, call_front, obeyed_front, isr_word_at, isr_front, code_of, op_text, verdict_text, injection_text, point_text, reached_text, title_text, head_text, total_text};
 ghost use Rattle.report.specs.Fronts.{mark_front, isr_mark_front, run_front};
 
 use crate::title::Title;
@@ -82,6 +82,33 @@ pub(crate) fn put_call_front(
     let at = put_number(bytes, at, op_index as u32);
     let at = put_text(bytes, at, b" ");
     let at = put_text(bytes, at, word(app, task, op_index));
+    put_text(bytes, at, b" = ")
+}
+
+// The word of a command that clears bits, or sets them.
+fn command_word(clear: bool) -> &'static [u8]
+    ensures text { result.now ≡ (if clear then codes "clear" else codes "set") }
+    ensures size { length result.now ≤ 5 }
+{
+    if clear { b"clear" } else { b"set" }
+}
+
+/// Puts what the line of a command that the daemon has done says before its answer.
+pub(crate) fn put_obeyed_front(
+    bytes: &mut [u8],
+    at: usize,
+    app: &App,
+    task: TaskId,
+    clear: bool,
+) -> usize
+    requires { at + 48 ≤ length bytes.old }
+    ensures text { take result bytes.new ≡ take at bytes.old ++ obeyed_front app.now task clear }
+    ensures end { result ≤ at + 48 }
+{
+    let at = put_text(bytes, at, b"call ");
+    let at = put_text(bytes, at, name(app, task));
+    let at = put_text(bytes, at, b" 1 ");
+    let at = put_text(bytes, at, command_word(clear));
     put_text(bytes, at, b" = ")
 }
 

@@ -3,7 +3,7 @@ use Rattle.std.specs.Prelude.{codes, decimal}
 use Rattle.model.specs.declared.event.What.{What}
 use Rattle.model.specs.declared.event.What.TheVariants as what
 use Rattle.model.specs.Application.{Application}
-use Rattle.report.specs.Text.{call_front, isr_front, what_text}
+use Rattle.report.specs.Text.{call_front, isr_front, obeyed_front, what_text}
 use Rattle.report.specs.Fronts.{mark_front, isr_mark_front}
 use Rattle.report.proofs.lines.Lines.put_what.Goals as goal
 
@@ -28,6 +28,11 @@ pub returns-in-CallNone-clause-text : goal.returns-in-CallNone-clause-text
 returns-in-CallNone-clause-text c =
     told c.self.inside.labels c.args.self.now (what.CallNone c.in-CallNone.task c.in-CallNone.op_index) c.args.what.now (take c.args.at c.args.bytes.now) (call_front c.self.inside.labels c.in-CallNone.task c.in-CallNone.op_index) (take c.put_call-at-in-CallNone.result c.put_call-at-in-CallNone.new.bytes) (codes "none") (take c.put_none.result c.put_none.new.bytes)
     c.self.view_is c.in-CallNone.is refl c.put_call-at-in-CallNone.ensures.text c.put_none.ensures.text
+
+pub returns-in-Obeyed-clause-text : goal.returns-in-Obeyed-clause-text
+returns-in-Obeyed-clause-text c =
+    told c.self.inside.labels c.args.self.now (what.Obeyed c.in-Obeyed.task c.in-Obeyed.clear c.in-Obeyed.bits) c.args.what.now (take c.args.at c.args.bytes.now) (obeyed_front c.self.inside.labels c.in-Obeyed.task c.in-Obeyed.clear) (take c.put_obeyed-at.result c.put_obeyed-at.new.bytes) (decimal c.in-Obeyed.bits) (take c.put_last-in-Obeyed.result c.put_last-in-Obeyed.new.bytes)
+    c.self.view_is c.in-Obeyed.is refl c.put_obeyed-at.ensures.text c.put_last-in-Obeyed.ensures.text
 
 pub returns-in-Mark-clause-text : goal.returns-in-Mark-clause-text
 returns-in-Mark-clause-text c =
