@@ -156,7 +156,7 @@ daemon_entry ms = record {
   size = number_named key.Length ms;
 }
 
--- It is one table, and may be left out. The daemon is one more task, of which there may be no more than that.
+-- The section is one table, and may be left out. The daemon is one more task, so there has to be room among the tasks (profile).
 unfoldable pub daemon_fault : Entries → Members → Option Fault
 daemon_fault earlier document =
     let p = at_section section.Daemon in
