@@ -31,6 +31,7 @@ fn label(kind: FaultKind) -> &'static str
         FaultKind::BadNesting => "BadNesting:",
         FaultKind::OverwriteLength => "OverwriteLength:",
         FaultKind::TooMany => "TooMany:",
+        FaultKind::NoDaemon => "NoDaemon:",
     }
 }
 
