@@ -1,5 +1,5 @@
 -- What every deed keeps of who sleeps and who has which ticket, and so every step.
-use Rattle.std.proofs.Common.{get_or-set_same, ◌-◌, ◌&&◌, length, ltb-false, ◌≡◌, ◌≢◌, ◌<◌, ◌≤◌, ◌+◌, ◌||◌, ℕ, zero, suc, true, false, eqb, leb, ltb, leb-false, inl, inr, ◌⊎◌, List, [], ◌∷◌, map, get_or, set, Option, Some, None, refl, ap, ap₂, sym, subst, ◌∙◌, arith}
+use Rattle.std.proofs.Common.{get_or-set_same, ◌-◌, ◌&&◌, length, ltb-false, ◌≡◌, ◌≢◌, ◌<◌, ◌+◌, ◌||◌, ℕ, zero, suc, true, false, eqb, leb, ltb, leb-false, inl, inr, ◌⊎◌, List, [], ◌∷◌, map, get_or, set, Option, Some, None, refl, ap, ap₂, sym, subst, ◌∙◌, arith}
 use Rattle.std.specs.List.{AllByRecursion, filter}
 use Rattle.std.specs.Prelude.{Bool, ◌++◌, if◌then◌else◌}
 use Rattle.std.specs.Option.{IfSome, option_eq, option_map, unwrap_or, is_some}
@@ -7,8 +7,10 @@ use Rattle.std.proofs.lemmas.Bool.{ltb-true}
 use Rattle.std.proofs.lemmas.List.{get_or_past}
 use Rattle.std.proofs.Math.ListN.{length-set}
 use Rattle.model.specs.declared.op.Op.{Op}
-use Rattle.model.specs.declared.op.Op.TheVariants.{Work, Delay, DelayUntil, Yield, Time, Mark, Expect, Repeat, End, Await, Do, GiveMutex, MessagesWaiting, SpacesAvailable, SetBits, ClearBits, GetBits, WaitBits, Suspend, Resume, SuspendAll, ResumeAll}
+use Rattle.model.specs.declared.op.Op.TheVariants.{Work, Delay, DelayUntil, Yield, Time, Mark, Expect, Repeat, End, Await, Do, GiveMutex, MessagesWaiting, SpacesAvailable, SetBits, ClearBits, GetBits, WaitBits, Suspend, Resume, SuspendAll, ResumeAll, NextCommand, Obey}
 use Rattle.model.specs.declared.op.Access.{Access}
+use Rattle.model.specs.declared.op.Access.TheVariants.{Send, Receive}
+use Rattle.model.specs.declared.op.Command.{Command}
 use Rattle.model.specs.declared.call.CallProgress.{CallProgress}
 use Rattle.model.specs.declared.call.Phase.{Phase}
 use Rattle.model.specs.declared.call.Phase.TheVariants.{Start, Try, Decide, Place, Unlock, Leave, Final}
@@ -18,7 +20,7 @@ use Rattle.model.specs.declared.event.What.{What}
 use Rattle.model.specs.declared.event.What.TheVariants as what
 use Rattle.model.specs.declared.event.Misuse.{Misuse}
 use Rattle.model.specs.declared.loops.Loop.{Loop}
-use Rattle.model.specs.Application.{Application, Definition, op_at, op_count, ops_of, interrupts_at}
+use Rattle.model.specs.Application.{Application, Definition, commands_of, op_at, op_count, ops_of, interrupts_at}
 use Rattle.model.specs.State.{State, Task, Progress, Status, Ready, Awake, Waiting, Asleep, WaitingForBits, Suspended, Ended, ticket_of, wake_time_of, no_call, task_at, progress_at, status_at, call_at, object_at, bits_at, with_task, with_call, with_object, with_bits, take_ticket, for_one, for_each, no_task, printed}
 use Rattle.model.specs.Order.{Entry, Key, key, entry, keyed, tasks_of, task_of, first}
 use Rattle.model.specs.Switching.{make_ready, to_back, dispatch, choose, choice, is_same, is_ready, yield_now, is_outranked, is_sharing, preempt, slice, settle, is_off, unless_held, write, is_held, is_scheduler_suspended}
@@ -35,6 +37,7 @@ use Rattle.model.specs.Ops.{one_if, go_to, called, answer, use_up, delay, delay_
 use Rattle.model.specs.declared.call.Condition.{Condition}
 use Rattle.model.specs.Groups.{is_met, met_by, keep_answer, want, wake_with_bits, bits_set, bits_after_set, set as set_in_group, begin_set, set_bits, clear, answer_bits, wait_for_bits, begin_bits_wait, check, final_bits, wait_bits}
 use Rattle.model.specs.Suspension.{can_suspend, can_resume, suspend, resumed, resume, call_suspend, call_resume, suspend_all, resume_scheduler, resume_all}
+use Rattle.model.specs.Daemon.{item_of, received, take_command, next_command, obeyed, clear_by_daemon, end_set_by_daemon, obey, command_at}
 use Rattle.model.specs.Step.{is_ended, judge, act, misuse, act_unless, act_if, act_current, before_step, step, nobody_ready, ready_at_reset, reset, task_at_reset, with_ops}
 use Rattle.model.specs.Run.{injected, state_after}
 use Rattle.model.proofs.Sorting.{by_test}
@@ -412,24 +415,76 @@ module _ (P : State → Type 0)
   kept-wait_bits app i group c ticks Unlock s h = kept-final_bits app i group c (call_at s i).kept s h
   kept-wait_bits app i group c ticks Final s h = kept-final_bits app i group c (call_at s i).kept s h
 
+  -- ---- the daemon
+
+  kept-received : (app : Application) (i : ℕ) (a : Option ℕ) (s : State) → P s → P (received app i a s)
+  unfolding received
+  kept-received app i a s h = kept-go_to app i ((progress_at s i).op_index + 1) (record (progress_at s i) { answer = a }) s h
+
+  kept-take_command : (app : Application) (i o : ℕ) (s : State) → P s → P (take_command app i o s)
+  unfolding take_command
+  kept-take_command app i o s h = by_test (possible s o Receive)
+      (λ t. rw t (kept-preempt _ (kept-received app i (answer_to s o Receive) _ (kept-fulfil (Some i) o Receive s h))))
+      (λ t. rw t (kept-with_call i _ s h))
+
+  kept-next_command : (app : Application) (i o : ℕ) (phase : Phase) (s : State) → P s → P (next_command app i o phase s)
+  kept-next_command app i o Start s h = kept-take_command app i o s h
+  kept-next_command app i o Try s h = kept-take_command app i o s h
+  kept-next_command app i o Decide s h = kept-await app i o Receive None Decide s h
+  kept-next_command app i o Place s h = kept-await app i o Receive None Place s h
+  kept-next_command app i o Unlock s h = kept-await app i o Receive None Unlock s h
+  kept-next_command app i o Leave s h = kept-await app i o Receive None Leave s h
+  kept-next_command app i o Final s h = kept-await app i o Receive None Final s h
+
+  kept-obeyed : (app : Application) (i : ℕ) (clear : Bool) (bits : ℕ) (s : State) → P s → P (obeyed app i clear bits s)
+  unfolding obeyed
+  kept-obeyed app i clear bits s h =
+      let t : State = write (what.Obeyed i clear bits) s in
+      kept-go_to app i 0 (record (progress_at s i) { answer = Some bits }) t (framed s t refl refl refl h)
+
+  kept-clear_by_daemon : (app : Application) (i group mask : ℕ) (s : State) → P s → P (clear_by_daemon app i group mask s)
+  unfolding clear_by_daemon
+  kept-clear_by_daemon app i group mask s h = kept-obeyed app i true (bits_at s group) _ (kept-with_bits group _ s h)
+
+  kept-end_set_by_daemon : (app : Application) (i group : ℕ) (s : State) → P s → P (end_set_by_daemon app i group s)
+  kept-end_set_by_daemon app i group s h = kept-preempt _ (kept-obeyed app i false (bits_at s group) (end_hold i Start s) (kept-end_hold i Start s h))
+
+  kept-begin_command : (app : Application) (i : ℕ) (c : Command) (s : State) → P s → P (obey app i c Start s)
+  kept-begin_command app i c s h = by_test c.clear
+      (λ t. rw t (kept-clear_by_daemon app i c.group c.mask s h))
+      (λ t. rw t (kept-begin_set i c.group c.mask s h))
+
+  kept-obey : (app : Application) (i : ℕ) (c : Command) (phase : Phase) (s : State) → P s → P (obey app i c phase s)
+  kept-obey app i c Start s h = kept-begin_command app i c s h
+  kept-obey app i c Try s h = kept-end_set_by_daemon app i c.group s h
+  kept-obey app i c Decide s h = kept-end_set_by_daemon app i c.group s h
+  kept-obey app i c Place s h = kept-end_set_by_daemon app i c.group s h
+  kept-obey app i c Unlock s h = kept-end_set_by_daemon app i c.group s h
+  kept-obey app i c Leave s h = kept-end_set_by_daemon app i c.group s h
+  kept-obey app i c Final s h = kept-end_set_by_daemon app i c.group s h
+
   -- ---- handlers
 
   kept-write : (w : What) (s : State) → P s → P (write w s)
   kept-write w s h = framed s (write w s) refl refl refl h
 
-  kept-isr : (handler op_index : ℕ) (op : IsrOp) (s : State) → P s → P (isr handler op_index op s)
-  kept-isr handler op_index (isr_op.Do o a) s h = kept-write (isr_told handler op_index (answer_to s o a)) (attempt None o a s) (kept-attempt None o a s h)
-  kept-isr handler op_index (isr_op.Resume i) s h = kept-write (isr_told handler op_index (one_if (can_resume (status_at s i)))) (resume i s) (kept-resume i s h)
-  kept-isr handler op_index (isr_op.GetBits group) s h = kept-write (isr_told handler op_index (Some (bits_at s group))) s h
-  kept-isr handler op_index (isr_op.Mark n) s h = kept-write (what.IsrMark handler n) s h
+  kept-isr : (app : Application) (handler op_index : ℕ) (op : IsrOp) (s : State) → P s → P (isr app handler op_index op s)
+  kept-isr app handler op_index (isr_op.Do o a) s h = kept-write (isr_told handler op_index (answer_to s o a)) (attempt None o a s) (kept-attempt None o a s h)
+  kept-isr app handler op_index (isr_op.Command c) s h =
+      let send : Access = Send (item_of c) in
+      kept-write (isr_told handler op_index (answer_to s (commands_of app) send)) (attempt None (commands_of app) send s) (kept-attempt None (commands_of app) send s h)
+  kept-isr app handler op_index (isr_op.Resume i) s h = kept-write (isr_told handler op_index (one_if (can_resume (status_at s i)))) (resume i s) (kept-resume i s h)
+  kept-isr app handler op_index (isr_op.GetBits group) s h = kept-write (isr_told handler op_index (Some (bits_at s group))) s h
+  kept-isr app handler op_index (isr_op.Mark n) s h = kept-write (what.IsrMark handler n) s h
 
-  kept-isr_each : (handler op_index : ℕ) (ops : List IsrOp) (s : State) → P s → P (isr_each handler op_index ops s)
-  kept-isr_each handler op_index [] s h = h
-  kept-isr_each handler op_index (op ∷ ops) s h = kept-isr_each handler (op_index + 1) ops (isr handler op_index op s) (kept-isr handler op_index op s h)
+  kept-isr_each : (app : Application) (handler op_index : ℕ) (ops : List IsrOp) (s : State) → P s → P (isr_each app handler op_index ops s)
+  kept-isr_each app handler op_index [] s h = h
+  kept-isr_each app handler op_index (op ∷ ops) s h =
+      kept-isr_each app handler (op_index + 1) ops (isr app handler op_index op s) (kept-isr app handler op_index op s h)
 
   kept-handle : (app : Application) (handler : ℕ) (s : State) → P s → P (handle app handler s)
   unfolding handle
-  kept-handle app handler s h = kept-isr_each handler 0 (ops_of app handler) s h
+  kept-handle app handler s h = kept-isr_each app handler 0 (ops_of app handler) s h
 
   kept-each : {A : Type 0} (deed : A → State → State) (k : (a : A) (s : State) → P s → P (deed a s)) (ones : List A) (s : State) → P s → P (for_each deed ones s)
   kept-each deed k [] s h = h
@@ -512,6 +567,8 @@ module _ (P : State → Type 0)
   kept-act app i (WaitBits g c ticks) s h = kept-wait_bits app i g c ticks (call_at s i).phase s h
   kept-act app i (Suspend j) s h = kept-replied app i _ (suspend j s) (kept-suspend j s h)
   kept-act app i (Resume j) s h = kept-replied app i _ (resume j s) (kept-resume j s h)
+  kept-act app i (NextCommand o) s h = kept-next_command app i o (call_at s i).phase s h
+  kept-act app i Obey s h = kept-obey app i (command_at s i) (call_at s i).phase s h
   kept-act app i SuspendAll s h = let t : State = record s { suspensions = s.suspensions + 1 } in kept-answer app i (Some 0) t (framed s t refl refl refl h)
   kept-act app i ResumeAll s h = kept-unless_held preempt kept-preempt _ (kept-answer app i (Some 0) (resume_scheduler s) (kept-resume_scheduler s h))
 
@@ -546,17 +603,17 @@ module _ (P : State → Type 0)
 
 -- ---- a change of one task
 
-one_task : (ts : List Task) (i : ℕ) (t : Task) (j : ℕ) → ((get_or (set ts i t) j no_task ≡ t) × (j ≡ i)) ⊎ (get_or (set ts i t) j no_task ≡ get_or ts j no_task)
+pub one_task : (ts : List Task) (i : ℕ) (t : Task) (j : ℕ) → ((get_or (set ts i t) j no_task ≡ t) × (j ≡ i)) ⊎ (get_or (set ts i t) j no_task ≡ get_or ts j no_task)
 one_task [] i t j = inr refl
 one_task (u ∷ us) zero t zero = inl (refl, refl)
 one_task (u ∷ us) zero t (suc j) = inr refl
 one_task (u ∷ us) (suc i) t zero = inr refl
 one_task (u ∷ us) (suc i) t (suc j) = elim (one_task us i t j) [ inl e ↦ inl (e.0, ap suc e.1) | inr e ↦ inr e ]
 
-status_same : (a b : Task) → a ≡ b → a.status ≡ b.status
+pub status_same : (a b : Task) → a ≡ b → a.status ≡ b.status
 status_same a b e = ap (λ (t : Task). t.status) e
 
-ended_at_reset : (start : ℕ) (ds : List Definition) (i : ℕ) → (get_or (map (task_at_reset start) ds) i no_task).status ≡ Ended
+pub ended_at_reset : (start : ℕ) (ds : List Definition) (i : ℕ) → (get_or (map (task_at_reset start) ds) i no_task).status ≡ Ended
 ended_at_reset start [] i = refl
 ended_at_reset start (d ∷ ds) zero = refl
 ended_at_reset start (d ∷ ds) (suc i) = ended_at_reset start ds i
@@ -678,112 +735,3 @@ later-passed s h i =
 pub wake_later : (app : Application) (plan : List Injection) (n task : ℕ) → Later (state_after app plan n).time (status_at (state_after app plan n) task)
 unfolding nobody_ready
 wake_later app plan n task = kept_after WakeLater later-framed later-moved later-taken later-passed app (λ i. subst (Later app.start) (sym (ended_at_reset app.start app.tasks i)) tt) plan n task
-
--- ---- two tasks have two tickets
-
-abbrev Below : ℕ → Status → Type 0
-Below next u = IfSome (ticket_of u) (λ ticket. ticket < next)
-
-record TicketsApart (s : State) : Type 0 where
-  pub below : (i : ℕ) → Below s.next_ticket (status_at s i)
-  pub apart : (i j ticket : ℕ) → ticket_of (status_at s i) ≡ Some ticket → ticket_of (status_at s j) ≡ Some ticket → i ≡ j
-
-apart-framed : (s t : State) → t.tasks ≡ s.tasks → t.next_ticket ≡ s.next_ticket → t.time ≡ s.time → TicketsApart s → TicketsApart t
-apart-framed s t e n m h =
-    let at : (i : ℕ) → status_at t i ≡ status_at s i = λ i. ap (λ ts. (get_or ts i no_task).status) e in
-    record {
-      below = λ i. let P : Status → Type 0 = λ u. Below t.next_ticket u in let Q : ℕ → Type 0 = λ next. Below next (status_at s i) in subst P (sym (at i)) (subst Q (sym n) (h.below i));
-      apart = λ i j ticket a b. h.apart i j ticket (ap ticket_of (sym (at i)) ∙ a) (ap ticket_of (sym (at j)) ∙ b);
-    }
-
-below_more : (n : ℕ) (u : Status) → Below n u → Below (n + 1) u
-below_more n u h = by_option (ticket_of u) h where
-  by_option : (o : Option ℕ) → IfSome o (λ ticket. ticket < n) → IfSome o (λ ticket. ticket < n + 1)
-  by_option None h = tt
-  by_option (Some ticket) h = omega arith
-
--- whose ticket is whose, where a task was set
-module _ (s : State) (k : ℕ) (t : Task) (h : TicketsApart s) where
-  new_at : ℕ → Status
-  new_at i = (get_or (set s.tasks k t) i no_task).status
-
-  -- the task's ticket is one that it had, or above all
-  module _ (fresh : (ticket : ℕ) → ticket_of t.status ≡ Some ticket → (ticket_of (status_at s k) ≡ Some ticket) ⊎ (s.next_ticket ≤ ticket)) where
-    not_old : (j ticket : ℕ) → s.next_ticket ≤ ticket → ticket_of (status_at s j) ≡ Some ticket → ⊥
-    not_old j ticket l e = let P : Option ℕ → Type 0 = λ o. IfSome o (λ n. n < s.next_ticket) in let b = subst P e (h.below j) in omega arith
-
-    one_new : (i j ticket : ℕ) → new_at i ≡ t.status → i ≡ k → new_at j ≡ status_at s j → ticket_of (new_at i) ≡ Some ticket → ticket_of (new_at j) ≡ Some ticket → i ≡ j
-    one_new i j ticket e same f a b =
-        let old : ticket_of (status_at s j) ≡ Some ticket = ap ticket_of (sym f) ∙ b in
-        elim (fresh ticket (ap ticket_of (sym e) ∙ a)) [
-          | inl had ↦ same ∙ h.apart k j ticket had old
-          | inr above ↦ absurd (not_old j ticket above old)
-        ]
-
-    apart-set : (i j ticket : ℕ) → ticket_of (new_at i) ≡ Some ticket → ticket_of (new_at j) ≡ Some ticket → i ≡ j
-    unfolding new_at
-    apart-set i j ticket a b = elim (one_task s.tasks k t i) [
-      | inl e ↦ elim (one_task s.tasks k t j) [
-        | inl f ↦ e.1 ∙ sym f.1
-        | inr f ↦ one_new i j ticket (status_same _ t e.0) e.1 (status_same _ _ f) a b
-      ]
-      | inr e ↦ elim (one_task s.tasks k t j) [
-        | inl f ↦ sym (one_new j i ticket (status_same _ t f.0) f.1 (status_same _ _ e) b a)
-        | inr f ↦ h.apart i j ticket (ap ticket_of (sym (status_same _ _ e)) ∙ a) (ap ticket_of (sym (status_same _ _ f)) ∙ b)
-      ]
-    ]
-
-  below-set : (next : ℕ) → Below next t.status → ((j : ℕ) → Below next (status_at s j)) → (i : ℕ) → Below next (new_at i)
-  unfolding new_at
-  below-set next l g i = elim (one_task s.tasks k t i) [
-    | inl e ↦ subst (Below next) (sym (status_same _ t e.0)) l
-    | inr e ↦ subst (Below next) (sym (status_same _ _ e)) (g i)
-  ]
-
-apart-moved : (s : State) (i : ℕ) (t : Task) → Stays (status_at s i) t.status → t.base_priority ≡ (task_at s i).base_priority → TicketsApart s → TicketsApart (with_task i t s)
-unfolding new_at
-apart-moved s i t u base h =
-    let B : Option ℕ → Type 0 = λ o. IfSome o (λ ticket. ticket < s.next_ticket) in
-    record {
-      below = below-set s i t h s.next_ticket (elim u [ inl e ↦ subst B (sym e.0) (h.below i) | inr e ↦ subst B (sym e.0) tt ]) h.below;
-      apart = apart-set s i t h (λ ticket a. elim u [
-        | inl e ↦ inl (sym e.0 ∙ a)
-        | inr e ↦ (let none : None ≡ Some ticket = sym e.0 ∙ a in absurd (cc))
-      ]);
-    }
-
-apart-taken : (s : State) (i : ℕ) (f : ℕ → Status) → ticket_of (f s.next_ticket) ≡ Some s.next_ticket → IfSome (wake_time_of (f s.next_ticket)) (λ w. s.time < w) → TicketsApart s → TicketsApart (take_ticket i f s)
-unfolding new_at
-apart-taken s i f is later h =
-    let t : Task = record (task_at s i) { status = f s.next_ticket } in
-    let P : Option ℕ → Type 0 = λ o. IfSome o (λ ticket. ticket < s.next_ticket + 1) in
-    record {
-      below = below-set s i t h (s.next_ticket + 1) (subst P (sym is) (omega arith)) (λ j. below_more s.next_ticket (status_at s j) (h.below j));
-      apart = apart-set s i t h (λ ticket a. inr (let e : Some s.next_ticket ≡ Some ticket = sym is ∙ a in let q : s.next_ticket ≡ ticket = cc in omega arith));
-    }
-
-apart-ready : (s : State) (i : ℕ) → TicketsApart s → TicketsApart (make_ready i s)
-apart-ready s i h = apart-taken s i Ready refl tt h
-
-apart-all_ready : (is : List ℕ) (s : State) → TicketsApart s → TicketsApart (for_each make_ready is s)
-apart-all_ready [] s h = h
-apart-all_ready (i ∷ is) s h = apart-all_ready is (make_ready i s) (apart-ready s i h)
-
-apart-passed : (s : State) → TicketsApart s → TicketsApart (wake_due (record s { time = s.time + 1 }))
-unfolding wake_due
-apart-passed s h =
-    let t : State = record s { time = s.time + 1 } in
-    apart-all_ready (tasks_of (due t)) t (record { below = h.below; apart = h.apart })
-
-apart-nobody : (app : Application) → TicketsApart (nobody_ready app)
-unfolding nobody_ready
-apart-nobody app =
-    let none : (i : ℕ) → ticket_of (get_or (map (task_at_reset app.start) app.tasks) i no_task).status ≡ None = λ i. ap ticket_of (ended_at_reset app.start app.tasks i) in
-    let P : Option ℕ → Type 0 = λ o. IfSome o (λ ticket. ticket < 0) in
-    record {
-      below = λ i. subst P (sym (none i)) tt;
-      apart = λ i j ticket a b. let f = none i in absurd (let g : None ≡ Some ticket = sym f ∙ a in cc);
-    }
-
-pub tickets_apart : (app : Application) (plan : List Injection) (n a b ticket : ℕ) → ticket_of (status_at (state_after app plan n) a) ≡ Some ticket → ticket_of (status_at (state_after app plan n) b) ≡ Some ticket → a ≡ b
-tickets_apart app plan n a b ticket = (kept_after TicketsApart apart-framed apart-moved apart-taken apart-passed app (apart-nobody app) plan n).apart a b ticket

@@ -1,11 +1,13 @@
 -- Idle runs only where no task is Ready, and after a tick nobody outranks the running task.
 use Rattle.std.proofs.Common.{◌≡◌, ◌≤◌, ◌||◌, ◌&&◌, ◌+◌, ℕ, zero, suc, Bool, true, false, eqb, leb, ltb, List, [], ◌∷◌, Option, Some, None, refl, sym, subst, ◌∙◌, arith}
 use Rattle.std.specs.List.{AllByRecursion, list_any}
-use Rattle.std.specs.Option.{option_eq, is_some}
+use Rattle.std.specs.Option.{option_eq}
 use Rattle.std.proofs.lemmas.Bool.{le-ltb}
 use Rattle.model.specs.declared.op.Op.{Op}
-use Rattle.model.specs.declared.op.Op.TheVariants.{Work, Delay, DelayUntil, Yield, Time, Mark, Expect, Repeat, End, Await, Do, GiveMutex, MessagesWaiting, SpacesAvailable, SetBits, ClearBits, GetBits, WaitBits, Suspend, Resume, SuspendAll, ResumeAll}
+use Rattle.model.specs.declared.op.Op.TheVariants.{Work, Delay, DelayUntil, Yield, Time, Mark, Expect, Repeat, End, Await, Do, GiveMutex, MessagesWaiting, SpacesAvailable, SetBits, ClearBits, GetBits, WaitBits, Suspend, Resume, SuspendAll, ResumeAll, NextCommand, Obey}
 use Rattle.model.specs.declared.op.Access.{Access}
+use Rattle.model.specs.declared.op.Access.TheVariants.{Receive}
+use Rattle.model.specs.declared.op.Command.{Command}
 use Rattle.model.specs.declared.call.Condition.{Condition}
 use Rattle.model.specs.declared.call.Phase.{Phase}
 use Rattle.model.specs.declared.call.Phase.TheVariants.{Start, Try, Decide, Place, Unlock, Leave, Final}
@@ -25,6 +27,7 @@ use Rattle.model.specs.Time.{advance, due, increment_tick, sleep, set_previous_w
 use Rattle.model.specs.Ops.{go_to, answer, use_up, delay, delay_until, expect, open_loop, turn, close_turn}
 use Rattle.model.specs.Groups.{is_met, begin_set, set_bits, clear, answer_bits, wait_for_bits, begin_bits_wait, check, final_bits, wait_bits}
 use Rattle.model.specs.Suspension.{call_suspend, call_resume, suspend_all, resume_scheduler, resume_all}
+use Rattle.model.specs.Daemon.{take_command, next_command, obeyed, clear_by_daemon, obey, command_at}
 use Rattle.model.specs.Step.{is_ended, judge, act, misuse, act_unless, act_if, act_current, before_step, step, ready_at_reset, reset}
 use Rattle.model.specs.Run.{injected, state_after}
 use Rattle.model.proofs.Sorting.{by_test, Falls, Falls-in_order, IsAfter}
@@ -232,6 +235,38 @@ idle-wait_bits app i g c ticks Place s r = idle-final app i g c s r
 idle-wait_bits app i g c ticks Unlock s r = idle-final app i g c s r
 idle-wait_bits app i g c ticks Final s r = idle-final app i g c s r
 
+-- ---- the daemon
+
+idle-take_command : (app : Application) (i o : ℕ) (s : State) → s.current ≡ Some i → IdleAlone (take_command app i o s)
+unfolding take_command
+idle-take_command app i o s r = by_test (possible s o Receive)
+    (λ t. rw t (idle-preempt _))
+    (λ t. rw t (still_runs i s (go_on i Decide s) r refl))
+
+idle-next_command : (app : Application) (i o : ℕ) (phase : Phase) (s : State) → s.current ≡ Some i → IdleAlone (next_command app i o phase s)
+idle-next_command app i o Start s r = idle-take_command app i o s r
+idle-next_command app i o Try s r = idle-take_command app i o s r
+idle-next_command app i o Decide s r = idle-await app i o Receive None Decide s r
+idle-next_command app i o Place s r = idle-await app i o Receive None Place s r
+idle-next_command app i o Unlock s r = idle-await app i o Receive None Unlock s r
+idle-next_command app i o Leave s r = idle-await app i o Receive None Leave s r
+idle-next_command app i o Final s r = idle-await app i o Receive None Final s r
+
+idle-begin_command : (app : Application) (i : ℕ) (c : Command) (s : State) → s.current ≡ Some i → IdleAlone (obey app i c Start s)
+unfolding clear_by_daemon obeyed go_to begin_set
+idle-begin_command app i c s r = by_test c.clear
+    (λ t. rw t (still_runs i s (clear_by_daemon app i c.group c.mask s) r refl))
+    (λ t. rw t (still_runs i s (begin_set i c.group c.mask s) r (stays-set c.group c.mask (record s { call_hold = true })).current))
+
+idle-obey : (app : Application) (i : ℕ) (c : Command) (phase : Phase) (s : State) → s.current ≡ Some i → IdleAlone (obey app i c phase s)
+idle-obey app i c Start s r = idle-begin_command app i c s r
+idle-obey app i c Try s r = idle-preempt _
+idle-obey app i c Decide s r = idle-preempt _
+idle-obey app i c Place s r = idle-preempt _
+idle-obey app i c Unlock s r = idle-preempt _
+idle-obey app i c Leave s r = idle-preempt _
+idle-obey app i c Final s r = idle-preempt _
+
 -- ---- the scheduler resumed
 
 idle-resume_all : (app : Application) (i : ℕ) (s : State) → s.current ≡ Some i → IdleAlone (resume_all app i s)
@@ -268,6 +303,8 @@ idle-act app i (GetBits g) s r = still_runs i s (act app i (GetBits g) s) r refl
 idle-act app i (WaitBits g c ticks) s r = idle-wait_bits app i g c ticks (call_at s i).phase s r
 idle-act app i (Suspend j) s r = idle-preempt _
 idle-act app i (Resume j) s r = idle-preempt _
+idle-act app i (NextCommand o) s r = idle-next_command app i o (call_at s i).phase s r
+idle-act app i Obey s r = idle-obey app i (command_at s i) (call_at s i).phase s r
 idle-act app i SuspendAll s r = still_runs i s (act app i SuspendAll s) r refl
 idle-act app i ResumeAll s r = idle-resume_all app i s r
 

@@ -3,6 +3,7 @@ pub mod ExampleRuns
 pub mod LatePoints
 pub mod Idle
 pub mod Changes
+pub mod Tickets
 pub mod Held
 pub mod Priorities
 pub mod Ends

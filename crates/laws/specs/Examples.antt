@@ -1,5 +1,5 @@
 -- Worked examples: applications, and what their runs come to.
-use Rattle.std.specs.Prelude.{ℕ, List, [], ◌∷◌, Some, None, codes}
+use Rattle.std.specs.Prelude.{ℕ, false, List, [], ◌∷◌, Some, None, codes}
 use Rattle.model.specs.declared.object.ObjectKind.{ObjectKind}
 use Rattle.model.specs.declared.object.ObjectKind.TheVariants.{Queue}
 use Rattle.model.specs.declared.op.Access.{Access}
@@ -21,19 +21,19 @@ wide = record { ticks = 1000000; steps = 1000000 }
 
 -- a task of priority 1
 abbrev pub a_task : List ℕ → List Op → Definition
-a_task name script = record { name = name; priority = 1; script = script }
+a_task name script = record { name = name; priority = 1; endless = false; script = script }
 
 -- an application that starts at this time, without objects
 abbrev pub the_application : ℕ → List Definition → Application
-the_application start tasks = record { start = start; limits = wide; objects = []; group_count = 0; handlers = []; interrupts = []; tasks = tasks; points = [] }
+the_application start tasks = record { start = start; limits = wide; objects = []; group_count = 0; handlers = []; interrupts = []; tasks = tasks; daemon = None; points = [] }
 
 -- a task of this priority
 abbrev pub a_task_of : ℕ → List ℕ → List Op → Definition
-a_task_of priority name script = record { name = name; priority = priority; script = script }
+a_task_of priority name script = record { name = name; priority = priority; endless = false; script = script }
 
 -- an application of these objects and these tasks, that starts at 0
 abbrev pub with_objects : List ObjectKind → List Definition → Application
-with_objects objects tasks = record { start = 0; limits = wide; objects = objects; group_count = 0; handlers = []; interrupts = []; tasks = tasks; points = [] }
+with_objects objects tasks = record { start = 0; limits = wide; objects = objects; group_count = 0; handlers = []; interrupts = []; tasks = tasks; daemon = None; points = [] }
 
 -- one with one queue of length 1
 abbrev pub with_queue : List Definition → Application

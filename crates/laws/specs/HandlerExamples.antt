@@ -1,5 +1,5 @@
 -- Worked examples with interrupt handlers: applications, what is injected, and what their runs come to.
-use Rattle.std.specs.Prelude.{ℕ, Bool, true, false, List, [], ◌∷◌, Some, codes}
+use Rattle.std.specs.Prelude.{ℕ, Bool, true, false, List, [], ◌∷◌, Some, None, codes}
 use Rattle.model.specs.declared.object.ObjectKind.{ObjectKind}
 use Rattle.model.specs.declared.object.ObjectKind.TheVariants.{Queue}
 use Rattle.model.specs.declared.op.Access.TheVariants.{Send, Receive, Peek}
@@ -31,6 +31,7 @@ with_handler objects ops tasks = record {
   handlers = record { name = codes "h"; ops = ops } ∷ [];
   interrupts = [];
   tasks = tasks;
+  daemon = None;
   points = [];
 }
 

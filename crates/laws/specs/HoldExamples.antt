@@ -1,5 +1,5 @@
 -- Worked examples with event groups, suspended tasks and a held scheduler: applications, and what their runs come to.
-use Rattle.std.specs.Prelude.{ℕ, Bool, true, false, List, [], ◌∷◌, Some, None, codes}
+use Rattle.std.specs.Prelude.{ℕ, true, false, List, [], ◌∷◌, None, codes}
 use Rattle.model.specs.declared.object.ObjectKind.TheVariants.{Queue}
 use Rattle.model.specs.declared.op.Access.TheVariants.{Send, Receive}
 use Rattle.model.specs.declared.op.Op.{Op}
@@ -8,7 +8,7 @@ use Rattle.model.specs.declared.event.Misuse.TheVariants.{WhileSuspended, NotSus
 use Rattle.model.specs.declared.event.End.TheVariants.{Pass, Misuse}
 use Rattle.model.specs.declared.event.What.TheVariants as what
 use Rattle.model.specs.Application.{Application, Definition}
-use Rattle.laws.specs.Examples.{a_task, a_task_of, the_application, with_objects, with_queue, on_queue, a, b, c, event_at, call, runs, idles}
+use Rattle.laws.specs.Examples.{a_task, a_task_of, the_application, with_queue, on_queue, a, b, c, event_at, call, runs, idles}
 use Rattle.laws.specs.HandlerExamples.{Injected, with_handler, interrupted_at, sends, isr}
 
 -- ---- words

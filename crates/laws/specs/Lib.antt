@@ -1,4 +1,5 @@
 pub mod Choice
+pub mod DaemonExamples
 pub mod Examples
 pub mod HandlerExamples
 pub mod HoldExamples

@@ -4,6 +4,7 @@ ghost use Rattle.laws.specs.Examples.{examples, Runs};
 ghost use Rattle.laws.specs.MutexExamples.{mutex_examples};
 ghost use Rattle.laws.specs.HandlerExamples.{injected_examples, RunsWith, rows, rows_of_two, RowIs};
 ghost use Rattle.laws.specs.HoldExamples.{hold_examples};
+ghost use Rattle.laws.specs.DaemonExamples.{daemon_examples, daemon_rows};
 
 /// Each application of the table of worked examples runs as the table says: round robin, `delay 0` that yields, `delay 1`
 /// that sleeps, sleepers of one time past the wrap of the tick; a receive that times out, a peek that passes a wake on, a send
@@ -44,4 +45,11 @@ pub fn rows_of_one_receive()
 /// does nothing. Where the first is at the base run's end, the row is the base run.
 pub fn rows_of_two_injections()
     ensures { AllByRecursion RowIs rows_of_two }
+{}
+
+/// Each application of the table of examples with a daemon runs as the table says: a set of bits that a handler defers, whose second
+/// command finds no room; two commands that come in the daemon's own window; a run that passes while a command is still to be done.
+pub fn examples_with_a_daemon_run()
+    ensures rows { AllByRecursion RowIs daemon_rows }
+    ensures runs { AllByRecursion RunsWith daemon_examples }
 {}

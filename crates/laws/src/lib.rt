@@ -9,8 +9,8 @@ mod states;
 
 pub use campaigns::{ends_add_up, unreached_row_is_the_base_run};
 pub use examples::{
-    examples_run, examples_with_handlers_run, examples_with_holds_run, examples_with_mutexes_run,
-    rows_of_one_receive, rows_of_two_injections,
+    examples_run, examples_with_a_daemon_run, examples_with_handlers_run, examples_with_holds_run,
+    examples_with_mutexes_run, rows_of_one_receive, rows_of_two_injections,
 };
 pub use runs::{late_points_do_nothing, row_is_one, run_is_one};
 pub use states::{

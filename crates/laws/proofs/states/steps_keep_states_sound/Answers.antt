@@ -1,4 +1,4 @@
-use Rattle.std.proofs.Common.{◌≤◌, ℕ, suc, List, arith}
+use Rattle.std.proofs.Common.{◌≤◌, ℕ, List, arith}
 use Rattle.model.specs.Application.{Application}
 use Rattle.model.specs.State.{State}
 use Rattle.model.specs.Step.{step}

@@ -1,4 +1,4 @@
-use Rattle.laws.proofs.Changes.{tickets_apart}
+use Rattle.laws.proofs.Tickets.{tickets_apart}
 use Rattle.laws.proofs.states.tickets_differ.Goals as goal
 
 pub returns : goal.returns
