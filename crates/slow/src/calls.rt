@@ -115,7 +115,12 @@ impl SlowKernel {
     }
 
     /// A possible call of a task or (none) of a handler is done, and wakes one task at most. It answers as the call.
-    fn fulfil(&mut self, caller: Option<TaskId>, object: u8, access: Access) -> Option<u32> {
+    pub(super) fn fulfil(
+        &mut self,
+        caller: Option<TaskId>,
+        object: u8,
+        access: Access,
+    ) -> Option<u32> {
         let done = self.objects.get_mut(object as usize)?.act(caller, access);
         if let Some(side) = woken_side(caller, access) {
             self.wake_best(object, side);

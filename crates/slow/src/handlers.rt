@@ -13,21 +13,19 @@ impl SlowKernel {
         answer
     }
 
-    /// An op of a handler.
-    fn isr(&mut self, handler: HandlerId, op_index: u16, op: &IsrOp) {
-        let what = match *op {
-            IsrOp::Mark(number) => What::IsrMark(handler, number),
-            IsrOp::Do(object, access) => match self.attempt_isr(object.number, access) {
-                Some(answer) => What::Isr(handler, op_index, answer),
-                None => What::IsrNone(handler, op_index),
-            },
-            IsrOp::Resume(task) => {
-                let does = self.resume(task);
-                What::Isr(handler, op_index, does as u32)
-            }
-            IsrOp::GetBits(group) => What::Isr(handler, op_index, self.bits(group)),
+    /// An op of a handler, which tells its answer.
+    fn isr(&mut self, app: &App, handler: HandlerId, op_index: u16, op: &IsrOp) {
+        let answer = match *op {
+            IsrOp::Mark(number) => return self.write(What::IsrMark(handler, number)),
+            IsrOp::Do(object, access) => self.attempt_isr(object.number, access),
+            IsrOp::Command(command) => self.send_command(app, command),
+            IsrOp::Resume(task) => Some(self.resume(task) as u32),
+            IsrOp::GetBits(group) => Some(self.bits(group)),
         };
-        self.write(what);
+        self.write(match answer {
+            Some(answer) => What::Isr(handler, op_index, answer),
+            None => What::IsrNone(handler, op_index),
+        });
     }
 
     /// The handler does its ops one after another, and nothing switches.
@@ -37,7 +35,7 @@ impl SlowKernel {
         };
         let mut op_index: u16 = 0;
         for op in definition.ops() {
-            self.isr(handler, op_index, op);
+            self.isr(app, handler, op_index, op);
             op_index = op_index.wrapping_add(1);
         }
     }

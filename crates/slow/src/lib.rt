@@ -9,6 +9,7 @@ use std::alloc::Global;
 use waits_for_bits::BitWait;
 
 mod calls;
+mod daemon;
 mod handlers;
 mod misuses;
 mod mutexes;
@@ -116,6 +117,13 @@ pub struct Tally {
     pub not_suspended: u32,
     pub not_holder: u32,
     pub ended_suspended: u32,
+    /// A command came to the daemon; one found no room; one came while the daemon's own call had locked the queue.
+    pub commands: u32,
+    pub refused_commands: u32,
+    pub window_commands: u32,
+    /// The daemon set bits for a handler; it cleared some.
+    pub sets_by_daemon: u32,
+    pub clears_by_daemon: u32,
 }
 
 /// Counts something, where it is so.
@@ -555,6 +563,8 @@ impl SlowKernel {
             Op::Resume(other) => self.call_resume(app, id, other),
             Op::SuspendAll => self.suspend_all(app, id),
             Op::ResumeAll => self.resume_all(app, id),
+            Op::NextCommand(queue) => self.next_command(app, id, queue.number),
+            Op::Obey => self.obey(app, id),
         }
     }
 
@@ -590,10 +600,19 @@ impl SlowKernel {
         false
     }
 
-    fn are_all_ended(&self) -> bool {
-        self.tasks
-            .iter()
-            .all(|task| matches!(task.status, Status::Ended))
+    fn is_ended(&self, task: TaskId) -> bool {
+        matches!(self.task(task).status, Status::Ended)
+    }
+
+    /// Whether all tasks but the endless ones have come to the end of their scripts.
+    fn are_all_ended(&self, app: &App) -> bool {
+        for number in 0..32 {
+            let task = TaskId { number };
+            if !self.is_ended(task) && !app.is_endless(task) {
+                return false;
+            }
+        }
+        true
     }
 
     /// Whether the running task is in the middle of a call: its next phase is Decide, Place, Unlock or Leave.
@@ -617,7 +636,7 @@ impl SlowKernel {
     pub fn end(&self, app: &App, limits: &Limits) -> Option<End> {
         if self.stopped.is_some() {
             self.stopped
-        } else if self.are_all_ended() {
+        } else if self.are_all_ended(app) {
             Some(End::Pass)
         } else if self.elapsed >= limits.ticks {
             Some(End::Ticks)

@@ -29,7 +29,7 @@ impl SlowKernel {
     }
 
     /// Sets just these bits of a group.
-    fn put(&mut self, group: GroupId, bits: u32) {
+    pub(super) fn put(&mut self, group: GroupId, bits: u32) {
         self.groups[group.number as usize] = bits;
     }
 
@@ -70,7 +70,7 @@ impl SlowKernel {
 
     /// The scheduler is held, and bits of a group are set. Each task that they meet wakes, and sees all of them; only then is
     /// cleared what these tasks asked for.
-    fn begin_set(&mut self, id: TaskId, group: GroupId, mask: u32) {
+    pub(super) fn begin_set(&mut self, id: TaskId, group: GroupId, mask: u32) {
         self.is_held = true;
         let bits = self.bits(group) | mask;
         let mut met: u32 = 0;
