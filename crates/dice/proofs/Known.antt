@@ -1,6 +1,6 @@
--- Ops that an application of given objects, two event groups and four tasks knows.
-use Rattle.std.proofs.Common.{◌≡◌, ◌≤◌, ◌<◌, ◌+◌, ℕ, Bool, ap, arith, length, length-append, refl, true, List, [], ◌∷◌, ◌++◌, Option, Some, None, sym, subst}
-use Rattle.std.specs.Prelude.{Result, Ok, Err, IfOk, OnOk, OnErr, filter, nat_eq, nat_lt, unwrap_or}
+-- Ops that an application of given objects, two event groups and four tasks of the file knows.
+use Rattle.std.proofs.Common.{◌≡◌, ◌≤◌, ◌<◌, ◌+◌, ℕ, Bool, ap, arith, length, length-append, refl, true, false, List, [], ◌∷◌, ◌++◌, Option, Some, None, sym, subst}
+use Rattle.std.specs.Prelude.{Result, Ok, Err, IfOk, IsTrue, OnOk, OnErr, filter, is_ok, nat_eq, nat_lt, unwrap_or, if◌then◌else◌}
 use Rattle.std.specs.List.{AllByRecursion}
 use Rattle.std.specs.Option.{IfSome, is_some}
 use Rattle.std.specs.Result.{result_ok}
@@ -8,12 +8,14 @@ use Rattle.model.specs.declared.object.ObjectKind.{ObjectKind}
 use Rattle.model.specs.declared.op.Op.{Op}
 use Rattle.std.proofs.lemmas.Bool.{lt-ltb}
 use Rattle.std.proofs.lemmas.List.{length-map}
+use Rattle.model.specs.declared.op.Command.{Command}
 use Rattle.model.specs.declared.op.IsrOp.{IsrOp}
-use Rattle.model.specs.Application.{Application, Definition, Handler, Interrupt, interrupts_at}
-use Rattle.model.specs.Scripts.{IsScript, IsHandler, IsInterrupt, KnowsAll, knows, knows_isr, most_handler_ops, most_name_bytes}
+use Rattle.model.specs.declared.op.IsrOp.TheVariants as isr
+use Rattle.model.specs.Application.{Application, Definition, Handler, Interrupt, interrupts_at, of_file}
+use Rattle.model.specs.Scripts.{IsScript, IsHandler, IsInterrupt, KnowsAll, is_mask, knows, knows_isr, most_handler_ops, most_name_bytes}
 use Rattle.model.proofs.Nesting.{all-append}
 use Rattle.model.proofs.Sorting.{by_test}
-use Rattle.dice.specs.Known.{AreInterrupts, AreKnown, IsKnown, IsKnownHandler, IsKnownIsr}
+use Rattle.dice.specs.Known.{AreInterrupts, AreKnown, IsKnown, IsKnownHandler, IsKnownIsrWith}
 
 -- a script to which an op was pushed, or not
 pub known-pushed : {A B : Type 0} (objects : List ObjectKind) (old new : List Op) (op : Op) (result : Result A B) → OnOk result (new ≡ old ++ op ∷ []) → OnErr result (new ≡ old) → AreKnown objects old → IsKnown objects op → AreKnown objects new
@@ -29,7 +31,7 @@ known-finished objects None ops h k = tt
 known-finished objects (Some script) ops h k = subst (AreKnown objects) (sym h.0) k
 
 -- such an application knows all ops of such tasks
-pub known_all : (app : Application) → app.group_count ≡ 2 → length app.tasks ≡ 4 → (tasks : List Definition)
+pub known_all : (app : Application) → app.group_count ≡ 2 → length (of_file app.daemon app.tasks) ≡ 4 → (tasks : List Definition)
     → AllByRecursion (λ (d : Definition). AreKnown app.objects d.script) tasks → AllByRecursion (KnowsAll app) tasks
 known_all app two four [] h = tt
 known_all app two four (d ∷ ds) h = (h.0 app refl two four, known_all app two four ds h.1)
@@ -40,32 +42,42 @@ known_all app two four (d ∷ ds) h = (h.0 app refl two four, known_all app two 
 pub knows_group : (app : Application) (group : ℕ) → app.group_count ≡ 2 → group < 2 → nat_lt group app.group_count ≡ true
 knows_group app group two first = lt-ltb group app.group_count (omega arith)
 
--- one of four tasks
-pub knows_task : (app : Application) (task : ℕ) → length app.tasks ≡ 4 → task < 4 → nat_lt task (length app.tasks) ≡ true
-knows_task app task four first = lt-ltb task (length app.tasks) (omega arith)
+-- one of four tasks of the file
+pub knows_task : (app : Application) (task : ℕ) → length (of_file app.daemon app.tasks) ≡ 4 → task < 4
+    → nat_lt task (length (of_file app.daemon app.tasks)) ≡ true
+knows_task app task four first = lt-ltb task (length (of_file app.daemon app.tasks)) (omega arith)
 
 -- ---- handlers
 
-known_ops : (app : Application) (objects : List ObjectKind) → app.objects ≡ objects → app.group_count ≡ 2 → length app.tasks ≡ 4
-    → (ops : List IsrOp) → AllByRecursion (IsKnownIsr objects) ops → AllByRecursion (λ op. knows_isr app op ≡ true) ops
-known_ops app objects same two four [] h = tt
-known_ops app objects same two four (op ∷ ops) h = (h.0 app same two four, known_ops app objects same two four ops h.1)
+-- a command of one of two event groups, where there is a daemon
+pub known_command : (app : Application) (has_daemon : Bool) (c : Command) → is_some app.daemon ≡ has_daemon → IsTrue has_daemon
+    → app.group_count ≡ 2 → c.group < 2 → is_mask c.mask ≡ true → knows_isr app (isr.Command c) ≡ true
+known_command app true c has is two first mask = rw (has, knows_group app c.group two first, mask) refl
+known_command app false c has is two first mask = absurd (cc)
+
+known_ops : (app : Application) (has_daemon : Bool) (objects : List ObjectKind) → app.objects ≡ objects → app.group_count ≡ 2
+    → length (of_file app.daemon app.tasks) ≡ 4 → is_some app.daemon ≡ has_daemon → (ops : List IsrOp)
+    → AllByRecursion (IsKnownIsrWith has_daemon objects) ops → AllByRecursion (λ op. knows_isr app op ≡ true) ops
+known_ops app has_daemon objects same two four has [] h = tt
+known_ops app has_daemon objects same two four has (op ∷ ops) h =
+    (h.0 app same two four has, known_ops app has_daemon objects same two four has ops h.1)
 
 -- a handler of a short name and few ops that are known
-pub known_handler : (objects : List ObjectKind) (handler : Handler) → length handler.name ≤ most_name_bytes
-    → length handler.ops ≤ most_handler_ops → AllByRecursion (IsKnownIsr objects) handler.ops → IsKnownHandler objects handler
-known_handler objects handler name few known app same two four = record {
+pub known_handler : (has_daemon : Bool) (objects : List ObjectKind) (handler : Handler) → length handler.name ≤ most_name_bytes
+    → length handler.ops ≤ most_handler_ops → AllByRecursion (IsKnownIsrWith has_daemon objects) handler.ops
+    → IsKnownHandler has_daemon objects handler
+known_handler has_daemon objects handler name few known app same two four has = record {
   name = name;
   few = few;
-  known = known_ops app objects same two four handler.ops known;
+  known = known_ops app has_daemon objects same two four has handler.ops known;
 }
 
-pub are_handlers : (app : Application) (objects : List ObjectKind) → app.objects ≡ objects → app.group_count ≡ 2
-    → length app.tasks ≡ 4 → (handlers : List Handler) → AllByRecursion (IsKnownHandler objects) handlers
-    → AllByRecursion (IsHandler app) handlers
-are_handlers app objects same two four [] h = tt
-are_handlers app objects same two four (handler ∷ handlers) h =
-    (h.0 app same two four, are_handlers app objects same two four handlers h.1)
+pub are_handlers : (app : Application) (has_daemon : Bool) (objects : List ObjectKind) → app.objects ≡ objects → app.group_count ≡ 2
+    → length (of_file app.daemon app.tasks) ≡ 4 → is_some app.daemon ≡ has_daemon → (handlers : List Handler)
+    → AllByRecursion (IsKnownHandler has_daemon objects) handlers → AllByRecursion (IsHandler app) handlers
+are_handlers app has_daemon objects same two four has [] h = tt
+are_handlers app has_daemon objects same two four has (handler ∷ handlers) h =
+    (h.0 app same two four has, are_handlers app has_daemon objects same two four has handlers h.1)
 
 -- ---- base interrupts
 
@@ -127,3 +139,8 @@ few_at app tick =
 pub of_ok : {T E : Type 0} (r : Result T E) (P : T → Type 0) (x : T) → Some x ≡ result_ok r → IfOk r P → P x
 of_ok {T} (Ok y) P x e h = subst P (sym (ap (λ (o : Option T). unwrap_or o x) e)) h
 of_ok {T} (Err y) P x e h = let f = ap (λ (o : Option T). is_some o) e in absurd (cc)
+
+-- what a list is after a call that may fail and did not
+pub if_ok : {T E X : Type 0} (r : Result T E) (new more old : X) (x : T) → Some x ≡ result_ok r → new ≡ (if is_ok r then more else old) → new ≡ more
+if_ok (Ok y) new more old x e h = h
+if_ok {T} (Err y) new more old x e h = let f = ap (λ (o : Option T). is_some o) e in absurd (cc)

@@ -1,35 +1,75 @@
--- What may stand in an application as soon as it has these objects, two event groups, four tasks, or three handlers.
-use Rattle.std.specs.Prelude.{ℕ, ◌≡◌, ◌≤◌, ◌<◌, true, List, length}
-use Rattle.std.specs.List.{AllByRecursion}
+-- What may stand in an application as soon as it has these objects, two event groups, four tasks of the file, or three handlers.
+use Rattle.std.specs.Prelude.{ℕ, ◌≡◌, ◌≤◌, ◌<◌, ◌+◌, ◌-◌, Bool, true, false, List, [], ◌∷◌, Option, Some, None, is_some, IfSome, IsSomeAnd, length}
+use Rattle.std.specs.List.{AllByRecursion, slice_get}
 use Rattle.model.specs.declared.object.ObjectKind.{ObjectKind}
+use Rattle.model.specs.declared.op.Access.TheVariants.{Receive}
 use Rattle.model.specs.declared.op.Op.{Op}
+use Rattle.model.specs.declared.op.Op.TheVariants.{NextCommand, Obey}
 use Rattle.model.specs.declared.op.IsrOp.{IsrOp}
-use Rattle.model.specs.Application.{Application, Handler, Interrupt}
-use Rattle.model.specs.Scripts.{IsHandler, knows, knows_isr}
+use Rattle.model.specs.Application.{Application, Definition, Handler, Interrupt, of_file}
+use Rattle.model.specs.Scripts.{IsDefinition, IsHandler, fits, knows, knows_isr}
 
--- Every application of these objects, two event groups and four tasks knows the op.
+-- Every application of these objects, two event groups and four tasks of the file knows the op.
 abbrev pub IsKnown : List ObjectKind → Op → Type 0
 IsKnown objects op =
-    (app : Application) → app.objects ≡ objects → app.group_count ≡ 2 → length app.tasks ≡ 4 → knows app op ≡ true
+    (app : Application) → app.objects ≡ objects → app.group_count ≡ 2 → length (of_file app.daemon app.tasks) ≡ 4 → knows app op ≡ true
 
 -- It knows each of them.
 abbrev pub AreKnown : List ObjectKind → List Op → Type 0
 AreKnown objects ops =
-    (app : Application) → app.objects ≡ objects → app.group_count ≡ 2 → length app.tasks ≡ 4
+    (app : Application) → app.objects ≡ objects → app.group_count ≡ 2 → length (of_file app.daemon app.tasks) ≡ 4
     → AllByRecursion (λ op. knows app op ≡ true) ops
 
 -- Every such application knows the op of a handler.
 abbrev pub IsKnownIsr : List ObjectKind → IsrOp → Type 0
 IsKnownIsr objects op =
-    (app : Application) → app.objects ≡ objects → app.group_count ≡ 2 → length app.tasks ≡ 4 → knows_isr app op ≡ true
+    (app : Application) → app.objects ≡ objects → app.group_count ≡ 2 → length (of_file app.daemon app.tasks) ≡ 4
+    → knows_isr app op ≡ true
+
+-- Every such application that has a daemon, or has none, knows it.
+abbrev pub IsKnownIsrWith : (has_daemon : Bool) → List ObjectKind → IsrOp → Type 0
+IsKnownIsrWith has_daemon objects op =
+    (app : Application) → app.objects ≡ objects → app.group_count ≡ 2 → length (of_file app.daemon app.tasks) ≡ 4
+    → is_some app.daemon ≡ has_daemon → knows_isr app op ≡ true
 
 -- Every such application may have the handler.
-abbrev pub IsKnownHandler : List ObjectKind → Handler → Type 0
-IsKnownHandler objects handler =
-    (app : Application) → app.objects ≡ objects → app.group_count ≡ 2 → length app.tasks ≡ 4 → IsHandler app handler
+abbrev pub IsKnownHandler : (has_daemon : Bool) → List ObjectKind → Handler → Type 0
+IsKnownHandler has_daemon objects handler =
+    (app : Application) → app.objects ≡ objects → app.group_count ≡ 2 → length (of_file app.daemon app.tasks) ≡ 4
+    → is_some app.daemon ≡ has_daemon → IsHandler app handler
 
 -- base interrupts of three handlers, none after this tick
 pub record AreInterrupts (tick : ℕ) (interrupts : List Interrupt) : Type 0 where
   pub first : AllByRecursion (λ (i : Interrupt). 1 ≤ i.tick) interrupts
   pub last : AllByRecursion (λ (i : Interrupt). i.tick ≤ tick) interrupts
   pub known : AllByRecursion (λ (i : Interrupt). i.handler < 3) interrupts
+
+-- ---- the daemon
+
+-- the number of the daemon, if there is one
+abbrev pub daemon_number : (has_daemon : Bool) → Option ℕ
+daemon_number true = Some 4
+daemon_number false = None
+
+-- a queue
+abbrev pub IsCommandQueue : ObjectKind → Type 0
+IsCommandQueue kind = fits kind Receive ≡ true
+
+-- The last object is a queue, if there is a daemon.
+abbrev pub EndsWithQueue : (has_daemon : Bool) → List ObjectKind → Type 0
+EndsWithQueue true objects = IsSomeAnd (slice_get objects (length objects - 1)) IsCommandQueue
+EndsWithQueue false objects = Unit {0}
+
+-- the daemon whose queue is the last of these objects
+pub record IsDaemonOf (objects : List ObjectKind) (daemon : Definition) : Type 0 where
+  pub formed : IsDefinition daemon
+  pub endless : daemon.endless ≡ true
+  pub script : daemon.script ≡ NextCommand (length objects - 1) ∷ Obey ∷ []
+
+-- four tasks of the file, whose ops are known, and behind them the daemon, if there is one
+pub record AreTasks (has_daemon : Bool) (objects : List ObjectKind) (tasks : List Definition) : Type 0 where
+  pub four : length (of_file (daemon_number has_daemon) tasks) ≡ 4
+  pub formed : AllByRecursion IsDefinition tasks
+  pub known : AllByRecursion (λ (d : Definition). AreKnown objects d.script) (of_file (daemon_number has_daemon) tasks)
+  -- only the daemon comes behind them
+  pub behind : IfSome (daemon_number has_daemon) (λ daemon. (length tasks ≡ daemon + 1) × IsSomeAnd (slice_get tasks daemon) (IsDaemonOf objects))

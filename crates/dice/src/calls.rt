@@ -1,5 +1,5 @@
 //! Calls of tasks on objects.
-ghost use Rattle.std.specs.Prelude.{◌≤◌, ◌≡◌, true, Some, IfSome, length};
+ghost use Rattle.std.specs.Prelude.{◌≡◌, true, Some, IfSome};
 ghost use Rattle.std.specs.List.{slice_get};
 ghost use Rattle.model.specs.declared.object.ObjectKind.TheVariants as of_kind;
 ghost use Rattle.model.specs.Scripts.{InRange, fits, is_wait, may_interrupt, may_wait};
@@ -104,21 +104,18 @@ impl Dice {
         }
     }
 
-    /// The number of an object, if there is one.
-    pub(super) fn object_number(&mut self, objects: &[ObjectKind]) -> Option<ObjectId>
-        requires { length objects.now ≤ 4 }
-    {
-        let number = self.roll(4) % 1.max(objects.len() as u32);
-        ObjectId::new(number as u8)
+    /// The number of an object of the file, if there is one.
+    pub(super) fn object_number(&mut self) -> Option<ObjectId> {
+        let number = (self.roll(4) as u8).checked_rem(self.file_objects)?;
+        ObjectId::new(number)
     }
 
     /// A call on some object, if there is one.
     pub(super) fn call(&mut self, objects: &[ObjectKind]) -> Option<Op>
-        requires { length objects.now ≤ 4 }
         ensures range { IfSome result (λ op. InRange op) }
         ensures known { IfSome result (λ op. IsKnown objects.now op) }
     {
-        let object = self.object_number(objects)?;
+        let object = self.object_number()?;
         let kind = objects.get(object.number as usize).copied()?;
         Some(self.call_on(objects, object, kind))
     }

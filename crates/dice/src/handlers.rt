@@ -1,11 +1,13 @@
 //! Handlers, and base interrupts.
-ghost use Rattle.std.specs.Prelude.{◌+◌, ◌≤◌, ◌≡◌, Some, IfSome, length};
+ghost use Rattle.std.specs.Prelude.{◌+◌, ◌≤◌, ◌≡◌, IsTrue, Some, IfSome, length};
 ghost use Rattle.std.specs.List.{AllByRecursion, slice_get};
 ghost use Rattle.model.specs.declared.object.ObjectKind.TheVariants as of_kind;
-ghost use Rattle.dice.specs.Known.{AreInterrupts, IsKnownHandler, IsKnownIsr};
+ghost use Rattle.dice.specs.Known.{AreInterrupts, IsKnownHandler, IsKnownIsr, IsKnownIsrWith};
 
 use super::{Dice, Role, Theme};
-use model::{Access, HandlerDefinition, HandlerId, Interrupt, IsrOp, ObjectId, ObjectKind};
+use model::{
+    Access, Command, HandlerDefinition, HandlerId, Interrupt, IsrOp, ObjectId, ObjectKind,
+};
 use std::alloc::Global;
 
 impl Dice {
@@ -40,10 +42,9 @@ impl Dice {
 
     /// A call of a handler on some object, if there is one.
     fn isr_call(&mut self, objects: &[ObjectKind]) -> Option<IsrOp>
-        requires { length objects.now ≤ 4 }
         ensures { IfSome result (λ op. IsKnownIsr objects.now op) }
     {
-        let object = self.object_number(objects)?;
+        let object = self.object_number()?;
         let kind = objects.get(object.number as usize).copied()?;
         self.isr_call_on(objects, object, kind)
     }
@@ -71,10 +72,36 @@ impl Dice {
         }
     }
 
-    fn isr_op(&mut self, objects: &[ObjectKind]) -> IsrOp
-        requires { length objects.now ≤ 4 }
-        ensures { IsKnownIsr objects.now result }
+    /// A command that the daemon sets bits, or clears some.
+    #[tactic(auto, using(crate::proofs::Known::known_command))]
+    fn isr_command(&mut self, objects: &[ObjectKind], has_daemon: bool) -> IsrOp
+        requires { IsTrue has_daemon }
+        ensures { IsKnownIsrWith has_daemon objects.now result }
     {
+        let _ = objects;
+        IsrOp::Command(Command {
+            group: self.group(),
+            mask: self.mask(),
+            clear: self.roll(4) == 0,
+        })
+    }
+
+    /// Whether the next op of a handler is a command, where there is a daemon: mostly where tasks wait for bits, seldom where they
+    /// crowd about objects or contend for them.
+    fn commands(&mut self) -> bool {
+        match self.theme {
+            Theme::Crowd | Theme::Contest => self.roll(8) == 0,
+            Theme::Any | Theme::Suspension => self.roll(3) == 0,
+            Theme::Gathering => self.roll(3) > 0,
+        }
+    }
+
+    fn isr_op(&mut self, objects: &[ObjectKind], has_daemon: bool) -> IsrOp
+        ensures { IsKnownIsrWith has_daemon objects.now result }
+    {
+        if has_daemon && self.commands() {
+            return self.isr_command(objects, has_daemon);
+        }
         if self.resumes() {
             return self.isr_resume(objects);
         }
@@ -92,16 +119,16 @@ impl Dice {
         alloc: Global,
         name: &str,
         objects: &[ObjectKind],
+        has_daemon: bool,
     ) -> Option<HandlerDefinition>
-        requires name { length name.now ≤ 16 }
-        requires few { length objects.now ≤ 4 }
-        ensures { IfSome result (λ handler. IsKnownHandler objects.now handler) }
+        requires { length name.now ≤ 16 }
+        ensures { IfSome result (λ handler. IsKnownHandler has_daemon objects.now handler) }
     {
         self.role = Role::Any;
         let mut ops = Vec::new(alloc);
         let length = self.roll(6);
         for _ in 0..length {
-            ops.push(self.isr_op(objects)).ok()?;
+            ops.push(self.isr_op(objects, has_daemon)).ok()?;
         }
         let name = String::from_str(alloc, name).ok()?;
         Some(HandlerDefinition::new(name, ops))
@@ -114,15 +141,15 @@ impl Dice {
         alloc: Global,
         name: &str,
         objects: &[ObjectKind],
+        has_daemon: bool,
     ) -> Option<()>
-        requires name { length name.now ≤ 16 }
-        requires few { length objects.now ≤ 4 }
+        requires { length name.now ≤ 16 }
         ensures one { IfSome result (λ _. length handlers.new.items ≡ length handlers.old.items + 1) }
         ensures known { IfSome result (λ _.
-            AllByRecursion (IsKnownHandler objects.now) handlers.old.items
-            → AllByRecursion (IsKnownHandler objects.now) handlers.new.items) }
+            AllByRecursion (IsKnownHandler has_daemon objects.now) handlers.old.items
+            → AllByRecursion (IsKnownHandler has_daemon objects.now) handlers.new.items) }
     {
-        let handler = self.handler(alloc, name, objects)?;
+        let handler = self.handler(alloc, name, objects, has_daemon)?;
         handlers.push(handler).ok()
     }
 
@@ -131,16 +158,16 @@ impl Dice {
         &mut self,
         alloc: Global,
         objects: &[ObjectKind],
+        has_daemon: bool,
     ) -> Option<Vec<HandlerDefinition>>
-        requires { length objects.now ≤ 4 }
         ensures three { IfSome result (λ handlers. length handlers.items ≡ 3) }
         ensures known { IfSome result (λ handlers.
-            AllByRecursion (IsKnownHandler objects.now) handlers.items) }
+            AllByRecursion (IsKnownHandler has_daemon objects.now) handlers.items) }
     {
         let mut handlers = Vec::new(alloc);
-        self.add_handler(&mut handlers, alloc, "f", objects)?;
-        self.add_handler(&mut handlers, alloc, "g", objects)?;
-        self.add_handler(&mut handlers, alloc, "h", objects)?;
+        self.add_handler(&mut handlers, alloc, "f", objects, has_daemon)?;
+        self.add_handler(&mut handlers, alloc, "g", objects, has_daemon)?;
+        self.add_handler(&mut handlers, alloc, "h", objects, has_daemon)?;
         Some(handlers)
     }
 

@@ -7,6 +7,7 @@ ghost use Rattle.model.specs.Application.{Definition};
 ghost use Rattle.model.specs.Scripts.{InRange, IsScript, IsDefinition, is_wait};
 ghost use Rattle.dice.specs.Known.{AreKnown, IsKnown};
 
+use daemon::daemon_of;
 use model::{
     App, BaseInterrupts, Limits, ObjectId, ObjectKind, Op, Script, ScriptBuilder, TaskDefinition,
     TaskId,
@@ -14,6 +15,7 @@ use model::{
 use std::alloc::Global;
 
 mod calls;
+mod daemon;
 mod handlers;
 mod kinds;
 mod ops;
@@ -23,6 +25,8 @@ mod ops;
 pub struct Dice {
     state: u32,
     theme: Theme,
+    /// How many objects its file has: all but the daemon's queue, which is the last one.
+    file_objects: u8,
     /// What the calls of the present task or handler do.
     role: Role,
     /// Whether the present task sleeps first, and has the priority of those that don't or a higher one.
@@ -65,6 +69,7 @@ impl Dice {
         Dice {
             state: seed,
             theme,
+            file_objects: 0,
             role: Role::Any,
             is_late: false,
             held: [false; 4],
@@ -145,7 +150,6 @@ impl Dice {
 
     /// The op of this index.
     fn op_at(&mut self, index: u32, objects: &[ObjectKind]) -> Op
-        requires { length objects.now ≤ 4 }
         ensures range { InRange result }
         ensures known { IsKnown objects.now result }
     {
@@ -240,7 +244,6 @@ impl Dice {
     /// Up to eight ops. One that may not stand where it would is left out. Then the scheduler is resumed if it is suspended,
     /// mutexes that are held are given back, and loops that are open are closed.
     fn script(&mut self, alloc: Global, objects: &[ObjectKind]) -> Option<Script>
-        requires { length objects.now ≤ 4 }
         ensures script { IfSome result (λ script. IsScript script) }
         ensures known { IfSome result (λ script. AreKnown objects.now script) }
     {
@@ -272,15 +275,14 @@ impl Dice {
     }
 
     fn task(&mut self, alloc: Global, name: &str, objects: &[ObjectKind]) -> Option<TaskDefinition>
-        requires name { length name.now ≤ 16 }
-        requires few { length objects.now ≤ 4 }
+        requires { length name.now ≤ 16 }
         ensures task { IfSome result (λ task. IsDefinition task) }
         ensures known { IfSome result (λ task. AreKnown objects.now task.script) }
     {
         let priority = self.priority();
         let script = self.script(alloc, objects)?;
         let name = String::from_str(alloc, name).ok()?;
-        Some(TaskDefinition::new(name, priority, script))
+        Some(TaskDefinition::new(name, priority, false, script))
     }
 
     /// What the calls of the first two tasks do, and those of the others: where tasks crowd about queues and semaphores, or
@@ -302,8 +304,7 @@ impl Dice {
         name: &str,
         objects: &[ObjectKind],
     ) -> Option<()>
-        requires name { length name.now ≤ 16 }
-        requires few { length objects.now ≤ 4 }
+        requires { length name.now ≤ 16 }
         ensures one { IfSome result (λ _. length tasks.new.items ≡ length tasks.old.items + 1) }
         ensures tasks { IfSome result (λ _.
             AllByRecursion IsDefinition tasks.old.items → AllByRecursion IsDefinition tasks.new.items) }
@@ -317,7 +318,6 @@ impl Dice {
 
     /// Four tasks of priorities 0 to 3.
     fn tasks(&mut self, alloc: Global, objects: &[ObjectKind]) -> Option<Vec<TaskDefinition>>
-        requires { length objects.now ≤ 4 }
         ensures four { IfSome result (λ tasks. length tasks.items ≡ 4) }
         ensures tasks { IfSome result (λ tasks. AllByRecursion IsDefinition tasks.items) }
         ensures known { IfSome result (λ tasks.
@@ -340,18 +340,20 @@ impl Dice {
     }
 
     /// Four tasks, three handlers, two event groups and up to four objects and four base interrupts, shortly before the tick
-    /// wraps. It has no points, which no run depends on.
+    /// wraps; and as often a daemon as none. It has no points, which no run depends on.
     pub fn app(&mut self, alloc: Global) -> Option<App> {
-        let objects = self.objects(alloc)?;
-        let tasks = self.tasks(alloc, objects.as_slice())?;
+        let has_daemon = self.roll(2) == 0;
+        let objects = self.all_objects(alloc, has_daemon)?;
+        let tasks = self.all_tasks(alloc, objects.as_slice(), has_daemon)?;
         let start = u32::MAX - self.roll(8);
         let limits = Limits::new(10 + self.roll(50), 20 + self.roll(300))?;
-        let handlers = self.handlers(alloc, objects.as_slice())?;
+        let handlers = self.handlers(alloc, objects.as_slice(), has_daemon)?;
         let listed = self.interrupts(alloc)?;
         let interrupts = BaseInterrupts::new(alloc, listed.as_slice()).ok()?;
+        let daemon = daemon_of(has_daemon);
         let points = Vec::new(alloc);
         Some(App::new(
-            start, limits, objects, 2, handlers, interrupts, tasks, points,
+            start, limits, objects, 2, handlers, interrupts, tasks, daemon, points,
         ))
     }
 }

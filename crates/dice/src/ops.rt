@@ -1,5 +1,5 @@
 //! Ops of tasks, of the kinds that an application is for.
-ghost use Rattle.std.specs.Prelude.{◌<◌, ◌≤◌, ◌≡◌, true, length};
+ghost use Rattle.std.specs.Prelude.{◌<◌, ◌≡◌, true};
 ghost use Rattle.model.specs.Scripts.{InRange, is_mask};
 ghost use Rattle.dice.specs.Known.{IsKnown};
 
@@ -39,7 +39,7 @@ impl Dice {
     }
 
     /// Some of three bits, so that tasks often wait for the same ones.
-    fn mask(&mut self) -> u32
+    pub(super) fn mask(&mut self) -> u32
         ensures { is_mask result ≡ true }
     {
         1 + self.roll(7)
@@ -156,7 +156,6 @@ impl Dice {
 
     /// An op of any kind. One that speaks of no object comes in place of a call where there is no object.
     fn any_op(&mut self, objects: &[ObjectKind]) -> Op
-        requires { length objects.now ≤ 4 }
         ensures range { InRange result }
         ensures known { IsKnown objects.now result }
     {
@@ -189,7 +188,6 @@ impl Dice {
     /// An op of a task that suspends and resumes others for the most part, if it is a late one, or else of one that has much
     /// to be suspended in.
     fn suspending_op(&mut self, objects: &[ObjectKind]) -> Op
-        requires { length objects.now ≤ 4 }
         ensures range { InRange result }
         ensures known { IsKnown objects.now result }
     {
@@ -214,7 +212,6 @@ impl Dice {
 
     /// An op of a task that does little else than to call on objects.
     fn busy_op(&mut self, objects: &[ObjectKind]) -> Op
-        requires { length objects.now ≤ 4 }
         ensures range { InRange result }
         ensures known { IsKnown objects.now result }
     {
@@ -230,7 +227,6 @@ impl Dice {
     }
 
     pub(super) fn op(&mut self, objects: &[ObjectKind]) -> Op
-        requires { length objects.now ≤ 4 }
         ensures range { InRange result }
         ensures known { IsKnown objects.now result }
     {

@@ -1,11 +1,13 @@
-use Rattle.std.proofs.Common.{arith, ◌-◌, ◌≤◌, refl, subst, sym, length, List, ◌≡◌, ◌∙◌}
+use Rattle.std.proofs.Common.{arith, ◌-◌, ◌≤◌, refl, ap, subst, sym, length, Bool, List, ◌≡◌, ◌∙◌, eqb}
 use Rattle.std.specs.List.{AllByRecursion}
+use Rattle.std.specs.Option.{is_some}
 use Rattle.model.specs.declared.object.ObjectKind.{ObjectKind}
 use Rattle.model.specs.Application.{Application, Definition, Handler, Interrupt}
 use Rattle.model.specs.declared.plan.PointEntry.{PointEntry}
 use Rattle.model.specs.Scripts.{IsPointEntry, most_points}
-use Rattle.dice.specs.Known.{AreInterrupts, AreKnown, IsKnownHandler}
-use Rattle.dice.proofs.Known.{are_handlers, are_interrupts, few_at, known_all, of_ok}
+use Rattle.dice.specs.Known.{AreInterrupts, AreTasks, IsKnownHandler, daemon_number}
+use Rattle.dice.proofs.Known.{are_handlers, are_interrupts, few_at, of_ok}
+use Rattle.dice.proofs.WithDaemon.{few_tasks, four_of_file, has_number, is_daemon, known_of_file}
 use Rattle.dice.proofs.Dice.app.Goals as goal
 
 pub new-requires-3 : goal.new-requires-3
@@ -13,6 +15,7 @@ new-requires-3 c =
     let kinds : List ObjectKind = c.in_ok-objects.objects.items in
     let handlers : List Handler = c.in_ok-handlers.handlers.items in
     let tasks : List Definition = c.in_ok-tasks.tasks.items in
+    let has_daemon : Bool = eqb c.roll-has_daemon.result 0 in
     let app : Application = record {
       start = 4294967295 - c.roll-start.result;
       limits = c.in_ok-limits.limits;
@@ -21,27 +24,33 @@ new-requires-3 c =
       handlers = handlers;
       interrupts = c.in_ok-interrupts.interrupts;
       tasks = tasks;
+      daemon = c.daemon_of-daemon.result;
       points = c.new-points.result.items;
     } in
-    let four = c.in_ok-tasks.ensures.four in
+    let is : app.daemon ≡ daemon_number has_daemon = c.daemon_of-daemon.ensures in
+    let are : AreTasks has_daemon kinds tasks = subst (λ (objects : List ObjectKind). AreTasks has_daemon objects tasks) c.as_slice.ensures.value c.in_ok-tasks.ensures in
+    let four = four_of_file app has_daemon is are in
+    let has : is_some app.daemon ≡ has_daemon = ap is_some is ∙ has_number has_daemon in
+    let tasks_few = few_tasks has_daemon kinds tasks are in
     let objects_few = c.in_ok-objects.ensures.few in
     let three = c.in_ok-handlers.ensures.three in
     let of_interrupts : app.interrupts ≡ c.in_ok-listed.listed.items = of_ok c.new-2.result (λ interrupts. interrupts ≡ c.as_slice-3.result.now) c.in_ok-interrupts.interrupts c.in_ok-interrupts.ensures.value c.new-2.ensures ∙ c.as_slice-3.ensures.value in
     let few : length app.interrupts ≤ 4 = subst (λ (is : List Interrupt). length is ≤ 4) (sym of_interrupts) c.in_ok-listed.ensures.few in
     let formed : AreInterrupts 26 app.interrupts = subst (AreInterrupts 26) (sym of_interrupts) c.in_ok-listed.ensures.formed in
     record {
-      some = omega arith;
-      few = omega arith;
-      tasks = c.in_ok-tasks.ensures.tasks;
+      some = tasks_few.0;
+      few = tasks_few.1;
+      tasks = are.formed;
       objects = c.in_ok-objects.ensures.kinds;
       few_objects = omega arith;
+      daemon = is_daemon app has_daemon is c.in_ok-objects.ensures.queue are;
       few_groups = omega arith;
-      handlers = are_handlers app kinds refl refl four handlers (subst (λ (objects : List ObjectKind). AllByRecursion (IsKnownHandler objects) handlers) c.as_slice-2.ensures.value c.in_ok-handlers.ensures.known);
+      handlers = are_handlers app has_daemon kinds refl refl four has handlers (subst (λ (objects : List ObjectKind). AllByRecursion (IsKnownHandler has_daemon objects) handlers) c.as_slice-2.ensures.value c.in_ok-handlers.ensures.known);
       few_handlers = omega arith;
       interrupts = are_interrupts app three app.interrupts formed.first formed.last formed.known;
       few_interrupts = omega arith;
       few_at_once = λ tick. let here = few_at app tick in omega arith;
-      known = known_all app refl four tasks (subst (λ (objects : List ObjectKind). AllByRecursion (λ (d : Definition). AreKnown objects d.script) tasks) c.as_slice.ensures.value c.in_ok-tasks.ensures.known);
+      known = known_of_file app has_daemon is refl are;
       points = subst (AllByRecursion (IsPointEntry app)) (sym c.new-points.ensures.items) tt;
       few_points = subst (λ (points : List PointEntry). length points ≤ most_points) (sym c.new-points.ensures.items) (omega arith);
       start = omega arith;

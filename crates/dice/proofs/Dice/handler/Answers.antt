@@ -8,4 +8,4 @@ returns c =
     let few = c.loop.invariant.0 in
     let end = c.loop.auto.counter-end in
     let most = c.roll-length.ensures in
-    subst (IsKnownHandler c.args.objects.now) (sym c.new.ensures) (known_handler c.args.objects.now _ (search rules) (omega (arith, few, end, most)) c.loop.invariant.1)
+    subst (IsKnownHandler c.args.has_daemon c.args.objects.now) (sym c.new.ensures) (known_handler c.args.has_daemon c.args.objects.now _ (search rules) (omega (arith, few, end, most)) c.loop.invariant.1)
