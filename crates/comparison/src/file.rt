@@ -120,6 +120,10 @@ fn push_isr_rest(file: &mut String, app: &App, op: &IsrOp) -> Result<(), AllocEr
         IsrOp::Do(object, access) => push_access(file, object, access),
         IsrOp::Resume(task) => push_word(file, app.name(task)),
         IsrOp::GetBits(group) => push_name(file, "e", group.number),
+        IsrOp::Command(command) => {
+            push_name(file, "e", command.group.number)?;
+            push_number(file, command.mask)
+        }
     }
 }
 
@@ -189,8 +193,11 @@ fn push_head(file: &mut String, app: &App) -> Result<(), AllocError> {
     )
 }
 
+// All but the daemon's queue, which is the last one where there is a daemon.
 fn push_objects(file: &mut String, app: &App) -> Result<(), AllocError> {
-    for (index, kind) in app.objects().iter().enumerate() {
+    let of_daemon = app.daemon().is_some() as usize;
+    let of_file = app.objects().len().saturating_sub(of_daemon);
+    for (index, kind) in app.objects().iter().take(of_file).enumerate() {
         push_object(file, index, *kind)?;
     }
     for number in 0..app.group_count() {
@@ -209,9 +216,31 @@ fn push_handlers(file: &mut String, app: &App) -> Result<(), AllocError> {
     Ok(())
 }
 
+fn push_daemon(file: &mut String, daemon: &TaskDefinition, length: u16) -> Result<(), AllocError> {
+    let name = daemon.name();
+    let priority = daemon.priority();
+    write!(
+        file,
+        "\n[daemon]\nname = '{name}'\npriority = {priority}\nlength = {length}\n"
+    )
+}
+
+// The length of the last object, which is the daemon's queue where there is a daemon.
+fn command_length(app: &App) -> u16 {
+    match app.objects().last() {
+        Some(ObjectKind::Queue(length)) => *length,
+        _ => 0,
+    }
+}
+
+// The tasks of the file, and the daemon, the only one that is endless.
 fn push_tasks(file: &mut String, app: &App) -> Result<(), AllocError> {
     for task in app.tasks() {
-        push_task(file, app, task)?;
+        if task.is_endless() {
+            push_daemon(file, task, command_length(app))?;
+        } else {
+            push_task(file, app, task)?;
+        }
     }
     Ok(())
 }

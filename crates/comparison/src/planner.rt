@@ -15,6 +15,9 @@ pub(crate) struct Injections {
     pub(crate) locked: usize,
     /// Those while the scheduler is suspended.
     pub(crate) suspended: usize,
+    /// Those while the daemon runs; those of them in its own window, while its call has locked its queue.
+    pub(crate) beside_daemon: usize,
+    pub(crate) in_its_window: usize,
     /// Those past the end of the run.
     pub(crate) late: usize,
 }
@@ -81,7 +84,7 @@ impl Planner {
     }
 
     /// Counts an injection before the next step of the slow program.
-    fn count(&mut self, slow: &SlowKernel) {
+    fn count(&mut self, slow: &SlowKernel, app: &App) {
         let is_inside_call = slow.is_inside_call();
         let is_locked = slow.is_locked();
         let is_suspended = slow.is_scheduler_suspended();
@@ -92,6 +95,17 @@ impl Planner {
         *locked = locked.saturating_add(is_locked as usize);
         let suspended = &mut self.made.suspended;
         *suspended = suspended.saturating_add(is_suspended as usize);
+        self.count_daemon(slow, app);
+    }
+
+    /// Counts one that comes while the daemon runs.
+    fn count_daemon(&mut self, slow: &SlowKernel, app: &App) {
+        let is_beside = slow.is_daemon_running(app);
+        let is_inside = is_beside && slow.is_locked();
+        let beside = &mut self.made.beside_daemon;
+        *beside = beside.saturating_add(is_beside as usize);
+        let inside = &mut self.made.in_its_window;
+        *inside = inside.saturating_add(is_inside as usize);
     }
 
     fn push(&mut self, step: u32) -> Option<()> {
@@ -101,11 +115,11 @@ impl Planner {
     }
 
     /// Makes the injections before the next step.
-    fn plan_step(&mut self, slow: &SlowKernel) -> Option<&[Injection]> {
+    fn plan_step(&mut self, slow: &SlowKernel, app: &App) -> Option<&[Injection]> {
         let old = self.injections.len();
         for _ in 0..self.roll_count(slow) {
             self.push(slow.steps)?;
-            self.count(slow);
+            self.count(slow, app);
         }
         self.injections.as_slice().get(old..)
     }
@@ -131,7 +145,7 @@ impl Planner {
             if slow.end(app, limits).is_some() {
                 break;
             }
-            let injections = self.plan_step(slow)?;
+            let injections = self.plan_step(slow, app)?;
             slow.step(app, injections);
         }
         self.plan_late(slow.steps)?;

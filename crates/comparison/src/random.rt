@@ -3,7 +3,7 @@
 use crate::file::{file_of, plan_text};
 use crate::planner::{Injections, Planner};
 use dice::Dice;
-use model::{App, HandlerDefinition, Meter, Plan, TaskDefinition};
+use model::{App, End, HandlerDefinition, Meter, Plan, TaskDefinition};
 use script::FromDocument;
 use slow::SlowKernel;
 use std::alloc::Global;
@@ -72,11 +72,23 @@ struct Seen {
     not_suspended: usize,
     not_holder: usize,
     ended_suspended: usize,
+    /// A command came to the daemon.
+    commands: usize,
+    /// One found no room.
+    refused_commands: usize,
+    /// One came in the daemon's own window.
+    window_commands: usize,
+    /// The daemon set bits.
+    sets_by_daemon: usize,
+    /// It cleared some.
+    clears_by_daemon: usize,
+    /// The run passed while the daemon ran.
+    passes_beside_daemon: usize,
     injections: Injections,
 }
 
 impl Seen {
-    fn count(&mut self, slow: &SlowKernel, has_wrapped: bool, injections: &Injections) {
+    fn count(&mut self, slow: &SlowKernel, app: &App, has_wrapped: bool, injections: &Injections) {
         let tally = slow.tally;
         add(&mut self.wraps, has_wrapped as usize);
         see(&mut self.wakes, tally.wakes);
@@ -92,6 +104,7 @@ impl Seen {
         self.count_groups(slow);
         self.count_suspensions(slow);
         self.count_misuses(slow);
+        self.count_commands(slow, app);
         self.count_injections(injections);
     }
 
@@ -123,11 +136,25 @@ impl Seen {
         see(&mut self.ended_suspended, tally.ended_suspended);
     }
 
+    fn count_commands(&mut self, slow: &SlowKernel, app: &App) {
+        let tally = slow.tally;
+        see(&mut self.commands, tally.commands);
+        see(&mut self.refused_commands, tally.refused_commands);
+        see(&mut self.window_commands, tally.window_commands);
+        see(&mut self.sets_by_daemon, tally.sets_by_daemon);
+        see(&mut self.clears_by_daemon, tally.clears_by_daemon);
+        let passes = slow.end(app, &app.limits()) == Some(End::Pass);
+        let passes_beside = passes && slow.is_daemon_running(app);
+        add(&mut self.passes_beside_daemon, passes_beside as usize);
+    }
+
     fn count_injections(&mut self, injections: &Injections) {
         add(&mut self.injections.all, injections.all);
         add(&mut self.injections.inside_calls, injections.inside_calls);
         add(&mut self.injections.locked, injections.locked);
         add(&mut self.injections.suspended, injections.suspended);
+        add(&mut self.injections.beside_daemon, injections.beside_daemon);
+        add(&mut self.injections.in_its_window, injections.in_its_window);
         add(&mut self.injections.late, injections.late);
     }
 }
@@ -167,7 +194,7 @@ fn compare(
         fail(rt, alloc, seed, app, &plan, "metered steps");
     }
     let has_wrapped = run.ticks > u32::MAX - app.start();
-    seen.count(&slow, has_wrapped, &made);
+    seen.count(&slow, app, has_wrapped, &made);
 }
 
 /// Which applications are compared, and in how many runs handlers are injected.
@@ -239,6 +266,10 @@ fn the_slow_program_agrees(rt: HostRuntime) {
         &seen,
         seen.suspended_waits > 800 && seen.held_ticks > 2_700,
     );
+    let has_commands = seen.commands > 3_700 && seen.refused_commands > 800;
+    has_enough(&rt, &seen, has_commands);
+    let has_done = seen.sets_by_daemon > 2_950 && seen.clears_by_daemon > 1_200;
+    has_enough(&rt, &seen, has_done && seen.passes_beside_daemon > 215);
 }
 
 #[test]
@@ -251,6 +282,12 @@ fn the_slow_program_agrees_where_handlers_are_injected(rt: HostRuntime) {
     let has_awakenings = seen.own_awakenings > 2_400 && seen.other_awakenings > 475;
     has_enough(&rt, &seen, has_awakenings && seen.mixed_unlocks > 45);
     has_enough(&rt, &seen, seen.locked_gives > 1_150);
+    let has_commands = seen.commands > 5_400 && seen.refused_commands > 2_600;
+    has_enough(&rt, &seen, has_commands && seen.window_commands > 1_950);
+    let has_done = seen.sets_by_daemon > 4_350 && seen.clears_by_daemon > 1_850;
+    has_enough(&rt, &seen, has_done && seen.passes_beside_daemon > 245);
+    let has_beside = made.beside_daemon > made.all / 3 && made.in_its_window > 25_000;
+    has_enough(&rt, &seen, has_beside);
 }
 
 #[test]
@@ -259,6 +296,10 @@ fn the_slow_program_agrees_where_tasks_contend_for_mutexes(rt: HostRuntime) {
     has_enough(&rt, &seen, seen.raises > 4_750 && seen.kept_raises > 475);
     has_enough(&rt, &seen, seen.falls > 1_150 && seen.partial_falls > 180);
     has_enough(&rt, &seen, seen.not_holder > 2_375);
+    let has_commands = seen.commands > 3_450 && seen.refused_commands > 1_080;
+    has_enough(&rt, &seen, has_commands && seen.window_commands > 800);
+    let has_done = seen.sets_by_daemon > 2_650 && seen.clears_by_daemon > 1_000;
+    has_enough(&rt, &seen, has_done && seen.passes_beside_daemon > 210);
 }
 
 #[test]
@@ -274,6 +315,10 @@ fn the_slow_program_agrees_where_tasks_wait_for_bits(rt: HostRuntime) {
         &seen,
         seen.bit_timeouts > 8_500 && seen.suspended_answers > 200,
     );
+    let has_commands = seen.commands > 7_300 && seen.refused_commands > 4_600;
+    has_enough(&rt, &seen, has_commands && seen.window_commands > 1_450);
+    let has_done = seen.sets_by_daemon > 6_600 && seen.clears_by_daemon > 3_600;
+    has_enough(&rt, &seen, has_done && seen.passes_beside_daemon > 385);
 }
 
 #[test]
@@ -298,6 +343,10 @@ fn the_slow_program_agrees_where_tasks_are_suspended(rt: HostRuntime) {
     );
     let has_early_misuses = seen.while_suspended > 600 && seen.not_suspended > 600;
     has_enough(&rt, &seen, has_early_misuses && seen.ended_suspended > 900);
+    let has_commands = seen.commands > 6_700 && seen.refused_commands > 3_650;
+    has_enough(&rt, &seen, has_commands && seen.window_commands > 1_800);
+    let has_done = seen.sets_by_daemon > 5_600 && seen.clears_by_daemon > 2_700;
+    has_enough(&rt, &seen, has_done && seen.passes_beside_daemon > 270);
 }
 
 /// The application that a file describes.
@@ -315,7 +364,10 @@ fn is_same_handler(one: &HandlerDefinition, other: &HandlerDefinition) -> bool {
 }
 
 fn is_same_task(one: &TaskDefinition, other: &TaskDefinition) -> bool {
-    one.name() == other.name() && one.priority() == other.priority() && one.ops() == other.ops()
+    one.name() == other.name()
+        && one.priority() == other.priority()
+        && one.is_endless() == other.is_endless()
+        && one.ops() == other.ops()
 }
 
 /// Whether two applications have the same handlers and interrupts.
@@ -344,6 +396,7 @@ fn has_same_rest(one: &App, other: &App) -> bool {
         && one.limits() == other.limits()
         && one.objects() == other.objects()
         && one.group_count() == other.group_count()
+        && one.daemon() == other.daemon()
 }
 
 /// Loads the file that shows an application, and compares what it describes.
