@@ -1,8 +1,8 @@
 //! What a file is loaded as.
 
 use model::{
-    Access, App, Condition, GroupId, HandlerId, IsrOp, ObjectId, ObjectKind, Op, Point, PointEntry,
-    TaskId,
+    Access, App, Command, Condition, GroupId, HandlerId, IsrOp, ObjectId, ObjectKind, Op, Point,
+    PointEntry, TaskId,
 };
 use script::FromDocument;
 use std::alloc::Global;
@@ -187,6 +187,79 @@ fn groups_and_the_ops_on_them_and_those_that_suspend_are_loaded(rt: HostRuntime)
         IsrOp::GetBits(any),
     ];
     has_isr_ops(&rt, &app, &isr_ops);
+}
+
+// Wherever it is in the file, the daemon comes behind all tasks, and its queue behind all objects.
+const DAEMON: &str = "
+[daemon]
+name = 'timer_service'
+priority = 31
+length = 256
+
+[[mutex]]
+name = 'm'
+
+[[queue]]
+name = 'q'
+length = 1
+
+[[group]]
+name = 'f'
+
+[[group]]
+name = 'g'
+
+[[handler]]
+name = 'h'
+ops = ['set g 16777215', '  clear  f 0000000001 ', 'send q 5']
+
+[[task]]
+name = 'a'
+priority = 1
+script = ['set g 1', 'clear g 2']
+";
+
+/// A command to set these bits of a group, or to clear them.
+fn command(group: GroupId, mask: u32, clear: bool) -> Command {
+    Command { group, mask, clear }
+}
+
+/// Compares the daemon of an application, and its script.
+fn has_daemon(rt: &impl Abort, app: &App, number: u8, name: &str, priority: u8, queue: u8) {
+    let daemon = app.tasks().last().expect(rt, "a daemon");
+    assert!(rt; app.daemon() == TaskId::new(number));
+    assert!(rt; app.tasks().len() == number as usize + 1);
+    assert!(rt; daemon.name() == name && daemon.priority() == priority);
+    let queue = ObjectId::new(queue).expect(rt, "a queue");
+    assert!(rt; app.commands() == queue);
+    assert!(rt; daemon.ops() == [Op::NextCommand(queue), Op::Obey].as_slice());
+}
+
+#[test]
+fn a_daemon_and_the_commands_to_it_are_loaded(rt: HostRuntime) {
+    let app = loaded(&rt, rt.alloc(), DAEMON);
+    let kinds = [
+        ObjectKind::Queue(1),
+        ObjectKind::Mutex,
+        ObjectKind::Queue(256),
+    ];
+    has_objects(&rt, &app, &kinds);
+    has_daemon(&rt, &app, 1, "timer_service", 31, 2);
+    let f = GroupId { number: 0 };
+    let g = GroupId { number: 1 };
+    let isr_ops = [
+        IsrOp::Command(command(g, 16_777_215, false)),
+        IsrOp::Command(command(f, 1, true)),
+        IsrOp::Do(ObjectId { number: 0 }, Access::Send(5)),
+    ];
+    has_isr_ops(&rt, &app, &isr_ops);
+    has_ops(&rt, &app, &[Op::SetBits(g, 1), Op::ClearBits(g, 2)]);
+}
+
+#[test]
+fn an_application_without_a_daemon(rt: HostRuntime) {
+    let app = loaded(&rt, rt.alloc(), QUEUES);
+    assert!(rt; app.daemon().is_none());
 }
 
 #[test]
