@@ -12,7 +12,8 @@ use Rattle.model.specs.Scripts.{IsDefinition, IsHandler, fits, knows, knows_isr}
 -- Every application of these objects, two event groups and four tasks of the file knows the op.
 abbrev pub IsKnown : List ObjectKind → Op → Type 0
 IsKnown objects op =
-    (app : Application) → app.objects ≡ objects → app.group_count ≡ 2 → length (of_file app.daemon app.tasks) ≡ 4 → knows app op ≡ true
+    (app : Application) → app.objects ≡ objects → app.group_count ≡ 2 → length (of_file app.daemon app.tasks) ≡ 4
+    → knows app op ≡ true
 
 -- It knows each of them.
 abbrev pub AreKnown : List ObjectKind → List Op → Type 0
@@ -72,4 +73,5 @@ pub record AreTasks (has_daemon : Bool) (objects : List ObjectKind) (tasks : Lis
   pub formed : AllByRecursion IsDefinition tasks
   pub known : AllByRecursion (λ (d : Definition). AreKnown objects d.script) (of_file (daemon_number has_daemon) tasks)
   -- only the daemon comes behind them
-  pub behind : IfSome (daemon_number has_daemon) (λ daemon. (length tasks ≡ daemon + 1) × IsSomeAnd (slice_get tasks daemon) (IsDaemonOf objects))
+  pub behind : IfSome (daemon_number has_daemon) (λ daemon.
+      (length tasks ≡ daemon + 1) × IsSomeAnd (slice_get tasks daemon) (IsDaemonOf objects))

@@ -34,7 +34,8 @@ the_daemon = record { name = codes "d"; priority = 3; endless = true; script = N
 -- an application of a queue of this length for commands, this handler, a task of priority 1 with this op, and the daemon
 abbrev pub with_daemon : ℕ → List IsrOp → Op → Application
 with_daemon size ops op =
-    record (with_handler (Queue size ∷ []) ops (a_task (codes "a") (op ∷ []) ∷ the_daemon ∷ [])) { group_count = 1; daemon = Some b }
+    let app = with_handler (Queue size ∷ []) ops (a_task (codes "a") (op ∷ []) ∷ the_daemon ∷ []) in
+    record app { group_count = 1; daemon = Some b }
 
 -- The daemon has set bits, or cleared them, and answers with these.
 abbrev pub has_set : ℕ → What
@@ -58,8 +59,8 @@ deferred_base = record {
   end = Stuck;
 }
 
--- The handler comes while the task holds the scheduler in its wait. Its first command wakes the daemon, and there is no room for the
--- second one.
+-- The handler comes while the task holds the scheduler in its wait. Its first command wakes the daemon, and there is no room for
+-- the second one.
 abbrev pub deferred_row : Row
 deferred_row = record {
   app = deferred;
@@ -77,7 +78,8 @@ deferred_row = record {
 
 -- ---- runs
 
--- The handler comes in the daemon's own window: the daemon is woken in its call, takes one command after the other, and waits again.
+-- The handler comes in the daemon's own window: the daemon is woken in its call, takes one command after the other, and waits
+-- again.
 abbrev pub in_its_window : Injected
 in_its_window = record {
   app = with_daemon 2 (sets 4 ∷ clears 4 ∷ []) wait_for_either;

@@ -25,7 +25,17 @@ a_task name script = record { name = name; priority = 1; endless = false; script
 
 -- an application that starts at this time, without objects
 abbrev pub the_application : ℕ → List Definition → Application
-the_application start tasks = record { start = start; limits = wide; objects = []; group_count = 0; handlers = []; interrupts = []; tasks = tasks; daemon = None; points = [] }
+the_application start tasks = record {
+  start = start;
+  limits = wide;
+  objects = [];
+  group_count = 0;
+  handlers = [];
+  interrupts = [];
+  tasks = tasks;
+  daemon = None;
+  points = [];
+}
 
 -- a task of this priority
 abbrev pub a_task_of : ℕ → List ℕ → List Op → Definition
@@ -33,7 +43,7 @@ a_task_of priority name script = record { name = name; priority = priority; endl
 
 -- an application of these objects and these tasks, that starts at 0
 abbrev pub with_objects : List ObjectKind → List Definition → Application
-with_objects objects tasks = record { start = 0; limits = wide; objects = objects; group_count = 0; handlers = []; interrupts = []; tasks = tasks; daemon = None; points = [] }
+with_objects objects tasks = record (the_application 0 tasks) { objects = objects }
 
 -- one with one queue of length 1
 abbrev pub with_queue : List Definition → Application

@@ -47,8 +47,9 @@ pub fn rows_of_two_injections()
     ensures { AllByRecursion RowIs rows_of_two }
 {}
 
-/// Each application of the table of examples with a daemon runs as the table says: a set of bits that a handler defers, whose second
-/// command finds no room; two commands that come in the daemon's own window; a run that passes while a command is still to be done.
+/// Each application of the table of examples with a daemon runs as the table says: a set of bits that a handler defers, whose
+/// second command finds no room; two commands that come in the daemon's own window; a run that passes while a command is still to
+/// be done.
 pub fn examples_with_a_daemon_run()
     ensures rows { AllByRecursion RowIs daemon_rows }
     ensures runs { AllByRecursion RunsWith daemon_examples }

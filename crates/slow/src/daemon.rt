@@ -29,8 +29,8 @@ impl SlowKernel {
 
     // ---- the next command
 
-    /// A command that is there is taken, which is no event: it is the daemon's last answer. Otherwise the daemon decides to wait for
-    /// one.
+    /// A command that is there is taken, which is no event: it is the daemon's last answer. Otherwise the daemon decides to wait
+    /// for one.
     fn take_command(&mut self, app: &App, id: TaskId, queue: u8) {
         if self.is_possible(queue, Access::Receive) {
             let answer = self.fulfil(Some(id), queue, Access::Receive);
