@@ -5,7 +5,7 @@
 
 Prints for each file the best and the median wall time of fifteen runs, the steps a second of the best, and the peak
 memory. The program is crates/rtosim/out/rtosim, as bin/rtosim builds it, or PROGRAM; large pages are asked for, as bin/rtosim
-does. With OTHER, the runs of the two take turns; each file has PROGRAM's times as multiples of OTHER's, and the last line the
+does. With OTHER, the runs of the two take turns; each file that both take has PROGRAM's times as multiples of OTHER's, and the last line the
 geometric means of these. With --instructions, each file has the instructions a step too, as valgrind counts them over the whole
 program: they are the same on each run, where times of a busy machine aren't. Times of two builds may differ by 3 % merely by where
 their code comes to lie: some processors decode jumps at multiples of 32 bytes anew each time."""
@@ -28,6 +28,11 @@ def steps_of(program, path):
     """The number of steps in the head line."""
     head = subprocess.run([program, "run", path], stdout=subprocess.PIPE).stdout.split(b"\n", 1)[0]
     return int(re.search(rb" in (\d+) steps", head).group(1))
+
+
+def takes(program, path):
+    """Whether the program takes this file, which an older one may refuse."""
+    return subprocess.run([program, "run", path], stdout=subprocess.DEVNULL, stderr=subprocess.DEVNULL).returncode < 3
 
 
 def seconds_of(program, path):
@@ -77,8 +82,9 @@ def main():
     ratios = []
     for name in sorted(it for it in os.listdir(HERE) if it.endswith(".toml")):
         path = os.path.join(HERE, name)
-        times = times_of(programs, path)
-        for program, (best, median) in zip(programs, times):
+        takers = [it for it in programs if takes(it, path)]
+        times = times_of(takers, path)
+        for program, (best, median) in zip(takers, times):
             print(f"{name}: {line_of(program, path, best, median, with_instructions)}", flush=True)
         if len(times) == 2:
             ratios.append([ours / theirs for ours, theirs in zip(*times)])
