@@ -19,5 +19,5 @@ pub returns : goal.returns
 returns c = λ s h.
     let none : c.is_waiting-2.result ≡ false = c.if-is_waiting-2.false in
     let seen = ended_if_in_none c.args.machine.now s c.args.task c.is_waiting.result h c.is_waiting.ensures.stands c.is_waiting.ensures.placing
-        (sym c.is_ready.ensures.ready ∙ c.if-is_ready.false) (sym c.is_asleep.ensures.asleep ∙ c.if-is_asleep.false) c.if-is_waiting.false (sym (c.is_waiting-2.ensures.stands s (groups_stand c.args.machine.now s h)) ∙ none) in
+    (sym c.is_ready.ensures.ready ∙ c.if-is_ready.false) (sym c.is_asleep.ensures.asleep ∙ c.if-is_asleep.false) c.if-is_waiting.false (sym (c.is_waiting-2.ensures.stands s (groups_stand c.args.machine.now s h)) ∙ none) in
     rw c.is_suspended.ensures.suspended seen
