@@ -40,6 +40,10 @@ fn point_of(pairs: &[RawInjection<'_>], entries: &NamedEntries<'_>) -> Option<Po
     requires { may_be_point (map pair_view pairs.now) ≡ true }
     ensures { result ≡ all_known (isr_names (entries_view entries.now)) (map pair_view pairs.now) }
 {
+    // Mostly it is one, which needs no list.
+    if let [pair] = pairs {
+        return Some(Point::one(pair.step, handler_among(entries, pair.handler)?));
+    }
     let injections = injections(pairs, entries)?;
     Point::new(injections.as_slice()).ok()
 }
