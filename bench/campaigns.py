@@ -9,8 +9,9 @@ as bin/rtosim does. With OTHER, the same of that program with one worker.
 
 The campaigns: `dense`, 5,000 rows of tasks that call a queue and a mutex in nearly each step, each row to the step limit
 of 5,000; `computing`, the same with more `work` between the calls, and 2,000 rows of 2,000 steps; `commands`, 3,000 rows of tasks
-that wait for bits, which a handler has the daemon set and clear; `million`, 1,000,000 single points of a short application, each of
-which ends after some ten steps."""
+that wait for bits, which a handler has the daemon set and clear; `asleep`, 3,000 rows of tasks that sleep and wait for minutes and
+hours in a tickless application, which a handler wakes at any time; `million`, 1,000,000 single points of a short application, each
+of which ends after some ten steps."""
 import ctypes
 import os
 import random
@@ -65,6 +66,18 @@ def sensor_and_daemon(steps):
     )
 
 
+def asleep(steps):
+    """Tasks that sleep and wait for long, and an alarm before each step. From where it wakes a task a row has other steps than its
+    neighbours."""
+    return (
+        f"tickless = true\n[limits]\nsteps = {steps}\nticks = 281474976710656\n"
+        '[[queue]]\nname = "q"\nlength = 1\n[[handler]]\nname = "h"\nops = ["send q 9"]\n'
+        + task("alarm", 2, turns("receive q 3600000", "work 2"))
+        + task("minutes", 1, turns("delay_until 60000", "work 2"))
+        + '[campaign]\npoints = ["all h"]\n'
+    )
+
+
 def million_points():
     """A million points over an application that ends after some ten steps."""
     dice = random.Random(5)
@@ -104,7 +117,7 @@ def main():
     ctypes.CDLL(None).prctl(PR_SET_CHILD_SUBREAPER, 1, 0, 0, 0)
     programs = sys.argv[1:3] or [PROGRAM]
     texts = {"dense": producer_and_consumer(5000, 2), "computing": producer_and_consumer(2000, 200),
-             "commands": sensor_and_daemon(3000), "million": million_points()}
+             "commands": sensor_and_daemon(3000), "asleep": asleep(3000), "million": million_points()}
     with tempfile.TemporaryDirectory() as folder:
         for name, text in texts.items():
             path = os.path.join(folder, f"{name}.toml")

@@ -1,30 +1,110 @@
-"""Random applications, with campaigns of all steps of two handlers, half of them with a daemon."""
+"""Random applications, with campaigns of all steps of two handlers: half of them with a daemon, half of them tickless, and half of them
+with branches and endless tasks."""
 import json
 import random
+
+# How deep loops are at most, and how deep blocks are, which are loops and ifs.
+DEEPEST_LOOP, DEEPEST = 4, 8
+
+
+class Scripts:
+    """Random scripts with blocks in one another, whose plain ops are given one at a time. Most conditions are of answers that come."""
+
+    def __init__(self, dice, plain_op):
+        self.dice, self.plain_op = dice, plain_op
+
+    def condition(self):
+        number = self.dice.choice((0, 0, 1, 1, 2, 3, 4294967295))
+        return self.dice.choice(("none", "not none", f"{number}", f"not {number}", f"below {number}", f"above {number}"))
+
+    def script(self, is_endless):
+        """A script of few ops, or now and then one whose blocks are as deep as may be; of an endless task mostly one loop without end."""
+        around = ("repeat",) if is_endless and self.dice.random() < 0.6 else ()
+        most = DEEPEST if self.dice.random() < 0.1 else len(around) + 3
+        ops = self.nested(around, most) if self.dice.random() < 0.2 else self.ops(around, most)
+        return ["repeat forever", *ops, "end"] if around else ops
+
+    def ops(self, opened, most):
+        """Ops inside these open blocks, loops and ifs, of which at most so many are inside one another."""
+        found = []
+        for _ in range(self.dice.randrange(1, 4)):
+            found += self.op(opened, most)
+        return found
+
+    def op(self, opened, most):
+        chance = self.dice.random()
+        if chance < 0.2 and len(opened) < most:
+            return self.branch(opened, most)
+        if chance < 0.3 and len(opened) < most and opened.count("repeat") < DEEPEST_LOOP:
+            return [self.repeat(), *self.ops((*opened, "repeat"), most), "end"]
+        if chance < 0.4 and "repeat" in opened:
+            return ["break"]
+        if chance < 0.42:
+            return [f"expect {self.condition()}"]
+        return [f"mark {self.dice.randrange(9)}"] if chance < 0.5 else [self.plain_op()]
+
+    def repeat(self):
+        return f"repeat {self.dice.choice((1, 2, 2, 3, 'forever'))}"
+
+    def branch(self, opened, most):
+        inside = (*opened, "if")
+        other = ["else", *self.ops(inside, most)] if self.dice.random() < 0.5 else []
+        first = self.ops(inside, most) if self.dice.random() < 0.9 else []
+        return [f"if {self.condition()}", *first, *other, "end"]
+
+    def nested(self, around, depth):
+        """Blocks inside one another, up to this depth, with ops before and behind each."""
+        opened, ops = list(around), []
+        while len(opened) < depth:
+            is_loop = self.dice.random() < 0.4 and opened.count("repeat") < DEEPEST_LOOP
+            ops += [*self.op(opened, 0), self.repeat() if is_loop else f"if {self.condition()}"]
+            opened.append("repeat" if is_loop else "if")
+        while len(opened) > len(around):
+            ops += [*self.op(opened, 0), "end"]
+            opened.pop()
+        return ops + self.op(opened, 0)
 
 
 class Applications:
     """Random applications, most of which have something that can't end, fails or isn't reached. Those of even seeds have a daemon,
-    and handlers that set and clear bits by it."""
+    and handlers that set and clear bits by it. Of four seeds the last two are tickless: they sleep and wait for up to nearly a turn of the
+    tick, begin at any tick, and have base interrupts amid their sleeps. Of eight seeds the last four have branches, and tasks that are
+    endless."""
 
     def __init__(self, seed):
         self.dice, self.has_daemon = random.Random(seed), seed % 2 == 0
+        # What a tickless application has besides is of dice of its own.
+        self.is_tickless, self.long_dice = seed % 4 > 1, random.Random(-1 - seed)
+        # So has one with branches.
+        self.has_branches, self.block_dice = seed % 8 > 3, random.Random(f"blocks {seed}")
+
+    def ticks(self, few):
+        """So few ticks, and in a tickless application perhaps many."""
+        return self.long_dice.choice((few, 3, 40, 700, 4000, 86400000, 4294967294)) if self.is_tickless else few
 
     def task_op(self):
         q, s, t = (self.dice.choice(it) for it in ("qr", "sc", "ab"))
         wait = self.dice.choice(("forever", "forever", 0, 2))
+        wait = self.ticks(2) if wait == 2 else wait
         mask, other = self.dice.randrange(1, 8), self.dice.choice(("any", "all"))
         return self.dice.choice((
             f"receive {q} {wait}", f"peek {q} {wait}", f"send {q} 1 {wait}", f"take {s} {wait}", f"give {s}", f"lock m {wait}",
-            "unlock m", f"set g {mask}", f"wait g {mask} {other} clear {wait}", f"suspend {t}", f"resume {t}", "work 2", "delay 1",
+            "unlock m", f"set g {mask}", f"wait g {mask} {other} clear {wait}", f"suspend {t}", f"resume {t}", "work 2", self.sleep(),
         ))
+
+    def sleep(self):
+        return f"{self.long_dice.choice(('delay', 'delay_until'))} {self.ticks(1)}" if self.is_tickless else "delay 1"
 
     def script(self):
         ops = [self.task_op() for _ in range(self.dice.randrange(1, 5))]
         return ["repeat 2", *ops, "end"] if self.dice.random() < 0.3 else ops
 
     def task(self, name):
-        return f'[[task]]\nname = "{name}"\npriority = {self.dice.randrange(2)}\nscript = {json.dumps(self.script())}'
+        priority = self.dice.randrange(2)
+        endless = self.block_dice.choice(("", "", "endless = false\n", "endless = true\n", "endless = true\n")) if self.has_branches else ""
+        blocks = Scripts(self.block_dice, self.task_op)
+        script = blocks.script("true" in endless) if self.has_branches else self.script()
+        return f'[[task]]\nname = "{name}"\npriority = {priority}\n{endless}script = {json.dumps(script)}'
 
     def handler_op(self):
         ops = ("send q 1", "send_front q 1", "give s", "give c", "receive q", "overwrite r 1", "resume a", "mark 1", "peek q")
@@ -37,13 +117,25 @@ class Applications:
         """Below, equal to and above the tasks, and with as little room for commands as a handler may need."""
         return f'[daemon]\nname = "d"\npriority = {self.dice.randrange(3)}\nlength = {self.dice.randrange(1, 4)}'
 
+    def beginning(self):
+        start = self.long_dice.choice((0, 4294967290, self.long_dice.randrange(1 << 32)))
+        return f"start = {start}\ntickless = true" if self.is_tickless else ""
+
+    def limit_of_ticks(self):
+        return f"ticks = {self.long_dice.choice((4001, 281474976710656))}\n" if self.is_tickless else ""
+
+    def interrupts(self):
+        ticks = self.long_dice.sample(range(1, 4001), self.long_dice.randrange(4)) if self.is_tickless else []
+        return [f'[[interrupt]]\ntick = {it}\nhandler = "{self.long_dice.choice("hk")}"' for it in ticks]
+
     def text(self):
         handlers = [[self.handler_op() for _ in range(self.dice.randrange(6))] for _ in "hk"]
-        parts = ['queue = [{ name = "q", length = 2 }, { name = "r", length = 1 }]']
+        parts = [self.beginning(), 'queue = [{ name = "q", length = 2 }, { name = "r", length = 1 }]']
         parts.append('binary = [{ name = "s" }]\nmutex = [{ name = "m" }]')
         parts.append(f'counting = [{{ name = "c", max = 2, initial = {self.dice.randrange(2)} }}]\ngroup = [{{ name = "g" }}]')
         parts += [f'[[handler]]\nname = "{name}"\nops = {json.dumps(ops)}' for name, ops in zip("hk", handlers)]
         parts += [self.task(it) for it in "ab"]
         parts += [self.daemon()] if self.has_daemon else []
-        parts.append('[limits]\nsteps = 300\n[campaign]\npoints = ["all h", "all k", "7 h", "30 h"]')
-        return "\n".join(parts) + "\n"
+        parts += self.interrupts()
+        parts.append(f'[limits]\n{self.limit_of_ticks()}steps = 300\n[campaign]\npoints = ["all h", "all k", "7 h", "30 h"]')
+        return "\n".join(it for it in parts if it) + "\n"

@@ -56,6 +56,9 @@ def edges_of_the_limits_of_a_run():
     for key in ("ticks", "steps"):
         is_taken(f"[limits]\n{key} = 1000000\n{TASK}")
         refuses_numbers(f"[limits]\n{key} = N\n{TASK}", f"limits {key}", 0, -1, 1_000_001)
+    is_taken(f"{TICKLESS}{TASK}")
+    refuses_numbers(f"tickless = true\n[limits]\nticks = N\n{TASK}", "limits ticks", 0, -1, 281474976710657, 2**63 - 1)
+    refuses_numbers(f"tickless = true\n[limits]\nsteps = N\n{TASK}", "limits steps", 0, 1_000_001, 2**48)
     tells("[limits]\nticks = 1\n" + task("work 2"), "ticks in 1 steps, 1 ticks")
     tells("[limits]\nsteps = 1\n" + task("mark 1", "mark 2"), "steps in 1 steps, 0 ticks", "0 0 mark a 1")
     is_taken("[limits]\nsteps = 1\n" + TASK)
@@ -79,6 +82,7 @@ def tasks_without_end(count, *script, rises=False):
     return "".join(task(*without_end(*script), name=f"t{it}", priority=it if rises else 1) for it in range(count))
 
 
+TICKLESS = "tickless = true\n[limits]\nticks = 281474976710656\n"
 # Runs of a million steps: the parts of the file, the verdict, and the digest of all that is written, as an independent program
 # has it.
 MILLION_STEPS = {
@@ -117,6 +121,23 @@ MILLION_STEPS = {
         '[daemon]\nname = "d"\npriority = 4\nlength = 9\n',
         *[f'[[interrupt]]\ntick = {3 * it + 1}\nhandler = "h"\n' for it in range(1024)],
     ], "steps in 1000000 steps, 218312 ticks", "1b342261470cbe73"),
+    "a tickless sensor that wakes each minute for months": ([
+        TICKLESS, task(*without_end("delay_until 60000", "work 2", "time")), task(*without_end("delay_until 3600000"), name="b"),
+    ], "steps in 1000000 steps, 9941400001 ticks", "4a86566f7187b975"),
+    "32 tickless tasks that sleep for nearly a turn of the tick": ([
+        "start = 4294967200\n", TICKLESS,
+        *[task(*without_end(f"delay {4294967295 - it}", "work 1"), name=f"t{it}", priority=it) for it in range(32)],
+    ], "steps in 1000000 steps, 33539399427048 ticks", "5fbc1ef17de9835a"),
+    "sleeps up to the greatest limit of ticks": ([
+        TICKLESS, task(*without_end("delay 4294967295")),
+    ], "ticks in 196743 steps, 281474976710656 ticks", "1626c948b252d9ba"),
+    "a tickless daemon, whose bits are waited for during hours": ([
+        TICKLESS, GROUP, '[[handler]]\nname = "h"\nops = ["set g 3", "clear g 2"]\n',
+        *[task(*without_end(f"wait g {it + 1} any clear {3600000 * (it + 1)}", f"delay {it}"), name=f"t{it}", priority=it)
+          for it in range(3)],
+        '[daemon]\nname = "d"\npriority = 2\nlength = 2\n',
+        *[f'[[interrupt]]\ntick = {970 * it + 1}\nhandler = "h"\n' for it in range(1024)],
+    ], "steps in 1000000 steps, 295409792311 ticks", "88ed35626c3b90c9"),
     "nobody but an interrupt at the last tick": ([
         QUEUE, HANDLER, *[task("receive q forever", name=f"t{it}") for it in range(32)],
         '[[interrupt]]\ntick = 1000000\nhandler = "h"\n',

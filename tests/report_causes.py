@@ -1,5 +1,6 @@
 """Cases of tests/report: classes by cause, names that last, two versions beside each other, failures that are known. The reports in
 tests/of_versions are what the program writes of the files there."""
+import glob
 import os
 import re
 import shutil
@@ -267,20 +268,41 @@ def walks(name, is_passing):
                     assert walker.has_ended, (file, run_there.head, script.name)
 
 
+# Runs of tests/runs that end amid a loop for ever that tells no line, so that it isn't known where.
+LOOPS_WITHOUT_LINES = ("an_empty_loop_for_ever_takes_all_steps", "a_loop_for_ever_runs_to_the_limit_of_steps",
+                       "the_limit_of_ticks_where_only_the_endless_task_computes")
+
+
 @case
 def a_task_is_followed_through_its_script():
     examples = sorted(it[:-5] for it in os.listdir(f"{ROOT}/examples") if it.endswith(".toml"))
     for name in [f"{ROOT}/examples/{it}" for it in examples] + [OLD, NEW, WORSE, BRANCHES, f"{ROOT}/tests/of_several/changes"]:
         walks(name, True)
+    stored = sorted(glob.glob(f"{ROOT}/tests/runs/branch/*.toml") + glob.glob(f"{ROOT}/tests/runs/endless/*.toml"))
+    assert len(stored) > 40, len(stored)
+    for name in stored:
+        if os.path.basename(name)[:-5] not in LOOPS_WITHOUT_LINES:
+            walks(name[:-5], True)
     for script, calls, wanted in (
         ("time|repeat 2|yield|end|time", [(0, 1), (2, 0)], 2), ("repeat 1000|repeat 1000|work 1|end|end|time", [], None),
         ("repeat forever|work 1|end", [], None), ("time|if not 3|yield|else|delay 1|end|time", [(0, 3)], 4),
         ("time|if above 3|yield|end|time", [(0, 3)], 4), ("time|if not below 4|yield|end|time", [(0, 9)], 2),
         ("repeat forever|repeat 2|break|end|time|break|end|yield", [], 4), ("time|yield", [(1, 0)], None),
+        ("if none|else|yield|end|time", [], 4), ("if not none|else|yield|end|time", [], 2), ("if 1|end|if below 3|time|end|bits g", [], 5),
+        ("repeat 2|if none|break|end|yield|end|time", [], 6), ("repeat 2|time|if above 4294967294|break|else|end|end|yield", [(1, 7)], 1),
     ):
         ops = [application.Op(it.split()) for it in script.split("|")]
         walker = progress.walked(application.Script("a", ops), calls)
         equal((script, walker and walker.at), (script, wanted))
+
+
+@case
+def who_serves_for_ever_is_named_where_it_waits_for_a_mutex():
+    file = f"{ROOT}/examples/opposite_locks"
+    names_of_it = names("--failing", "--base", f"{file}.out", "--application", f"{file}.toml", f"{file}.report")
+    equal(names_of_it, ["stuck: menu in lock settings forever, saver in lock display forever"])
+    file = f"{ROOT}/tests/runs/endless/stuck_with_a_daemon_and_endless_tasks_alone"
+    equal(names("--base", f"{file}.out", "--application", f"{file}.toml", f"{file}.report"), ["stuck"])
 
 
 @case

@@ -85,8 +85,8 @@ def the_lost_wake_up_is_found():
 
 @case
 def the_base_run_is_found_or_presumed():
-    for name in ("lost_wake_up", "timeout_race", "inversion_by_an_interrupt"):
-        file = f"{ROOT}/examples/{name}"
+    for name in ("tests/of_stuck/lost_wake_up", "examples/timeout_race", "examples/inversion_by_an_interrupt"):
+        file = f"{ROOT}/{name}"
         base = base_run.find_base(Source(open(f"{file}.report", "rb")))
         given = base_run.given_base(Source(open(f"{file}.out", "rb")).reader())
         equal((base.origin, base.lines, base.head), (base_run.Origin.PRESUMED, given.lines, given.head))

@@ -8,7 +8,7 @@ from cases import case, equal, holds
 from reports import LOST, RACE, ROOT, RUN, good, good_and_quick, quick, read, report_of, source_of, total_of
 
 OLD, NEW, SUSPENDS = (f"{ROOT}/tests/{it}" for it in ("of_versions/old", "of_versions/new", "of_suspends/suspends"))
-EXAMPLE = f"{ROOT}/examples/lost_wake_up"
+EXAMPLE = f"{ROOT}/tests/of_stuck/lost_wake_up"
 
 
 def page(name, *words):

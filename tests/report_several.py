@@ -121,4 +121,4 @@ def the_map_has_a_row_of_several_at_its_first_injection():
     holds(picture, "6 rows of several injections, each at its first")
     titles = [it.text for it in tree.fromstring(picture).iter(f"{SVG}title")]
     equal(sum(it.startswith("key before step ") for it in titles), 6)
-    assert "several" not in good("svg", "--campaign", f"{ROOT}/examples/lost_wake_up.report")
+    assert "several" not in good("svg", "--campaign", f"{ROOT}/tests/of_stuck/lost_wake_up.report")

@@ -19,7 +19,7 @@ COMPANION = f"{ROOT}/bin/rtosim-report"
 PROGRAM = f"{ROOT}/crates/rtosim/out/rtosim"
 PATIENCE = 120
 SVG = "{http://www.w3.org/2000/svg}"
-LOST = f"{ROOT}/examples/lost_wake_up.report"
+LOST = f"{ROOT}/tests/of_stuck/lost_wake_up.report"
 RACE = f"{ROOT}/examples/timeout_race.report"
 KINDS = ("pass", "check", "misuse", "ticks", "steps", "stuck")
 COMMANDS = (["classes"], ["show", "0"], ["json"], ["junit"], ["junit", "--rows"], ["svg", "--row", "0"], ["svg", "--campaign"],
@@ -101,6 +101,8 @@ class Dice:
 
     def __init__(self, seed):
         self.random = random.Random(seed)
+        # in a third of the reports a tick that passes is a day
+        self.jump = 86400000 if seed % 3 == 2 else 1
 
     def what(self):
         name = self.random.choice("ab")
@@ -114,12 +116,12 @@ class Dice:
     def lines(self, first, steps, tick):
         found = []
         for step in range(first, steps):
-            tick += self.random.randrange(2)
+            tick = (tick + self.random.randrange(2) * self.jump) % (1 << 32)
             found += [f"{step} {tick} {self.what()}\n" for _ in range(self.random.choice((0, 0, 1, 2)))]
         return found
 
     def end(self, steps):
-        return f"{self.random.choice(('stuck', 'check a 1', 'ticks', 'misuse b 0 3'))} in {steps} steps, {steps // 2} ticks"
+        return f"{self.random.choice(('stuck', 'check a 1', 'ticks', 'misuse b 0 3'))} in {steps} steps, {steps // 2 * self.jump} ticks"
 
     def campaign(self):
         """The base run and rows: some as the base run, some of few outcomes, some of one of their own."""
@@ -161,11 +163,12 @@ def source_of(text):
     return Source(io.BytesIO(text.encode()))
 
 
-def timeline_of(name, row=None):
-    base = base_run.given_base(Source(open(f"{ROOT}/examples/{name}.out", "rb")).reader())
+def timeline_of(name, row=None, folder="examples"):
+    file = f"{ROOT}/{folder}/{name}"
+    base = base_run.given_base(Source(open(f"{file}.out", "rb")).reader())
     if row is None:
         return timeline.of_base(base)
-    runs = list(Source(open(f"{ROOT}/examples/{name}.report", "rb")).reader())
+    runs = list(Source(open(f"{file}.report", "rb")).reader())
     return timeline.of_row(runs[row], base)
 
 

@@ -1,8 +1,8 @@
 """Whether a value is what a JSON schema says, for the keywords that docs/application.schema.json has."""
 import re
 
-KINDS = {"object": dict, "array": list, "string": str, "integer": (int, float)}
-SAID = ("$schema", "title", "description", "definitions")
+KINDS = {"object": dict, "array": list, "string": str, "integer": (int, float), "boolean": bool}
+SAID = ("$schema", "title", "description", "definitions", "else")
 
 
 def problems(schema, value, whole=None, place=""):
@@ -18,7 +18,7 @@ def problems(schema, value, whole=None, place=""):
 
 
 def of_kind(wanted, value, whole, place, schema):
-    is_good = isinstance(value, KINDS[wanted]) and not isinstance(value, bool)
+    is_good = isinstance(value, KINDS[wanted]) and isinstance(value, bool) == (wanted == "boolean")
     is_good = is_good and (wanted != "integer" or value == value and abs(value) != float("inf") and int(value) == value)
     return [] if is_good else [f"{place}: not {wanted}"]
 
@@ -46,6 +46,14 @@ def of_any(wanted, value, whole, place, schema):
     return [] if any(not problems(it, value, whole, place) for it in wanted) else [f"{place}: none of them"]
 
 
+def of_const(wanted, value, whole, place, schema):
+    return [] if type(value) is type(wanted) and value == wanted else [f"{place}: not {wanted}"]
+
+
+def of_if(wanted, value, whole, place, schema):
+    return problems(schema["else"], value, whole, place) if problems(wanted, value, whole) else []
+
+
 def of_pattern(wanted, value, whole, place, schema):
     return [f"{place}: not as {wanted}"] if isinstance(value, str) and not re.search(wanted, value) else []
 
@@ -61,7 +69,7 @@ def compared(is_good):
 
 CHECKS = {
     "type": of_kind, "properties": of_properties, "required": of_required, "additionalProperties": of_more, "items": of_items,
-    "anyOf": of_any, "pattern": of_pattern, "minimum": compared(lambda number, least: number >= least),
+    "anyOf": of_any, "const": of_const, "if": of_if, "pattern": of_pattern, "minimum": compared(lambda number, least: number >= least),
     "maximum": compared(lambda number, most: number <= most), "minItems": compared(lambda number, least: number >= least),
     "maxItems": compared(lambda number, most: number <= most),
 }

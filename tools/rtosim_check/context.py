@@ -1,8 +1,8 @@
 """A document that is refused, and the place of its fault: the nodes there, and how a message calls it."""
 from .application import Application, Entry
-from .formats import MEANT_SECTIONS, SECTIONS, TOP_KEYS
+from .formats import MEANT_SECTIONS, SECTIONS, TICKLESS, TOP_KEYS
 from .nearness import near
-from .nodes import Array, Table
+from .nodes import Array, Boolean, Table
 
 SHOWN = 40
 
@@ -56,6 +56,16 @@ class Context:
         if self.place.key is None:
             return TOP_KEYS.get(self.place.section)
         return self.section.keys.get(self.place.key) if self.section else None
+
+    @property
+    def is_tickless(self):
+        found = self.root.get(TICKLESS.name)
+        return isinstance(found, Boolean) and found.value
+
+    @property
+    def most(self):
+        """The greatest number of the key at the place."""
+        return self.key.most_tickless if self.is_tickless else self.key.most
 
     @property
     def entry(self):

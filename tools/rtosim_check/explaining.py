@@ -2,13 +2,17 @@
 import json
 import re
 
-from . import explaining_ops, explaining_points
+from . import explaining_nesting, explaining_ops, explaining_points
 from .context import Context
 from .findings import FAULT, Finding
-from .formats import CALLED, DAEMON, EXAMPLE_OF_A_TASK, MEANT_KEYS, MEANT_SECTIONS, NAME, OBJECTS, PLURALS, SECTIONS
+from .formats import CALLED, DAEMON, EXAMPLE_OF_A_TASK, MEANT_KEYS, MEANT_SECTIONS, NAME, OBJECTS, PLURALS, SECTIONS, TICKLESS
 from .nearness import did_you_mean, near, quoted
 from .nodes import Array, Float, Integer, Table, Text
+from .problem import joined
 from .verdict import Place
+
+# What else people write for true and for false.
+YES, NO = ("true", "yes", "on", "1", "1.0"), ("false", "no", "off", "0", "0.0")
 
 
 def explain(verdict, text, root, takes_several):
@@ -89,7 +93,7 @@ def wrong_section(context, node):
 def wrong_value(context, node):
     key = context.key
     wanted = "a text" if key.kind in ("a name", "a handler's name") else key.kind
-    meant = meant_value(key, node, context)
+    meant = meant_boolean(node) if key.kind == "a boolean" else meant_value(key, node, context)
     return node.span, f"{context.label}: {context.source(node)} is {node.kind}, not {wanted}{did_you_mean(meant)}", key.rule
 
 
@@ -107,7 +111,13 @@ def meant_value(key, node, context):
         value = int(node.value, 16)
     elif isinstance(node, Float) and node.value == node.value and abs(node.value) < 2**53 and node.value == int(node.value):
         value = int(node.value)
-    return str(value) if value is not None and key.least <= value <= key.most else None
+    return str(value) if value is not None and key.least <= value <= context.most else None
+
+
+def meant_boolean(node):
+    """As meant_value, of a key that is true or false."""
+    text = node.value.strip().lower() if isinstance(node, Text) else str(node.value) if isinstance(node, (Integer, Float)) else None
+    return "true" if text in YES else "false" if text in NO else None
 
 
 # -- what is out of range
@@ -122,10 +132,12 @@ def out_of_range(context):
         return node.span, f"{context.label}: {message}", key.rule
     if not isinstance(node, Integer):
         return None
-    most, beside = key.most, ""
+    most, beside = context.most, ""
     greatest = context.nodes[2].get("max") if context.place.section == "counting" and key.name == "initial" else None
     if isinstance(greatest, Integer) and greatest.value < most:
         most, beside = greatest.value, ", its max"
+    if context.most < node.value <= key.most_tickless:
+        beside = f"; {TICKLESS.name} = true above the first table allows up to {key.most_tickless}"
     return node.span, f"{context.label}: {node.value} is out of range: {key.least} to {most}{beside}", key.rule
 
 
@@ -203,7 +215,7 @@ def fifth_interrupt(context):
         return None
     others = [it.table.get("tick") for it in context.application.entries["interrupt"][: context.place.index]]
     lines = [context.line_of(it.start) for it in others if isinstance(it, Integer) and it.value == tick.value]
-    before = explaining_ops.joined(lines) if lines else "no others"
+    before = joined(lines) if lines else "no others"
     message = f"{context.label}: the fifth interrupt of tick {tick.value}, after those of lines {before}"
     return tick.span, message, "at most 4 base interrupts come at one tick"
 
@@ -233,5 +245,5 @@ def bad_op(context):
 EXPLANATIONS = {
     "Missing": missing, "WrongKind": wrong_kind, "OutOfRange": out_of_range, "DoubleName": double_name, "TooMany": too_many,
     "BadOp": bad_op, "UnknownName": unknown_name, "OverwriteLength": explaining_ops.overwrite_length,
-    "BadNesting": explaining_ops.bad_nesting, "NoDaemon": explaining_ops.no_daemon,
+    "BadNesting": explaining_nesting.bad_nesting, "NoDaemon": explaining_ops.no_daemon,
 }

@@ -2,10 +2,12 @@
 import re
 
 from .explaining_points import listed
-from .formats import (CALLED, COMMANDS, DAEMON, DEEPEST, EXAMPLE_OF_A_DAEMON, KIN, LATER_OPS, MEANT_NONE, MEANT_OPS, MEANT_WAITS,
-                      NUMBER, OPS, PLURALS, SECTIONS, Answer, Choice, Name, Wait, op_of, words_of)
+from .explaining_conditions import problem_of_condition
+from .formats import (CALLED, COMMANDS, DAEMON, EXAMPLE_OF_A_DAEMON, KIN, LATER_OPS, MEANT_OPS, MEANT_TURNS, MEANT_WAITS, NUMBER, OPS,
+                      PLURALS, SECTIONS, Choice, Name, Turns, Wait, op_of, words_of)
 from .nearness import did_you_mean, near, quoted
-from .nodes import Array, Integer, Text
+from .nodes import Integer, Text
+from .problem import Problem, told
 
 SEPARATORS = re.compile(r"[\t\n\r\f\v\u00a0\u2000-\u200b\u3000,;]")
 CALLED_SEPARATORS = {"\t": "a tab", ",": "a comma", ";": "a semicolon", "\n": "a new line"}
@@ -13,17 +15,6 @@ CALL = re.compile(r" *([A-Za-z_][A-Za-z0-9_]*) *\((.*)\) *;?\s*")
 ONLY_SPACES = "the words of an op have spaces between them, and nothing else"
 # Ops of tasks that wait by themselves.
 WAITING = ("take", "lock", "wait", "delay", "delay_until")
-
-
-def told(context, problem):
-    return f'{context.label}, "{context.node.value}": {problem}'
-
-
-class Problem:
-    """What is wrong with an op's text: the part of it, the words, and the rule."""
-
-    def __init__(self, start, end, message, rule):
-        self.start, self.end, self.message, self.rule = start, end, message, rule
 
 
 def bad_op(context):
@@ -44,6 +35,7 @@ def problem_of(text, section, application):
     return (
         problem_of_characters(text, section)
         or problem_of_word(words, section)
+        or problem_of_condition(words, OPS[section])
         or problem_of_count(words, section, application)
         or problem_of_arguments(words, section, application)
         or Problem(0, 0, "the program takes no such op", OPS[section][words[0][0]].rule)
@@ -187,8 +179,8 @@ def no_number(argument, word):
     ends = f"{argument.least} to {argument.most}" + argument.or_else
     if isinstance(argument, Wait) and (near(word, ["forever"]) or word.lower() in MEANT_WAITS):
         return f'{word} is no wait; did you mean "forever"?'
-    if isinstance(argument, Answer) and (near(word, ["none"]) or word in MEANT_NONE):
-        return f'expected a number, {ends}, found "{word}"; did you mean "none"?'
+    if isinstance(argument, Turns) and (near(word, ["forever"]) or word.lower() in MEANT_TURNS):
+        return f'expected a number, {ends}, found "{word}"; did you mean "forever"?'
     if re.fullmatch("[0-9]{11,}", word):
         return f"{word} has more than ten digits"
     if re.fullmatch("-?[0-9]+", word):
@@ -287,53 +279,3 @@ def overwrite_length(context):
     has = f'queue "{entry.name}" has length {length.value} (line {context.line_of(length.start)})'
     rule = OPS["task"]["overwrite"].rule
     return node.part(words[1][1], words[1][2]), told(context, f"{has}, and overwrite is for queues of length 1"), rule
-
-
-# -- loops
-
-
-def bad_nesting(context):
-    array = context.nodes[3] if len(context.nodes) > 3 else None
-    if not isinstance(array, Array) or context.place.at is None:
-        return None
-    opened = open_loops(array.items[: context.place.at])
-    if context.node is None:
-        return unclosed(context, array, opened)
-    if first_word(context.node) == "end" and not opened:
-        message = told(context, "no loop is open here, which end could close")
-        return context.node.span, message, "each end closes the last repeat that is open"
-    if first_word(context.node) == "repeat" and len(opened) == DEEPEST:
-        message = told(context, f"this is the fifth repeat inside one another: those of {joined(opened)} are open")
-        return context.node.span, message, f"loops are at most {DEEPEST} deep"
-    return None
-
-
-def first_word(node):
-    words = words_of(node.value) if isinstance(node, Text) else []
-    return words[0][0] if words else ""
-
-
-def open_loops(items):
-    """The indices of the loops that are still open after these ops."""
-    opened = []
-    for at, item in enumerate(items):
-        word = first_word(item)
-        if word == "repeat":
-            opened.append(at)
-        elif word == "end" and opened:
-            opened.pop()
-    return opened
-
-
-def joined(numbers):
-    """As `1, 2 and 3`."""
-    return " and ".join([", ".join(map(str, numbers[:-1])), str(numbers[-1])]) if len(numbers) > 1 else str(numbers[0])
-
-
-def unclosed(context, array, opened):
-    if not opened:
-        return None
-    node = array.items[opened[-1]]
-    others = f" ({len(opened)} loops are open)" if len(opened) > 1 else ""
-    start = f'{context.entry.label}, script {opened[-1]}, "{node.value}": this loop is not closed'
-    return node.span, f'{start}; did you forget an "end" at the end of the script{others}?', "each repeat needs an end"

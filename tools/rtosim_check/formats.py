@@ -4,6 +4,8 @@ What messages say of a rule is said here. The verdict is never made of these tab
 import re
 
 MOST_OF_A_NUMBER = 4294967295
+# The greatest limit of ticks of a tickless application, 2^48.
+MOST_TICKLESS = 281474976710656
 NUMBER = re.compile("[0-9]{1,10}")
 NAME = re.compile("[A-Za-z][A-Za-z0-9_]{0,15}")
 A_NAME = "a name is 1 to 16 ASCII letters, digits and `_`, and begins with a letter"
@@ -30,6 +32,8 @@ class Key:
 
     def __init__(self, name, kind, rule, needed=True, least=0, most=0):
         self.name, self.kind, self.rule, self.needed, self.least, self.most = name, kind, rule, needed, least, most
+        # The greatest number where the application is tickless.
+        self.most_tickless = most
 
 
 class Section:
@@ -54,11 +58,21 @@ def texts_key(name, most, rule, example):
     return Key(name, "an array of texts", f"{rule}, as {example}", True, 0, most)
 
 
+def limit_of_ticks():
+    key = number_key("ticks", 1, 1000000, "after how many elapsed ticks a run ends", 1000000)
+    key.rule += f"; with tickless = true it is up to {MOST_TICKLESS}"
+    key.most_tickless = MOST_TICKLESS
+    return key
+
+
 TOGETHER = "a file has at most 32 queues, semaphores and mutexes together"
+ENDLESS = Key(
+    "endless", "a boolean", "endless is true where the task serves for ever, and a run passes without its end; without the key it is false",
+    False)
 THE_NAME = Key("name", "a name", f"{A_NAME}; no two things of a file have the same")
 SECTIONS = {it.name: it for it in (
     Section("limits", False, 1, "[limits] says where a run ends at the latest",
-            number_key("ticks", 1, 1000000, "after how many elapsed ticks a run ends", 1000000),
+            limit_of_ticks(),
             number_key("steps", 1, 1000000, "after how many steps a run ends", 1000000)),
     Section("queue", True, 32, TOGETHER, THE_NAME,
             number_key("length", 1, 256, "how many items the queue holds at most")),
@@ -72,6 +86,7 @@ SECTIONS = {it.name: it for it in (
             texts_key("ops", 16, "ops are what the handler does: an array of at most 16 texts", '["send rx 7"]')),
     Section("task", True, 32, "a file has 1 to 32 tasks, each under a line [[task]]", THE_NAME,
             number_key("priority", 0, 31, "the base priority, where a larger number is a higher priority"),
+            ENDLESS,
             texts_key("script", 256, "script is what the task does: an array of at most 256 texts", '["work 3", "give s"]')),
     Section(DAEMON, False, 1, "[daemon] is the task that sets and clears bits for handlers, one of the 32 tasks", THE_NAME,
             number_key("priority", 0, 31, "the daemon's priority, where a larger number is a higher priority"),
@@ -83,8 +98,12 @@ SECTIONS = {it.name: it for it in (
             texts_key("points", 1000000, "points are where handlers are injected: an array of texts", '["all uart", "12 uart"]')),
 )}
 START = number_key("start", 0, MOST_OF_A_NUMBER, "the time at reset, above the first table", 0)
+TICKLESS = Key(
+    "tickless", "a boolean",
+    "tickless, above the first table, is true where a step of idle passes all ticks up to the next thing to happen; "
+    "without the key it is false", False)
 # The keys above the first table.
-TOP_KEYS = {START.name: START}
+TOP_KEYS = {it.name: it for it in (START, TICKLESS)}
 EXAMPLE_OF_A_DAEMON = '[daemon] with name = "daemon", priority = 31, length = 10'
 EXAMPLE_OF_A_TASK = '[[task]] with name = "a", priority = 1, script = ["work 3"]'
 
@@ -93,11 +112,13 @@ MEANT_SECTIONS = {
     "semaphore": "binary", "sem": "binary", "binary_semaphore": "binary", "counting_semaphore": "counting", "event_group": "group",
     "events": "group", "event": "group", "isr": "handler", "irq": "interrupt", "thread": "task", "points": "campaign",
     "injection": "campaign", "timer_task": DAEMON, "daemon_task": DAEMON, "timer_service": DAEMON, "tmr_svc": DAEMON,
+    "tickless_idle": "tickless", "configuse_tickless_idle": "tickless",
 }
 MEANT_KEYS = {
     "prio": "priority", "size": "length", "capacity": "length", "depth": "length", "ops": "script", "code": "script",
     "script": "ops", "body": "ops", "maximum": "max", "init": "initial", "count": "initial", "time": "tick", "at": "tick",
-    "isr": "handler", "irq": "handler", "ticks": "tick", "tick": "ticks", "point": "points",
+    "isr": "handler", "irq": "handler", "ticks": "tick", "tick": "ticks", "point": "points", "forever": "endless",
+    "infinite": "endless", "never_ends": "endless",
     "configtimer_task_priority": "priority", "configtimer_queue_length": "length", "queue_length": "length",
 }
 
@@ -131,17 +152,38 @@ class Wait(Number):
         return word == "forever" or super().fits(word)
 
 
-class Answer(Number):
-    """What the last answer must be."""
+class Turns(Number):
+    """How many turns a loop has at most."""
 
-    or_else = ", or none"
+    or_else = ", or forever"
 
     def __init__(self):
-        super().__init__("n")
-        self.rule = f"n is the answer that the op before must have, 0 to {self.most}{self.or_else}"
+        super().__init__("n", 1, 1000)
+        self.rule = f"n is how many turns, 1 to {self.most}, or forever, up to a break"
+
+    def fits(self, word):
+        return word == "forever" or super().fits(word)
+
+
+class Condition(Number):
+    """What the last answer must be, in one word or two."""
+
+    or_else = ", or none"
+    # The first words of two, each with whether none may follow.
+    FRONTS = {"not": True, "below": False, "above": False}
+
+    def __init__(self):
+        super().__init__("C")
+        self.rule = (f"C is what the last answer must be: n, none, not n, not none, below n or above n, where n is 0 to {self.most}, and "
+                     "none is neither below nor above a number")
 
     def fits(self, word):
         return word == "none" or super().fits(word)
+
+    def fits_all(self, words):
+        if len(words) == 2 and words[0] in self.FRONTS:
+            return super().fits(words[1]) or words[1] == "none" and self.FRONTS[words[0]]
+        return len(words) == 1 and self.fits(words[0])
 
 
 class Choice:
@@ -190,6 +232,17 @@ class Op:
     def rule(self):
         return "; ".join((f"{self.usage}: {self.does}", *(it.rule for it in self.arguments)))
 
+    def fits(self, given):
+        """Whether these words are its arguments."""
+        if self.has_condition:
+            return self.arguments[0].fits_all(given)
+        return len(given) == len(self.arguments) and all(map(lambda it, word: it.fits(word), self.arguments, given))
+
+    @property
+    def has_condition(self):
+        """Whether its one argument is a condition, of one word or two."""
+        return any(isinstance(it, Condition) for it in self.arguments)
+
     def name_at(self):
         """The index of the argument that is a name, and its kinds; None where there is none."""
         return next(((at, it.kinds) for at, it in enumerate(self.arguments) if isinstance(it, Name)), None)
@@ -206,9 +259,12 @@ TASK_OPS = table_of(
     Op("yield", does="lets the next task of its priority run"),
     Op("time", does="answers the tick"),
     Op("mark", Number("n"), does="writes a line with n"),
-    Op("expect", Answer(), does="ends the run with check where the last answer is another"),
-    Op("repeat", Number("n", 1, 1000, "how many turns"), does="begins a loop of n turns, which an end closes"),
-    Op("end", does="closes a loop"),
+    Op("expect", Condition(), does="ends the run with check where C doesn't hold"),
+    Op("if", Condition(), does="goes on with the next op where C holds, and else behind its else, or behind its end, which closes it"),
+    Op("else", does="parts an if: what follows is done where its condition doesn't hold"),
+    Op("repeat", Turns(), does="begins a loop of n turns, which an end closes"),
+    Op("break", does="leaves the innermost loop"),
+    Op("end", does="closes a loop or an if"),
     Op("send", Q, V, W, does="puts an item last into a queue"),
     Op("send_front", Q, V, W, does="puts an item first into a queue"),
     Op("overwrite", Name("q", "a queue of length 1", "queue"), V, does="puts an item in place of the one that is there"),
@@ -241,15 +297,13 @@ HANDLER_OPS = table_of(
     Op("clear", G, B, does="has the daemon clear bits of an event group, where its queue has room for the command"),
     TASK_OPS["bits"], TASK_OPS["mark"],
 )
-# How deep loops are at most.
-DEEPEST = 4
+# How deep loops are at most, and how deep blocks are, which are loops and ifs.
+DEEPEST_LOOP, DEEPEST = 4, 8
 OPS = {"task": TASK_OPS, "handler": HANDLER_OPS}
 # Ops of handlers that are commands to the daemon.
 COMMANDS = ("set", "clear")
 # Words of ops of later versions. When the program takes one, it moves up, with its arguments.
-LATER_OPS = {"task": ("if", "else", "break", "stamp", "since"), "handler": ("expect", "if", "else", "end")}
-# Keys of later versions, by section, "" for those above the first table.
-LATER_KEYS = {"": ("tickless",), "task": ("endless",)}
+LATER_OPS = {"task": ("stamp", "since"), "handler": ("expect", "if", "else", "end")}
 
 # What FreeRTOS and others call the ops.
 MEANT_OPS = {
@@ -260,15 +314,23 @@ MEANT_OPS = {
     "xeventgroupclearbits": "clear", "xeventgroupgetbits": "bits", "xeventgroupwaitbits": "wait", "vtasksuspend": "suspend",
     "vtaskresume": "resume", "xtaskresume": "resume", "vtasksuspendall": "suspend_all", "xtaskresumeall": "resume_all",
     "sleep": "delay", "recv": "receive", "read": "receive", "get": "receive", "pop": "receive", "put": "send", "push": "send",
+    "while": "repeat", "until": "repeat", "when": "if", "elif": "else", "elseif": "else", "elsif": "else", "otherwise": "else",
+    "endif": "end", "end_if": "end", "fi": "end", "done": "end", "endloop": "end", "endwhile": "end", "leave": "break", "exit": "break",
     "write": "send", "post": "give", "release": "give", "signal": "give", "acquire": "take", "loop": "repeat", "for": "repeat",
     "assert": "expect", "print": "mark", "log": "mark", "trace": "mark", "now": "time", "compute": "work", "run": "work",
     "notify": "give", "set_bits": "set", "clear_bits": "clear", "get_bits": "bits", "wait_bits": "wait",
 }
 # Ops that do the like to things of other kinds.
 KIN = (("receive", "take", "lock", "wait"), ("send", "give", "unlock", "set"), ("waiting", "bits"))
+# What else people write in a condition: an operator for the words of one, and for `<=` and `>=` the word whose number is one off.
+MEANT_FRONTS = {"==": "", "=": "", "is": "", "equals": "", "eq": "", "!=": "not", "<>": "not", "!": "not", "ne": "not", "isnt": "not",
+                "<": "below", "less": "below", "lt": "below", "under": "below", ">": "above", "greater": "above", "more": "above",
+                "gt": "above", "over": "above"}
+MEANT_WITH_EQUAL = {"<=": ("below", 1), "le": ("below", 1), ">=": ("above", -1), "ge": ("above", -1)}
 MEANT_NONE = ("nothing", "null", "NULL", "fail", "failed", "errQUEUE_EMPTY", "empty", "false")
 MEANT_WAITS = ("portmax_delay", "infinite", "infinity", "inf", "ever", "always", "max", "-1", "endless", "0xffffffff", "4294967295",
                "wait_forever", "oswaitforever", "none", "never")
+MEANT_TURNS = ("always", "infinite", "infinity", "inf", "ever", "true", "endless", "while", "loop", "0", "-1")
 
 
 # -- points
@@ -286,8 +348,7 @@ def op_of(section, text):
     """The words of an op and the op that they spell, which is None where this check doesn't know it."""
     words = [it[0] for it in words_of(text)]
     op = OPS[section].get(words[0]) if words else None
-    is_spelled = op and len(words) == len(op.arguments) + 1 and all(map(lambda it, word: it.fits(word), op.arguments, words[1:]))
-    return words, op if is_spelled else None
+    return words, op if op and op.fits(words[1:]) else None
 
 
 def words_of(text):

@@ -1,7 +1,7 @@
 """Warnings of what the program ignores: sections and keys that the format hasn't, and those in another place than theirs."""
 from .application import Entry
 from .findings import WARNING, Finding
-from .formats import LATER_KEYS, MEANT_KEYS, MEANT_SECTIONS, SECTIONS, TOP_KEYS
+from .formats import MEANT_KEYS, MEANT_SECTIONS, SECTIONS, TOP_KEYS
 from .nearness import did_you_mean, near
 from .nodes import Array, Table
 
@@ -34,8 +34,6 @@ def tables_of(section, value):
 def of_section(member):
     """The warning of a section, or a key above the first table, that isn't known."""
     name, shown = member.key, member.shown
-    if name in LATER_KEYS[""]:
-        return warning("LaterVersion", member, f"{shown} is of a later version: this program ignores it")
     owner = owner_of(name)
     if owner and not isinstance(member.value, Table) and shown[0] != "[":
         message = f"{shown} is ignored: above the first table it is no key; it belongs under {owner}"
@@ -43,7 +41,7 @@ def of_section(member):
     meant = near(name, [*SECTIONS, *TOP_KEYS], MEANT_SECTIONS)
     end = did_you_mean(SECTIONS[meant].header if meant in SECTIONS else meant)
     kind = "section" if shown[0] == "[" or isinstance(member.value, (Table, Array)) else "key"
-    rule = None if meant else f"the sections are {', '.join(SECTIONS)}; above them is start"
+    rule = None if meant else f"the sections are {', '.join(SECTIONS)}; above them are {' and '.join(TOP_KEYS)}"
     return warning("UnknownSection", member, f"{shown} is ignored: there is no such {kind}{end}", rule)
 
 
@@ -63,8 +61,6 @@ def of_table(section, label, table):
 def of_key(section, label, name):
     """What to say of a key that its table doesn't know, and the rule."""
     start = f'"{name}" is ignored'
-    if name in LATER_KEYS.get(section.name, ()):
-        return f"{label}: {start}: it is a key of a later version", None
     if name in TOP_KEYS:
         return f"{start}, since it is below {section.header}; it belongs above the first table", TOP_KEYS[name].rule
     if name in SECTIONS:

@@ -1,13 +1,19 @@
-"""Warnings of what can't succeed: a task that waits for ever for what nobody does, and a handler's call that always fails.
+"""Warnings of what can't succeed: a task that waits for ever for what nobody does, or loops for ever; an op that no way leads to; and
+a handler's call that always fails.
 
-Both are sure. What a task waits for is taken to come wherever an op that brings it may be reached at all, and each handler is taken
-to come at any time. Where an op isn't known, nothing is said."""
+All are sure. What a task waits for is taken to come wherever an op that brings it may be reached at all, each condition may hold or
+not, and each handler is taken to come at any time. Where an op isn't known, nothing is said."""
 from .application import integer_of
 from .findings import WARNING, Finding
-from .formats import COMMANDS, LATER_KEYS, op_of
+from .formats import COMMANDS, ENDLESS, SECTIONS, op_of
+from .nodes import Boolean
+from .paths import Paths
 
 NOBODY = "no op that is ever reached"
 WRITES = ("send", "send_front", "overwrite")
+SLEEPS = ("delay", "delay_until")
+LIMIT = SECTIONS["limits"].keys["ticks"]
+PASSES = "a run passes when every task that isn't endless has come to the end of its script, and there is one"
 # In the place of a name: the daemon's queue has none.
 NAMELESS = ""
 
@@ -16,26 +22,43 @@ def warnings(application):
     scripts = [Script(it) for it in (*application.entries["handler"], *application.entries["task"])]
     if all(it.is_known for it in scripts):
         yield from of_tasks(application, scripts)
+        yield from of_unreached(scripts)
         yield from of_handlers(application, [it for it in scripts if it.entry.section == "handler"])
 
 
 class Script:
-    """The ops of a task or a handler: each its words and its node. How far it may come."""
+    """The ops of a task or a handler: each its words and its node."""
 
     def __init__(self, entry):
-        self.entry, self.reached = entry, 0
+        self.entry = entry
         spelled = [(*op_of(entry.section, node.value), node) for _, node in entry.texts()]
         self.ops = [(words, node) for words, _, node in spelled]
         self.is_known = all(op for _, op, _ in spelled)
+        self.paths = Paths([words for words, _ in self.ops]) if self.is_known else None
+        # Of each op to which it may come the mutexes that it surely holds then; and the ops that may end.
+        self.held, self.passed = {0: frozenset()}, set()
 
-    def holds(self, mutex, at):
-        """Whether the task surely holds the mutex before this op: it has locked it for ever so long, and not given it back."""
-        for words, _ in reversed(self.ops[:at]):
-            if words[:2] == ["unlock", mutex]:
-                return False
-            if words == ["lock", mutex, "forever"]:
-                return True
-        return False
+    @property
+    def is_endless(self):
+        value = self.entry.table.get(ENDLESS.name)
+        return isinstance(value, Boolean) and value.value
+
+    @property
+    def may_end(self):
+        return len(self.ops) in self.held
+
+    def come(self, at, held):
+        """It may come to this op with these mutexes; whether that is new."""
+        before = self.held.get(at)
+        self.held[at] = held if before is None else before & held
+        return self.held[at] != before
+
+    def held_after(self, at):
+        """The mutexes that it surely holds when this op has ended."""
+        words, held = self.ops[at][0], self.held[at]
+        if words[0] == "lock" and words[2] == "forever":
+            return held | {words[1]}
+        return held - {words[1]} if words[0] == "unlock" else held
 
 
 class Brought:
@@ -43,6 +66,8 @@ class Brought:
 
     def __init__(self, application):
         self.queues, self.semaphores, self.resumed, self.bits = set(), set(), set(), {}
+        limit = integer_of(application.root.get("limits"), LIMIT.name)
+        self.limit = LIMIT.most if limit is None else limit
         for it in application.entries["counting"]:
             if integer_of(it.table, "initial"):
                 self.semaphores.add(it.name)
@@ -62,6 +87,9 @@ class Brought:
         """What is missing for this op of a task to end, or None."""
         words = script.ops[at][0]
         word, name = words[0], words[1] if len(words) > 1 else None
+        if word in SLEEPS and at + 1 < len(script.ops) and script.entry.name not in self.resumed:
+            # a sleep that a suspension has cut off ends at the resume
+            return f"a run ends after {self.limit} ticks" if int(words[1]) >= self.limit else None
         if word == "suspend" and name == script.entry.name and at + 1 < len(script.ops):
             return None if name in self.resumed else f'{NOBODY} resumes "{name}"'
         if words[-1] != "forever":
@@ -73,7 +101,7 @@ class Brought:
         if word == "wait":
             # a wait for bits that a suspension has cut off ends at the resume, whatever the bits are
             return None if script.entry.name in self.resumed else self.lacks_bits(words)
-        if word == "lock" and script.holds(name, at):
+        if word == "lock" and name in script.held[at]:
             return f'this task has locked "{name}" itself before'
         return None
 
@@ -88,10 +116,9 @@ class Brought:
 
 
 def of_tasks(application, scripts):
-    """The tasks that come to an op which can't end."""
+    """The tasks that come to an op which can't end, or never to their end."""
     brought = Brought(application)
     tasks = [it for it in scripts if it.entry.section == "task"]
-    others = [it for it in tasks if any(key in it.entry.table.members for key in LATER_KEYS["task"])]
     for it in scripts:
         if it.entry.section == "handler":
             for words, _ in it.ops:
@@ -99,26 +126,61 @@ def of_tasks(application, scripts):
     while any([go_on(it, brought) for it in tasks]):
         pass
     for it in tasks:
-        if it.reached < len(it.ops) and it not in others:
+        if not it.may_end and not it.is_endless:
             yield never_ends(it, brought)
+    if tasks and all(it.is_endless for it in tasks):
+        span = tasks[0].entry.table.members[ENDLESS.name].span
+        yield Finding(WARNING, "NeverEnds", span, "all tasks are endless, so no run passes", PASSES)
 
 
 def go_on(script, brought):
     """Lets a task go on as far as it may come, and answers whether it has."""
-    before = script.reached
-    while script.reached < len(script.ops) and brought.lacks(script, script.reached) is None:
-        brought.add(script.ops[script.reached][0])
-        script.reached += 1
-    return script.reached > before
+    has_gone, following = False, list(script.held)
+    while following:
+        at = following.pop()
+        if at == len(script.ops) or brought.lacks(script, at) is not None:
+            continue
+        if at not in script.passed:
+            script.passed.add(at)
+            brought.add(script.ops[at][0])
+            has_gone = True
+        held = script.held_after(at)
+        found = [it for it in script.paths.after(at) if script.come(it, held)]
+        following += found
+        has_gone |= bool(found)
+    return has_gone
 
 
 def never_ends(script, brought):
-    node = script.ops[script.reached][1]
-    lack = brought.lacks(script, script.reached)
-    label = f'{script.entry.label}, script {script.reached}, "{node.value}"'
+    """The first op that can't end, or else the loop that is never left."""
+    stuck = [it for it in sorted(script.held) if brought.lacks(script, it) is not None]
+    if not stuck:
+        return never_left(script)
+    words, node = script.ops[stuck[0]]
+    lack = brought.lacks(script, stuck[0])
+    label = f'{script.entry.label}, script {stuck[0]}, "{node.value}"'
     message = f"{label}: {lack}, so this op never ends, and no run passes"
-    rule = "a run passes when every task has come to the end of its script"
-    return Finding(WARNING, "NeverEnds", node.span, message, rule)
+    return Finding(WARNING, "NeverEnds", node.span, message, LIMIT.rule if words[0] in SLEEPS else PASSES)
+
+
+def never_left(script):
+    paths = script.paths
+    at = next(it for it in sorted(script.held) if paths.is_endless(it) and paths.ends[it] + 1 not in script.held)
+    node = script.ops[at][1]
+    label = f'{script.entry.label}, script {at}, "{node.value}"'
+    message = f"{label}: no break leaves this loop, so the task never ends, and no run passes; did you mean the task to be endless?"
+    return Finding(WARNING, "NeverEnds", node.span, message, ENDLESS.rule)
+
+
+def of_unreached(scripts):
+    """Ops to which no way leads, whatever comes."""
+    for script in scripts:
+        for at in script.paths.unreached():
+            node = script.ops[at][1]
+            key = "script" if script.entry.section == "task" else "ops"
+            message = f'{script.entry.label}, {key} {at}, "{node.value}": this op is never reached'
+            rule = "behind a break, and behind a repeat forever that no break leaves, nothing is reached"
+            yield Finding(WARNING, "Unreached", node.span, message, rule)
 
 
 def of_handlers(application, handlers):

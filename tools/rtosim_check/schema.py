@@ -4,7 +4,7 @@
 It is draft 7, which Taplo and Even Better TOML take. What a schema can't say, as which names there are, isn't in it."""
 import json
 
-from .formats import A_NAME, A_POINT, OPS, PAIRS, SECTIONS, START, STEP, Answer, Choice, Name, Wait
+from .formats import A_NAME, A_POINT, OPS, PAIRS, SECTIONS, STEP, TICKLESS, TOP_KEYS, Choice, Condition, Name, Turns, Wait
 
 NAME = "[A-Za-z][A-Za-z0-9_]{0,15}"
 DIGITS = 10
@@ -37,8 +37,14 @@ def argument_pattern(argument):
     if isinstance(argument, Choice):
         return f"({'|'.join(argument.words)})"
     number = number_pattern(argument.least, argument.most)
-    word = "forever" if isinstance(argument, Wait) else "none" if isinstance(argument, Answer) else None
-    return f"({word}|{number})" if word else number
+    if isinstance(argument, Condition):
+        return condition_pattern(number)
+    return f"(forever|{number})" if isinstance(argument, (Turns, Wait)) else number
+
+
+def condition_pattern(number):
+    fronts = [f"{front} +(none|{number})" if is_none else f"{front} +{number}" for front, is_none in Condition.FRONTS.items()]
+    return f"({'|'.join(['none', number, *fronts])})"
 
 
 def text_of(*words):
@@ -63,7 +69,9 @@ def points_schema():
 def key_schema(section, key):
     schema = {"description": key.rule}
     if key.kind == "an integer":
-        return {**schema, "type": "integer", "minimum": key.least, "maximum": key.most}
+        return {**schema, "type": "integer", "minimum": key.least, "maximum": key.most_tickless}
+    if key.kind == "a boolean":
+        return {**schema, "type": "boolean"}
     if key.kind == "an array of texts":
         items = points_schema() if key.name == "points" else {"$ref": f"#/definitions/op_of_a_{section.name}"}
         return {**schema, "type": "array", "maxItems": key.most, "items": items}
@@ -83,6 +91,17 @@ def section_schema(section):
     return {"description": section.rule, "type": "array", **least, "maxItems": section.most, "items": table}
 
 
+def is_tickless():
+    return {"properties": {TICKLESS.name: {"const": True}}, "required": [TICKLESS.name]}
+
+
+def fits_without_tickless():
+    """The numbers whose range is larger in a tickless application are in that of others."""
+    sections = {it.name: {key.name: {"maximum": key.most} for key in it.keys.values() if key.most < key.most_tickless}
+                for it in SECTIONS.values()}
+    return {"properties": {name: {"properties": keys} for name, keys in sections.items() if keys}}
+
+
 def schema():
     """The whole of it."""
     return {
@@ -90,7 +109,12 @@ def schema():
         "title": TITLE,
         "description": f"docs/FORMATS.md has the format. {A_NAME[0].upper()}{A_NAME[1:]}.",
         "type": "object",
-        "properties": {START.name: key_schema(None, START), **{it.name: section_schema(it) for it in SECTIONS.values()}},
+        "properties": {
+            **{key.name: key_schema(None, key) for key in TOP_KEYS.values()},
+            **{it.name: section_schema(it) for it in SECTIONS.values()},
+        },
+        "if": is_tickless(),
+        "else": fits_without_tickless(),
         "required": ["task"],
         "additionalProperties": False,
         "definitions": {f"op_of_a_{section}": ops_schema(section) for section in OPS},

@@ -57,11 +57,15 @@ class Script(NamedTuple):
 
 
 class Application(NamedTuple):
-    """The scripts by their names. The daemon is a task without one."""
+    """The scripts by their names. The daemon is a task without one. `start` is the tick at reset; `interrupt_ticks` are the elapsed
+    ticks of the base interrupts, rising."""
 
     tasks: Dict[str, Script]
     handlers: Dict[str, Script]
     daemon: Optional[Script] = None
+    is_tickless: bool = False
+    start: int = 0
+    interrupt_ticks: List[int] = []
 
     def script(self, name) -> Optional[Script]:
         return self.tasks.get(name) or self.handlers.get(name)
@@ -90,7 +94,8 @@ def read_application(name):
     handlers = [script_of(it, "ops") for it in entries(document, "handler")]
     daemon = document.get("daemon")
     return Application({it.name: it for it in tasks}, {it.name: it for it in handlers},
-                       script_of(daemon, "") if isinstance(daemon, dict) else None)
+                       script_of(daemon, "") if isinstance(daemon, dict) else None, document.get("tickless") is True,
+                       number_of(document, "start"), sorted({number_of(it, "tick") for it in entries(document, "interrupt")}))
 
 
 def document_of(text):
@@ -131,9 +136,9 @@ def script_of(entry, key):
     ops = entry.get(key, [])
     texts = [it for it in ops if isinstance(it, str)] if isinstance(ops, list) else []
     return Script(str(entry.get("name")), [Op(it.split()) for it in texts],
-                  entry.get("endless") is True, priority_of(entry))
+                  entry.get("endless") is True, number_of(entry, "priority"))
 
 
-def priority_of(entry):
-    found = entry.get("priority")
+def number_of(table, key):
+    found = table.get(key)
     return found if isinstance(found, int) else 0

@@ -108,15 +108,18 @@ class AwayTimes:
         return head.verdict.task is not None and turn.end == head.steps and (op.word == "expect" or head.verdict.task == self.lane.name)
 
     def ready_or_ended(self, turn, back):
-        """After a turn that ends with none of what lets a task wait: it is Ready if it comes back. Where the run passes it has ended
-        else; elsewhere it isn't known."""
-        if back is None and self.builder.head.verdict.passes:
+        """After a turn that ends with none of what lets a task wait: it is Ready if it comes back. Where the run passes, and idle runs
+        then, it has ended else, if nobody may have suspended it; elsewhere it isn't known, since it may serve for ever."""
+        if back is None and self.builder.passes_with_idle and not self.may_be_suspended_after(turn):
             self.endings.append((self.lane, turn.end))
         return Doing.READY if back is not None else None
 
+    def may_be_suspended_after(self, turn):
+        return any(it.is_suspend and it.boundary >= turn.end and it.may_be_of(self.lane.name) for it in self.changes)
+
     def after_call(self, call, turn, back):
-        """A call that is told in the turn's last step: the task may sleep or be suspended by it. With a `delay` after which it doesn't
-        come back it has ended, if that was its last op."""
+        """A call that is told in the turn's last step: the task may sleep or be suspended by it. Where it doesn't come back from a `delay`
+        it isn't known whether it has ended, with that as its last op, or sleeps."""
         if call.word == "suspend" and call.answer == 1:
             return Doing.SUSPENDED
         end = back.start if back else self.builder.head.steps
@@ -124,8 +127,6 @@ class AwayTimes:
         is_sleep = call.word == "delay" or call.word == "delay_until" and call.answer == 1
         if not is_sleep:
             return self.ready_or_ended(turn, back)
-        if back is None and self.builder.head.verdict.passes:
-            self.endings.append((self.lane, turn.end))
         return Doing.SLEEPS if back is not None and has_time_passed else None
 
     def awaited(self, back, later_word):

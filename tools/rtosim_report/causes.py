@@ -13,6 +13,8 @@ LAST_CALLS = re.compile(rb" call ([^ ]+) ([0-9]+ [a-z_]+) = ")
 # A handler's call that wasn't possible: no room, also for a command, no item, nobody to resume.
 FAILED = rb"isr [A-Za-z0-9_]+ [0-9]+ (?:(?:send|send_front|give|resume|set|clear) = 0|(?:receive|peek) = none)"
 FAILED_CALL, FAILED_LINE = re.compile(FAILED), re.compile(b" " + FAILED + rb"\n")
+# The call in which a task waits for another one, so that it serves nobody meanwhile.
+WAITS_FOR_A_TASK = "lock"
 # Of so many calls it is kept where they lead.
 MOST_KEPT = 1 << 16
 
@@ -103,13 +105,13 @@ class Causes:
         return found
 
     def where(self, name, calls, suspended):
-        """Where this task is, or nothing where it has ended or nobody waits for its end."""
+        """Where this task is, or nothing where it has ended, or serves for ever and waits for what it serves."""
         script = self.application.tasks[name]
-        if script.is_endless:
-            return ""
         told = tuple((op, answer) for kind, who, op, _, answer in calls if kind == b"call" and who == name)
         walker = self.walk(script, told)
         if walker is not None and walker[0] is None:
+            return ""
+        if script.is_endless and (name in suspended or walker is None or script.ops[walker[0]].word != WAITS_FOR_A_TASK):
             return ""
         if name in suspended:
             by = "itself" if suspended[name] == name else suspended[name]

@@ -4,13 +4,15 @@ The words of ops are not listed here: an op of a later version reads like the ot
 import re
 
 NUMBER = rb"(?:0|[1-9][0-9]{0,9})"
+# Elapsed ticks, which are up to 281474976710656.
+TICKS = rb"(?:0|[1-9][0-9]{0,14})"
 NAME = rb"[A-Za-z][A-Za-z0-9_]{0,15}"
 WORD = rb"[a-z][a-z_]{0,15}"
 ANSWER = rb"(?:none|" + NUMBER + rb")"
 VERDICT = (
     rb"pass|ticks|steps|stuck|check " + NAME + rb" " + NUMBER + rb"|misuse " + NAME + rb" " + NUMBER + rb" " + NUMBER
 )
-END_OF_HEAD = rb"(" + VERDICT + rb") in (" + NUMBER + rb") steps, (" + NUMBER + rb") ticks"
+END_OF_HEAD = rb"(" + VERDICT + rb") in (" + NUMBER + rb") steps, (" + TICKS + rb") ticks"
 
 BASE_HEAD = re.compile(rb"base: " + END_OF_HEAD)
 # A row's head without its first word: its number, its first injection, up to two more, and the end of the head.

@@ -123,6 +123,11 @@ class Timeline:
     def steps(self):
         return self.head.steps
 
+    @property
+    def outlasts_printed_ticks(self):
+        """Whether it is so long that a printed tick comes again."""
+        return self.head.ticks >= 1 << 32
+
     def title(self):
         words = self.head.text()
         return words + " (presumed)" if self.is_presumed else words

@@ -1,13 +1,16 @@
 """A run as a Chrome trace, which ui.perfetto.dev and chrome://tracing open: a track for each lane.
 
-A tick is a millisecond there; the steps of one tick follow each other within it."""
+A tick is a millisecond there; the steps of one tick follow each other within it. In a run of more ticks than a trace has milliseconds
+a tick is a microsecond."""
 import json
 
 from .report import Kind
 from .subticks import SubTicks
 from .lanes import LaneKind, WindowKind
 
-TICK = 1000
+# In microseconds; a trace has at most 2^63 nanoseconds.
+MILLISECOND, MICROSECOND = 1000, 1
+MOST_MILLISECONDS = (1 << 63) // 1_000_000
 PROCESS = 1
 
 
@@ -23,14 +26,19 @@ def write(output, timeline):
 def other_data(timeline, times):
     return {
         "run": timeline.title(),
-        "tick": "1 ms",
+        "tick": "1 ms" if size_of_tick(timeline) == MILLISECOND else "1 us",
         "steps_per_tick_at_most": str(times.in_a_tick),
         "tick_at_reset": str(timeline.clock.start),
     }
 
 
+def size_of_tick(timeline):
+    return MILLISECOND if timeline.head.ticks < MOST_MILLISECONDS else MICROSECOND
+
+
 def events_of(timeline, times, tracks):
-    stamp = lambda boundary: round(times.at(boundary) * TICK / times.in_a_tick, 3)
+    size = size_of_tick(timeline)
+    stamp = lambda boundary: round(times.at(boundary) * size / times.in_a_tick, 3)
     yield {"ph": "M", "name": "process_name", "pid": PROCESS, "tid": 0, "ts": 0, "args": {"name": timeline.title()}}
     for lane, track in tracks.items():
         base = {"ph": "M", "pid": PROCESS, "tid": track, "ts": 0}

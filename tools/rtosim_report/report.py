@@ -64,6 +64,11 @@ class Head(NamedTuple):
     steps: int
     ticks: int
 
+    @property
+    def is_tickless(self):
+        """Whether the run is surely one of a tickless application: no other step passes more than a tick."""
+        return self.ticks > self.steps
+
     def is_base(self):
         """The lines below it are those of the base run."""
         return self.row is None or not self.is_reached

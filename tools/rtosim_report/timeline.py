@@ -7,14 +7,13 @@ from itertools import combinations
 from typing import Dict, List
 
 from .away import UNNAMED, AwayTimes
+from .clock_of_lines import TickReader
 from .daemon import commands_of, find_daemon
 from .injections import groups_of, position_of, stretches_of_step
-from .lanes import Bar, Clock, Doing, Lane, LaneKind, Note, Timeline
+from .lanes import Bar, Doing, Lane, LaneKind, Note, Timeline
 from .report import IDLE, Kind, event_of
 from .suspensions import changes_of
 from .windows import windows_of_calls, windows_of_waits
-
-WRAP = 1 << 32
 
 
 def of_base(base, application=None):
@@ -71,7 +70,7 @@ class Builder:
         self.lanes: Dict[str, Lane] = {}
         self.commands = commands_of(self)
         self.name_lanes()
-        self.clock = self.clock_of_lines()
+        self.clock = TickReader(head, events, injected, self.boundary, application).clock()
         self.turns: List[Bar] = []
         self.notes: List[Note] = []
         self.is_contradicted = False
@@ -141,37 +140,6 @@ class Builder:
         step = self.events[index].step
         return step if index in self.injected else step + 1
 
-    def clock_of_lines(self):
-        """Known are the ticks of lines, and those at both ends."""
-        events, boundaries, ticks = self.events, [0], [0]
-        start = self.tick_at_reset()
-        last = start
-        for index, event in enumerate(events):
-            elapsed = min(ticks[-1] + (event.tick - last) % WRAP, self.head.ticks)
-            last = event.tick
-            at = self.boundary(index)
-            if event.kind is Kind.CALL and event.word != "resume_all" and at - 1 > boundaries[-1]:
-                boundaries.append(at - 1)
-                ticks.append(elapsed)
-            if at > boundaries[-1]:
-                boundaries.append(at)
-                ticks.append(elapsed)
-            elif at == boundaries[-1]:
-                ticks[-1] = max(ticks[-1], elapsed)
-        if boundaries[-1] < self.head.steps:
-            boundaries.append(self.head.steps)
-            ticks.append(max(self.head.ticks, ticks[-1]))
-        return Clock(boundaries, ticks, start)
-
-    def tick_at_reset(self):
-        """The printed tick at reset: counted back from a line of the last step, else taken for 0 where it can be."""
-        if not self.events:
-            return 0
-        first, last = self.events[0], self.events[-1]
-        if last.step == self.head.steps - 1 and (last.tick - first.tick) % WRAP <= self.head.ticks:
-            return (last.tick - self.head.ticks) % WRAP
-        return 0 if first.tick <= first.step + 1 else first.tick
-
     def build(self):
         self.walk()
         daemon, self.is_contradicted = find_daemon(self)
@@ -185,6 +153,11 @@ class Builder:
         lanes = [it for it in self.lanes.values() if it in used or it.name != UNNAMED]
         return Timeline(self.head, lanes, bars, self.notes, windows, self.clock, self.injections(),
                         endings, ops)
+
+    @property
+    def passes_with_idle(self):
+        """Whether the run passes and idle runs at its end, so that nobody is Ready."""
+        return self.head.verdict.passes and self.turns[-1].lane.kind is LaneKind.IDLE
 
     def injections(self):
         """Those that come: the first one where the point is reached, a later one where the run isn't over before its step."""

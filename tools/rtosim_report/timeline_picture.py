@@ -11,6 +11,8 @@ from .lanes import Doing, LaneKind, WindowKind
 PLOT, RIGHT, TOP = 1080, 24, 58
 WIDEST_STEP, NARROWEST_STEP, MOST_BANDS = 54, 6, 16
 LABEL_ROW, BAR, LANE_GAP, AXIS, BAND_GAP = 14, 14, 12, 40, 18
+# A row of the axis.
+AXIS_ROW = 14
 LEAST_VISIBLE = 0.75
 STYLES = [
     (".runs", "fill:#2f6fce", "fill:#5c9bf5"),
@@ -47,6 +49,7 @@ class Layout:
     bands: int
     lane_tops: List[float]
     band_height: float
+    axis: float
 
     def band_of(self, boundary):
         return min(boundary // self.band_steps, self.bands - 1)
@@ -88,11 +91,20 @@ def layout_of(timeline):
     for lane in timeline.lanes:
         tops.append(at)
         at += rows_of(lane) * LABEL_ROW + BAR + LANE_GAP
-    latest = min(timeline.clock.start + timeline.clock.at(timeline.steps), (1 << 32) - 1)
-    margin = max(6, 5 + len(f"{latest:,}") // 2)
+    widest = max(map(len, axis_numbers(timeline, timeline.steps)))
+    margin = max(6, 5 + 3 * timeline.outlasts_printed_ticks + widest // 2)
     left = 22 + drawing.width_of("x" * max([margin] + [len(it.name) for it in timeline.lanes]))
     step_width = min(WIDEST_STEP, PLOT / band_steps)
-    return Layout(timeline, left, step_width, band_steps, math.ceil(steps / band_steps), tops, at + AXIS)
+    axis = AXIS + AXIS_ROW * timeline.outlasts_printed_ticks
+    return Layout(timeline, left, step_width, band_steps, math.ceil(steps / band_steps), tops, at + axis, axis)
+
+
+def axis_numbers(timeline, last):
+    """The widest numbers of the axis up to a boundary, but for steps."""
+    elapsed = timeline.clock.at(last)
+    yield f"{min(timeline.clock.start + elapsed, (1 << 32) - 1):,}"
+    if timeline.outlasts_printed_ticks:
+        yield f"{elapsed:,}"
 
 
 def write(output, timeline):
@@ -127,23 +139,26 @@ def write_band(output, layout, band):
         if index % 2 == 0:
             output.line(drawing.box(8, lane_top - LANE_GAP / 2, right - 8, height, "stripe"))
         output.line(drawing.label(12, layout.bar_top(band, index) + BAR - 3, lane.name))
-    write_axis(output, layout, band, top + layout.band_height - AXIS)
+    write_axis(output, layout, band, top + layout.band_height - layout.axis)
 
 
 def write_axis(output, layout, band, top):
     first, last = layout.first_step(band), layout.last_step(band)
     clock = layout.timeline.clock
-    latest = min(clock.start + clock.at(last), (1 << 32) - 1)
-    widest = max(len(f"{last:,}"), len(f"{latest:,}"))
+    widest = max(len(f"{last:,}"), *map(len, axis_numbers(layout.timeline, last)))
     interval = drawing.nice_interval((widest + 2) * drawing.CHARACTER / layout.step_width)
     output.line(drawing.label(12, top + 18, "step", "quiet"))
     output.line(drawing.label(12, top + 32, "tick", "quiet"))
+    if layout.timeline.outlasts_printed_ticks:
+        output.line(drawing.label(12, top + 32 + AXIS_ROW, "elapsed", "quiet"))
     for step in range(-(-first // interval) * interval, last + 1, interval):
         at = layout.across(band, step)
         tick = (clock.start + clock.at(step)) % (1 << 32)
         output.line(drawing.line(at, layout.band_top(band) + 18, at, top + 6, "rule"))
         output.line(drawing.label(at, top + 18, f"{step:,}", "quiet", "middle"))
         output.line(drawing.label(at, top + 32, f"{tick:,}", "quiet", "middle"))
+        if layout.timeline.outlasts_printed_ticks:
+            output.line(drawing.label(at, top + 32 + AXIS_ROW, f"{clock.at(step):,}", "quiet", "middle"))
 
 
 def write_lane_contents(output, layout):
@@ -257,7 +272,7 @@ def write_injections(output, layout):
     for step, injections in groups_of(layout.timeline.injections):
         band = layout.band_of(step)
         at, top = layout.across(band, step), layout.band_top(band)
-        bottom = top + layout.band_height - AXIS + 4
+        bottom = top + layout.band_height - layout.axis + 4
         text = f"{', '.join(it.handler for it in injections)} before step {step}"
         output.line(drawing.line(at, top, at, bottom, "injection", text))
         last = labels[-1] if labels else None

@@ -99,4 +99,15 @@ impl Page {
     {
         self.used = put_number(&mut self.bytes, self.used, number);
     }
+
+    /// Adds the number in decimal digits, of which a `u64` has at most 20.
+    #[inline]
+    pub fn push_long_number(&mut self, number: u64)
+        requires { length self.old + 20 ≤ Self.SIZE }
+        ensures text { self.new ≡ self.old ++ decimal number }
+        ensures size { length self.new ≤ length self.old + 20 }
+    {
+        let mut buffer = itoa::Buffer::new();
+        self.push_text(buffer.format(number).as_bytes());
+    }
 }

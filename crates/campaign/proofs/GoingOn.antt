@@ -1,5 +1,5 @@
 -- How rows go on from a kernel that they have come to.
-use Rattle.std.proofs.Common.{◌≡◌, ◌≤◌, ◌<◌, ℕ, List, [], ◌∷◌, ◌++◌, Option, Some, None, length, ap, ◌∙◌, append-nil, arith}
+use Rattle.std.proofs.Common.{◌≡◌, ◌≤◌, ◌<◌, ℕ, List, [], ◌++◌, Option, Some, None, length, ap, ◌∙◌, append-nil, arith}
 use Rattle.std.specs.Prelude.{IfSome, option_map}
 use Rattle.model.specs.declared.event.Event.{Event}
 use Rattle.model.specs.declared.event.End.{End}
@@ -67,12 +67,12 @@ module _ (app : Application) (limits : Limits) where
     }
 
     -- one that has come to its end tells no more
-    pub ended_rest : (trail : List Event) (at steps ticks : ℕ) (end : End) → end_of app limits (state_after app point k.steps) ≡ Some end → at ≡ length trail
-        → steps ≡ k.steps → ticks ≡ (state_after app point k.steps).elapsed
+    pub ended_rest : (trail : List Event) (at steps ticks : ℕ) (end : End) → end_of app limits (state_after app limits point k.steps) ≡ Some end → at ≡ length trail
+        → steps ≡ k.steps → ticks ≡ (state_after app limits point k.steps).elapsed
         → IsRestOf app limits trail point k (record { told = record { from = at; to = at }; steps = steps; ticks = ticks; end = end })
     ended_rest trail at steps ticks end ends e same t =
-        let all : events_after app point k.steps ++ told_in trail (record { from = at; to = at }) ≡ events_after app point k.steps =
-        rw (none trail at) (append-nil (events_after app point k.steps)) in
+        let all : events_after app limits point k.steps ++ told_in trail (record { from = at; to = at }) ≡ events_after app limits point k.steps =
+        rw (none trail at) (append-nil (events_after app limits point k.steps)) in
         record {
           told = record { rises = omega arith; within = omega arith };
           is_row = rw same (record {

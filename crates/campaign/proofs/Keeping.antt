@@ -2,7 +2,7 @@
 use Rattle.std.specs.Prelude.{nat_lt, slice_get, Some}
 use Rattle.std.proofs.lemmas.Option.{slice_get_within}
 use Rattle.std.proofs.lemmas.Bool.Decides.{nat_tests}
-use Rattle.std.proofs.Common.{◌≡◌, ℕ, ◌≤◌, ◌<◌, ◌+◌, ◌-◌, zero, suc, true, false, List, [], ◌∷◌, ◌++◌, length, length-append, slice_index, slice_index_or, take, drop, refl, sym, ap, subst, ◌∙◌, append-nil, append_assoc, arith}
+use Rattle.std.proofs.Common.{◌≡◌, ℕ, ◌≤◌, ◌<◌, ◌+◌, ◌-◌, true, false, List, [], ◌∷◌, ◌++◌, length, length-append, slice_index, slice_index_or, take, drop, refl, sym, ap, subst, ◌∙◌, append-nil, append_assoc, arith}
 use Rattle.std.specs.List.{AllByRecursion}
 use Rattle.std.proofs.lemmas.List.{length-map, map-append, take-append-le, drop-append-le, length-drop, take_all, take_more, drop_at}
 use Rattle.std.proofs.Math.Seq.{take-length}
@@ -64,7 +64,7 @@ none trail i = let e : i - i ≡ 0 = omega arith in rw e refl
 module _ (app : Application) (limits : Limits) (base : Run) (is : IsRun app [] limits base) (point : List Injection) where
   -- a row that is reached begins as the base run does, and is kept with what it told from its first injection on, and with its rest
   pub reached_row : (old mid new : List Event) (k : Machine) (beginning : RowBeginning) → HasBegun app point limits k old mid beginning → Extends mid new
-      → beginning.before ≡ length (events_after app [] (first_step point)) → (rest : Rest) → IsRestOf app limits new point k rest → first_step point < base.steps
+      → beginning.before ≡ length (events_after app limits [] (first_step point)) → (rest : Rest) → IsRestOf app limits new point k rest → first_step point < base.steps
       → (from to : ℕ) → from ≡ length old → to ≡ length mid
       → GainsRow app limits base point old new (record { point = point; shared = beginning.before; own = record { from = from; to = to }; rest = rest.told; steps = rest.steps; ticks = rest.ticks; end = rest.end })
   reached_row old mid new k beginning begun (more, grown) before rest goes l from to e f =
@@ -73,18 +73,18 @@ module _ (app : Application) (limits : Limits) (base : Run) (is : IsRun app [] l
       let whole : new ≡ (old ++ begun.own) ++ more = rw begun.kept at grown in
       let there : IsStretch (old ++ begun.own) own = gained_stretch old begun.own own e long in
       let within : first_step point ≤ base.steps = omega arith in
-      let first : take beginning.before base.events ≡ events_after app [] (first_step point) = rw (before, is.trace) (begins_with app [] (first_step point) base.steps within) in
+      let first : take beginning.before base.events ≡ events_after app limits [] (first_step point) = rw (before, is.trace) (begins_with app limits [] (first_step point) base.steps within) in
       let last : told_in new own ≡ begun.own = rw whole (same_told (old ++ begun.own) more own there ∙ last_told old begun.own own e long) in
       let reaches = less (first_step point) base.steps l in
-      let events : events_after app point k.steps ++ told_in new rest.told ≡ take beginning.before base.events ++ (told_in new own ++ told_in new rest.told) =
-      rw (begun.events, first, last) (append_assoc (events_after app [] (first_step point)) begun.own (told_in new rest.told)) in
+      let events : events_after app limits point k.steps ++ told_in new rest.told ≡ take beginning.before base.events ++ (told_in new own ++ told_in new rest.told) =
+      rw (begun.events, first, last) (append_assoc (events_after app limits [] (first_step point)) begun.own (told_in new rest.told)) in
       record {
         own = begun.own ++ more;
         trail = whole ∙ append_assoc old begun.own more;
         row = record {
           at_point = refl;
           is_kept = record {
-            shared = rw (before, is.trace) (no_fewer app [] (first_step point) base.steps within);
+            shared = rw (before, is.trace) (no_fewer app limits [] (first_step point) base.steps within);
             own = rw whole (still_there (old ++ begun.own) more own there);
             rest = goes.told;
           };

@@ -14,5 +14,6 @@ mod Pieces
 mod Placed
 mod Sending
 mod Started
+mod Texts
 mod Totalling
 mod Whole

@@ -1,8 +1,8 @@
 -- Rows counted one after the other.
 use Rattle.std.specs.Prelude.{slice_get, Some, Option}
 use Rattle.std.specs.List.{AllByRecursion, flat_map}
-use Rattle.std.proofs.Common.{◌≡◌, ◌<◌, ◌≤◌, ◌+◌, ◌-◌, ℕ, zero, suc, List, [], ◌∷◌, ◌++◌, length, take, drop, slice_index_or, refl, sym, subst, ap, ap₂, ◌∙◌, append_assoc, append-nil, length-append, add-one, arith}
-use Rattle.std.proofs.lemmas.List.{length-take, length-drop, length-map, take_all, take_more, map-append}
+use Rattle.std.proofs.Common.{◌≡◌, ◌<◌, ◌≤◌, ◌+◌, ℕ, zero, suc, List, [], ◌∷◌, ◌++◌, length, take, drop, slice_index_or, refl, sym, subst, ap, ◌∙◌, append_assoc, append-nil, length-append, add-one, arith}
+use Rattle.std.proofs.lemmas.List.{length-take, length-drop, length-map, take_more, map-append}
 use Rattle.model.specs.declared.event.Event.{Event}
 use Rattle.model.specs.Run.{Run}
 use Rattle.model.specs.Campaign.{Row}

@@ -10,3 +10,4 @@ pub mod Report
 pub mod Serving
 pub mod Setup
 pub mod Working
+pub mod Texts

@@ -46,16 +46,16 @@ ArePieces rows first last (piece ∷ others) =
 
 -- ---- texts that spellers hand on
 
--- The events are those of the base run, of this application, and the pieces are pieces of the rows.
+-- The texts are those of these rows, of this application, and the pieces are pieces of the rows.
 pub record IsSpelling (spelling : Spelling) : Type 0 where
-  pub app : spelling.events.app ≡ spelling.app.now
-  pub base : spelling.events.events ≡ spelling.rows.now.base.events
+  pub app : spelling.texts.app ≡ spelling.app.now
+  pub rows : spelling.texts.rows ≡ spelling.rows.now
   pub sound : IsSound spelling.rows.now
   pub pieces : AllByRecursion (IsPiece spelling.rows.now) spelling.pieces.items
 
 -- the text of a piece
 abbrev pub text_of : Spelling → Piece → List ℕ
-text_of spelling piece = piece_text spelling.events.app spelling.rows.now piece
+text_of spelling piece = piece_text spelling.texts.app spelling.rows.now piece
 
 -- The buffer has the text of the piece of its number, unless it failed.
 abbrev pub IsRight : Spelling → Spelled → Type 0

@@ -75,7 +75,7 @@ pub record IsRestIn (app : Application) (limits : Limits) (trail : List Event) (
 -- The row of this point, which has come to the kernel, goes on so, and what it tells is there.
 pub record IsRestOf (app : Application) (limits : Limits) (trail : List Event) (point : List Injection) (k : Machine) (rest : Rest) : Type 0 where
   pub told : IsStretch trail rest.told
-  pub is_row : IsRun app point limits (record { events = events_after app point k.steps ++ told_in trail rest.told; steps = rest.steps; ticks = rest.ticks; end = rest.end })
+  pub is_row : IsRun app point limits (record { events = events_after app limits point k.steps ++ told_in trail rest.told; steps = rest.steps; ticks = rest.ticks; end = rest.end })
 
 -- The mark, if there is one, has the rest of each row that comes to its kernel.
 abbrev pub IsMarked : Application → Limits → (trail : List Event) → Option Mark → Type 0

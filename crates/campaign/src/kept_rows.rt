@@ -1,5 +1,5 @@
 //! The rows that a worker keeps.
-ghost use Rattle.std.specs.Prelude.{◌≡◌, ◌<◌, ◌^◌, ◌++◌, ◌∷◌, [], length, option_map, slice_get, Some, OnErr, OnOk};
+ghost use Rattle.std.specs.Prelude.{◌≡◌, ◌<◌, ◌^◌, ◌++◌, ◌∷◌, [], length, option_map, slice_get, Some, IsTrue, OnErr, OnOk};
 ghost use Rattle.campaign.specs.declared.rows.KeptRow as declared;
 
 use crate::rows::KeptRow;
@@ -67,6 +67,27 @@ impl KeptRows {
     {
         let place = self.places[number];
         &self.different[place]
+    }
+
+    /// Whether most rows are rows that came before.
+    pub(crate) fn come_again(&self) -> bool {
+        self.different.len() < self.places.len() / 2
+    }
+
+    /// The place of the row of this number among the different ones, which are in the order of their first numbers.
+    pub(crate) fn place(&self, number: usize) -> usize
+        requires { number < length self.now }
+    {
+        self.places[number]
+    }
+
+    /// Whether the row of this number is the other one once more.
+    pub(crate) fn is_again(&self, number: usize, other: usize) -> bool
+        requires number { number < length self.now }
+        requires other { other < length self.now }
+        ensures { IsTrue result → slice_get self.now other ≡ slice_get self.now number }
+    {
+        self.places[number] == self.places[other]
     }
 
     /// Appends a row.

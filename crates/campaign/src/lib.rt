@@ -19,6 +19,7 @@ mod piece;
 mod placing;
 mod points;
 mod recent;
+mod row_texts;
 mod rows;
 mod runner;
 mod serving;

@@ -8,7 +8,7 @@ use model::End;
 pub(crate) struct Rest {
     pub(crate) told: Stretch,
     pub(crate) steps: u32,
-    pub(crate) ticks: u32,
+    pub(crate) ticks: u64,
     pub(crate) end: End,
 }
 

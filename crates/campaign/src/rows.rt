@@ -20,7 +20,7 @@ pub(crate) struct KeptRow {
     pub(crate) own: Stretch,
     pub(crate) rest: Stretch,
     pub(crate) steps: u32,
-    pub(crate) ticks: u32,
+    pub(crate) ticks: u64,
     pub(crate) end: End,
 }
 

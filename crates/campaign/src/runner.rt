@@ -84,7 +84,7 @@ impl Runner {
     // The rest of a row that has come to its end: nothing.
     fn no_rest(&self, app: &App, limits: &Limits, point: &Point, end: End) -> Rest
         requires way { IsUnderWay app.now point.now limits.now self.now.kernel }
-        requires end { end_of app.now limits.now (state_after app.now point.now self.now.kernel.steps) ≡ Some end }
+        requires end { end_of app.now limits.now (state_after app.now limits.now point.now self.now.kernel.steps) ≡ Some end }
         ensures { IsRestOf app.now limits.now (all_of self.now.trail) point.now self.now.kernel result }
     {
         limits.well_formed();
@@ -95,7 +95,7 @@ impl Runner {
                 to: place,
             },
             steps: self.kernel.steps(),
-            ticks: self.kernel.ticks() as u32,
+            ticks: self.kernel.ticks(),
             end,
         }
     }
@@ -181,7 +181,7 @@ impl Runner {
     ) -> Result<Rest, Memory>
         requires way { IsUnderWay app.now point.now limits.now self.old.kernel }
         requires beyond { end ≡ None → last_step point.now < self.old.kernel.steps }
-        requires end { end ≡ end_of app.now limits.now (state_after app.now point.now self.old.kernel.steps) }
+        requires end { end ≡ end_of app.now limits.now (state_after app.now limits.now point.now self.old.kernel.steps) }
         requires mark { IsMarked app.now limits.now (all_of self.old.trail) self.old.mark }
         requires meter { meter.old < 2 ^ 62 + self.old.kernel.steps }
         ensures told { OnOk result (Extends (all_of self.old.trail) (all_of self.new.trail)) }

@@ -31,7 +31,7 @@ fn put<W: Sink>(
     requires spelling { IsSpelling spelling.now }
     requires piece { IsPiece spelling.now.rows.now piece }
     requires working { W.has_failed writer.old ≡ false }
-    requires app { spelling.now.events.app ≡ report.old.app }
+    requires app { spelling.now.texts.app ≡ report.old.app }
     requires empty { report.old.page ≡ [] }
     ensures app { report.new.app ≡ report.old.app }
     ensures text { (buffer_failed text.now.buffer ≡ false → bytes_of text.now.buffer ≡ text_of spelling.now piece)
@@ -40,7 +40,7 @@ fn put<W: Sink>(
     ensures failed { W.has_failed writer.new ≡ is_err result }
 {
     if text.buffer.has_failed() {
-        return write_piece(writer, report, spelling.rows, &spelling.events, piece);
+        return write_piece(writer, report, spelling.rows, &spelling.texts, piece);
     }
     put_all(writer, text.buffer.bytes())
 }
@@ -59,7 +59,7 @@ fn write_arriving<R: Wait, W: Sink>(
 ) -> Result<(), WriteFault>
     requires spelling { IsSpelling spelling.now }
     requires working { W.has_failed writer.old ≡ false }
-    requires app { spelling.now.events.app ≡ report.old.app }
+    requires app { spelling.now.texts.app ≡ report.old.app }
     requires empty { report.old.page ≡ [] }
     ensures ring { SameProducer own.old.spelled own.new.spelled }
     ensures sent { HasSent spelling.now own.old → HasSent spelling.now own.new }
@@ -123,7 +123,7 @@ fn write_beside<R: Threads + Wait + Sync, W: Sink>(
 ) -> Result<(), WriteFault>
     requires spelling { IsSpelling spelling.now }
     requires working { W.has_failed writer.old ≡ false }
-    requires app { spelling.now.events.app ≡ report.old.app }
+    requires app { spelling.now.texts.app ≡ report.old.app }
     requires empty { report.old.page ≡ [] }
     ensures ring { SameProducer own.old.spelled own.new.spelled }
     ensures own { HasSent spelling.now own.old → HasSent spelling.now own.new }
@@ -145,7 +145,7 @@ fn write_beside<R: Threads + Wait + Sync, W: Sink>(
     let mut mine = || -> Result<(), WriteFault>
         requires spelling { IsSpelling spelling.now }
         requires working { W.has_failed writer.now ≡ false }
-        requires app { spelling.now.events.app ≡ report.now.app }
+        requires app { spelling.now.texts.app ≡ report.now.app }
         requires empty { report.now.page ≡ [] }
         ensures ring { SameProducer own.entry.now.spelled own.exit.now.spelled }
         ensures sent { HasSent spelling.entry.now own.entry.now → HasSent spelling.entry.now own.exit.now }
@@ -207,7 +207,7 @@ pub(crate) fn write_side_by_side<R: Threads + Wait + Sync, W: Sink>(
     requires pairs { ArePairs (own.old ∷ others.old) desks.old }
     requires fresh { AreFresh (own.old ∷ others.old) }
     requires working { W.has_failed writer.old ≡ false }
-    requires app { spelling.now.events.app ≡ report.old.app }
+    requires app { spelling.now.texts.app ≡ report.old.app }
     requires empty { report.old.page ≡ [] }
     ensures app { report.new.app ≡ report.old.app }
     ensures text { Writes (W.held writer.old) (W.held writer.new) result (flat_map (text_of spelling.now) spelling.now.pieces.items) }

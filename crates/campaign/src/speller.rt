@@ -5,10 +5,11 @@ ghost use Rattle.campaign.specs.Pieces.{HasSent, IsSpelling};
 
 use crate::campaign_report::Rows;
 use crate::piece::Piece;
+use crate::row_texts::RowTexts;
 use crate::writing::write_piece;
 use byte_io::Buffer;
 use model::App;
-use report::{BaseEvents, ReportWriter};
+use report::ReportWriter;
 use rtrb::{Consumer, Producer, PushError};
 use std::sync::Wait;
 use std::sync::atomic::{AtomicU64, Ordering};
@@ -21,13 +22,13 @@ const MOST_YIELDS: u32 = 1000;
 
 const SLEEP: u64 = 200;
 
-/// What all share who spell: the application, the rows, the events of their base run, the pieces, and how many of these are taken,
+/// What all share who spell: the application, the rows, what is known of their texts, the pieces, and how many of these are taken,
 /// from the first on.
 #[derive(Drop)]
 pub(crate) struct Spelling<'a> {
     pub(crate) app: &'a App,
     pub(crate) rows: &'a Rows,
-    pub(crate) events: BaseEvents<'a>,
+    pub(crate) texts: RowTexts<'a>,
     pub(crate) pieces: Vec<Piece>,
     pub(crate) taken: AtomicU64,
 }
@@ -99,7 +100,7 @@ impl Speller {
         report: &mut ReportWriter<'_>,
     ) -> bool
         requires spelling { IsSpelling spelling.now }
-        requires app { spelling.now.events.app ≡ report.old.app }
+        requires app { spelling.now.texts.app ≡ report.old.app }
         requires empty { report.old.page ≡ [] }
         ensures app { report.new.app ≡ report.old.app }
         ensures empty { report.new.page ≡ [] }
@@ -115,7 +116,7 @@ impl Speller {
         };
         buffer.clear();
         // The buffer itself tells whether it has failed.
-        let _written = write_piece(&mut buffer, report, spelling.rows, &spelling.events, *piece);
+        let _written = write_piece(&mut buffer, report, spelling.rows, &spelling.texts, *piece);
         report.clear();
         hand_on(rt, &mut self.spelled, Spelled { number, buffer });
         true

@@ -1,5 +1,5 @@
 //! The text of a campaign's report, to a sink.
-ghost use Rattle.std.specs.Prelude.{◌≡◌, ◌≤◌, ◌<◌, ◌+◌, false, [], ◌∷◌, length, OnOk};
+ghost use Rattle.std.specs.Prelude.{◌≡◌, ◌≤◌, ◌<◌, ◌+◌, false, [], ◌∷◌, length, slice_get, Some, IfSome, OnOk};
 ghost use Rattle.std.specs.Result.{is_err};
 ghost use Rattle.byte_io.specs.Bytes.{Adds, Writes};
 ghost use Rattle.machine.specs.Logged.{all_of};
@@ -12,6 +12,7 @@ ghost use Rattle.campaign.specs.Pieces.{piece_text, AreFresh, ArePairs, ArePiece
 use crate::campaign_report::{Report, Rows};
 use crate::lanes::{Lanes, lanes_of};
 use crate::piece::{Piece, pieces_of};
+use crate::row_texts::RowTexts;
 use crate::rows::{KeptRow, Part};
 use crate::side_by_side::write_side_by_side;
 use crate::speller::Spelling;
@@ -31,8 +32,8 @@ const MOST_PIECE: usize = 1 << 16;
 // No text that is longer than this is kept in memory, in bytes.
 const MOST_TEXT: usize = 1 << 24;
 
-// Adds a row of this number to a report: its events are the first so many of the base run's, its own, and those of its rest.
-fn add_row<W: Sink>(
+/// Adds a row of this number to a report: its events are the first so many of the base run's, its own, and those of its rest.
+pub(crate) fn add_row<W: Sink>(
     writer: &mut W,
     text: &mut ReportWriter<'_>,
     number: usize,
@@ -67,20 +68,50 @@ fn add_row<W: Sink>(
     text.add_run_after(writer, title, ending, events, row.shared, own, rest)
 }
 
-// Adds so many rows of a part, from the first on, which are numbered from here.
+// Adds a row of this number to a report. Its text under the number 0 may be known.
+fn add_kept_row<W: Sink>(
+    writer: &mut W,
+    text: &mut ReportWriter<'_>,
+    number: usize,
+    row: &KeptRow,
+    known: Option<&[u8]>,
+    base: &Run,
+    events: &BaseEvents<'_>,
+    trail: &[Event],
+) -> Result<(), WriteFault>
+    requires working { W.has_failed writer.old ≡ false }
+    requires app { events.now.app ≡ text.old.app }
+    requires base { events.now.events ≡ base.now.events }
+    requires few { number ≤ most_points }
+    requires kept { IsKept base.now trail.now row.now }
+    requires known { IfSome known (λ t. t.now ≡ row_text text.old.app 0 (row_of base.now trail.now row.now)) }
+    ensures app { text.new.app ≡ text.old.app }
+    ensures text { Adds (W.held writer.old) (W.held writer.new) text.old.page text.new.page result
+        (row_text text.old.app number (row_of base.now trail.now row.now)) }
+    ensures failed { W.has_failed writer.new ≡ is_err result }
+{
+    match known {
+        Some(known) => text.add_row_again(writer, number as u32, known),
+        None => add_row(writer, text, number, row, base, events, trail),
+    }
+}
+
+// Adds so many rows of the part of this number, from the first on, which are numbered from here.
 fn add_place<W: Sink>(
     writer: &mut W,
     text: &mut ReportWriter<'_>,
     number: usize,
     base: &Run,
-    events: &BaseEvents<'_>,
+    texts: &RowTexts<'_>,
+    part_number: usize,
     part: &Part,
     first: usize,
     count: usize,
 ) -> Result<(), WriteFault>
     requires working { W.has_failed writer.old ≡ false }
-    requires app { events.now.app ≡ text.old.app }
-    requires base { events.now.events ≡ base.now.events }
+    requires app { texts.now.app ≡ text.old.app }
+    requires base { texts.now.rows.base ≡ base.now }
+    requires part { slice_get texts.now.rows.parts.items part_number ≡ Some part.now }
     requires few { number + count ≤ most_points }
     requires kept { AreKept base.now part.now }
     requires within { first + count ≤ length part.now.kept }
@@ -93,8 +124,19 @@ fn add_place<W: Sink>(
     // A part has no more rows than fit, so the sums below do.
     let _ = part.kept.len();
     for index in 0..count {
-        let row = part.kept.at(first + index);
-        add_row(writer, text, number + index, row, base, events, trail)?;
+        let row_number = first + index;
+        let row = part.kept.at(row_number);
+        let known = texts.find(part_number, part, row_number);
+        add_kept_row(
+            writer,
+            text,
+            number + index,
+            row,
+            known,
+            base,
+            texts.events(),
+            trail,
+        )?;
     }
     Ok(())
 }
@@ -104,12 +146,12 @@ fn add_piece<W: Sink>(
     writer: &mut W,
     text: &mut ReportWriter<'_>,
     rows: &Rows,
-    events: &BaseEvents<'_>,
+    texts: &RowTexts<'_>,
     piece: Piece,
 ) -> Result<(), WriteFault>
     requires working { W.has_failed writer.old ≡ false }
-    requires app { events.now.app ≡ text.old.app }
-    requires base { events.now.events ≡ rows.now.base.events }
+    requires app { texts.now.app ≡ text.old.app }
+    requires rows { texts.now.rows ≡ rows.now }
     requires sound { IsSound rows.now }
     requires piece { IsPiece rows.now piece }
     ensures app { text.new.app ≡ text.old.app }
@@ -128,7 +170,8 @@ fn add_piece<W: Sink>(
             text,
             number,
             &rows.base,
-            events,
+            texts,
+            place.part,
             part,
             place.first,
             place.count,
@@ -142,12 +185,12 @@ pub(crate) fn write_piece<W: Sink>(
     writer: &mut W,
     text: &mut ReportWriter<'_>,
     rows: &Rows,
-    events: &BaseEvents<'_>,
+    texts: &RowTexts<'_>,
     piece: Piece,
 ) -> Result<(), WriteFault>
     requires working { W.has_failed writer.old ≡ false }
-    requires app { events.now.app ≡ text.old.app }
-    requires base { events.now.events ≡ rows.now.base.events }
+    requires app { texts.now.app ≡ text.old.app }
+    requires rows { texts.now.rows ≡ rows.now }
     requires sound { IsSound rows.now }
     requires piece { IsPiece rows.now piece }
     requires empty { text.old.page ≡ [] }
@@ -156,7 +199,7 @@ pub(crate) fn write_piece<W: Sink>(
     ensures empty { OnOk result (text.new.page ≡ []) }
     ensures failed { W.has_failed writer.new ≡ is_err result }
 {
-    add_piece(writer, text, rows, events, piece)?;
+    add_piece(writer, text, rows, texts, piece)?;
     text.finish(writer)
 }
 
@@ -176,23 +219,23 @@ fn write_totals<W: Sink>(
     text.finish(writer)
 }
 
-// Writes the rows and the line of their totals. These are the events of the base run.
+// Writes the rows and the line of their totals. This is known of their texts.
 fn write_rows<W: Sink>(
     app: &App,
     rows: &Rows,
-    events: &BaseEvents<'_>,
+    texts: &RowTexts<'_>,
     writer: &mut W,
 ) -> Result<(), WriteFault>
     requires working { W.has_failed writer.old ≡ false }
-    requires app { events.now.app ≡ app.now }
-    requires base { events.now.events ≡ rows.now.base.events }
+    requires app { texts.now.app ≡ app.now }
+    requires rows { texts.now.rows ≡ rows.now }
     requires sound { IsSound rows.now }
     ensures text { Writes (W.held writer.old) (W.held writer.new) result
         (campaign_text app.now (whole rows.now)) }
     ensures failed { W.has_failed writer.new ≡ is_err result }
 {
     let mut text = ReportWriter::new(app);
-    write_piece(writer, &mut text, rows, events, Piece::all(rows))?;
+    write_piece(writer, &mut text, rows, texts, Piece::all(rows))?;
     write_totals(writer, &mut text, rows)
 }
 
@@ -235,8 +278,8 @@ pub fn write_report<W: Sink>(app: &App, report: &Report, writer: &mut W) -> Resu
     ensures failed { W.has_failed writer.new ≡ is_err result }
 {
     let rows = report.rows();
-    let events = BaseEvents::new(app, rows.base.events.as_slice());
-    write_rows(app, rows, &events, writer)
+    let texts = RowTexts::new(app, rows);
+    write_rows(app, rows, &texts, writer)
 }
 
 // How long the text of a piece is, in bytes: all that are in memory at a time take some sixteenth of the rows' memory at most,
@@ -256,7 +299,7 @@ fn length_of_pieces(rows: &Rows, spellers: usize) -> usize
 }
 
 /// Writes the report of a campaign as `write_report` does, and faster: it takes memory for the text of the base run's events,
-/// with which rows begin, and has so many threads spell rows, where that are several. What it gets no memory for is spelled for
+/// with which rows begin, and for that of rows that come again, and has so many threads spell rows, where that are several. What it gets no memory for is spelled for
 /// each row, and on this thread. The threads are at most 64.
 pub(crate) fn write_report_in<R: Threads + Wait + Sync, W: Sink>(
     rt: &R,
@@ -273,20 +316,20 @@ pub(crate) fn write_report_in<R: Threads + Wait + Sync, W: Sink>(
     ensures failed { W.has_failed writer.new ≡ is_err result }
 {
     let rows = report.rows();
-    let events = BaseEvents::spelled(alloc, app, rows.base.events.as_slice());
+    let texts = RowTexts::spelled(alloc, app, rows);
     if threads < 2 {
-        return write_rows(app, rows, &events, writer);
+        return write_rows(app, rows, &texts, writer);
     }
     let Ok(mut lanes) = lanes_of(alloc, threads, MOST_TEXT) else {
-        return write_rows(app, rows, &events, writer);
+        return write_rows(app, rows, &texts, writer);
     };
     let Ok(pieces) = pieces_of(alloc, rows, length_of_pieces(rows, threads)) else {
-        return write_rows(app, rows, &events, writer);
+        return write_rows(app, rows, &texts, writer);
     };
     let spelling = Spelling {
         app,
         rows,
-        events,
+        texts,
         pieces,
         taken: AtomicU64::new(0),
     };

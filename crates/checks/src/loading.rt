@@ -1,8 +1,8 @@
 //! What a file is loaded as.
 
 use model::{
-    Access, App, Command, Condition, GroupId, HandlerId, IsrOp, ObjectId, ObjectKind, Op, Point,
-    PointEntry, TaskId,
+    Access, AnswerCondition, App, Command, Condition, GroupId, HandlerId, IsrOp, ObjectId,
+    ObjectKind, Op, Point, PointEntry, TaskId,
 };
 use script::FromDocument;
 use std::alloc::Global;
@@ -69,6 +69,48 @@ fn queues_and_the_ops_on_them_are_loaded(rt: HostRuntime) {
         Op::SpacesAvailable(many),
     ];
     has_ops(&rt, &app, &ops);
+}
+
+const BRANCHES: &str = "
+[[task]]
+name = 'a'
+priority = 1
+endless = true
+script = [
+    'repeat forever', 'repeat 1000', 'if none', 'break', 'else', 'expect not none', 'end', 'end',
+    '  if   below 007 ', 'if not 4294967295', 'end', 'end', 'if above 0', 'expect 4', 'end', 'end',
+]
+
+[[task]]
+name = 'b'
+priority = 1
+script = ['expect above 4294967295']
+";
+
+#[test]
+fn branches_and_endless_tasks_are_loaded(rt: HostRuntime) {
+    let app = loaded(&rt, rt.alloc(), BRANCHES);
+    let ops = [
+        Op::Repeat(None),
+        Op::Repeat(Some(1000)),
+        Op::If(AnswerCondition::Is(None)),
+        Op::Break,
+        Op::Else,
+        Op::Expect(AnswerCondition::IsNot(None)),
+        Op::EndIf,
+        Op::End,
+        Op::If(AnswerCondition::Below(7)),
+        Op::If(AnswerCondition::IsNot(Some(4_294_967_295))),
+        Op::EndIf,
+        Op::EndIf,
+        Op::If(AnswerCondition::Above(0)),
+        Op::Expect(AnswerCondition::Is(Some(4))),
+        Op::EndIf,
+        Op::End,
+    ];
+    has_ops(&rt, &app, &ops);
+    assert!(rt; app.is_endless(TaskId { number: 0 }));
+    assert!(rt; !app.is_endless(TaskId { number: 1 }));
 }
 
 const SEMAPHORES_AND_MUTEXES: &str = "
@@ -260,6 +302,43 @@ fn a_daemon_and_the_commands_to_it_are_loaded(rt: HostRuntime) {
 fn an_application_without_a_daemon(rt: HostRuntime) {
     let app = loaded(&rt, rt.alloc(), QUEUES);
     assert!(rt; app.daemon().is_none());
+}
+
+const TICKLESS: &str = "
+tickless = true
+limits = { ticks = 281474976710656, steps = 7 }
+
+[[task]]
+name = 'a'
+priority = 1
+script = ['delay 4294967295', 'delay_until 4294967295']
+";
+
+#[test]
+fn an_application_that_is_tickless(rt: HostRuntime) {
+    let app = loaded(&rt, rt.alloc(), TICKLESS);
+    let limits = app.limits();
+    assert!(rt; app.tickless());
+    assert!(rt; limits.ticks == 281_474_976_710_656 && limits.steps == 7);
+    let ops = [Op::Delay(4_294_967_295), Op::DelayUntil(4_294_967_295)];
+    has_ops(&rt, &app, &ops);
+}
+
+const WITH_TICKS: &str = "
+tickless = false
+
+[[task]]
+name = 'a'
+priority = 1
+script = []
+";
+
+#[test]
+fn an_application_that_is_not_tickless(rt: HostRuntime) {
+    for file in [WITH_TICKS, QUEUES] {
+        let app = loaded(&rt, rt.alloc(), file);
+        assert!(rt; !app.tickless() && app.limits().ticks == 1_000_000);
+    }
 }
 
 #[test]

@@ -4,3 +4,4 @@ pub mod Sleeping
 pub mod Standing
 pub mod Taking
 pub mod Unmoved
+pub mod Nearest

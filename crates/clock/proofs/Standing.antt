@@ -28,10 +28,10 @@ use Rattle.clock.specs.StandsFor.{StandsFor, StandsBefore, before_held, at_next_
 
 -- the tasks that sleep until a time
 
-tasks_at-same : (m : ℕ) (e : ℕ × ℕ) (xs : List (ℕ × ℕ)) → e.1 ≡ m → tasks_at m (e ∷ xs) ≡ e.0 ∷ tasks_at m xs
+pub tasks_at-same : (m : ℕ) (e : ℕ × ℕ) (xs : List (ℕ × ℕ)) → e.1 ≡ m → tasks_at m (e ∷ xs) ≡ e.0 ∷ tasks_at m xs
 tasks_at-same m e xs is = let t : (e.1 == m) ≡ true = eq-eqb e.1 m is in rw t refl
 
-tasks_at-other : (m : ℕ) (e : ℕ × ℕ) (xs : List (ℕ × ℕ)) → e.1 ≢ m → tasks_at m (e ∷ xs) ≡ tasks_at m xs
+pub tasks_at-other : (m : ℕ) (e : ℕ × ℕ) (xs : List (ℕ × ℕ)) → e.1 ≢ m → tasks_at m (e ∷ xs) ≡ tasks_at m xs
 tasks_at-other m e xs ne = let t : (e.1 == m) ≡ false = ne_eqb e.1 m ne in rw t refl
 
 tasks_at-later : (m : ℕ) (xs : List (ℕ × ℕ)) → Each (λ e. m < e.1) xs → tasks_at m xs ≡ []
@@ -399,8 +399,8 @@ due_asleep-all m (d ∷ ds) rest = (
   Each-weaker d [] h = tt
   Each-weaker d (e ∷ es) h = (ap (λ (b : Bool). d == e || b) h.0 ∙ or-true (d == e), Each-weaker d es h.1)
 
-pub due_asleep : (old new : Timeline) (ds : List ℕ) → Advances old new ds → Each (λ d. is_asleep old d ≡ true) ds
-due_asleep old new ds a = subst (λ (es : List (ℕ × ℕ)). Each (λ d. has_node d es ≡ true) ds) (sym a.delayed) (due_asleep-all new.now ds new.delayed_list)
+pub due_asleep : (ticks : ℕ) (old new : Timeline) (ds : List ℕ) → Jumps ticks old new ds → Each (λ d. is_asleep old d ≡ true) ds
+due_asleep ticks old new ds a = subst (λ (es : List (ℕ × ℕ)). Each (λ d. has_node d es ≡ true) ds) (sym a.delayed) (due_asleep-all new.now ds new.delayed_list)
 
 due_once-all : (m : ℕ) (ds : List ℕ) (rest : List (ℕ × ℕ)) → EachOnce (all_until m ds ++ rest) → IsDistinct eqb ds
 unfolding IsDistinct
@@ -410,16 +410,16 @@ due_once-all m (d ∷ ds) rest h = (each ds h.0, due_once-all m ds rest h.1) whe
   each [] k = tt
   each (e ∷ es) k = (ne_eqb d e (λ i. k.0 (ap Some i)), each es k.1)
 
-pub due_once : (old new : Timeline) (ds : List ℕ) → Advances old new ds → EachOnce old.delayed_list → IsDistinct eqb ds
-due_once old new ds a once = due_once-all new.now ds new.delayed_list (subst EachOnce a.delayed once)
+pub due_once : (ticks : ℕ) (old new : Timeline) (ds : List ℕ) → Jumps ticks old new ds → EachOnce old.delayed_list → IsDistinct eqb ds
+due_once ticks old new ds a once = due_once-all new.now ds new.delayed_list (subst EachOnce a.delayed once)
 
 -- who is asleep has a wake time
 
-abbrev among : ℕ → List ℕ → Bool
+abbrev pub among : ℕ → List ℕ → Bool
 among i ts = list_any (λ t. t == i) ts
 
 -- a sleeper sleeps until some time
-node-at : (i : ℕ) (xs : List (ℕ × ℕ)) → has_node i xs ≡ true → (m : ℕ) × (among i (tasks_at m xs) ≡ true)
+pub node-at : (i : ℕ) (xs : List (ℕ × ℕ)) → has_node i xs ≡ true → (m : ℕ) × (among i (tasks_at m xs) ≡ true)
 node-at i [] h = absurd cc
 node-at i (x ∷ xs) h = elim (cases_eq x.0 i) [
   | inl same ↦ (x.1, ap (among i) (tasks_at-same x.1 x xs refl) ∙ (let t : (x.0 == i) ≡ true = eq-eqb x.0 i same in rw t refl))
@@ -447,7 +447,7 @@ at-node i m (x ∷ xs) h = elim (cases_eq x.0 i) [
 ]
 
 -- who is due at a time has it as wake time, and the other way round
-due-until : (ts : List Task) (i m : ℕ) (es : List Entry) → among i (tasks_of (filter (until ts m) es)) ≡ true → is_until m (get_or ts i no_task).status ≡ true
+pub due-until : (ts : List Task) (i m : ℕ) (es : List Entry) → among i (tasks_of (filter (until ts m) es)) ≡ true → is_until m (get_or ts i no_task).status ≡ true
 due-until ts i m [] h = absurd cc
 due-until ts i m (e ∷ es) h = by_test (until ts m e)
     (λ t. elim (cases_eq e.task i) [

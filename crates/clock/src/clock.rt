@@ -378,12 +378,11 @@ impl Clock {
         Some(u32::MAX - self.tick + self.lists.value(first) + 1)
     }
 
-    /// Lets so many ticks pass at once, 1 to 4294967295, as an idle that has slept through them does (`vTaskStepTick`): before
+    /// Lets so many ticks pass at once, 0 to 4294967295, as an idle that has slept through them does (`vTaskStepTick`): before
     /// the last of them nobody's sleep ends (so they are at most as many as `nearest` answers, where it answers any). Ends the
     /// sleep of the tasks whose wake time has come: they are answered in the order in which they began to sleep. Before the
     /// call the age is below 2^62 ticks. Ticks that are held stay held.
     pub fn jump(&mut self, ticks: u32) -> Due
-        requires some { 0 < ticks }
         requires soon { Each (λ e. self.old.now + ticks ≤ e.1) self.old.delayed_list }
         requires age { self.old.age < 2 ^ 62 }
         ensures jumps { Jumps ticks self.old self.new result.items }
@@ -400,7 +399,6 @@ impl Clock {
 
     /// As `jump`, but writes the tasks into the list `due`, in place of what it has.
     pub fn jump_into(&mut self, ticks: u32, due: &mut Due)
-        requires some { 0 < ticks }
         requires soon { Each (λ e. self.old.now + ticks ≤ e.1) self.old.delayed_list }
         requires age { self.old.age < 2 ^ 62 }
         ensures jumps { Jumps ticks self.old self.new due.new.items }

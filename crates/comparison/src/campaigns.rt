@@ -261,9 +261,18 @@ fn fail(rt: &impl Abort, alloc: Global, seed: u32, app: &App, points: &[Point], 
     panic!(rt; "seed {seed}, {manner:?}: another report, of points{told} on this file\n{file}");
 }
 
+/// For applications whose tasks crowd about objects, and every fourth time for those whose tasks go by what was answered.
+fn dice_of(seed: u32) -> Dice {
+    if seed % 4 == 0 {
+        Dice::deciding(seed)
+    } else {
+        Dice::crowding(seed)
+    }
+}
+
 /// Compares the campaign of an application with its rows one by one.
 fn compare<R: Abort + Threads + Wait + Sync>(rt: &R, alloc: Global, seed: u32, seen: &mut Seen) {
-    let mut dice = Dice::crowding(seed);
+    let mut dice = dice_of(seed);
     let app = dice.app(alloc).expect(rt, "memory");
     let steps = base_steps(rt, alloc, &app);
     let points = points_of(&mut dice, alloc, steps).expect(rt, "memory");

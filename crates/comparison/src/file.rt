@@ -1,8 +1,8 @@
 //! An application as a file, so that one can run it.
 
 use model::{
-    Access, App, Condition, HandlerDefinition, Injection, Interrupt, IsrOp, ObjectId, ObjectKind,
-    Op, Plan, Point, TaskDefinition,
+    Access, AnswerCondition, App, Condition, HandlerDefinition, Injection, Interrupt, IsrOp,
+    ObjectId, ObjectKind, Op, Plan, Point, TaskDefinition,
 };
 use std::alloc::{AllocError, Global};
 
@@ -53,6 +53,19 @@ fn push_number_or(file: &mut String, number: Option<u32>, none: &str) -> Result<
     }
 }
 
+// What a script asks of the last answer, as words.
+fn push_answer_condition(file: &mut String, condition: AnswerCondition) -> Result<(), AllocError> {
+    match condition {
+        AnswerCondition::Is(wanted) => push_number_or(file, wanted, "none"),
+        AnswerCondition::IsNot(other) => {
+            push_word(file, "not")?;
+            push_number_or(file, other, "none")
+        }
+        AnswerCondition::Below(bound) => write!(file, " below {bound}"),
+        AnswerCondition::Above(bound) => write!(file, " above {bound}"),
+    }
+}
+
 // For which bits a call waits, as words.
 fn push_condition(file: &mut String, condition: Condition) -> Result<(), AllocError> {
     push_number(file, condition.mask)?;
@@ -99,8 +112,9 @@ fn push_rest(file: &mut String, app: &App, op: &Op) -> Result<(), AllocError> {
         Op::Work(number) | Op::Delay(number) | Op::DelayUntil(number) | Op::Mark(number) => {
             push_number(file, number)
         }
-        Op::Repeat(turns) => push_number(file, turns as u32),
-        Op::Expect(answer) => push_number_or(file, answer, "none"),
+        Op::Repeat(Some(turns)) => push_number(file, turns as u32),
+        Op::Repeat(None) => push_word(file, "forever"),
+        Op::Expect(condition) | Op::If(condition) => push_answer_condition(file, condition),
         Op::Suspend(task) | Op::Resume(task) => push_word(file, app.name(task)),
         _ => push_rest_on_group(file, op),
     }
@@ -152,10 +166,11 @@ fn push_object(file: &mut String, index: usize, kind: ObjectKind) -> Result<(), 
 fn push_task(file: &mut String, app: &App, task: &TaskDefinition) -> Result<(), AllocError> {
     let name = task.name();
     let priority = task.priority();
-    write!(
-        file,
-        "\n[[task]]\nname = '{name}'\npriority = {priority}\nscript = ["
-    )?;
+    write!(file, "\n[[task]]\nname = '{name}'\npriority = {priority}\n")?;
+    if task.is_endless() {
+        file.push_str("endless = true\n")?;
+    }
+    file.push_str("script = [")?;
     for op in task.ops() {
         push_op(file, app, op)?;
     }
@@ -181,7 +196,7 @@ fn push_interrupt(file: &mut String, app: &App, interrupt: &Interrupt) -> Result
     write!(file, "\n[[interrupt]]\ntick = {tick}\nhandler = '{name}'\n")
 }
 
-// When the run begins and ends.
+// When the run begins and ends, and whether idle sleeps.
 fn push_head(file: &mut String, app: &App) -> Result<(), AllocError> {
     let start = app.start();
     let limits = app.limits();
@@ -190,7 +205,11 @@ fn push_head(file: &mut String, app: &App) -> Result<(), AllocError> {
     write!(
         file,
         "start = {start}\nlimits = {{ ticks = {ticks}, steps = {steps} }}\n"
-    )
+    )?;
+    if app.tickless() {
+        file.push_str("tickless = true\n")?;
+    }
+    Ok(())
 }
 
 // All but the daemon's queue, which is the last one where there is a daemon.
@@ -233,10 +252,11 @@ fn command_length(app: &App) -> u16 {
     }
 }
 
-// The tasks of the file, and the daemon, the only one that is endless.
+// The tasks of the file, and behind them the daemon, if there is one.
 fn push_tasks(file: &mut String, app: &App) -> Result<(), AllocError> {
-    for task in app.tasks() {
-        if task.is_endless() {
+    let daemon = app.daemon().map(|task| task.number as usize);
+    for (number, task) in app.tasks().iter().enumerate() {
+        if daemon == Some(number) {
             push_daemon(file, task, command_length(app))?;
         } else {
             push_task(file, app, task)?;

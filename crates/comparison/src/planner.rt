@@ -146,7 +146,7 @@ impl Planner {
                 break;
             }
             let injections = self.plan_step(slow, app)?;
-            slow.step(app, injections);
+            slow.step(app, limits, injections);
         }
         self.plan_late(slow.steps)?;
         if slow.is_out_of_memory {

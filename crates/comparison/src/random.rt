@@ -84,6 +84,38 @@ struct Seen {
     clears_by_daemon: usize,
     /// The run passed while the daemon ran.
     passes_beside_daemon: usize,
+    /// Idle let several ticks pass in a step.
+    jumps: usize,
+    /// It did so past the wrap of the tick.
+    wrapping_jumps: usize,
+    /// It did so up to a base interrupt.
+    jumps_to_interrupt: usize,
+    /// It did so until a task woke.
+    jumps_to_wake: usize,
+    /// It did so up to the limit.
+    jumps_to_limit: usize,
+    /// It did so up to tick 0.
+    jumps_to_zero: usize,
+    /// The condition of an `if` held.
+    taken_branches: usize,
+    /// It didn't.
+    skipped_branches: usize,
+    /// A first branch came to its `else`.
+    skipped_others: usize,
+    /// A `break` left a loop.
+    breaks: usize,
+    /// One left a loop for ever.
+    breaks_for_ever: usize,
+    /// One left a loop inside another.
+    inner_breaks: usize,
+    /// A loop for ever began its next turn.
+    turns_for_ever: usize,
+    /// A script came to its end by an `if`, an `else` or a `break`.
+    ending_jumps: usize,
+    /// The run passed, and an endless task had not come to its end.
+    passes_beside_endless: usize,
+    /// Only endless tasks were there, and all were Ended.
+    endless_alone_ended: usize,
     injections: Injections,
 }
 
@@ -105,6 +137,9 @@ impl Seen {
         self.count_suspensions(slow);
         self.count_misuses(slow);
         self.count_commands(slow, app);
+        self.count_jumps(slow);
+        self.count_branches(slow);
+        self.count_endless(slow, app);
         self.count_injections(injections);
     }
 
@@ -146,6 +181,36 @@ impl Seen {
         let passes = slow.end(app, &app.limits()) == Some(End::Pass);
         let passes_beside = passes && slow.is_daemon_running(app);
         add(&mut self.passes_beside_daemon, passes_beside as usize);
+    }
+
+    fn count_jumps(&mut self, slow: &SlowKernel) {
+        let tally = slow.tally;
+        see(&mut self.jumps, tally.jumps);
+        see(&mut self.wrapping_jumps, tally.wrapping_jumps);
+        see(&mut self.jumps_to_interrupt, tally.jumps_to_interrupt);
+        see(&mut self.jumps_to_wake, tally.jumps_to_wake);
+        see(&mut self.jumps_to_limit, tally.jumps_to_limit);
+        see(&mut self.jumps_to_zero, tally.jumps_to_zero);
+    }
+
+    fn count_branches(&mut self, slow: &SlowKernel) {
+        let tally = slow.tally;
+        see(&mut self.taken_branches, tally.taken_branches);
+        see(&mut self.skipped_branches, tally.skipped_branches);
+        see(&mut self.skipped_others, tally.skipped_others);
+        see(&mut self.breaks, tally.breaks);
+        see(&mut self.breaks_for_ever, tally.breaks_for_ever);
+        see(&mut self.inner_breaks, tally.inner_breaks);
+        see(&mut self.turns_for_ever, tally.turns_for_ever);
+        see(&mut self.ending_jumps, tally.ending_jumps);
+    }
+
+    fn count_endless(&mut self, slow: &SlowKernel, app: &App) {
+        let passes = slow.end(app, &app.limits()) == Some(End::Pass);
+        let passes_beside = passes && slow.is_any_endless_left(app);
+        let is_alone = !app.is_any_awaited() && !slow.is_any_endless_left(app);
+        add(&mut self.passes_beside_endless, passes_beside as usize);
+        add(&mut self.endless_alone_ended, is_alone as usize);
     }
 
     fn count_injections(&mut self, injections: &Injections) {
@@ -193,7 +258,7 @@ fn compare(
     if meter.steps() != run.steps as u64 {
         fail(rt, alloc, seed, app, &plan, "metered steps");
     }
-    let has_wrapped = run.ticks > u32::MAX - app.start();
+    let has_wrapped = run.ticks > (u32::MAX - app.start()) as u64;
     seen.count(&slow, app, has_wrapped, &made);
 }
 
@@ -210,6 +275,8 @@ enum Sort {
     Gathering,
     /// Tasks are suspended. Handlers are injected in three of four runs.
     Suspension,
+    /// Tasks go by what was answered. Handlers are injected in every other run.
+    Decision,
 }
 
 impl Sort {
@@ -220,6 +287,7 @@ impl Sort {
             Sort::Contest => Dice::contending(seed),
             Sort::Gathering => Dice::gathering(seed),
             Sort::Suspension => Dice::suspending(seed),
+            Sort::Decision => Dice::deciding(seed),
         }
     }
 
@@ -227,7 +295,7 @@ impl Sort {
         match self {
             Sort::Any => false,
             Sort::Crowd => true,
-            Sort::Contest | Sort::Gathering => seed % 2 != 0,
+            Sort::Contest | Sort::Gathering | Sort::Decision => seed % 2 != 0,
             Sort::Suspension => seed % 4 != 0,
         }
     }
@@ -266,10 +334,20 @@ fn the_slow_program_agrees(rt: HostRuntime) {
         &seen,
         seen.suspended_waits > 800 && seen.held_ticks > 2_700,
     );
-    let has_commands = seen.commands > 3_700 && seen.refused_commands > 800;
+    let has_commands = seen.commands > 3_500 && seen.refused_commands > 700;
     has_enough(&rt, &seen, has_commands);
-    let has_done = seen.sets_by_daemon > 2_950 && seen.clears_by_daemon > 1_200;
-    has_enough(&rt, &seen, has_done && seen.passes_beside_daemon > 215);
+    let has_done = seen.sets_by_daemon > 2_780 && seen.clears_by_daemon > 1_160;
+    has_enough(&rt, &seen, has_done && seen.passes_beside_daemon > 200);
+    let has_jumps = seen.jumps > 5_070 && seen.wrapping_jumps > 3_040;
+    has_enough(&rt, &seen, has_jumps && seen.jumps_to_zero > 520);
+    let has_ends = seen.jumps_to_interrupt > 2_770 && seen.jumps_to_wake > 3_330;
+    has_enough(&rt, &seen, has_ends && seen.jumps_to_limit > 1_540);
+    let has_branches = seen.taken_branches > 460 && seen.skipped_branches > 790;
+    has_enough(
+        &rt,
+        &seen,
+        has_branches && seen.passes_beside_endless > 1_320,
+    );
 }
 
 #[test]
@@ -281,13 +359,17 @@ fn the_slow_program_agrees_where_handlers_are_injected(rt: HostRuntime) {
     has_enough(&rt, &seen, has_inside);
     let has_awakenings = seen.own_awakenings > 2_400 && seen.other_awakenings > 475;
     has_enough(&rt, &seen, has_awakenings && seen.mixed_unlocks > 45);
-    has_enough(&rt, &seen, seen.locked_gives > 1_150);
-    let has_commands = seen.commands > 5_400 && seen.refused_commands > 2_600;
-    has_enough(&rt, &seen, has_commands && seen.window_commands > 1_950);
-    let has_done = seen.sets_by_daemon > 4_350 && seen.clears_by_daemon > 1_850;
-    has_enough(&rt, &seen, has_done && seen.passes_beside_daemon > 245);
-    let has_beside = made.beside_daemon > made.all / 3 && made.in_its_window > 25_000;
+    has_enough(&rt, &seen, seen.locked_gives > 1_050);
+    let has_commands = seen.commands > 5_270 && seen.refused_commands > 2_560;
+    has_enough(&rt, &seen, has_commands && seen.window_commands > 1_930);
+    let has_done = seen.sets_by_daemon > 4_250 && seen.clears_by_daemon > 1_850;
+    has_enough(&rt, &seen, has_done && seen.passes_beside_daemon > 180);
+    let has_beside = made.beside_daemon > made.all / 3 && made.in_its_window > 23_700;
     has_enough(&rt, &seen, has_beside);
+    let has_jumps = seen.jumps > 6_760 && seen.wrapping_jumps > 4_400;
+    has_enough(&rt, &seen, has_jumps && seen.jumps_to_zero > 940);
+    let has_ends = seen.jumps_to_interrupt > 3_460 && seen.jumps_to_wake > 5_510;
+    has_enough(&rt, &seen, has_ends && seen.jumps_to_limit > 2_290);
 }
 
 #[test]
@@ -296,10 +378,14 @@ fn the_slow_program_agrees_where_tasks_contend_for_mutexes(rt: HostRuntime) {
     has_enough(&rt, &seen, seen.raises > 4_750 && seen.kept_raises > 475);
     has_enough(&rt, &seen, seen.falls > 1_150 && seen.partial_falls > 180);
     has_enough(&rt, &seen, seen.not_holder > 2_375);
-    let has_commands = seen.commands > 3_450 && seen.refused_commands > 1_080;
+    let has_commands = seen.commands > 3_450 && seen.refused_commands > 1_000;
     has_enough(&rt, &seen, has_commands && seen.window_commands > 800);
     let has_done = seen.sets_by_daemon > 2_650 && seen.clears_by_daemon > 1_000;
     has_enough(&rt, &seen, has_done && seen.passes_beside_daemon > 210);
+    let has_jumps = seen.jumps > 5_600 && seen.wrapping_jumps > 1_880;
+    has_enough(&rt, &seen, has_jumps && seen.jumps_to_zero > 450);
+    let has_ends = seen.jumps_to_interrupt > 2_100 && seen.jumps_to_wake > 4_360;
+    has_enough(&rt, &seen, has_ends && seen.jumps_to_limit > 1_640);
 }
 
 #[test]
@@ -315,16 +401,20 @@ fn the_slow_program_agrees_where_tasks_wait_for_bits(rt: HostRuntime) {
         &seen,
         seen.bit_timeouts > 8_500 && seen.suspended_answers > 200,
     );
-    let has_commands = seen.commands > 7_300 && seen.refused_commands > 4_600;
-    has_enough(&rt, &seen, has_commands && seen.window_commands > 1_450);
-    let has_done = seen.sets_by_daemon > 6_600 && seen.clears_by_daemon > 3_600;
-    has_enough(&rt, &seen, has_done && seen.passes_beside_daemon > 385);
+    let has_commands = seen.commands > 7_060 && seen.refused_commands > 4_460;
+    has_enough(&rt, &seen, has_commands && seen.window_commands > 1_350);
+    let has_done = seen.sets_by_daemon > 6_390 && seen.clears_by_daemon > 3_530;
+    has_enough(&rt, &seen, has_done && seen.passes_beside_daemon > 320);
+    let has_jumps = seen.jumps > 7_440 && seen.wrapping_jumps > 4_600;
+    has_enough(&rt, &seen, has_jumps && seen.jumps_to_zero > 1_050);
+    let has_ends = seen.jumps_to_interrupt > 4_070 && seen.jumps_to_wake > 5_700;
+    has_enough(&rt, &seen, has_ends && seen.jumps_to_limit > 2_430);
 }
 
 #[test]
 fn the_slow_program_agrees_where_tasks_are_suspended(rt: HostRuntime) {
     let seen = seen_in(&rt, rt.alloc(), Sort::Suspension);
-    let has_tasks = seen.suspended_waits > 700 && seen.suspended_decisions > 120;
+    let has_tasks = seen.suspended_waits > 700 && seen.suspended_decisions > 110;
     has_enough(&rt, &seen, has_tasks && seen.cut_off_sleeps > 550);
     has_enough(
         &rt,
@@ -343,10 +433,27 @@ fn the_slow_program_agrees_where_tasks_are_suspended(rt: HostRuntime) {
     );
     let has_early_misuses = seen.while_suspended > 600 && seen.not_suspended > 600;
     has_enough(&rt, &seen, has_early_misuses && seen.ended_suspended > 900);
-    let has_commands = seen.commands > 6_700 && seen.refused_commands > 3_650;
+    let has_commands = seen.commands > 6_700 && seen.refused_commands > 3_530;
     has_enough(&rt, &seen, has_commands && seen.window_commands > 1_800);
-    let has_done = seen.sets_by_daemon > 5_600 && seen.clears_by_daemon > 2_700;
-    has_enough(&rt, &seen, has_done && seen.passes_beside_daemon > 270);
+    let has_done = seen.sets_by_daemon > 5_600 && seen.clears_by_daemon > 2_610;
+    has_enough(&rt, &seen, has_done && seen.passes_beside_daemon > 250);
+    let has_jumps = seen.jumps > 5_940 && seen.wrapping_jumps > 3_560;
+    has_enough(&rt, &seen, has_jumps && seen.jumps_to_zero > 700);
+    let has_ends = seen.jumps_to_interrupt > 3_360 && seen.jumps_to_wake > 4_220;
+    has_enough(&rt, &seen, has_ends && seen.jumps_to_limit > 1_290);
+}
+
+#[test]
+fn the_slow_program_agrees_where_tasks_go_by_answers(rt: HostRuntime) {
+    let seen = seen_in(&rt, rt.alloc(), Sort::Decision);
+    let has_branches = seen.taken_branches > 9_650 && seen.skipped_branches > 13_400;
+    has_enough(&rt, &seen, has_branches && seen.skipped_others > 1_920);
+    let has_breaks = seen.breaks > 3_240 && seen.breaks_for_ever > 1_160;
+    has_enough(&rt, &seen, has_breaks && seen.inner_breaks > 430);
+    let has_ends = seen.turns_for_ever > 3_220 && seen.ending_jumps > 9_680;
+    has_enough(&rt, &seen, has_ends);
+    let has_endless = seen.passes_beside_endless > 780 && seen.endless_alone_ended > 330;
+    has_enough(&rt, &seen, has_endless);
 }
 
 /// The application that a file describes.
@@ -393,6 +500,7 @@ fn has_same_tasks(one: &App, other: &App) -> bool {
 /// Whether they are the same but for handlers and tasks.
 fn has_same_rest(one: &App, other: &App) -> bool {
     one.start() == other.start()
+        && one.tickless() == other.tickless()
         && one.limits() == other.limits()
         && one.objects() == other.objects()
         && one.group_count() == other.group_count()
@@ -412,6 +520,8 @@ fn load_again(rt: &impl Abort, alloc: Global, app: &App) {
 fn an_application_that_is_shown_as_a_file_is_loaded_as_it_was(rt: HostRuntime) {
     for seed in 0..200 {
         let app = Dice::new(seed).app(rt.alloc()).expect(&rt, "memory");
+        load_again(&rt, rt.alloc(), &app);
+        let app = Dice::deciding(seed).app(rt.alloc()).expect(&rt, "memory");
         load_again(&rt, rt.alloc(), &app);
     }
 }

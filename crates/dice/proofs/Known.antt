@@ -1,34 +1,44 @@
 -- Ops that an application of given objects, two event groups and four tasks of the file knows.
-use Rattle.std.proofs.Common.{◌≡◌, ◌≤◌, ◌<◌, ◌+◌, ℕ, Bool, ap, arith, length, length-append, refl, true, false, List, [], ◌∷◌, ◌++◌, Option, Some, None, sym, subst}
+use Rattle.std.proofs.Common.{◌≡◌, ◌&&◌, not, ◌≤◌, ◌<◌, ◌+◌, ℕ, Bool, ap, arith, length, length-append, refl, true, false, List, [], ◌∷◌, ◌++◌, Option, Some, sym, subst}
 use Rattle.std.specs.Prelude.{Result, Ok, Err, IfOk, IsTrue, OnOk, OnErr, filter, is_ok, nat_eq, nat_lt, unwrap_or, if◌then◌else◌}
 use Rattle.std.specs.List.{AllByRecursion}
-use Rattle.std.specs.Option.{IfSome, is_some}
+use Rattle.std.specs.Option.{is_some}
 use Rattle.std.specs.Result.{result_ok}
 use Rattle.model.specs.declared.object.ObjectKind.{ObjectKind}
+use Rattle.model.specs.declared.block.Block.{Block}
 use Rattle.model.specs.declared.op.Op.{Op}
+use Rattle.model.specs.Blocks.{edge_of, ending, ends_loop, is_innermost, is_loop, open_behind}
 use Rattle.std.proofs.lemmas.Bool.{lt-ltb}
 use Rattle.std.proofs.lemmas.List.{length-map}
 use Rattle.model.specs.declared.op.Command.{Command}
 use Rattle.model.specs.declared.op.IsrOp.{IsrOp}
 use Rattle.model.specs.declared.op.IsrOp.TheVariants as isr
 use Rattle.model.specs.Application.{Application, Definition, Handler, Interrupt, interrupts_at, of_file}
-use Rattle.model.specs.Scripts.{IsScript, IsHandler, IsInterrupt, KnowsAll, is_mask, knows, knows_isr, most_handler_ops, most_name_bytes}
+use Rattle.model.specs.Scripts.{IsHandler, IsInterrupt, KnowsAll, is_mask, knows, knows_isr, most_handler_ops, most_name_bytes}
 use Rattle.model.proofs.Nesting.{all-append}
 use Rattle.model.proofs.Sorting.{by_test}
 use Rattle.dice.specs.Known.{AreInterrupts, AreKnown, IsKnown, IsKnownHandler, IsKnownIsrWith}
 
+-- an `end` is known, whatever it ends
+known-ending : (objects : List ObjectKind) (blocks : List Block) (op : Op) → IsKnown objects op → IsKnown objects (ending blocks op)
+known-ending objects blocks op k = by_test (ends_loop (edge_of op) && is_innermost (λ b. not (is_loop b)) blocks)
+    (λ t. rw t (λ app same two four. refl))
+    (λ t. rw t k)
+
 -- a script to which an op was pushed, or not
-pub known-pushed : {A B : Type 0} (objects : List ObjectKind) (old new : List Op) (op : Op) (result : Result A B) → OnOk result (new ≡ old ++ op ∷ []) → OnErr result (new ≡ old) → AreKnown objects old → IsKnown objects op → AreKnown objects new
-known-pushed objects old new op (Ok x) ok err h k = subst (AreKnown objects) (sym ok) (λ app same two four. all-append (λ op. knows app op ≡ true) old op (h app same two four) (k app same two four))
+pub known-pushed : {A B : Type 0} (objects : List ObjectKind) (old new : List Op) (op : Op) (result : Result A B)
+    → OnOk result (new ≡ old ++ ending (open_behind old) op ∷ []) → OnErr result (new ≡ old) → AreKnown objects old → IsKnown objects op
+    → AreKnown objects new
+known-pushed objects old new op (Ok x) ok err h k =
+    let pushed : Op = ending (open_behind old) op in
+    let is : IsKnown objects pushed = known-ending objects (open_behind old) op k in
+    subst (AreKnown objects) (sym ok) (λ app same two four. all-append (λ op. knows app op ≡ true) old pushed (h app same two four) (is app same two four))
 known-pushed objects old new op (Err e) ok err h k = subst (AreKnown objects) (sym err) h
 
-pub few-pushed : {A B : Type 0} (old new : List Op) (op : Op) (result : Result A B) → OnOk result (new ≡ old ++ op ∷ []) → OnErr result (new ≡ old) → length new ≤ length old + 1
-few-pushed old new op (Ok x) ok err = let n = ap length ok in omega (arith, n, length-append old (op ∷ []))
+pub few-pushed : {A B : Type 0} (old new : List Op) (op : Op) (result : Result A B)
+    → OnOk result (new ≡ old ++ ending (open_behind old) op ∷ []) → OnErr result (new ≡ old) → length new ≤ length old + 1
+few-pushed old new op (Ok x) ok err = let n = ap length ok in omega (arith, n, length-append old (ending (open_behind old) op ∷ []))
 few-pushed old new op (Err e) ok err = let n = ap length err in omega (arith, n)
-
-pub known-finished : (objects : List ObjectKind) (o : Option (List Op)) (ops : List Op) → IfSome o (λ script. (script ≡ ops) × IsScript script) → AreKnown objects ops → IfSome o (λ script. AreKnown objects script)
-known-finished objects None ops h k = tt
-known-finished objects (Some script) ops h k = subst (AreKnown objects) (sym h.0) k
 
 -- such an application knows all ops of such tasks
 pub known_all : (app : Application) → app.group_count ≡ 2 → length (of_file app.daemon app.tasks) ≡ 4 → (tasks : List Definition)
@@ -109,7 +119,7 @@ up_to_later m n more is h = record {
 }
 
 pub are_interrupts : (app : Application) → length app.handlers ≡ 3 → (is : List Interrupt)
-    → AllByRecursion (λ (i : Interrupt). 1 ≤ i.tick) is → AllByRecursion (λ (i : Interrupt). i.tick ≤ 26) is
+    → AllByRecursion (λ (i : Interrupt). 1 ≤ i.tick) is → AllByRecursion (λ (i : Interrupt). i.tick ≤ 800001) is
     → AllByRecursion (λ (i : Interrupt). i.handler < 3) is → AllByRecursion (IsInterrupt app) is
 are_interrupts app three [] first last known = tt
 are_interrupts app three (i ∷ is) first last known = (

@@ -53,7 +53,7 @@ impl Dice {
         let mut script = ScriptBuilder::new(alloc);
         script.push(Op::NextCommand(queue)).ok()?;
         script.push(Op::Obey).ok()?;
-        let script = script.finish()?;
+        let script = script.finish(alloc).ok()?;
         let name = String::from_str(alloc, "z").ok()?;
         let priority = self.roll(5) as u8;
         Some(TaskDefinition::new(name, priority, true, script))

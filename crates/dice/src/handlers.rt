@@ -67,7 +67,7 @@ impl Dice {
     fn resumes(&mut self) -> bool {
         match self.theme {
             Theme::Crowd | Theme::Contest => false,
-            Theme::Any | Theme::Gathering => self.roll(4) == 0,
+            Theme::Any | Theme::Gathering | Theme::Decision => self.roll(4) == 0,
             Theme::Suspension => self.roll(2) == 0,
         }
     }
@@ -91,7 +91,7 @@ impl Dice {
     fn commands(&mut self) -> bool {
         match self.theme {
             Theme::Crowd | Theme::Contest => self.roll(8) == 0,
-            Theme::Any | Theme::Suspension => self.roll(3) == 0,
+            Theme::Any | Theme::Suspension | Theme::Decision => self.roll(3) == 0,
             Theme::Gathering => self.roll(3) > 0,
         }
     }
@@ -171,17 +171,28 @@ impl Dice {
         Some(handlers)
     }
 
+    /// How many ticks after another base interrupt one comes: few, or often many, where tasks sleep for long.
+    fn ticks_between(&mut self) -> u32
+        ensures { result ≤ 200000 }
+    {
+        if self.sleeps_long && self.roll(3) > 0 {
+            100_000 * self.roll(3)
+        } else {
+            self.roll(6)
+        }
+    }
+
     /// Up to four base interrupts of three handlers, some of them at one tick.
     #[tactic(auto, using(crate::proofs::Known::one_more, crate::proofs::Known::none_yet, crate::proofs::Known::up_to_later))]
     pub(super) fn interrupts(&mut self, alloc: Global) -> Option<Vec<Interrupt>>
         ensures few { IfSome result (λ interrupts. length interrupts.items ≤ 4) }
-        ensures formed { IfSome result (λ interrupts. AreInterrupts 26 interrupts.items) }
+        ensures formed { IfSome result (λ interrupts. AreInterrupts 800001 interrupts.items) }
     {
         let mut interrupts = Vec::new(alloc);
         let mut tick = 1;
         let length = self.roll(5);
         for _ in 0..length {
-            tick += self.roll(6);
+            tick += self.ticks_between();
             let handler = HandlerId {
                 number: self.roll(3) as u8,
             };

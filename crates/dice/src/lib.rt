@@ -7,6 +7,7 @@ ghost use Rattle.model.specs.Application.{Definition};
 ghost use Rattle.model.specs.Scripts.{InRange, IsScript, IsDefinition, is_wait};
 ghost use Rattle.dice.specs.Known.{AreKnown, IsKnown};
 
+use blocks::close;
 use daemon::daemon_of;
 use model::{
     App, BaseInterrupts, Limits, ObjectId, ObjectKind, Op, Script, ScriptBuilder, TaskDefinition,
@@ -14,6 +15,7 @@ use model::{
 };
 use std::alloc::Global;
 
+mod blocks;
 mod calls;
 mod daemon;
 mod handlers;
@@ -38,6 +40,10 @@ pub struct Dice {
     /// The number of the present task, and the other task that it has suspended last and not resumed yet.
     present: u8,
     suspended: Option<TaskId>,
+    /// Whether tasks sometimes sleep and wait for long, as they may where idle lets all ticks of that pass in a step.
+    sleeps_long: bool,
+    /// Which of the four tasks are endless.
+    endless: [bool; 4],
 }
 
 /// What the tasks of an application do for the most part.
@@ -52,6 +58,8 @@ enum Theme {
     Gathering,
     /// They suspend and resume each other, and the scheduler.
     Suspension,
+    /// They go by what was answered: their scripts have branches, and loops that are left.
+    Decision,
 }
 
 /// What calls do.
@@ -76,6 +84,8 @@ impl Dice {
             suspensions: 0,
             present: 0,
             suspended: None,
+            sleeps_long: false,
+            endless: [false; 4],
         }
     }
 
@@ -104,6 +114,11 @@ impl Dice {
         Dice::of_theme(seed, Theme::Suspension)
     }
 
+    /// For applications whose tasks go by what was answered.
+    pub fn deciding(seed: u32) -> Self {
+        Dice::of_theme(seed, Theme::Decision)
+    }
+
     /// A number below this one.
     pub fn roll(&mut self, sides: u32) -> u32
         requires { 0 < sides }
@@ -116,14 +131,56 @@ impl Dice {
         (self.state >> 16) % sides
     }
 
-    /// How long a call waits: not at all, for some ticks, for ever, or for longer than any run lasts.
+    /// How long a task sleeps: for a few ticks, up to as many as this, less one; or sometimes for long, where tasks do.
+    fn ticks(&mut self, sides: u32) -> u32
+        requires { 0 < sides }
+    {
+        if self.sleeps_long && self.roll(2) == 0 {
+            self.long_ticks()
+        } else {
+            self.roll(sides)
+        }
+    }
+
+    /// The same of a task that sleeps in periods, which are one tick at least.
+    fn period(&mut self, sides: u32) -> u32
+        requires { (0 < sides) × (sides < 4294967295) }
+        ensures first { 1 ≤ result }
+        ensures last { result ≤ 4294967295 }
+    {
+        if self.sleeps_long && self.roll(2) == 0 {
+            self.long_ticks()
+        } else {
+            1 + self.roll(sides)
+        }
+    }
+
+    /// Many ticks: as many as come up to a base interrupt or about there, millions, or nearly as many as there are numbers of 32
+    /// bits.
+    fn long_ticks(&mut self) -> u32
+        ensures first { 1 ≤ result }
+        ensures last { result < 4294967295 }
+    {
+        match self.roll(4) {
+            0..=1 => 100_000 * (1 + self.roll(8)) + self.roll(3),
+            2 => 1_000_000 * (1 + self.roll(3)) + self.roll(3),
+            _ => 4_294_967_294 - self.roll(6),
+        }
+    }
+
+    /// How long a call waits: not at all, for some ticks, for ever, or for longer than a run of few ticks lasts. Where tasks sleep
+    /// for long, some waits are as long.
     fn wait(&mut self) -> Option<u32>
         ensures { is_wait result ≡ true }
     {
+        if self.sleeps_long && self.roll(3) == 0 {
+            return Some(self.long_ticks());
+        }
         let first = match self.theme {
             Theme::Any => 0,
             Theme::Crowd => 4,
             Theme::Contest | Theme::Gathering | Theme::Suspension => 2,
+            Theme::Decision => 1,
         };
         match first + self.roll(8 - first) {
             0..=1 => Some(0),
@@ -195,9 +252,9 @@ impl Dice {
 
     /// Resumes the scheduler at the end of a script as often as that has suspended it.
     fn resume_all(&self, script: &mut ScriptBuilder, objects: &[ObjectKind])
-        requires few { length script.old ≤ 8 }
+        requires few { length script.old ≤ 24 }
         requires known { AreKnown objects.now script.old }
-        ensures few { length script.new ≤ 10 }
+        ensures few { length script.new ≤ 26 }
         ensures known { AreKnown objects.now script.new }
     {
         for number in 0..2_u8 {
@@ -207,7 +264,7 @@ impl Dice {
 
     /// Resumes the scheduler, where the script has suspended it more often than this.
     fn resume_last(&self, script: &mut ScriptBuilder, objects: &[ObjectKind], number: u8)
-        requires few { length script.old ≤ 9 }
+        requires few { length script.old ≤ 25 }
         requires known { AreKnown objects.now script.old }
         ensures few { length script.new ≤ length script.old + 1 }
         ensures known { AreKnown objects.now script.new }
@@ -219,9 +276,9 @@ impl Dice {
 
     /// Gives back what a script holds at its end.
     fn unlock_all(&self, script: &mut ScriptBuilder, objects: &[ObjectKind])
-        requires few { length script.old ≤ 10 }
+        requires few { length script.old ≤ 26 }
         requires known { AreKnown objects.now script.old }
-        ensures few { length script.new ≤ 14 }
+        ensures few { length script.new ≤ 30 }
         ensures known { AreKnown objects.now script.new }
     {
         for number in 0..4_u8 {
@@ -231,7 +288,7 @@ impl Dice {
 
     /// Gives the mutex of this number back, where it is held.
     fn unlock_last(&self, script: &mut ScriptBuilder, objects: &[ObjectKind], number: u8)
-        requires few { length script.old ≤ 13 }
+        requires few { length script.old ≤ 29 }
         requires known { AreKnown objects.now script.old }
         ensures few { length script.new ≤ length script.old + 1 }
         ensures known { AreKnown objects.now script.new }
@@ -241,14 +298,14 @@ impl Dice {
         }
     }
 
-    /// Up to eight ops. One that may not stand where it would is left out. Then the scheduler is resumed if it is suspended,
-    /// mutexes that are held are given back, and loops that are open are closed.
+    /// Up to eight ops, or 24 where tasks go by what was answered. One that may not stand where it would is left out. Then the
+    /// scheduler is resumed if it is suspended, mutexes that are held are given back, and branches and loops that are open end.
     fn script(&mut self, alloc: Global, objects: &[ObjectKind]) -> Option<Script>
         ensures script { IfSome result (λ script. IsScript script) }
         ensures known { IfSome result (λ script. AreKnown objects.now script) }
     {
         let mut script = ScriptBuilder::new(alloc);
-        let length = self.roll(9);
+        let length = self.op_count();
         self.held = [false; 4];
         self.suspensions = 0;
         self.suspended = None;
@@ -259,14 +316,17 @@ impl Dice {
         self.resume_all(&mut script, objects);
         self.unlock_all(&mut script, objects);
         close(&mut script, objects);
-        script.finish()
+        match script.finish(alloc) {
+            Ok(script) => Some(script),
+            Err(_) => None,
+        }
     }
 
     fn priority(&mut self) -> u8
         ensures { result < 4 }
     {
         match self.theme {
-            Theme::Any => self.roll(3) as u8,
+            Theme::Any | Theme::Decision => self.roll(3) as u8,
             Theme::Crowd | Theme::Gathering if self.is_late => 1 + self.roll(2) as u8,
             Theme::Crowd | Theme::Gathering => 1,
             Theme::Contest | Theme::Suspension if self.is_late => 1 + self.roll(3) as u8,
@@ -282,7 +342,7 @@ impl Dice {
         let priority = self.priority();
         let script = self.script(alloc, objects)?;
         let name = String::from_str(alloc, name).ok()?;
-        Some(TaskDefinition::new(name, priority, false, script))
+        Some(TaskDefinition::new(name, priority, self.is_endless(), script))
     }
 
     /// What the calls of the first two tasks do, and those of the others: where tasks crowd about queues and semaphores, or
@@ -331,7 +391,7 @@ impl Dice {
         self.present = 1;
         self.add_task(&mut tasks, alloc, "b", objects)?;
         self.role = late;
-        self.is_late = self.theme != Theme::Any;
+        self.is_late = !matches!(self.theme, Theme::Any | Theme::Decision);
         self.present = 2;
         self.add_task(&mut tasks, alloc, "c", objects)?;
         self.present = 3;
@@ -339,33 +399,39 @@ impl Dice {
         Some(tasks)
     }
 
+    /// Where a run of the application ends at the latest. Where tasks sleep for long, the ticks are few, or up to about a base
+    /// interrupt, or millions, or past the wrap of the tick, or as many as may be.
+    fn limits(&mut self) -> Option<Limits> {
+        let ticks = match self.roll(5) {
+            1 if self.sleeps_long => 100_000 * (1 + self.roll(9) as u64) + self.roll(4) as u64,
+            2 if self.sleeps_long => 1_000_000 * (1 + self.roll(8) as u64) + self.roll(4) as u64,
+            3 if self.sleeps_long => 4_294_967_290 * (1 + self.roll(3) as u64)
+                + self.roll(12) as u64,
+            4 if self.sleeps_long => Limits::MOST_TICKS - self.roll(4) as u64,
+            _ => 10 + self.roll(50) as u64,
+        };
+        Limits::new(ticks, 20 + self.roll(300))
+    }
+
     /// Four tasks, three handlers, two event groups and up to four objects and four base interrupts, shortly before the tick
-    /// wraps; and as often a daemon as none. It has no points, which no run depends on.
+    /// wraps; and as often a daemon as none. Every other one is tickless, and in half of these tasks sleep for long. In some of them
+    /// a few tasks or all are endless. It has no points, which no run depends on.
     pub fn app(&mut self, alloc: Global) -> Option<App> {
         let has_daemon = self.roll(2) == 0;
+        let tickless = self.roll(2) == 0;
+        self.sleeps_long = tickless && self.roll(2) == 0;
+        self.endless = self.some_endless();
         let objects = self.all_objects(alloc, has_daemon)?;
         let tasks = self.all_tasks(alloc, objects.as_slice(), has_daemon)?;
         let start = u32::MAX - self.roll(8);
-        let limits = Limits::new(10 + self.roll(50), 20 + self.roll(300))?;
+        let limits = self.limits()?;
         let handlers = self.handlers(alloc, objects.as_slice(), has_daemon)?;
         let listed = self.interrupts(alloc)?;
         let interrupts = BaseInterrupts::new(alloc, listed.as_slice()).ok()?;
         let daemon = daemon_of(has_daemon);
         let points = Vec::new(alloc);
         Some(App::new(
-            start, limits, objects, 2, handlers, interrupts, tasks, daemon, points,
+            start, tickless, limits, objects, 2, handlers, interrupts, tasks, daemon, points,
         ))
-    }
-}
-
-/// Closes the loops that are open.
-fn close(script: &mut ScriptBuilder, objects: &[ObjectKind])
-    requires few { length script.old ≤ 14 }
-    requires known { AreKnown objects.now script.old }
-    ensures { AreKnown objects.now script.new }
-{
-    let _ = objects;
-    for _ in 0..4_u8 {
-        let _ = script.push(Op::End);
     }
 }

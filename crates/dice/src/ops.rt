@@ -12,18 +12,17 @@ impl Dice {
         ensures range { InRange result }
         ensures known { IsKnown objects.now result }
     {
-        let _ = objects;
-        match self.roll(26) {
+        match self.roll(27) {
             0..=4 => Op::Work(1 + self.roll(3)),
-            5..=8 => Op::Delay(self.roll(4)),
-            9..=12 => Op::DelayUntil(1 + self.roll(4)),
+            5..=8 => Op::Delay(self.ticks(4)),
+            9..=12 => Op::DelayUntil(self.period(4)),
             13..=15 => Op::Yield,
             16 => Op::Time,
             17 => Op::Mark(self.roll(10)),
-            18..=20 => Op::Repeat(1 + self.roll(3) as u16),
-            21..=23 => Op::End,
-            24 => Op::Expect(Some(self.roll(2))),
-            _ => Op::Expect(None),
+            18..=19 => self.repeat(objects, 12),
+            20 => self.block_op(objects),
+            21..=24 => Op::End,
+            _ => Op::Expect(self.answer_condition()),
         }
     }
 
@@ -112,7 +111,7 @@ impl Dice {
     }
 
     /// Suspends the scheduler; seldom resumes it where it isn't suspended.
-    fn begin_suspension(&mut self, objects: &[ObjectKind]) -> Op
+    pub(super) fn begin_suspension(&mut self, objects: &[ObjectKind]) -> Op
         ensures range { InRange result }
         ensures known { IsKnown objects.now result }
     {
@@ -150,6 +149,7 @@ impl Dice {
             8 => Op::Mark(self.roll(10)),
             9 => Op::GetBits(self.group()),
             10 => Op::ClearBits(self.group(), self.mask()),
+            11 => self.block_op(objects),
             _ => self.change_suspension(objects),
         }
     }
@@ -181,7 +181,7 @@ impl Dice {
             8 => self.suspension_op(objects),
             9 => Op::Work(1 + self.roll(2)),
             10 => Op::Yield,
-            _ => Op::Delay(self.roll(4)),
+            _ => Op::Delay(self.ticks(4)),
         }
     }
 
@@ -198,7 +198,7 @@ impl Dice {
         };
         match face {
             0..=9 => self.suspension_op(objects),
-            10..=11 => Op::Delay(self.roll(3)),
+            10..=11 => Op::Delay(self.ticks(3)),
             12..=14 => self.begin_suspension(objects),
             15..=20 => match self.call(objects) {
                 Some(op) => op,
@@ -206,7 +206,7 @@ impl Dice {
             },
             21 => self.group_op(objects),
             22 => Op::Work(1 + self.roll(3)),
-            _ => Op::DelayUntil(1 + self.roll(9)),
+            _ => Op::DelayUntil(self.period(9)),
         }
     }
 
@@ -223,7 +223,7 @@ impl Dice {
         if self.theme == Theme::Contest && self.roll(4) > 0 {
             return Op::Work(1 + self.roll(4));
         }
-        Op::Delay(self.roll(4))
+        Op::Delay(self.ticks(4))
     }
 
     pub(super) fn op(&mut self, objects: &[ObjectKind]) -> Op
@@ -238,6 +238,7 @@ impl Dice {
             Theme::Crowd | Theme::Contest => self.busy_op(objects),
             Theme::Gathering => self.gathering_op(objects),
             Theme::Suspension => self.suspending_op(objects),
+            Theme::Decision => self.deciding_op(objects),
         }
     }
 }

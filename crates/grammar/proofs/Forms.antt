@@ -3,8 +3,9 @@ use Rattle.std.proofs.Common.{◌≡◌, ℕ, Bool, List, [], ◌∷◌, Option,
 use Rattle.std.specs.List.{AllByRecursion}
 use Rattle.std.specs.Option.{option_map, option_and_then, IfSome}
 use Rattle.std.specs.Str.{bytes_eq}
+use Rattle.model.specs.declared.answer.AnswerCondition.{AnswerCondition}
 use Rattle.model.proofs.Sorting.{by_test}
-use Rattle.grammar.specs.Grammar.{Word, Naming, NameSort, Form, Done, Number, NumberUnless, Choice, Name, number_of, number_unless, choice_of, read, read_by}
+use Rattle.grammar.specs.Grammar.{Word, Naming, NameSort, Form, Done, Number, NumberUnless, Choice, Asked, Name, number_of, number_unless, choice_of, take_condition, read, read_by}
 
 module _ {O : Type 0} (Holds : O → Type 0) (At : NameSort → ℕ → Type 0) where
   -- It makes only such ops, of entries that are there.
@@ -13,6 +14,7 @@ module _ {O : Type 0} (Holds : O → Type 0) (At : NameSort → ℕ → Type 0) 
   Makes (Number next) = (n : ℕ) → Makes (next n)
   Makes (NumberUnless other next) = (n : Option ℕ) → Makes (next n)
   Makes (Choice first second next) = (b : Bool) → Makes (next b)
+  Makes (Asked next) = (condition : AnswerCondition) → Makes (next condition)
   Makes (Name sort next) = (n : ℕ) → At sort n → Makes (next n)
 
 module _ {O : Type 0} (named : Naming) (Holds : O → Type 0) (At : NameSort → ℕ → Type 0)
@@ -24,6 +26,11 @@ module _ {O : Type 0} (named : Naming) (Holds : O → Type 0) (At : NameSort →
       → ((x : X) → o ≡ Some x → Held (next (x, ws))) → Held (option_and_then next (option_map (λ x. (x, ws)) o))
   taken_holds None ws next holds = tt
   taken_holds (Some x) ws next holds = holds x refl
+
+  condition_holds : (o : Option (AnswerCondition × List Word)) (next : AnswerCondition × List Word → Option O)
+      → ((r : AnswerCondition × List Word) → Held (next r)) → Held (option_and_then next o)
+  condition_holds None next holds = tt
+  condition_holds (Some r) next holds = holds r
 
   read_holds : (form : Form O) (ws : List Word) → Makes Holds At form → Held (read named form ws)
   read_holds (Done op) [] makes = makes
@@ -37,6 +44,8 @@ module _ {O : Type 0} (named : Naming) (Holds : O → Type 0) (At : NameSort →
   read_holds (Choice first second next) [] makes = tt
   read_holds (Choice first second next) (w ∷ ws) makes =
       taken_holds (choice_of first second w) ws (λ r. read named (next r.0) r.1) (λ b e. read_holds (next b) ws (makes b))
+  read_holds (Asked next) ws makes =
+      condition_holds (take_condition ws) (λ r. read named (next r.0) r.1) (λ r. read_holds (next r.0) r.1 (makes r.0))
   read_holds (Name sort next) [] makes = tt
   read_holds (Name sort next) (w ∷ ws) makes =
       taken_holds (named sort w) ws (λ r. read named (next r.0) r.1) (λ n e. read_holds (next n) ws (makes n (found sort w n e)))

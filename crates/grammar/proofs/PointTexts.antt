@@ -1,6 +1,6 @@
 -- What is read of an entry's words is what the grammar of points spells.
 use Rattle.std.proofs.Common.{◌≡◌, ◌≤◌, ◌<◌, ◌+◌, ◌++◌, ℕ, Bool, true, false, cond, leb, ltb, List, [], ◌∷◌, length, map, Option, Some, None, refl, ap, sym, subst, ◌∙◌, inl, inr, option_map, arith}
-use Rattle.std.specs.Prelude.{option_and_then, codes, not, ◌&&◌, ◌||◌}
+use Rattle.std.specs.Prelude.{option_and_then, codes}
 use Rattle.std.specs.List.{AllByRecursion, position_from}
 use Rattle.std.specs.Option.{option_map_or}
 use Rattle.std.specs.Str.{bytes_eq}
@@ -10,7 +10,7 @@ use Rattle.std.proofs.lemmas.Slice.Eq.{bytes_eq-Decides}
 use Rattle.model.specs.declared.plan.Injection.{Injection}
 use Rattle.model.specs.declared.plan.PointEntry.{PointEntry}
 use Rattle.model.specs.declared.plan.PointEntry.TheVariants.{One, Every}
-use Rattle.model.specs.Points.{AreInOrder, IsPoint, Rises, most_of_point}
+use Rattle.model.specs.Points.{AreInOrder, IsPoint, most_of_point}
 use Rattle.model.specs.Scripts.{last_point}
 use Rattle.model.proofs.Sorting.{by_test}
 use Rattle.grammar.specs.Grammar.{Word, number_of}

@@ -1,15 +1,18 @@
 -- What is read of an op's words is what the grammar spells.
 use Rattle.std.proofs.Common.{◌≡◌, ◌⊎◌, ℕ, Bool, true, false, cond, rules, List, [], ◌∷◌, Option, Some, None, refl, sym, ap, inl, inr, subst, ◌∙◌, option_map}
-use Rattle.std.specs.Prelude.{option_and_then, not, ◌&&◌}
+use Rattle.std.specs.Option.{option_map_or}
+use Rattle.std.specs.Prelude.{option_and_then, codes, not, ◌&&◌}
 use Rattle.std.specs.List.{AllByRecursion, list_all}
 use Rattle.std.specs.Str.{bytes_eq}
 use Rattle.std.proofs.lemmas.Slice.Eq.{bytes_eq-Decides}
 use Rattle.std.proofs.lemmas.Bool.{and_parts, not-true}
+use Rattle.model.specs.declared.answer.AnswerCondition.{AnswerCondition}
+use Rattle.model.specs.declared.answer.AnswerCondition.TheVariants.{Is, IsNot, Below, Above}
 use Rattle.model.specs.declared.op.Op.{Op}
 use Rattle.model.specs.declared.op.IsrOp.{IsrOp}
 use Rattle.model.specs.Words.{word_of, word_of_isr}
 use Rattle.model.specs.Scripts.{is_in_range}
-use Rattle.grammar.specs.Grammar.{Word, Naming, Form, Done, Number, NumberUnless, Choice, Name, forms, isr_forms, number_of, number_unless, choice_of, Writes, WritesBy, Spells, SpellsIsr, is_isr_in_range, read, read_by, op_of, isr_op_of}
+use Rattle.grammar.specs.Grammar.{Word, Naming, Form, Done, Number, NumberUnless, Choice, Asked, Name, forms, isr_forms, number_of, number_unless, answer_of, choice_of, take_by, take_condition, WritesCondition, Writes, WritesBy, Spells, SpellsIsr, is_isr_in_range, read, read_by, op_of, isr_op_of}
 
 -- which branch of a test it was
 pub chosen : {X : Type 0} (b : Bool) (x y z : X) → cond b x y ≡ z
@@ -17,8 +20,115 @@ pub chosen : {X : Type 0} (b : Bool) (x y z : X) → cond b x y ≡ z
 chosen true x y z e = inl (refl, e)
 chosen false x y z e = inr (refl, e)
 
+-- ---- the condition that words write
+
+-- a condition and the words behind it
+abbrev Read : Type 0
+Read = AnswerCondition × List Word
+
+same_condition : (r s : Read) → Some r ≡ Some s → r.0 ≡ s.0
+same_condition r s e = ap (λ o. option_map_or (λ (t : Read). t.0) o s.0) e
+
+same_others : (r s : Read) → Some r ≡ Some s → r.1 ≡ s.1
+same_others r s e = ap (λ o. option_map_or (λ (t : Read). t.1) o s.1) e
+
+-- an answer, or what stands behind `not`, `below` or `above`
+said : {X : Type 0} (o : Option X) (ws : List Word) (makes : X → AnswerCondition) (condition : AnswerCondition) (others : List Word)
+    → option_map {U = Read} (λ r. (makes r.0, r.1)) (option_map {U = X × List Word} (λ x. (x, ws)) o)
+    ≡ Some (condition, others)
+    → (x : X) × (o ≡ Some x) × (makes x ≡ condition) × (ws ≡ others)
+said None ws makes condition others e = cc
+said (Some x) ws makes condition others e =
+    let r : Read = (makes x, ws) in
+    let s : Read = (condition, others) in
+    (x, refl, same_condition r s e, same_others r s e)
+
+answered : (o : Option (Option ℕ)) (ws : List Word) (condition : AnswerCondition) (others : List Word)
+    → option_map {U = Read} (λ wanted. (Is wanted, ws)) o ≡ Some (condition, others)
+    → (wanted : Option ℕ) × (o ≡ Some wanted) × (Is wanted ≡ condition) × (ws ≡ others)
+answered None ws condition others e = cc
+answered (Some wanted) ws condition others e =
+    let r : Read = (Is wanted, ws) in
+    let s : Read = (condition, others) in
+    (wanted, refl, same_condition r s e, same_others r s e)
+
+is_word : (w v : Word) → bytes_eq w v ≡ true → w ≡ v
+is_word w v e = (bytes_eq-Decides w v).0 e
+
+not_sound : (w : Word) (ws : List Word) (condition : AnswerCondition) (others : List Word) → w ≡ codes "not"
+    → option_map {U = Read} (λ r. (IsNot r.0, r.1)) (take_by answer_of ws) ≡ Some (condition, others)
+    → WritesCondition condition (w ∷ ws) others
+not_sound w [] condition others is e = cc
+not_sound w (v ∷ ws) condition others is e =
+    let s = said (answer_of v) ws IsNot condition others e in
+    subst (λ c. WritesCondition c (w ∷ v ∷ ws) others) s.2 (is, s.1, s.3)
+
+below_sound : (w : Word) (ws : List Word) (condition : AnswerCondition) (others : List Word) → w ≡ codes "below"
+    → option_map {U = Read} (λ r. (Below r.0, r.1)) (take_by number_of ws) ≡ Some (condition, others)
+    → WritesCondition condition (w ∷ ws) others
+below_sound w [] condition others is e = cc
+below_sound w (v ∷ ws) condition others is e =
+    let s = said (number_of v) ws Below condition others e in
+    subst (λ c. WritesCondition c (w ∷ v ∷ ws) others) s.2 (is, s.1, s.3)
+
+above_sound : (w : Word) (ws : List Word) (condition : AnswerCondition) (others : List Word) → w ≡ codes "above"
+    → option_map {U = Read} (λ r. (Above r.0, r.1)) (take_by number_of ws) ≡ Some (condition, others)
+    → WritesCondition condition (w ∷ ws) others
+above_sound w [] condition others is e = cc
+above_sound w (v ∷ ws) condition others is e =
+    let s = said (number_of v) ws Above condition others e in
+    subst (λ c. WritesCondition c (w ∷ v ∷ ws) others) s.2 (is, s.1, s.3)
+
+condition_sound : (ws : List Word) (condition : AnswerCondition) (others : List Word) → take_condition ws ≡ Some (condition, others)
+    → WritesCondition condition ws others
+condition_sound [] condition others e = cc
+condition_sound (w ∷ ws) condition others e = elim (chosen (bytes_eq w (codes "not")) _ _ _ e) [
+  | inl here ↦ not_sound w ws condition others (is_word w _ here.0) here.1
+  | inr later ↦ elim (chosen (bytes_eq w (codes "below")) _ _ _ later.1) [
+    | inl here ↦ below_sound w ws condition others (is_word w _ here.0) here.1
+    | inr later ↦ elim (chosen (bytes_eq w (codes "above")) _ _ _ later.1) [
+      | inl here ↦ above_sound w ws condition others (is_word w _ here.0) here.1
+      | inr later ↦
+          let s = answered (answer_of w) ws condition others later.1 in
+          subst (λ c. WritesCondition c (w ∷ ws) others) s.2 (s.1, s.3)
+    ]
+  ]
+]
+
+-- a word that writes an answer is none of the other three
+no_answer : (w v : Word) (wanted : Option ℕ) → answer_of v ≡ None → answer_of w ≡ Some wanted → bytes_eq w v ≡ false
+no_answer w v wanted none e = by_same (bytes_eq w v) refl where
+  by_same : (b : Bool) → bytes_eq w v ≡ b → b ≡ false
+  by_same true same =
+      let is : w ≡ v = is_word w v same in
+      let some : answer_of v ≡ Some wanted = subst (λ u. answer_of u ≡ Some wanted) is e in
+      cc
+  by_same false same = refl
+
+condition_complete : (condition : AnswerCondition) (ws others : List Word) → WritesCondition condition ws others
+    → take_condition ws ≡ Some (condition, others)
+condition_complete (Is wanted) [] others h = absurd h
+condition_complete (Is wanted) (w ∷ ws) others h =
+    rw (no_answer w (codes "not") wanted refl h.0)
+    (rw (no_answer w (codes "below") wanted refl h.0)
+    (rw (no_answer w (codes "above") wanted refl h.0) (rw (h.0, h.1) refl)))
+condition_complete (IsNot other) [] others h = absurd h
+condition_complete (IsNot other) (w ∷ []) others h = absurd h
+condition_complete (IsNot other) (w ∷ v ∷ ws) others h = rw (h.0, h.1, h.2) refl
+condition_complete (Below bound) [] others h = absurd h
+condition_complete (Below bound) (w ∷ []) others h = absurd h
+condition_complete (Below bound) (w ∷ v ∷ ws) others h = rw (h.0, h.1, h.2) refl
+condition_complete (Above bound) [] others h = absurd h
+condition_complete (Above bound) (w ∷ []) others h = absurd h
+condition_complete (Above bound) (w ∷ v ∷ ws) others h = rw (h.0, h.1, h.2) refl
+
 module _ {O : Type 0} (word : O → Word) where
   -- ---- a step of the reading
+
+  conditioned : (o : Option Read) (next : Read → Option O) (op : O)
+      → option_and_then next o ≡ Some op → (r : Read) × (o ≡ Some r) × (next r ≡ Some op)
+  conditioned None next op e = cc
+  conditioned (Some r) next op e = (r, refl, e)
 
   taken : {X : Type 0} (o : Option X) (ws : List Word) (next : X × List Word → Option O) (op : O)
       → option_and_then next (option_map (λ x. (x, ws)) o) ≡ Some op
@@ -43,6 +153,9 @@ module _ {O : Type 0} (word : O → Word) where
   read_sound named (Choice first second next) (w ∷ ws) op e =
       let t = taken (choice_of first second w) ws (λ r. read named (next r.0) r.1) op e in
       (t.0, t.1, read_sound named (next t.0) ws op t.2)
+  read_sound named (Asked next) ws op e =
+      let t = conditioned (take_condition ws) (λ r. read named (next r.0) r.1) op e in
+      (t.0.0, t.0.1, condition_sound ws t.0.0 t.0.1 t.1, read_sound named (next t.0.0) t.0.1 op t.2)
   read_sound named (Name sort next) [] op e = cc
   read_sound named (Name sort next) (w ∷ ws) op e =
       let t = taken (named sort w) ws (λ r. read named (next r.0) r.1) op e in
@@ -57,6 +170,8 @@ module _ {O : Type 0} (word : O → Word) where
   read_complete named (NumberUnless other next) (w ∷ ws) op h = rw h.1 (read_complete named (next h.0) ws op h.2)
   read_complete named (Choice first second next) [] op h = absurd h
   read_complete named (Choice first second next) (w ∷ ws) op h = rw h.1 (read_complete named (next h.0) ws op h.2)
+  read_complete named (Asked next) ws op h =
+      rw (condition_complete h.0 ws h.1 h.2) (read_complete named (next h.0) h.1 op h.3)
   read_complete named (Name sort next) [] op h = absurd h
   read_complete named (Name sort next) (w ∷ ws) op h = rw h.1 (read_complete named (next h.0) ws op h.2)
 
@@ -67,6 +182,7 @@ module _ {O : Type 0} (word : O → Word) where
   HasWord w (Number next) = (n : ℕ) → HasWord w (next n)
   HasWord w (NumberUnless other next) = (n : Option ℕ) → HasWord w (next n)
   HasWord w (Choice first second next) = (b : Bool) → HasWord w (next b)
+  HasWord w (Asked next) = (condition : AnswerCondition) → HasWord w (next condition)
   HasWord w (Name sort next) = (entry : ℕ) → HasWord w (next entry)
 
   -- where it makes an op, this is of its word
@@ -80,6 +196,7 @@ module _ {O : Type 0} (word : O → Word) where
   word_written named w (NumberUnless other next) (v ∷ ws) op has h = word_written named w (next h.0) ws op (has h.0) h.2
   word_written named w (Choice first second next) [] op has h = absurd h
   word_written named w (Choice first second next) (v ∷ ws) op has h = word_written named w (next h.0) ws op (has h.0) h.2
+  word_written named w (Asked next) ws op has h = word_written named w (next h.0) h.1 op (has h.0) h.3
   word_written named w (Name sort next) [] op has h = absurd h
   word_written named w (Name sort next) (v ∷ ws) op has h = word_written named w (next h.0) ws op (has h.0) h.2
 

@@ -5,9 +5,11 @@ use Rattle.std.specs.List.{list_all, slice_split}
 use Rattle.std.specs.Str.{bytes_eq}
 use Rattle.std.specs.Str.Parse.{digits_value}
 use Rattle.model.specs.declared.op.Access.TheVariants.{Send, SendFront, Overwrite, Receive, Peek, Take, Give, Lock}
+use Rattle.model.specs.declared.answer.AnswerCondition.{AnswerCondition}
+use Rattle.model.specs.declared.answer.AnswerCondition.TheVariants.{Is, IsNot, Below, Above}
 use Rattle.model.specs.declared.call.Condition.{Condition}
 use Rattle.model.specs.declared.op.Op.{Op}
-use Rattle.model.specs.declared.op.Op.TheVariants.{Work, Delay, DelayUntil, Yield, Time, Mark, Expect, Repeat, End, Await, Do, GiveMutex, MessagesWaiting, SpacesAvailable, SetBits, ClearBits, GetBits, WaitBits, Suspend, Resume, SuspendAll, ResumeAll}
+use Rattle.model.specs.declared.op.Op.TheVariants.{Work, Delay, DelayUntil, Yield, Time, Mark, Expect, Repeat, End, If, Else, Break, Await, Do, GiveMutex, MessagesWaiting, SpacesAvailable, SetBits, ClearBits, GetBits, WaitBits, Suspend, Resume, SuspendAll, ResumeAll}
 use Rattle.model.specs.declared.op.IsrOp.{IsrOp}
 use Rattle.model.specs.declared.op.IsrOp.TheVariants as isr
 use Rattle.model.specs.Words.{word_of, word_of_isr}
@@ -45,6 +47,10 @@ number_of w =
 abbrev pub number_unless : (other : Word) → Word → Option (Option ℕ)
 number_unless other w = if bytes_eq w other then Some None else option_map Some (number_of w)
 
+-- the answer that a word writes, which may be none
+abbrev pub answer_of : Word → Option (Option ℕ)
+answer_of w = number_unless (codes "none") w
+
 -- which of two words it is: whether it is the second
 abbrev pub choice_of : (first second : Word) → Word → Option Bool
 choice_of first second w = if bytes_eq w first then Some false else if bytes_eq w second then Some true else None
@@ -62,17 +68,19 @@ Naming = NameSort → Word → Option ℕ
 -- ---- the grammar
 
 -- How an op's text goes on after its own word (profile): it is over, or a word writes a number, which may be left out for
--- another word, is one of two, or names an entry of a sort, and with this it goes on. The op is a task's, or a handler's.
+-- another word, is one of two, or names an entry of a sort, or one or two words write a condition for the last answer, and with
+-- this it goes on. The op is a task's, or a handler's.
 pub data Form (O : Type 0) : Type 0 where
   Done : (op : O) → Form O
   Number : (next : ℕ → Form O) → Form O
   NumberUnless : (other : Word) → (next : Option ℕ → Form O) → Form O
   Choice : (first second : Word) → (next : Bool → Form O) → Form O
+  Asked : (next : AnswerCondition → Form O) → Form O
   Name : (sort : NameSort) → (next : ℕ → Form O) → Form O
 
--- an answer, which may be none
-abbrev pub Answer : {O : Type 0} → (Option ℕ → Form O) → Form O
-Answer next = NumberUnless (codes "none") next
+-- how many turns a loop has, which may go on for ever
+abbrev pub Turns : {O : Type 0} → (Option ℕ → Form O) → Form O
+Turns next = NumberUnless (codes "forever") next
 
 -- how many ticks a call waits, which may be for ever
 abbrev pub WaitTime : {O : Type 0} → (Option ℕ → Form O) → Form O
@@ -136,6 +144,16 @@ object_forms =
     ∷ (codes "spaces", ObjectName Queue (λ queue. Done (SpacesAvailable queue)))
     ∷ semaphore_forms
 
+-- those of each op that is an edge of a block; the `end` of an `if` has no text of its own
+abbrev pub block_forms : List (Word × Form Op)
+block_forms =
+    (codes "repeat", Turns (λ turns. Done (Repeat turns)))
+    ∷ (codes "if", Asked (λ condition. Done (If condition)))
+    ∷ (codes "else", Done Else)
+    ∷ (codes "end", Done End)
+    ∷ (codes "break", Done Break)
+    ∷ object_forms
+
 -- those of each op
 abbrev pub forms : List (Word × Form Op)
 forms =
@@ -145,10 +163,8 @@ forms =
     ∷ (codes "yield", Done Yield)
     ∷ (codes "time", Done Time)
     ∷ (codes "mark", Number (λ n. Done (Mark n)))
-    ∷ (codes "expect", Answer (λ a. Done (Expect a)))
-    ∷ (codes "repeat", Number (λ n. Done (Repeat n)))
-    ∷ (codes "end", Done End)
-    ∷ object_forms
+    ∷ (codes "expect", Asked (λ condition. Done (Expect condition)))
+    ∷ block_forms
 
 -- the arguments of a command, which sets bits or clears them
 abbrev pub CommandForm : (clear : Bool) → Form IsrOp
@@ -170,12 +186,23 @@ isr_forms =
     ∷ (codes "mark", Number (λ n. Done (isr.Mark n)))
     ∷ []
 
+-- The first of these words write the condition, and the others are these: an answer is to be that, after `not` it is not to be
+-- that, and after `below` and `above` there is a number.
+abbrev pub WritesCondition : AnswerCondition → List Word → (others : List Word) → Type 0
+WritesCondition (Is wanted) (w ∷ ws) others = (answer_of w ≡ Some wanted) × (ws ≡ others)
+WritesCondition (IsNot other) (w ∷ v ∷ ws) others = (w ≡ codes "not") × (answer_of v ≡ Some other) × (ws ≡ others)
+WritesCondition (Below bound) (w ∷ v ∷ ws) others = (w ≡ codes "below") × (number_of v ≡ Some bound) × (ws ≡ others)
+WritesCondition (Above bound) (w ∷ v ∷ ws) others = (w ≡ codes "above") × (number_of v ≡ Some bound) × (ws ≡ others)
+WritesCondition _ _ others = ⊥
+
 -- The words write the arguments of the op, by this form, where names are read so.
 abbrev pub Writes : {O : Type 0} → Naming → Form O → List Word → O → Type 0
 Writes named (Done made) [] op = made ≡ op
 Writes named (Number next) (w ∷ ws) op = (n : ℕ) × (number_of w ≡ Some n) × Writes named (next n) ws op
 Writes named (NumberUnless other next) (w ∷ ws) op = (n : Option ℕ) × (number_unless other w ≡ Some n) × Writes named (next n) ws op
 Writes named (Choice first second next) (w ∷ ws) op = (b : Bool) × (choice_of first second w ≡ Some b) × Writes named (next b) ws op
+Writes named (Asked next) ws op =
+    (condition : AnswerCondition) × (others : List Word) × WritesCondition condition ws others × Writes named (next condition) others op
 Writes named (Name sort next) (w ∷ ws) op = (entry : ℕ) × (named sort w ≡ Some entry) × Writes named (next entry) ws op
 Writes named _ _ op = ⊥
 
@@ -210,6 +237,15 @@ abbrev pub take_by : {X : Type 0} → (Word → Option X) → List Word → Opti
 take_by says [] = None
 take_by says (w ∷ ws) = option_map (λ x. (x, ws)) (says w)
 
+-- the condition that the first of some words write, and the others
+abbrev pub take_condition : List Word → Option (AnswerCondition × List Word)
+take_condition [] = None
+take_condition (w ∷ ws) =
+    if bytes_eq w (codes "not") then option_map (λ r. (IsNot r.0, r.1)) (take_by answer_of ws)
+    else if bytes_eq w (codes "below") then option_map (λ r. (Below r.0, r.1)) (take_by number_of ws)
+    else if bytes_eq w (codes "above") then option_map (λ r. (Above r.0, r.1)) (take_by number_of ws)
+    else option_map (λ wanted. (Is wanted, ws)) (answer_of w)
+
 -- the op whose arguments the words write, by this form
 abbrev pub read : {O : Type 0} → Naming → Form O → List Word → Option O
 read named (Done op) [] = Some op
@@ -217,6 +253,7 @@ read named (Done op) (w ∷ ws) = None
 read named (Number next) ws = option_and_then (λ r. read named (next r.0) r.1) (take_by number_of ws)
 read named (NumberUnless other next) ws = option_and_then (λ r. read named (next r.0) r.1) (take_by (number_unless other) ws)
 read named (Choice first second next) ws = option_and_then (λ r. read named (next r.0) r.1) (take_by (choice_of first second) ws)
+read named (Asked next) ws = option_and_then (λ r. read named (next r.0) r.1) (take_condition ws)
 read named (Name sort next) ws = option_and_then (λ r. read named (next r.0) r.1) (take_by (named sort) ws)
 
 -- the same by the first of these forms that has this word

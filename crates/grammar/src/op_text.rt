@@ -1,6 +1,5 @@
 //! Which text spells which op.
 ghost use Rattle.std.specs.Prelude.{◌≡◌, List, ℕ, drop, None, Some, IfSome, MatchOption, option_and_then, if◌then◌else◌};
-ghost use Rattle.std.specs.Str.{bytes_eq};
 ghost use Rattle.model.specs.declared.op.Op.{Op};
 ghost use Rattle.model.specs.declared.op.Op.TheVariants.{Await, Do, SetBits, ClearBits, WaitBits};
 ghost use Rattle.model.specs.declared.op.Access.TheVariants.{Send, SendFront};
@@ -8,11 +7,11 @@ ghost use Rattle.model.specs.declared.op.IsrOp.TheVariants as isr;
 ghost use Rattle.model.specs.declared.op.IsrOp.{IsrOp};
 ghost use Rattle.model.specs.Scripts.{InRange};
 ghost use Rattle.grammar.specs.declared.object_sort.ObjectSort.TheVariants.{Queue};
-ghost use Rattle.grammar.specs.Grammar.{Naming, words_of, Done, Number, ObjectName, GroupName, Bits, WaitTime, forms, object_forms, semaphore_forms, group_forms, suspension_forms, CommandForm, isr_forms, read, read_by, if_in_range, is_isr_in_range, op_of, isr_op_of, Spells, SpellsIsr};
+ghost use Rattle.grammar.specs.Grammar.{Naming, words_of, Done, Number, ObjectName, GroupName, Bits, WaitTime, forms, block_forms, object_forms, semaphore_forms, group_forms, suspension_forms, CommandForm, isr_forms, read, read_by, if_in_range, is_isr_in_range, op_of, isr_op_of, Spells, SpellsIsr};
 
 use crate::finding::Finding;
 use crate::object_sort::ObjectSort;
-use crate::words::Words;
+use crate::words::{Words, is};
 use model::{Access, Command, Condition, IsrOp, Op};
 
 // The call that sends an item to the front or the back of a queue.
@@ -24,12 +23,6 @@ fn sending(to_front: bool, item: u32) -> Access
     } else {
         Access::Send(item)
     }
-}
-
-fn is(word: &[u8], name: &str) -> bool
-    ensures { result ≡ bytes_eq word.now name.now }
-{
-    word == name.as_bytes()
 }
 
 // The op of a call on the object of this sort that the next word names.
@@ -216,6 +209,32 @@ fn object_op_after<F: Finding>(word: &[u8], words: &mut Words<'_>, finding: &F) 
     }
 }
 
+// The op of this word that is an edge of a block, whose arguments are the next words.
+fn block_op_after<F: Finding>(word: &[u8], words: &mut Words<'_>, finding: &F) -> Option<Op>
+    // What is still to be read is whether the text ends here; a number past what the code can hold is out of range.
+    ensures { MatchOption result
+        (option_and_then if_in_range (read_by (F.naming finding.now) block_forms word.now words.old) ≡ None)
+        (λ op. read_by (F.naming finding.now) block_forms word.now words.old
+        ≡ read (F.naming finding.now) (Done op) words.new) }
+{
+    if is(word, "repeat") {
+        match words.number_unless("forever")? {
+            Some(turns) => Some(Op::Repeat(Some(u16::try_from(turns).ok()?))),
+            None => Some(Op::Repeat(None)),
+        }
+    } else if is(word, "if") {
+        Some(Op::If(words.condition()?))
+    } else if is(word, "else") {
+        Some(Op::Else)
+    } else if is(word, "end") {
+        Some(Op::End)
+    } else if is(word, "break") {
+        Some(Op::Break)
+    } else {
+        object_op_after(word, words, finding)
+    }
+}
+
 // The op of this word that is none of the first four, whose arguments are the next words.
 fn later_op_after<F: Finding>(word: &[u8], words: &mut Words<'_>, finding: &F) -> Option<Op>
     // What is still to be read is whether the text ends here; a number past what the code can hold is out of range.
@@ -229,13 +248,9 @@ fn later_op_after<F: Finding>(word: &[u8], words: &mut Words<'_>, finding: &F) -
     } else if is(word, "mark") {
         Some(Op::Mark(words.number()?))
     } else if is(word, "expect") {
-        Some(Op::Expect(words.number_unless("none")?))
-    } else if is(word, "repeat") {
-        Some(Op::Repeat(u16::try_from(words.number()?).ok()?))
-    } else if is(word, "end") {
-        Some(Op::End)
+        Some(Op::Expect(words.condition()?))
     } else {
-        object_op_after(word, words, finding)
+        block_op_after(word, words, finding)
     }
 }
 

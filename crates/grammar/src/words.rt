@@ -3,12 +3,20 @@ ghost use Rattle.std.specs.Prelude.{◌≡◌, ◌==◌, ◌↔◌, ◌⊎◌, �
 ghost use Rattle.std.specs.Char.{is_ascii_digit};
 ghost use Rattle.std.specs.List.{list_all, position_or_len};
 ghost use Rattle.std.specs.Str.Parse.{digits_value};
-ghost use Rattle.grammar.specs.Grammar.{words_of, is_number, number_of, number_unless, choice_of, OfObject, OfGroup, OfTask, take_by};
+ghost use Rattle.std.specs.Str.{bytes_eq};
+ghost use Rattle.grammar.specs.Grammar.{words_of, is_number, number_of, number_unless, answer_of, choice_of, OfObject, OfGroup, OfTask, take_by, take_condition};
 
 use crate::finding::Finding;
 use crate::object_sort::ObjectSort;
-use model::{GroupId, ObjectId, TaskId};
+use model::{AnswerCondition, GroupId, ObjectId, TaskId};
 use std::marker::Model;
+
+/// Whether a word is this one.
+pub(crate) fn is(word: &[u8], name: &str) -> bool
+    ensures { result ≡ bytes_eq word.now name.now }
+{
+    word == name.as_bytes()
+}
 
 // The text from its first word on.
 fn trim_start(text: &[u8]) -> &[u8]
@@ -83,6 +91,13 @@ fn number_unless(word: &[u8], other: &str) -> Option<Option<u32>>
     }
 }
 
+// The answer that a word writes, which may be none.
+fn answer_of(word: &[u8]) -> Option<Option<u32>>
+    ensures { result ≡ answer_of word.now }
+{
+    number_unless(word, "none")
+}
+
 // Which of two words it is: whether it is the second.
 fn choice_of(word: &[u8], first: &str, second: &str) -> Option<bool>
     ensures { result ≡ choice_of first.now second.now word.now }
@@ -147,6 +162,31 @@ impl<'a> Words<'a> {
             (λ n. take_by (number_unless other.now) self.old ≡ Some (n, self.new)) }
     {
         number_unless(self.next()?, other)
+    }
+
+    // The answer that the next word writes, which may be none.
+    fn answer(&mut self) -> Option<Option<u32>>
+        ensures { MatchOption result (take_by answer_of self.old ≡ None)
+            (λ answer. take_by answer_of self.old ≡ Some (answer, self.new)) }
+    {
+        answer_of(self.next()?)
+    }
+
+    /// The condition for the last answer that the next words write.
+    pub(crate) fn condition(&mut self) -> Option<AnswerCondition>
+        ensures { MatchOption result (take_condition self.old ≡ None)
+            (λ condition. take_condition self.old ≡ Some (condition, self.new)) }
+    {
+        let word = self.next()?;
+        if is(word, "not") {
+            Some(AnswerCondition::IsNot(self.answer()?))
+        } else if is(word, "below") {
+            Some(AnswerCondition::Below(self.number()?))
+        } else if is(word, "above") {
+            Some(AnswerCondition::Above(self.number()?))
+        } else {
+            Some(AnswerCondition::Is(answer_of(word)?))
+        }
     }
 
     /// The object of this sort that the next word names.

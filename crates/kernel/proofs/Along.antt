@@ -40,7 +40,7 @@ free_sooner {app} {limits} {until} {k} {plan} sooner within f = record {
 -- Up to a step before which no limit is reached, each run without an injection is so.
 pub free_of_limits : (app : Application) (limits : Limits) (until : ℕ) (k : Machine) (plan : List Injection) → IsUnderWay app plan limits k
     → ((n : ℕ) → k.steps ≤ n → n < until → injected plan n ≡ [])
-    → (k.steps < until → k.clock.age + k.clock.held + until ≤ limits.ticks + k.steps) → (k.steps < until → until ≤ limits.steps) → IsFree app limits until k plan
+    → (app.tickless ≡ false → k.steps < until → k.clock.age + k.clock.held + until ≤ limits.ticks + k.steps) → (k.steps < until → until ≤ limits.steps) → IsFree app limits until k plan
 free_of_limits app limits until k plan way alone ticks steps = record {
   way = way;
   alone = alone;
@@ -48,15 +48,15 @@ free_of_limits app limits until k plan way alone ticks steps = record {
 }
 
 -- Where it isn't over, none of them ends.
-pub going_free : {app : Application} {limits : Limits} {until : ℕ} {k : Machine} → k.steps < until → ((s : State) → Stands k s → false ≡ is_over app s) → (plan : List Injection) → IsFree app limits until k plan → end_of app limits (state_after app plan k.steps) ≡ None
-going_free {app} {limits} {until} {k} short going plan f = f.free k.steps (omega arith) short (sym (going (state_after app plan k.steps) f.way.stands))
+pub going_free : {app : Application} {limits : Limits} {until : ℕ} {k : Machine} → k.steps < until → ((s : State) → Stands k s → false ≡ is_over app limits s) → (plan : List Injection) → IsFree app limits until k plan → end_of app limits (state_after app limits plan k.steps) ≡ None
+going_free {app} {limits} {until} {k} short going plan f = f.free k.steps (omega arith) short (sym (going (state_after app limits plan k.steps) f.way.stands))
 
 -- So it is where it isn't over on the way of any run.
-pub going_on_the_way : (app : Application) → IsWellFormed app → {limits : Limits} {until : ℕ} {k : Machine} → k.steps < until → ((s : State) → Stands k s → IsState app s → false ≡ is_over app s) → (plan : List Injection) → IsFree app limits until k plan → end_of app limits (state_after app plan k.steps) ≡ None
-going_on_the_way app formed {limits} {until} {k} short going plan f = f.free k.steps (omega arith) short (sym (going (state_after app plan k.steps) f.way.stands (reached_after app formed plan k.steps)))
+pub going_on_the_way : (app : Application) → IsWellFormed app → {limits : Limits} {until : ℕ} {k : Machine} → k.steps < until → ((s : State) → Stands k s → IsState app s → false ≡ is_over app limits s) → (plan : List Injection) → IsFree app limits until k plan → end_of app limits (state_after app limits plan k.steps) ≡ None
+going_on_the_way app formed {limits} {until} {k} short going plan f = f.free k.steps (omega arith) short (sym (going (state_after app limits plan k.steps) f.way.stands (reached_after app formed limits plan k.steps)))
 
 -- One that isn't over there doesn't end there.
-pub ends_not : {app : Application} {limits : Limits} {until : ℕ} {k : Machine} {plan : List Injection} → k.steps < until → IsGoing app limits until k plan → end_of app limits (state_after app plan k.steps) ≡ None
+pub ends_not : {app : Application} {limits : Limits} {until : ℕ} {k : Machine} {plan : List Injection} → k.steps < until → IsGoing app limits until k plan → end_of app limits (state_after app limits plan k.steps) ≡ None
 ends_not {app} {limits} {until} {k} {plan} short g = g.free.free k.steps (omega arith) short g.going
 
 -- ---- no step
@@ -67,20 +67,20 @@ goes_nowhere = record { way = λ plan f. f.way; on = omega arith; far = λ withi
 pub tells_nothing : {app : Application} {limits : Limits} {until : ℕ} {k : Machine} {before after : List Event} → after ≡ before → GoesOn app limits until k k before after
 tells_nothing {app} {limits} {until} {k} {before} {after} e = record {
   to = goes_nowhere;
-  events = λ plan f. e ∙ sym (append-nil before) ∙ ap (λ (es : List Event). before ++ es) (sym (from_here app plan k.steps));
+  events = λ plan f. e ∙ sym (append-nil before) ∙ ap (λ (es : List Event). before ++ es) (sym (from_here app limits plan k.steps));
 }
 
 -- ---- one step
 
 module _ (app : Application) (formed : IsWellFormed app) (limits : Limits) (are : AreLimits limits.ticks limits.steps) (until : ℕ) (k next : Machine) (short : k.steps < until)
-    (stands : (s : State) → Stands k s → Stands next (step app [] s)) where
+    (stands : (s : State) → Stands k s → Stands next (step app limits [] s)) where
   -- along a run that doesn't end before it
-  module _ (plan : List Injection) (f : IsFree app limits until k plan) (on : end_of app limits (state_after app plan k.steps) ≡ None) where
+  module _ (plan : List Injection) (f : IsFree app limits until k plan) (on : end_of app limits (state_after app limits plan k.steps) ≡ None) where
     nothing_injected : [] ≡ injected plan k.steps
     nothing_injected = sym (f.alone k.steps (omega arith) short)
 
-    stands_by : (s : State) → Stands k s → Stands next (step app (injected plan k.steps) s)
-    stands_by = stands_as app k next [] (injected plan k.steps) nothing_injected stands
+    stands_by : (s : State) → Stands k s → Stands next (step app limits (injected plan k.steps) s)
+    stands_by = stands_as app limits k next [] (injected plan k.steps) nothing_injected stands
 
     one_on : next.steps ≡ suc k.steps
     one_on = steps_more app formed plan limits are k f.way on next stands_by
@@ -88,23 +88,23 @@ module _ (app : Application) (formed : IsWellFormed app) (limits : Limits) (are 
     way_on : IsUnderWay app plan limits next
     way_on = goes_on app formed plan limits are k f.way on next stands_by
 
-    told_on : (before after : List Event) → ((s : State) → Stands k s → after ≡ before ++ (step app [] s).log) → after ≡ before ++ events_from app plan k.steps next.steps
+    told_on : (before after : List Event) → ((s : State) → Stands k s → after ≡ before ++ (step app limits [] s).log) → after ≡ before ++ events_from app limits plan k.steps next.steps
     told_on before after told =
         more_events app formed plan limits are k f.way on next stands_by k.steps (omega arith) before before after
-        (sym (append-nil before) ∙ ap (λ (es : List Event). before ++ es) (sym (from_here app plan k.steps)))
-        (subst (λ (hs : List ℕ). after ≡ before ++ (step app hs (state_after app plan k.steps)).log) nothing_injected (told (state_after app plan k.steps) f.way.stands))
+        (sym (append-nil before) ∙ ap (λ (es : List Event). before ++ es) (sym (from_here app limits plan k.steps)))
+        (subst (λ (hs : List ℕ). after ≡ before ++ (step app limits hs (state_after app limits plan k.steps)).log) nothing_injected (told (state_after app limits plan k.steps) f.way.stands))
 
-    some_on : ((s : State) → Stands k s → 0 < length (step app [] s).log) → 0 < length (events_after app plan next.steps)
+    some_on : ((s : State) → Stands k s → 0 < length (step app limits [] s).log) → 0 < length (events_after app limits plan next.steps)
     some_on some =
         told_more app formed plan limits are k f.way on next stands_by
-        (subst (λ (hs : List ℕ). 0 < length (step app hs (state_after app plan k.steps)).log) nothing_injected (some (state_after app plan k.steps) f.way.stands))
+        (subst (λ (hs : List ℕ). 0 < length (step app limits hs (state_after app limits plan k.steps)).log) nothing_injected (some (state_after app limits plan k.steps) f.way.stands))
 
   -- along those that aren't over there, where there is such a run
   module _ {plan : List Injection} (g : IsGoing app limits until k plan) where
     pub one_step : next.steps ≡ suc k.steps
     one_step = one_on plan g.free (ends_not short g)
 
-    pub goes_further : (before after : List Event) → ((s : State) → Stands k s → after ≡ before ++ (step app [] s).log) → GoesFurther app limits until k next before after
+    pub goes_further : (before after : List Event) → ((s : State) → Stands k s → after ≡ before ++ (step app limits [] s).log) → GoesFurther app limits until k next before after
     goes_further before after told = record {
       way = λ plan g. way_on plan g.free (ends_not short g);
       on = let one = one_step in omega arith;
@@ -113,21 +113,21 @@ module _ (app : Application) (formed : IsWellFormed app) (limits : Limits) (are 
     }
 
     -- where the step ends no run
-    pub still_going : ((s : State) → Stands k s → is_over app s ≡ false → is_over app (step app [] s) ≡ false) → is_over app (state_after app plan next.steps) ≡ false
+    pub still_going : ((s : State) → Stands k s → is_over app limits s ≡ false → is_over app limits (step app limits [] s) ≡ false) → is_over app limits (state_after app limits plan next.steps) ≡ false
     still_going on =
-        let after : is_over app (step app (injected plan k.steps) (state_after app plan k.steps)) ≡ false =
-        subst (λ (hs : List ℕ). is_over app (step app hs (state_after app plan k.steps)) ≡ false) (nothing_injected plan g.free (ends_not short g)) (on (state_after app plan k.steps) g.free.way.stands g.going) in
-        subst (λ (n : ℕ). is_over app (state_after app plan n) ≡ false) (sym one_step) after
+        let after : is_over app limits (step app limits (injected plan k.steps) (state_after app limits plan k.steps)) ≡ false =
+        subst (λ (hs : List ℕ). is_over app limits (step app limits hs (state_after app limits plan k.steps)) ≡ false) (nothing_injected plan g.free (ends_not short g)) (on (state_after app limits plan k.steps) g.free.way.stands g.going) in
+        subst (λ (n : ℕ). is_over app limits (state_after app limits plan n) ≡ false) (sym one_step) after
 
 module _ (app : Application) (formed : IsWellFormed app) (limits : Limits) (are : AreLimits limits.ticks limits.steps) (until : ℕ) (k next : Machine) (short : k.steps < until)
-    (going : (plan : List Injection) → IsFree app limits until k plan → end_of app limits (state_after app plan k.steps) ≡ None)
-    (stands : (s : State) → Stands k s → Stands next (step app [] s)) where
+    (going : (plan : List Injection) → IsFree app limits until k plan → end_of app limits (state_after app limits plan k.steps) ≡ None)
+    (stands : (s : State) → Stands k s → Stands next (step app limits [] s)) where
   module _ (plan : List Injection) (f : IsFree app limits until k plan) where
     pub one_further : next.steps ≡ suc k.steps
     one_further = one_on app formed limits are until k next short stands plan f (going plan f)
 
     -- where the step tells something, so has the run
-    pub some_further : ((s : State) → Stands k s → 0 < length (step app [] s).log) → 0 < length (events_after app plan next.steps)
+    pub some_further : ((s : State) → Stands k s → 0 < length (step app limits [] s).log) → 0 < length (events_after app limits plan next.steps)
     some_further = some_on app formed limits are until k next short stands plan f (going plan f)
 
   -- where there is such a run
@@ -137,7 +137,7 @@ module _ (app : Application) (formed : IsWellFormed app) (limits : Limits) (are 
         let one = one_further plan f in
         record { way = λ plan f. way_on app formed limits are until k next short stands plan f (going plan f); on = omega arith; far = λ within. omega arith }
 
-    pub tells_a_step : (before after : List Event) → ((s : State) → Stands k s → after ≡ before ++ (step app [] s).log) → GoesOn app limits until k next before after
+    pub tells_a_step : (before after : List Event) → ((s : State) → Stands k s → after ≡ before ++ (step app limits [] s).log) → GoesOn app limits until k next before after
     tells_a_step before after told = record { to = goes_a_step; events = λ plan f. told_on app formed limits are until k next short stands plan f (going plan f) before after told }
 
 -- ---- one stretch after another
@@ -152,11 +152,11 @@ goes_then {app} {limits} {until} {first} {middle} {last} g h = record {
 pub tells_then : {app : Application} {limits : Limits} {until : ℕ} {first middle last : Machine} {before between after : List Event} → GoesOn app limits until first middle before between → GoesOn app limits until middle last between after → GoesOn app limits until first last before after
 tells_then {app} {limits} {until} {first} {middle} {last} {before} {between} {after} g h = record {
   to = goes_then g.to h.to;
-  events = λ plan f. more_from app plan first.steps middle.steps last.steps g.to.on h.to.on before between after (g.events plan f) (h.events plan (free_next g.to f));
+  events = λ plan f. more_from app limits plan first.steps middle.steps last.steps g.to.on h.to.on before between after (g.events plan f) (h.events plan (free_next g.to f));
 }
 
 -- Those that were not over still aren't.
-pub goes_still : {app : Application} {limits : Limits} {until : ℕ} {old new : Machine} {before after : List Event} {plan : List Injection} → GoesFurther app limits until old new before after → IsGoing app limits until old plan → is_over app (state_after app plan new.steps) ≡ false → IsGoing app limits until new plan
+pub goes_still : {app : Application} {limits : Limits} {until : ℕ} {old new : Machine} {before after : List Event} {plan : List Injection} → GoesFurther app limits until old new before after → IsGoing app limits until old plan → is_over app limits (state_after app limits plan new.steps) ≡ false → IsGoing app limits until new plan
 goes_still {app} {limits} {until} {old} {new} {before} {after} {plan} h g going = record {
   free = record {
     way = h.way plan g;
@@ -166,12 +166,12 @@ goes_still {app} {limits} {until} {old} {new} {before} {after} {plan} h g going 
   going = going;
 }
 
-pub further_then : {app : Application} {limits : Limits} {until : ℕ} {first middle last : Machine} {before between after : List Event} → GoesFurther app limits until first middle before between → ((plan : List Injection) → IsGoing app limits until first plan → is_over app (state_after app plan middle.steps) ≡ false) → GoesFurther app limits until middle last between after → GoesFurther app limits until first last before after
+pub further_then : {app : Application} {limits : Limits} {until : ℕ} {first middle last : Machine} {before between after : List Event} → GoesFurther app limits until first middle before between → ((plan : List Injection) → IsGoing app limits until first plan → is_over app limits (state_after app limits plan middle.steps) ≡ false) → GoesFurther app limits until middle last between after → GoesFurther app limits until first last before after
 further_then {app} {limits} {until} {first} {middle} {last} {before} {between} {after} g going h = record {
   way = λ plan f. h.way plan (goes_still g f (going plan f));
   on = (let l = g.on in let m = h.on in omega arith);
   far = λ within. h.far (g.far within);
-  events = λ plan f. more_from app plan first.steps middle.steps last.steps g.on h.on before between after (g.events plan f) (h.events plan (goes_still g f (going plan f)));
+  events = λ plan f. more_from app limits plan first.steps middle.steps last.steps g.on h.on before between after (g.events plan f) (h.events plan (goes_still g f (going plan f)));
 }
 
 pub further_nowhere : {app : Application} {limits : Limits} {until : ℕ} {k : Machine} {before after : List Event} → after ≡ before → GoesFurther app limits until k k before after
@@ -179,7 +179,7 @@ further_nowhere {app} {limits} {until} {k} {before} {after} e = record {
   way = λ plan g. g.free.way;
   on = omega arith;
   far = λ within. within;
-  events = λ plan g. e ∙ sym (append-nil before) ∙ ap (λ (es : List Event). before ++ es) (sym (from_here app plan k.steps));
+  events = λ plan g. e ∙ sym (append-nil before) ∙ ap (λ (es : List Event). before ++ es) (sym (from_here app limits plan k.steps));
 }
 
 -- up to the next step
@@ -209,7 +209,7 @@ tells_on {app} {limits} {until} {first} {middle} {last} {before} {between} {afte
     on = (let l = g.to.on in let m = h.on in omega arith);
     far = λ within. h.far (g.to.far within);
   };
-  events = λ plan f. more_from app plan first.steps middle.steps last.steps g.to.on h.on before between after (g.events plan f) (h.events plan (record { free = free_next g.to f; going = going plan f }));
+  events = λ plan f. more_from app limits plan first.steps middle.steps last.steps g.to.on h.on before between after (g.events plan f) (h.events plan (record { free = free_next g.to f; going = going plan f }));
 }
 
 -- a stretch that tells nothing, behind any events

@@ -1,5 +1,5 @@
 -- A kernel whose run goes on keeps within the numbers of the code.
-use Rattle.std.proofs.Common.{◌≡◌, ◌≢◌, ◌<◌, ◌≤◌, ◌+◌, ◌||◌, inl, inr, ltb-false, ℕ, Bool, true, false, cond, leb, List, length, Option, Some, None, refl, ap, sym, subst, ◌∙◌, arith}
+use Rattle.std.proofs.Common.{◌≡◌, ◌≢◌, ◌<◌, ◌≤◌, ◌+◌, ◌||◌, inl, inr, ltb-false, ℕ, Bool, true, false, cond, leb, List, length, Option, Some, None, refl, ap, sym, subst, ◌∙◌, arith, ltb}
 use Rattle.std.specs.Prelude.{if◌then◌else◌}
 use Rattle.std.proofs.lemmas.Bool.{ltb-true, lt-ltb}
 use Rattle.model.specs.Switching.{is_ready, is_held, is_scheduler_suspended}
@@ -15,15 +15,18 @@ use Rattle.model.specs.declared.call.Condition.{Condition}
 use Rattle.model.specs.declared.op.Access.{Access}
 use Rattle.model.specs.declared.op.Access.TheVariants.{Receive}
 use Rattle.model.specs.declared.op.Op.{Op}
-use Rattle.model.specs.declared.op.Op.TheVariants.{Work, Delay, DelayUntil, Yield, Time, Mark, Expect, Repeat, End as EndLoop, Await, Do, GiveMutex, MessagesWaiting, SpacesAvailable, SetBits, ClearBits, GetBits, WaitBits, Suspend, Resume, SuspendAll, ResumeAll, NextCommand, Obey}
+use Rattle.model.specs.declared.op.Op.TheVariants.{Work, Delay, DelayUntil, Yield, Time, Mark, Expect, Repeat, End as EndLoop, If, Else, EndIf, Break, Await, Do, GiveMutex, MessagesWaiting, SpacesAvailable, SetBits, ClearBits, GetBits, WaitBits, Suspend, Resume, SuspendAll, ResumeAll, NextCommand, Obey}
 use Rattle.model.specs.Application.{Application, Limits, script_of, op_at}
-use Rattle.model.specs.Scripts.{may_stand, fits_object, is_in_range, is_wait, IsWellFormed}
+use Rattle.model.specs.declared.block.Block.{Block}
+use Rattle.model.specs.Blocks.{edge_of, loops_in, may_stand}
+use Rattle.model.specs.Scripts.{fits_object, is_in_range, is_wait, IsWellFormed}
 use Rattle.model.specs.State.{State, Progress, Wait, task_at, progress_at, call_at, status_at}
 use Rattle.model.specs.Run.{end_of, are_all_ended, is_stuck}
 use Rattle.model.specs.Invariant.{Hold, IsSound, IsState, IsUsedBy, IsRunning, IsPlacing, IsWaitOf, RunsIn, Course, InOne, OnObject, ToSetBits, course, IsPhaseOf, hold_of, holds, Suspension, wait_of}
 use Rattle.soundness.proofs.InScripts.{Known, script_formed, stands_at, known_at, range_at}
 use Rattle.soundness.proofs.Sound.{ready_reckoned}
 use Rattle.soundness.proofs.Frames.{keeps-before_step}
+use Rattle.soundness.proofs.Idling.{not_stuck_after}
 use Rattle.soundness.proofs.Reached.{reached_before_step, start_only}
 use Rattle.model.specs.Step.{before_step}
 use Rattle.sched.proofs.Standing as on_sched
@@ -36,18 +39,19 @@ use Rattle.machine.specs.StandsFor.{StandsFor, StandsBefore, Stands, decider, pr
 use Rattle.machine.specs.StandsFor.Stands.{Placed, Placing}
 use Rattle.machine.specs.Can.{Runs, HasRoom, Agrees, IsAhead, IsInCall, StandsForSome}
 use Rattle.ops.specs.Can.{HasLoopRoom, HasObject, HasObjects, CanTick, Can, CanTry, IsShort, CanDecide, CanPlace, CanLeave, CanGoOn, CanSetBits, CanWaitBits, CanHold}
-use Rattle.kernel.specs.Can.{CanOp, CanAct, CanStep}
-use Rattle.machine.proofs.Either.{elapsed_is, now_is, current_is, progress_is, suspensions_are}
+use Rattle.kernel.specs.Can.{CanOp, CanAct, CanIdle, CanStep}
+use Rattle.machine.proofs.Either.{elapsed_is, held_is, now_is, current_is, progress_is, suspensions_are}
 
 leb-less : (a b : ℕ) → leb a b ≡ false → b < a
 leb-less a b e = grind (arith, nat_tests)
 
-unended : (o : Option End) (a t p k : Bool) → option_or o (cond a (Some ending.Pass) (cond t (Some ending.Ticks) (cond p (Some ending.Steps) (cond k (Some ending.Stuck) None)))) ≡ None → (t ≡ false) × (p ≡ false)
+unended : (o : Option End) (a t p k : Bool) → option_or o (cond a (Some ending.Pass) (cond t (Some ending.Ticks) (cond p (Some ending.Steps) (cond k (Some ending.Stuck) None)))) ≡ None → (t ≡ false) × (p ≡ false) × (k ≡ false)
 unended (Some e) a t p k h = absurd (cc)
 unended None true t p k h = absurd (cc)
 unended None false true p k h = absurd (cc)
 unended None false false true k h = absurd (cc)
-unended None false false false k h = (refl, refl)
+unended None false false false true h = absurd (cc)
+unended None false false false false h = (refl, refl, refl)
 
 or_left : (a b : Bool) → (a || b) ≡ false → a ≡ false
 or_left false b e = refl
@@ -57,12 +61,15 @@ or_right : (a b : Bool) → (a || b) ≡ false → b ≡ false
 or_right false b e = e
 or_right true b e = absurd (cc)
 
+moves_by : (app : Application) (limits : Limits) (s : State) → end_of app limits s ≡ None → is_stuck app s ≡ false
+moves_by app limits s h = (unended s.stopped (are_all_ended app s) (leb limits.ticks s.elapsed) (leb limits.steps s.steps) (is_stuck app s) h).2
+
 pub below_limits : (app : Application) (limits : Limits) (s : State) → end_of app limits s ≡ None → (s.elapsed < limits.ticks) × (s.steps < limits.steps)
 below_limits app limits s h =
     let u = unended s.stopped (are_all_ended app s) (leb limits.ticks s.elapsed) (leb limits.steps s.steps) (is_stuck app s) h in
     (leb-less limits.ticks s.elapsed u.0, leb-less limits.steps s.steps u.1)
 
-loop_room : (op : Op) (nesting : ℕ) → may_stand nesting op ≡ true → HasLoopRoom op nesting
+loop_room : (op : Op) (blocks : List Block) → may_stand (edge_of op) blocks ≡ true → HasLoopRoom op (loops_in blocks)
 loop_room (Work n) nesting h = tt
 loop_room (Delay n) nesting h = tt
 loop_room (DelayUntil n) nesting h = tt
@@ -70,8 +77,12 @@ loop_room Yield nesting h = tt
 loop_room Time nesting h = tt
 loop_room (Mark n) nesting h = tt
 loop_room (Expect a) nesting h = tt
-loop_room (Repeat n) nesting h = ltb-true nesting 4 h
+loop_room (Repeat n) blocks h = ltb-true (loops_in blocks) 4 (and_left (ltb (loops_in blocks) 4) _ h)
 loop_room EndLoop nesting h = tt
+loop_room (If c) nesting h = tt
+loop_room Else nesting h = tt
+loop_room EndIf nesting h = tt
+loop_room Break nesting h = tt
 loop_room (Await o a w) nesting h = tt
 loop_room (Do o a) nesting h = tt
 loop_room (GiveMutex o) nesting h = tt
@@ -102,6 +113,10 @@ known_object app i p (Mark n) brief t k room = tt
 known_object app i p (Expect a) brief t k room = tt
 known_object app i p (Repeat n) brief t k room = tt
 known_object app i p EndLoop brief t k room = tt
+known_object app i p (If c) brief t k room = tt
+known_object app i p Else brief t k room = tt
+known_object app i p EndIf brief t k room = tt
+known_object app i p Break brief t k room = tt
 known_object app i p (Await o a w) brief t k room = absurd (cc)
 known_object app i p (Do o a) brief t k room = room o a (and_left (fits_object app o a) _ t)
 known_object app i p (GiveMutex o) brief t k room = tt
@@ -139,8 +154,8 @@ once_held n true depth e z t = omega (arith, e, z)
 once_held n false depth e z t = absurd (cc)
 
 -- the kernel stands for a state of a run, early enough
-module _ (app : Application) (formed : IsWellFormed app) (k : Machine) (state : State) (reached : IsState app state) (stands : Stands k state) (early : state.elapsed < 1000000) where
-  time_low : k.clock.now < 4294967296 + 1000000
+module _ (app : Application) (formed : IsWellFormed app) (k : Machine) (state : State) (reached : IsState app state) (stands : Stands k state) (early : state.elapsed < 281474976710656) (little : state.held_ticks < 1000000) where
+  time_low : k.clock.now < 4294967296 + 281474976710656
   time_low = let e = now_is k state stands in let l = early in let m = reached.sound.time.1 in let n = formed.start in omega arith
 
   pub rooms : HasObjects app k
@@ -231,7 +246,7 @@ module _ (app : Application) (formed : IsWellFormed app) (k : Machine) (state : 
       nesting =
           let may = stands_at (length (progress_at state task).loops) (progress_at state task).op_index (script_of app task) op (reached.sound.progress task).nests at_op in
           let H : Progress → Type 0 = λ p. HasLoopRoom op (length p.loops) in
-          subst H (sym same) (loop_room op (length (progress_at state task).loops) may)
+          subst H (sym same) (subst (HasLoopRoom op) may.count (loop_room op may.blocks may.may))
 
       -- in this phase the op may be
       fits_phase : (phase : Phase) → (call_at state task).phase ≡ phase → IsPhaseOf (hold_of state) (course (Some op)) phase
@@ -354,6 +369,10 @@ module _ (app : Application) (formed : IsWellFormed app) (k : Machine) (state : 
     can_op awake (Expect a) is = brief_can (Expect a) is awake refl
     can_op awake (Repeat n) is = brief_can (Repeat n) is awake refl
     can_op awake EndLoop is = brief_can EndLoop is awake refl
+    can_op awake (If c) is = brief_can (If c) is awake refl
+    can_op awake Else is = brief_can Else is awake refl
+    can_op awake EndIf is = brief_can EndIf is awake refl
+    can_op awake Break is = brief_can Break is awake refl
     can_op awake (Await o a w) is = subst (λ (p : Progress). CanGoOn k task o a w p.call.phase) (sym same) (goes_on o a w (Await o a w) is refl (and_left (fits_object app o a) _ (known (Await o a w) is)) (in_range (Await o a w) is) awake (call_at state task).phase refl)
     can_op awake (Do o a) is = brief_can (Do o a) is awake refl
     can_op awake (GiveMutex o) is = brief_can (GiveMutex o) is awake refl
@@ -381,7 +400,7 @@ module _ (app : Application) (formed : IsWellFormed app) (k : Machine) (state : 
           agrees = (state, h);
           free = no_lock free;
           age = let l = early in omega arith;
-          held = let l = early in omega arith;
+          held = let l = little in let e = held_is k state stands in omega arith;
           suspensions = let e = suspensions_are k state stands in let l = few in omega arith;
           depth = depth_in ∙ unheld state.suspensions state.call_hold free ∙ sym (suspensions_are k state stands);
           objects = rooms;
@@ -401,8 +420,15 @@ module _ (app : Application) (formed : IsWellFormed app) (k : Machine) (state : 
       let most = ltb-false 0 state.suspensions (or_right state.call_hold (is_scheduler_suspended state) (idle_held idle)) in
       suspensions_are k state stands ∙ (let none : state.suspensions ≡ 0 = omega arith in none)
 
-  pub can_act : state.suspensions < 1000000 → CanAct app k
-  can_act few = record { tick = λ idle. can_tick (idle_awake idle) (idle_free idle); op = λ task op runs is. ((λ awake. can_op task runs awake op is), (λ some. can_hold task runs some few op is)) }
+  can_idle : (limits : Limits) → state.elapsed < limits.ticks → (state.current ≡ None → is_stuck app state ≡ false) → k.sched.current ≡ None → CanIdle app limits k
+  can_idle limits below moves idle = record {
+    tick = can_tick (idle_awake idle) (idle_free idle);
+    early = let e = elapsed_is k state stands in omega arith;
+    moves = (state, placed (idle_free idle), moves (sym (current_is k state stands) ∙ idle));
+  }
+
+  pub can_act : (limits : Limits) → state.elapsed < limits.ticks → (state.current ≡ None → is_stuck app state ≡ false) → state.suspensions < 1000000 → CanAct app limits k
+  can_act limits below moves few = record { idle = can_idle limits below moves; op = λ task op runs is. ((λ awake. can_op task runs awake op is), (λ some. can_hold task runs some few op is)) }
 
 -- The running task is one of those that there are.
 pub runs_there : (app : Application) (k : Machine) (s : State) (hold : Hold) → Stands k s → IsSound app hold s → IfSome k.sched.current (λ task. task < length app.tasks)
@@ -412,25 +438,35 @@ runs_there app k s hold h sound =
 
 -- ---- before a step, and after the handlers that come before it
 
-module _ (app : Application) (formed : IsWellFormed app) (k : Machine) (c : CanStep app k) where
+module _ (app : Application) (formed : IsWellFormed app) {limits : Limits} (k : Machine) (c : CanStep app limits k) where
   abbrev now : State
   now = c.state
 
-  early_now : now.elapsed < 1000000
-  early_now = let l = (below_limits app c.limits now c.goes_on).0 in let m = c.tick_limit in omega arith
+  early_now : now.elapsed < 281474976710656
+  early_now = let l = (below_limits app limits now c.goes_on).0 in let m = c.are.1 in omega arith
+
+  little_now : now.held_ticks < 1000000
+  little_now = let l = (below_limits app limits now c.goes_on).1 in let m = c.are.3 in let n = c.held in omega arith
 
   pub stood : StandsForSome k
   stood = (now, c.stands)
 
   pub has_objects : HasObjects app k
-  has_objects = rooms app formed k now c.sound c.stands early_now
+  has_objects = rooms app formed k now c.sound c.stands early_now little_now
 
-  pub can_act_after : (handlers : List ℕ) (new : Machine) → Stands new (before_step app handlers now) → CanAct app new
+  pub can_act_after : (handlers : List ℕ) (new : Machine) → Stands new (before_step app handlers now) → CanAct app limits new
   can_act_after handlers new h =
-      let age : (before_step app handlers now).elapsed ≡ now.elapsed = (keeps-before_step app handlers now).elapsed in
-      let low : (before_step app handlers now).elapsed < 1000000 = (let l = early_now in omega arith) in
-      let few : (before_step app handlers now).suspensions < 1000000 = (let e = ap (λ (x : Suspension). x.suspensions) (keeps-before_step app handlers now).suspension in let n = c.suspended in let l = (below_limits app c.limits now c.goes_on).1 in let o = c.step_limit in omega arith) in
-      can_act app formed new (before_step app handlers now) (reached_before_step app formed handlers now c.sound) h low few
+      let k = keeps-before_step app handlers now in
+      let b = below_limits app limits now c.goes_on in
+      let age : (before_step app handlers now).elapsed ≡ now.elapsed = k.elapsed in
+      let count : (before_step app handlers now).suspensions ≡ now.suspensions = ap (λ (x : Suspension). x.suspensions) k.suspension in
+      let held : (before_step app handlers now).held_ticks ≡ now.held_ticks = ap (λ (x : Suspension). x.held_ticks) k.suspension in
+      let low : (before_step app handlers now).elapsed < 281474976710656 = (let l = early_now in omega arith) in
+      let below : (before_step app handlers now).elapsed < limits.ticks = (let l = b.0 in omega arith) in
+      let little : (before_step app handlers now).held_ticks < 1000000 = (let l = little_now in omega arith) in
+      let few : (before_step app handlers now).suspensions < 1000000 = (let n = c.suspended in let l = b.1 in let o = c.are.3 in omega arith) in
+      can_act app formed new (before_step app handlers now) (reached_before_step app formed handlers now c.sound) h low little limits below
+      (λ idle. not_stuck_after app handlers now c.sound (moves_by app limits now c.goes_on) idle) few
 
   -- and the task that runs then is there
   pub there_after : (handlers : List ℕ) (new : Machine) → Stands new (before_step app handlers now) → IfSome new.sched.current (λ task. task < length app.tasks)
@@ -438,11 +474,11 @@ module _ (app : Application) (formed : IsWellFormed app) (k : Machine) (c : CanS
 
   pub can_go_on : (task : TaskId) → k.sched.current ≡ Some task → (object : ℕ) (access : Access) (ticks : Option ℕ) → op_at app task (progress_in k.progress task).op_index ≡ Some (Await object access ticks) → k.suspensions ≡ 0
       → CanGoOn k task object access ticks (progress_in k.progress task).call.phase
-  can_go_on task runs object access ticks is awake = can_op app formed k now c.sound c.stands early_now task runs awake (Await object access ticks) is
+  can_go_on task runs object access ticks is awake = can_op app formed k now c.sound c.stands early_now little_now task runs awake (Await object access ticks) is
 
   pub can_do : (task : TaskId) → k.sched.current ≡ Some task → k.suspensions ≡ 0 → (op : Op) → op_at app task (progress_in k.progress task).op_index ≡ Some op → CanOp app k task op
-  can_do task runs awake op at = can_op app formed k now c.sound c.stands early_now task runs awake op at
+  can_do task runs awake op at = can_op app formed k now c.sound c.stands early_now little_now task runs awake op at
 
   pub held_in_call : (task : TaskId) → k.sched.current ≡ Some task → k.suspensions ≡ 0 → (phase : Phase) → (progress_in k.progress task).call.phase ≡ phase → holds phase ≡ true → k.sched.depth ≡ 1
   held_in_call task runs awake phase e t =
-      held_once app formed k now c.sound c.stands early_now awake (held_in app formed k now c.sound c.stands early_now task runs phase (ap (λ (p : Progress). p.call.phase) (sym (progress_is k now c.stands task)) ∙ e) t)
+      held_once app formed k now c.sound c.stands early_now little_now awake (held_in app formed k now c.sound c.stands early_now little_now task runs phase (ap (λ (p : Progress). p.call.phase) (sym (progress_is k now c.stands task)) ∙ e) t)

@@ -2,7 +2,7 @@
 use Rattle.std.proofs.Common.{◌≡◌, ◌+◌, ◌-◌, ◌||◌, ◌&&◌, ℕ, zero, suc, true, false, eqb, List, ◌++◌, Option, Some, None, refl, sym, ◌∙◌, length}
 use Rattle.std.specs.Option.{option_eq}
 use Rattle.model.specs.declared.op.Op.{Op}
-use Rattle.model.specs.declared.op.Op.TheVariants.{Work, Delay, DelayUntil, Yield, Time, Mark, Expect, Repeat, End, Await, Do, GiveMutex, MessagesWaiting, SpacesAvailable, SetBits, ClearBits, GetBits, WaitBits, Suspend, Resume, SuspendAll, ResumeAll, NextCommand, Obey}
+use Rattle.model.specs.declared.op.Op.TheVariants.{Work, Delay, DelayUntil, Yield, Time, Mark, Expect, Repeat, End, If, Else, EndIf, Break, Await, Do, GiveMutex, MessagesWaiting, SpacesAvailable, SetBits, ClearBits, GetBits, WaitBits, Suspend, Resume, SuspendAll, ResumeAll, NextCommand, Obey}
 use Rattle.model.specs.declared.op.Access.{Access}
 use Rattle.model.specs.declared.op.Access.TheVariants.{Receive}
 use Rattle.model.specs.declared.op.Command.{Command}
@@ -12,27 +12,29 @@ use Rattle.model.specs.declared.call.Phase.TheVariants.{Start, Try, Decide, Plac
 use Rattle.model.specs.declared.call.WaitList.TheVariants.{ToReceive, ToSend}
 use Rattle.model.specs.declared.event.Misuse.{Misuse}
 use Rattle.model.specs.declared.event.What.TheVariants as what
-use Rattle.model.specs.Application.{Application, op_at}
+use Rattle.model.specs.declared.answer.AnswerCondition.{AnswerCondition}
+use Rattle.model.specs.Answers.{holds}
+use Rattle.model.specs.Application.{Application, Limits, op_at}
 use Rattle.model.specs.State.{State, status_at, progress_at, call_at, object_at, bits_at, for_one, printed}
 use Rattle.model.specs.Order.{tasks_of}
 use Rattle.model.specs.Switching.{preempt, slice, settle, is_scheduler_suspended, unless_held, write}
 use Rattle.model.specs.Waiting.{awakened, wait_in, set_deadline, is_expired, end_hold, unlock_object, unlock}
-use Rattle.model.specs.Time.{advance, increment_tick, apply_one, apply_held}
+use Rattle.model.specs.Time.{advance, increment_tick, jump, apply_one, apply_held}
 use Rattle.model.specs.Ops.{answer, use_up, expect}
 use Rattle.model.specs.Objects.{possible}
 use Rattle.model.specs.Calls.{decide, leave_call, await}
 use Rattle.model.specs.Groups.{is_met, begin_set, set_bits, wait_for_bits, begin_bits_wait, check, wait_bits}
 use Rattle.model.specs.Suspension.{suspend_all, resume_scheduler, resume_all}
 use Rattle.model.specs.Daemon.{next_command, obeyed, end_set_by_daemon, obey, command_at}
-use Rattle.model.specs.Handlers.{interrupt, tick_interrupt}
+use Rattle.model.specs.Handlers.{interrupt, tick_interrupt, idle, ticks_ahead}
 use Rattle.model.specs.Step.{is_ended, judge, act, act_unless, misuse, act_if, act_current, before_step}
 use Rattle.model.proofs.Sorting.{by_test}
-use Rattle.soundness.proofs.Passing.{lasts-final_bits}
+use Rattle.soundness.proofs.Passing.{either_way, lasts-final_bits}
 use Rattle.model.specs.declared.event.Event.{Event}
 use Rattle.machine.specs.declared.machine.Machine.{Machine}
 use Rattle.machine.specs.StandsFor.{Stands, AtAny}
 use Rattle.machine.proofs.Either.{steps_are}
-use Rattle.soundness.proofs.Frames.{keeps-choose, keeps-yield_now, keeps-preempt, keeps-slice, keeps-settle, keeps-unless_held, keeps-all_ready, keeps-wake_due, keeps-go_to, keeps-answer, keeps-use_up, keeps-delay, keeps-delay_until, keeps-open_loop, keeps-close_turn, keeps-set_deadline, keeps-inherit, keeps-give_mutex, keeps-try, keeps-do_now, keeps-set, keeps-clear, keeps-answer_bits, keeps-call_suspend, keeps-call_resume, keeps-take_command, keeps-obeyed, keeps-clear_by_daemon, keeps-interrupt, keeps-before_step}
+use Rattle.soundness.proofs.Frames.{keeps-choose, keeps-yield_now, keeps-preempt, keeps-slice, keeps-settle, keeps-unless_held, keeps-all_ready, keeps-wake_due, keeps-go_to, keeps-answer, keeps-use_up, keeps-delay, keeps-delay_until, keeps-open_loop, keeps-close_turn, keeps-branch, keeps-skip_branch, keeps-leave_loop, keeps-set_deadline, keeps-inherit, keeps-give_mutex, keeps-try, keeps-do_now, keeps-set, keeps-clear, keeps-answer_bits, keeps-call_suspend, keeps-call_resume, keeps-take_command, keeps-obeyed, keeps-clear_by_daemon, keeps-interrupt, keeps-before_step}
 
 steps-unlock : (s : State) → (unlock s).steps ≡ s.steps
 unfolding unlock
@@ -124,9 +126,9 @@ steps-obey app i c Unlock s = steps-end_command app i c.group s
 steps-obey app i c Leave s = steps-end_command app i c.group s
 steps-obey app i c Final s = steps-end_command app i c.group s
 
-steps-expect : (app : Application) (i : ℕ) (a : Option ℕ) (s : State) → (expect app i a s).steps ≡ s.steps
+steps-expect : (app : Application) (i : ℕ) (condition : AnswerCondition) (s : State) → (expect app i condition s).steps ≡ s.steps
 unfolding expect
-steps-expect app i a s = by_test (option_eq eqb (progress_at s i).answer a)
+steps-expect app i condition s = by_test (holds condition (progress_at s i).answer)
     (λ t. rw t (keeps-go_to app i ((progress_at s i).op_index + 1) (progress_at s i) s).steps)
     (λ t. rw t refl)
 
@@ -144,6 +146,15 @@ steps-tick app s =
     let come : State = increment_tick s in
     let told : State = interrupt app come in
     (keeps-unless_held slice told keeps-slice).steps ∙ (keeps-interrupt app come).steps ∙ steps-increment s
+
+steps-idle : (app : Application) (limits : Limits) (s : State) → (idle app limits s).steps ≡ s.steps
+unfolding idle jump
+steps-idle app limits s =
+    let come : State = jump (ticks_ahead app limits s) s in
+    let told : State = interrupt app come in
+    either_way (λ t. t.steps ≡ s.steps) app.tickless (unless_held slice told) (tick_interrupt app s)
+    ((keeps-unless_held slice told keeps-slice).steps ∙ (keeps-interrupt app come).steps ∙ (keeps-wake_due (record s { time = s.time + ticks_ahead app limits s; elapsed = s.elapsed + ticks_ahead app limits s })).steps)
+    (steps-tick app s)
 
 steps-applied : (s : State) → (apply_one s).steps ≡ s.steps
 unfolding apply_one advance
@@ -182,6 +193,10 @@ steps-act app i (Mark n) s = (keeps-go_to app i ((progress_at s i).op_index + 1)
 steps-act app i (Expect a) s = steps-expect app i a s
 steps-act app i (Repeat n) s = (keeps-open_loop app i n s).steps
 steps-act app i End s = (keeps-close_turn app i s).steps
+steps-act app i (If c) s = (keeps-branch app i c s).steps
+steps-act app i Else s = (keeps-skip_branch app i s).steps
+steps-act app i EndIf s = (keeps-go_to app i ((progress_at s i).op_index + 1) (progress_at s i) s).steps
+steps-act app i Break s = (keeps-leave_loop app i s).steps
 steps-act app i (Await o a ticks) s = steps-await app i o a ticks (call_at s i).phase s
 steps-act app i (Do o a) s = (keeps-do_now app i o a s).steps
 steps-act app i (GiveMutex o) s = (keeps-give_mutex app i o s).steps
@@ -212,19 +227,19 @@ steps-act_if : (app : Application) (i : ℕ) (o : Option Op) (s : State) → (ac
 steps-act_if app i None s = refl
 steps-act_if app i (Some op) s = steps-act_unless app i (misuse s i op) op s
 
-steps-act_current : (app : Application) (r : Option ℕ) (s : State) → (act_current app r s).steps ≡ s.steps
-steps-act_current app None s = steps-tick app s
-steps-act_current app (Some i) s = steps-act_if app i (op_at app i (progress_at s i).op_index) s
+steps-act_current : (app : Application) (limits : Limits) (r : Option ℕ) (s : State) → (act_current app limits r s).steps ≡ s.steps
+steps-act_current app limits None s = steps-idle app limits s
+steps-act_current app limits (Some i) s = steps-act_if app i (op_at app i (progress_at s i).op_index) s
 
 -- So what a step does, before it is counted, leaves their number.
-pub steps_acted : (app : Application) (handlers : List ℕ) (s : State)
-    → (unless_held settle (act_current app (before_step app handlers s).current (before_step app handlers s))).steps ≡ s.steps
-steps_acted app handlers s =
+pub steps_acted : (app : Application) (limits : Limits) (handlers : List ℕ) (s : State)
+    → (unless_held settle (act_current app limits (before_step app handlers s).current (before_step app handlers s))).steps ≡ s.steps
+steps_acted app limits handlers s =
     let begun : State = before_step app handlers s in
-    let acted : State = act_current app begun.current begun in
-    (keeps-unless_held settle acted keeps-settle).steps ∙ steps-act_current app begun.current begun ∙ (keeps-before_step app handlers s).steps
+    let acted : State = act_current app limits begun.current begun in
+    (keeps-unless_held settle acted keeps-settle).steps ∙ steps-act_current app limits begun.current begun ∙ (keeps-before_step app handlers s).steps
 
 -- The kernel has the number of before, then.
-pub steps_still : (app : Application) (handlers : List ℕ) (s : State) (k new : Machine) (log : List Event) → Stands k s
-    → AtAny new log (unless_held settle (act_current app (before_step app handlers s).current (before_step app handlers s))) → new.steps ≡ k.steps
-steps_still app handlers s k new log h a = steps_are new _ a.stands ∙ steps_acted app handlers s ∙ sym (steps_are k s h)
+pub steps_still : (app : Application) (limits : Limits) (handlers : List ℕ) (s : State) (k new : Machine) (log : List Event) → Stands k s
+    → AtAny new log (unless_held settle (act_current app limits (before_step app handlers s).current (before_step app handlers s))) → new.steps ≡ k.steps
+steps_still app limits handlers s k new log h a = steps_are new _ a.stands ∙ steps_acted app limits handlers s ∙ sym (steps_are k s h)

@@ -2,14 +2,14 @@
 use Rattle.std.proofs.Common.{◌≡◌, ◌≢◌, ◌+◌, ◌<◌, ◌≤◌, ℕ, zero, suc, Bool, true, false, not, ◌&&◌, ◌||◌, eqb, leb, ltb, List, [], ◌∷◌, length, get_or, Option, Some, None, inl, inr, refl, ap, sym, subst, ◌∙◌, arith}
 use Rattle.std.proofs.lemmas.Bool.Decides.{nat_tests}
 use Rattle.std.specs.List.{list_all, list_any, filter, AllByRecursion}
-use Rattle.std.specs.Prelude.{IsTrue, ◌↔◌, if◌then◌else◌, nat_lt}
+use Rattle.std.specs.Prelude.{IsTrue, ◌↔◌, if◌then◌else◌, nat_lt, not}
 use Rattle.std.specs.Prelude.{slice_get}
 use Rattle.std.specs.Option.{option_eq, option_or, option_and_then, option_map, unwrap_or, is_none, is_some}
 use Rattle.std.proofs.lemmas.List.{length-map}
 use Rattle.model.specs.declared.event.Event.{Event}
 use Rattle.model.specs.declared.event.End.{End}
 use Rattle.model.specs.declared.event.End.TheVariants.{Pass, Ticks, Steps, Stuck}
-use Rattle.model.specs.Application.{Application, Definition, Limits, is_endless, without_endless}
+use Rattle.model.specs.Application.{Application, Definition, Limits, is_any_awaited, is_endless, without_endless}
 use Rattle.model.specs.State.{State, Task, Progress, Status, Ready, Awake, Waiting, Asleep, WaitingForBits, Suspended, Ended, ticket_if_ready, wake_time_of, task_at, status_at, no_task, for_each}
 use Rattle.model.specs.Order.{Key, Entry, key, keyed, list_by, in_order, tasks_of}
 use Rattle.model.specs.Switching.{is_held, is_ready, is_scheduler_suspended, ready_key, settle, unless_held}
@@ -37,7 +37,7 @@ use Rattle.objects.specs.WaitersStand.{joined_by, standing}
 use Rattle.objects.proofs.Keys.{same_list-refl}
 use Rattle.groups.specs.StandsFor.{bits_wait}
 use Rattle.kernel.specs.Blocked.{is_blocked}
-use Rattle.kernel.specs.Over.{is_over}
+use Rattle.kernel.specs.Over.{is_at_tick_limit, is_over}
 use Rattle.model.specs.Suspension.{can_resume}
 use Rattle.machine.specs.declared.machine.Machine.{Machine}
 use Rattle.machine.specs.StandsFor.{StandsFor, StandsBefore, Stands, AtAny, decider, progress_in}
@@ -50,6 +50,9 @@ leb-yes a b e = grind (arith, nat_tests)
 
 pub leb-no : (a b : ℕ) → b < a → leb a b ≡ false
 leb-no a b e = grind (arith, nat_tests)
+
+pub leb-less : (a b : ℕ) → leb a b ≡ false → b < a
+leb-less a b e = grind (arith, nat_tests)
 
 some : (n : ℕ) → eqb (suc n) 0 ≡ false
 some n = eqb-apart (suc n) 0 (λ e. omega arith)
@@ -297,6 +300,18 @@ all_but (d ∷ ds) (t ∷ ts) h =
     let first : is_ended t.status ≡ true = or_false_left d.endless (is_ended t.status) (h 0 (omega arith)) u in
     ap (λ (xs : List Task). list_all (λ (t : Task). is_ended t.status) xs) (when_false d.endless (without_endless ds ts) (t ∷ without_endless ds ts) u) ∙ rw (first, later) refl)
 
+-- of which there is one, if there is a task at all
+pub all_awaited : (ds : List Definition) → 1 ≤ length ds → list_any (λ (d : Definition). d.endless) ds ≡ false → list_any (λ (d : Definition). not d.endless) ds ≡ true
+all_awaited [] l e = absurd (omega arith)
+all_awaited (d ∷ ds) l e = by_first d.endless e where
+  by_first : (b : Bool) → b || list_any (λ (d : Definition). d.endless) ds ≡ false → not b || list_any (λ (d : Definition). not d.endless) ds ≡ true
+  by_first true f = absurd (cc)
+  by_first false f = refl
+
+-- No run has passed while one of them is left.
+pub not_passed : (app : Application) (s : State) → list_all (λ (t : Task). is_ended t.status) (without_endless app.tasks s.tasks) ≡ false → are_all_ended app s ≡ false
+not_passed app s e = and_right_false (is_any_awaited app) (list_all (λ (t : Task). is_ended t.status) (without_endless app.tasks s.tasks)) e
+
 -- and each is meant
 pub none_endless : (ds : List Definition) (i : ℕ) → list_any (λ (d : Definition). d.endless) ds ≡ false → unwrap_or (option_map (λ (d : Definition). d.endless) (slice_get ds i)) false ≡ false
 none_endless [] i e = refl
@@ -327,7 +342,7 @@ on_unheld app s task awaited is runs free =
     let running : IsRunning app s task = subst (RunsIn app s) runs is.runs in
     let none = neither s.call_hold (is_scheduler_suspended s) free in
     let ready : is_ready s task ≡ true = elim (running.ready none.0) [ inl r ↦ r | inr x ↦ let t : is_scheduler_suspended s ≡ true = x.0 in let f = none.1 in absurd (cc) ] in
-    not_all_but app.tasks s.tasks task awaited (ready_on (status_at s task) ready) where
+    not_passed app s (not_all_but app.tasks s.tasks task awaited (ready_on (status_at s task) ready)) where
       neither : (a b : Bool) → a || b ≡ false → (a ≡ false) × (b ≡ false)
       neither true b e = absurd (cc)
       neither false b e = (refl, e)
@@ -366,25 +381,27 @@ stuck_by app k s idle q later (Placing task list b) n is come = let e : idle ≡
 pub runs_on : (app : Application) (s : State) (task : ℕ) → s.current ≡ Some task → is_stuck app s ≡ false
 runs_on app s task e = rw e refl
 
--- none of three
-pub none_of : (a b c : Bool) → a ≡ false → b ≡ false → c ≡ false → a || b || c ≡ false
-none_of a b c t u v = rw (t, u, v) refl
+-- none of four
+pub none_of : (a b c d : Bool) → a ≡ false → b ≡ false → c ≡ false → d ≡ false → a || b || c || d ≡ false
+none_of a b c d t u v w = rw (t, u, v, w) refl
 
--- nor either of the first two
-pub neither_of : (a b c : Bool) → a || b || c ≡ false → (a ≡ false) × (b ≡ false)
-neither_of true b c e = absurd (cc)
-neither_of false true c e = absurd (cc)
-neither_of false false c e = (refl, refl)
+-- nor any of them
+pub each_of : (a b c d : Bool) → a || b || c || d ≡ false → (a ≡ false) × (b ≡ false) × (c ≡ false) × (d ≡ false)
+each_of true b c d e = absurd (cc)
+each_of false true c d e = absurd (cc)
+each_of false false true d e = absurd (cc)
+each_of false false false true e = absurd (cc)
+each_of false false false false e = (refl, refl, refl, refl)
 
 -- Nor is it over before the task's call decides, unless it has been stopped, or an endless task is left alone: a call holds nothing then.
-pub not_over_undecided : (app : Application) (k : Machine) (s : State) (task : ℕ) → Stands k s → IsState app s → k.sched.current ≡ Some task → (progress_in k.progress task).call.phase ≡ Decide → k.suspensions ≡ 0 → is_some k.stopped ≡ false → is_endless app task && are_all_ended app s ≡ false → is_over app s ≡ false
-not_over_undecided app k s task h is runs decides none on more =
+pub not_over_undecided : (app : Application) (limits : Limits) (k : Machine) (s : State) (task : ℕ) → Stands k s → IsState app s → k.sched.current ≡ Some task → (progress_in k.progress task).call.phase ≡ Decide → k.suspensions ≡ 0 → is_some k.stopped ≡ false → is_endless app task && are_all_ended app s ≡ false → is_at_tick_limit app limits s ≡ false → is_over app limits s ≡ false
+not_over_undecided app limits k s task h is runs decides none on more early =
     let current : s.current ≡ Some task = sym (current_is k s h) ∙ runs in
     let running : IsRunning app s task = subst (RunsIn app s) current is.runs in
     let no_call : s.call_hold ≡ false = sym running.holding ∙ ap (λ (p : Progress). holds p.call.phase) (sym (progress_is k s h task)) ∙ ap holds decides in
     let awake : s.suspensions ≡ 0 = sym (suspensions_are k s h) ∙ none in
     let free : is_held s ≡ false = rw (no_call, awake) refl in
-    none_of (is_some s.stopped) (are_all_ended app s) (is_stuck app s) (ap (λ (o : Option End). is_some o) (sym (stopped_is k s h)) ∙ on) (sym (and_true_not (is_endless app task) (are_all_ended app s) (λ e. on_unheld app s task e is current free)) ∙ more) (runs_on app s task current)
+    none_of (is_some s.stopped) (are_all_ended app s) (is_at_tick_limit app limits s) (is_stuck app s) (ap (λ (o : Option End). is_some o) (sym (stopped_is k s h)) ∙ on) (sym (and_true_not (is_endless app task) (are_all_ended app s) (λ e. on_unheld app s task e is current free)) ∙ more) early (runs_on app s task current)
 
 pub idle_by : (o : Option ℕ) → is_some o ≡ false → true ≡ is_none o
 idle_by None e = refl
@@ -416,32 +433,34 @@ module _ (app : Application) (limits : Limits) (s : State) (none : s.stopped ≡
 
 -- Whether it is over whatever its limits.
 
-over_not : (stopped : Option End) (all ticks steps stuck : Bool) → option_or stopped (if all then Some Pass else if ticks then Some Ticks else if steps then Some Steps else if stuck then Some Stuck else None) ≡ None → is_some stopped || all || stuck ≡ false
-over_not (Some end) all ticks steps stuck e = absurd (cc)
-over_not None true ticks steps stuck e = absurd (cc)
-over_not None false true steps stuck e = absurd (cc)
-over_not None false false true stuck e = absurd (cc)
-over_not None false false false true e = absurd (cc)
-over_not None false false false false e = refl
+over_not : (stopped : Option End) (may all ticks steps stuck : Bool) → option_or stopped (if all then Some Pass else if ticks then Some Ticks else if steps then Some Steps else if stuck then Some Stuck else None) ≡ None → is_some stopped || all || (may && ticks) || stuck ≡ false
+over_not (Some end) may all ticks steps stuck e = absurd (cc)
+over_not None may true ticks steps stuck e = absurd (cc)
+over_not None may false true steps stuck e = absurd (cc)
+over_not None may false false true stuck e = absurd (cc)
+over_not None may false false false true e = absurd (cc)
+over_not None true false false false false e = refl
+over_not None false false false false false e = refl
 
 module _ (app : Application) (limits : Limits) (s : State) where
   -- where neither limit is reached, the run goes on if it isn't over
-  pub goes_if_not_over : is_over app s ≡ false → s.elapsed < limits.ticks → s.steps < limits.steps → end_of app limits s ≡ None
+  pub goes_if_not_over : is_over app limits s ≡ false → s.elapsed < limits.ticks → s.steps < limits.steps → end_of app limits s ≡ None
   goes_if_not_over on early few =
-      let both : is_some s.stopped || are_all_ended app s ≡ false = first_false (is_some s.stopped || are_all_ended app s) (is_stuck app s) on in
-      let none : s.stopped ≡ None = not_stopped s.stopped (first_false (is_some s.stopped) (are_all_ended app s) both) in
-      sym (ends_not app limits s none (second_false (is_some s.stopped) (are_all_ended app s) both) early few (second_false (is_some s.stopped || are_all_ended app s) (is_stuck app s) on)) where
-        first_false : (a b : Bool) → a || b ≡ false → a ≡ false
-        first_false true b e = absurd (cc)
-        first_false false b e = refl
+      let each = each_of (is_some s.stopped) (are_all_ended app s) (is_at_tick_limit app limits s) (is_stuck app s) on in
+      sym (ends_not app limits s (not_stopped s.stopped each.0) each.1 early few each.3)
 
-        second_false : (a b : Bool) → a || b ≡ false → b ≡ false
-        second_false true b e = absurd (cc)
-        second_false false b e = e
+  -- where idle may jump, that it isn't over says that it is before the limit of ticks
+  pub before_tick_limit : app.tickless ≡ true → is_over app limits s ≡ false → s.elapsed < limits.ticks
+  before_tick_limit may on =
+      let each = each_of (is_some s.stopped) (are_all_ended app s) (is_at_tick_limit app limits s) (is_stuck app s) on in
+      leb-less limits.ticks s.elapsed (rest_of app.tickless (leb limits.ticks s.elapsed) may each.2) where
+        rest_of : (a b : Bool) → a ≡ true → a && b ≡ false → b ≡ false
+        rest_of true b t e = e
+        rest_of false b t e = absurd (cc)
 
   -- and it doesn't go on if it is
-  pub not_over_if_going : end_of app limits s ≡ None → is_over app s ≡ false
-  not_over_if_going on = over_not s.stopped (are_all_ended app s) (leb limits.ticks s.elapsed) (leb limits.steps s.steps) (is_stuck app s) on
+  pub not_over_if_going : end_of app limits s ≡ None → is_over app limits s ≡ false
+  not_over_if_going on = over_not s.stopped app.tickless (are_all_ended app s) (leb limits.ticks s.elapsed) (leb limits.steps s.steps) (is_stuck app s) on
 
 -- A step begins with no event told, and ends with one step more.
 
@@ -452,10 +471,10 @@ pub handled_before : (app : Application) (handlers : List ℕ) (s : State) (k : 
 unfolding before_step
 handled_before app handlers s k log h = h
 
-pub stepped : (app : Application) (handlers : List ℕ) (s : State) (k : Machine) (log : List Event) (n : ℕ) → n ≡ s.steps → AtAny k log (unless_held settle (act_current app (before_step app handlers s).current (before_step app handlers s))) → Stands (record k { steps = n + 1 }) (step app handlers s)
+pub stepped : (app : Application) (limits : Limits) (handlers : List ℕ) (s : State) (k : Machine) (log : List Event) (n : ℕ) → n ≡ s.steps → AtAny k log (unless_held settle (act_current app limits (before_step app handlers s).current (before_step app handlers s))) → Stands (record k { steps = n + 1 }) (step app limits handlers s)
 unfolding step
-stepped app handlers s k log n e a =
-    let new : State = unless_held settle (act_current app (before_step app handlers s).current (before_step app handlers s)) in
+stepped app limits handlers s k log n e a =
+    let new : State = unless_held settle (act_current app limits (before_step app handlers s).current (before_step app handlers s)) in
     renewed k new a.stands new.log (s.steps + 1) (n + 1) (ap (λ m. m + 1) e)
 
 -- ---- who is blocked
@@ -500,6 +519,30 @@ any_middle true b c x e t u = absurd (cc)
 any_middle false true c x e t u = e
 any_middle false false true x e t u = absurd (cc)
 any_middle false false false x e t u = e
+
+-- .. of four
+pub over_first : (a b c d : Bool) → a ≡ true → true ≡ a || b || c || d
+over_first true b c d t = refl
+over_first false b c d t = absurd (cc)
+
+pub over_second : (a b c d : Bool) → a ≡ false → b ≡ true → true ≡ a || b || c || d
+over_second true b c d t u = absurd (cc)
+over_second false true c d t u = refl
+over_second false false c d t u = absurd (cc)
+
+pub over_third : (a b c d : Bool) → a ≡ false → b ≡ false → c ≡ true → true ≡ a || b || c || d
+over_third true b c d t u v = absurd (cc)
+over_third false true c d t u v = absurd (cc)
+over_third false false true d t u v = refl
+over_third false false false d t u v = absurd (cc)
+
+pub over_fourth : (a b c d : Bool) → a ≡ false → b ≡ false → c ≡ false → d ≡ a || b || c || d
+over_fourth a b c d t u v = rw (t, u, v) refl
+
+-- the third, where the last isn't
+pub third_only : (a b c d : Bool) → a ≡ false → b ≡ false → d ≡ false → c ≡ a || b || c || d
+third_only a b true d t u v = rw (t, u) refl
+third_only a b false d t u v = rw (t, u, v) refl
 
 pub any_third : (a b c x : Bool) → (a || b || c) ≡ x → a ≡ false → b ≡ false → c ≡ x
 any_third true b c x e t u = absurd (cc)

@@ -10,7 +10,7 @@ use Rattle.model.specs.declared.call.Phase.TheVariants.{Start, Try, Decide, Plac
 use Rattle.model.specs.Invariant.{holds}
 use Rattle.model.specs.contracts.call.Phase.{the_type}
 use Rattle.model.specs.declared.event.Event.{Event}
-use Rattle.model.specs.Application.{Application, op_at}
+use Rattle.model.specs.Application.{Application, Limits, op_at}
 use Rattle.model.specs.State.{State, Progress, progress_at}
 use Rattle.model.specs.Switching.{is_held, settle, unless_held}
 use Rattle.model.specs.Calls.{await, leave_call}
@@ -60,7 +60,7 @@ still_held k log s some h = either k log s h
     (λ a. any k log (unless_held settle s) (settled_held k log s (held_by k.sched s a.stands.sched some) a))
     (λ task list b. settled_before k log s h task list b)
 
-module _ (app : Application) (k : Machine) (task object : ℕ) (access : Access) (phase : Phase) (c : IsInPhase app k task object access phase) where
+module _ (app : Application) (limits : Limits) (k : Machine) (task object : ℕ) (access : Access) (phase : Phase) (c : IsInPhase app k task object access phase) where
   -- it is in its next phase then
   pub still_in_call : (new : Machine) → Remains k new task → (next : Phase) → (progress_in new.progress task).call.phase ≡ next → IsInPhase app new task object access next
   still_in_call new r next e = record {
@@ -72,13 +72,13 @@ module _ (app : Application) (k : Machine) (task object : ℕ) (access : Access)
   }
 
   -- What the call does in its phase is what the step does,
-  pub acts_in_phase : (new : Machine) (old_log new_log : Logged) → DoesAny 2 k old_log new new_log (await app task object access c.ticks phase) → DoesAny 65 k old_log new new_log (λ s. act_current app s.current s)
+  pub acts_in_phase : (new : Machine) (old_log new_log : Logged) → DoesAny 2 k old_log new new_log (await app task object access c.ticks phase) → DoesAny 65 k old_log new new_log (λ s. act_current app limits s.current s)
   acts_in_phase new old_log new_log does =
       let all = does_more 2 65 k new old_log new_log _ (omega arith) (in_phase app k new old_log new_log task object access c.ticks phase c.reached does) in
-      acts app k task c.current (Await object access c.ticks) c.op new old_log new_log (freely app k new old_log new_log task (Await object access c.ticks) c.awake (λ s. refl) (λ e. absurd (cc)) all)
+      acts app limits k task c.current (Await object access c.ticks) c.op new old_log new_log (freely app k new old_log new_log task (Await object access c.ticks) c.awake (λ s. refl) (λ e. absurd (cc)) all)
 
   module _ (new : Machine) (does : (log : List Event) (s : State) → AtAny k log s → AtAny new log (await app task object access c.ticks phase s)) where
-    acts_there : (log : List Event) (s : State) → AtAny k log s → AtAny new log (act_current app s.current s)
+    acts_there : (log : List Event) (s : State) → AtAny k log s → AtAny new log (act_current app limits s.current s)
     acts_there log s h =
         let told : Logged = record { before = []; told = log; room = 65 } in
         let one : DoesAny 2 k told new told (await app task object access c.ticks phase) = record { at = does log; few = omega arith; before = refl } in
@@ -86,32 +86,32 @@ module _ (app : Application) (k : Machine) (task object : ℕ) (access : Access)
 
     -- as it tells nothing, and switches nothing.
     module _ (held : 0 < new.sched.depth) (s : State) (h : Stands k s) where
-      there : AtAny new [] (unless_held settle (act_current app (before_step app [] s).current (before_step app [] s)))
+      there : AtAny new [] (unless_held settle (act_current app limits (before_step app [] s).current (before_step app [] s)))
       there = still_held new [] _ held (acts_there [] (before_step app [] s) (handled_before app [] s k [] (begun k [] s h refl)))
 
       pub steps_held : new.steps ≡ k.steps
-      steps_held = steps_still app [] s k new [] h there
+      steps_held = steps_still app limits [] s k new [] h there
 
-      pub stepped_held : Stands (record new { steps = new.steps + 1 }) (step app [] s)
-      stepped_held = stepped app [] s new [] new.steps (steps_held ∙ steps_are k s h) there
+      pub stepped_held : Stands (record new { steps = new.steps + 1 }) (step app limits [] s)
+      stepped_held = stepped app limits [] s new [] new.steps (steps_held ∙ steps_are k s h) there
 
-      pub told_nothing : (step app [] s).log ≡ []
+      pub told_nothing : (step app limits [] s).log ≡ []
       unfolding step
       told_nothing = sym there.log
 
       -- Nor does it end the run.
-      pub not_over_after : IsSilent phase → new.sched.current ≡ k.sched.current → is_over app s ≡ false → is_over app (step app [] s) ≡ false
+      pub not_over_after : IsSilent phase → new.sched.current ≡ k.sched.current → is_over app limits s ≡ false → is_over app limits (step app limits [] s) ≡ false
       not_over_after silent same =
           let now : Progress = progress_at s task in
           let is : progress_in k.progress task ≡ now = progress_is k s h task in
-          not_over_silently app task object access c.ticks phase silent s
+          not_over_silently app limits task object access c.ticks phase silent s
           (sym (current_is k s h) ∙ c.current)
           (ap (λ (p : Progress). op_at app task p.op_index) (sym is) ∙ c.op)
           (ap (λ (p : Progress). p.call.phase) (sym is) ∙ c.reached)
           (sym (suspensions_are k s h) ∙ c.awake)
-          (sym (current_is (record new { steps = new.steps + 1 }) (step app [] s) stepped_held) ∙ same ∙ c.current)
+          (sym (current_is (record new { steps = new.steps + 1 }) (step app limits [] s) stepped_held) ∙ same ∙ c.current)
 
 -- So it is where the call lets go of the scheduler.
-pub leaves : (app : Application) (k new : Machine) (task : ℕ) → IsLeaving app k task → CanLeave k task → (old_log new_log : Logged) → Does 1 k old_log new new_log (leave_call task) → DoesAny 65 k old_log new new_log (λ s. act_current app s.current s)
-leaves app k new task l can old_log new_log does =
-    acts_in_phase app k task l.0 l.1 Leave l.2 new old_log new_log (does_more 1 2 k new old_log new_log (leave_call task) (omega arith) (does_any 1 k new old_log new_log (leave_call task) can.call.agrees does))
+pub leaves : (app : Application) (limits : Limits) (k new : Machine) (task : ℕ) → IsLeaving app k task → CanLeave k task → (old_log new_log : Logged) → Does 1 k old_log new new_log (leave_call task) → DoesAny 65 k old_log new new_log (λ s. act_current app limits s.current s)
+leaves app limits k new task l can old_log new_log does =
+    acts_in_phase app limits k task l.0 l.1 Leave l.2 new old_log new_log (does_more 1 2 k new old_log new_log (leave_call task) (omega arith) (does_any 1 k new old_log new_log (leave_call task) can.call.agrees does))

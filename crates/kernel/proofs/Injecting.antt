@@ -17,73 +17,73 @@ use Rattle.machine.specs.Can.{IsUnderWay}
 use Rattle.kernel.specs.Rests.{IsRest}
 use Rattle.kernel.specs.Rows.{IsRowFrom, events_from}
 
-module _ (app : Application) (point : List Injection) (formed : IsPoint point) where
-  state_there : (n : ℕ) → n ≤ first_step point → state_after app point n ≡ state_after app [] n
-  state_there = same_state app point (first_step point) (none_before point formed.in_order)
+module _ (app : Application) (limits : Limits) (point : List Injection) (formed : IsPoint point) where
+  state_there : (n : ℕ) → n ≤ first_step point → state_after app limits point n ≡ state_after app limits [] n
+  state_there = same_state app limits point (first_step point) (none_before point formed.in_order)
 
   -- as far as the first injection, the base run's way is the row's
-  pub row_way : (limits : Limits) (k : Machine) → IsUnderWay app [] limits k → k.steps ≤ first_step point → IsUnderWay app point limits k
-  row_way limits k way l = record {
+  pub row_way : (k : Machine) → IsUnderWay app [] limits k → k.steps ≤ first_step point → IsUnderWay app point limits k
+  row_way k way l = record {
     stands = subst (λ (s : State). Stands k s) (sym (state_there k.steps l)) way.stands;
     goes_on = λ n m. ap (λ (s : State). end_of app limits s) (state_there n (omega arith)) ∙ way.goes_on n m;
   }
 
   -- the events of the row: the base run's before the first injection, and those from there on
-  pub row_events : (n : ℕ) → first_step point ≤ n → events_after app [] (first_step point) ++ events_from app point (first_step point) n ≡ events_after app point n
+  pub row_events : (n : ℕ) → first_step point ≤ n → events_after app limits [] (first_step point) ++ events_from app limits point (first_step point) n ≡ events_after app limits point n
   row_events n l =
-      ap (λ (events : List Event). events ++ events_from app point (first_step point) n)
-      (sym (same_events app point (first_step point) (none_before point formed.in_order) (first_step point) (omega arith)))
-      ∙ goes_on_with app point (first_step point) n l
+      ap (λ (events : List Event). events ++ events_from app limits point (first_step point) n)
+      (sym (same_events app limits point (first_step point) (none_before point formed.in_order) (first_step point) (omega arith)))
+      ∙ goes_on_with app limits point (first_step point) n l
 
   -- a row that was run to its end, of which the events from the first injection on came behind others
-  pub row_kept : (limits : Limits) (k : Machine) → IsUnderWay app point limits k → (start : ℕ) → start ≡ first_step point → start ≤ k.steps → (old new : List Event) → new ≡ old ++ events_from app point start k.steps
-      → (before ticks : ℕ) (end : End) → end_of app limits (state_after app point k.steps) ≡ Some end → ((s : State) → Stands k s → ticks ≡ s.elapsed)
+  pub row_kept : (k : Machine) → IsUnderWay app point limits k → (start : ℕ) → start ≡ first_step point → start ≤ k.steps → (old new : List Event) → new ≡ old ++ events_from app limits point start k.steps
+      → (before ticks : ℕ) (end : End) → end_of app limits (state_after app limits point k.steps) ≡ Some end → ((s : State) → Stands k s → ticks ≡ s.elapsed)
       → IsRowFrom app point limits old new (record { before = before; steps = k.steps; ticks = ticks; end = end })
-  row_kept limits k way start there on old new events before ticks end ended t = record {
-    own = events_from app point start k.steps;
+  row_kept k way start there on old new events before ticks end ended t = record {
+    own = events_from app limits point start k.steps;
     kept = events;
     run = record {
       goes_on = way.goes_on;
       ends = ended;
-      trace = ap (λ (n : ℕ). events_after app [] (first_step point) ++ events_from app point n k.steps) there ∙ row_events k.steps (omega arith);
+      trace = ap (λ (n : ℕ). events_after app limits [] (first_step point) ++ events_from app limits point n k.steps) there ∙ row_events k.steps (omega arith);
       elapsed = t _ way.stands;
     };
   }
 
   -- Where the base run goes on at the first injection, the row doesn't end there: it is behind it where it has an end, or has come to
   -- a later step.
-  pub past_it : (limits : Limits) → end_of app limits (state_after app [] (first_step point)) ≡ None → (n : ℕ) → first_step point ≤ n
-      → (end : Option End) → end ≡ end_of app limits (state_after app point n) → (until : ℕ) → (end ≡ None → n ≡ until) → first_step point < until → first_step point < n
-  past_it limits on n l end is until there beyond = by_test (eqb n (first_step point))
+  pub past_it : end_of app limits (state_after app limits [] (first_step point)) ≡ None → (n : ℕ) → first_step point ≤ n
+      → (end : Option End) → end ≡ end_of app limits (state_after app limits point n) → (until : ℕ) → (end ≡ None → n ≡ until) → first_step point < until → first_step point < n
+  past_it on n l end is until there beyond = by_test (eqb n (first_step point))
       (λ t.
       let same : n ≡ first_step point = eqb-same n (first_step point) t in
-      let none : end ≡ None = is ∙ ap (λ (m : ℕ). end_of app limits (state_after app point m)) same ∙ ap (λ (s : State). end_of app limits s) (state_there (first_step point) (omega arith)) ∙ on in
+      let none : end ≡ None = is ∙ ap (λ (m : ℕ). end_of app limits (state_after app limits point m)) same ∙ ap (λ (s : State). end_of app limits s) (state_there (first_step point) (omega arith)) ∙ on in
       let at = there none in
       absurd (omega arith))
       (λ t. let apart : n ≢ first_step point = (λ e. let u : eqb n (first_step point) ≡ true = rw e (eqb-refl (first_step point)) in absurd (cc)) in omega arith)
 
   -- where the row came to its end
-  pub row_that_ended : (limits : Limits) (k : Machine) → IsUnderWay app point limits k → first_step point < k.steps → (own : List Event) → own ≡ events_from app point (first_step point) k.steps
-      → (end : End) → Some end ≡ end_of app limits (state_after app point k.steps) → (ticks : ℕ) → ((s : State) → Stands k s → ticks ≡ s.elapsed)
-      → IsRun app point limits (record { events = events_after app [] (first_step point) ++ own; steps = k.steps; ticks = ticks; end = end })
-  row_that_ended limits k way past own e end ended ticks t = record {
+  pub row_that_ended : (k : Machine) → IsUnderWay app point limits k → first_step point < k.steps → (own : List Event) → own ≡ events_from app limits point (first_step point) k.steps
+      → (end : End) → Some end ≡ end_of app limits (state_after app limits point k.steps) → (ticks : ℕ) → ((s : State) → Stands k s → ticks ≡ s.elapsed)
+      → IsRun app point limits (record { events = events_after app limits [] (first_step point) ++ own; steps = k.steps; ticks = ticks; end = end })
+  row_that_ended k way past own e end ended ticks t = record {
     goes_on = way.goes_on;
     ends = sym ended;
-    trace = ap (λ (es : List Event). events_after app [] (first_step point) ++ es) e ∙ row_events k.steps (omega arith);
+    trace = ap (λ (es : List Event). events_after app limits [] (first_step point) ++ es) e ∙ row_events k.steps (omega arith);
     elapsed = t _ way.stands;
   }
 
   -- where it goes on behind its last injection, and the rest from the kernel to which it came is known
-  pub row_with_rest : (limits : Limits) (k : Machine) → IsUnderWay app point limits k → first_step point < k.steps → last_step point < k.steps → (own : List Event)
-      → own ≡ events_from app point (first_step point) k.steps
-      → (rest : Run) → IsRest app limits k rest → IsRun app point limits (record { events = events_after app [] (first_step point) ++ (own ++ rest.events); steps = rest.steps; ticks = rest.ticks; end = rest.end })
-  row_with_rest limits k way past beyond own e rest is =
+  pub row_with_rest : (k : Machine) → IsUnderWay app point limits k → first_step point < k.steps → last_step point < k.steps → (own : List Event)
+      → own ≡ events_from app limits point (first_step point) k.steps
+      → (rest : Run) → IsRest app limits k rest → IsRun app point limits (record { events = events_after app limits [] (first_step point) ++ (own ++ rest.events); steps = rest.steps; ticks = rest.ticks; end = rest.end })
+  row_with_rest k way past beyond own e rest is =
       let run = is.of_each point way (λ n from. none_past point formed.in_order n (omega arith)) in
       record {
         goes_on = run.goes_on;
         ends = run.ends;
-        trace = sym (append_assoc (events_after app [] (first_step point)) own rest.events)
-            ∙ ap (λ (es : List Event). es ++ rest.events) (ap (λ (es : List Event). events_after app [] (first_step point) ++ es) e ∙ row_events k.steps (omega arith))
+        trace = sym (append_assoc (events_after app limits [] (first_step point)) own rest.events)
+            ∙ ap (λ (es : List Event). es ++ rest.events) (ap (λ (es : List Event). events_after app limits [] (first_step point) ++ es) e ∙ row_events k.steps (omega arith))
             ∙ run.trace;
         elapsed = run.elapsed;
       }

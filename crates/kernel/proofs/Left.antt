@@ -30,7 +30,7 @@ use Rattle.machine.specs.StandsFor.{StandsFor, StandsBefore, Stands, decider}
 use Rattle.machine.specs.StandsFor.Stands.{Placed, Placing}
 use Rattle.ops.proofs.Before.{ready_beside, stands_there}
 use Rattle.kernel.specs.Left.{IsAnyLeft}
-use Rattle.kernel.proofs.Ending.{not_all_but, or_false_left}
+use Rattle.kernel.proofs.Ending.{not_all_but, not_passed, or_false_left}
 use Rattle.std.proofs.lemmas.Bool.{ltb-true, ltb-false}
 
 -- ---- by the status
@@ -170,6 +170,6 @@ module _ (k : Machine) (s : State) (i : ℕ) (q : Bool) (h : Stands k s) (placed
 -- ---- somebody is left
 
 pub any_left : (app : Application) (k : Machine) (s : State) → StandsFor k s → IsAnyLeft app k → are_all_ended app s ≡ false
-any_left app k s h left = not_all_but app.tasks s.tasks left.0 left.1 (by_test (schedule.is_ready k.sched left.0)
+any_left app k s h left = not_passed app s (not_all_but app.tasks s.tasks left.0 left.1 (by_test (schedule.is_ready k.sched left.0)
     (λ t. ready_on (status_at s left.0) (sym (on_sched.ready_same k.sched s left.0 h.sched) ∙ t))
-    (λ t. asleep_on (status_at s left.0) (sym (on_clock.asleep_same k.clock s left.0 h.rest.clock) ∙ or_false_left (schedule.is_ready k.sched left.0) (is_asleep k.clock left.0) left.2 t)))
+    (λ t. asleep_on (status_at s left.0) (sym (on_clock.asleep_same k.clock s left.0 h.rest.clock) ∙ or_false_left (schedule.is_ready k.sched left.0) (is_asleep k.clock left.0) left.2 t))))

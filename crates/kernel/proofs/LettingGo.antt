@@ -1,10 +1,10 @@
 -- Where a call on an event group lets go of the scheduler.
 use Rattle.std.proofs.Common.{◌≡◌, ◌≢◌, ℕ, true, Option, refl, subst, arith}
 use Rattle.model.specs.declared.op.Op.{Op}
-use Rattle.model.specs.declared.op.Op.TheVariants.{Work, Delay, DelayUntil, Yield, Time, Mark, Expect, Repeat, End, Await, Do, GiveMutex, MessagesWaiting, SpacesAvailable, SetBits, ClearBits, GetBits, WaitBits, Suspend, Resume, SuspendAll, ResumeAll, NextCommand, Obey}
+use Rattle.model.specs.declared.op.Op.TheVariants.{Work, Delay, DelayUntil, Yield, Time, Mark, Expect, Repeat, End, If, Else, EndIf, Break, Await, Do, GiveMutex, MessagesWaiting, SpacesAvailable, SetBits, ClearBits, GetBits, WaitBits, Suspend, Resume, SuspendAll, ResumeAll, NextCommand, Obey}
 use Rattle.model.specs.declared.call.Condition.{Condition}
 use Rattle.model.specs.declared.call.Phase.TheVariants.{Start, Leave, Final}
-use Rattle.model.specs.Application.{Application}
+use Rattle.model.specs.Application.{Application, Limits}
 use Rattle.model.specs.State.{call_at}
 use Rattle.model.specs.Switching.{choose, preempt}
 use Rattle.model.specs.Waiting.{end_hold}
@@ -27,9 +27,9 @@ module _ (app : Application) (k : Machine) (task : ℕ) (op : Op) (l : IsLetting
     pub can_end_set : Runs k task × CanLeave k task
     can_end_set = subst (CanSetBits k task) l.reached (subst (CanOp app k task) is can)
 
-    pub ends_set : (new : Machine) (old_log new_log : Logged) → Does 2 k old_log new new_log (λ s. preempt (answer app task (call_at s task).kept (end_hold task Start s))) → DoesAny 65 k old_log new new_log (λ s. act_current app s.current s)
-    ends_set new old_log new_log does =
-        acts app k task l.current op l.at new old_log new_log
+    pub ends_set : (limits : Limits) (new : Machine) (old_log new_log : Logged) → Does 2 k old_log new new_log (λ s. preempt (answer app task (call_at s task).kept (end_hold task Start s))) → DoesAny 65 k old_log new new_log (λ s. act_current app limits s.current s)
+    ends_set limits new old_log new_log does =
+        acts app limits k task l.current op l.at new old_log new_log
         (any_by_form app k new old_log new_log task op (SetBits group mask) is l.awake (λ s. refl) refl 2 two_within
         (set_in_phase app k new old_log new_log task group mask Leave l.reached (does_any 2 k new old_log new_log _ can_end_set.1.call.agrees does)))
 
@@ -37,9 +37,9 @@ module _ (app : Application) (k : Machine) (task : ℕ) (op : Op) (l : IsLetting
     pub can_leave_wait : CanLeave k task
     can_leave_wait = subst (CanWaitBits k task ticks) l.reached (subst (CanOp app k task) is can)
 
-    pub leaves_wait : (new : Machine) (old_log new_log : Logged) → Does 1 k old_log new new_log (λ s. choose (end_hold task Final s)) → DoesAny 65 k old_log new new_log (λ s. act_current app s.current s)
-    leaves_wait new old_log new_log does =
-        acts app k task l.current op l.at new old_log new_log
+    pub leaves_wait : (limits : Limits) (new : Machine) (old_log new_log : Logged) → Does 1 k old_log new new_log (λ s. choose (end_hold task Final s)) → DoesAny 65 k old_log new new_log (λ s. act_current app limits s.current s)
+    leaves_wait limits new old_log new_log does =
+        acts app limits k task l.current op l.at new old_log new_log
         (any_by_form app k new old_log new_log task op (WaitBits group condition ticks) is l.awake (λ s. refl) refl 2 two_within
         (wait_in_phase app k new old_log new_log task group condition ticks Leave l.reached (does_more 1 2 k new old_log new_log _ (omega arith) (does_any 1 k new old_log new_log _ can_leave_wait.call.agrees does))))
 
@@ -54,6 +54,10 @@ no_other (Mark n) e sets waits = absurd (cc)
 no_other (Expect a) e sets waits = absurd (cc)
 no_other (Repeat n) e sets waits = absurd (cc)
 no_other End e sets waits = absurd (cc)
+no_other (If c) e sets waits = absurd (cc)
+no_other Else e sets waits = absurd (cc)
+no_other EndIf e sets waits = absurd (cc)
+no_other Break e sets waits = absurd (cc)
 no_other (Await o a w) e sets waits = absurd (cc)
 no_other (Do o a) e sets waits = absurd (cc)
 no_other (GiveMutex o) e sets waits = absurd (cc)

@@ -14,3 +14,4 @@ pub mod Counting
 pub mod LettingGo
 pub mod Along
 pub mod Resting
+pub mod Ahead

@@ -5,7 +5,7 @@ use Rattle.std.proofs.lemmas.Bool.{eq-eqb, ne_eqb}
 use Rattle.std.proofs.lemmas.Option.{same_Some}
 use Rattle.std.proofs.lemmas.List.{append_assoc, drop_more}
 use Rattle.model.specs.declared.plan.Injection.{Injection}
-use Rattle.model.specs.Application.{Application}
+use Rattle.model.specs.Application.{Application, Limits}
 use Rattle.model.specs.State.{State}
 use Rattle.model.specs.Step.{step}
 use Rattle.machine.specs.declared.machine.Machine.{Machine}
@@ -113,8 +113,8 @@ pub no_more : (injections : List Injection) (n : ℕ) → length (injected injec
 no_more [] n = omega arith
 no_more (p ∷ ps) n = let l = no_more ps n in by_test (eqb p.step n) (λ t. rw t (omega arith)) (λ t. rw t (omega arith))
 
-pub stands_as : (app : Application) (k next : Machine) (handlers others : List ℕ) → handlers ≡ others → ((s : State) → Stands k s → Stands next (step app handlers s)) → (s : State) → Stands k s → Stands next (step app others s)
-stands_as app k next handlers others e h = subst (λ (hs : List ℕ). (s : State) → Stands k s → Stands next (step app hs s)) e h
+pub stands_as : (app : Application) (limits : Limits) (k next : Machine) (handlers others : List ℕ) → handlers ≡ others → ((s : State) → Stands k s → Stands next (step app limits handlers s)) → (s : State) → Stands k s → Stands next (step app limits others s)
+stands_as app limits k next handlers others e h = subst (λ (hs : List ℕ). (s : State) → Stands k s → Stands next (step app limits hs s)) e h
 
 -- ---- before the first that is left
 

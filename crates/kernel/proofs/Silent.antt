@@ -1,5 +1,5 @@
 -- A phase of a call in which it tells nothing ends neither a task nor the run.
-use Rattle.std.proofs.Common.{◌≡◌, ◌||◌, ℕ, true, false, eqb, ltb, List, [], ◌∷◌, ◌++◌, Option, Some, None, refl, ap, sym, subst, ◌∙◌}
+use Rattle.std.proofs.Common.{◌≡◌, ◌||◌, ◌&&◌, leb, ℕ, true, false, eqb, ltb, List, [], ◌∷◌, ◌++◌, Option, Some, None, refl, ap, sym, subst, ◌∙◌}
 use Rattle.std.specs.Option.{is_some}
 use Rattle.model.specs.declared.event.End.{End}
 use Rattle.model.specs.declared.op.Access.{Access}
@@ -8,7 +8,7 @@ use Rattle.model.specs.declared.call.CallProgress.{CallProgress}
 use Rattle.model.specs.declared.call.Phase.{Phase}
 use Rattle.model.specs.declared.call.Phase.TheVariants.{Start, Try, Decide, Place, Unlock, Leave, Final}
 use Rattle.model.specs.declared.call.WaitList.TheVariants.{ToReceive, ToSend}
-use Rattle.model.specs.Application.{Application, op_at}
+use Rattle.model.specs.Application.{Application, Limits, is_any_awaited, op_at}
 use Rattle.model.specs.State.{State, Task, Waiting, task_at, status_at, progress_at, call_at, object_at, with_task, with_call, for_one, for_each, no_task}
 use Rattle.model.specs.Order.{tasks_of}
 use Rattle.model.specs.Switching.{is_ready, is_same, is_off, choice, make_ready, to_back, dispatch, choose, settle, is_held, unless_held}
@@ -21,10 +21,10 @@ use Rattle.model.specs.Run.{are_all_ended, is_stuck}
 use Rattle.model.proofs.Sorting.{by_test}
 use Rattle.model.proofs.Tables.{each-set}
 use Rattle.soundness.proofs.Frames.{keeps-inherit, keeps-all_ready, keeps-settle, keeps-unless_held}
-use Rattle.soundness.proofs.Passing.{acts_calm}
+use Rattle.soundness.proofs.Passing.{acts_calm, lasts-await}
 use Rattle.ops.specs.InCall.{IsSilent}
-use Rattle.kernel.specs.Over.{is_over}
-use Rattle.kernel.proofs.Ending.{neither_of, none_of, not_all_but, runs_on, some_left}
+use Rattle.kernel.specs.Over.{is_at_tick_limit, is_over}
+use Rattle.kernel.proofs.Ending.{each_of, none_of, not_all_but, not_passed, runs_on, some_left}
 
 -- Whoever wasn't Ended isn't.
 abbrev EndsNobody : State → State → Type 0
@@ -139,28 +139,36 @@ on-unless_held s j on = by_test (is_held s) (λ t. rw t on) (λ t. rw t (on-sett
 
 -- ---- the step
 
-module _ (app : Application) (task object : ℕ) (access : Access) (ticks : Option ℕ) (phase : Phase) (silent : IsSilent phase) where
+module _ (app : Application) (limits : Limits) (task object : ℕ) (access : Access) (ticks : Option ℕ) (phase : Phase) (silent : IsSilent phase) where
   acts_silently : (s : State) → s.current ≡ Some task → op_at app task (progress_at s task).op_index ≡ Some (Await object access ticks) → (call_at s task).phase ≡ phase → s.suspensions ≡ 0
-      → act_current app s.current s ≡ await app task object access ticks phase s
+      → act_current app limits s.current s ≡ await app task object access ticks phase s
   acts_silently s runs is reached none =
-      ap (λ c. act_current app c s) runs
+      ap (λ c. act_current app limits c s) runs
       ∙ ap (λ o. act_if app task o s) is
       ∙ acts_calm app task (Await object access ticks) s none refl (λ e. absurd (cc))
       ∙ ap (λ p. await app task object access ticks p s) reached
 
   -- a run that isn't over before such a step isn't over after it
   pub not_over_silently : (s : State) → s.current ≡ Some task → op_at app task (progress_at s task).op_index ≡ Some (Await object access ticks) → (call_at s task).phase ≡ phase → s.suspensions ≡ 0
-      → (step app [] s).current ≡ Some task → is_over app s ≡ false → is_over app (step app [] s) ≡ false
+      → (step app limits [] s).current ≡ Some task → is_over app limits s ≡ false → is_over app limits (step app limits [] s) ≡ false
   unfolding step before_step
   not_over_silently s runs is reached none still going =
       let begun : State = record s { log = [] } in
-      let acted : State = act_current app begun.current begun in
+      let acted : State = act_current app limits begun.current begun in
       let does : acted ≡ await app task object access ticks phase begun = acts_silently begun runs is reached none in
-      let ended : State = step app [] s in
+      let ended : State = step app limits [] s in
       let stopped : ended.stopped ≡ s.stopped = (keeps-unless_held settle acted keeps-settle).stopped ∙ ap (λ (x : State). x.stopped) does ∙ stopped-await app task object access ticks phase begun silent in
-      let one = some_left app.tasks s.tasks (neither_of (is_some s.stopped) (are_all_ended app s) (is_stuck app s) going).1 in
+      let each = each_of (is_some s.stopped) (are_all_ended app s) (is_at_tick_limit app limits s) (is_stuck app s) going in
+      let lasts : acted.elapsed ≡ s.elapsed = ap (λ (x : State). x.elapsed) does ∙ (lasts-await app task object access ticks phase begun).elapsed in
+      let early : is_at_tick_limit app limits ended ≡ false = ap (λ (n : ℕ). app.tickless && leb limits.ticks n) ((keeps-unless_held settle acted keeps-settle).elapsed ∙ lasts) ∙ each.2 in
+      let goes : are_all_ended app ended ≡ false = by_test (is_any_awaited app)
+      (λ t.
+      let one = some_left app.tasks s.tasks (rw t at each.1) in
       let on : is_ended (status_at acted one.0) ≡ false = subst (λ (x : State). is_ended (status_at x one.0) ≡ false) (sym does) (on-await app task object access ticks phase begun silent one.0 one.2) in
-      none_of (is_some ended.stopped) (are_all_ended app ended) (is_stuck app ended)
-      (ap (λ (o : Option End). is_some o) stopped ∙ (neither_of (is_some s.stopped) (are_all_ended app s) (is_stuck app s) going).0)
-      (not_all_but app.tasks ended.tasks one.0 one.1 (on-unless_held acted one.0 on))
+      not_passed app ended (not_all_but app.tasks ended.tasks one.0 one.1 (on-unless_held acted one.0 on)))
+      (λ t. rw t refl) in
+      none_of (is_some ended.stopped) (are_all_ended app ended) (is_at_tick_limit app limits ended) (is_stuck app ended)
+      (ap (λ (o : Option End). is_some o) stopped ∙ each.0)
+      goes
+      early
       (runs_on app ended task still)

@@ -10,7 +10,7 @@ use Rattle.std.proofs.lemmas.List.{get_or_default}
 use Rattle.model.specs.declared.event.Event.{Event}
 use Rattle.model.specs.declared.op.Op.{Op}
 use Rattle.model.specs.declared.op.Op.TheVariants.{Work}
-use Rattle.model.specs.Application.{Application, Definition, Interrupt, Limits, op_at, interrupts_at}
+use Rattle.model.specs.Application.{Application, Definition, Interrupt, Limits, is_any_awaited, op_at, interrupts_at}
 use Rattle.model.specs.Coming.{AreComing}
 use Rattle.model.specs.State.{State, Task, Progress, no_progress, progress_at}
 use Rattle.model.specs.Switching.{is_ready, slice, settle, unless_held}
@@ -22,7 +22,7 @@ use Rattle.model.specs.Run.{are_all_ended, end_of, is_interrupt_to_come, is_stuc
 use Rattle.model.proofs.Sorting.{by_test}
 use Rattle.model.proofs.Ticks.{filter-taken}
 use Rattle.soundness.proofs.Settled.{when_free}
-use Rattle.soundness.proofs.Passing.{acts_calm}
+use Rattle.soundness.proofs.Passing.{acts_calm, idle_ticks}
 use Rattle.lists.specs.Lists.{Each, first_of, has_node}
 use Rattle.lists.proofs.Entries.{Each-imp}
 use Rattle.sched.specs.Schedule.{is_steady, lined_up, is_ready as is_ready_in}
@@ -36,10 +36,10 @@ use Rattle.kernel.specs.Quiet.{IsQuiet, Passes, WorksOn, used_by}
 use Rattle.ops.proofs.Working.{used_more}
 use Rattle.machine.proofs.Acting.{within}
 use Rattle.machine.proofs.Either.{any, current_is, elapsed_is, steps_are, stopped_is}
-use Rattle.kernel.proofs.Ending.{all_meant, begun, ends_not, is_everybody_ended, not_over_by, on_by, stepped, stuck_by}
+use Rattle.kernel.proofs.Ending.{all_meant, begun, ends_not, is_everybody_ended, not_over_by, not_passed, on_by, stepped, stuck_by}
 use Rattle.kernel.proofs.Left.{any_left}
 use Rattle.machine.proofs.Switches.{settled_either, settled_idle, settled_on, unheld_by}
-use Rattle.machine.proofs.Waking.{groups-ticked, queues-ticked, sched-ticked, woken}
+use Rattle.machine.proofs.Waking.{groups-jumped, queues-jumped, sched-jumped, woken}
 
 -- ---- nothing is held
 
@@ -128,7 +128,7 @@ module _ (app : Application) (k : Machine) (z : k.sched.depth ≡ 0) (calm : k.s
     free = none_suspended k s z h.stands
 
     come : At (record k { clock = clock }) log (increment_tick s)
-    come = woken k log s h [] k.sched k.queues clock k.groups (due_next k.clock clock s [] a h.stands.rest.clock) (sched-ticked k log s h) (queues-ticked k log s h) (groups-ticked k log s h)
+    come = woken k log s h [] k.sched k.queues clock k.groups (due_next k.clock clock s [] a h.stands.rest.clock) (sched-jumped k log s h 1) (queues-jumped k log s h 1) (groups-jumped k log s h 1)
         (stands_advanced k.clock clock s [] a h.stands.rest.clock (rw free refl)) free
 
     elapsed_next : (increment_tick s).elapsed ≡ k.clock.age + k.clock.held + 1
@@ -154,9 +154,9 @@ unfolding before_step
 before_none app s = refl
 
 -- a `work` goes on
-works_on : (app : Application) (s : State) (task n : ℕ) → s.suspensions ≡ 0 → s.current ≡ Some task → op_at app task (progress_at s task).op_index ≡ Some (Work n) → act_current app s.current s ≡ tick_interrupt app (use_up app task n s)
-works_on app s task n free runs is =
-    ap (λ (c : Option ℕ). act_current app c s) runs
+works_on : (app : Application) (limits : Limits) (s : State) (task n : ℕ) → s.suspensions ≡ 0 → s.current ≡ Some task → op_at app task (progress_at s task).op_index ≡ Some (Work n) → act_current app limits s.current s ≡ tick_interrupt app (use_up app task n s)
+works_on app limits s task n free runs is =
+    ap (λ (c : Option ℕ). act_current app limits c s) runs
     ∙ ap (λ (o : Option Op). act_if app task o s) is
     ∙ acts_calm app task (Work n) s free refl (λ e. cc)
 
@@ -165,14 +165,15 @@ module _ (app : Application) (limits : Limits) (count : ℕ) (k : Machine) (q : 
   abbrev after : Machine
   after = record k { clock = clock; progress = used_by k.sched.current k.progress }
 
-  acted : (r : State) → At k [] r → (o : Option ℕ) → k.sched.current ≡ o → WorksOn app (suc count) k o → At (record k { clock = clock; progress = used_by o k.progress }) [] (unless_held settle (act_current app r.current r))
+  acted : (r : State) → At k [] r → (o : Option ℕ) → k.sched.current ≡ o → WorksOn app (suc count) k o → At (record k { clock = clock; progress = used_by o k.progress }) [] (unless_held settle (act_current app limits r.current r))
   acted r h None e w =
       let idle : r.current ≡ None = sym h.stands.sched.current ∙ e in
       let t : State = tick_interrupt app r in
       let at : At (record k { clock = clock }) [] t = tick_passed app k q.depth q.pending q.steady (q.interrupts (k.clock.age + k.clock.held + 1) (omega arith) (omega arith)) clock a [] r h in
       let still : t.current ≡ None = sym at.stands.sched.current ∙ e in
       let end : At (record k { clock = clock }) [] (unless_held settle t) = settled_either (record k { clock = clock }) [] t at (settled_idle (record k { clock = clock }) [] t at still) in
-      subst (λ (c : Option ℕ). At (record k { clock = clock }) [] (unless_held settle (act_current app c r))) (sym idle) end
+      subst (λ (c : Option ℕ). At (record k { clock = clock }) [] (unless_held settle (act_current app limits c r))) (sym idle)
+      (subst (λ (x : State). At (record k { clock = clock }) [] (unless_held settle x)) (sym (idle_ticks app limits r w.1)) end)
   acted r h (Some task) e w =
       let p : Progress = progress_in k.progress task in
       let n : ℕ = w.2 in
@@ -186,21 +187,21 @@ module _ (app : Application) (limits : Limits) (count : ℕ) (k : Machine) (q : 
       let ready : is_ready t task ≡ true = sym (on_sched.ready_same k.sched t task at.stands.sched) ∙ w.0 in
       let end : At (record mid { clock = clock }) [] (unless_held settle t) = settled_either (record mid { clock = clock }) [] t at (settled_on (record mid { clock = clock }) [] t at task still ready) in
       let op : op_at app task (progress_at r task).op_index ≡ Some (Work n) = subst (λ (x : Progress). op_at app task x.op_index ≡ Some (Work n)) same w.3 in
-      let is : act_current app r.current r ≡ t = works_on app r task n (none_suspended k r q.depth h.stands) (sym h.stands.sched.current ∙ e) op in
+      let is : act_current app limits r.current r ≡ t = works_on app limits r task n (none_suspended k r q.depth h.stands) (sym h.stands.sched.current ∙ e) op in
       subst (λ (x : State). At (record mid { clock = clock }) [] (unless_held settle x)) (sym is) end
 
-  came : (s : State) → Stands k s → At after [] (unless_held settle (act_current app (before_step app [] s).current (before_step app [] s)))
+  came : (s : State) → Stands k s → At after [] (unless_held settle (act_current app limits (before_step app [] s).current (before_step app [] s)))
   came s h =
       let r : State = record s { log = [] } in
       let b : AtAny k [] r = begun k [] s h refl in
-      let end : At after [] (unless_held settle (act_current app r.current r)) = acted r (record { stands = placed_by k r q.depth b.stands; log = b.log }) k.sched.current refl q.works in
-      subst (λ (x : State). At after [] (unless_held settle (act_current app x.current x))) (sym (before_none app s)) end
+      let end : At after [] (unless_held settle (act_current app limits r.current r)) = acted r (record { stands = placed_by k r q.depth b.stands; log = b.log }) k.sched.current refl q.works in
+      subst (λ (x : State). At after [] (unless_held settle (act_current app limits x.current x))) (sym (before_none app s)) end
 
-  passed : (s : State) → Stands k s → Stands (record after { steps = k.steps + 1 }) (step app [] s)
-  passed s h = stepped app [] s after [] k.steps (steps_are k s h) (any after [] (unless_held settle (act_current app (before_step app [] s).current (before_step app [] s))) (came s h))
+  passed : (s : State) → Stands k s → Stands (record after { steps = k.steps + 1 }) (step app limits [] s)
+  passed s h = stepped app limits [] s after [] k.steps (steps_are k s h) (any after [] (unless_held settle (act_current app limits (before_step app [] s).current (before_step app [] s))) (came s h))
 
   -- it tells nothing
-  pub silent : (s : State) → Stands k s → [] ≡ (step app [] s).log
+  pub silent : (s : State) → Stands k s → [] ≡ (step app limits [] s).log
   unfolding step
   silent s h = (came s h).log
 
@@ -221,7 +222,7 @@ module _ (app : Application) (limits : Limits) (count : ℕ) (k : Machine) (q : 
       q.interrupts tick (omega arith) (omega arith)
 
   still_works : (s : State) → StandsFor k s → (o : Option ℕ) → k.sched.current ≡ o → WorksOn app (suc count) k o → WorksOn app count (record k { clock = clock; progress = used_by o k.progress; steps = k.steps + 1 }) o
-  still_works s h None e w = λ none. w (a.delayed ∙ none)
+  still_works s h None e w = ((λ none. w.0 (a.delayed ∙ none)), w.1)
   still_works s h (Some task) e w =
       let p : Progress = progress_in k.progress task in
       let l : task < length s.tasks = within k s.log s (record { stands = h; log = refl }) task e in
@@ -250,13 +251,13 @@ module _ (app : Application) (limits : Limits) (count : ℕ) (k : Machine) (q : 
         ticks = omega arith;
         steps = omega arith;
         works = still_works s (placed_by k s q.depth h) k.sched.current refl q.works;
-        left = λ some. let one = q.left some in (one.0, one.1, subst (λ (es : List (ℕ × ℕ)). is_ready_in k.sched one.0 || has_node one.0 es ≡ true) a.delayed one.2);
+        left = λ some awaited. let one = q.left some awaited in (one.0, one.1, subst (λ (es : List (ℕ × ℕ)). is_ready_in k.sched one.0 || has_node one.0 es ≡ true) a.delayed one.2);
       }
 
 module _ (app : Application) (limits : Limits) (count : ℕ) (k new : Machine) (q : IsQuiet app limits (suc count) k) (p : Passes k new) where
   -- A step that only lets a tick pass is the definition's.
-  pub stands_passed : (s : State) → Stands k s → Stands new (step app [] s)
-  stands_passed s h = subst (λ (x : Machine). Stands x (step app [] s)) (sym p.same) (passed app limits count k q new.clock p.clock s h)
+  pub stands_passed : (s : State) → Stands k s → Stands new (step app limits [] s)
+  stands_passed s h = subst (λ (x : Machine). Stands x (step app limits [] s)) (sym p.same) (passed app limits count k q new.clock p.clock s h)
 
   pub quiet_stays : (s : State) → Stands k s → IsQuiet app limits count new
   quiet_stays s h = subst (IsQuiet app limits count) (sym p.same) (stays app limits count k q new.clock p.clock s h)
@@ -279,16 +280,18 @@ module _ (app : Application) (limits : Limits) (count : ℕ) (k : Machine) (q : 
   ready = is_some (first_of (lined_up k.sched))
 
   somebody_left : (o : Option ℕ) → WorksOn app (suc count) k o → is_everybody_ended s ≡ false
-  somebody_left None w = on_by k s ready false refl ((λ t. absurd (cc)), (λ none. absurd (w none))) h (and_none ready)
+  somebody_left None w = on_by k s ready false refl ((λ t. absurd (cc)), (λ none. absurd (w.0 none))) h (and_none ready)
   somebody_left (Some task) w = not_over_by k s ready refl h (listed_some task (lined_up k.sched) w.0)
 
   not_ended : (o : Option ℕ) → WorksOn app (suc count) k o → are_all_ended app s ≡ false
   not_ended o w = by_test (list_any (λ (d : Definition). d.endless) app.tasks)
-      (λ t. any_left app k s (placed_by k s q.depth h) (q.left t))
-      (λ t. ap (λ (ts : List Task). list_all (λ (u : Task). is_ended u.status) ts) (all_meant app.tasks s.tasks t) ∙ somebody_left o w)
+      (λ t. by_test (is_any_awaited app)
+      (λ u. any_left app k s (placed_by k s q.depth h) (q.left t u))
+      (λ u. rw u refl))
+      (λ t. not_passed app s (ap (λ (ts : List Task). list_all (λ (u : Task). is_ended u.status) ts) (all_meant app.tasks s.tasks t) ∙ somebody_left o w))
 
   not_stuck : (o : Option ℕ) → k.sched.current ≡ o → WorksOn app (suc count) k o → is_stuck app s ≡ false
-  not_stuck None e w = sym (stuck_by app k s true false (is_interrupt_to_come app s) h (ap is_none (sym e)) ((λ t. absurd (cc)), (λ none. absurd (w none))) refl)
+  not_stuck None e w = sym (stuck_by app k s true false (is_interrupt_to_come app s) h (ap is_none (sym e)) ((λ t. absurd (cc)), (λ none. absurd (w.0 none))) refl)
   not_stuck (Some task) e w = rw (sym (current_is k s h) ∙ e) refl
 
   pub quiet_on : end_of app limits s ≡ None

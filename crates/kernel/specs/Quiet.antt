@@ -1,8 +1,8 @@
 -- Steps in which nothing happens but that a tick passes.
-use Rattle.std.specs.Prelude.{◌≡◌, ◌≢◌, ◌<◌, ◌≤◌, ℕ, ◌+◌, ◌^◌, ◌%◌, true, List, [], Option, Some, None, slice_set}
+use Rattle.std.specs.Prelude.{◌≡◌, ◌≢◌, ◌<◌, ◌≤◌, ℕ, ◌+◌, ◌^◌, ◌%◌, true, false, List, [], Option, Some, None, slice_set}
 use Rattle.model.specs.declared.op.Op.TheVariants.{Work}
 use Rattle.std.specs.List.{list_any}
-use Rattle.model.specs.Application.{Application, Definition, Limits, interrupts_at, op_at}
+use Rattle.model.specs.Application.{Application, Definition, Limits, interrupts_at, is_any_awaited, op_at}
 use Rattle.model.specs.State.{Progress}
 use Rattle.lists.specs.Lists.{Each}
 use Rattle.sched.specs.Schedule.{is_ready, is_steady}
@@ -11,9 +11,10 @@ use Rattle.machine.specs.declared.machine.Machine.{Machine}
 use Rattle.machine.specs.StandsFor.{progress_in}
 use Rattle.kernel.specs.Left.{IsAnyLeft}
 
--- The running task has more than so much of a `work` before it; or idle runs, and somebody sleeps.
+-- The running task has more than so much of a `work` before it; or idle runs, which lets one tick pass in a
+-- step, and somebody sleeps.
 abbrev pub WorksOn : Application → ℕ → Machine → Option ℕ → Type 0
-WorksOn app count k None = k.clock.delayed_list ≢ []
+WorksOn app count k None = (k.clock.delayed_list ≢ []) × (app.tickless ≡ false)
 WorksOn app count k (Some task) =
     (is_ready k.sched task ≡ true) × ((progress_in k.progress task).used + count < 2 ^ 32)
     × (ticks : ℕ) × (op_at app task (progress_in k.progress task).op_index ≡ Some (Work ticks)) × ((progress_in k.progress task).used + count < ticks)
@@ -32,7 +33,7 @@ pub record IsQuiet (app : Application) (limits : Limits) (count : ℕ) (k : Mach
   pub steps : k.steps + count ≤ limits.steps
   pub works : WorksOn app count k k.sched.current
   -- and it isn't over
-  pub left : list_any (λ (d : Definition). d.endless) app.tasks ≡ true → IsAnyLeft app k
+  pub left : list_any (λ (d : Definition). d.endless) app.tasks ≡ true → is_any_awaited app ≡ true → IsAnyLeft app k
 
 -- one more of its `work` is used up by the running task, if there is one
 abbrev pub used_by : Option ℕ → List Progress → List Progress

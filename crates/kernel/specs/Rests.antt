@@ -12,7 +12,7 @@ use Rattle.machine.specs.Can.{IsUnderWay}
 -- the run ends so, after so many steps and ticks in all.
 pub record IsRest (app : Application) (limits : Limits) (k : Machine) (rest : Run) : Type 0 where
   pub of_each : (plan : List Injection) → IsUnderWay app plan limits k → ((n : ℕ) → k.steps ≤ n → injected plan n ≡ [])
-      → IsRun app plan limits (record { events = events_after app plan k.steps ++ rest.events; steps = rest.steps; ticks = rest.ticks; end = rest.end })
+      → IsRun app plan limits (record { events = events_after app limits plan k.steps ++ rest.events; steps = rest.steps; ticks = rest.ticks; end = rest.end })
 
 -- The rest from this kernel ends so. Its events came behind the others that were kept.
 pub record IsRestFrom (app : Application) (limits : Limits) (k : Machine) (old new : List Event) (ending : RestEnding) : Type 0 where

@@ -8,8 +8,8 @@ use Rattle.model.specs.Application.{Application, Limits}
 use Rattle.model.specs.Run.{IsRun, events_after}
 
 -- the events of the steps from the first number on, before the second
-abbrev pub events_from : Application → List Injection → (first next : ℕ) → List Event
-events_from app plan first next = drop (length (events_after app plan first)) (events_after app plan next)
+abbrev pub events_from : Application → Limits → List Injection → (first next : ℕ) → List Event
+events_from app limits plan first next = drop (length (events_after app limits plan first)) (events_after app limits plan next)
 
 -- Some events, or none, came behind those that were there.
 abbrev pub Extends : (old new : List Event) → Type 0
@@ -20,4 +20,4 @@ Extends old new = (more : List Event) × (new ≡ old ++ more)
 pub record IsRowFrom (app : Application) (point : List Injection) (limits : Limits) (old new : List Event) (ending : RowEnding) : Type 0 where
   pub own : List Event
   pub kept : new ≡ old ++ own
-  pub run : IsRun app point limits (record { events = events_after app [] (first_step point) ++ own; steps = ending.steps; ticks = ending.ticks; end = ending.end })
+  pub run : IsRun app point limits (record { events = events_after app limits [] (first_step point) ++ own; steps = ending.steps; ticks = ending.ticks; end = ending.end })

@@ -16,7 +16,7 @@ use ops::daemon::{next_command, obey};
 use ops::event_groups::{clear_bits, get_bits, set_bits, wait_bits};
 use ops::mutexes::give_mutex;
 use ops::queues::{do_now, messages_waiting, spaces_available};
-use ops::script::{close_turn, expect, mark, open_loop};
+use ops::script::{branch, close_turn, end_if, expect, leave_loop, mark, open_loop, skip_branch};
 use ops::suspension::{call_resume, call_suspend};
 use ops::time::{call_yield, delay, delay_until, time, use_up};
 
@@ -72,9 +72,13 @@ pub(crate) fn act<L: Log>(
         Op::Yield => call_yield(machine, app, task, log),
         Op::Time => time(machine, app, task, log),
         Op::Mark(number) => mark(machine, app, task, number, log),
-        Op::Expect(wanted) => expect(machine, app, task, wanted),
+        Op::Expect(condition) => expect(machine, app, task, condition),
         Op::Repeat(turns) => open_loop(machine, app, task, turns),
         Op::End => close_turn(machine, app, task),
+        Op::If(condition) => branch(machine, app, task, condition),
+        Op::Else => skip_branch(machine, app, task),
+        Op::EndIf => end_if(machine, app, task),
+        Op::Break => leave_loop(machine, app, task),
         Op::Do(object, access) => do_now(machine, app, task, object, access, log),
         Op::GiveMutex(object) => give_mutex(machine, app, task, object, log),
         Op::MessagesWaiting(object) => messages_waiting(machine, app, task, object, log),

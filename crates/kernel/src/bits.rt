@@ -2,12 +2,13 @@
 //! has taken hold of it, and is done with the call in hand.
 ghost use Rattle.std.specs.Prelude.{◌≡◌, ◌<◌, ◌≤◌, [], IfSome};
 ghost use Rattle.model.specs.declared.call.Phase.TheVariants.{Leave};
+ghost use Rattle.model.specs.Application.{Limits};
 ghost use Rattle.model.specs.State.{State};
 ghost use Rattle.model.specs.Step.{act_current, step};
 ghost use Rattle.machine.specs.Logged.{all_of};
 ghost use Rattle.machine.specs.StandsFor.{DoesAny, Stands, progress_in};
 ghost use Rattle.kernel.specs.Bits.{IsLettingGo, is_for_bits};
-ghost use Rattle.kernel.specs.Can.{CanOp, CanStep};
+ghost use Rattle.kernel.specs.Can.{CanOp, CanStepUnderSome};
 ghost use Rattle.kernel.specs.Along.{IsFree, GoesOn};
 
 use crate::in_call::{pass_leave, phase};
@@ -44,8 +45,8 @@ fn let_go<L: Log>(machine: &mut Machine, app: &App, task: TaskId, op: &Op, log: 
     requires room { 65 ≤ (L.logged log.old).room }
     requires can { CanOp app.now machine.old task op.now }
     requires going { IsLettingGo app.now machine.old task op.now }
-    ensures { DoesAny 65 machine.old (L.logged log.old) machine.new (L.logged log.new)
-        (λ s. act_current app.now s.current s) }
+    ensures { (limits : Limits) → DoesAny 65 machine.old (L.logged log.old) machine.new (L.logged log.new)
+        (λ s. act_current app.now limits s.current s) }
 {
     match *op {
         Op::WaitBits(_, _, _) => leave_bits_wait(machine, task, log),
@@ -59,13 +60,13 @@ fn let_go<L: Log>(machine: &mut Machine, app: &App, task: TaskId, op: &Op, log: 
 /// step yet.
 #[inline(always)]
 fn step_letting_go<L: Log>(machine: &mut Machine, app: &App, task: TaskId, op: &Op, log: &mut L)
-    requires going { CanStep app.now machine.old }
+    requires going { CanStepUnderSome app.now machine.old }
     requires letting { IsLettingGo app.now machine.old task op.now }
     requires begun { (L.logged log.old).told ≡ [] }
     requires room { 128 ≤ (L.logged log.old).room }
-    ensures stands { (s : State) → Stands machine.old s → Stands machine.new (step app.now [] s) }
-    ensures told { (s : State) → Stands machine.old s
-        → (L.logged log.new).told ≡ (step app.now [] s).log }
+    ensures stands { (limits : Limits) (s : State) → Stands machine.old s → Stands machine.new (step app.now limits [] s) }
+    ensures told { (limits : Limits) (s : State) → Stands machine.old s
+        → (L.logged log.new).told ≡ (step app.now limits [] s).log }
     ensures before { (L.logged log.new).before ≡ (L.logged log.old).before }
 {
     app.well_formed();
@@ -103,7 +104,7 @@ fn pass_bits(
     if !is_for_bits(op) {
         return;
     }
-    if is_over_running(kernel, app) {
+    if is_over_running(kernel, app, limits) {
         return;
     }
     if trail.begin().is_err() {

@@ -4,18 +4,19 @@ ghost use Rattle.std.specs.Prelude.{◌≡◌, ◌+◌, ◌≤◌, false, List, 
 ghost use Rattle.model.specs.declared.call.Phase as declared;
 ghost use Rattle.model.specs.declared.call.Phase.TheVariants.{Decide, Leave};
 ghost use Rattle.model.specs.declared.plan.Injection as definitions;
+ghost use Rattle.model.specs.Application.{Limits};
 ghost use Rattle.model.specs.State.{State};
 ghost use Rattle.model.specs.Step.{step};
 ghost use Rattle.model.specs.Run.{state_after};
 ghost use Rattle.machine.specs.Logged.{all_of};
 ghost use Rattle.machine.specs.StandsFor.{Stands, progress_in};
-ghost use Rattle.kernel.specs.Can.{CanStep};
+ghost use Rattle.kernel.specs.Can.{CanStepUnderSome};
 ghost use Rattle.ops.specs.InCall.{IsSilent};
 ghost use Rattle.kernel.specs.InCall.{IsInPhase, IsLeaving};
 ghost use Rattle.kernel.specs.Over.{is_over};
 ghost use Rattle.kernel.specs.Along.{IsFree, GoesOn, NoneIsOver, IsGoing, GoesFurther};
 
-use crate::steps::{is_left_alone, op_of};
+use crate::steps::{is_at_tick_limit, is_left_alone, op_of};
 use machine::{Log, Machine, Trail};
 use model::{Access, App, Injection, Limits, ObjectId, Op, Phase, TaskId};
 use ops::calls::{go_on_silently, leave_call};
@@ -52,12 +53,12 @@ fn step_in_call(
     phase: Phase,
 )
     requires silent { IsSilent phase }
-    requires going { CanStep app.now machine.old }
+    requires going { CanStepUnderSome app.now machine.old }
     requires call { IsInPhase app.now machine.old task object access phase }
-    ensures stands { (s : State) → Stands machine.old s → Stands machine.new (step app.now [] s) }
-    ensures silent { (s : State) → Stands machine.old s → (step app.now [] s).log ≡ [] }
-    ensures on { (s : State) → Stands machine.old s → is_over app.now s ≡ false
-        → is_over app.now (step app.now [] s) ≡ false }
+    ensures stands { (limits : Limits) (s : State) → Stands machine.old s → Stands machine.new (step app.now limits [] s) }
+    ensures silent { (limits : Limits) (s : State) → Stands machine.old s → (step app.now limits [] s).log ≡ [] }
+    ensures on { (limits : Limits) (s : State) → Stands machine.old s → is_over app.now limits s ≡ false
+        → is_over app.now limits (step app.now limits [] s) ≡ false }
     ensures call { (next : declared.Phase) → (progress_in machine.new.progress task).call.phase ≡ next
         → IsInPhase app.now machine.new task object access next }
 {
@@ -69,13 +70,13 @@ fn step_in_call(
 /// One step of the run, in which the running task's call lets go of the scheduler. The log has no event of this step yet.
 #[inline(always)]
 fn step_leaving<L: Log>(machine: &mut Machine, app: &App, task: TaskId, log: &mut L)
-    requires going { CanStep app.now machine.old }
+    requires going { CanStepUnderSome app.now machine.old }
     requires leaving { IsLeaving app.now machine.old task }
     requires begun { (L.logged log.old).told ≡ [] }
     requires room { 128 ≤ (L.logged log.old).room }
-    ensures stands { (s : State) → Stands machine.old s → Stands machine.new (step app.now [] s) }
-    ensures told { (s : State) → Stands machine.old s
-        → (L.logged log.new).told ≡ (step app.now [] s).log }
+    ensures stands { (limits : Limits) (s : State) → Stands machine.old s → Stands machine.new (step app.now limits [] s) }
+    ensures told { (limits : Limits) (s : State) → Stands machine.old s
+        → (L.logged log.new).told ≡ (step app.now limits [] s).log }
     ensures before { (L.logged log.new).before ≡ (L.logged log.old).before }
 {
     app.well_formed();
@@ -101,7 +102,7 @@ fn pass_phase(
     requires call { IsInPhase app.now kernel.old task call.now.0 call.now.1 phase }
     ensures along { GoesFurther app.now limits.now (kernel.old.steps + 1) kernel.old kernel.new [] [] }
     ensures going { (plan : List definitions.Injection) → IsGoing app.now limits.now (kernel.old.steps + 1) kernel.old plan
-        → is_over app.now (state_after app.now plan kernel.new.steps) ≡ false }
+        → is_over app.now limits.now (state_after app.now limits.now plan kernel.new.steps) ≡ false }
     ensures call { (next : declared.Phase) → (progress_in kernel.new.progress task).call.phase ≡ next
         → IsInPhase app.now kernel.new task call.now.0 call.now.1 next }
 {
@@ -127,7 +128,7 @@ fn pass_if_next(
         → IsInPhase app.now kernel.old task call.now.0 call.now.1 reached }
     ensures along { GoesFurther app.now limits.now (kernel.old.steps + 1) kernel.old kernel.new [] [] }
     ensures going { (plan : List definitions.Injection) → IsGoing app.now limits.now (kernel.old.steps + 1) kernel.old plan
-        → is_over app.now (state_after app.now plan kernel.new.steps) ≡ false }
+        → is_over app.now limits.now (state_after app.now limits.now plan kernel.new.steps) ≡ false }
     ensures call { (reached : declared.Phase) → (progress_in kernel.new.progress task).call.phase ≡ reached
         → IsInPhase app.now kernel.new task call.now.0 call.now.1 reached }
 {
@@ -162,6 +163,9 @@ pub(crate) fn pass_call(
         return None;
     }
     if is_left_alone(kernel, app, task) {
+        return None;
+    }
+    if is_at_tick_limit(kernel, app, limits) {
         return None;
     }
     if kernel.suspensions > 0 || until.saturating_sub(kernel.steps) < 3 {

@@ -100,7 +100,7 @@ impl Kernel {
         self.machine.steps
     }
 
-    /// The ticks since reset, at most 1,000,000 in a run that is under way.
+    /// The ticks since reset, at most 2^48 in a run that is under way.
     pub fn ticks(&self) -> u64
         ensures { (s : State) → Stands self.now s → result ≡ s.elapsed }
     {
@@ -148,21 +148,29 @@ impl Kernel {
         &self.machine.groups
     }
 
-    /// One step of the run: these handlers, three at most, and then the running task's op, or a tick of idle (profile). The
+    /// One step of the run: these handlers, three at most, and then the running task's op, or idle, which lets a tick pass, or in an
+    /// application that is tickless all up to the next thing to happen, but none past the limit (profile). The
     /// events that it tells are then in the log, in order, and nothing else. It takes no memory.
     ///
-    /// The kernel is of this application, and its run has not ended under some limits. The meter, which rises by 1, is
+    /// The kernel is of this application, and its run has not ended under these limits. The meter, which rises by 1, is
     /// below 2^63.
-    pub fn step(&mut self, app: &App, handlers: &[HandlerId], meter: &mut Meter, log: &mut StepLog)
+    pub fn step(
+        &mut self,
+        app: &App,
+        handlers: &[HandlerId],
+        limits: &Limits,
+        meter: &mut Meter,
+        log: &mut StepLog,
+    )
         requires few { length handlers.now ≤ 3 }
-        requires going { CanStep app.now self.old }
+        requires going { CanStep app.now limits.now self.old }
         requires meter { meter.old < 2 ^ 63 }
-        ensures stands { (s : State) → Stands self.old s → Stands self.new (step app.now handlers.now s) }
+        ensures stands { (s : State) → Stands self.old s → Stands self.new (step app.now limits.now handlers.now s) }
         ensures log { (s : State) → Stands self.old s
-            → log.new.items ≡ (step app.now handlers.now s).log }
+            → log.new.items ≡ (step app.now limits.now handlers.now s).log }
         ensures meter { meter.new ≡ meter.old + 1 }
     {
-        step(&mut self.machine, app, handlers, meter, log);
+        step(&mut self.machine, app, handlers, limits, meter, log);
     }
 
     /// The end of the run before its next step, under these limits: the first that holds of a failed `expect` or a misuse,

@@ -4,6 +4,7 @@
 mod acting;
 mod bits;
 mod handlers;
+mod idle;
 mod in_call;
 mod kernel;
 mod quiet;

@@ -19,7 +19,7 @@ pub struct RestEnding {
     /// How many steps the run has in all.
     pub steps: u32,
     /// How many ticks had passed at its end.
-    pub ticks: u32,
+    pub ticks: u64,
     /// How it ended.
     pub end: End,
 }
@@ -58,11 +58,11 @@ pub fn run_rest(
         if let Some(end) = ended(machine, app, limits) {
             return Ok(RestEnding {
                 steps: machine.steps,
-                ticks: machine.clock.elapsed() as u32,
+                ticks: machine.clock.elapsed(),
                 end,
             });
         }
-        let until = free_until(machine, u32::MAX, limits);
+        let until = free_until(machine, app, u32::MAX, limits);
         go_on(machine, app, injections, until, limits, meter, log, trail)?;
     }
 }

@@ -21,7 +21,7 @@ pub struct RowEnding {
     /// How many steps the row has.
     pub steps: u32,
     /// How many ticks had passed at its end.
-    pub ticks: u32,
+    pub ticks: u64,
     /// How it ended.
     pub end: End,
 }
@@ -46,19 +46,19 @@ fn advance(
 ) -> usize
     requires way { IsUnderWay app.now [] limits.now kernel.old }
     requires ahead { kernel.old.steps ≤ step }
-    requires reached { (n : ℕ) → n < step → end_of app.now limits.now (state_after app.now [] n) ≡ None }
+    requires reached { (n : ℕ) → n < step → end_of app.now limits.now (state_after app.now limits.now [] n) ≡ None }
     requires meter { meter.old < 2 ^ 62 }
     ensures way { IsUnderWay app.now [] limits.now kernel.new }
     ensures there { kernel.new.steps ≡ step }
-    ensures count { length (events_after app.now [] kernel.old.steps) + result
-        ≡ length (events_after app.now [] step) }
+    ensures count { length (events_after app.now limits.now [] kernel.old.steps) + result
+        ≡ length (events_after app.now limits.now [] step) }
     ensures meter { meter.new + kernel.old.steps ≡ meter.old + step }
 {
     app.well_formed();
     limits.well_formed();
     let mut count = 0;
     'steps: while kernel.steps < step {
-        crate::steps::step(kernel, app, &[], meter, log);
+        crate::steps::step(kernel, app, &[], limits, meter, log);
         count += log.len();
         let start = kernel.steps;
         let _ = pass_on(kernel, app, &[], step, log.is_empty(), limits);
@@ -86,12 +86,12 @@ pub fn run_row(
 ) -> Result<RowEnding, Memory>
     requires way { IsUnderWay app.now [] limits.now kernel.old }
     requires ahead { kernel.old.steps ≤ first_step point.now }
-    requires reached { (n : ℕ) → n ≤ first_step point.now → end_of app.now limits.now (state_after app.now [] n) ≡ None }
+    requires reached { (n : ℕ) → n ≤ first_step point.now → end_of app.now limits.now (state_after app.now limits.now [] n) ≡ None }
     requires meter { meter.old < 2 ^ 62 }
     ensures row { IfOk result (λ row.
         IsRowFrom app.now point.now limits.now (all_of trail.old) (all_of trail.new) row) }
-    ensures before { IfOk result (λ row. length (events_after app.now [] kernel.old.steps) + row.before
-        ≡ length (events_after app.now [] (first_step point.now))) }
+    ensures before { IfOk result (λ row. length (events_after app.now limits.now [] kernel.old.steps) + row.before
+        ≡ length (events_after app.now limits.now [] (first_step point.now))) }
     ensures meter { IfOk result (λ row. meter.new + kernel.old.steps ≡ meter.old + row.steps) }
     ensures rises { meter.old ≤ meter.new }
     ensures kept { OnErr result (Extends (all_of trail.old) (all_of trail.new)) }
@@ -115,7 +115,7 @@ pub fn run_row(
     Ok(RowEnding {
         before,
         steps: kernel.machine.steps,
-        ticks: kernel.machine.clock.elapsed() as u32,
+        ticks: kernel.machine.clock.elapsed(),
         end,
     })
 }
@@ -141,19 +141,19 @@ pub fn begin_row(
 ) -> Result<RowBeginning, Memory>
     requires way { IsUnderWay app.now [] limits.now kernel.old }
     requires ahead { kernel.old.steps ≤ first_step point.now }
-    requires reached { (n : ℕ) → n ≤ first_step point.now → end_of app.now limits.now (state_after app.now [] n) ≡ None }
+    requires reached { (n : ℕ) → n ≤ first_step point.now → end_of app.now limits.now (state_after app.now limits.now [] n) ≡ None }
     requires beyond { first_step point.now < until }
     requires meter { meter.old < 2 ^ 62 }
     ensures way { IsUnderWay app.now point.now limits.now kernel.new }
     ensures on { first_step point.now ≤ kernel.new.steps }
     ensures past { OnOk result (first_step point.now < kernel.new.steps) }
     ensures far { kernel.new.steps ≤ until }
-    ensures before { IfOk result (λ row. length (events_after app.now [] kernel.old.steps) + row.before
-        ≡ length (events_after app.now [] (first_step point.now))) }
+    ensures before { IfOk result (λ row. length (events_after app.now limits.now [] kernel.old.steps) + row.before
+        ≡ length (events_after app.now limits.now [] (first_step point.now))) }
     ensures events { OnOk result
-        (all_of trail.new ≡ all_of trail.old ++ events_from app.now point.now (first_step point.now) kernel.new.steps) }
+        (all_of trail.new ≡ all_of trail.old ++ events_from app.now limits.now point.now (first_step point.now) kernel.new.steps) }
     ensures end { IfOk result
-        (λ row. row.end ≡ end_of app.now limits.now (state_after app.now point.now kernel.new.steps)) }
+        (λ row. row.end ≡ end_of app.now limits.now (state_after app.now limits.now point.now kernel.new.steps)) }
     ensures there { IfOk result (λ row. row.end ≡ None → kernel.new.steps ≡ until) }
     ensures meter { meter.new + kernel.old.steps ≡ meter.old + kernel.new.steps }
     ensures kept { OnErr result (Extends (all_of trail.old) (all_of trail.new)) }

@@ -13,7 +13,7 @@ ghost use Rattle.model.specs.Run.{end_of, injected, IsRun, state_after, events_a
 ghost use Rattle.machine.specs.Logged.{all_of};
 ghost use Rattle.machine.specs.StandsFor.{Stands, StandsFor, DoesAny};
 ghost use Rattle.kernel.specs.Blocked.{is_blocked};
-ghost use Rattle.kernel.specs.Over.{is_over};
+ghost use Rattle.kernel.specs.Over.{is_at_tick_limit, is_over};
 ghost use Rattle.machine.specs.Can.{IsUnderWay};
 ghost use Rattle.kernel.specs.Can.{CanAct, CanStep};
 ghost use Rattle.kernel.specs.Along.{IsFree, GoesTo, GoesOn};
@@ -21,7 +21,8 @@ ghost use Rattle.kernel.specs.Rows.{events_from, Extends};
 
 use crate::acting::act;
 use crate::bits::pass_more;
-use crate::handlers::{inject_all, tick_interrupt};
+use crate::handlers::inject_all;
+use crate::idle::idle;
 use crate::kernel::Kernel;
 use crate::quiet::{free_until, next_injection};
 use crate::suspended::{act_while_suspended, is_ended};
@@ -55,18 +56,18 @@ fn is_suspended(machine: &Machine) -> bool
     machine.sched.depth() > 0 && machine.suspensions > 0
 }
 
-/// What a step does: the running task's op, or for idle a tick. It answers whether steps may come behind it that are done one after
+/// What a step does: the running task's op, or idle. It answers whether steps may come behind it that are done one after
 /// another (`pass_more`).
 #[inline(always)]
-fn act_current<L: Log>(machine: &mut Machine, app: &App, log: &mut L) -> bool
+fn act_current<L: Log>(machine: &mut Machine, app: &App, limits: &Limits, log: &mut L) -> bool
     requires room { 65 ≤ (L.logged log.old).room }
     requires there { IfSome machine.old.sched.current (λ task. task < length app.now.tasks) }
-    requires can { CanAct app.now machine.old }
+    requires can { CanAct app.now limits.now machine.old }
     ensures { DoesAny 65 machine.old (L.logged log.old) machine.new (L.logged log.new)
-        (λ s. act_current app.now s.current s) }
+        (λ s. act_current app.now limits.now s.current s) }
 {
     let Some(task) = machine.sched.current() else {
-        tick_interrupt(machine, app, log);
+        idle(machine, app, limits, log);
         return true;
     };
     if is_suspended(machine) {
@@ -83,20 +84,26 @@ fn act_current<L: Log>(machine: &mut Machine, app: &App, log: &mut L) -> bool
 /// One step of the run, before which these handlers come, whose events go to a log that has none of this step yet. It answers whether
 /// steps may come behind it that are done one after another (`pass_more`).
 #[inline(always)]
-fn step_onto<L: Log>(machine: &mut Machine, app: &App, handlers: &[HandlerId], log: &mut L) -> bool
+fn step_onto<L: Log>(
+    machine: &mut Machine,
+    app: &App,
+    handlers: &[HandlerId],
+    limits: &Limits,
+    log: &mut L,
+) -> bool
     requires few { length handlers.now ≤ 3 }
-    requires going { CanStep app.now machine.old }
+    requires going { CanStep app.now limits.now machine.old }
     requires begun { (L.logged log.old).told ≡ [] }
     requires room { 128 ≤ (L.logged log.old).room }
-    ensures stands { (s : State) → Stands machine.old s → Stands machine.new (step app.now handlers.now s) }
+    ensures stands { (s : State) → Stands machine.old s → Stands machine.new (step app.now limits.now handlers.now s) }
     ensures told { (s : State) → Stands machine.old s
-        → (L.logged log.new).told ≡ (step app.now handlers.now s).log }
+        → (L.logged log.new).told ≡ (step app.now limits.now handlers.now s).log }
     ensures before { (L.logged log.new).before ≡ (L.logged log.old).before }
 {
     app.well_formed();
     inject_all(machine, app, handlers, log);
     // The end of the step stands twice, so that nothing is asked behind an op behind which nothing may follow.
-    if !act_current(machine, app, log) {
+    if !act_current(machine, app, limits, log) {
         machine.settle(log);
         machine.steps += 1;
         return false;
@@ -115,19 +122,20 @@ pub(crate) fn step(
     machine: &mut Machine,
     app: &App,
     handlers: &[HandlerId],
+    limits: &Limits,
     meter: &mut Meter,
     log: &mut StepLog,
 )
     requires few { length handlers.now ≤ 3 }
-    requires going { CanStep app.now machine.old }
+    requires going { CanStep app.now limits.now machine.old }
     requires meter { meter.old < 2 ^ 63 }
-    ensures stands { (s : State) → Stands machine.old s → Stands machine.new (step app.now handlers.now s) }
+    ensures stands { (s : State) → Stands machine.old s → Stands machine.new (step app.now limits.now handlers.now s) }
     ensures log { (s : State) → Stands machine.old s
-        → log.new.items ≡ (step app.now handlers.now s).log }
+        → log.new.items ≡ (step app.now limits.now handlers.now s).log }
     ensures meter { meter.new ≡ meter.old + 1 }
 {
     log.clear();
-    step_onto(machine, app, handlers, log);
+    step_onto(machine, app, handlers, limits, log);
     meter.count();
 }
 
@@ -150,13 +158,16 @@ fn is_nobody_left(machine: &Machine) -> bool
     !machine.sched.has_ready() && machine.clock.is_quiet() && !has_waiter(machine)
 }
 
-/// Whether every task that isn't endless is Ended, whoever else is.
+/// Whether every task that isn't endless is Ended, whoever else is, and there is one.
 // Few applications have endless tasks.
 #[cold]
 #[inline(never)]
 fn are_others_ended(machine: &Machine, app: &App) -> bool
     ensures { (s : State) → Stands machine.now s → result ≡ are_all_ended app.now s }
 {
+    if !app.is_any_awaited() {
+        return false;
+    }
     for number in 0..32 {
         let task = TaskId { number };
         if !app.is_endless(task) && !is_ended(machine, task) {
@@ -166,7 +177,7 @@ fn are_others_ended(machine: &Machine, app: &App) -> bool
     true
 }
 
-/// Whether every task but the endless ones is Ended.
+/// Whether every task but the endless ones is Ended, and there is one.
 #[inline(always)]
 fn are_all_ended(machine: &Machine, app: &App) -> bool
     ensures { (s : State) → Stands machine.now s → result ≡ are_all_ended app.now s }
@@ -174,6 +185,7 @@ fn are_all_ended(machine: &Machine, app: &App) -> bool
     if app.has_endless() {
         return are_others_ended(machine, app);
     }
+    app.well_formed();
     is_nobody_left(machine)
 }
 
@@ -202,11 +214,22 @@ fn is_stuck(machine: &Machine, app: &App) -> bool
     !app.has_interrupt_after(machine.clock.elapsed())
 }
 
-/// Whether the run is over before its next step, whatever its limits: an `expect` failed or a misuse came, every task is
-/// Ended, or it is stuck.
+/// Whether idle may jump, and the ticks are at their limit.
 #[inline(always)]
-pub(crate) fn is_over(machine: &Machine, app: &App) -> bool
-    ensures { (s : State) → Stands machine.now s → result ≡ is_over app.now s }
+pub(crate) fn is_at_tick_limit(machine: &Machine, app: &App, limits: &Limits) -> bool
+    ensures { (s : State) → Stands machine.now s → result ≡ is_at_tick_limit app.now limits.now s }
+{
+    if !app.tickless() {
+        return false;
+    }
+    limits.ticks <= machine.clock.elapsed()
+}
+
+/// Whether the run is over before its next step, whatever its limit of steps: an `expect` failed or a misuse came, every task but the
+/// endless ones is Ended, the ticks are at their limit, which is asked only where idle may jump, or it is stuck.
+#[inline(always)]
+pub(crate) fn is_over(machine: &Machine, app: &App, limits: &Limits) -> bool
+    ensures { (s : State) → Stands machine.now s → result ≡ is_over app.now limits.now s }
 {
     if machine.stopped.is_some() {
         return true;
@@ -214,37 +237,46 @@ pub(crate) fn is_over(machine: &Machine, app: &App) -> bool
     if are_all_ended(machine, app) {
         return true;
     }
+    if is_at_tick_limit(machine, app, limits) {
+        return true;
+    }
     is_stuck(machine, app)
 }
 
 /// The same where a task runs: then the run isn't stuck.
 #[inline(always)]
-pub(crate) fn is_over_running(machine: &Machine, app: &App) -> bool
+pub(crate) fn is_over_running(machine: &Machine, app: &App, limits: &Limits) -> bool
     requires { (task : ℕ) × (machine.now.sched.current ≡ Some task) }
-    ensures { (s : State) → Stands machine.now s → result ≡ is_over app.now s }
+    ensures { (s : State) → Stands machine.now s → result ≡ is_over app.now limits.now s }
 {
     if machine.stopped.is_some() {
         return true;
     }
-    are_all_ended(machine, app)
+    if are_all_ended(machine, app) {
+        return true;
+    }
+    is_at_tick_limit(machine, app, limits)
 }
 
 /// The same in a state that a run comes to. A task that runs there while nothing holds the scheduler is Ready, so the run is over only if
 /// it has been stopped, or that task is endless and left alone.
 #[inline(always)]
-fn is_over_on_the_way(machine: &Machine, app: &App) -> bool
-    ensures { (s : State) → Stands machine.now s → IsState app.now s → result ≡ is_over app.now s }
+fn is_over_on_the_way(machine: &Machine, app: &App, limits: &Limits) -> bool
+    ensures { (s : State) → Stands machine.now s → IsState app.now s → result ≡ is_over app.now limits.now s }
 {
     let Some(task) = machine.sched.current() else {
-        return is_over(machine, app);
+        return is_over(machine, app, limits);
     };
     if machine.sched.depth() > 0 {
-        return is_over(machine, app);
+        return is_over(machine, app, limits);
     }
     if machine.stopped.is_some() {
         return true;
     }
-    is_left_alone(machine, app, task)
+    if is_left_alone(machine, app, task) {
+        return true;
+    }
+    is_at_tick_limit(machine, app, limits)
 }
 
 /// The end of the run before its next step, under these limits: the first that holds of a failed `expect` or a misuse,
@@ -259,7 +291,7 @@ pub(crate) fn ended(machine: &Machine, app: &App, limits: &Limits) -> Option<End
     if are_all_ended(machine, app) {
         return Some(End::Pass);
     }
-    if limits.ticks as u64 <= machine.clock.elapsed() {
+    if limits.ticks <= machine.clock.elapsed() {
         return Some(End::Ticks);
     }
     if limits.steps <= machine.steps {
@@ -281,25 +313,26 @@ fn step_apart(
     kernel: &mut Machine,
     app: &App,
     handlers: &[HandlerId],
+    limits: &Limits,
     meter: &mut Meter,
     log: &mut StepLog,
     trail: &mut Trail,
 ) -> Result<(), Memory>
     requires few { length handlers.now ≤ 3 }
-    requires going { CanStep app.now kernel.old }
+    requires going { CanStep app.now limits.now kernel.old }
     requires meter { meter.old < 2 ^ 63 }
     requires begun { trail.old.told ≡ [] }
-    ensures stands { (s : State) → Stands kernel.old s → Stands kernel.new (step app.now handlers.now s) }
+    ensures stands { (s : State) → Stands kernel.old s → Stands kernel.new (step app.now limits.now handlers.now s) }
     ensures told { OnOk result ((s : State) → Stands kernel.old s
-        → trail.new.told ≡ (step app.now handlers.now s).log) }
+        → trail.new.told ≡ (step app.now limits.now handlers.now s).log) }
     ensures before { trail.new.before ≡ trail.old.before }
     ensures meter { meter.new ≡ meter.old + 1 }
     ensures kept { OnErr result (trail.new.told ≡ []) }
     ensures memory { OnErr result ((s : State) → Stands kernel.old s
-        → trail.old.room < length (step app.now handlers.now s).log) }
+        → trail.old.room < length (step app.now limits.now handlers.now s).log) }
 {
     log.clear();
-    step_onto(kernel, app, handlers, log);
+    step_onto(kernel, app, handlers, limits, log);
     meter.count();
     trail.append(log.as_slice())
 }
@@ -311,28 +344,29 @@ pub(crate) fn step_along(
     kernel: &mut Machine,
     app: &App,
     handlers: &[HandlerId],
+    limits: &Limits,
     meter: &mut Meter,
     log: &mut StepLog,
     trail: &mut Trail,
 ) -> Result<(), Memory>
     requires few { length handlers.now ≤ 3 }
-    requires going { CanStep app.now kernel.old }
+    requires going { CanStep app.now limits.now kernel.old }
     requires meter { meter.old < 2 ^ 63 }
-    ensures stands { (s : State) → Stands kernel.old s → Stands kernel.new (step app.now handlers.now s) }
+    ensures stands { (s : State) → Stands kernel.old s → Stands kernel.new (step app.now limits.now handlers.now s) }
     ensures told { OnOk result ((s : State) → Stands kernel.old s
-        → all_of trail.new ≡ all_of trail.old ++ (step app.now handlers.now s).log) }
+        → all_of trail.new ≡ all_of trail.old ++ (step app.now limits.now handlers.now s).log) }
     ensures meter { meter.new ≡ meter.old + 1 }
     ensures kept { OnErr result (all_of trail.new ≡ all_of trail.old) }
     ensures memory { OnErr result ((s : State) → Stands kernel.old s
-        → 0 < length (step app.now handlers.now s).log) }
+        → 0 < length (step app.now limits.now handlers.now s).log) }
 {
     let is_roomy = trail.begin().is_ok();
     if is_roomy && handlers.is_empty() {
-        step_onto(kernel, app, handlers, trail);
+        step_onto(kernel, app, handlers, limits, trail);
         meter.count();
         return Ok(());
     }
-    step_apart(kernel, app, handlers, meter, log, trail)
+    step_apart(kernel, app, handlers, limits, meter, log, trail)
 }
 
 /// The handlers of a plan's injections at this step, where these injections are those from this step on.
@@ -359,6 +393,7 @@ fn step_by_plan<'a>(
     kernel: &mut Machine,
     app: &App,
     injections: &'a [Injection],
+    limits: &Limits,
     meter: &mut Meter,
     log: &mut StepLog,
     trail: &mut Trail,
@@ -366,21 +401,21 @@ fn step_by_plan<'a>(
     requires order { Rises (λ (i : definitions.Injection). i.step) injections.now }
     requires left { AllByRecursion (λ (i : definitions.Injection). kernel.old.steps ≤ i.step) injections.now }
     requires few { length (injected injections.now kernel.old.steps) ≤ 3 }
-    requires going { CanStep app.now kernel.old }
+    requires going { CanStep app.now limits.now kernel.old }
     requires meter { meter.old < 2 ^ 63 }
     ensures stands { (s : State) → Stands kernel.old s
-        → Stands kernel.new (step app.now (injected injections.now kernel.old.steps) s) }
+        → Stands kernel.new (step app.now limits.now (injected injections.now kernel.old.steps) s) }
     ensures told { OnOk result ((s : State) → Stands kernel.old s
-        → all_of trail.new ≡ all_of trail.old ++ (step app.now (injected injections.now kernel.old.steps) s).log) }
+        → all_of trail.new ≡ all_of trail.old ++ (step app.now limits.now (injected injections.now kernel.old.steps) s).log) }
     ensures later { IfOk result (λ later. later.now
         ≡ drop (length (injected injections.now kernel.old.steps)) injections.now) }
     ensures meter { meter.new ≡ meter.old + 1 }
     ensures kept { OnErr result (all_of trail.new ≡ all_of trail.old) }
     ensures memory { OnErr result ((s : State) → Stands kernel.old s
-        → 0 < length (step app.now (injected injections.now kernel.old.steps) s).log) }
+        → 0 < length (step app.now limits.now (injected injections.now kernel.old.steps) s).log) }
 {
     let handlers = handlers_at(injections, kernel.steps);
-    step_along(kernel, app, handlers.as_slice(), meter, log, trail)?;
+    step_along(kernel, app, handlers.as_slice(), limits, meter, log, trail)?;
     let (_, later) = injections.split_at(handlers.len());
     Ok(later)
 }
@@ -417,10 +452,10 @@ fn go_on_in_room(
         if trail.begin().is_err() {
             return;
         }
-        if is_over_on_the_way(kernel, app) {
+        if is_over_on_the_way(kernel, app, limits) {
             return;
         }
-        let may_follow = step_onto(kernel, app, &[], trail);
+        let may_follow = step_onto(kernel, app, &[], limits, trail);
         pass_more(kernel, app, injections, until, may_follow, limits, trail);
     }
 }
@@ -443,12 +478,12 @@ pub(crate) fn go_on(
     requires meter { meter.old < 2 ^ 62 + kernel.old.steps }
     ensures to { GoesTo app.now limits.now until kernel.old kernel.new }
     ensures there { OnOk result (kernel.new.steps < until
-        → is_over app.now (state_after app.now injections.now kernel.new.steps) ≡ true) }
+        → is_over app.now limits.now (state_after app.now limits.now injections.now kernel.new.steps) ≡ true) }
     ensures along { OnOk result
         (GoesOn app.now limits.now until kernel.old kernel.new (all_of trail.old) (all_of trail.new)) }
     ensures meter { meter.new + kernel.old.steps ≡ meter.old + kernel.new.steps }
     ensures kept { OnErr result (Extends (all_of trail.old) (all_of trail.new)) }
-    ensures memory { OnErr result (0 < length (events_after app.now injections.now kernel.new.steps)) }
+    ensures memory { OnErr result (0 < length (events_after app.now limits.now injections.now kernel.new.steps)) }
 {
     app.well_formed();
     limits.well_formed();
@@ -459,10 +494,10 @@ pub(crate) fn go_on(
         if until <= kernel.steps {
             return Ok(());
         }
-        if is_over(kernel, app) {
+        if is_over(kernel, app, limits) {
             return Ok(());
         }
-        step_along(kernel, app, &[], meter, log, trail)?;
+        step_along(kernel, app, &[], limits, meter, log, trail)?;
     }
 }
 
@@ -487,14 +522,14 @@ pub(crate) fn go_to_step(
     ensures on { kernel.old.steps ≤ kernel.new.steps }
     ensures far { kernel.new.steps ≤ step }
     ensures events { OnOk result
-        (all_of trail.new ≡ all_of trail.old ++ events_from app.now injections.now kernel.old.steps kernel.new.steps) }
+        (all_of trail.new ≡ all_of trail.old ++ events_from app.now limits.now injections.now kernel.old.steps kernel.new.steps) }
     ensures end { IfOk result
-        (λ end. end ≡ end_of app.now limits.now (state_after app.now injections.now kernel.new.steps)) }
+        (λ end. end ≡ end_of app.now limits.now (state_after app.now limits.now injections.now kernel.new.steps)) }
     ensures there { IfOk result (λ end. end ≡ None → kernel.new.steps ≡ step) }
     ensures meter { meter.new + kernel.old.steps ≡ meter.old + kernel.new.steps }
     ensures kept { OnErr result (Extends (all_of trail.old) (all_of trail.new)) }
     // memory is asked for events alone
-    ensures memory { OnErr result (0 < length (events_after app.now injections.now kernel.new.steps)) }
+    ensures memory { OnErr result (0 < length (events_after app.now limits.now injections.now kernel.new.steps)) }
 {
     app.well_formed();
     limits.well_formed();
@@ -506,8 +541,8 @@ pub(crate) fn go_to_step(
         if kernel.steps == step {
             return Ok(None);
         }
-        left = step_by_plan(kernel, app, left, meter, log, trail)?;
-        let until = free_until(kernel, next_injection(left).min(step), limits);
+        left = step_by_plan(kernel, app, left, limits, meter, log, trail)?;
+        let until = free_until(kernel, app, next_injection(left).min(step), limits);
         go_on(kernel, app, injections, until, limits, meter, log, trail)?;
     }
 }
@@ -530,12 +565,12 @@ pub(crate) fn finish(
     ensures way { IsUnderWay app.now injections.now limits.now kernel.new }
     ensures on { kernel.old.steps ≤ kernel.new.steps }
     ensures events { OnOk result
-        (all_of trail.new ≡ all_of trail.old ++ events_from app.now injections.now kernel.old.steps kernel.new.steps) }
+        (all_of trail.new ≡ all_of trail.old ++ events_from app.now limits.now injections.now kernel.old.steps kernel.new.steps) }
     ensures ended { IfOk result
-        (λ end. end_of app.now limits.now (state_after app.now injections.now kernel.new.steps) ≡ Some end) }
+        (λ end. end_of app.now limits.now (state_after app.now limits.now injections.now kernel.new.steps) ≡ Some end) }
     ensures meter { meter.new + kernel.old.steps ≡ meter.old + kernel.new.steps }
     ensures kept { OnErr result (Extends (all_of trail.old) (all_of trail.new)) }
-    ensures memory { OnErr result (0 < length (events_after app.now injections.now kernel.new.steps)) }
+    ensures memory { OnErr result (0 < length (events_after app.now limits.now injections.now kernel.new.steps)) }
 {
     limits.well_formed();
     match go_to_step(kernel, app, injections, u32::MAX, limits, meter, log, trail)? {
@@ -566,11 +601,11 @@ pub fn follow(
     ensures on { kernel.old.steps ≤ kernel.new.steps }
     ensures far { kernel.new.steps ≤ step }
     ensures events { OnOk result
-        (all_of trail.new ≡ all_of trail.old ++ events_from app.now [] kernel.old.steps kernel.new.steps) }
-    ensures end { IfOk result (λ end. end ≡ end_of app.now limits.now (state_after app.now [] kernel.new.steps)) }
+        (all_of trail.new ≡ all_of trail.old ++ events_from app.now limits.now [] kernel.old.steps kernel.new.steps) }
+    ensures end { IfOk result (λ end. end ≡ end_of app.now limits.now (state_after app.now limits.now [] kernel.new.steps)) }
     ensures there { IfOk result (λ end. end ≡ None → kernel.new.steps ≡ step) }
     ensures meter { meter.new + kernel.old.steps ≡ meter.old + kernel.new.steps }
-    ensures memory { OnErr result (0 < length (events_after app.now [] kernel.new.steps)) }
+    ensures memory { OnErr result (0 < length (events_after app.now limits.now [] kernel.new.steps)) }
 {
     go_to_step(
         &mut kernel.machine,
@@ -621,7 +656,7 @@ pub fn run(
     Ok(Run {
         events: trail.into_events(),
         steps: kernel.steps,
-        ticks: kernel.clock.elapsed() as u32,
+        ticks: kernel.clock.elapsed(),
         end,
     })
 }

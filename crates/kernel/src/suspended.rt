@@ -2,7 +2,7 @@
 ghost use Rattle.std.specs.Prelude.{◌≡◌, ◌<◌, ◌≤◌, false, length, Some};
 ghost use Rattle.model.specs.declared.op.Op.{Op};
 ghost use Rattle.model.specs.declared.op.Op.TheVariants as op;
-ghost use Rattle.model.specs.Application.{op_at};
+ghost use Rattle.model.specs.Application.{Limits, op_at};
 ghost use Rattle.model.specs.State.{State, status_at};
 ghost use Rattle.model.specs.Handlers.{tick_interrupt};
 ghost use Rattle.model.specs.Step.{act, act_current, act_unless, is_ended, judge, may_switch, misuse};
@@ -16,7 +16,7 @@ use machine::{Log, Machine};
 use model::{App, End, Misuse, Op, TaskId};
 use ops::event_groups::{clear_bits, get_bits};
 use ops::queues::{messages_waiting, spaces_available};
-use ops::script::{close_turn, expect, mark, open_loop};
+use ops::script::{branch, close_turn, end_if, expect, leave_loop, mark, open_loop, skip_branch};
 use ops::suspension::{resume_all, suspend_all};
 use ops::time::{time, use_up};
 
@@ -122,9 +122,13 @@ fn act_on<L: Log>(machine: &mut Machine, app: &App, task: TaskId, op: &Op, log: 
         Op::Work(ticks) => work_on(machine, app, task, ticks, log),
         Op::Time => time(machine, app, task, log),
         Op::Mark(number) => mark(machine, app, task, number, log),
-        Op::Expect(wanted) => expect(machine, app, task, wanted),
+        Op::Expect(condition) => expect(machine, app, task, condition),
         Op::Repeat(turns) => open_loop(machine, app, task, turns),
         Op::End => close_turn(machine, app, task),
+        Op::If(condition) => branch(machine, app, task, condition),
+        Op::Else => skip_branch(machine, app, task),
+        Op::EndIf => end_if(machine, app, task),
+        Op::Break => leave_loop(machine, app, task),
         Op::MessagesWaiting(object) => messages_waiting(machine, app, task, object, log),
         Op::SpacesAvailable(object) => spaces_available(machine, app, task, object, log),
         Op::ClearBits(group, mask) => clear_bits(machine, app, task, group, mask, log),
@@ -175,8 +179,8 @@ pub(crate) fn act_while_suspended<L: Log>(
     requires can { (op : Op) → op_at app.now task (progress_in machine.old.progress task).op_index ≡ Some op
         → CanHold app.now machine.old task op }
     requires some { 0 < machine.old.suspensions }
-    ensures { DoesAny 65 machine.old (L.logged log.old) machine.new (L.logged log.new)
-        (λ s. act_current app.now s.current s) }
+    ensures { (limits : Limits) → DoesAny 65 machine.old (L.logged log.old) machine.new (L.logged log.new)
+        (λ s. act_current app.now limits s.current s) }
 {
     let op_index = machine.progress(task).op_index;
     if let Some(op) = op_of(app, task, op_index) {

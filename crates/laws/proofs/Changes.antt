@@ -1,5 +1,5 @@
 -- What every deed keeps of who sleeps and who has which ticket, and so every step.
-use Rattle.std.proofs.Common.{get_or-set_same, ◌-◌, ◌&&◌, length, ltb-false, ◌≡◌, ◌≢◌, ◌<◌, ◌+◌, ◌||◌, ℕ, zero, suc, true, false, eqb, leb, ltb, leb-false, inl, inr, ◌⊎◌, List, [], ◌∷◌, map, get_or, set, Option, Some, None, refl, ap, ap₂, sym, subst, ◌∙◌, arith}
+use Rattle.std.proofs.Common.{drop, get_or-set_same, ◌-◌, ◌&&◌, length, ltb-false, ◌≡◌, ◌≢◌, ◌<◌, ◌≤◌, ◌+◌, ◌||◌, ℕ, zero, suc, true, false, eqb, leb, ltb, leb-false, inl, inr, ◌⊎◌, List, [], ◌∷◌, map, get_or, set, Option, Some, None, refl, ap, ap₂, sym, subst, ◌∙◌, arith}
 use Rattle.std.specs.List.{AllByRecursion, filter}
 use Rattle.std.specs.Prelude.{Bool, ◌++◌, if◌then◌else◌}
 use Rattle.std.specs.Option.{IfSome, option_eq, option_map, unwrap_or, is_some}
@@ -7,7 +7,7 @@ use Rattle.std.proofs.lemmas.Bool.{ltb-true}
 use Rattle.std.proofs.lemmas.List.{get_or_past}
 use Rattle.std.proofs.Math.ListN.{length-set}
 use Rattle.model.specs.declared.op.Op.{Op}
-use Rattle.model.specs.declared.op.Op.TheVariants.{Work, Delay, DelayUntil, Yield, Time, Mark, Expect, Repeat, End, Await, Do, GiveMutex, MessagesWaiting, SpacesAvailable, SetBits, ClearBits, GetBits, WaitBits, Suspend, Resume, SuspendAll, ResumeAll, NextCommand, Obey}
+use Rattle.model.specs.declared.op.Op.TheVariants.{Work, Delay, DelayUntil, Yield, Time, Mark, Expect, Repeat, End, If, Else, EndIf, Break, Await, Do, GiveMutex, MessagesWaiting, SpacesAvailable, SetBits, ClearBits, GetBits, WaitBits, Suspend, Resume, SuspendAll, ResumeAll, NextCommand, Obey}
 use Rattle.model.specs.declared.op.Access.{Access}
 use Rattle.model.specs.declared.op.Access.TheVariants.{Send, Receive}
 use Rattle.model.specs.declared.op.Command.{Command}
@@ -19,8 +19,13 @@ use Rattle.model.specs.declared.call.WaitList.TheVariants.{ToReceive, ToSend}
 use Rattle.model.specs.declared.event.What.{What}
 use Rattle.model.specs.declared.event.What.TheVariants as what
 use Rattle.model.specs.declared.event.Misuse.{Misuse}
+use Rattle.model.specs.declared.event.End.{End as Ending}
+use Rattle.model.specs.declared.event.End.TheVariants.{Check, Misuse as MisuseEnd}
 use Rattle.model.specs.declared.loops.Loop.{Loop}
-use Rattle.model.specs.Application.{Application, Definition, commands_of, op_at, op_count, ops_of, interrupts_at}
+use Rattle.model.specs.declared.answer.AnswerCondition.{AnswerCondition}
+use Rattle.model.specs.Answers.{holds}
+use Rattle.model.specs.Blocks.{jump_from}
+use Rattle.model.specs.Application.{Application, Limits, Definition, commands_of, op_at, op_count, ops_of, interrupts_at, script_of}
 use Rattle.model.specs.State.{State, Task, Progress, Status, Ready, Awake, Waiting, Asleep, WaitingForBits, Suspended, Ended, ticket_of, wake_time_of, no_call, task_at, progress_at, status_at, call_at, object_at, bits_at, with_task, with_call, with_object, with_bits, take_ticket, for_one, for_each, no_task, printed}
 use Rattle.model.specs.Order.{Entry, Key, key, entry, keyed, tasks_of, task_of, first}
 use Rattle.model.specs.Switching.{make_ready, to_back, dispatch, choose, choice, is_same, is_ready, yield_now, is_outranked, is_sharing, preempt, slice, settle, is_off, unless_held, write, is_held, is_scheduler_suspended}
@@ -28,12 +33,12 @@ use Rattle.model.specs.Waiting.{waiters, awakened, awake_status, is_locked, wake
 use Rattle.model.specs.Objects.{possible, answer_to, object_after, list_woken, list_for, fulfil, attempt}
 use Rattle.model.specs.Mutexes.{set_priority, mutexes_held, lend, inherit_from, inherit, fall_back, after_timeout, disinherit, give_mutex}
 use Rattle.model.specs.Calls.{try, lock, decide, leave_call, await, do_now}
-use Rattle.model.specs.Time.{delayed_key, delayed_list, is_due, due, wake_due, advance, increment_tick, apply_one, apply_held, sleep, set_previous_wake}
+use Rattle.model.specs.Time.{delayed_key, delayed_list, is_due, due, wake_due, advance, increment_tick, jump, apply_one, apply_held, sleep, set_previous_wake}
 use Rattle.model.specs.declared.plan.Injection.{Injection}
 use Rattle.model.specs.declared.op.IsrOp.{IsrOp}
 use Rattle.model.specs.declared.op.IsrOp.TheVariants as isr_op
-use Rattle.model.specs.Handlers.{isr_told, isr, isr_each, handle, inject, interrupt, tick_interrupt}
-use Rattle.model.specs.Ops.{one_if, go_to, called, answer, use_up, delay, delay_until, expect, open_loop, turn, close_turn}
+use Rattle.model.specs.Handlers.{isr_told, isr, isr_each, handle, inject, interrupt, tick_interrupt, idle, ticks_ahead}
+use Rattle.model.specs.Ops.{one_if, go_to, called, answer, use_up, delay, delay_until, expect, open_loop, next_turn, turn, close_turn, branch, skip_branch, leave_loop}
 use Rattle.model.specs.declared.call.Condition.{Condition}
 use Rattle.model.specs.Groups.{is_met, met_by, keep_answer, want, wake_with_bits, bits_set, bits_after_set, set as set_in_group, begin_set, set_bits, clear, answer_bits, wait_for_bits, begin_bits_wait, check, final_bits, wait_bits}
 use Rattle.model.specs.Suspension.{can_suspend, can_resume, suspend, resumed, resume, call_suspend, call_resume, suspend_all, resume_scheduler, resume_all}
@@ -43,11 +48,13 @@ use Rattle.model.specs.Run.{injected, state_after}
 use Rattle.model.proofs.Sorting.{by_test}
 use Rattle.model.proofs.Lists.{eqb-refl, eqb-same}
 use Rattle.soundness.proofs.Settled.{when_held, when_free}
+use Rattle.soundness.proofs.Passing.{either_way, jumped}
 use Rattle.soundness.proofs.Frames.{keeps-answer, keeps-all_ready, keeps-inherit}
 use Rattle.soundness.proofs.Inheriting.{reranks-inherit}
+use Rattle.laws.proofs.Sleeping.{NoneBetween, none_in_one, none_ahead}
 use Rattle.laws.proofs.Choice.{at_index, All-from_in_order}
 
--- ---- what every step keeps, if four kinds of change keep it
+-- ---- a task that goes on
 
 -- a task whose status has this ticket, and wakes by itself then, or it has none, and doesn't
 abbrev pub Stays : Status → Status → Type 0
@@ -101,15 +108,29 @@ begun_later i c ticks s some =
     let none : get_or (set (set s.tasks i t1) i t2) i no_task ≡ no_task = get_or_past (set (set s.tasks i t1) i t2) i no_task (rw (length-set, length-set) past) in
     subst D (sym none) tt)
 
+-- ---- a run that is stopped
+
+-- It failed: by a check, or by a misuse.
+abbrev pub is_failure : Option Ending → Bool
+is_failure (Some (Check task op_index)) = true
+is_failure (Some (MisuseEnd task op_index kind)) = true
+is_failure _ = false
+
+-- It goes on, or is stopped, as before, or it fails.
+abbrev pub Stops : Option Ending → Option Ending → Type 0
+Stops old new = (new ≡ old) ⊎ (is_failure new ≡ true)
+
+-- ---- what every step keeps, if four kinds of change keep it
+
 module _ (P : State → Type 0)
-    -- neither the clock's count of ticks, nor who runs, nor the steps and events matter
-    (framed : (s t : State) → t.tasks ≡ s.tasks → t.next_ticket ≡ s.next_ticket → t.time ≡ s.time → P s → P t)
+    -- neither the clock's count of ticks, nor who runs, nor the steps and events matter; a run may be stopped
+    (framed : (s t : State) → t.tasks ≡ s.tasks → t.next_ticket ≡ s.next_ticket → t.time ≡ s.time → Stops s.stopped t.stopped → P s → P t)
     -- a task goes on, or is Suspended or Ended; its base priority stays
     (moved : (s : State) (i : ℕ) (t : Task) → Stays (status_at s i) t.status → t.base_priority ≡ (task_at s i).base_priority → P s → P (with_task i t s))
     -- a task takes a ticket, and wakes by itself later, if it does
     (taken : (s : State) (i : ℕ) (status : ℕ → Status) → ticket_of (status s.next_ticket) ≡ Some s.next_ticket → IfSome (wake_time_of (status s.next_ticket)) (λ w. s.time < w) → P s → P (take_ticket i status s))
-    -- a tick passes, and all who are due are Ready
-    (passed : (s : State) → P s → P (wake_due (record s { time = s.time + 1 }))) where
+    -- ticks pass, one or several, before the last of which nobody wakes, and all who are due are Ready
+    (passed : (n : ℕ) (s : State) → NoneBetween n s → P s → P (wake_due (record s { time = s.time + n }))) where
   made_ready : (s : State) (i : ℕ) → P s → P (make_ready i s)
   made_ready s i h = taken s i Ready refl tt h
 
@@ -123,7 +144,7 @@ module _ (P : State → Type 0)
 
   kept-choose : (s : State) → P s → P (choose s)
   unfolding choose dispatch
-  kept-choose s h = by_test (is_same (choice s) s.current) (λ t. rw t h) (λ t. rw t (framed s (write (what.Run (choice s)) (record s { current = choice s })) refl refl refl h))
+  kept-choose s h = by_test (is_same (choice s) s.current) (λ t. rw t h) (λ t. rw t (framed s (write (what.Run (choice s)) (record s { current = choice s })) refl refl refl (inl refl) h))
 
   kept-yield_now : (s : State) → P s → P (yield_now s)
   unfolding yield_now
@@ -148,7 +169,7 @@ module _ (P : State → Type 0)
   kept-answer app i a s h =
       let p : Progress = record (progress_at s i) { answer = a } in
       let t : State = write (called i p.op_index a) s in
-      kept-go_to app i (p.op_index + 1) p t (framed s t refl refl refl h)
+      kept-go_to app i (p.op_index + 1) p t (framed s t refl refl refl (inl refl) h)
 
   kept-use_up : (app : Application) (i n : ℕ) (s : State) → P s → P (use_up app i n s)
   unfolding use_up
@@ -183,17 +204,35 @@ module _ (P : State → Type 0)
       (λ t. let l = ltb-true s.time w t in rw t (kept-set_previous_wake i w (sleep i w one) (kept-sleep i w one (omega arith) (kept-answer app i (Some 1) s h))))
       (λ t. rw t (kept-set_previous_wake i w (answer app i (Some 0) s) (kept-answer app i (Some 0) s h)))
 
-  kept-expect : (app : Application) (i : ℕ) (a : Option ℕ) (s : State) → P s → P (expect app i a s)
+  kept-expect : (app : Application) (i : ℕ) (condition : AnswerCondition) (s : State) → P s → P (expect app i condition s)
   unfolding expect
-  kept-expect app i a s h = by_test (option_eq eqb (progress_at s i).answer a)
+  kept-expect app i condition s h = by_test (holds condition (progress_at s i).answer)
       (λ t. rw t (kept-go_to app i ((progress_at s i).op_index + 1) (progress_at s i) s h))
-      (λ t. rw t (framed s _ refl refl refl h))
+      (λ t. rw t (framed s _ refl refl refl (inr refl) h))
+
+  kept-next_turn : (app : Application) (i : ℕ) (p : Progress) (l : Loop) (ls : List Loop) (left : Option ℕ) (s : State) → P s → P (next_turn app i p l ls left s)
+  kept-next_turn app i p l ls None s h = kept-go_to app i l.start p s h
+  kept-next_turn app i p l ls (Some left) s h = by_test (leb left 1)
+      (λ q. rw q (kept-go_to app i (p.op_index + 1) (record p { loops = ls }) s h))
+      (λ q. rw q (kept-go_to app i l.start _ s h))
 
   kept-turn : (app : Application) (i : ℕ) (p : Progress) (ls : List Loop) (s : State) → P s → P (turn app i p ls s)
   kept-turn app i p [] s h = kept-go_to app i (p.op_index + 1) p s h
-  kept-turn app i p (l ∷ ls) s h = by_test (leb l.left 1)
-      (λ q. rw q (kept-go_to app i (p.op_index + 1) (record p { loops = ls }) s h))
-      (λ q. rw q (kept-go_to app i l.start _ s h))
+  kept-turn app i p (l ∷ ls) s h = kept-next_turn app i p l ls l.left s h
+
+  kept-branch : (app : Application) (i : ℕ) (condition : AnswerCondition) (s : State) → P s → P (branch app i condition s)
+  unfolding branch
+  kept-branch app i condition s h =
+      let p : Progress = progress_at s i in
+      by_test (holds condition p.answer)
+      (λ q. rw q (kept-go_to app i (p.op_index + 1) p s h))
+      (λ q. rw q (kept-go_to app i (jump_from (script_of app i) p.op_index) p s h))
+
+  kept-leave_loop : (app : Application) (i : ℕ) (s : State) → P s → P (leave_loop app i s)
+  unfolding leave_loop
+  kept-leave_loop app i s h =
+      let p : Progress = progress_at s i in
+      kept-go_to app i (jump_from (script_of app i) p.op_index) (record p { loops = drop 1 p.loops }) s h
 
   -- ---- calls on objects
 
@@ -222,7 +261,7 @@ module _ (P : State → Type 0)
   unfolding fulfil
   kept-fulfil caller o a s h =
       let t : State = with_object o (object_after caller a (object_at s o)) s in
-      kept-one wake_best (list_woken caller o a) t (λ list. kept-wake_best list t) (framed s t refl refl refl h)
+      kept-one wake_best (list_woken caller o a) t (λ list. kept-wake_best list t) (framed s t refl refl refl (inl refl) h)
 
   kept-attempt : (caller : Option ℕ) (o : ℕ) (a : Access) (s : State) → P s → P (attempt caller o a s)
   unfolding attempt
@@ -276,7 +315,7 @@ module _ (P : State → Type 0)
   unfolding give_mutex
   kept-give_mutex app i o s h =
       let free : State = with_object o (record (object_at s o) { holder = None }) s in
-      kept-preempt _ (kept-answer app i (Some 1) _ (kept-wake_best (ToReceive o) _ (kept-disinherit i free (framed s free refl refl refl h))))
+      kept-preempt _ (kept-answer app i (Some 1) _ (kept-wake_best (ToReceive o) _ (kept-disinherit i free (framed s free refl refl refl (inl refl) h))))
 
   -- ---- calls that may wait, and those that don't
 
@@ -296,7 +335,7 @@ module _ (P : State → Type 0)
 
   -- the scheduler is held and the object locked, and the call goes on
   kept-lock : (i o : ℕ) (phase : Phase) (s : State) → P s → P (lock i o phase s)
-  kept-lock i o phase s h = let t : State = record s { call_hold = true; locked = Some o } in kept-with_call i _ t (framed s t refl refl refl h)
+  kept-lock i o phase s h = let t : State = record s { call_hold = true; locked = Some o } in kept-with_call i _ t (framed s t refl refl refl (inl refl) h)
 
   kept-decide : (i o : ℕ) (a : Access) (s : State) → P s → P (decide i o a s)
   unfolding decide
@@ -308,13 +347,13 @@ module _ (P : State → Type 0)
 
   kept-unlock : (s : State) → P s → P (unlock s)
   unfolding unlock
-  kept-unlock s h = kept-one unlock_object s.locked s (λ o k. kept-all_ready (tasks_of (awakened s (ToReceive o)) ++ tasks_of (awakened s (ToSend o))) (record s { locked = None }) (framed s (record s { locked = None }) refl refl refl k)) h
+  kept-unlock s h = kept-one unlock_object s.locked s (λ o k. kept-all_ready (tasks_of (awakened s (ToReceive o)) ++ tasks_of (awakened s (ToSend o))) (record s { locked = None }) (framed s (record s { locked = None }) refl refl refl (inl refl) k)) h
 
   kept-leave_call : (i : ℕ) (s : State) → P s → P (leave_call i s)
   unfolding leave_call
   kept-leave_call i s h =
       let t : State = record s { call_hold = false } in
-      let free : P (end_hold i Try s) = kept-with_call i _ t (framed s t refl refl refl h) in
+      let free : P (end_hold i Try s) = kept-with_call i _ t (framed s t refl refl refl (inl refl) h) in
       by_test (call_at s i).waits
       (λ q. rw q (kept-choose (end_hold i Try s) free))
       (λ q. rw q (kept-preempt (end_hold i Try s) free))
@@ -352,7 +391,7 @@ module _ (P : State → Type 0)
   -- ---- event groups
 
   kept-with_bits : (group bits : ℕ) (s : State) → P s → P (with_bits group bits s)
-  kept-with_bits group bits s h = framed s (with_bits group bits s) refl refl refl h
+  kept-with_bits group bits s h = framed s (with_bits group bits s) refl refl refl (inl refl) h
 
   kept-all_with_bits : (bits : ℕ) (is : List ℕ) (s : State) → P s → P (for_each (λ i. wake_with_bits i bits) is s)
   kept-all_with_bits bits [] s h = h
@@ -366,10 +405,10 @@ module _ (P : State → Type 0)
   unfolding begin_set
   kept-begin_set i group mask s h =
       let t : State = record s { call_hold = true } in
-      kept-with_call i _ _ (kept-with_call i _ _ (kept-set group mask t (framed s t refl refl refl h)))
+      kept-with_call i _ _ (kept-with_call i _ _ (kept-set group mask t (framed s t refl refl refl (inl refl) h)))
 
   kept-end_hold : (i : ℕ) (phase : Phase) (s : State) → P s → P (end_hold i phase s)
-  kept-end_hold i phase s h = let t : State = record s { call_hold = false } in kept-with_call i _ t (framed s t refl refl refl h)
+  kept-end_hold i phase s h = let t : State = record s { call_hold = false } in kept-with_call i _ t (framed s t refl refl refl (inl refl) h)
 
   kept-end_set : (app : Application) (i : ℕ) (s : State) → P s → P (preempt (answer app i (call_at s i).kept (end_hold i Start s)))
   kept-end_set app i s h = kept-replied app i (call_at s i).kept (end_hold i Start s) (kept-end_hold i Start s h)
@@ -394,7 +433,7 @@ module _ (P : State → Type 0)
   kept-begin_bits_wait i group c ticks s some h =
       let t : State = record s { call_hold = true } in
       let u : State = want i c (set_deadline i ticks t) in
-      kept-with_call i _ _ (taken u i (λ ticket. WaitingForBits group ticket (call_at u i).deadline) refl (begun_later i c ticks t some) (kept-with_call i _ _ (kept-set_deadline i ticks t (framed s t refl refl refl h))))
+      kept-with_call i _ _ (taken u i (λ ticket. WaitingForBits group ticket (call_at u i).deadline) refl (begun_later i c ticks t some) (kept-with_call i _ _ (kept-set_deadline i ticks t (framed s t refl refl refl (inl refl) h))))
 
   kept-check : (app : Application) (i group : ℕ) (c : Condition) (ticks : Option ℕ) (s : State) → P s → P (check app i group c ticks s)
   unfolding check
@@ -440,7 +479,7 @@ module _ (P : State → Type 0)
   unfolding obeyed
   kept-obeyed app i clear bits s h =
       let t : State = write (what.Obeyed i clear bits) s in
-      kept-go_to app i 0 (record (progress_at s i) { answer = Some bits }) t (framed s t refl refl refl h)
+      kept-go_to app i 0 (record (progress_at s i) { answer = Some bits }) t (framed s t refl refl refl (inl refl) h)
 
   kept-clear_by_daemon : (app : Application) (i group mask : ℕ) (s : State) → P s → P (clear_by_daemon app i group mask s)
   unfolding clear_by_daemon
@@ -466,7 +505,7 @@ module _ (P : State → Type 0)
   -- ---- handlers
 
   kept-write : (w : What) (s : State) → P s → P (write w s)
-  kept-write w s h = framed s (write w s) refl refl refl h
+  kept-write w s h = framed s (write w s) refl refl refl (inl refl) h
 
   kept-isr : (app : Application) (handler op_index : ℕ) (op : IsrOp) (s : State) → P s → P (isr app handler op_index op s)
   kept-isr app handler op_index (isr_op.Do o a) s h = kept-write (isr_told handler op_index (answer_to s o a)) (attempt None o a s) (kept-attempt None o a s h)
@@ -501,21 +540,37 @@ module _ (P : State → Type 0)
 
   kept-before_step : (app : Application) (handlers : List ℕ) (s : State) → P s → P (before_step app handlers s)
   unfolding before_step
-  kept-before_step app handlers s h = let t : State = record s { log = [] } in kept-each (inject app) (kept-inject app) handlers t (framed s t refl refl refl h)
+  kept-before_step app handlers s h = let t : State = record s { log = [] } in kept-each (inject app) (kept-inject app) handlers t (framed s t refl refl refl (inl refl) h)
 
   kept-increment : (s : State) → P s → P (increment_tick s)
   unfolding increment_tick advance
   kept-increment s h =
       let t : State = record s { elapsed = s.elapsed + 1 } in
       by_test (is_scheduler_suspended s)
-      (λ u. rw u (framed s (record t { held_ticks = s.held_ticks + 1 }) refl refl refl h))
-      (λ u. rw u (passed t (framed s t refl refl refl h)))
+      (λ u. rw u (framed s (record t { held_ticks = s.held_ticks + 1 }) refl refl refl (inl refl) h))
+      (λ u. rw u (passed 1 t (none_in_one t) (framed s t refl refl refl (inl refl) h)))
 
   kept-tick : (app : Application) (s : State) → P s → P (tick_interrupt app s)
   unfolding tick_interrupt interrupt
   kept-tick app s h =
       let come : State = increment_tick s in
       kept-unless_held slice kept-slice _ (kept-each (handle app) (kept-handle app) (interrupts_at app come.elapsed) come (kept-increment s h))
+
+  kept-jump : (n : ℕ) (s : State) → NoneBetween n s → P s → P (jump n s)
+  unfolding jump
+  kept-jump n s none h = let t : State = record s { elapsed = s.elapsed + n } in passed n t none (framed s t refl refl refl (inl refl) h)
+
+  kept-jumped : (app : Application) (n : ℕ) (s : State) → NoneBetween n s → P s → P (jumped app n s)
+  unfolding interrupt
+  kept-jumped app n s none h =
+      let come : State = jump n s in
+      kept-unless_held slice kept-slice _ (kept-each (handle app) (kept-handle app) (interrupts_at app come.elapsed) come (kept-jump n s none h))
+
+  kept-idle : (app : Application) (limits : Limits) (s : State) → P s → P (idle app limits s)
+  unfolding idle
+  kept-idle app limits s h =
+      let n : ℕ = ticks_ahead app limits s in
+      either_way P app.tickless (jumped app n s) (tick_interrupt app s) (kept-jumped app n s (none_ahead app limits s) h) (kept-tick app s h)
 
   -- ---- the scheduler suspended and resumed
 
@@ -524,13 +579,13 @@ module _ (P : State → Type 0)
   kept-applied zero s h = h
   kept-applied (suc n) s h =
       let t : State = record s { held_ticks = s.held_ticks - 1 } in
-      kept-applied n (apply_one s) (passed t (framed s t refl refl refl h))
+      kept-applied n (apply_one s) (passed 1 t (none_in_one t) (framed s t refl refl refl (inl refl) h))
 
   kept-resume_scheduler : (s : State) → P s → P (resume_scheduler s)
   unfolding resume_scheduler
   kept-resume_scheduler s h =
       let t : State = record s { suspensions = s.suspensions - 1 } in
-      let less : P t = framed s t refl refl refl h in
+      let less : P t = framed s t refl refl refl (inl refl) h in
       by_test (eqb s.suspensions 1)
       (λ q. rw q (kept-applied s.held_ticks t less))
       (λ q. rw q less)
@@ -538,13 +593,13 @@ module _ (P : State → Type 0)
   kept-judge : (i op_index : ℕ) (s : State) → P s → P (judge i op_index s)
   unfolding judge
   kept-judge i op_index s h = by_test (is_scheduler_suspended s && is_ended (status_at s i))
-      (λ t. rw t (framed s _ refl refl refl h))
+      (λ t. rw t (framed s _ refl refl refl (inr refl) h))
       (λ t. rw t h)
 
   -- ---- a step, and a run
 
   kept-act : (app : Application) (i : ℕ) (op : Op) (s : State) → P s → P (act app i op s)
-  unfolding open_loop close_turn clear call_suspend call_resume suspend_all resume_all
+  unfolding open_loop close_turn skip_branch clear call_suspend call_resume suspend_all resume_all
   kept-act app i (Work n) s h = kept-tick app (use_up app i n s) (kept-use_up app i n s h)
   kept-act app i (Delay n) s h = kept-delay app i n s h
   kept-act app i (DelayUntil n) s h = kept-delay_until app i ((progress_at s i).previous_wake + n) s h
@@ -552,10 +607,14 @@ module _ (P : State → Type 0)
   kept-act app i Time s h = kept-answer app i (Some (printed s.time)) s h
   kept-act app i (Mark n) s h =
       let t : State = write (what.Mark i n) s in
-      kept-go_to app i ((progress_at s i).op_index + 1) (progress_at s i) t (framed s t refl refl refl h)
-  kept-act app i (Expect a) s h = kept-expect app i a s h
+      kept-go_to app i ((progress_at s i).op_index + 1) (progress_at s i) t (framed s t refl refl refl (inl refl) h)
+  kept-act app i (Expect condition) s h = kept-expect app i condition s h
   kept-act app i (Repeat n) s h = kept-go_to app i ((progress_at s i).op_index + 1) _ s h
   kept-act app i End s h = kept-turn app i (progress_at s i) (progress_at s i).loops s h
+  kept-act app i (If condition) s h = kept-branch app i condition s h
+  kept-act app i Else s h = kept-go_to app i (jump_from (script_of app i) (progress_at s i).op_index) (progress_at s i) s h
+  kept-act app i EndIf s h = kept-go_to app i ((progress_at s i).op_index + 1) (progress_at s i) s h
+  kept-act app i Break s h = kept-leave_loop app i s h
   kept-act app i (Await o a ticks) s h = kept-await app i o a ticks (call_at s i).phase s h
   kept-act app i (Do o a) s h = kept-do_now app i o a s h
   kept-act app i (GiveMutex o) s h = kept-give_mutex app i o s h
@@ -569,37 +628,37 @@ module _ (P : State → Type 0)
   kept-act app i (Resume j) s h = kept-replied app i _ (resume j s) (kept-resume j s h)
   kept-act app i (NextCommand o) s h = kept-next_command app i o (call_at s i).phase s h
   kept-act app i Obey s h = kept-obey app i (command_at s i) (call_at s i).phase s h
-  kept-act app i SuspendAll s h = let t : State = record s { suspensions = s.suspensions + 1 } in kept-answer app i (Some 0) t (framed s t refl refl refl h)
+  kept-act app i SuspendAll s h = let t : State = record s { suspensions = s.suspensions + 1 } in kept-answer app i (Some 0) t (framed s t refl refl refl (inl refl) h)
   kept-act app i ResumeAll s h = kept-unless_held preempt kept-preempt _ (kept-answer app i (Some 0) (resume_scheduler s) (kept-resume_scheduler s h))
 
   kept-act_unless : (app : Application) (i : ℕ) (kind : Option Misuse) (op : Op) (s : State) → P s → P (act_unless app i kind op s)
   kept-act_unless app i None op s h = kept-judge i (progress_at s i).op_index (act app i op s) (kept-act app i op s h)
-  kept-act_unless app i (Some kind) op s h = framed s (act_unless app i (Some kind) op s) refl refl refl h
+  kept-act_unless app i (Some kind) op s h = framed s (act_unless app i (Some kind) op s) refl refl refl (inr refl) h
 
   kept-act_if : (app : Application) (i : ℕ) (o : Option Op) (s : State) → P s → P (act_if app i o s)
   kept-act_if app i None s h = h
   kept-act_if app i (Some op) s h = kept-act_unless app i (misuse s i op) op s h
 
-  kept-act_current : (app : Application) (r : Option ℕ) (s : State) → P s → P (act_current app r s)
-  kept-act_current app None s h = kept-tick app s h
-  kept-act_current app (Some i) s h = kept-act_if app i (op_at app i (progress_at s i).op_index) s h
+  kept-act_current : (app : Application) (limits : Limits) (r : Option ℕ) (s : State) → P s → P (act_current app limits r s)
+  kept-act_current app limits None s h = kept-idle app limits s h
+  kept-act_current app limits (Some i) s h = kept-act_if app i (op_at app i (progress_at s i).op_index) s h
 
-  kept-step : (app : Application) (handlers : List ℕ) (s : State) → P s → P (step app handlers s)
+  kept-step : (app : Application) (limits : Limits) (handlers : List ℕ) (s : State) → P s → P (step app limits handlers s)
   unfolding step
-  kept-step app handlers s h =
+  kept-step app limits handlers s h =
       let begun : State = before_step app handlers s in
-      let acted : State = unless_held settle (act_current app begun.current begun) in
-      framed acted (record acted { steps = s.steps + 1 }) refl refl refl (kept-unless_held settle kept-settle (act_current app begun.current begun) (kept-act_current app begun.current begun (kept-before_step app handlers s h)))
+      let acted : State = unless_held settle (act_current app limits begun.current begun) in
+      framed acted (record acted { steps = s.steps + 1 }) refl refl refl (inl refl) (kept-unless_held settle kept-settle (act_current app limits begun.current begun) (kept-act_current app limits begun.current begun (kept-before_step app handlers s h)))
 
   kept-reset : (app : Application) → P (nobody_ready app) → P (reset app)
   unfolding reset ready_at_reset
   kept-reset app h =
       let s : State = for_each make_ready (with_ops 0 app.tasks) (nobody_ready app) in
-      framed s (record s { current = choice s }) refl refl refl (kept-all_ready (with_ops 0 app.tasks) (nobody_ready app) h)
+      framed s (record s { current = choice s }) refl refl refl (inl refl) (kept-all_ready (with_ops 0 app.tasks) (nobody_ready app) h)
 
-  pub kept_after : (app : Application) → P (nobody_ready app) → (plan : List Injection) (n : ℕ) → P (state_after app plan n)
-  kept_after app h plan zero = kept-reset app h
-  kept_after app h plan (suc n) = kept-step app (injected plan n) (state_after app plan n) (kept_after app h plan n)
+  pub kept_after : (app : Application) → P (nobody_ready app) → (limits : Limits) (plan : List Injection) (n : ℕ) → P (state_after app limits plan n)
+  kept_after app h limits plan zero = kept-reset app h
+  kept_after app h limits plan (suc n) = kept-step app limits (injected plan n) (state_after app limits plan n) (kept_after app h limits plan n)
 
 -- ---- a change of one task
 
@@ -626,8 +685,8 @@ Later now u = IfSome (wake_time_of u) (λ w. now < w)
 abbrev WakeLater : State → Type 0
 WakeLater s = (i : ℕ) → Later s.time (status_at s i)
 
-later-framed : (s t : State) → t.tasks ≡ s.tasks → t.next_ticket ≡ s.next_ticket → t.time ≡ s.time → WakeLater s → WakeLater t
-later-framed s t e n m h = λ i. let P : List Task → ℕ → Type 0 = λ ts time. Later time (get_or ts i no_task).status in subst (λ ts. P ts t.time) (sym e) (subst (λ time. P s.tasks time) (sym m) (h i))
+later-framed : (s t : State) → t.tasks ≡ s.tasks → t.next_ticket ≡ s.next_ticket → t.time ≡ s.time → Stops s.stopped t.stopped → WakeLater s → WakeLater t
+later-framed s t e n m stops h = λ i. let P : List Task → ℕ → Type 0 = λ ts time. Later time (get_or ts i no_task).status in subst (λ ts. P ts t.time) (sym e) (subst (λ time. P s.tasks time) (sym m) (h i))
 
 later-set : (s : State) (i : ℕ) (t : Task) (now : ℕ) → Later now t.status → ((j : ℕ) → Later now (status_at s j)) → (j : ℕ) → Later now (get_or (set s.tasks i t) j no_task).status
 later-set s i t now l h j = elim (one_task s.tasks i t j) [
@@ -711,27 +770,27 @@ is_due_one s i w h = let d = delayed_some (task_at s i) (status_at s i) s.time r
       let one : is_due s (entry i k) ≡ true → i ≢ i = rw z at (at_index delayed_key (λ (e : Entry). is_due s e ≡ true → i ≢ e.task) 0 i k s.tasks refl e all) in
       one (rw w (eqb-refl s.time)) refl
 
-later_up : (o : Option ℕ) (now : ℕ) → IfSome o (λ w. now < w) → (o ≡ Some (now + 1) → ⊥) → IfSome o (λ w. now + 1 < w)
-later_up None now h g = tt
-later_up (Some w) now h g = let apart : w ≢ now + 1 = (λ e. g (ap Some e)) in omega arith
+later_up : (o : Option ℕ) (now n : ℕ) → IfSome o (λ w. now < w) → IfSome o (λ w. now < w → now + n ≤ w) → (o ≡ Some (now + n) → ⊥) → IfSome o (λ w. now + n < w)
+later_up None now n h none g = tt
+later_up (Some w) now n h none g = let apart : w ≢ now + n = (λ e. g (ap Some e)) in let l = none h in omega arith
 
-later-passed : (s : State) → WakeLater s → WakeLater (wake_due (record s { time = s.time + 1 }))
+later-passed : (n : ℕ) (s : State) → NoneBetween n s → WakeLater s → WakeLater (wake_due (record s { time = s.time + n }))
 unfolding wake_due
-later-passed s h i =
-    let t : State = record s { time = s.time + 1 } in
+later-passed n s none h i =
+    let t : State = record s { time = s.time + n } in
     let is : List ℕ = tasks_of (due t) in
     let woken : State = for_each make_ready is t in
-    let now : woken.time ≡ s.time + 1 = (keeps-all_ready is t).time in
+    let now : woken.time ≡ s.time + n = (keeps-all_ready is t).time in
     let P : Option ℕ → Type 0 = λ o. IfSome o (λ w. woken.time < w) in
     elim (spared t is i) [
       | inl gone ↦ subst P (sym gone) tt
       | inr kept ↦
-          let later = later_up (wake_time_of (status_at s i)) s.time (h i) (λ e. is_due_one t i e kept.1) in
+          let later = later_up (wake_time_of (status_at s i)) s.time n (h i) (none i) (λ e. is_due_one t i e kept.1) in
           let Q : Status → Type 0 = λ u. P (wake_time_of u) in
           let R : ℕ → Type 0 = λ time. IfSome (wake_time_of (status_at s i)) (λ w. time < w) in
           subst Q (sym kept.0) (subst R (sym now) later)
     ]
 
-pub wake_later : (app : Application) (plan : List Injection) (n task : ℕ) → Later (state_after app plan n).time (status_at (state_after app plan n) task)
+pub wake_later : (app : Application) (limits : Limits) (plan : List Injection) (n task : ℕ) → Later (state_after app limits plan n).time (status_at (state_after app limits plan n) task)
 unfolding nobody_ready
-wake_later app plan n task = kept_after WakeLater later-framed later-moved later-taken later-passed app (λ i. subst (Later app.start) (sym (ended_at_reset app.start app.tasks i)) tt) plan n task
+wake_later app limits plan n task = kept_after WakeLater later-framed later-moved later-taken later-passed app (λ i. subst (Later app.start) (sym (ended_at_reset app.start app.tasks i)) tt) limits plan n task

@@ -1,10 +1,10 @@
 -- Idle runs only where no task is Ready, and after a tick nobody outranks the running task.
-use Rattle.std.proofs.Common.{◌≡◌, ◌≤◌, ◌||◌, ◌&&◌, ◌+◌, ℕ, zero, suc, Bool, true, false, eqb, leb, ltb, List, [], ◌∷◌, Option, Some, None, refl, sym, subst, ◌∙◌, arith}
+use Rattle.std.proofs.Common.{◌≡◌, ◌≤◌, ◌||◌, ◌&&◌, ◌+◌, ℕ, zero, suc, Bool, true, false, eqb, leb, ltb, List, [], ◌∷◌, Option, Some, None, refl, ap, ap₂, sym, subst, ◌∙◌, arith}
 use Rattle.std.specs.List.{AllByRecursion, list_any}
 use Rattle.std.specs.Option.{option_eq}
 use Rattle.std.proofs.lemmas.Bool.{le-ltb}
 use Rattle.model.specs.declared.op.Op.{Op}
-use Rattle.model.specs.declared.op.Op.TheVariants.{Work, Delay, DelayUntil, Yield, Time, Mark, Expect, Repeat, End, Await, Do, GiveMutex, MessagesWaiting, SpacesAvailable, SetBits, ClearBits, GetBits, WaitBits, Suspend, Resume, SuspendAll, ResumeAll, NextCommand, Obey}
+use Rattle.model.specs.declared.op.Op.TheVariants.{Work, Delay, DelayUntil, Yield, Time, Mark, Expect, Repeat, End, If, Else, EndIf, Break, Await, Do, GiveMutex, MessagesWaiting, SpacesAvailable, SetBits, ClearBits, GetBits, WaitBits, Suspend, Resume, SuspendAll, ResumeAll, NextCommand, Obey}
 use Rattle.model.specs.declared.op.Access.{Access}
 use Rattle.model.specs.declared.op.Access.TheVariants.{Receive}
 use Rattle.model.specs.declared.op.Command.{Command}
@@ -13,7 +13,9 @@ use Rattle.model.specs.declared.call.Phase.{Phase}
 use Rattle.model.specs.declared.call.Phase.TheVariants.{Start, Try, Decide, Place, Unlock, Leave, Final}
 use Rattle.model.specs.declared.event.Misuse.{Misuse}
 use Rattle.model.specs.declared.loops.Loop.{Loop}
-use Rattle.model.specs.Application.{Application, interrupts_at, op_at}
+use Rattle.model.specs.declared.answer.AnswerCondition.{AnswerCondition}
+use Rattle.model.specs.Answers.{holds}
+use Rattle.model.specs.Application.{Application, Limits, interrupts_at, op_at}
 use Rattle.model.specs.State.{State, Progress, status_at, task_at, progress_at, call_at, bits_at, go_on, for_each, for_one}
 use Rattle.model.specs.Order.{Entry, first, task_of, tasks_of}
 use Rattle.model.specs.Switching.{to_back, dispatch, choose, choice, is_same, is_ready, ready_list, ready_key, yield_now, is_above, is_outranked, is_sharing, preempt, slice, settle, is_off, is_held, is_scheduler_suspended}
@@ -22,9 +24,9 @@ use Rattle.model.specs.Objects.{possible, answer_to, list_for}
 use Rattle.model.specs.Mutexes.{inherit, after_timeout, give_mutex}
 use Rattle.model.specs.Calls.{try, lock, decide, leave_call, await, do_now}
 use Rattle.model.specs.declared.plan.Injection.{Injection}
-use Rattle.model.specs.Handlers.{handle, interrupt, tick_interrupt}
-use Rattle.model.specs.Time.{advance, due, increment_tick, sleep, set_previous_wake, wake_due}
-use Rattle.model.specs.Ops.{go_to, answer, use_up, delay, delay_until, expect, open_loop, turn, close_turn}
+use Rattle.model.specs.Handlers.{handle, interrupt, tick_interrupt, idle, ticks_ahead}
+use Rattle.model.specs.Time.{advance, due, increment_tick, jump, sleep, set_previous_wake, wake_due}
+use Rattle.model.specs.Ops.{go_to, answer, use_up, delay, delay_until, expect, open_loop, next_turn, turn, close_turn, branch, skip_branch, leave_loop}
 use Rattle.model.specs.Groups.{is_met, begin_set, set_bits, clear, answer_bits, wait_for_bits, begin_bits_wait, check, final_bits, wait_bits}
 use Rattle.model.specs.Suspension.{call_suspend, call_resume, suspend_all, resume_scheduler, resume_all}
 use Rattle.model.specs.Daemon.{take_command, next_command, obeyed, clear_by_daemon, obey, command_at}
@@ -34,11 +36,12 @@ use Rattle.model.proofs.Sorting.{by_test, Falls, Falls-in_order, IsAfter}
 use Rattle.model.proofs.Lists.{HasKey, list_has}
 use Rattle.model.proofs.Chosen.{same_eq}
 use Rattle.soundness.proofs.Settled.{when_held, when_free}
-use Rattle.soundness.proofs.Passing.{held-told}
+use Rattle.soundness.proofs.Passing.{held-told, either_way, jumped, jump_come}
 use Rattle.soundness.proofs.Bits.{stays-set}
 use Rattle.soundness.proofs.Handled.{spares-handle}
+use Rattle.soundness.proofs.Frames.{Keeps, keeps_both, keeps-interrupt, keeps-wake_due}
 use Rattle.soundness.proofs.Reached.{reached_after, reached_before_step}
-use Rattle.model.specs.Invariant.{IsState, RunsIn}
+use Rattle.model.specs.Invariant.{Hold, Suspension, IsState, RunsIn}
 use Rattle.model.specs.Scripts.{IsWellFormed}
 use Rattle.model.proofs.Unlocking.{opened_by, current-all_ready}
 use Rattle.soundness.proofs.Inheriting.{reranks-after_timeout, reranks-inherit}
@@ -92,6 +95,24 @@ idle-tick app s free =
     let told : State = interrupt app (increment_tick s) in
     subst IdleAlone (sym (when_free slice told (held-told app s ∙ free))) (idle-slice told)
 
+-- Ticks that come at once, or one, leave the scheduler held or not as it was.
+held-jumped : (app : Application) (n : ℕ) (s : State) → is_held (interrupt app (jump n s)) ≡ is_held s
+unfolding jump
+held-jumped app n s =
+    let k : Keeps (jump_come n s) (interrupt app (jump n s)) = keeps_both (jump_come n s) (jump n s) (interrupt app (jump n s)) (keeps-wake_due (jump_come n s)) (keeps-interrupt app (jump n s)) in
+    ap₂ (λ (b : Bool) (c : ℕ). b || ltb 0 c) (ap (λ (x : Hold). x.held) k.hold) (ap (λ (x : Suspension). x.suspensions) k.suspension)
+
+idle-jumped : (app : Application) (n : ℕ) (s : State) → is_held s ≡ false → IdleAlone (jumped app n s)
+idle-jumped app n s free =
+    let told : State = interrupt app (jump n s) in
+    subst IdleAlone (sym (when_free slice told (held-jumped app n s ∙ free))) (idle-slice told)
+
+idle-idle : (app : Application) (limits : Limits) (s : State) → is_held s ≡ false → IdleAlone (idle app limits s)
+unfolding idle
+idle-idle app limits s free =
+    let n : ℕ = ticks_ahead app limits s in
+    either_way IdleAlone app.tickless (jumped app n s) (tick_interrupt app s) (idle-jumped app n s free) (idle-tick app s free)
+
 current-handles : (app : Application) (handlers : List ℕ) (s : State) → (for_each (handle app) handlers s).current ≡ s.current
 current-handles app [] s = refl
 current-handles app (h ∷ hs) s = current-handles app hs (handle app h s) ∙ (spares-handle app h s).current
@@ -133,14 +154,23 @@ current-delay_until : (app : Application) (i w : ℕ) (s : State) → (delay_unt
 unfolding delay_until set_previous_wake answer go_to
 current-delay_until app i w s = by_test (ltb s.time w) (λ t. rw t (current-sleep i w (answer app i (Some 1) s))) (λ t. rw t refl)
 
-current-expect : (app : Application) (i : ℕ) (a : Option ℕ) (s : State) → (expect app i a s).current ≡ s.current
+current-expect : (app : Application) (i : ℕ) (condition : AnswerCondition) (s : State) → (expect app i condition s).current ≡ s.current
 unfolding expect go_to
-current-expect app i a s = by_test (option_eq eqb (progress_at s i).answer a) (λ t. rw t refl) (λ t. rw t refl)
+current-expect app i condition s = by_test (holds condition (progress_at s i).answer) (λ t. rw t refl) (λ t. rw t refl)
+
+current-next_turn : (app : Application) (i : ℕ) (p : Progress) (l : Loop) (ls : List Loop) (left : Option ℕ) (s : State) → (next_turn app i p l ls left s).current ≡ s.current
+unfolding go_to
+current-next_turn app i p l ls None s = refl
+current-next_turn app i p l ls (Some left) s = by_test (leb left 1) (λ q. rw q refl) (λ q. rw q refl)
 
 current-turn : (app : Application) (i : ℕ) (p : Progress) (ls : List Loop) (s : State) → (turn app i p ls s).current ≡ s.current
 unfolding go_to
 current-turn app i p [] s = refl
-current-turn app i p (l ∷ ls) s = by_test (leb l.left 1) (λ q. rw q refl) (λ q. rw q refl)
+current-turn app i p (l ∷ ls) s = current-next_turn app i p l ls l.left s
+
+current-branch : (app : Application) (i : ℕ) (condition : AnswerCondition) (s : State) → (branch app i condition s).current ≡ s.current
+unfolding branch go_to
+current-branch app i condition s = by_test (holds condition (progress_at s i).answer) (λ t. rw t refl) (λ t. rw t refl)
 
 still_runs : (i : ℕ) (s t : State) → s.current ≡ Some i → t.current ≡ s.current → IdleAlone t
 still_runs i s t r e = λ n. absurd (let f : Some i ≡ None = sym r ∙ sym e ∙ n in cc)
@@ -282,16 +312,20 @@ unfolding judge
 idle-judge i op_index s h = by_test (is_scheduler_suspended s && is_ended (status_at s i)) (λ t. rw t h) (λ t. rw t h)
 
 idle-act : (app : Application) (i : ℕ) (op : Op) (s : State) → s.current ≡ Some i → IdleAlone (act app i op s)
-unfolding answer go_to open_loop close_turn clear call_suspend call_resume suspend_all
+unfolding answer go_to open_loop close_turn skip_branch leave_loop clear call_suspend call_resume suspend_all
 idle-act app i (Work n) s r = idle-work app i (use_up app i n s) (current-use_up app i n s ∙ r)
 idle-act app i (Delay n) s r = idle-delay app i n s r
 idle-act app i (DelayUntil n) s r = still_runs i s (delay_until app i ((progress_at s i).previous_wake + n) s) r (current-delay_until app i ((progress_at s i).previous_wake + n) s)
 idle-act app i Yield s r = idle-yield_now (answer app i (Some 0) s)
 idle-act app i Time s r = still_runs i s (act app i Time s) r refl
 idle-act app i (Mark n) s r = still_runs i s (act app i (Mark n) s) r refl
-idle-act app i (Expect a) s r = still_runs i s (expect app i a s) r (current-expect app i a s)
+idle-act app i (Expect condition) s r = still_runs i s (expect app i condition s) r (current-expect app i condition s)
 idle-act app i (Repeat n) s r = still_runs i s (open_loop app i n s) r refl
 idle-act app i End s r = still_runs i s (close_turn app i s) r (current-turn app i (progress_at s i) (progress_at s i).loops s)
+idle-act app i (If condition) s r = still_runs i s (branch app i condition s) r (current-branch app i condition s)
+idle-act app i Else s r = still_runs i s (skip_branch app i s) r refl
+idle-act app i EndIf s r = still_runs i s (act app i EndIf s) r refl
+idle-act app i Break s r = still_runs i s (leave_loop app i s) r refl
 idle-act app i (Await o a ticks) s r = idle-await app i o a ticks (call_at s i).phase s r
 idle-act app i (Do o a) s r = idle-do_now app i o a s
 idle-act app i (GiveMutex o) s r = idle-give_mutex app i o s
@@ -316,19 +350,19 @@ idle-act_if : (app : Application) (i : ℕ) (o : Option Op) (s : State) → s.cu
 idle-act_if app i None s r = still_runs i s s r refl
 idle-act_if app i (Some op) s r = idle-act_unless app i (misuse s i op) op s r
 
-idle-act_current : (app : Application) (r : Option ℕ) (s : State) → s.current ≡ r → (r ≡ None → is_held s ≡ false) → IdleAlone (act_current app r s)
-idle-act_current app None s e free = idle-tick app s (free refl)
-idle-act_current app (Some i) s e free = idle-act_if app i (op_at app i (progress_at s i).op_index) s e
+idle-act_current : (app : Application) (limits : Limits) (r : Option ℕ) (s : State) → s.current ≡ r → (r ≡ None → is_held s ≡ false) → IdleAlone (act_current app limits r s)
+idle-act_current app limits None s e free = idle-idle app limits s (free refl)
+idle-act_current app limits (Some i) s e free = idle-act_if app i (op_at app i (progress_at s i).op_index) s e
 
 idle_free : (app : Application) (s : State) → IsState app s → s.current ≡ None → is_held s ≡ false
 idle_free app s h e = subst (RunsIn app s) e h.runs
 
-idle-step : (app : Application) → IsWellFormed app → (handlers : List ℕ) (s : State) → IsState app s → IdleAlone (step app handlers s)
+idle-step : (app : Application) → IsWellFormed app → (limits : Limits) (handlers : List ℕ) (s : State) → IsState app s → IdleAlone (step app limits handlers s)
 unfolding step
-idle-step app formed handlers s reached =
+idle-step app formed limits handlers s reached =
     let r : State = before_step app handlers s in
-    let t : State = act_current app r.current r in
-    let h : IdleAlone t = idle-act_current app r.current r refl (idle_free app r (reached_before_step app formed handlers s reached)) in
+    let t : State = act_current app limits r.current r in
+    let h : IdleAlone t = idle-act_current app limits r.current r refl (idle_free app r (reached_before_step app formed handlers s reached)) in
     by_test (is_held t)
     (λ q. subst IdleAlone (sym (when_held settle t q)) h)
     (λ q. subst IdleAlone (sym (when_free settle t q)) (idle-settle t h))
@@ -337,12 +371,12 @@ idle-reset : (app : Application) → IdleAlone (reset app)
 unfolding reset
 idle-reset app = λ e. chosen_none (ready_at_reset app) e
 
-idle_all : (app : Application) → IsWellFormed app → (plan : List Injection) (n : ℕ) → IdleAlone (state_after app plan n)
-idle_all app formed plan zero = idle-reset app
-idle_all app formed plan (suc n) = idle-step app formed (injected plan n) (state_after app plan n) (reached_after app formed plan n)
+idle_all : (app : Application) → IsWellFormed app → (limits : Limits) (plan : List Injection) (n : ℕ) → IdleAlone (state_after app limits plan n)
+idle_all app formed limits plan zero = idle-reset app
+idle_all app formed limits plan (suc n) = idle-step app formed limits (injected plan n) (state_after app limits plan n) (reached_after app formed limits plan n)
 
-pub idle_after : (app : Application) → IsWellFormed app → (plan : List Injection) (n task : ℕ) → (state_after app plan n).current ≡ None → is_ready (state_after app plan n) task ≡ false
-idle_after app formed plan n task e = idle_all app formed plan n e task
+pub idle_after : (app : Application) → IsWellFormed app → (limits : Limits) (plan : List Injection) (n task : ℕ) → (state_after app limits plan n).current ≡ None → is_ready (state_after app limits plan n) task ≡ false
+idle_after app formed limits plan n task e = idle_all app formed limits plan n e task
 
 -- ---- after a tick
 
@@ -380,3 +414,14 @@ unfolding tick_interrupt
 not_outranked-tick app s free =
     let told : State = interrupt app (increment_tick s) in
     subst (λ (t : State). is_outranked t ≡ false) (sym (when_free slice told (held-told app s ∙ free))) (top-slice told)
+
+not_outranked-jump : (app : Application) (n : ℕ) (s : State) → is_held s ≡ false → is_outranked (jumped app n s) ≡ false
+not_outranked-jump app n s free =
+    let told : State = interrupt app (jump n s) in
+    subst (λ (t : State). is_outranked t ≡ false) (sym (when_free slice told (held-jumped app n s ∙ free))) (top-slice told)
+
+pub not_outranked-idle : (app : Application) (limits : Limits) (s : State) → is_held s ≡ false → is_outranked (idle app limits s) ≡ false
+unfolding idle
+not_outranked-idle app limits s free =
+    let n : ℕ = ticks_ahead app limits s in
+    either_way (λ (t : State). is_outranked t ≡ false) app.tickless (jumped app n s) (tick_interrupt app s) (not_outranked-jump app n s free) (not_outranked-tick app s free)

@@ -14,11 +14,11 @@ none_yet (p ∷ plan) steps n all l =
     rw apart (none_yet plan steps n all.1 l)
 
 module _ (app : Application) (plan : List Injection) (limits : Limits) (run : Run) (h : IsRun app [] limits run) (all : AllByRecursion (λ (p : Injection). run.steps ≤ p.step) plan) where
-  same_state : (n : ℕ) → n ≤ run.steps → state_after app plan n ≡ state_after app [] n
+  same_state : (n : ℕ) → n ≤ run.steps → state_after app limits plan n ≡ state_after app limits [] n
   same_state zero l = refl
   same_state (suc n) l = rw (none_yet plan run.steps n all (omega arith), same_state n (omega arith)) refl
 
-  same_events : (n : ℕ) → n ≤ run.steps → events_after app plan n ≡ events_after app [] n
+  same_events : (n : ℕ) → n ≤ run.steps → events_after app limits plan n ≡ events_after app limits [] n
   same_events zero l = refl
   same_events (suc n) l = rw (same_events n (omega arith), same_state (suc n) l) refl
 

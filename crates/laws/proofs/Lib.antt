@@ -2,8 +2,12 @@ pub mod Choice
 pub mod ExampleRuns
 pub mod LatePoints
 pub mod Idle
+pub mod Sleeping
+pub mod Working
 pub mod Changes
 pub mod Tickets
 pub mod Held
 pub mod Priorities
 pub mod Ends
+pub mod Blocks
+pub mod Awaited

@@ -3,7 +3,7 @@ use Rattle.std.proofs.Common.{◌≡◌, ◌≤◌, ◌+◌, ℕ, zero, suc, Lis
 use Rattle.std.specs.Prelude.{slice_get}
 use Rattle.std.specs.Option.{IfSome}
 use Rattle.model.specs.declared.plan.Injection.{Injection}
-use Rattle.model.specs.Application.{Application, Definition, definition_of}
+use Rattle.model.specs.Application.{Application, Limits, Definition, definition_of}
 use Rattle.model.specs.Scripts.{IsWellFormed}
 use Rattle.model.specs.State.{State, Status, Task, Ready, no_task, status_at, task_at, with_task, take_ticket, for_each}
 use Rattle.model.specs.Order.{tasks_of}
@@ -13,7 +13,8 @@ use Rattle.model.specs.Step.{nobody_ready, task_at_reset}
 use Rattle.model.specs.Run.{state_after}
 use Rattle.model.proofs.Tables.{each-set}
 use Rattle.soundness.proofs.Reached.{reached_after}
-use Rattle.laws.proofs.Changes.{Stays, kept_after}
+use Rattle.laws.proofs.Sleeping.{NoneBetween}
+use Rattle.laws.proofs.Changes.{Stays, Stops, kept_after}
 
 -- ---- base priorities are those at reset
 
@@ -24,8 +25,8 @@ module _ (app : Application) where
   abbrev AreAtReset : State → Type 0
   AreAtReset s = (i : ℕ) → (task_at s i).base_priority ≡ base_at_reset i
 
-  base-framed : (s t : State) → t.tasks ≡ s.tasks → t.next_ticket ≡ s.next_ticket → t.time ≡ s.time → AreAtReset s → AreAtReset t
-  base-framed s t e n m h = λ i. ap (λ (ts : List Task). (get_or ts i no_task).base_priority) e ∙ h i
+  base-framed : (s t : State) → t.tasks ≡ s.tasks → t.next_ticket ≡ s.next_ticket → t.time ≡ s.time → Stops s.stopped t.stopped → AreAtReset s → AreAtReset t
+  base-framed s t e n m stops h = λ i. ap (λ (ts : List Task). (get_or ts i no_task).base_priority) e ∙ h i
 
   base-moved : (s : State) (i : ℕ) (t : Task) → Stays (status_at s i) t.status → t.base_priority ≡ (task_at s i).base_priority → AreAtReset s → AreAtReset (with_task i t s)
   base-moved s i t u base h = each-set no_task (λ j v. v.base_priority ≡ base_at_reset j) s.tasks i t (base ∙ h i) h
@@ -37,16 +38,16 @@ module _ (app : Application) where
   base-all_ready [] s h = h
   base-all_ready (i ∷ is) s h = base-all_ready is (make_ready i s) (base-taken s i Ready h)
 
-  base-passed : (s : State) → AreAtReset s → AreAtReset (wake_due (record s { time = s.time + 1 }))
+  base-passed : (n : ℕ) (s : State) → NoneBetween n s → AreAtReset s → AreAtReset (wake_due (record s { time = s.time + n }))
   unfolding wake_due
-  base-passed s h = let t : State = record s { time = s.time + 1 } in base-all_ready (tasks_of (due t)) t h
+  base-passed n s none h = let t : State = record s { time = s.time + n } in base-all_ready (tasks_of (due t)) t h
 
   base-nobody : AreAtReset (nobody_ready app)
   unfolding nobody_ready
   base-nobody = λ i. refl
 
-  base-after : (plan : List Injection) (n : ℕ) → AreAtReset (state_after app plan n)
-  base-after plan n = kept_after AreAtReset base-framed base-moved (λ s i f is later. base-taken s i f) base-passed app base-nobody plan n
+  base-after : (limits : Limits) (plan : List Injection) (n : ℕ) → AreAtReset (state_after app limits plan n)
+  base-after limits plan n = kept_after AreAtReset base-framed base-moved (λ s i f is later. base-taken s i f) base-passed app base-nobody limits plan n
 
 -- ---- and those are the file's
 
@@ -55,11 +56,11 @@ of_file start [] i = tt
 of_file start (d ∷ ds) zero = refl
 of_file start (d ∷ ds) (suc i) = of_file start ds i
 
-pub base_of_file : (app : Application) (plan : List Injection) (n task : ℕ) → IfSome (definition_of app task) (λ d. (task_at (state_after app plan n) task).base_priority ≡ d.priority)
-base_of_file app plan n task = by_definition (definition_of app task) (of_file app.start app.tasks task) where
-  by_definition : (o : Option Definition) → IfSome o (λ d. base_at_reset app task ≡ d.priority) → IfSome o (λ d. (task_at (state_after app plan n) task).base_priority ≡ d.priority)
+pub base_of_file : (app : Application) (limits : Limits) (plan : List Injection) (n task : ℕ) → IfSome (definition_of app task) (λ d. (task_at (state_after app limits plan n) task).base_priority ≡ d.priority)
+base_of_file app limits plan n task = by_definition (definition_of app task) (of_file app.start app.tasks task) where
+  by_definition : (o : Option Definition) → IfSome o (λ d. base_at_reset app task ≡ d.priority) → IfSome o (λ d. (task_at (state_after app limits plan n) task).base_priority ≡ d.priority)
   by_definition None h = tt
-  by_definition (Some d) h = base-after app plan n task ∙ h
+  by_definition (Some d) h = base-after app limits plan n task ∙ h
 
-pub never_below_base : (app : Application) → IsWellFormed app → (plan : List Injection) (n task : ℕ) → (task_at (state_after app plan n) task).base_priority ≤ (task_at (state_after app plan n) task).priority
-never_below_base app formed plan n task = ((reached_after app formed plan n).sound.priorities task).0
+pub never_below_base : (app : Application) → IsWellFormed app → (limits : Limits) (plan : List Injection) (n task : ℕ) → (task_at (state_after app limits plan n) task).base_priority ≤ (task_at (state_after app limits plan n) task).priority
+never_below_base app formed limits plan n task = ((reached_after app formed limits plan n).sound.priorities task).0

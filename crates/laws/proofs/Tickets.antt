@@ -2,14 +2,15 @@
 use Rattle.std.proofs.Common.{◌≡◌, ◌<◌, ◌≤◌, ◌+◌, ℕ, inl, inr, ◌⊎◌, List, [], ◌∷◌, map, get_or, set, Option, Some, None, refl, ap, sym, subst, ◌∙◌, arith}
 use Rattle.std.specs.Option.{IfSome}
 use Rattle.model.specs.declared.plan.Injection.{Injection}
-use Rattle.model.specs.Application.{Application}
+use Rattle.model.specs.Application.{Application, Limits}
 use Rattle.model.specs.State.{State, Task, Status, Ready, ticket_of, wake_time_of, task_at, status_at, with_task, take_ticket, for_each, no_task}
 use Rattle.model.specs.Order.{tasks_of}
 use Rattle.model.specs.Switching.{make_ready}
 use Rattle.model.specs.Time.{due, wake_due}
 use Rattle.model.specs.Step.{nobody_ready, task_at_reset}
 use Rattle.model.specs.Run.{state_after}
-use Rattle.laws.proofs.Changes.{Stays, kept_after, one_task, status_same, ended_at_reset}
+use Rattle.laws.proofs.Sleeping.{NoneBetween}
+use Rattle.laws.proofs.Changes.{Stays, Stops, kept_after, one_task, status_same, ended_at_reset}
 
 abbrev Below : ℕ → Status → Type 0
 Below next u = IfSome (ticket_of u) (λ ticket. ticket < next)
@@ -18,8 +19,8 @@ record TicketsApart (s : State) : Type 0 where
   pub below : (i : ℕ) → Below s.next_ticket (status_at s i)
   pub apart : (i j ticket : ℕ) → ticket_of (status_at s i) ≡ Some ticket → ticket_of (status_at s j) ≡ Some ticket → i ≡ j
 
-apart-framed : (s t : State) → t.tasks ≡ s.tasks → t.next_ticket ≡ s.next_ticket → t.time ≡ s.time → TicketsApart s → TicketsApart t
-apart-framed s t e n m h =
+apart-framed : (s t : State) → t.tasks ≡ s.tasks → t.next_ticket ≡ s.next_ticket → t.time ≡ s.time → Stops s.stopped t.stopped → TicketsApart s → TicketsApart t
+apart-framed s t e n m stops h =
     let at : (i : ℕ) → status_at t i ≡ status_at s i = λ i. ap (λ ts. (get_or ts i no_task).status) e in
     record {
       below = λ i. let P : Status → Type 0 = λ u. Below t.next_ticket u in let Q : ℕ → Type 0 = λ next. Below next (status_at s i) in subst P (sym (at i)) (subst Q (sym n) (h.below i));
@@ -99,10 +100,10 @@ apart-all_ready : (is : List ℕ) (s : State) → TicketsApart s → TicketsApar
 apart-all_ready [] s h = h
 apart-all_ready (i ∷ is) s h = apart-all_ready is (make_ready i s) (apart-ready s i h)
 
-apart-passed : (s : State) → TicketsApart s → TicketsApart (wake_due (record s { time = s.time + 1 }))
+apart-passed : (n : ℕ) (s : State) → NoneBetween n s → TicketsApart s → TicketsApart (wake_due (record s { time = s.time + n }))
 unfolding wake_due
-apart-passed s h =
-    let t : State = record s { time = s.time + 1 } in
+apart-passed n s none h =
+    let t : State = record s { time = s.time + n } in
     apart-all_ready (tasks_of (due t)) t (record { below = h.below; apart = h.apart })
 
 apart-nobody : (app : Application) → TicketsApart (nobody_ready app)
@@ -115,5 +116,5 @@ apart-nobody app =
       apart = λ i j ticket a b. let f = none i in absurd (let g : None ≡ Some ticket = sym f ∙ a in cc);
     }
 
-pub tickets_apart : (app : Application) (plan : List Injection) (n a b ticket : ℕ) → ticket_of (status_at (state_after app plan n) a) ≡ Some ticket → ticket_of (status_at (state_after app plan n) b) ≡ Some ticket → a ≡ b
-tickets_apart app plan n a b ticket = (kept_after TicketsApart apart-framed apart-moved apart-taken apart-passed app (apart-nobody app) plan n).apart a b ticket
+pub tickets_apart : (app : Application) (limits : Limits) (plan : List Injection) (n a b ticket : ℕ) → ticket_of (status_at (state_after app limits plan n) a) ≡ Some ticket → ticket_of (status_at (state_after app limits plan n) b) ≡ Some ticket → a ≡ b
+tickets_apart app limits plan n a b ticket = (kept_after TicketsApart apart-framed apart-moved apart-taken apart-passed app (apart-nobody app) limits plan n).apart a b ticket

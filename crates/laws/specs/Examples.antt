@@ -1,5 +1,6 @@
 -- Worked examples: applications, and what their runs come to.
 use Rattle.std.specs.Prelude.{ℕ, false, List, [], ◌∷◌, Some, None, codes}
+use Rattle.model.specs.declared.answer.AnswerCondition.TheVariants.{Is}
 use Rattle.model.specs.declared.object.ObjectKind.{ObjectKind}
 use Rattle.model.specs.declared.object.ObjectKind.TheVariants.{Queue}
 use Rattle.model.specs.declared.op.Access.{Access}
@@ -27,6 +28,7 @@ a_task name script = record { name = name; priority = 1; endless = false; script
 abbrev pub the_application : ℕ → List Definition → Application
 the_application start tasks = record {
   start = start;
+  tickless = false;
   limits = wide;
   objects = [];
   group_count = 0;
@@ -173,14 +175,14 @@ periodic = record {
 -- a loop of two turns is three steps
 abbrev pub two_turns : Example
 two_turns = record {
-  app = the_application 0 (a_task (codes "a") (Repeat 2 ∷ EndLoop ∷ []) ∷ []);
+  app = the_application 0 (a_task (codes "a") (Repeat (Some 2) ∷ EndLoop ∷ []) ∷ []);
   run = record { events = event_at 2 0 idles ∷ []; steps = 3; ticks = 0; end = Pass };
 }
 
 -- a failed `expect` ends the run
 abbrev pub failed_expect : Example
 failed_expect = record {
-  app = the_application 0 (a_task (codes "a") (Time ∷ Expect (Some 1) ∷ []) ∷ []);
+  app = the_application 0 (a_task (codes "a") (Time ∷ Expect (Is (Some 1)) ∷ []) ∷ []);
   run = record { events = event_at 0 0 (call a 0 0) ∷ []; steps = 2; ticks = 0; end = Check a 1 };
 }
 
@@ -189,7 +191,7 @@ failed_expect = record {
 -- a receive whose timeout comes
 abbrev pub times_out : Example
 times_out = record {
-  app = with_queue (a_task (codes "a") (on_queue Receive 5 ∷ Expect None ∷ []) ∷ []);
+  app = with_queue (a_task (codes "a") (on_queue Receive 5 ∷ Expect (Is None) ∷ []) ∷ []);
   run = record {
     events =
         event_at 4 0 idles ∷ event_at 9 5 (runs a) ∷ event_at 10 5 (what.CallNone a 0) ∷ event_at 11 5 idles ∷ [];

@@ -25,6 +25,7 @@ h = 0
 abbrev pub with_handler : List ObjectKind → List IsrOp → List Definition → Application
 with_handler objects ops tasks = record {
   start = 0;
+  tickless = false;
   limits = wide;
   objects = objects;
   group_count = 0;

@@ -1,6 +1,10 @@
+pub mod BranchExamples
+pub mod Branches
 pub mod Choice
 pub mod DaemonExamples
+pub mod EndlessExamples
 pub mod Examples
 pub mod HandlerExamples
 pub mod HoldExamples
 pub mod MutexExamples
+pub mod TicklessExamples

@@ -5,6 +5,9 @@ ghost use Rattle.laws.specs.MutexExamples.{mutex_examples};
 ghost use Rattle.laws.specs.HandlerExamples.{injected_examples, RunsWith, rows, rows_of_two, RowIs};
 ghost use Rattle.laws.specs.HoldExamples.{hold_examples};
 ghost use Rattle.laws.specs.DaemonExamples.{daemon_examples, daemon_rows};
+ghost use Rattle.laws.specs.TicklessExamples.{tickless_examples};
+ghost use Rattle.laws.specs.BranchExamples.{branch_examples};
+ghost use Rattle.laws.specs.EndlessExamples.{endless_examples};
 
 /// Each application of the table of worked examples runs as the table says: round robin, `delay 0` that yields, `delay 1`
 /// that sleeps, sleepers of one time past the wrap of the tick; a receive that times out, a peek that passes a wake on, a send
@@ -53,4 +56,24 @@ pub fn rows_of_two_injections()
 pub fn examples_with_a_daemon_run()
     ensures rows { AllByRecursion RowIs daemon_rows }
     ensures runs { AllByRecursion RunsWith daemon_examples }
+{}
+
+/// Each application of the table of tickless examples runs as the table says: the longest sleep, and one past the wrap of the tick,
+/// each in a step; idle that sleeps up to a base interrupt, up to the limit, and up to the time at which an interrupt comes and two
+/// tasks wake; a handler that wakes a task before idle would sleep, and one after which idle sleeps on.
+pub fn tickless_examples_run()
+    ensures { AllByRecursion RunsWith tickless_examples }
+{}
+
+/// Each application of the table of examples with branches runs as the table says: each condition, of a number and of `none`; a task
+/// that tries three times and leaves its loop when it has an item; a `break` out of the inner one of two loops; a loop for ever; an
+/// `if`, an `else` and a `break` that end the script; eight blocks at once; branches while the scheduler is held, and a script that ends then.
+pub fn examples_with_branches_run()
+    ensures { AllByRecursion RunsWith branch_examples }
+{}
+
+/// Each application of the table of examples with endless tasks runs as the table says: it passes without the endless task's end,
+/// fails by what that task finds, is stuck where the other can't end, and, with endless tasks alone, never passes.
+pub fn examples_with_endless_tasks_run()
+    ensures { AllByRecursion RunsWith endless_examples }
 {}

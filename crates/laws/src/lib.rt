@@ -2,19 +2,30 @@
 //! that does nothing, so that it is proved.
 #![tactic(auto)]
 
+mod branches;
 mod campaigns;
+mod endless;
 mod examples;
 mod runs;
 mod states;
 
+pub use branches::{
+    branches_are_quiet, breaks_end_the_innermost_loop, loops_for_ever_go_on, one_branch_is_done,
+};
 pub use campaigns::{ends_add_up, unreached_row_is_the_base_run};
+pub use endless::{
+    endless_tasks_alone_never_pass, endless_tasks_are_not_awaited, passing_runs_end_what_is_awaited,
+};
 pub use examples::{
-    examples_run, examples_with_a_daemon_run, examples_with_handlers_run, examples_with_holds_run,
-    examples_with_mutexes_run, rows_of_one_receive, rows_of_two_injections,
+    examples_run, examples_with_a_daemon_run, examples_with_branches_run,
+    examples_with_endless_tasks_run, examples_with_handlers_run, examples_with_holds_run,
+    examples_with_mutexes_run, rows_of_one_receive, rows_of_two_injections, tickless_examples_run,
 };
 pub use runs::{late_points_do_nothing, row_is_one, run_is_one};
 pub use states::{
-    choice_in_words, idle_runs_alone, no_one_outranks_after_a_tick, no_switch_while_held,
+    choice_in_words, idle_runs_alone, idle_sleeps_past_nothing,
+    idle_sleeps_until_something_happens, no_one_outranks_after_a_tick, no_switch_while_held,
     priorities_are_at_least_those_of_the_file, running_task_is_ready, sleepers_wake_later,
-    states_are_sound, steps_keep_states_sound, tickets_differ, time_is_start_and_elapsed,
+    states_are_sound, steps_keep_states_sound, tickets_differ, ticks_pass_up_to_the_limit,
+    time_is_start_and_elapsed,
 };

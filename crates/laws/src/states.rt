@@ -1,12 +1,14 @@
 //! What is true of the states that a run comes to.
-ghost use Rattle.std.specs.Prelude.{◌≡◌, ◌<◌, ◌≤◌, ◌+◌, ℕ, true, false, List, Some, None, IfSome};
+ghost use Rattle.std.specs.Prelude.{◌≡◌, ◌<◌, ◌≤◌, ◌+◌, ◌⊎◌, ℕ, filter_map, map, true, false, List, Some, None, IfSome};
+ghost use Rattle.std.specs.List.{AllByRecursion, Contains};
+ghost use Rattle.std.specs.Option.{is_some};
 ghost use Rattle.model.specs.declared.plan.Injection.{Injection};
-ghost use Rattle.model.specs.Application.{Application, definition_of};
+ghost use Rattle.model.specs.Application.{Application, Interrupt, Limits, definition_of};
 ghost use Rattle.model.specs.Scripts.{IsWellFormed};
-ghost use Rattle.model.specs.State.{State, status_at, task_at, ticket_of, wake_time_of};
+ghost use Rattle.model.specs.State.{State, Task, status_at, task_at, ticket_of, wake_time_of};
 ghost use Rattle.model.specs.Switching.{choice, is_held, is_ready, is_outranked};
-ghost use Rattle.model.specs.Handlers.{inject, tick_interrupt};
-ghost use Rattle.model.specs.Step.{step};
+ghost use Rattle.model.specs.Handlers.{idle, inject, tick_interrupt};
+ghost use Rattle.model.specs.Step.{before_step, step};
 ghost use Rattle.model.specs.Run.{state_after};
 ghost use Rattle.model.specs.Invariant.{IsState};
 ghost use Rattle.laws.specs.Choice.{IsChoice};
@@ -20,66 +22,100 @@ pub fn choice_in_words()
 /// Every state that a run of a well formed application comes to, whatever handlers a plan injects, keeps to what the code's
 /// numbers need.
 pub fn states_are_sound()
-    ensures { (app : Application) → IsWellFormed app → (plan : List Injection) (n : ℕ) → IsState app (state_after app plan n) }
+    ensures { (app : Application) → IsWellFormed app → (limits : Limits) (plan : List Injection) (n : ℕ)
+        → IsState app (state_after app limits plan n) }
 {}
 
 /// A step keeps to that from any such state, whatever handlers come before it: also where they are chosen as a run goes. It
 /// brings one `suspend_all` at most into force.
 pub fn steps_keep_states_sound()
-    ensures sound { (app : Application) → IsWellFormed app → (handlers : List ℕ) (s : State)
-        → IsState app s → IsState app (step app handlers s) }
-    ensures suspended { (app : Application) (handlers : List ℕ) (s : State)
-        → s.suspensions ≤ s.steps → (step app handlers s).suspensions ≤ (step app handlers s).steps }
+    ensures sound { (app : Application) → IsWellFormed app → (limits : Limits) (handlers : List ℕ) (s : State)
+        → IsState app s → IsState app (step app limits handlers s) }
+    ensures suspended { (app : Application) (limits : Limits) (handlers : List ℕ) (s : State)
+        → s.suspensions ≤ s.steps → (step app limits handlers s).suspensions ≤ (step app limits handlers s).steps }
 {}
 
 /// Between two steps the running task is Ready, where the scheduler isn't held.
 pub fn running_task_is_ready()
-    ensures { (app : Application) (plan : List Injection) (n : ℕ) → is_held (state_after app plan n) ≡ false
-        → IfSome (state_after app plan n).current (λ task. is_ready (state_after app plan n) task ≡ true) }
+    ensures { (app : Application) (limits : Limits) (plan : List Injection) (n : ℕ)
+        → is_held (state_after app limits plan n) ≡ false
+        → IfSome (state_after app limits plan n).current (λ task. is_ready (state_after app limits plan n) task ≡ true) }
 {}
 
 /// Idle runs only where no task is Ready.
 pub fn idle_runs_alone()
-    ensures { (app : Application) → IsWellFormed app → (plan : List Injection) (n task : ℕ)
-        → (state_after app plan n).current ≡ None
-        → is_ready (state_after app plan n) task ≡ false }
+    ensures { (app : Application) → IsWellFormed app → (limits : Limits) (plan : List Injection) (n task : ℕ)
+        → (state_after app limits plan n).current ≡ None
+        → is_ready (state_after app limits plan n) task ≡ false }
 {}
 
-/// After a tick no Ready task is of higher priority than the running one, and idle doesn't run beside a Ready task, where
-/// the scheduler isn't held.
+/// After a tick, and after all the ticks that idle lets pass in a step, no Ready task is of higher priority than the running one,
+/// and idle doesn't run beside a Ready task, where the scheduler isn't held.
 pub fn no_one_outranks_after_a_tick()
-    ensures { (app : Application) (s : State) → is_held s ≡ false
+    ensures tick { (app : Application) (s : State) → is_held s ≡ false
         → is_outranked (tick_interrupt app s) ≡ false }
+    ensures idle { (app : Application) (limits : Limits) (s : State) → is_held s ≡ false
+        → is_outranked (idle app limits s) ≡ false }
 {}
 
 /// The time at which a task wakes by itself is after now: a sleeper's, and that at which a wait ends at the latest.
 pub fn sleepers_wake_later()
-    ensures { (app : Application) (plan : List Injection) (n task : ℕ)
-        → IfSome (wake_time_of (status_at (state_after app plan n) task))
-        (λ wake_time. (state_after app plan n).time < wake_time) }
+    ensures { (app : Application) (limits : Limits) (plan : List Injection) (n task : ℕ)
+        → IfSome (wake_time_of (status_at (state_after app limits plan n) task))
+        (λ wake_time. (state_after app limits plan n).time < wake_time) }
+{}
+
+/// A step lets one tick pass at most, if the application isn't tickless, or if a task runs after the handlers; if idle sleeps in
+/// it, none past the limit.
+pub fn ticks_pass_up_to_the_limit()
+    ensures one { (app : Application) (limits : Limits) (handlers : List ℕ) (s : State) → app.tickless ≡ false
+        → (step app limits handlers s).elapsed ≤ s.elapsed + 1 }
+    ensures task { (app : Application) (limits : Limits) (handlers : List ℕ) (s : State)
+        → is_some (before_step app handlers s).current ≡ true → (step app limits handlers s).elapsed ≤ s.elapsed + 1 }
+    ensures limit { (app : Application) (limits : Limits) (handlers : List ℕ) (s : State)
+        → s.elapsed < limits.ticks → (step app limits handlers s).elapsed ≤ limits.ticks }
+{}
+
+/// Idle sleeps past nothing: however many ticks pass in its step, none is past the time at which a task is to wake by itself, and
+/// none past the tick of a base interrupt that is still to come.
+pub fn idle_sleeps_past_nothing()
+    ensures wakes { (app : Application) (limits : Limits) (s : State) (task : ℕ) → IfSome (wake_time_of (status_at s task))
+        (λ wake_time. s.time < wake_time → (idle app limits s).time ≤ wake_time) }
+    ensures interrupts { (app : Application) (limits : Limits) (s : State)
+        → AllByRecursion (λ (i : Interrupt). s.elapsed < i.tick → (idle app limits s).elapsed ≤ i.tick) app.interrupts }
+{}
+
+/// If the application is tickless, idle sleeps until something happens: its step ends at a time at which a task was to wake, at the
+/// tick of a base interrupt, or at the limit.
+pub fn idle_sleeps_until_something_happens()
+    ensures { (app : Application) (limits : Limits) (s : State) → app.tickless ≡ true → s.elapsed ≤ limits.ticks
+        → ((task : ℕ) → IfSome (wake_time_of (status_at s task)) (λ wake_time. s.time < wake_time))
+        → Contains (filter_map (λ (t : Task). wake_time_of t.status) s.tasks) (idle app limits s).time
+        ⊎ (Contains (map (λ (i : Interrupt). i.tick) app.interrupts) (idle app limits s).elapsed
+        ⊎ ((idle app limits s).elapsed ≡ limits.ticks)) }
 {}
 
 /// The time, and the ticks that are held, are the start and the elapsed ticks.
 pub fn time_is_start_and_elapsed()
-    ensures { (app : Application) → IsWellFormed app → (plan : List Injection) (n : ℕ)
-        → (state_after app plan n).time + (state_after app plan n).held_ticks
-        ≡ app.start + (state_after app plan n).elapsed }
+    ensures { (app : Application) → IsWellFormed app → (limits : Limits) (plan : List Injection) (n : ℕ)
+        → (state_after app limits plan n).time + (state_after app limits plan n).held_ticks
+        ≡ app.start + (state_after app limits plan n).elapsed }
 {}
 
 /// Two tasks have two tickets, so that none is chosen by a tie.
 pub fn tickets_differ()
-    ensures { (app : Application) (plan : List Injection) (n a b ticket : ℕ)
-        → ticket_of (status_at (state_after app plan n) a) ≡ Some ticket
-        → ticket_of (status_at (state_after app plan n) b) ≡ Some ticket
+    ensures { (app : Application) (limits : Limits) (plan : List Injection) (n a b ticket : ℕ)
+        → ticket_of (status_at (state_after app limits plan n) a) ≡ Some ticket
+        → ticket_of (status_at (state_after app limits plan n) b) ≡ Some ticket
         → a ≡ b }
 {}
 
 /// A task's base priority is the one that the file gives it, and its priority, which may be inherited, is never below that.
 pub fn priorities_are_at_least_those_of_the_file()
-    ensures base { (app : Application) (plan : List Injection) (n task : ℕ) → IfSome (definition_of app task)
-        (λ d. (task_at (state_after app plan n) task).base_priority ≡ d.priority) }
-    ensures least { (app : Application) → IsWellFormed app → (plan : List Injection) (n task : ℕ)
-        → (task_at (state_after app plan n) task).base_priority ≤ (task_at (state_after app plan n) task).priority }
+    ensures base { (app : Application) (limits : Limits) (plan : List Injection) (n task : ℕ) → IfSome (definition_of app task)
+        (λ d. (task_at (state_after app limits plan n) task).base_priority ≡ d.priority) }
+    ensures least { (app : Application) → IsWellFormed app → (limits : Limits) (plan : List Injection) (n task : ℕ)
+        → (task_at (state_after app limits plan n) task).base_priority ≤ (task_at (state_after app limits plan n) task).priority }
 {}
 
 /// While the scheduler is held, a handler that comes before a step switches nothing: the same task runs.

@@ -302,6 +302,6 @@ steps_begin app k h = steps_are k (reset app) h ∙ steps-reset app
 
 pub begins : (app : Application) (plan : List Injection) (limits : Limits) (k : Machine) → Stands k (reset app) → IsUnderWay app plan limits k
 begins app plan limits k h = record {
-  stands = let Q : ℕ → Type 0 = λ n. Stands k (state_after app plan n) in subst Q (sym (steps_begin app k h)) h;
+  stands = let Q : ℕ → Type 0 = λ n. Stands k (state_after app limits plan n) in subst Q (sym (steps_begin app k h)) h;
   goes_on = λ n l. let e = steps_begin app k h in absurd (omega arith);
 }

@@ -29,6 +29,10 @@ module _ (k : Machine) (s : State) where
   stopped_is (Placed h) = h.rest.stopped
   stopped_is (Placing task list b) = b.stopped
 
+  pub held_is : Stands k s → k.clock.held ≡ s.held_ticks
+  held_is (Placed h) = h.rest.clock.held
+  held_is (Placing task list b) = b.clock.held
+
   pub elapsed_is : Stands k s → k.clock.age + k.clock.held ≡ s.elapsed
   elapsed_is (Placed h) = h.rest.clock.age
   elapsed_is (Placing task list b) = b.clock.age

@@ -1,9 +1,9 @@
 -- The open loops, as the cells hold them.
 use Rattle.std.proofs.Common.{◌≡◌, ◌≢◌, ◌<◌, ◌≤◌, ◌-◌, ℕ, zero, suc, leb, List, ◌∷◌, length, get_or, set, refl, ap, sym, subst, ◌∙◌, arith, get_or-set_same, get_or-set_other}
 use Rattle.std.proofs.lemmas.Bool.Decides.{nat_tests}
-use Rattle.std.specs.Prelude.{false}
+use Rattle.std.specs.Prelude.{false, Option, Some, option_map, if◌then◌else◌}
 use Rattle.model.specs.declared.loops.Loop.{Loop}
-use Rattle.machine.specs.Loops.{no_loop, open_in, after_turn}
+use Rattle.machine.specs.Loops.{no_loop, open_in, is_last, after_turn}
 
 -- a cell above those of the open loops
 open_in-set : (cells : List Loop) (n m : ℕ) (l : Loop) → n ≤ m → open_in (set cells m l) n ≡ open_in cells n
@@ -16,22 +16,33 @@ leb-no : (a b : ℕ) → b < a → leb a b ≡ false
 leb-no a b e = grind (arith, nat_tests)
 
 -- the innermost loop is another
-turned : (cells : List Loop) (m : ℕ) (l : Loop) → m < length cells → open_in (set cells m l) (suc m) ≡ l ∷ open_in cells m
-turned cells m l less =
+turned_in : (cells : List Loop) (m : ℕ) (l : Loop) → m < length cells → open_in (set cells m l) (suc m) ≡ l ∷ open_in cells m
+turned_in cells m l less =
     ap (λ (x : Loop). x ∷ open_in (set cells m l) m) (get_or-set_same cells m l no_loop less)
     ∙ ap (λ (ls : List Loop). l ∷ ls) (open_in-set cells m m l (omega arith))
 
-after_less : (l : Loop) (ls : List Loop) → 1 < l.left → after_turn (l ∷ ls) ≡ record l { left = l.left - 1 } ∷ ls
-after_less l ls more = rw (leb-no l.left 1 more) refl
+-- what a turn of the innermost loop makes of the loops, by how many it has left
+by_left : Loop → List Loop → Option ℕ → List Loop
+by_left l ls left = if is_last left then ls else record l { left = option_map (λ left. left - 1) left } ∷ ls
+
+after_more : (l : Loop) (ls : List Loop) (left : ℕ) → l.left ≡ Some left → 1 < left → after_turn (l ∷ ls) ≡ record l { left = Some (left - 1) } ∷ ls
+unfolding by_left
+after_more l ls left e more =
+    let last : leb left 1 ≡ false = leb-no left 1 more in
+    let told : by_left l ls (Some left) ≡ record l { left = Some (left - 1) } ∷ ls = rw last refl in
+    ap (by_left l ls) e ∙ told
 
 -- the innermost loop has one turn less
-pub one_turn_less : (cells : List Loop) (n : ℕ) (old : List Loop) → open_in cells n ≡ old → (n ≡ 0 → ⊥) → n ≤ length cells → 1 < (get_or cells (n - 1) no_loop).left
-    → open_in (set cells (n - 1) (record (get_or cells (n - 1) no_loop) { left = (get_or cells (n - 1) no_loop).left - 1 })) n ≡ after_turn old
-one_turn_less cells zero old is some fits more = absurd (some refl)
-one_turn_less cells (suc m) old is some fits more =
+pub one_turn_less : (cells : List Loop) (n left : ℕ) (old : List Loop) → open_in cells n ≡ old → (n ≡ 0 → ⊥) → n ≤ length cells
+    → (get_or cells (n - 1) no_loop).left ≡ Some left → 1 < left
+    → open_in (set cells (n - 1) (record (get_or cells (n - 1) no_loop) { left = Some (left - 1) })) n ≡ after_turn old
+one_turn_less cells zero left old is some fits here more = absurd (some refl)
+one_turn_less cells (suc m) left old is some fits here more =
     let e : suc m - 1 ≡ m = omega arith in
     let L : ℕ → Loop = λ k. get_or cells k no_loop in
-    let P : ℕ → Type 0 = λ k. open_in (set cells k (record (L k) { left = (L k).left - 1 })) (suc m) ≡ after_turn old in
-    let Q : ℕ → Type 0 = λ k. 1 < (L k).left in
+    let P : ℕ → Type 0 = λ k. open_in (set cells k (record (L k) { left = Some (left - 1) })) (suc m) ≡ after_turn old in
+    let Q : ℕ → Type 0 = λ k. (L k).left ≡ Some left in
     subst P (sym e)
-    (turned cells m (record (L m) { left = (L m).left - 1 }) (omega arith) ∙ sym (after_less (L m) (open_in cells m) (subst Q e more)) ∙ ap after_turn is)
+    (turned_in cells m (record (L m) { left = Some (left - 1) }) (omega arith)
+    ∙ sym (after_more (L m) (open_in cells m) left (subst Q e here) more)
+    ∙ ap after_turn is)

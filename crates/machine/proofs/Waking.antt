@@ -8,7 +8,7 @@ use Rattle.model.specs.State.{State, Task, Status, Ready, Awake, Waiting, Waitin
 use Rattle.model.specs.Suspension.{can_resume}
 use Rattle.model.specs.Order.{Entry, tasks_of}
 use Rattle.model.specs.Switching.{make_ready, is_scheduler_suspended}
-use Rattle.model.specs.Time.{delayed_key, delayed_list, is_due, due, wake_due, advance, increment_tick}
+use Rattle.model.specs.Time.{delayed_key, delayed_list, is_due, due, wake_due, advance, increment_tick, jump}
 use Rattle.model.proofs.Sorting.{by_test}
 use Rattle.model.proofs.Lists.{eqb-refl}
 use Rattle.model.proofs.Chosen.{each-end, list_within}
@@ -20,8 +20,8 @@ use Rattle.sched.specs.Schedule as schedule
 use Rattle.sched.specs.Schedule.{Schedule}
 use Rattle.sched.proofs.LinedUp.{ready_woken}
 use Rattle.clock.specs.StandsFor as clock
-use Rattle.clock.specs.StandsFor.{at_next_tick}
-use Rattle.clock.specs.Timeline.{Timeline, Advances, is_asleep}
+use Rattle.clock.specs.StandsFor.{at_next_tick, at_jump}
+use Rattle.clock.specs.Timeline.{Timeline, Jumps, is_asleep}
 use Rattle.clock.proofs.Standing.{due_asleep, due_once}
 use Rattle.objects.specs.WaitersStand.{AtLocked}
 use Rattle.objects.specs.Queues as queues
@@ -45,9 +45,9 @@ pub depth_woken : (v new : Schedule) (i : ℕ) → new ≡ schedule.wake i v →
 depth_woken v new i is = ap (λ (w : Schedule). w.depth) is ∙ by_test (eqb v.depth 0) (λ t. rw t refl) (λ t. rw t refl)
 
 -- Who sleeps isn't Ready, and nobody sleeps twice, so that all who are due can become Ready.
-pub to_wake : (k : Machine) (s : State) → StandsFor k s → (new : Timeline) (ds : List ℕ) → Advances k.clock new ds → AreToWake k.sched ds
+pub to_wake : (ticks : ℕ) (k : Machine) (s : State) → StandsFor k s → (new : Timeline) (ds : List ℕ) → Jumps ticks k.clock new ds → AreToWake k.sched ds
 unfolding IsDistinct
-to_wake k s h new ds a = by_parts ds (due_asleep k.clock new ds a) (due_once k.clock new ds a h.rest.clock.once) where
+to_wake ticks k s h new ds a = by_parts ds (due_asleep ticks k.clock new ds a) (due_once ticks k.clock new ds a h.rest.clock.once) where
   apart_from : (d : ℕ) (es : List ℕ) → AllByRecursion (λ e. eqb d e ≡ false) es → AllByRecursion (λ e. e ≢ d) es
   apart_from d [] b = tt
   apart_from d (e ∷ es) b = ((λ q. let f : eqb d e ≡ true = rw q (eqb-refl d) in let g = b.0 in absurd (cc)), apart_from d es b.1)
@@ -153,28 +153,35 @@ pub unsuspended_by : (s : State) → s.suspensions ≡ 0 → is_scheduler_suspen
 unsuspended_by s none = rw none refl
 
 -- The scheduler and the clock have done their part.
-module _ (k : Machine) (log : List Event) (s : State) (h : At k log s) where
-  pub sched-ticked : sched.StandsFor k.sched (at_next_tick s)
-  sched-ticked =
+module _ (k : Machine) (log : List Event) (s : State) (h : At k log s) (ticks : ℕ) where
+  pub sched-jumped : sched.StandsFor k.sched (at_jump ticks s)
+  sched-jumped =
       let old = h.stands.sched.table in
-      let table : IsTable (at_next_tick s) = record { tickets = old.tickets; few = old.few; current = old.current; holders = old.holders } in
+      let table : IsTable (at_jump ticks s) = record { tickets = old.tickets; few = old.few; current = old.current; holders = old.holders } in
       sched-same h.stands.sched table refl refl refl
 
-  pub groups-ticked : groups.StandsFor k.groups (at_next_tick s)
-  groups-ticked = on_groups.stands_same k.groups s (at_next_tick s) h.stands.rest.groups (bits_kept.same_parts s (at_next_tick s) refl refl) sched-ticked.table
+  pub groups-jumped : groups.StandsFor k.groups (at_jump ticks s)
+  groups-jumped = on_groups.stands_same k.groups s (at_jump ticks s) h.stands.rest.groups (bits_kept.same_parts s (at_jump ticks s) refl refl) sched-jumped.table
 
-  pub queues-ticked : queues.StandsFor k.queues None (at_next_tick s)
-  queues-ticked = stands_same s (at_next_tick s) (same_parts s (at_next_tick s) refl refl refl) k.queues None h.stands.rest.queues sched-ticked.table
+  pub queues-jumped : queues.StandsFor k.queues None (at_jump ticks s)
+  queues-jumped = stands_same s (at_jump ticks s) (same_parts s (at_jump ticks s) refl refl refl) k.queues None h.stands.rest.queues sched-jumped.table
 
-  pub woken : (ds : List ℕ) (v : Schedule) (q : Exchange) (t : Timeline) (g : EventGroups) → ds ≡ tasks_of (due (at_next_tick s)) → sched.StandsFor v (for_each make_ready ds (at_next_tick s)) → queues.StandsFor q None (for_each make_ready ds (at_next_tick s)) → groups.StandsFor g (for_each make_ready ds (at_next_tick s)) → clock.StandsFor t (increment_tick s) → s.suspensions ≡ 0 → At (record k { sched = v; clock = t; queues = q; groups = g }) log (increment_tick s)
-  unfolding increment_tick advance wake_due
-  woken ds v q t g is ready left bits awake none =
-      let next : State = at_next_tick s in
-      let ticked : AtLocked None next = record { awake = h.stands.rest.awake.awake; to_place = tt } in
-      let now : increment_tick s ≡ for_each make_ready (tasks_of (due next)) next = rw none refl in
-      let come : increment_tick s ≡ for_each make_ready ds next = now ∙ ap (λ (x : List ℕ). for_each make_ready x next) (sym is) in
+  pub jumped : (ds : List ℕ) (v : Schedule) (q : Exchange) (t : Timeline) (g : EventGroups) → ds ≡ tasks_of (due (at_jump ticks s)) → sched.StandsFor v (for_each make_ready ds (at_jump ticks s)) → queues.StandsFor q None (for_each make_ready ds (at_jump ticks s)) → groups.StandsFor g (for_each make_ready ds (at_jump ticks s)) → clock.StandsFor t (jump ticks s) → At (record k { sched = v; clock = t; queues = q; groups = g }) log (jump ticks s)
+  unfolding jump wake_due
+  jumped ds v q t g is ready left bits awake =
+      let next : State = at_jump ticks s in
+      let come_at : AtLocked None next = record { awake = h.stands.rest.awake.awake; to_place = tt } in
+      let come : jump ticks s ≡ for_each make_ready ds next = ap (λ (x : List ℕ). for_each make_ready x next) (sym is) in
       let on : clock.StandsFor t (for_each make_ready ds next) = subst (clock.StandsFor t) come awake in
       subst (At (record k { sched = v; clock = t; queues = q; groups = g }) log) (sym come) (record {
-        stands = record { sched = ready; rest = rest_with h.stands.rest on (progress-all_ready ds next) (kept-all_ready ds next) left (at_locked-all_ready None ds next ticked) bits };
+        stands = record { sched = ready; rest = rest_with h.stands.rest on (progress-all_ready ds next) (kept-all_ready ds next) left (at_locked-all_ready None ds next come_at) bits };
         log = h.log ∙ sym (log-all_ready ds next);
       })
+
+module _ (k : Machine) (log : List Event) (s : State) (h : At k log s) where
+  pub woken : (ds : List ℕ) (v : Schedule) (q : Exchange) (t : Timeline) (g : EventGroups) → ds ≡ tasks_of (due (at_next_tick s)) → sched.StandsFor v (for_each make_ready ds (at_next_tick s)) → queues.StandsFor q None (for_each make_ready ds (at_next_tick s)) → groups.StandsFor g (for_each make_ready ds (at_next_tick s)) → clock.StandsFor t (increment_tick s) → s.suspensions ≡ 0 → At (record k { sched = v; clock = t; queues = q; groups = g }) log (increment_tick s)
+  unfolding increment_tick advance jump
+  woken ds v q t g is ready left bits awake none =
+      let come : increment_tick s ≡ jump 1 s = rw none refl in
+      subst (At (record k { sched = v; clock = t; queues = q; groups = g }) log) (sym come)
+      (jumped k log s h 1 ds v q t g is ready left bits (subst (clock.StandsFor t) come awake))

@@ -1,5 +1,5 @@
 -- What a deed of the kernel asks of it: that the numbers of the code suffice, and that the parts agree.
-use Rattle.std.specs.Prelude.{◌≡◌, ◌≢◌, ◌<◌, ℕ, ◌+◌, ◌^◌, true, false, List, [], ◌∷◌, Option, Some, None, IfSome, length}
+use Rattle.std.specs.Prelude.{◌≡◌, ◌≢◌, ◌<◌, ◌≤◌, ℕ, ◌+◌, ◌^◌, true, false, List, [], ◌∷◌, Option, Some, None, IfSome, length}
 use Rattle.std.specs.List.{AllByRecursion}
 use Rattle.model.specs.declared.op.Access.{Access}
 use Rattle.model.specs.declared.plan.Injection.{Injection}
@@ -7,6 +7,7 @@ use Rattle.model.specs.Application.{Application, Limits}
 use Rattle.model.specs.State.{State, status_at}
 use Rattle.model.specs.Suspension.{can_resume}
 use Rattle.model.specs.Run.{end_of, state_after}
+use Rattle.lists.specs.Lists.{Each}
 use Rattle.sched.specs.Schedule.{Schedule, is_ready}
 use Rattle.objects.specs.Queues as objects
 use Rattle.machine.specs.declared.machine.Machine.{Machine}
@@ -37,6 +38,11 @@ pub record CanAdvance (k : Machine) : Type 0 where
   pub age : k.clock.age < 2 ^ 62
   pub awake : k.suspensions ≡ 0
 
+-- It can rise by so many at once: before the last of them nobody's wake time comes.
+pub record CanJump (ticks : ℕ) (k : Machine) : Type 0 where
+  pub advance : CanAdvance k
+  pub soon : Each (λ e. k.clock.now + ticks ≤ e.1) k.clock.delayed_list
+
 -- The task is the running one, and each task is in its lists.
 pub record IsInCall (k : Machine) (task : ℕ) : Type 0 where
   pub current : k.sched.current ≡ Some task
@@ -49,8 +55,8 @@ IsAhead now deadline = IfSome deadline (λ time. (now < time) × (time < now + 2
 -- A run of which so many steps are done is under way: the kernel stands for the state after them, and none of them came
 -- after the end.
 pub record IsUnderWay (app : Application) (plan : List Injection) (limits : Limits) (k : Machine) : Type 0 where
-  pub stands : Stands k (state_after app plan k.steps)
-  pub goes_on : (n : ℕ) → n < k.steps → end_of app limits (state_after app plan n) ≡ None
+  pub stands : Stands k (state_after app limits plan k.steps)
+  pub goes_on : (n : ℕ) → n < k.steps → end_of app limits (state_after app limits plan n) ≡ None
 
 -- What a call leaves as it is: how often the scheduler is held, and which objects have room for what a call puts in.
 pub record Leaves (old new : Machine) : Type 0 where

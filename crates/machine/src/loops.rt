@@ -1,5 +1,5 @@
 //! The open loops of a task.
-ghost use Rattle.std.specs.Prelude.{◌≡◌, ◌<◌, ◌∷◌, [], length, true};
+ghost use Rattle.std.specs.Prelude.{◌≡◌, ◌<◌, ◌∷◌, [], length, drop, true};
 ghost use Rattle.machine.specs.Loops.{after_turn, next_turn};
 
 use model::Loop;
@@ -31,7 +31,10 @@ impl Loops {
         ensures { result ≡ [] }
     {
         Loops {
-            cells: [Loop { start: 0, left: 0 }; 4],
+            cells: [Loop {
+                start: 0,
+                left: None,
+            }; 4],
             nesting: 0,
         }
     }
@@ -78,12 +81,22 @@ impl Loops {
             return None;
         }
         let innermost = self.nesting - 1;
-        let turn = &mut self.cells[innermost as usize];
-        if turn.left <= 1 {
+        let turn = self.cells[innermost as usize];
+        let Some(left) = turn.left else {
+            return Some(turn.start);
+        };
+        if left <= 1 {
             self.nesting = innermost;
             return None;
         }
-        turn.left -= 1;
+        self.cells[innermost as usize].left = Some(left - 1);
         Some(turn.start)
+    }
+
+    /// The innermost loop is left, if one is open.
+    pub(crate) fn leave(&mut self)
+        ensures { self.new ≡ drop 1 self.old }
+    {
+        self.nesting = self.nesting.saturating_sub(1);
     }
 }

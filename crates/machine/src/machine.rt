@@ -1,5 +1,5 @@
 //! The kernel's state, and the parts of which each step is made.
-ghost use Rattle.std.specs.Prelude.{◌≡◌, ◌<◌, ◌+◌, ◌++◌, ◌∷◌, [], Some, length, true};
+ghost use Rattle.std.specs.Prelude.{◌≡◌, ◌<◌, ◌+◌, ◌++◌, ◌∷◌, [], Some, drop, length, true};
 ghost use Rattle.model.specs.State.{no_call, printed};
 ghost use Rattle.model.specs.Switching.{write};
 ghost use Rattle.model.specs.Suspension.{phase_resumed, resumed};
@@ -253,5 +253,14 @@ impl Machine {
     {
         let progress = &mut self.progress[task.number as usize];
         progress.loops.end_turn()
+    }
+
+    /// A task leaves its innermost loop, if one is open.
+    pub fn leave_loop(&mut self, task: TaskId)
+        ensures { let p = progress_in self.old.progress task in
+            self.new ≡ with_progress task (record p { loops = drop 1 p.loops }) self.old }
+    {
+        let progress = &mut self.progress[task.number as usize];
+        progress.loops.leave();
     }
 }

@@ -2,14 +2,14 @@
 ghost use Rattle.std.specs.Prelude.{◌≡◌, ℕ, ◌<◌, ◌≤◌, ◌+◌, ◌++◌, List, None, nat_lt};
 ghost use Rattle.model.specs.State.{State, for_each};
 ghost use Rattle.model.specs.Switching.{choose, is_held, is_ready, preempt, slice, settle, unless_held, yield_now, make_ready};
-ghost use Rattle.model.specs.Time.{increment_tick};
+ghost use Rattle.model.specs.Time.{increment_tick, jump};
 ghost use Rattle.sched.specs.StandsFor.{StandsFor as ScheduleStandsFor};
 ghost use Rattle.sched.specs.Schedule as schedule;
 ghost use Rattle.clock.specs.StandsFor.{StandsFor as ClockStandsFor};
 ghost use Rattle.objects.specs.Queues.{StandsFor as QueuesStandFor};
 ghost use Rattle.groups.specs.StandsFor.{StandsFor as GroupsStandFor};
 ghost use Rattle.machine.specs.StandsFor.{StandsFor, Stands, Does, DoesAny, Moves, change};
-ghost use Rattle.machine.specs.Can.{CanAdvance, AreThere, AreToWake, Leaves};
+ghost use Rattle.machine.specs.Can.{CanAdvance, CanJump, AreThere, AreToWake, Leaves};
 
 use crate::log::Log;
 use crate::machine::Machine;
@@ -189,6 +189,24 @@ impl Machine {
     {
         let mut due = clock::Due::new();
         self.clock.advance_into(&mut due);
+        make_all_ready(
+            &mut self.sched,
+            &mut self.queues,
+            &mut self.groups,
+            due.as_slice(),
+        );
+    }
+
+    /// So many ticks of the clock at once, 0 to 4294967295, before the last of which nobody's wake time comes: who is due then becomes
+    /// Ready, in the order in which they began to sleep.
+    #[inline(never)]
+    pub fn jump(&mut self, ticks: u32)
+        requires { CanJump ticks self.old }
+        ensures does { Moves self.old self.new (jump ticks) }
+        ensures leaves { Leaves self.old self.new }
+    {
+        let mut due = clock::Due::new();
+        self.clock.jump_into(ticks, &mut due);
         make_all_ready(
             &mut self.sched,
             &mut self.queues,

@@ -7,7 +7,7 @@ use Rattle.std.proofs.lemmas.List.{append_assoc, drop-append-le}
 use Rattle.model.specs.declared.event.Event.{Event}
 use Rattle.model.specs.declared.plan.Injection.{Injection}
 use Rattle.model.specs.Points.{AreInOrder, first_step, last_step}
-use Rattle.model.specs.Application.{Application}
+use Rattle.model.specs.Application.{Application, Limits}
 use Rattle.model.specs.State.{State}
 use Rattle.model.specs.Step.{step}
 use Rattle.model.specs.Run.{injected, state_after, events_after}
@@ -53,59 +53,59 @@ none_past (i ∷ j ∷ is) order n l =
 
 -- ---- a run up to the step of the first injection
 
-module _ (app : Application) (plan : List Injection) (first : ℕ) (none : (n : ℕ) → n < first → injected plan n ≡ []) where
+module _ (app : Application) (limits : Limits) (plan : List Injection) (first : ℕ) (none : (n : ℕ) → n < first → injected plan n ≡ []) where
   -- the state after so many steps is the base run's
-  pub same_state : (n : ℕ) → n ≤ first → state_after app plan n ≡ state_after app [] n
+  pub same_state : (n : ℕ) → n ≤ first → state_after app limits plan n ≡ state_after app limits [] n
   same_state zero l = refl
   same_state (suc n) l =
-      ap (λ (handlers : List ℕ). step app handlers (state_after app plan n)) (none n (omega arith))
-      ∙ ap (λ (s : State). step app [] s) (same_state n (omega arith))
+      ap (λ (handlers : List ℕ). step app limits handlers (state_after app limits plan n)) (none n (omega arith))
+      ∙ ap (λ (s : State). step app limits [] s) (same_state n (omega arith))
 
   -- and so are the events
-  pub same_events : (n : ℕ) → n ≤ first → events_after app plan n ≡ events_after app [] n
+  pub same_events : (n : ℕ) → n ≤ first → events_after app limits plan n ≡ events_after app limits [] n
   same_events zero l = refl
   same_events (suc n) l =
-      ap (λ (events : List Event). events ++ (state_after app plan (suc n)).log) (same_events n (omega arith))
-      ∙ ap (λ (s : State). events_after app [] n ++ s.log) (same_state (suc n) l)
+      ap (λ (events : List Event). events ++ (state_after app limits plan (suc n)).log) (same_events n (omega arith))
+      ∙ ap (λ (s : State). events_after app limits [] n ++ s.log) (same_state (suc n) l)
 
 -- ---- the events up to a step are a beginning of those up to a later one
 
-module _ (app : Application) (plan : List Injection) where
+module _ (app : Application) (limits : Limits) (plan : List Injection) where
   -- with the rest of them
-  extends : (n m : ℕ) → n ≤ m → (rest : List Event) × (events_after app plan m ≡ events_after app plan n ++ rest)
-  extends zero m l = (events_after app plan m, refl)
+  extends : (n m : ℕ) → n ≤ m → (rest : List Event) × (events_after app limits plan m ≡ events_after app limits plan n ++ rest)
+  extends zero m l = (events_after app limits plan m, refl)
   extends (suc n) zero l = absurd (omega arith)
   extends (suc n) (suc m) l = by_test (eqb n m)
       (λ t.
       let same : n ≡ m = eqb-same n m t in
-      ([], ap (λ (k : ℕ). events_after app plan (suc k)) (sym same) ∙ sym (append-nil (events_after app plan (suc n)))))
+      ([], ap (λ (k : ℕ). events_after app limits plan (suc k)) (sym same) ∙ sym (append-nil (events_after app limits plan (suc n)))))
       (λ t.
       let apart : n ≢ m = (λ e. let u : eqb n m ≡ true = rw e (eqb-refl m) in absurd (cc)) in
       let more = extends (suc n) m (omega arith) in
-      let log : List Event = (state_after app plan (suc m)).log in
-      (more.0 ++ log, ap (λ (events : List Event). events ++ log) more.1 ∙ append_assoc (events_after app plan (suc n)) more.0 log))
+      let log : List Event = (state_after app limits plan (suc m)).log in
+      (more.0 ++ log, ap (λ (events : List Event). events ++ log) more.1 ∙ append_assoc (events_after app limits plan (suc n)) more.0 log))
 
   module _ (n m : ℕ) (l : n ≤ m) where
-    pub begins_with : take (length (events_after app plan n)) (events_after app plan m) ≡ events_after app plan n
+    pub begins_with : take (length (events_after app limits plan n)) (events_after app limits plan m) ≡ events_after app limits plan n
     begins_with =
         let more = extends n m l in
-        ap (take (length (events_after app plan n))) more.1 ∙ take-append_seam (events_after app plan n) more.0
+        ap (take (length (events_after app limits plan n))) more.1 ∙ take-append_seam (events_after app limits plan n) more.0
 
-    pub no_fewer : length (events_after app plan n) ≤ length (events_after app plan m)
+    pub no_fewer : length (events_after app limits plan n) ≤ length (events_after app limits plan m)
     no_fewer =
         let more = extends n m l in
-        omega (arith, ap length more.1, length-append (events_after app plan n) more.0)
+        omega (arith, ap length more.1, length-append (events_after app limits plan n) more.0)
 
-    pub goes_on_with : events_after app plan n ++ drop (length (events_after app plan n)) (events_after app plan m) ≡ events_after app plan m
+    pub goes_on_with : events_after app limits plan n ++ drop (length (events_after app limits plan n)) (events_after app limits plan m) ≡ events_after app limits plan m
     goes_on_with =
         let more = extends n m l in
-        ap (λ (events : List Event). events_after app plan n ++ events) (ap (drop (length (events_after app plan n))) more.1 ∙ drop-append_seam (events_after app plan n) more.0)
+        ap (λ (events : List Event). events_after app limits plan n ++ events) (ap (drop (length (events_after app limits plan n))) more.1 ∙ drop-append_seam (events_after app limits plan n) more.0)
         ∙ sym more.1
 
     -- one step more
-    pub from_one_more : drop (length (events_after app plan n)) (events_after app plan (suc m)) ≡ drop (length (events_after app plan n)) (events_after app plan m) ++ (state_after app plan (suc m)).log
-    from_one_more = drop-append-le (length (events_after app plan n)) (events_after app plan m) (state_after app plan (suc m)).log no_fewer
+    pub from_one_more : drop (length (events_after app limits plan n)) (events_after app limits plan (suc m)) ≡ drop (length (events_after app limits plan n)) (events_after app limits plan m) ++ (state_after app limits plan (suc m)).log
+    from_one_more = drop-append-le (length (events_after app limits plan n)) (events_after app limits plan m) (state_after app limits plan (suc m)).log no_fewer
 
   -- none yet
-  pub from_here : (n : ℕ) → drop (length (events_after app plan n)) (events_after app plan n) ≡ []
-  from_here n = drop-length (events_after app plan n)
+  pub from_here : (n : ℕ) → drop (length (events_after app limits plan n)) (events_after app limits plan n) ≡ []
+  from_here n = drop-length (events_after app limits plan n)

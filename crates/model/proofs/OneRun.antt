@@ -27,9 +27,9 @@ module _ (app : Application) (plan : List Injection) (limits : Limits) (a b : Ru
 
   same : a.steps ≡ b.steps → a ≡ b
   same e =
-      let events : a.events ≡ b.events = h.trace ∙ ap (events_after app plan) e ∙ sym k.trace in
-      let ticks : a.ticks ≡ b.ticks = h.elapsed ∙ ap (λ (n : ℕ). (state_after app plan n).elapsed) e ∙ sym k.elapsed in
-      let ends : Some a.end ≡ Some b.end = sym h.ends ∙ ap (λ (n : ℕ). end_of app limits (state_after app plan n)) e ∙ k.ends in
+      let events : a.events ≡ b.events = h.trace ∙ ap (events_after app limits plan) e ∙ sym k.trace in
+      let ticks : a.ticks ≡ b.ticks = h.elapsed ∙ ap (λ (n : ℕ). (state_after app limits plan n).elapsed) e ∙ sym k.elapsed in
+      let ends : Some a.end ≡ Some b.end = sym h.ends ∙ ap (λ (n : ℕ). end_of app limits (state_after app limits plan n)) e ∙ k.ends in
       let end : a.end ≡ b.end = cc in
       made events e ticks end
 

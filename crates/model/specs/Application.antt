@@ -1,5 +1,6 @@
 -- An application, as its file has it.
-use Rattle.std.specs.Prelude.{ℕ, ◌-◌, ◌==◌, Bool, false, List, [], ◌∷◌, length, map, filter, take, Option, Some, None, slice_get, option_map, unwrap_or, if◌then◌else◌}
+use Rattle.std.specs.Prelude.{ℕ, ◌-◌, ◌==◌, Bool, false, not, List, [], ◌∷◌, length, map, filter, take, Option, Some, None, slice_get, option_map, unwrap_or, if◌then◌else◌}
+use Rattle.std.specs.List.{list_any}
 use Rattle.model.specs.declared.object.ObjectKind.{ObjectKind}
 use Rattle.model.specs.declared.op.Op.{Op}
 use Rattle.model.specs.declared.op.IsrOp.{IsrOp}
@@ -32,6 +33,8 @@ pub record Limits : Type 0 where
 pub record Application : Type 0 where
   -- the time at reset
   pub start : ℕ
+  -- Idle lets as many ticks pass in a step as come before the next thing to happen (`configUSE_TICKLESS_IDLE`).
+  pub tickless : Bool
   pub limits : Limits
   pub objects : List ObjectKind
   -- how many event groups there are
@@ -59,6 +62,10 @@ abbrev pub without_endless : {X : Type 0} → List Definition → List X → Lis
 without_endless [] xs = xs
 without_endless (d ∷ ds) [] = []
 without_endless (d ∷ ds) (x ∷ xs) = if d.endless then without_endless ds xs else x ∷ without_endless ds xs
+
+-- A run waits for the end of some task.
+abbrev pub is_any_awaited : Application → Bool
+is_any_awaited app = list_any (λ (d : Definition). not d.endless) app.tasks
 
 -- the task of this number, as the file has it
 abbrev pub definition_of : Application → ℕ → Option Definition

@@ -1,14 +1,14 @@
 -- Interrupt handlers: they do their ops without waiting, before a step or at a tick.
-use Rattle.std.specs.Prelude.{ℕ, ◌+◌, List, [], ◌∷◌, Option, Some, None}
+use Rattle.std.specs.Prelude.{ℕ, ◌+◌, ◌-◌, min, List, [], ◌∷◌, ◌++◌, Option, Some, None, nat_lt, if◌then◌else◌, map, filter, fold, filter_map, option_map}
 use Rattle.model.specs.declared.op.IsrOp.{IsrOp}
 use Rattle.model.specs.declared.op.IsrOp.TheVariants.{Do, Command, Resume, GetBits, Mark}
 use Rattle.model.specs.declared.op.Access.TheVariants.{Send}
 use Rattle.model.specs.declared.event.What.{What}
 use Rattle.model.specs.declared.event.What.TheVariants.{Isr, IsrNone, IsrMark}
-use Rattle.model.specs.Application.{Application, ops_of, commands_of, interrupts_at}
-use Rattle.model.specs.State.{State, status_at, bits_at, for_each}
+use Rattle.model.specs.Application.{Application, Interrupt, Limits, ops_of, commands_of, interrupts_at}
+use Rattle.model.specs.State.{State, Task, wake_time_of, status_at, bits_at, for_each}
 use Rattle.model.specs.Switching.{write, preempt, slice, unless_held}
-use Rattle.model.specs.Time.{increment_tick}
+use Rattle.model.specs.Time.{increment_tick, jump}
 use Rattle.model.specs.Ops.{one_if}
 use Rattle.model.specs.Objects.{answer_to, attempt}
 use Rattle.model.specs.Suspension.{can_resume, resume}
@@ -52,3 +52,26 @@ interrupt app s = for_each (handle app) (interrupts_at app s.elapsed) s
 -- `xPortSysTickHandler`).
 unfoldable pub tick_interrupt : Application → State → State
 tick_interrupt app s = unless_held slice (interrupt app (increment_tick s))
+
+-- ---- idle
+
+-- how many ticks it is until each task that wakes by itself does so
+abbrev pub ticks_to_wake : State → List ℕ
+ticks_to_wake s = filter_map (λ (t : Task). option_map (λ time. time - s.time) (wake_time_of t.status)) s.tasks
+
+-- how many it is until each base interrupt that is still to come
+abbrev pub ticks_to_interrupt : Application → State → List ℕ
+ticks_to_interrupt app s =
+    map (λ (i : Interrupt). i.tick - s.elapsed) (filter (λ (i : Interrupt). nat_lt s.elapsed i.tick) app.interrupts)
+
+-- how many it is until the first of these, or until the limit is reached, if that is sooner
+abbrev pub ticks_ahead : Application → Limits → State → ℕ
+ticks_ahead app limits s = fold min (limits.ticks - s.elapsed) (ticks_to_wake s ++ ticks_to_interrupt app s)
+
+-- Idle lets a tick pass; or, in an application that is tickless, all up to the next thing to happen, with whose tick its base
+-- interrupts come, and a switch if one is due.
+unfoldable pub idle : Application → Limits → State → State
+idle app limits s =
+    if app.tickless
+    then unless_held slice (interrupt app (jump (ticks_ahead app limits s) s))
+    else tick_interrupt app s

@@ -3,6 +3,8 @@ use Rattle.std.specs.Prelude.{◌≡◌, ◌<◌, ◌≤◌, ℕ, ◌+◌, Bool,
 use Rattle.std.specs.List.{AllByRecursion}
 use Rattle.model.specs.declared.object.ObjectKind.{ObjectKind}
 use Rattle.model.specs.declared.object.ObjectKind.TheVariants.{Queue, Semaphore}
+use Rattle.model.specs.declared.block.Block.{Block}
+use Rattle.model.specs.declared.block.Edge.{Edge}
 use Rattle.model.specs.declared.op.Access.TheVariants.{Receive}
 use Rattle.model.specs.declared.op.Op.{Op}
 use Rattle.model.specs.declared.op.Op.TheVariants.{Work, Await, SetBits, WaitBits, NextCommand, Obey}
@@ -11,7 +13,8 @@ use Rattle.model.specs.declared.call.Phase.TheVariants.{Start, Try, Decide, Plac
 use Rattle.model.specs.declared.call.WaitList.{WaitList}
 use Rattle.model.specs.declared.loops.Loop.{Loop}
 use Rattle.model.specs.Application.{Application, script_of, op_at}
-use Rattle.model.specs.Scripts.{Nests, priorities}
+use Rattle.model.specs.Blocks.{Nests, edges_of, loops_in}
+use Rattle.model.specs.Scripts.{priorities}
 use Rattle.model.specs.State.{State, Task, Progress, Object, Status, Wait, Waiting, Awake, Asleep, Suspended, Ended, wait_if_awake, ticket_of, task_at, status_at, progress_at, call_at, object_at}
 use Rattle.model.specs.Switching.{is_ready, is_held, is_scheduler_suspended}
 use Rattle.model.specs.Waiting.{is_locked}
@@ -44,10 +47,21 @@ abbrev pub IsUsedBy : ℕ → Option Op → Type 0
 IsUsedBy used (Some (Work n)) = used < n
 IsUsedBy used _ = Unit {0}
 
--- The ops from the first one of each open loop on close just the loops that are open there.
+-- So many loops are open where these ops begin.
+pub record AreOpen (loops : ℕ) (edges : List Edge) : Type 0 where
+  -- the blocks that are open there, which the ops end
+  pub blocks : List Block
+  pub count : loops_in blocks ≡ loops
+  pub nests : Nests blocks edges
+
+-- At this op of a script so many loops are open.
+abbrev pub AreOpenAt : List Op → (op_index loops : ℕ) → Type 0
+AreOpenAt script op_index loops = AreOpen loops (drop op_index (edges_of script))
+
+-- Each open loop is open at its first op, with those around it.
 abbrev pub LoopsNest : List Op → List Loop → Type 0
 LoopsNest script [] = Unit {0}
-LoopsNest script (l ∷ ls) = Nests (length (l ∷ ls)) (drop l.start script) × LoopsNest script ls
+LoopsNest script (l ∷ ls) = AreOpenAt script l.start (length (l ∷ ls)) × LoopsNest script ls
 
 -- The time from which a task's `delay_until` counts is not after now, and that of a sleeper not after the end of its sleep; a
 -- Suspended task will count anew.
@@ -59,7 +73,7 @@ IsReckoned now previous_wake _ = previous_wake ≤ now
 
 -- A task is somewhere in its script, at a time.
 pub record IsAt (now : ℕ) (script : List Op) (p : Progress) (status : Status) : Type 0 where
-  pub nests : Nests (length p.loops) (drop p.op_index script)
+  pub nests : AreOpenAt script p.op_index (length p.loops)
   pub loops : LoopsNest script p.loops
   pub used : IsUsedBy p.used (slice_get script p.op_index)
   pub reckoned : IsReckoned now p.previous_wake status

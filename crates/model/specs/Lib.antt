@@ -3,6 +3,8 @@ pub mod Packing
 pub mod Application
 pub mod Words
 pub mod Coming
+pub mod Answers
+pub mod Blocks
 pub mod Scripts
 pub mod State
 pub mod Order

@@ -1,11 +1,13 @@
 -- Where a task is in its script: an op is complete, a call answers, loops turn.
-use Rattle.std.specs.Prelude.{ℕ, ◌+◌, ◌-◌, ◌==◌, Bool, List, [], ◌∷◌, Option, Some, None, nat_lt, nat_le, nat_eq, if◌then◌else◌}
-use Rattle.std.specs.Option.{option_eq}
+use Rattle.std.specs.Prelude.{ℕ, ◌+◌, ◌-◌, ◌==◌, Bool, List, [], ◌∷◌, drop, Option, Some, None, nat_lt, nat_le, if◌then◌else◌}
+use Rattle.model.specs.declared.answer.AnswerCondition.{AnswerCondition}
 use Rattle.model.specs.declared.loops.Loop.{Loop}
 use Rattle.model.specs.declared.event.What.{What}
 use Rattle.model.specs.declared.event.What.TheVariants.{Call, CallNone}
 use Rattle.model.specs.declared.event.End.TheVariants.{Check}
-use Rattle.model.specs.Application.{Application, op_count}
+use Rattle.model.specs.Answers.{holds}
+use Rattle.model.specs.Blocks.{jump_from}
+use Rattle.model.specs.Application.{Application, op_count, script_of}
 use Rattle.model.specs.State.{State, Progress, Task, Ended, no_call, task_at, progress_at, with_task, with_progress}
 use Rattle.model.specs.Switching.{write, yield_now}
 use Rattle.model.specs.Time.{sleep, set_previous_wake}
@@ -68,26 +70,48 @@ delay_until app task wake_time s =
 
 -- ---- ops of the script alone (profile)
 
--- The op is complete if the last answer is this one; else the run ends, and the task stays where it is.
-unfoldable pub expect : Application → ℕ → Option ℕ → State → State
-expect app task a s =
+-- The op is complete if the condition holds of the last answer; else the run ends, and the task stays where it is.
+unfoldable pub expect : Application → ℕ → AnswerCondition → State → State
+expect app task condition s =
     let p = progress_at s task in
-    if option_eq nat_eq p.answer a then complete app task p s else record s { stopped = Some (Check task p.op_index) }
+    if holds condition p.answer then complete app task p s else record s { stopped = Some (Check task p.op_index) }
 
--- A loop of so many turns begins at the next op.
-unfoldable pub open_loop : Application → ℕ → ℕ → State → State
-open_loop app task n s =
+-- A loop of so many turns, or without end, begins at the next op.
+unfoldable pub open_loop : Application → ℕ → Option ℕ → State → State
+open_loop app task turns s =
     let p = progress_at s task in
-    complete app task (record p { loops = record { start = p.op_index + 1; left = n } ∷ p.loops }) s
+    complete app task (record p { loops = record { start = p.op_index + 1; left = turns } ∷ p.loops }) s
 
--- The innermost loop has one turn less: the next turn begins, or the loop is left. Where none is open the op is complete.
+-- The next turn of the innermost loop begins, of which so many are left, this one included; the last one leaves the loop.
+abbrev pub next_turn : Application → ℕ → Progress → Loop → List Loop → Option ℕ → State → State
+next_turn app task p l ls None s = go_to app task l.start p s
+next_turn app task p l ls (Some left) s =
+    if nat_le left 1
+    then complete app task (record p { loops = ls }) s
+    else go_to app task l.start (record p { loops = record l { left = Some (left - 1) } ∷ ls }) s
+
+-- The innermost loop has one turn less. Where none is open the op is complete.
 abbrev pub turn : Application → ℕ → Progress → List Loop → State → State
 turn app task p [] s = complete app task p s
-turn app task p (l ∷ ls) s =
-    if nat_le l.left 1
-    then complete app task (record p { loops = ls }) s
-    else go_to app task l.start (record p { loops = record l { left = l.left - 1 } ∷ ls }) s
+turn app task p (l ∷ ls) s = next_turn app task p l ls l.left s
 
--- That is what `end` does.
+-- That is what the `end` of a loop does.
 unfoldable pub close_turn : Application → ℕ → State → State
 close_turn app task s = turn app task (progress_at s task) (progress_at s task).loops s
+
+-- The task, whose progress is now as given, goes on where its op jumps to.
+abbrev pub jump : Application → ℕ → Progress → State → State
+jump app task p s = go_to app task (jump_from (script_of app task) p.op_index) p s
+
+-- An `if` goes on with its first branch where the condition holds of the last answer, and else jumps over it.
+unfoldable pub branch : Application → ℕ → AnswerCondition → State → State
+branch app task condition s =
+    let p = progress_at s task in if holds condition p.answer then complete app task p s else jump app task p s
+
+-- An `else`, to which the first branch comes at its end, jumps over the other.
+unfoldable pub skip_branch : Application → ℕ → State → State
+skip_branch app task s = jump app task (progress_at s task) s
+
+-- A `break` jumps out of the innermost loop.
+unfoldable pub leave_loop : Application → ℕ → State → State
+leave_loop app task s = let p = progress_at s task in jump app task (record p { loops = drop 1 p.loops }) s

@@ -7,13 +7,13 @@ use Rattle.model.specs.declared.event.End.{End}
 use Rattle.model.specs.declared.event.End.TheVariants.{Pass, Ticks, Steps, Stuck}
 use Rattle.model.specs.declared.plan.Injection.{Injection}
 use Rattle.model.specs.Points.{first_step}
-use Rattle.model.specs.Application.{Application, Interrupt, Limits, without_endless}
+use Rattle.model.specs.Application.{Application, Interrupt, Limits, without_endless, is_any_awaited}
 use Rattle.model.specs.State.{State, Task, wake_time_of}
 use Rattle.model.specs.Step.{is_ended, step, reset}
 
--- Every task but the endless ones has come to the end of its script.
+-- Every task but the endless ones has come to the end of its script, and there is one.
 abbrev pub are_all_ended : Application → State → Bool
-are_all_ended app s = list_all (λ (t : Task). is_ended t.status) (without_endless app.tasks s.tasks)
+are_all_ended app s = is_any_awaited app && list_all (λ (t : Task). is_ended t.status) (without_endless app.tasks s.tasks)
 
 -- Some task will wake by itself.
 abbrev pub will_wake : State → Bool
@@ -41,14 +41,14 @@ abbrev pub injected : List Injection → ℕ → List ℕ
 injected plan n = map (λ (i : Injection). i.handler) (filter (λ (i : Injection). i.step == n) plan)
 
 -- the state after so many steps
-abbrev pub state_after : Application → List Injection → ℕ → State
-state_after app plan zero = reset app
-state_after app plan (suc n) = step app (injected plan n) (state_after app plan n)
+abbrev pub state_after : Application → Limits → List Injection → ℕ → State
+state_after app limits plan zero = reset app
+state_after app limits plan (suc n) = step app limits (injected plan n) (state_after app limits plan n)
 
 -- the events of the first steps
-abbrev pub events_after : Application → List Injection → ℕ → List Event
-events_after app plan zero = []
-events_after app plan (suc n) = events_after app plan n ++ (state_after app plan (suc n)).log
+abbrev pub events_after : Application → Limits → List Injection → ℕ → List Event
+events_after app limits plan zero = []
+events_after app limits plan (suc n) = events_after app limits plan n ++ (state_after app limits plan (suc n)).log
 
 -- what a run comes to: its events, steps and elapsed ticks, and its end
 pub record Run : Type 0 where
@@ -59,10 +59,10 @@ pub record Run : Type 0 where
 
 -- The run of the application with this plan, under these limits, comes to this.
 pub record IsRun (app : Application) (plan : List Injection) (limits : Limits) (run : Run) : Type 0 where
-  pub goes_on : (n : ℕ) → n < run.steps → end_of app limits (state_after app plan n) ≡ None
-  pub ends : end_of app limits (state_after app plan run.steps) ≡ Some run.end
-  pub trace : run.events ≡ events_after app plan run.steps
-  pub elapsed : run.ticks ≡ (state_after app plan run.steps).elapsed
+  pub goes_on : (n : ℕ) → n < run.steps → end_of app limits (state_after app limits plan n) ≡ None
+  pub ends : end_of app limits (state_after app limits plan run.steps) ≡ Some run.end
+  pub trace : run.events ≡ events_after app limits plan run.steps
+  pub elapsed : run.ticks ≡ (state_after app limits plan run.steps).elapsed
 
 -- the plan of a row: its point's injections, if it is reached
 abbrev pub plan_of : Bool → List Injection → List Injection

@@ -1,18 +1,19 @@
 -- Which scripts, handlers and applications are well formed.
-use Rattle.std.specs.Prelude.{◌≡◌, ◌<◌, ◌≤◌, ℕ, ◌+◌, ◌-◌, ◌&&◌, ◌==◌, nat_lt, nat_le, Bool, true, false, not, List, [], ◌∷◌, length, Option, Some, None, is_some, IfSome, slice_get, option_map, unwrap_or, if◌then◌else◌}
+use Rattle.std.specs.Prelude.{◌≡◌, ◌<◌, ◌≤◌, ℕ, ◌+◌, ◌&&◌, ◌==◌, nat_lt, nat_le, Bool, true, false, not, List, [], ◌∷◌, length, Option, Some, None, is_some, IfSome, slice_get, option_map, unwrap_or, if◌then◌else◌}
 use Rattle.std.specs.List.{AllByRecursion}
 use Rattle.model.specs.declared.object.ObjectKind.{ObjectKind}
 use Rattle.model.specs.declared.object.ObjectKind.TheVariants.{Queue, Semaphore, Mutex}
 use Rattle.model.specs.declared.op.Access.{Access}
 use Rattle.model.specs.declared.op.Access.TheVariants.{Send, SendFront, Overwrite, Receive, Peek, Take, Give, Lock}
 use Rattle.model.specs.declared.op.Op.{Op}
-use Rattle.model.specs.declared.op.Op.TheVariants.{Work, DelayUntil, Repeat, End, Await, Do, GiveMutex, MessagesWaiting, SpacesAvailable, SetBits, ClearBits, GetBits, WaitBits, Suspend, Resume, NextCommand, Obey}
+use Rattle.model.specs.declared.op.Op.TheVariants.{Work, DelayUntil, Repeat, Await, Do, GiveMutex, MessagesWaiting, SpacesAvailable, SetBits, ClearBits, GetBits, WaitBits, Suspend, Resume, NextCommand, Obey}
 use Rattle.model.specs.declared.op.IsrOp.{IsrOp}
 use Rattle.model.specs.declared.op.IsrOp.TheVariants as isr
 use Rattle.model.specs.declared.plan.Injection.{Injection}
 use Rattle.model.specs.declared.plan.PointEntry.{PointEntry}
 use Rattle.model.specs.declared.plan.PointEntry.TheVariants.{One, Every}
 use Rattle.model.specs.Points.{IsPoint}
+use Rattle.model.specs.Blocks.{Nests, NestsSoFar, edges_of}
 use Rattle.model.specs.Application.{Application, Handler, Interrupt, Definition, interrupts_at, of_file, commands_of, script_of, is_endless}
 
 -- ---- how many there may be (profile)
@@ -49,10 +50,6 @@ most_count = 65535
 abbrev pub most_ops : ℕ
 most_ops = 256
 
--- of loops that are open at once
-abbrev pub most_loops : ℕ
-most_loops = 4
-
 -- of handlers of an application
 abbrev pub most_handlers : ℕ
 most_handlers = 16
@@ -76,6 +73,14 @@ last_point = 1000000
 -- the last elapsed tick at which a base interrupt may come
 abbrev pub last_interrupt : ℕ
 last_interrupt = 1000000
+
+-- of elapsed ticks of a run; those of the limits of a file, without and with `tickless` (profile)
+abbrev pub most_ticks : ℕ
+most_ticks = 281474976710656
+
+-- of steps of a run, and of its ticks where no step lets more than one pass
+abbrev pub most_steps : ℕ
+most_steps = 1000000
 
 -- of entries of points of an application, and of the points that they stand for
 abbrev pub most_points : ℕ
@@ -101,7 +106,7 @@ is_mask mask = is_within 1 16777215 mask
 abbrev pub is_in_range : Op → Bool
 is_in_range (Work n) = is_within 1 1000000 n
 is_in_range (DelayUntil n) = is_within 1 4294967295 n
-is_in_range (Repeat n) = is_within 1 1000 n
+is_in_range (Repeat (Some n)) = is_within 1 1000 n
 is_in_range (Await object access ticks) = is_wait ticks
 is_in_range (SetBits group mask) = is_mask mask
 is_in_range (ClearBits group mask) = is_mask mask
@@ -112,49 +117,22 @@ is_in_range _ = true
 abbrev pub InRange : Op → Type 0
 InRange op = is_in_range op ≡ true
 
--- These may be limits: each is 1 to 1,000,000 (profile).
+-- These may be limits: 1 to 2^48 ticks, and 1 to 1,000,000 steps (profile).
 abbrev pub AreLimits : ℕ → ℕ → Type 0
-AreLimits ticks steps = (1 ≤ ticks) × (ticks ≤ 1000000) × (1 ≤ steps) × (steps ≤ 1000000)
+AreLimits ticks steps = (1 ≤ ticks) × (ticks ≤ most_ticks) × (1 ≤ steps) × (steps ≤ most_steps)
 
--- ---- loops
-
--- how many loops are open after an op, where so many are open before it (profile)
-abbrev pub nesting_past : ℕ → Op → ℕ
-nesting_past nesting (Repeat n) = nesting + 1
-nesting_past nesting End = nesting - 1
-nesting_past nesting _ = nesting
-
--- An op may stand where so many loops are open: no loop past the most, and no end without a loop (profile).
-abbrev pub may_stand : ℕ → Op → Bool
-may_stand nesting (Repeat n) = nat_lt nesting most_loops
-may_stand nesting End = nat_lt 0 nesting
-may_stand nesting _ = true
-
--- Ops that begin where so many loops are open: each may stand where it stands, and at the end every loop is closed.
-abbrev pub Nests : ℕ → List Op → Type 0
-Nests nesting [] = nesting ≡ 0
-Nests nesting (op ∷ ops) = (may_stand nesting op ≡ true) × Nests (nesting_past nesting op) ops
-
--- the same, where loops may still be open at the end
-abbrev pub NestsSoFar : ℕ → List Op → Type 0
-NestsSoFar nesting [] = Unit {0}
-NestsSoFar nesting (op ∷ ops) = (may_stand nesting op ≡ true) × NestsSoFar (nesting_past nesting op) ops
-
--- how many loops are open at the end
-abbrev pub nesting_after : ℕ → List Op → ℕ
-nesting_after nesting [] = nesting
-nesting_after nesting (op ∷ ops) = nesting_after (nesting_past nesting op) ops
+-- ---- scripts
 
 -- a whole script (profile: its most ops)
 pub record IsScript (ops : List Op) : Type 0 where
   pub ranges : AllByRecursion InRange ops
-  pub nests : Nests 0 ops
+  pub nests : Nests [] (edges_of ops)
   pub few : length ops ≤ most_ops
 
 -- the beginning of a script
 pub record IsPrefix (ops : List Op) : Type 0 where
   pub ranges : AllByRecursion InRange ops
-  pub nests : NestsSoFar 0 ops
+  pub nests : NestsSoFar [] (edges_of ops)
   pub few : length ops ≤ most_ops
 
 -- ---- what an op speaks of

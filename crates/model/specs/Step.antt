@@ -3,21 +3,21 @@ use Rattle.std.specs.Prelude.{ℕ, ◌+◌, ◌-◌, ◌&&◌, ◌==◌, Bool, t
 use Rattle.model.specs.declared.object.ObjectKind.{ObjectKind}
 use Rattle.model.specs.declared.object.ObjectKind.TheVariants.{Queue, Semaphore, Mutex}
 use Rattle.model.specs.declared.op.Op.{Op}
-use Rattle.model.specs.declared.op.Op.TheVariants.{Work, Delay, DelayUntil, Yield, Time, Mark, Expect, Repeat, End, Await, Do, GiveMutex, MessagesWaiting, SpacesAvailable, SetBits, ClearBits, GetBits, WaitBits, Suspend, Resume, SuspendAll, ResumeAll, NextCommand, Obey}
+use Rattle.model.specs.declared.op.Op.TheVariants.{Work, Delay, DelayUntil, Yield, Time, Mark, Expect, Repeat, End, If, Else, EndIf, Break, Await, Do, GiveMutex, MessagesWaiting, SpacesAvailable, SetBits, ClearBits, GetBits, WaitBits, Suspend, Resume, SuspendAll, ResumeAll, NextCommand, Obey}
 use Rattle.model.specs.declared.event.What.TheVariants as what
 use Rattle.model.specs.declared.event.End.TheVariants as end
 use Rattle.model.specs.declared.event.Misuse.{Misuse}
 use Rattle.model.specs.declared.event.Misuse.TheVariants.{WhileSuspended, NotSuspended, NotHolder, EndedSuspended}
-use Rattle.model.specs.Application.{Application, Definition, op_at}
+use Rattle.model.specs.Application.{Application, Definition, Limits, op_at}
 use Rattle.model.specs.State.{State, Task, Object, Status, Ended, no_progress, no_object, status_at, progress_at, call_at, object_at, bits_at, for_each, printed}
 use Rattle.model.specs.Switching.{write, is_same, make_ready, choice, yield_now, settle, is_scheduler_suspended, unless_held}
-use Rattle.model.specs.Ops.{complete, answer, use_up, delay, delay_until, expect, open_loop, close_turn}
+use Rattle.model.specs.Ops.{complete, answer, use_up, delay, delay_until, expect, open_loop, close_turn, branch, skip_branch, leave_loop}
 use Rattle.model.specs.Calls.{await, do_now}
 use Rattle.model.specs.Mutexes.{give_mutex}
 use Rattle.model.specs.Groups.{set_bits, clear, wait_bits}
 use Rattle.model.specs.Suspension.{call_suspend, call_resume, suspend_all, resume_all}
 use Rattle.model.specs.Daemon.{next_command, obey, command_at}
-use Rattle.model.specs.Handlers.{inject, tick_interrupt}
+use Rattle.model.specs.Handlers.{inject, tick_interrupt, idle}
 
 -- what each op does; that yield answers 0, and all of mark, is profile
 abbrev pub act : Application → ℕ → Op → State → State
@@ -27,9 +27,13 @@ act app task (DelayUntil n) s = delay_until app task ((progress_at s task).previ
 act app task Yield s = yield_now (answer app task (Some 0) s)
 act app task Time s = answer app task (Some (printed s.time)) s
 act app task (Mark n) s = complete app task (progress_at s task) (write (what.Mark task n) s)
-act app task (Expect a) s = expect app task a s
-act app task (Repeat n) s = open_loop app task n s
+act app task (Expect condition) s = expect app task condition s
+act app task (Repeat turns) s = open_loop app task turns s
 act app task End s = close_turn app task s
+act app task (If condition) s = branch app task condition s
+act app task Else s = skip_branch app task s
+act app task EndIf s = complete app task (progress_at s task) s
+act app task Break s = leave_loop app task s
 act app task (Await object access ticks) s = await app task object access ticks (call_at s task).phase s
 act app task (Do object access) s = do_now app task object access s
 act app task (GiveMutex object) s = give_mutex app task object s
@@ -102,10 +106,10 @@ abbrev pub act_if : Application → ℕ → Option Op → State → State
 act_if app task None s = s
 act_if app task (Some op) s = act_unless app task (misuse s task op) op s
 
--- The running task does its op; idle lets a tick pass.
-abbrev pub act_current : Application → Option ℕ → State → State
-act_current app None s = tick_interrupt app s
-act_current app (Some task) s = act_if app task (op_at app task (progress_at s task).op_index) s
+-- The running task does its op; idle lets a tick pass, or several, but none past the limit.
+abbrev pub act_current : Application → Limits → Option ℕ → State → State
+act_current app limits None s = idle app limits s
+act_current app limits (Some task) s = act_if app task (op_at app task (progress_at s task).op_index) s
 
 -- These handlers come, one after another, before a step that has told nothing yet.
 unfoldable pub before_step : Application → List ℕ → State → State
@@ -113,10 +117,10 @@ before_step app handlers s = for_each (inject app) handlers (record s { log = []
 
 -- A step: the injected handlers run; then the running task or idle acts, and where that leaves the running task not
 -- Ready, the choice runs, unless the scheduler is held.
-unfoldable pub step : Application → List ℕ → State → State
-step app handlers s =
+unfoldable pub step : Application → Limits → List ℕ → State → State
+step app limits handlers s =
     let r = before_step app handlers s in
-    let t = unless_held settle (act_current app r.current r) in
+    let t = unless_held settle (act_current app limits r.current r) in
     record t { steps = s.steps + 1 }
 
 -- ---- reset

@@ -5,7 +5,7 @@ use Rattle.std.specs.Str.{bytes_eq}
 use Rattle.model.specs.declared.op.Access.{Access}
 use Rattle.model.specs.declared.op.Access.TheVariants.{Send, SendFront, Overwrite, Receive, Peek, Take, Give, Lock}
 use Rattle.model.specs.declared.op.Op.{Op}
-use Rattle.model.specs.declared.op.Op.TheVariants.{Work, Delay, DelayUntil, Yield, Time, Mark, Expect, Repeat, End, Await, Do, GiveMutex, MessagesWaiting, SpacesAvailable, SetBits, ClearBits, GetBits, WaitBits, Suspend, Resume, SuspendAll, ResumeAll, NextCommand, Obey}
+use Rattle.model.specs.declared.op.Op.TheVariants.{Work, Delay, DelayUntil, Yield, Time, Mark, Expect, Repeat, End, If, Else, EndIf, Break, Await, Do, GiveMutex, MessagesWaiting, SpacesAvailable, SetBits, ClearBits, GetBits, WaitBits, Suspend, Resume, SuspendAll, ResumeAll, NextCommand, Obey}
 use Rattle.model.specs.declared.op.Command.{Command}
 use Rattle.model.specs.declared.op.IsrOp.{IsrOp}
 use Rattle.model.specs.declared.op.IsrOp.TheVariants as isr
@@ -30,9 +30,13 @@ word_of (DelayUntil n) = codes "delay_until"
 word_of Yield = codes "yield"
 word_of Time = codes "time"
 word_of (Mark n) = codes "mark"
-word_of (Expect a) = codes "expect"
-word_of (Repeat n) = codes "repeat"
+word_of (Expect condition) = codes "expect"
+word_of (Repeat turns) = codes "repeat"
 word_of End = codes "end"
+word_of (If condition) = codes "if"
+word_of Else = codes "else"
+word_of EndIf = codes "end"
+word_of Break = codes "break"
 word_of (Await object access ticks) = word_of_access access
 word_of (Do object access) = word_of_access access
 word_of (GiveMutex object) = codes "unlock"

@@ -1,12 +1,13 @@
 //! An application: its objects, its event groups, its handlers and base interrupts, its tasks, its limits, the time at reset,
 //! and the points of its campaign.
-ghost use Rattle.std.specs.Prelude.{◌≡◌, ◌<◌, ◌≤◌, true, [], length, map, nat_lt, string_bytes};
+ghost use Rattle.std.specs.Prelude.{◌≡◌, ◌<◌, ◌≤◌, true, not, [], length, map, nat_lt, string_bytes};
 ghost use Rattle.std.specs.List.{list_any};
 ghost use Rattle.model.specs.Application as application;
-ghost use Rattle.model.specs.Application.{commands_of, interrupts_at, is_endless, op_at, op_count, ops_of};
+ghost use Rattle.model.specs.Application.{commands_of, interrupts_at, is_any_awaited, is_endless, op_at, op_count, ops_of, script_of};
+ghost use Rattle.model.specs.Blocks.{jump_from};
 ghost use Rattle.model.specs.Words.{name_of, handler_name_of, handler_named, isr_op_at};
 ghost use Rattle.model.specs.Coming.{AreComing};
-ghost use Rattle.model.specs.Scripts.{IsScript, IsDefinition, IsWellFormed, most_handler_ops, most_name_bytes};
+ghost use Rattle.model.specs.Scripts.{IsScript, IsDefinition, IsWellFormed, most_handler_ops, most_name_bytes, most_ops};
 
 use crate::ids::{HandlerId, ObjectId, TaskId};
 use crate::interrupts::{BaseInterrupts, Interrupt};
@@ -99,6 +100,18 @@ fn is_any_endless(tasks: &[TaskDefinition]) -> bool
     false
 }
 
+// Whether some task is not endless.
+fn is_any_awaited(tasks: &[TaskDefinition]) -> bool
+    ensures { result ≡ list_any (λ (d : application.Definition). not d.endless) tasks.now }
+{
+    for task in tasks {
+        if !task.is_endless() {
+            return true;
+        }
+    }
+    false
+}
+
 /// An interrupt handler as the file has it: a name, and ops (profile).
 #[derive(Drop)]
 pub struct HandlerDefinition {
@@ -149,6 +162,7 @@ impl HandlerDefinition {
 #[derive(Drop)]
 pub struct App {
     start: u32,
+    tickless: bool,
     limits: Limits,
     objects: Vec<ObjectKind>,
     group_count: u8,
@@ -157,12 +171,13 @@ pub struct App {
     tasks: Vec<TaskDefinition>,
     daemon: Option<TaskId>,
     points: Vec<PointEntry>,
-    // whether some task is endless
+    // whether some task is endless, and whether some is not
     has_endless: bool,
+    has_awaited: bool,
 }
 
 impl Model for App {
-    ghost use Rattle.std.specs.Prelude.{◌≡◌};
+    ghost use Rattle.std.specs.Prelude.{◌≡◌, not};
     ghost use Rattle.std.specs.List.{list_any};
     ghost use Rattle.model.specs.Application.{Application, Definition};
     ghost use Rattle.model.specs.Scripts.{IsWellFormed};
@@ -171,6 +186,7 @@ impl Model for App {
 
     ghost view = { λ a. record {
       start = a.start;
+      tickless = a.tickless;
       limits = a.limits;
       objects = a.objects.items;
       group_count = a.group_count;
@@ -183,6 +199,7 @@ impl Model for App {
 
     ghost invariant = { λ a. IsWellFormed (record {
       start = a.start;
+      tickless = a.tickless;
       limits = a.limits;
       objects = a.objects.items;
       group_count = a.group_count;
@@ -191,7 +208,8 @@ impl Model for App {
       tasks = a.tasks.items;
       daemon = a.daemon;
       points = a.points.items;
-    }) × (a.has_endless ≡ list_any (λ (d : Definition). d.endless) a.tasks.items) };
+    }) × (a.has_endless ≡ list_any (λ (d : Definition). d.endless) a.tasks.items)
+        × (a.has_awaited ≡ list_any (λ (d : Definition). not d.endless) a.tasks.items) };
 }
 
 impl App {
@@ -218,6 +236,7 @@ impl App {
     /// They are well formed together: each is within the limits, and each op speaks of what is there and allows it.
     pub fn new(
         start: u32,
+        tickless: bool,
         limits: Limits,
         objects: Vec<ObjectKind>,
         group_count: u8,
@@ -229,6 +248,7 @@ impl App {
     ) -> Self
         requires { IsWellFormed (record {
           start = start;
+          tickless = tickless;
           limits = limits;
           objects = objects.items;
           group_count = group_count;
@@ -240,6 +260,7 @@ impl App {
         }) }
         ensures { result ≡ record {
           start = start;
+          tickless = tickless;
           limits = limits;
           objects = objects.items;
           group_count = group_count;
@@ -251,8 +272,10 @@ impl App {
         } }
     {
         let has_endless = is_any_endless(tasks.as_slice());
+        let has_awaited = is_any_awaited(tasks.as_slice());
         App {
             start,
+            tickless,
             limits,
             objects,
             group_count,
@@ -262,6 +285,7 @@ impl App {
             daemon,
             points,
             has_endless,
+            has_awaited,
         }
     }
 
@@ -277,6 +301,14 @@ impl App {
         ensures { result ≡ self.now.start }
     {
         self.start
+    }
+
+    /// Whether idle lets several ticks pass in a step (`configUSE_TICKLESS_IDLE`).
+    #[inline]
+    pub fn tickless(&self) -> bool
+        ensures { result ≡ self.now.tickless }
+    {
+        self.tickless
     }
 
     /// Where a run ends at the latest.
@@ -379,6 +411,14 @@ impl App {
         self.has_endless
     }
 
+    /// Whether a run waits for the end of some task.
+    #[inline]
+    pub fn is_any_awaited(&self) -> bool
+        ensures { result ≡ is_any_awaited self.now }
+    {
+        self.has_awaited
+    }
+
     /// Whether no run waits for the end of this task; `false` where there is no such task.
     pub fn is_endless(&self, task: TaskId) -> bool
         ensures { result ≡ is_endless self.now task }
@@ -402,6 +442,18 @@ impl App {
     {
         let definition = self.tasks.get(task.number as usize)?;
         definition.ops().get(op_index as usize).copied()
+    }
+
+    /// The index of the op that is next where the op of this index of a task's script jumps.
+    #[inline]
+    pub fn jump_from(&self, task: TaskId, op_index: u16) -> u16
+        requires { op_index < most_ops }
+        ensures { result ≡ jump_from (script_of self.now task) op_index }
+    {
+        match self.tasks.get(task.number as usize) {
+            None => op_index + 1,
+            Some(definition) => definition.script.jump_from(op_index),
+        }
     }
 
     /// How many ops the script of a task has; 0 where there is no such task.

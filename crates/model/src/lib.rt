@@ -2,7 +2,9 @@
 //! of the kernel that their contracts cite (`specs/`).
 #![tactic(auto)]
 
+mod answer;
 mod app;
+mod block;
 mod call;
 mod event;
 mod ids;
@@ -16,7 +18,9 @@ mod run;
 mod script;
 mod totals;
 
+pub use answer::AnswerCondition;
 pub use app::{App, HandlerDefinition, TaskDefinition};
+pub use block::{Block, Edge, OpenBlocks};
 pub use call::{CallProgress, Condition, Phase, WaitList};
 pub use event::{End, Event, Misuse, What};
 pub use ids::{GroupId, HandlerId, ObjectId, TaskId};

@@ -4,10 +4,10 @@ ghost use Rattle.model.specs.Scripts.{AreLimits};
 
 use std::marker::Model;
 
-/// Where a run ends at the latest: elapsed ticks and steps, each 1 to 1,000,000 (profile).
+/// Where a run ends at the latest: elapsed ticks, 1 to 2^48, and steps, 1 to 1,000,000 (profile).
 #[derive(Clone, Copy, PartialEq, Eq)]
 pub struct Limits {
-    pub ticks: u32,
+    pub ticks: u64,
     pub steps: u32,
 }
 
@@ -26,16 +26,19 @@ impl Model for Limits {
 }
 
 impl Limits {
-    /// The most ticks, and the most steps, of a run (profile); also where a file names no limit.
+    /// The most steps of a run, and the most ticks that a file without `tickless` may ask for (profile); also where a file names
+    /// no limit.
     pub const MOST: u32 = 1_000_000;
 
-    /// The limits; `None` where a number is not 1 to 1,000,000.
-    pub fn new(ticks: u32, steps: u32) -> Option<Self>
+    /// The most ticks of a run (profile).
+    pub const MOST_TICKS: u64 = 281_474_976_710_656;
+
+    /// The limits; `None` where the ticks are not 1 to 2^48, or the steps not 1 to 1,000,000.
+    pub fn new(ticks: u64, steps: u32) -> Option<Self>
         ensures known { IsSome result ↔ AreLimits ticks steps }
         ensures value { IfSome result (λ limits. limits ≡ record { ticks = ticks; steps = steps }) }
     {
-        let is_in_range = |n: u32| n >= 1 && n <= Self::MOST;
-        if is_in_range(ticks) && is_in_range(steps) {
+        if ticks >= 1 && ticks <= Self::MOST_TICKS && steps >= 1 && steps <= Self::MOST {
             Some(Limits { ticks, steps })
         } else {
             None

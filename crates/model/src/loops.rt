@@ -5,6 +5,6 @@
 pub struct Loop {
     /// The index of the op at which its turns begin.
     pub start: u16,
-    /// How many turns are left, this one included.
-    pub left: u16,
+    /// How many turns are left, this one included; `None` is for ever.
+    pub left: Option<u16>,
 }

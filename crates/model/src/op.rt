@@ -1,4 +1,6 @@
 //! The ops of a task's script, and those of a handler.
+use crate::answer::AnswerCondition;
+use crate::block::Edge;
 use crate::call::Condition;
 use crate::ids::{GroupId, ObjectId, TaskId};
 
@@ -136,12 +138,20 @@ pub enum Op {
     Time,
     /// Writes a mark line with this number, 0 to 4,294,967,295 (profile).
     Mark(u32),
-    /// Ends the run where the last answer differs; `None` is the answer `none` (profile).
-    Expect(Option<u32>),
-    /// Opens a loop of this many turns, 1 to 1,000 (profile).
-    Repeat(u16),
+    /// Ends the run where this doesn't hold of the last answer (profile).
+    Expect(AnswerCondition),
+    /// Opens a loop of this many turns, 1 to 1,000; `None` is for ever: only a `break` ends it (profile).
+    Repeat(Option<u16>),
     /// Ends a turn of the innermost loop (profile).
     End,
+    /// Goes on where this holds of the last answer, and else behind its `else`, or behind its `end` where it has none (profile).
+    If(AnswerCondition),
+    /// Goes on behind the `end` of its `if` (profile).
+    Else,
+    /// Ends an `if`, and does nothing (profile). Its word is that of `End`.
+    EndIf,
+    /// Leaves the innermost loop (profile).
+    Break,
     /// A call that waits until the object allows it, at most for so many ticks, 0 to 4,294,967,294; `None` is for ever
     /// (`portMAX_DELAY`). It is one of send, send_front, receive, peek, take and lock.
     Await(ObjectId, Access, Option<u32>),
@@ -179,6 +189,23 @@ pub enum Op {
 impl Op {
     ghost use Rattle.std.specs.Prelude.{◌≡◌};
     ghost use Rattle.model.specs.Words.{word_of};
+    ghost use Rattle.model.specs.Blocks.{edge_of};
+
+    /// What it is to the blocks of its script.
+    #[inline]
+    pub fn edge(&self) -> Edge
+        ensures { result ≡ edge_of self.now }
+    {
+        match self {
+            Op::Repeat(_) => Edge::OpensLoop,
+            Op::End => Edge::EndsLoop,
+            Op::If(_) => Edge::OpensIf,
+            Op::Else => Edge::OpensElse,
+            Op::EndIf => Edge::EndsIf,
+            Op::Break => Edge::Breaks,
+            _ => Edge::Inside,
+        }
+    }
 
     /// The first word of the op's text.
     pub fn word(&self) -> &'static str
@@ -193,7 +220,10 @@ impl Op {
             Op::Mark(_) => "mark",
             Op::Expect(_) => "expect",
             Op::Repeat(_) => "repeat",
-            Op::End => "end",
+            Op::End | Op::EndIf => "end",
+            Op::If(_) => "if",
+            Op::Else => "else",
+            Op::Break => "break",
             Op::Await(_, access, _) | Op::Do(_, access) => access.word(),
             Op::GiveMutex(_) => "unlock",
             Op::MessagesWaiting(_) => "waiting",

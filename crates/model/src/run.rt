@@ -24,8 +24,8 @@ impl<T: Drop> From<AllocFailed<T>> for Memory {
 pub struct Ending {
     /// The steps done, at most 1,000,000.
     pub steps: u32,
-    /// The ticks since reset, at most 1,000,000.
-    pub ticks: u32,
+    /// The ticks since reset, at most 2^48.
+    pub ticks: u64,
     /// Why it ended.
     pub end: End,
 }
@@ -37,8 +37,8 @@ pub struct Run {
     pub events: Vec<Event>,
     /// The steps done, at most 1,000,000.
     pub steps: u32,
-    /// The ticks since reset, at most 1,000,000.
-    pub ticks: u32,
+    /// The ticks since reset, at most 2^48.
+    pub ticks: u64,
     /// Why it ended.
     pub end: End,
 }

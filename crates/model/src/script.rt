@@ -1,32 +1,37 @@
-//! Scripts whose loops are well nested, built op by op.
-ghost use Rattle.std.specs.Prelude.{◌≡◌, true, false, ◌<◌, ◌↔◌, ◌++◌, ◌∷◌, [], length, OnOk, OnErr, IsSome, IfSome};
-ghost use Rattle.model.specs.Scripts.{IsScript, InRange, is_mask, is_wait, may_stand, nesting_after};
+//! Scripts whose blocks are well nested, built op by op.
+ghost use Rattle.std.specs.Prelude.{◌≡◌, true, false, ◌<◌, ◌≤◌, ◌↔◌, ◌++◌, ◌∷◌, [], length, OnOk, OnErr, IfOk};
+ghost use Rattle.model.specs.Scripts.{IsScript, InRange, is_mask, is_wait, most_ops};
+ghost use Rattle.model.specs.Blocks.{edges_of, ending, jump_from, jumped_over, jumps_from, may_come, open_behind, past_branch, past_loop};
 
+use crate::block::{Edge, OpenBlocks};
 use crate::op::Op;
-use std::alloc::Global;
+use std::alloc::{AllocError, Global};
 use std::marker::Model;
 
-/// The script of a task: at most 256 ops, each in its range, loops closed and at most four deep (profile).
+/// The script of a task: at most 256 ops, each in its range, its blocks closed, at most eight deep and of loops at most four
+/// (profile).
 #[derive(Drop)]
 pub struct Script {
     ops: Vec<Op>,
+    // where each goes on if it jumps
+    jumps: Vec<u16>,
 }
 
 impl Model for Script {
-    ghost use Rattle.std.specs.Prelude.{List};
+    ghost use Rattle.std.specs.Prelude.{◌≡◌, List};
     ghost use Rattle.model.specs.declared.op.Op.{Op};
+    ghost use Rattle.model.specs.Blocks.{edges_of, jumps_from};
 
     ghost Value = { List Op };
 
     ghost view = { λ s. s.ops.items };
+
+    ghost invariant = { λ s. s.jumps.items ≡ jumps_from 0 (edges_of s.ops.items) };
 }
 
 impl Script {
     /// The most ops of a script (profile).
     pub const MOST_OPS: usize = 256;
-
-    /// The most loops that are open at once (profile).
-    pub const MOST_LOOPS: u8 = 4;
 
     /// The ops, in order.
     pub fn ops(&self) -> &[Op]
@@ -34,6 +39,85 @@ impl Script {
     {
         self.ops.as_slice()
     }
+
+    /// The index of the op that is next where the op of this index jumps.
+    #[inline]
+    pub fn jump_from(&self, op_index: u16) -> u16
+        requires { op_index < most_ops }
+        ensures { result ≡ jump_from self.now op_index }
+    {
+        match self.jumps.get(op_index as usize) {
+            Some(next) => *next,
+            None => op_index + 1,
+        }
+    }
+}
+
+// How many ops there are to the end of the branch in which these begin, its `else` or `end` included.
+fn past_branch(ops: &[Op]) -> u16
+    requires { length ops.now ≤ most_ops }
+    ensures value { result ≡ past_branch 0 (edges_of ops.now) }
+    ensures bound { result ≤ length ops.now }
+{
+    let mut inner: u16 = 0;
+    let mut passed: u16 = 0;
+    for op in ops {
+        passed += 1;
+        match op.edge() {
+            Edge::OpensIf => inner += 1,
+            Edge::OpensElse if inner == 0 => return passed,
+            Edge::EndsIf if inner == 0 => return passed,
+            Edge::EndsIf => inner -= 1,
+            _ => {}
+        }
+    }
+    passed
+}
+
+// How many there are to the end of the loop in which these begin, its `end` included.
+fn past_loop(ops: &[Op]) -> u16
+    requires { length ops.now ≤ most_ops }
+    ensures value { result ≡ past_loop 0 (edges_of ops.now) }
+    ensures bound { result ≤ length ops.now }
+{
+    let mut inner: u16 = 0;
+    let mut passed: u16 = 0;
+    for op in ops {
+        passed += 1;
+        match op.edge() {
+            Edge::OpensLoop => inner += 1,
+            Edge::EndsLoop if inner == 0 => return passed,
+            Edge::EndsLoop => inner -= 1,
+            _ => {}
+        }
+    }
+    passed
+}
+
+// Over how many ops this one jumps, behind which are these.
+fn jumped_over(op: &Op, behind: &[Op]) -> u16
+    requires { length behind.now ≤ most_ops }
+    ensures value { result ≡ jumped_over (edges_of (op.now ∷ behind.now)) }
+    ensures bound { result ≤ length behind.now }
+{
+    match op.edge() {
+        Edge::OpensIf | Edge::OpensElse => past_branch(behind),
+        Edge::Breaks => past_loop(behind),
+        _ => 0,
+    }
+}
+
+// Where each of these ops goes on if it jumps.
+fn jumps_of(alloc: Global, ops: &[Op]) -> Result<Vec<u16>, AllocError>
+    requires { length ops.now ≤ most_ops }
+    ensures { IfOk result (λ v. v.items ≡ jumps_from 0 (edges_of ops.now)) }
+{
+    let mut jumps = Vec::new(alloc);
+    for (index, op) in ops.iter().enumerate() {
+        let next = index + 1;
+        jumps.push(next as u16 + jumped_over(op, &ops[next..]))?;
+    }
+    Ok(jumps)
 }
 
 /// Whether a call may wait for so many ticks, or for ever.
@@ -54,8 +138,8 @@ fn is_mask(mask: u32) -> bool
 }
 
 impl Op {
-    ghost use Rattle.std.specs.Prelude.{◌≡◌, ◌↔◌, true, false, IsSome, IsNone, IfSome};
-    ghost use Rattle.model.specs.Scripts.{is_in_range, may_stand, nesting_past};
+    ghost use Rattle.std.specs.Prelude.{◌≡◌};
+    ghost use Rattle.model.specs.Scripts.{is_in_range};
 
     /// The most ticks of a `work` (profile).
     pub const MOST_WORK: u32 = 1_000_000;
@@ -76,36 +160,21 @@ impl Op {
         match self {
             Op::Work(ticks) => 1 <= *ticks && *ticks <= Self::MOST_WORK,
             Op::DelayUntil(ticks) => 1 <= *ticks,
-            Op::Repeat(turns) => 1 <= *turns && *turns <= Self::MOST_TURNS,
+            Op::Repeat(Some(turns)) => 1 <= *turns && *turns <= Self::MOST_TURNS,
             Op::Await(_, _, ticks) => is_wait(*ticks),
             Op::SetBits(_, mask) | Op::ClearBits(_, mask) => is_mask(*mask),
             Op::WaitBits(_, condition, ticks) => is_mask(condition.mask) && is_wait(*ticks),
             _ => true,
         }
     }
-
-    /// How many loops are open after it, where so many are open before it; `None` where it may not stand there: it opens a
-    /// loop inside four, or ends one where none is open (profile).
-    pub fn nesting_past(&self, nesting: u8) -> Option<u8>
-        ensures stands { IsSome result ↔ (may_stand nesting self.now ≡ true) }
-        ensures refused { IsNone result ↔ (may_stand nesting self.now ≡ false) }
-        ensures nesting { IfSome result (λ past. past ≡ nesting_past nesting self.now) }
-    {
-        match self {
-            Op::Repeat(_) if nesting < Script::MOST_LOOPS => Some(nesting + 1),
-            Op::Repeat(_) => None,
-            Op::End => nesting.checked_sub(1),
-            _ => Some(nesting),
-        }
-    }
 }
 
-/// Why an op does not follow.
+/// Why a script does not go on so.
 #[derive(Clone, Copy)]
 pub enum NestingFault {
-    /// An `end` without a `repeat`, or a `repeat` inside four open ones.
+    /// The op may not stand there, or a block is left open.
     BadNesting,
-    /// No memory for one more op.
+    /// No memory for it.
     Memory,
 }
 
@@ -113,19 +182,20 @@ pub enum NestingFault {
 #[derive(Drop)]
 pub struct ScriptBuilder {
     ops: Vec<Op>,
-    nesting: u8,
+    blocks: OpenBlocks,
 }
 
 impl Model for ScriptBuilder {
-    ghost use Rattle.std.specs.Prelude.{◌≡◌, List};
+    ghost use Rattle.std.specs.Prelude.{◌≡◌, [], List};
     ghost use Rattle.model.specs.declared.op.Op.{Op};
-    ghost use Rattle.model.specs.Scripts.{IsPrefix, nesting_after};
+    ghost use Rattle.model.specs.Blocks.{blocks_after, edges_of};
+    ghost use Rattle.model.specs.Scripts.{IsPrefix};
 
     ghost Value = { List Op };
 
     ghost view = { λ b. b.ops.items };
 
-    ghost invariant = { λ b. (b.nesting ≡ nesting_after 0 b.ops.items) × IsPrefix b.ops.items };
+    ghost invariant = { λ b. (b.blocks ≡ blocks_after [] (edges_of b.ops.items)) × IsPrefix b.ops.items };
 }
 
 impl ScriptBuilder {
@@ -135,42 +205,48 @@ impl ScriptBuilder {
     {
         ScriptBuilder {
             ops: Vec::new(alloc),
-            nesting: 0,
+            blocks: OpenBlocks::new(),
         }
     }
 
-    /// Appends an op, whose numbers are in their ranges, to fewer than 256. At an `Err` the script is as it was:
-    /// `BadNesting` where the op may not stand there, whatever memory is left, and `Memory` only where it may.
+    /// Appends an op, whose numbers are in their ranges, to fewer than 256; an `end` ends the innermost block. At an `Err` the
+    /// script is as it was: `BadNesting` where the op may not stand there, whatever memory is left, and `Memory` only where it may.
     pub fn push(&mut self, op: Op) -> Result<(), NestingFault>
         requires range { InRange op }
         requires room { length self.old < 256 }
-        ensures ok { OnOk result (self.new ≡ self.old ++ op ∷ []) }
-        ensures stands { OnOk result (may_stand (nesting_after 0 self.old) op ≡ true) }
+        ensures ok { OnOk result (self.new ≡ self.old ++ ending (open_behind self.old) op ∷ []) }
+        ensures stands { OnOk result (may_come op self.old ≡ true) }
         ensures err { OnErr result (self.new ≡ self.old) }
-        ensures refused { (result ≡ Err NestingFault.BadNesting)
-            ↔ (may_stand (nesting_after 0 self.old) op ≡ false) }
+        ensures refused { (result ≡ Err NestingFault.BadNesting) ↔ (may_come op self.old ≡ false) }
     {
-        let Some(nesting) = op.nesting_past(self.nesting) else {
+        let op = self.blocks.ending(op);
+        if !self.blocks.may_stand(op.edge()) {
             return Err(NestingFault::BadNesting);
-        };
+        }
         match self.ops.push(op) {
             Ok(()) => {
-                self.nesting = nesting;
+                self.blocks.pass(op.edge());
                 Ok(())
             }
             Err(_) => Err(NestingFault::Memory),
         }
     }
 
-    /// The script, where every loop is closed.
-    pub fn finish(self) -> Option<Script>
-        ensures closed { IsSome result ↔ (nesting_after 0 self ≡ 0) }
-        ensures script { IfSome result (λ script. (script ≡ self) × IsScript script) }
+    /// The script, where every block is closed: else `BadNesting`, whatever memory is left.
+    pub fn finish(self, alloc: Global) -> Result<Script, NestingFault>
+        ensures closed { OnOk result (open_behind self ≡ []) }
+        ensures script { IfOk result (λ script. (script ≡ self) × IsScript script) }
+        ensures refused { (result ≡ Err NestingFault.BadNesting) ↔ (0 < length (open_behind self)) }
     {
-        if self.nesting == 0 {
-            Some(Script { ops: self.ops })
-        } else {
-            None
+        if !self.blocks.is_empty() {
+            return Err(NestingFault::BadNesting);
+        }
+        match jumps_of(alloc, self.ops.as_slice()) {
+            Ok(jumps) => Ok(Script {
+                ops: self.ops,
+                jumps,
+            }),
+            Err(_) => Err(NestingFault::Memory),
         }
     }
 }

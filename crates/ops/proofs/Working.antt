@@ -1,20 +1,24 @@
 -- What the ops of a script alone, and those that let time pass, make of the states that the kernel stands for.
 use Rattle.std.proofs.Common.{◌≡◌, ◌≢◌, ◌<◌, ◌≤◌, ◌+◌, ◌-◌, ℕ, true, false, eqb, leb, ltb, List, [], ◌∷◌, length, Option, Some, None, refl, ap, sym, subst, ◌∙◌, arith}
-use Rattle.std.specs.Option.{option_eq}
+use Rattle.std.specs.Prelude.{Bool, drop, option_map, if◌then◌else◌}
 use Rattle.std.proofs.lemmas.Bool.{lt-ltb, le-ltb, eq-eqb, ne_eqb}
 use Rattle.model.specs.declared.call.Phase.TheVariants.{Place}
 use Rattle.model.specs.declared.loops.Loop.{Loop}
 use Rattle.model.specs.declared.event.Event.{Event}
 use Rattle.model.specs.declared.event.End.TheVariants as ending
-use Rattle.model.specs.Application.{Application}
+use Rattle.model.specs.declared.answer.AnswerCondition.{AnswerCondition}
+use Rattle.model.specs.Answers.{holds}
+use Rattle.model.specs.Blocks.{jump_from}
+use Rattle.model.specs.Application.{Application, script_of}
 use Rattle.model.specs.State.{State, Progress, progress_at}
 use Rattle.model.specs.State as state
 use Rattle.model.specs.Switching.{yield_now, is_ready}
 use Rattle.model.specs.Time.{sleep, set_previous_wake}
-use Rattle.model.specs.Ops.{go_to, complete, answer, use_up, delay, delay_until, expect, open_loop, turn, close_turn}
+use Rattle.model.specs.Ops.{go_to, complete, answer, use_up, delay, delay_until, expect, open_loop, turn, close_turn, branch, skip_branch, leave_loop}
 use Rattle.model.proofs.Sorting.{by_test}
 use Rattle.soundness.proofs.Frames.{keeps-answer, keeps-sleep}
-use Rattle.machine.specs.Loops.{after_turn, next_turn}
+use Rattle.model.specs.Ops as step
+use Rattle.machine.specs.Loops.{after_turn, is_last, next_turn}
 use Rattle.machine.specs.declared.machine.Machine.{Machine}
 use Rattle.machine.specs.StandsFor.{progress_in, At, with_progress}
 use Rattle.machine.proofs.Acting.{within, changed, Goes, Completes, at_mid, goes, completes, stopped_at}
@@ -37,21 +41,53 @@ module _ (app : Application) (k new : Machine) (log : List Event) (s : State) (h
       (at_mid app k new new log s h i r (record (progress_in k.progress i) { used = v.used + 1 }) (record (progress_at s i) { used = (progress_at s i).used + 1 }) is
       (ap (λ (p : Progress). record p { used = v.used + 1 }) (h.stands.rest.progress i) ∙ ap (λ (p : Progress). record (progress_at s i) { used = p.used + 1 }) same) (h.stands.rest.placed i) refl)
 
-  pub expect_same : (a : Option ℕ) → option_eq eqb v.answer a ≡ true → Completes app k i new → At new log (expect app i a s)
-  unfolding expect
-  expect_same a t g = let u : option_eq eqb (progress_at s i).answer a ≡ true = ap (λ (p : Progress). option_eq eqb p.answer a) (sym same) ∙ t in rw u (g log s h)
+  -- the condition holds of the state's answer, as of the kernel's, or doesn't
+  held : (condition : AnswerCondition) (is : Bool) → is ≡ holds condition v.answer → holds condition (progress_at s i).answer ≡ is
+  held condition is t = ap (λ (p : Progress). holds condition p.answer) (sym same) ∙ sym t
 
-  pub expect_other : (a : Option ℕ) → option_eq eqb v.answer a ≡ false → At (record k { stopped = Some (ending.Check i v.op_index) }) log (expect app i a s)
+  pub expect_held : (condition : AnswerCondition) → true ≡ holds condition v.answer → Completes app k i new → At new log (expect app i condition s)
   unfolding expect
-  expect_other a t =
-      let u : option_eq eqb (progress_at s i).answer a ≡ false = ap (λ (p : Progress). option_eq eqb p.answer a) (sym same) ∙ t in
+  expect_held condition t g = rw (held condition true t) (g log s h)
+
+  pub expect_failed : (condition : AnswerCondition) → false ≡ holds condition v.answer → At (record k { stopped = Some (ending.Check i v.op_index) }) log (expect app i condition s)
+  unfolding expect
+  expect_failed condition t =
+      let u : holds condition (progress_at s i).answer ≡ false = held condition false t in
       rw u (stopped_at k log s h (ending.Check i v.op_index) (ending.Check i (progress_at s i).op_index) (ap (λ (p : Progress). ending.Check i p.op_index) same))
 
-  pub loop_opened : (mid : Machine) (n : ℕ) → mid ≡ with_progress i (record v { loops = record { start = v.op_index + 1; left = n } ∷ v.loops }) k → Completes app mid i new → At new log (open_loop app i n s)
+  pub branch_taken : (condition : AnswerCondition) → true ≡ holds condition v.answer → Completes app k i new → At new log (branch app i condition s)
+  unfolding branch
+  branch_taken condition t g = rw (held condition true t) (g log s h)
+
+  -- the op to which the task's op jumps
+  jump_same : (next : ℕ) → next ≡ jump_from (script_of app i) v.op_index → next ≡ jump_from (script_of app i) (progress_at s i).op_index
+  jump_same next is = is ∙ ap (λ (p : Progress). jump_from (script_of app i) p.op_index) same
+
+  pub branch_skipped : (condition : AnswerCondition) (next : ℕ) → false ≡ holds condition v.answer → next ≡ jump_from (script_of app i) v.op_index → Goes app k i next new → At new log (branch app i condition s)
+  unfolding branch
+  branch_skipped condition next t is g = rw (held condition false t, ← jump_same next is) (g log s h)
+
+  pub jumped : (next : ℕ) → next ≡ jump_from (script_of app i) v.op_index → Goes app k i next new → At new log (skip_branch app i s)
+  unfolding skip_branch
+  jumped next is g = rw (← jump_same next is) (g log s h)
+
+  pub loop_left : (mid : Machine) (next : ℕ) → next ≡ jump_from (script_of app i) v.op_index → mid ≡ with_progress i (record v { loops = drop 1 v.loops }) k → Goes app mid i next new → At new log (leave_loop app i s)
+  unfolding leave_loop
+  loop_left mid next at is g =
+      let left : Progress → Progress = λ (p : Progress). record p { loops = drop 1 p.loops } in
+      rw (← jump_same next at) (goes app k mid new log s h i r (left v) (left (progress_at s i)) is (ap left same) placed refl next g)
+
+  pub loop_opened : (mid : Machine) (n : Option ℕ) → mid ≡ with_progress i (record v { loops = record { start = v.op_index + 1; left = n } ∷ v.loops }) k → Completes app mid i new → At new log (open_loop app i n s)
   unfolding open_loop
   loop_opened mid n is g =
       let opened : Progress → Progress = λ (p : Progress). record p { loops = record { start = p.op_index + 1; left = n } ∷ p.loops } in
       completes app k mid new log s h i r (opened v) (opened (progress_at s i)) is (ap opened same) placed refl g
+
+  -- a loop for ever has no last turn
+  after_forever : (l : Loop) (ls : List Loop) → l.left ≡ None → after_turn (l ∷ ls) ≡ l ∷ ls
+  after_forever l ls e =
+      ap (λ (o : Option ℕ). if is_last o then ls else record l { left = option_map (λ left. left - 1) o } ∷ ls) e
+      ∙ ap (λ (o : Option ℕ). record l { left = o } ∷ ls) (sym e)
 
   -- the innermost loop ends a turn
   module _ (mid : Machine) (is : mid ≡ with_progress i (record v { loops = after_turn v.loops }) k) where
@@ -60,15 +96,26 @@ module _ (app : Application) (k new : Machine) (log : List Event) (s : State) (h
 
     none_left : (p : Progress) (ls : List Loop) → p.loops ≡ ls → next_turn ls ≡ None → turn app i p ls s ≡ complete app i (record p { loops = after_turn ls }) s
     none_left p [] a n = ap (λ (us : List Loop). complete app i (record p { loops = us }) s) a
-    none_left p (l ∷ ls) a n = by_test (leb l.left 1)
-        (λ t. rw t refl)
-        (λ t. let f = rw t at n in absurd (cc))
+    none_left p (l ∷ ls) a n = last l.left refl where
+      last : (left : Option ℕ) → l.left ≡ left → turn app i p (l ∷ ls) s ≡ complete app i (record p { loops = after_turn (l ∷ ls) }) s
+      last None e = let f : Some l.start ≡ None = rw e at n in absurd (cc)
+      last (Some left) e = by_test (leb left 1)
+          (λ t. rw (e, t) refl)
+          (λ t. let f = rw (e, t) at n in absurd (cc))
 
-    one_left : (p : Progress) (ls : List Loop) (start : ℕ) → next_turn ls ≡ Some start → turn app i p ls s ≡ go_to app i start (record p { loops = after_turn ls }) s
-    one_left p [] start n = absurd (cc)
-    one_left p (l ∷ ls) start n = by_test (leb l.left 1)
-        (λ t. let f = rw t at n in absurd (cc))
-        (λ t. let f = rw t at n in let q : l.start ≡ start = cc in rw (t, ← q) refl)
+    one_left : (p : Progress) (ls : List Loop) (start : ℕ) → p.loops ≡ ls → next_turn ls ≡ Some start → turn app i p ls s ≡ go_to app i start (record p { loops = after_turn ls }) s
+    one_left p [] start a n = absurd (cc)
+    one_left p (l ∷ ls) start a n = next l.left refl where
+      next : (left : Option ℕ) → l.left ≡ left → turn app i p (l ∷ ls) s ≡ go_to app i start (record p { loops = after_turn (l ∷ ls) }) s
+      next None e =
+          let f : Some l.start ≡ Some start = rw e at n in
+          let q : l.start ≡ start = cc in
+          ap (λ o. step.next_turn app i p l ls o s) e
+          ∙ ap (λ us. go_to app i l.start (record p { loops = us }) s) (a ∙ sym (after_forever l ls e))
+          ∙ ap (λ k. go_to app i k (record p { loops = after_turn (l ∷ ls) }) s) q
+      next (Some left) e = by_test (leb left 1)
+          (λ t. let f = rw (e, t) at n in absurd (cc))
+          (λ t. let f = rw (e, t) at n in let q : l.start ≡ start = cc in rw (e, t, ← q) refl)
 
     pub turn_last : next_turn v.loops ≡ None → Completes app mid i new → At new log (close_turn app i s)
     unfolding close_turn
@@ -81,7 +128,7 @@ module _ (app : Application) (k new : Machine) (log : List Event) (s : State) (h
     unfolding close_turn
     turn_next start n g =
         let m : next_turn (progress_at s i).loops ≡ Some start = ap (λ (p : Progress). next_turn p.loops) (sym same) ∙ n in
-        rw (one_left (progress_at s i) (progress_at s i).loops start m)
+        rw (one_left (progress_at s i) (progress_at s i).loops start refl m)
         (goes app k mid new log s h i r (record v { loops = after_turn v.loops }) (record (progress_at s i) { loops = after_turn (progress_at s i).loops }) is mid_is placed refl start g)
 
 -- an answer takes no time

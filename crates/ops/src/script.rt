@@ -1,13 +1,16 @@
-//! Ops of the script alone: marks, expectations, loops (profile).
-ghost use Rattle.std.specs.Prelude.{◌<◌, ◌≤◌, ◌+◌, length};
+//! Ops of the script alone: marks, expectations, loops, branches (profile).
+ghost use Rattle.std.specs.Prelude.{◌≡◌, ◌<◌, ◌≤◌, ◌+◌, length};
 ghost use Rattle.model.specs.declared.op.Op.TheVariants as op;
-ghost use Rattle.model.specs.Ops.{expect, open_loop, close_turn};
+ghost use Rattle.model.specs.Ops.{expect, open_loop, close_turn, complete, branch, skip_branch, leave_loop};
+ghost use Rattle.model.specs.State.{progress_at};
+ghost use Rattle.model.specs.Application.{script_of};
+ghost use Rattle.model.specs.Blocks.{jump_from};
 ghost use Rattle.model.specs.Step.{act};
 ghost use Rattle.machine.specs.StandsFor.{Does, Moves, progress_in};
 ghost use Rattle.machine.specs.Can.{Runs};
 
 use machine::{Log, Machine};
-use model::{App, End, Loop, TaskId, What};
+use model::{AnswerCondition, App, End, Loop, TaskId, What};
 
 /// `mark`: a mark event is told.
 #[inline(always)]
@@ -21,21 +24,21 @@ pub fn mark<L: Log>(machine: &mut Machine, app: &App, task: TaskId, number: u32,
     machine.complete(app, task);
 }
 
-/// `expect`: the run ends where the last answer differs.
-pub fn expect(machine: &mut Machine, app: &App, task: TaskId, wanted: Option<u32>)
+/// `expect`: the run ends where the condition doesn't hold of the last answer.
+pub fn expect(machine: &mut Machine, app: &App, task: TaskId, condition: AnswerCondition)
     requires runs { Runs machine.old task }
-    ensures { Moves machine.old machine.new (expect app.now task wanted) }
+    ensures { Moves machine.old machine.new (expect app.now task condition) }
 {
     let progress = machine.progress(task);
-    if progress.answer == wanted {
+    if condition.holds(progress.answer) {
         machine.complete(app, task);
     } else {
         machine.stopped = Some(End::Check(task, progress.op_index));
     }
 }
 
-/// `repeat`: a loop of so many turns begins at the next op.
-pub fn open_loop(machine: &mut Machine, app: &App, task: TaskId, turns: u16)
+/// `repeat`: a loop of so many turns, or without end, begins at the next op.
+pub fn open_loop(machine: &mut Machine, app: &App, task: TaskId, turns: Option<u16>)
     requires runs { Runs machine.old task }
     requires nesting { length (progress_in machine.old.progress task).loops < 4 }
     ensures { Moves machine.old machine.new (open_loop app.now task turns) }
@@ -55,4 +58,58 @@ pub fn close_turn(machine: &mut Machine, app: &App, task: TaskId)
         Some(start) => machine.go_to(app, task, start),
         None => machine.complete(app, task),
     }
+}
+
+// The op that is next where the task's op jumps.
+#[inline(always)]
+fn jump_from(machine: &Machine, app: &App, task: TaskId) -> u16
+    requires { (progress_in machine.now.progress task).op_index < 256 }
+    ensures { result ≡ jump_from (script_of app.now task) (progress_in machine.now.progress task).op_index }
+{
+    app.jump_from(task, machine.progress(task).op_index)
+}
+
+/// `if`: the first branch is next where the condition holds of the last answer, and else what is behind it.
+#[inline(always)]
+pub fn branch(machine: &mut Machine, app: &App, task: TaskId, condition: AnswerCondition)
+    requires runs { Runs machine.old task }
+    ensures { Moves machine.old machine.new (branch app.now task condition) }
+{
+    let answer = machine.progress(task).answer;
+    if condition.holds(answer) {
+        machine.complete(app, task);
+    } else {
+        let behind_branch = jump_from(machine, app, task);
+        machine.go_to(app, task, behind_branch);
+    }
+}
+
+/// `else`: what is behind the `end` of its `if` is next.
+#[inline(always)]
+pub fn skip_branch(machine: &mut Machine, app: &App, task: TaskId)
+    requires runs { Runs machine.old task }
+    ensures { Moves machine.old machine.new (skip_branch app.now task) }
+{
+    let behind_if = jump_from(machine, app, task);
+    machine.go_to(app, task, behind_if);
+}
+
+/// The `end` of an `if`: the next op is next.
+#[inline(always)]
+pub fn end_if(machine: &mut Machine, app: &App, task: TaskId)
+    requires runs { Runs machine.old task }
+    ensures { Moves machine.old machine.new (λ s. complete app.now task (progress_at s task) s) }
+{
+    machine.complete(app, task);
+}
+
+/// `break`: the innermost loop is left; what is behind its `end` is next.
+#[inline(always)]
+pub fn leave_loop(machine: &mut Machine, app: &App, task: TaskId)
+    requires runs { Runs machine.old task }
+    ensures { Moves machine.old machine.new (leave_loop app.now task) }
+{
+    let behind_loop = jump_from(machine, app, task);
+    machine.leave_loop(task);
+    machine.go_to(app, task, behind_loop);
 }

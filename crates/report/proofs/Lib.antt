@@ -1,4 +1,5 @@
 pub mod Adding
+mod Again
 pub mod Fronts
 pub mod Lanes
 pub mod Numbers

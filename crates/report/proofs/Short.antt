@@ -2,7 +2,7 @@
 use Rattle.std.proofs.Common.{◌≤◌, Bool, true, false, length, lit≤}
 use Rattle.std.specs.Prelude.{codes, if◌then◌else◌}
 use Rattle.model.specs.declared.op.Op.{Op}
-use Rattle.model.specs.declared.op.Op.TheVariants.{Work, Delay, DelayUntil, Yield, Time, Mark, Expect, Repeat, End, Await, Do, GiveMutex, MessagesWaiting, SpacesAvailable, SetBits, ClearBits, GetBits, WaitBits, Suspend, Resume, SuspendAll, ResumeAll, NextCommand, Obey}
+use Rattle.model.specs.declared.op.Op.TheVariants.{Work, Delay, DelayUntil, Yield, Time, Mark, Expect, Repeat, End, If, Else, EndIf, Break, Await, Do, GiveMutex, MessagesWaiting, SpacesAvailable, SetBits, ClearBits, GetBits, WaitBits, Suspend, Resume, SuspendAll, ResumeAll, NextCommand, Obey}
 use Rattle.model.specs.declared.op.Access.{Access}
 use Rattle.model.specs.declared.op.Access.TheVariants.{Send, SendFront, Overwrite, Receive, Peek, Take, Give, Lock}
 use Rattle.model.specs.declared.op.IsrOp.{IsrOp}
@@ -27,9 +27,13 @@ word_short (DelayUntil n) = lit≤ tt
 word_short Yield = lit≤ tt
 word_short Time = lit≤ tt
 word_short (Mark n) = lit≤ tt
-word_short (Expect a) = lit≤ tt
+word_short (Expect c) = lit≤ tt
 word_short (Repeat n) = lit≤ tt
 word_short End = lit≤ tt
+word_short (If c) = lit≤ tt
+word_short Else = lit≤ tt
+word_short EndIf = lit≤ tt
+word_short Break = lit≤ tt
 word_short (Await o a ticks) = access_short a
 word_short (Do o a) = access_short a
 word_short (GiveMutex o) = lit≤ tt

@@ -21,7 +21,7 @@ use Rattle.report.specs.declared.title.Title.TheVariants.{Row}
 
 -- an application of these tasks, from tick 0 and under no limits but the most
 abbrev pub app_of : List Definition → Application
-app_of tasks = record { start = 0; limits = record { ticks = 1000000; steps = 1000000 }; objects = []; group_count = 0; handlers = []; interrupts = []; tasks = tasks; daemon = None; points = [] }
+app_of tasks = record { start = 0; tickless = false; limits = record { ticks = 1000000; steps = 1000000 }; objects = []; group_count = 0; handlers = []; interrupts = []; tasks = tasks; daemon = None; points = [] }
 
 -- a task of priority 1
 abbrev pub a_task : List ℕ → List Op → Definition
@@ -118,7 +118,7 @@ each_form_run = record {
       ∷ event_at 1 10 (what.Isr 0 0 4294967295) ∷ event_at 1 10 (what.IsrNone 0 0) ∷ event_at 1 10 (what.IsrNone 0 1)
       ∷ event_at 1 10 (what.IsrMark 0 4294967295) ∷ [];
   steps = 4294967295;
-  ticks = 0;
+  ticks = 281474976710656;
   end = Check a 65535;
 }
 

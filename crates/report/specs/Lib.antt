@@ -1,3 +1,4 @@
+pub mod Again
 pub mod Examples
 pub mod Fronts
 pub mod Tens

@@ -66,7 +66,7 @@ pub fn verdicts_of_misuses()
 /// An event of each form, with the largest numbers, letter by letter.
 pub fn report_of_each_form()
     ensures { run_text each_form Base each_form_run ≡
-        codes "base: check abcdefghijklmnop 65535 in 4294967295 steps, 0 ticks\n"
+        codes "base: check abcdefghijklmnop 65535 in 4294967295 steps, 281474976710656 ticks\n"
         ++ codes "4294967295 4294967295 call abcdefghijklmnop 0 delay_until = 4294967295\n"
         ++ codes "0 0 call abcdefghijklmnop 0 delay_until = none\n"
         ++ codes "0 0 call abcdefghijklmnop 1  = none\n"

@@ -3,6 +3,7 @@
 //! A front is put at a place, and where it ends is answered, as `byte_io::place` does it.
 ghost use Rattle.std.specs.Prelude.{◌≡◌, ◌≤◌, ◌+◌, ◌++◌, length, take, codes, decimal, if◌then◌else◌};
 ghost use Rattle.model.specs.Words.{name_of, handler_name_of};
+ghost use Rattle.report.specs.Again.{number_text};
 ghost use Rattle.report.specs.Text.{word_at, call_front, obeyed_front, isr_word_at, isr_front, code_of, op_text, verdict_text, injection_text, point_text, reached_text, title_text, head_text, total_text};
 ghost use Rattle.report.specs.Fronts.{mark_front, isr_mark_front, run_front};
 
@@ -15,9 +16,12 @@ use model::{App, End, Ending, HandlerId, Injection, Misuse, Point, TaskId, Total
 // 64 bytes of what happened, and a line feed. Texts that are copied whole end at most 88 bytes after the line's beginning.
 pub(crate) const MAX_LINE: usize = 128;
 
-// The room that a head line needs at most: its title of at most 116 bytes, its verdict of at most 64, two numbers of 10 digits, and
-// 19 bytes of words.
-pub(crate) const MAX_HEAD: usize = 219;
+// The room that a head line needs at most: its title of at most 116 bytes, its verdict of at most 64, steps of 10 digits, ticks of
+// 20, and 19 bytes of words.
+pub(crate) const MAX_HEAD: usize = 229;
+
+// The room that the number of a row needs at most, with the word before it.
+pub(crate) const MAX_NUMBER: usize = 14;
 
 // The room that the line of totals needs at most: eight numbers of 10 digits, and 69 bytes of words.
 pub(crate) const MAX_TOTALS: usize = 149;
@@ -289,7 +293,7 @@ pub(crate) fn push_head(page: &mut Page, app: &App, title: Title, ending: Ending
     page.push_array(b" in ");
     page.push_number(ending.steps);
     page.push_array(b" steps, ");
-    page.push_number(ending.ticks);
+    page.push_long_number(ending.ticks);
     page.push_array(b" ticks\n");
 }
 
@@ -301,6 +305,15 @@ fn push_count(page: &mut Page, words: &[u8], count: u32)
 {
     page.push_text(words);
     page.push_number(count);
+}
+
+/// Adds the number of a row, with which its head line begins.
+pub(crate) fn push_row_number(page: &mut Page, number: u32)
+    requires { length page.old + MAX_NUMBER ≤ Page.SIZE }
+    ensures { page.new ≡ page.old ++ number_text number }
+{
+    page.push_array(b"row ");
+    page.push_number(number);
 }
 
 /// Adds the line of totals.

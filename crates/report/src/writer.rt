@@ -3,15 +3,22 @@ ghost use Rattle.std.specs.Prelude.{◌≡◌, ◌≤◌, ◌++◌, [], length, 
 ghost use Rattle.std.specs.List.{flat_map};
 ghost use Rattle.std.specs.Result.{is_err};
 ghost use Rattle.byte_io.specs.Bytes.{Writes, Adds};
-ghost use Rattle.report.specs.Text.{event_text, head_text, run_text, total_text};
+ghost use Rattle.model.specs.Campaign.{Row};
+ghost use Rattle.report.specs.Again.{number_text};
+ghost use Rattle.report.specs.Text.{event_text, head_text, row_text, run_text, total_text};
 
 use crate::base_events::BaseEvents;
 use crate::lines::Lines;
-use crate::text::{MAX_HEAD, MAX_LINE, MAX_TOTALS, push_head, push_totals};
+use crate::text::{
+    MAX_HEAD, MAX_LINE, MAX_NUMBER, MAX_TOTALS, push_head, push_row_number, push_totals,
+};
 use crate::title::Title;
 use byte_io::{Page, Sink, WriteFault, add_text, flush, make_room};
 use model::{App, Ending, Event, Totals};
 use std::marker::Model;
+
+// With what the text of a row begins under the number 0.
+const FIRST: usize = b"row 0".len();
 
 /// The report of a campaign or of one run, as it is being written: what is still to go out, and what lines have in common.
 ///
@@ -135,6 +142,31 @@ fn add_after<W: Sink>(
     add_own(writer, page, lines, own, rest)
 }
 
+fn add_row_number<W: Sink>(writer: &mut W, page: &mut Page, number: u32) -> Result<(), WriteFault>
+    requires { W.has_failed writer.old ≡ false }
+    ensures text { Adds (W.held writer.old) (W.held writer.new) page.old page.new result (number_text number) }
+    ensures failed { W.has_failed writer.new ≡ is_err result }
+{
+    make_room(writer, page, MAX_NUMBER)?;
+    push_row_number(page, number);
+    Ok(())
+}
+
+// Adds the number of a row, and what comes behind it.
+fn add_numbered<W: Sink>(
+    writer: &mut W,
+    page: &mut Page,
+    number: u32,
+    behind: &[u8],
+) -> Result<(), WriteFault>
+    requires { W.has_failed writer.old ≡ false }
+    ensures text { Adds (W.held writer.old) (W.held writer.new) page.old page.new result (number_text number ++ behind.now) }
+    ensures failed { W.has_failed writer.new ≡ is_err result }
+{
+    add_row_number(writer, page, number)?;
+    add_text(writer, page, behind)
+}
+
 fn add_total_line<W: Sink>(
     writer: &mut W,
     page: &mut Page,
@@ -212,6 +244,23 @@ impl<'a> ReportWriter<'a> {
             own,
             rest,
         )
+    }
+
+    /// Adds the report of a row once more, under this number: the text is that of the row under the number 0.
+    pub fn add_row_again<W: Sink>(
+        &mut self,
+        writer: &mut W,
+        number: u32,
+        text: &[u8],
+    ) -> Result<(), WriteFault>
+        requires working { W.has_failed writer.old ≡ false }
+        requires text { (row : Row) × (text.now ≡ row_text self.old.app 0 row) }
+        ensures app { self.new.app ≡ self.old.app }
+        ensures text { (row : Row) → text.now ≡ row_text self.old.app 0 row
+            → Adds (W.held writer.old) (W.held writer.new) self.old.page self.new.page result (row_text self.old.app number row) }
+        ensures failed { W.has_failed writer.new ≡ is_err result }
+    {
+        add_numbered(writer, &mut self.page, number, &text[FIRST..])
     }
 
     /// Adds the line that ends the report of a campaign.

@@ -1,10 +1,12 @@
 -- What is told of a key or an array, where a check finds a fault or none.
-use Rattle.std.proofs.Common.{◌≡◌, ◌+◌, ◌-◌, ◌<◌, ◌≤◌, ℕ, Bool, List, [], ◌∷◌, length, Option, Some, None, ap, sym, ◌∙◌, arith}
+use Rattle.std.proofs.Common.{◌≡◌, ◌+◌, ◌-◌, ◌<◌, ◌≤◌, ℕ, Bool, true, List, [], ◌∷◌, length, Option, Some, None, ap, sym, ◌∙◌, arith}
 use Rattle.std.specs.Prelude.{nat_lt, nat_le, not}
 use Rattle.std.specs.List.{list_any}
 use Rattle.std.specs.Str.{bytes_eq}
 use Rattle.std.proofs.lemmas.Bool.{lt-ltb, le-ltb, lt-leb}
 use Rattle.toml.specs.Data.{Data, Members, get_member, as_str}
+use Rattle.model.specs.declared.block.Block.{Block}
+use Rattle.model.proofs.Nesting.{nothing_open}
 use Rattle.script.specs.declared.fault.Fault.{Fault}
 use Rattle.script.specs.declared.fault.FaultKind.TheVariants.{Missing, WrongKind, OutOfRange, DoubleName, TooMany}
 use Rattle.script.specs.declared.place.Place.{Place}
@@ -92,10 +94,9 @@ none_of_three first second most count fault none_first none_second few =
 
 -- ---- the end of a script
 
--- No op's check finds a fault, and no loop is open.
-pub closed : (check : Option Fault) (open_loops left : ℕ) (fault : Fault) → check ≡ None → open_loops ≡ left → left ≤ 0
-    → first_fault (check ∷ fails_if (nat_lt 0 open_loops) fault ∷ []) ≡ None
-closed check open_loops left fault none is few =
-    passed check (fails_if (nat_lt 0 open_loops) fault ∷ []) none
-    ∙ ap (λ n. first_fault (fails_if (nat_lt 0 n) fault ∷ [])) is
-    ∙ ap (λ b. first_fault (fails_if b fault ∷ [])) (le-ltb 0 left few)
+-- No op's check finds a fault, and no block is open.
+pub closed : (check : Option Fault) (open_blocks left : List Block) (fault : Fault) → check ≡ None → open_blocks ≡ left
+    → true ≡ not (nat_lt 0 (length left)) → first_fault (check ∷ fails_if (nat_lt 0 (length open_blocks)) fault ∷ []) ≡ None
+closed check open_blocks left fault none is empty =
+    passed check (fails_if (nat_lt 0 (length open_blocks)) fault ∷ []) none
+    ∙ ap (λ blocks. first_fault (fails_if (nat_lt 0 (length blocks)) fault ∷ [])) (is ∙ nothing_open left empty)

@@ -1,22 +1,24 @@
 -- Every op that is taken, of a script or of a handler, speaks of what there is.
 use Rattle.std.proofs.Common.{◌≡◌, ◌+◌, ◌≤◌, ℕ, Bool, true, false, List, [], ◌∷◌, length, map, Option, Some, None, refl}
-use Rattle.std.specs.Prelude.{◌&&◌, is_none}
+use Rattle.std.specs.Prelude.{◌&&◌, not, is_none}
 use Rattle.std.specs.List.{AllByRecursion, cons_option}
 use Rattle.std.specs.Option.{option_and_then, IfSome}
 use Rattle.toml.specs.Data.{Data, as_str}
 use Rattle.model.specs.declared.op.Access.TheVariants.{Send, SendFront, Overwrite, Receive, Peek, Take, Give, Lock}
+use Rattle.model.specs.declared.block.Block.{Block}
 use Rattle.model.specs.declared.op.Op.{Op}
 use Rattle.model.specs.declared.op.IsrOp.{IsrOp}
 use Rattle.model.specs.Application.{Application, Handler}
+use Rattle.model.specs.Blocks.{blocks_past, edge_of, ending, ends_loop, is_innermost, is_loop, with_ends}
 use Rattle.model.specs.Scripts.{is_in_range, knows, knows_isr, KnowsAll, IsHandler, most_name_bytes, most_handler_ops}
 use Rattle.model.proofs.Sorting.{by_test}
 use Rattle.grammar.specs.declared.object_sort.ObjectSort.TheVariants.{Queue, Semaphore, Mutex}
 use Rattle.script.specs.declared.place.Place.{Place}
 use Rattle.script.specs.Arrays.{each_fault}
-use Rattle.grammar.specs.Grammar.{Word, Form, forms, object_forms, semaphore_forms, group_forms, suspension_forms, CommandForm, isr_forms, read_by, if_in_range, is_isr_in_range, if_isr_in_range, op_of, isr_op_of, words_of}
+use Rattle.grammar.specs.Grammar.{Word, Form, forms, block_forms, object_forms, semaphore_forms, group_forms, suspension_forms, CommandForm, isr_forms, read_by, if_in_range, is_isr_in_range, if_isr_in_range, op_of, isr_op_of, words_of}
 use Rattle.script.specs.Entries.{RawIsr, Raw, Entries, HasEntries}
 use Rattle.script.specs.Finding.{among}
-use Rattle.script.specs.Ops.{Ops, task_ops, handler_ops, is_allowed, is_isr_allowed, is_command, op_in, nesting_with, op_elements, op_fault, script_fault, script_named, handler_scripts, task_scripts, scripts_fault, handler_ops_fault, with_script, with_isr_ops}
+use Rattle.script.specs.Ops.{Ops, task_ops, handler_ops, is_allowed, is_isr_allowed, is_command, op_in, blocks_with, op_elements, op_fault, script_fault, ops_named, handler_scripts, task_scripts, scripts_fault, handler_ops_fault, with_script, with_isr_ops}
 use Rattle.script.proofs.Checks.{none_fails}
 use Rattle.grammar.proofs.Forms.{Makes, read_by_holds}
 use Rattle.script.proofs.Fitting.{IsAt, found_at, at_fits, allowed_fits, at_group, at_task, has_daemon}
@@ -33,25 +35,25 @@ module _ {O : Type 0} (ops : Ops O) (entries : Entries) (Knows : O → Type 0) w
     text_known None = tt
     text_known (Some text) = known (words_of text)
 
-    one_more : (nesting : ℕ) (p : Place) (d : Data) (o : Option O) (others : List O) → op_in ops (among entries) d ≡ o
-        → op_fault ops entries nesting p d ≡ None → Known o → AllByRecursion Knows others → AllByRecursion Knows (cons_option o others)
-    one_more nesting p d None others is none spelt h = h
-    one_more nesting p d (Some op) others is none spelt h =
-        let taken = taken_stands ops entries nesting p d op none is in
+    one_more : (blocks : List Block) (p : Place) (d : Data) (o : Option O) (others : List O) → op_in ops (among entries) d ≡ o
+        → op_fault ops entries blocks p d ≡ None → Known o → AllByRecursion Knows others → AllByRecursion Knows (cons_option o others)
+    one_more blocks p d None others is none spelt h = h
+    one_more blocks p d (Some op) others is none spelt h =
+        let taken = taken_stands ops entries blocks p d op none is in
         (spelt taken.allowed taken.served, h)
 
-    each_known : (p : Place) (nesting i : ℕ) (ds : List Data) → each_fault (op_elements ops entries p) nesting i ds ≡ None
-        → AllByRecursion Knows (script_named ops entries ds)
-    each_known p nesting i [] none = tt
-    each_known p nesting i (d ∷ ds) none =
+    each_known : (p : Place) (blocks : List Block) (i : ℕ) (ds : List Data) → each_fault (op_elements ops entries p) blocks i ds ≡ None
+        → AllByRecursion Knows (ops_named ops entries ds)
+    each_known p blocks i [] none = tt
+    each_known p blocks i (d ∷ ds) none =
         let elements = op_elements ops entries p in
-        let here = none_fails (op_fault ops entries nesting (elements.at i) d) _ none in
-        one_more nesting (elements.at i) d (op_in ops (among entries) d) (script_named ops entries ds) refl here.0 (text_known (as_str d))
-        (each_known p (nesting_with ops entries nesting d) (i + 1) ds (none_fails _ [] here.1).0)
+        let here = none_fails (op_fault ops entries blocks (elements.at i) d) _ none in
+        one_more blocks (elements.at i) d (op_in ops (among entries) d) (ops_named ops entries ds) refl here.0 (text_known (as_str d))
+        (each_known p (blocks_with ops entries blocks d) (i + 1) ds (none_fails _ [] here.1).0)
 
     pub script_known : (p : Place) (ds : List Data) → script_fault ops entries p ds ≡ None
-        → AllByRecursion Knows (script_named ops entries ds)
-    script_known p ds none = each_known p 0 0 ds (none_fails (each_fault (op_elements ops entries p) 0 0 ds) _ none).0
+        → AllByRecursion Knows (ops_named ops entries ds)
+    script_known p ds none = each_known p [] 0 ds (none_fails (each_fault (op_elements ops entries p) [] 0 ds) _ none).0
 
 module _ (app : Application) (entries : Entries) (has : HasEntries app entries) where
   -- ---- of tasks
@@ -113,6 +115,12 @@ module _ (app : Application) (entries : Entries) (has : HasEntries app entries) 
     ),
   )
 
+  block_forms_known : AllKnown block_forms
+  block_forms_known = (
+    (λ turns a. refl),
+    ((λ condition a. refl), ((λ a. refl), ((λ a. refl), ((λ a. refl), object_forms_known)))),
+  )
+
   forms_known : AllKnown forms
   forms_known = (
     (λ n a. refl),
@@ -126,13 +134,7 @@ module _ (app : Application) (entries : Entries) (has : HasEntries app entries) 
             (λ a. refl),
             (
               (λ n a. refl),
-              (
-                (λ o a. refl),
-                (
-                  (λ n a. refl),
-                  ((λ a. refl), object_forms_known),
-                ),
-              ),
+              ((λ condition a. refl), block_forms_known),
             ),
           ),
         ),
@@ -153,13 +155,25 @@ module _ (app : Application) (entries : Entries) (has : HasEntries app entries) 
       let holds = read_by_holds (among entries) IsKnown (IsAt entries) (found_at entries) forms w ws forms_known in
       range_known (read_by (among entries) forms w ws) holds
 
+  -- an `end` of an `if` is one of any application
+  ending_known : (blocks : List Block) (op : Op) → knows app op ≡ true → knows app (ending blocks op) ≡ true
+  ending_known blocks op known = by_test (ends_loop (edge_of op) && is_innermost (λ b. not (is_loop b)) blocks)
+      (λ t. rw t refl) (λ t. rw t known)
+
+  ends_known : (blocks : List Block) (script : List Op) → AllByRecursion (λ (op : Op). knows app op ≡ true) script
+      → AllByRecursion (λ (op : Op). knows app op ≡ true) (with_ends blocks script)
+  ends_known blocks [] known = tt
+  ends_known blocks (op ∷ script) known =
+      (ending_known blocks op known.0, ends_known (blocks_past (edge_of (ending blocks op)) blocks) script known.1)
+
   tasks_known : (i : ℕ) (ts : List Raw) → each_fault (task_scripts entries) tt i (map (λ (t : Raw). t.script) ts) ≡ None
       → AllByRecursion (KnowsAll app) (map (with_script entries) ts)
   tasks_known i [] none = tt
   tasks_known i (t ∷ ts) none =
       let elements = task_scripts entries in
       let here = none_fails (script_fault task_ops entries (elements.at i) t.script) _ none in (
-        script_known task_ops entries (λ (op : Op). knows app op ≡ true) op_known (elements.at i) t.script here.0,
+        ends_known [] (ops_named task_ops entries t.script)
+            (script_known task_ops entries (λ (op : Op). knows app op ≡ true) op_known (elements.at i) t.script here.0),
         tasks_known (i + 1) ts (none_fails _ [] here.1).0,
       )
 

@@ -4,13 +4,13 @@ use Rattle.std.specs.Option.{option_and_then}
 use Rattle.toml.specs.Data.{Members}
 use Rattle.script.specs.declared.place.Section.TheVariants as section
 use Rattle.script.specs.Faults.{at_section}
-use Rattle.script.specs.Values.{number_fault}
+use Rattle.script.specs.Values.{number_fault, boolean_fault}
 use Rattle.script.specs.Entries.{isr_names}
 use Rattle.script.specs.Sections.{data_at}
 use Rattle.script.specs.Ops.{handler_ops_fault, scripts_fault}
 use Rattle.script.specs.Interrupts.{interrupts_fault}
 use Rattle.script.specs.Points.{campaign_fault}
-use Rattle.script.specs.Load.{limits_fault, entries_of, entries_fault, load_fault}
+use Rattle.script.specs.Load.{tickless_named, limits_fault, entries_of, entries_fault, load_fault}
 use Rattle.script.proofs.Checks.{none_fails}
 
 pub record Passes (document : Members) : Type 0 where
@@ -24,9 +24,11 @@ pub passed : (document : Members) → load_fault document ≡ None → Passes do
 passed document none =
     let names = isr_names (entries_of document) in
     let start = option_and_then (number_fault 0 4294967295 (at_section section.Start)) (data_at section.Start document) in
-    let limits = option_and_then limits_fault (data_at section.Limits document) in
+    let tickless = option_and_then (boolean_fault (at_section section.Tickless)) (data_at section.Tickless document) in
+    let limits = option_and_then (limits_fault (tickless_named document)) (data_at section.Limits document) in
     let begun = none_fails start _ none in
-    let limited = none_fails limits _ begun.1 in
+    let idle = none_fails tickless _ begun.1 in
+    let limited = none_fails limits _ idle.1 in
     let entries = none_fails (entries_fault document) _ limited.1 in
     let handlers = none_fails (handler_ops_fault (entries_of document)) _ entries.1 in
     let scripts = none_fails (scripts_fault (entries_of document)) _ handlers.1 in

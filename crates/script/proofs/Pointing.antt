@@ -1,5 +1,5 @@
 -- The point of injections whose handlers are known.
-use Rattle.std.proofs.Common.{◌≡◌, ◌≤◌, ◌<◌, ◌↔◌, List, [], length, Option, Some, arith, refl, ap}
+use Rattle.std.proofs.Common.{◌≡◌, ◌≤◌, ◌<◌, ◌↔◌, List, [], length, Some, arith, refl, ap}
 use Rattle.std.specs.Prelude.{Ok, Err, Result, IfOk}
 use Rattle.std.specs.Result.{result_ok}
 use Rattle.model.specs.declared.plan.Injection.{Injection}

@@ -1,5 +1,5 @@
 -- The entries of a document that have names, as the file has them: the ops of handlers and tasks are still its texts.
-use Rattle.std.specs.Prelude.{◌≡◌, ℕ, List, [], ◌∷◌, ◌++◌, length, map, Option, Some, None, is_some, option_map}
+use Rattle.std.specs.Prelude.{◌≡◌, ℕ, Bool, List, [], ◌∷◌, ◌++◌, length, map, Option, Some, None, is_some, option_map}
 use Rattle.toml.specs.Data.{Data}
 use Rattle.toml.specs.View.{view}
 use Rattle.model.specs.declared.object.ObjectKind.{ObjectKind}
@@ -26,6 +26,7 @@ pub record RawIsr : Type 0 where
 pub record Raw : Type 0 where
   pub name : List ℕ
   pub priority : ℕ
+  pub endless : Bool
   pub script : List Data
 
 -- the daemon, and how many commands its queue holds
@@ -53,7 +54,7 @@ abbrev pub isr_view : RawHandler → RawIsr
 isr_view h = record { name = h.name.now; ops = map view h.ops.now }
 
 abbrev pub raw_view : RawTask → Raw
-raw_view t = record { name = t.name.now; priority = t.priority; script = map view t.script.now }
+raw_view t = record { name = t.name.now; priority = t.priority; endless = t.endless; script = map view t.script.now }
 
 abbrev pub daemon_view : NamedDaemon → DaemonEntry
 daemon_view d = record { name = d.name.now; priority = d.priority; size = d.size }

@@ -38,6 +38,7 @@ at_element p n = record p { index = Some n }
 -- the name of a section in the file
 abbrev pub section_word : Section → List ℕ
 section_word section.Start = codes "start"
+section_word section.Tickless = codes "tickless"
 section_word section.Limits = codes "limits"
 section_word section.Queue = codes "queue"
 section_word section.Binary = codes "binary"
@@ -60,6 +61,7 @@ key_word key.Max = codes "max"
 key_word key.Initial = codes "initial"
 key_word key.Ops = codes "ops"
 key_word key.Priority = codes "priority"
+key_word key.Endless = codes "endless"
 key_word key.Script = codes "script"
 key_word key.Tick = codes "tick"
 key_word key.Handler = codes "handler"

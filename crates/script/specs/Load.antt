@@ -1,30 +1,35 @@
 -- All checks of a document in their order, and the application that it names.
-use Rattle.std.specs.Prelude.{ℕ, ◌==◌, List, [], ◌∷◌, ◌++◌, length, map, Option, option_and_then}
+use Rattle.std.specs.Prelude.{ℕ, ◌==◌, Bool, List, [], ◌∷◌, ◌++◌, length, map, Option, option_and_then, if◌then◌else◌}
 use Rattle.toml.specs.Data.{Data, Members, as_table}
 use Rattle.model.specs.Application.{Application, Limits}
+use Rattle.model.specs.Scripts.{most_ticks}
 use Rattle.script.specs.declared.fault.Fault.{Fault}
 use Rattle.script.specs.declared.fault.FaultKind.TheVariants.{Missing, WrongKind}
 use Rattle.script.specs.declared.place.Section.TheVariants as section
 use Rattle.script.specs.declared.place.Key.TheVariants as key
 use Rattle.script.specs.Faults.{at_section, fault_at, first_fault, fails_if, need, optional}
 use Rattle.script.specs.Names.{handler_names, task_names}
-use Rattle.script.specs.Values.{member_of, number_fault, number_or}
+use Rattle.script.specs.Values.{member_of, number_fault, number_or, boolean_fault, boolean_named}
 use Rattle.script.specs.Entries.{Entries, all_objects, daemon_of, isr_names, names_of}
 use Rattle.script.specs.Sections.{data_at, no_entries, objects_fault, objects_named, groups_fault, groups_named, handlers_fault, handlers_named, tasks_fault, tasks_named, daemon_fault, daemon_named}
 use Rattle.script.specs.Ops.{handler_ops_fault, scripts_fault, with_isr_ops, all_tasks}
 use Rattle.script.specs.Interrupts.{interrupts_fault, interrupts_named}
 use Rattle.script.specs.Points.{campaign_fault, campaign_named}
 
--- the most ticks and steps that a file may ask for, and where it says nothing (profile)
+-- the most ticks and steps that a file may ask for, but for the ticks of one that is tickless, and where it says nothing (profile)
 abbrev pub most_limit : ℕ
 most_limit = 1000000
 
--- It is a table, and its keys are limits.
-abbrev pub limits_fault : Data → Option Fault
-limits_fault d =
+-- whether the document asks for idle that lets as many ticks pass in a step as come before the next thing to happen
+abbrev pub tickless_named : Members → Bool
+tickless_named document = boolean_named (data_at section.Tickless document)
+
+-- It is a table, and its keys are limits, of a document that is tickless or not.
+abbrev pub limits_fault : (tickless : Bool) → Data → Option Fault
+limits_fault tickless d =
     let p = at_section section.Limits in
     need (fault_at WrongKind p) (as_table d) (λ ms. first_fault (
-    optional p key.Ticks (number_fault 1 most_limit) ms
+    optional p key.Ticks (number_fault 1 (if tickless then most_ticks else most_limit)) ms
     ∷ optional p key.Steps (number_fault 1 most_limit) ms
     ∷ []))
 
@@ -72,7 +77,8 @@ load_fault document =
     let entries = entries_of document in
     first_fault (
     option_and_then (number_fault 0 4294967295 (at_section section.Start)) (data_at section.Start document)
-    ∷ option_and_then limits_fault (data_at section.Limits document)
+    ∷ option_and_then (boolean_fault (at_section section.Tickless)) (data_at section.Tickless document)
+    ∷ option_and_then (limits_fault (tickless_named document)) (data_at section.Limits document)
     ∷ entries_fault document
     ∷ handler_ops_fault entries
     ∷ scripts_fault entries
@@ -86,6 +92,7 @@ app_named document =
     let entries = entries_of document in
     record {
       start = number_or 0 (data_at section.Start document);
+      tickless = tickless_named document;
       limits = limits_named (data_at section.Limits document);
       objects = all_objects entries;
       group_count = length entries.groups;

@@ -3,12 +3,16 @@ use Rattle.std.specs.Prelude.{ℕ, Bool, true, false, ◌&&◌, not, nat_lt, Lis
 use Rattle.std.specs.Option.{option_map_or}
 use Rattle.toml.specs.Data.{Data, as_str}
 use Rattle.model.specs.declared.op.Access.{Access}
+use Rattle.model.specs.declared.block.Block.{Block}
+use Rattle.model.specs.declared.block.Edge.{Edge}
+use Rattle.model.specs.declared.block.Edge.TheVariants.{Inside}
 use Rattle.model.specs.declared.op.Op.{Op}
 use Rattle.model.specs.declared.op.Op.TheVariants.{Do, NextCommand, Obey}
 use Rattle.model.specs.declared.op.IsrOp.{IsrOp}
 use Rattle.model.specs.declared.op.IsrOp.TheVariants as isr
 use Rattle.model.specs.Application.{Definition, Handler}
-use Rattle.model.specs.Scripts.{fits, may_stand, nesting_past}
+use Rattle.model.specs.Blocks.{blocks_past, edge_of, ending, may_stand, with_ends}
+use Rattle.model.specs.Scripts.{fits}
 use Rattle.script.specs.declared.fault.Fault.{Fault}
 use Rattle.script.specs.declared.fault.FaultKind.TheVariants.{BadOp, UnknownName, NoDaemon, OverwriteLength, BadNesting}
 use Rattle.script.specs.declared.place.Place.{Place}
@@ -26,13 +30,13 @@ abbrev pub allows : List ObjectEntry → ℕ → Access → Bool
 allows objects object access = option_map_or (λ (o : ObjectEntry). fits o.kind access) (slice_get objects object) false
 
 -- What tells the ops of tasks from those of handlers: which words spell which, whether the daemon has to do it, whether an object
--- allows it, and where it may stand and how many loops are open after it, where so many are open before it.
+-- allows it, what it is to the blocks of its script, and which op its text is where these blocks are open.
 pub record Ops (O : Type 0) : Type 0 where
   pub of_words : Naming → List Word → Option O
   pub is_command : O → Bool
   pub is_allowed : List ObjectEntry → O → Bool
-  pub may_stand : ℕ → O → Bool
-  pub nesting_past : ℕ → O → ℕ
+  pub edge_of : O → Edge
+  pub ending : List Block → O → O
 
 -- A call that waits is allowed by each object that its text may name.
 abbrev pub is_allowed : List ObjectEntry → Op → Bool
@@ -55,18 +59,18 @@ task_ops = record {
   of_words = op_of;
   is_command = λ op. false;
   is_allowed = is_allowed;
-  may_stand = may_stand;
-  nesting_past = nesting_past;
+  edge_of = edge_of;
+  ending = ending;
 }
 
--- the ops of handlers, which have no loops
+-- the ops of handlers, which have no blocks
 abbrev pub handler_ops : Ops IsrOp
 handler_ops = record {
   of_words = isr_op_of;
   is_command = is_command;
   is_allowed = is_isr_allowed;
-  may_stand = λ nesting op. true;
-  nesting_past = λ nesting op. nesting;
+  edge_of = λ op. Inside;
+  ending = λ blocks op. op;
 }
 
 -- ---- one op
@@ -75,42 +79,51 @@ handler_ops = record {
 abbrev pub op_in : {O : Type 0} → Ops O → Naming → Data → Option O
 op_in ops named d = option_and_then (λ text. ops.of_words named (words_of text)) (as_str d)
 
--- There is a daemon if it is a command, its object allows it, and it may stand where so many loops are open.
-abbrev pub standing_fault : {O : Type 0} → Ops O → Entries → ℕ → Place → O → Option Fault
-standing_fault ops entries nesting p op = first_fault (
+-- what it is to the blocks of its script, where these are open
+abbrev pub edge_in : {O : Type 0} → Ops O → List Block → O → Edge
+edge_in ops blocks op = ops.edge_of (ops.ending blocks op)
+
+-- There is a daemon if it is a command, its object allows it, and it may stand where these blocks are open.
+abbrev pub standing_fault : {O : Type 0} → Ops O → Entries → List Block → Place → O → Option Fault
+standing_fault ops entries blocks p op = first_fault (
     fails_if (ops.is_command op && is_none entries.daemon) (fault_at NoDaemon p)
     ∷ fails_if (not (ops.is_allowed entries.objects op)) (fault_at OverwriteLength p)
-    ∷ fails_if (not (ops.may_stand nesting op)) (fault_at BadNesting p)
+    ∷ fails_if (not (may_stand (edge_in ops blocks op) blocks)) (fault_at BadNesting p)
     ∷ [])
 
 -- It is an op, whatever its names are, they are those of entries, and it may stand there.
-abbrev pub op_fault : {O : Type 0} → Ops O → Entries → ℕ → Place → Data → Option Fault
-op_fault ops entries nesting p d = first_fault (
+abbrev pub op_fault : {O : Type 0} → Ops O → Entries → List Block → Place → Data → Option Fault
+op_fault ops entries blocks p d = first_fault (
     fails_if (is_none (op_in ops any_name d)) (fault_at BadOp p)
-    ∷ need (fault_at UnknownName p) (op_in ops (among entries) d) (standing_fault ops entries nesting p)
+    ∷ need (fault_at UnknownName p) (op_in ops (among entries) d) (standing_fault ops entries blocks p)
     ∷ [])
 
--- how many loops are open after it
-abbrev pub nesting_with : {O : Type 0} → Ops O → Entries → ℕ → Data → ℕ
-nesting_with ops entries nesting d = option_map_or (ops.nesting_past nesting) (op_in ops (among entries) d) nesting
+-- the blocks that are open after it
+abbrev pub blocks_with : {O : Type 0} → Ops O → Entries → List Block → Data → List Block
+blocks_with ops entries blocks d =
+    option_map_or (λ op. blocks_past (edge_in ops blocks op) blocks) (op_in ops (among entries) d) blocks
 
 -- ---- all ops
 
--- the ops of a script, each where so many loops are open
-abbrev pub op_elements : {O : Type 0} → Ops O → Entries → Place → Elements ℕ Data
+-- the ops of a script, each where these blocks are open
+abbrev pub op_elements : {O : Type 0} → Ops O → Entries → Place → Elements (List Block) Data
 op_elements ops entries p =
-    record { at = at_element p; fault = op_fault ops entries; next = nesting_with ops entries }
+    record { at = at_element p; fault = op_fault ops entries; next = blocks_with ops entries }
 
--- Each op of a script; at its end no loop is open.
+-- Each op of a script; at its end no block is open.
 abbrev pub script_fault : {O : Type 0} → Ops O → Entries → Place → List Data → Option Fault
 script_fault ops entries p ds = first_fault (
-    each_fault (op_elements ops entries p) 0 0 ds
-    ∷ fails_if (nat_lt 0 (fold (nesting_with ops entries) 0 ds)) (fault_at BadNesting (at_element p (length ds)))
+    each_fault (op_elements ops entries p) [] 0 ds
+    ∷ fails_if (nat_lt 0 (length (fold (blocks_with ops entries) [] ds))) (fault_at BadNesting (at_element p (length ds)))
     ∷ [])
 
--- the ops that they name
-abbrev pub script_named : {O : Type 0} → Ops O → Entries → List Data → List O
-script_named ops entries ds = filter_map (op_in ops (among entries)) ds
+-- the ops that they spell
+abbrev pub ops_named : {O : Type 0} → Ops O → Entries → List Data → List O
+ops_named ops entries ds = filter_map (op_in ops (among entries)) ds
+
+-- the script of a task that they spell, where each `end` is that of the block that it ends
+abbrev pub script_named : Entries → List Data → List Op
+script_named entries ds = with_ends [] (ops_named task_ops entries ds)
 
 -- the ops of each handler
 abbrev pub handler_scripts : Entries → Elements (Unit {0}) (List Data)
@@ -131,15 +144,15 @@ scripts_fault entries = each_fault (task_scripts entries) tt 0 (map (λ (t : Raw
 
 -- a handler with its ops
 abbrev pub with_isr_ops : Entries → RawIsr → Handler
-with_isr_ops entries h = record { name = h.name; ops = script_named handler_ops entries h.ops }
+with_isr_ops entries h = record { name = h.name; ops = ops_named handler_ops entries h.ops }
 
 -- a task with its script
 abbrev pub with_script : Entries → Raw → Definition
 with_script entries t = record {
   name = t.name;
   priority = t.priority;
-  endless = false;
-  script = script_named task_ops entries t.script;
+  endless = t.endless;
+  script = script_named entries t.script;
 }
 
 -- the daemon as a task, where there is one: without an end it asks for a command of the queue of this number, and does it

@@ -14,7 +14,7 @@ use Rattle.script.specs.declared.place.Key.TheVariants as key
 use Rattle.script.specs.declared.object_section.ObjectSection.{ObjectSection}
 use Rattle.script.specs.declared.object_section.ObjectSection.TheVariants.{Queue, Binary, Counting, Mutex}
 use Rattle.script.specs.Faults.{at_section, fault_at, section_word, first_fault, fails_if, need, required, optional}
-use Rattle.script.specs.Values.{number_fault, number_named, name_fault, name_named, texts_fault, texts_named}
+use Rattle.script.specs.Values.{member_of, number_fault, number_named, boolean_fault, boolean_named, name_fault, name_named, texts_fault, texts_named}
 use Rattle.script.specs.Arrays.{section_fault, section_named}
 use Rattle.script.specs.Entries.{ObjectEntry, GroupEntry, RawIsr, Raw, DaemonEntry, Entries, names_of}
 
@@ -122,6 +122,7 @@ abbrev pub task_keys : Entries → List Raw → Place → Members → Option Fau
 task_keys earlier before p ms = first_fault (
     required p key.Name (name_fault (names_of earlier ++ map (λ (t : Raw). t.name) before)) ms
     ∷ required p key.Priority (number_fault 0 (priorities - 1)) ms
+    ∷ optional p key.Endless boolean_fault ms
     ∷ required p key.Script (texts_fault most_ops) ms
     ∷ [])
 
@@ -129,6 +130,7 @@ abbrev pub task_named : Option Members → Raw
 task_named ms = record {
   name = name_named ms;
   priority = number_named key.Priority ms;
+  endless = boolean_named (member_of key.Endless ms);
   script = texts_named key.Script ms;
 }
 

@@ -1,10 +1,10 @@
--- What stands at the keys of a document, with its checks: numbers, names and texts.
+-- What stands at the keys of a document, with its checks: numbers, booleans, names and texts.
 -- Where a check fails the value is a default, which no one sees.
-use Rattle.std.specs.Prelude.{ℕ, ℤ, pos, negsuc, not, ◌||◌, nat_lt, List, [], ◌∷◌, Option, Some, None, is_none, option_map, option_and_then, unwrap_or}
+use Rattle.std.specs.Prelude.{ℕ, ℤ, pos, negsuc, Bool, false, not, ◌||◌, nat_lt, List, [], ◌∷◌, Option, Some, None, is_none, option_map, option_and_then, unwrap_or}
 use Rattle.std.specs.List.{list_any}
 use Rattle.std.specs.Str.{bytes_eq}
 use Rattle.std.specs.Borrow.{Bor}
-use Rattle.toml.specs.Data.{Data, Members, as_integer, as_str, get_member}
+use Rattle.toml.specs.Data.{Data, Members, as_integer, as_bool, as_str, get_member}
 use Rattle.toml.specs.View.{view}
 use Rattle.toml.specs.declared.value.Value.{Value}
 use Rattle.script.specs.declared.fault.Fault.{Fault}
@@ -47,6 +47,16 @@ number_or default (Some d) = integer_named (as_integer d)
 -- the number at a key of a table
 abbrev pub number_named : Key → Option Members → ℕ
 number_named k ms = number_or 0 (member_of k ms)
+
+-- ---- booleans
+
+-- It is a boolean.
+abbrev pub boolean_fault : Place → Data → Option Fault
+boolean_fault p d = fails_if (is_none (as_bool d)) (fault_at WrongKind p)
+
+-- which one, or false where it is left out
+abbrev pub boolean_named : Option Data → Bool
+boolean_named d = unwrap_or (option_and_then as_bool d) false
 
 -- ---- names
 

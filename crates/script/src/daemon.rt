@@ -4,7 +4,8 @@ ghost use Rattle.std.specs.List.{AllByRecursion};
 ghost use Rattle.toml.specs.View.{table_view};
 ghost use Rattle.model.specs.Application.{Definition};
 ghost use Rattle.model.specs.declared.op.Op.TheVariants.{NextCommand, Obey};
-ghost use Rattle.model.specs.Scripts.{IsDefinition, IsObjectKind, IsScript, Nests, most_name_bytes, most_objects, most_tasks};
+ghost use Rattle.model.specs.Blocks.{Nests, edges_of};
+ghost use Rattle.model.specs.Scripts.{IsDefinition, IsObjectKind, IsScript, most_name_bytes, most_objects, most_tasks};
 ghost use Rattle.script.specs.declared.place.Key.TheVariants as key;
 ghost use Rattle.script.specs.Faults.{Judges, seen, required};
 ghost use Rattle.script.specs.Values.{name_fault, name_named};
@@ -16,7 +17,7 @@ use crate::entries::NamedEntries;
 use crate::fault::{Fault, FaultKind};
 use crate::named_daemon::NamedDaemon;
 use crate::objects::{MOST_ITEMS, kinds_of};
-use crate::ops::{push, tasks_of};
+use crate::ops::{finish, push, tasks_of};
 use crate::place::{Key, Place, Section};
 use crate::raw_task::RawTask;
 use crate::readers::HIGHEST_PRIORITY;
@@ -108,10 +109,7 @@ fn script(alloc: Global, commands: ObjectId) -> Result<Script, AllocError>
     let mut builder = ScriptBuilder::new(alloc);
     push(&mut builder, Op::NextCommand(commands))?;
     push(&mut builder, Op::Obey)?;
-    match builder.finish() {
-        Some(script) => Ok(script),
-        None => unreachable!(),
-    }
+    finish(builder, alloc)
 }
 
 // The daemon as a task, whose queue has this number.
@@ -128,12 +126,12 @@ fn task(
     Ok(TaskDefinition::new(name, daemon.priority, true, script))
 }
 
-/// The tasks with their scripts, whose loops are closed, and behind them the daemon, if there is one.
+/// The tasks with their scripts, whose blocks are closed, and behind them the daemon, if there is one.
 pub(crate) fn all_tasks(
     alloc: Global,
     entries: &NamedEntries<'_>,
 ) -> Result<Vec<TaskDefinition>, AllocError>
-    requires nest { AllByRecursion (λ (t : Definition). Nests 0 t.script)
+    requires nest { AllByRecursion (λ (t : Definition). Nests [] (edges_of t.script))
         (map (with_script (entries_view entries.now)) (entries_view entries.now).tasks) }
     requires room { IfSome entries.now.daemon (λ d. length entries.now.tasks.items < most_tasks) }
     ensures tasks { IfOk result (λ v. v.items ≡ all_tasks (entries_view entries.now)) }

@@ -6,14 +6,15 @@ ghost use Rattle.toml.specs.View.{table_view};
 ghost use Rattle.script.specs.declared.fault.Fault.{Fault};
 ghost use Rattle.script.specs.declared.place.Section.TheVariants as section;
 ghost use Rattle.model.specs.Application.{Handler, Definition};
-ghost use Rattle.model.specs.Scripts.{IsObjectKind, IsDefinition, Nests, most_objects, most_handlers, most_handler_ops, most_name_bytes, most_tasks};
+ghost use Rattle.model.specs.Blocks.{Nests, edges_of};
+ghost use Rattle.model.specs.Scripts.{IsObjectKind, IsDefinition, most_objects, most_handlers, most_handler_ops, most_name_bytes, most_tasks, most_ticks};
 ghost use Rattle.script.specs.Faults.{Judges, Loads, first_fault};
 ghost use Rattle.script.specs.Entries.{all_objects, daemon_of, isr_names, entries_view};
 ghost use Rattle.script.specs.Sections.{data_at};
 ghost use Rattle.script.specs.Ops.{all_tasks, handler_ops_fault, scripts_fault, with_isr_ops, with_script};
 ghost use Rattle.script.specs.Interrupts.{interrupts_fault, interrupts_named};
 ghost use Rattle.script.specs.Points.{campaign_fault, campaign_named};
-ghost use Rattle.script.specs.Load.{limits_fault, limits_named, load_fault, app_named};
+ghost use Rattle.script.specs.Load.{most_limit, limits_fault, limits_named, load_fault, app_named};
 
 use crate::daemon::{all_objects, all_tasks};
 use crate::entries::NamedEntries;
@@ -23,21 +24,34 @@ use crate::ops::{check_handlers, check_scripts, handlers_of};
 use crate::place::{Key, Place, Section};
 use crate::points::points;
 use crate::readers::named_entries;
-use crate::values::{at_key, at_section, optional_number};
+use crate::values::{at_key, at_section, optional_boolean, optional_long_number, optional_number};
 use model::{
     App, BaseInterrupts, HandlerDefinition, Interrupt, Limits, ObjectKind, TaskDefinition,
 };
 use std::alloc::{AllocError, Global};
 use toml::Table;
 
-fn limits(document: &Table) -> Result<Limits, Fault>
+// The most ticks that a document may ask for.
+fn most_ticks(tickless: bool) -> u64
+    ensures value { result ≡ (if tickless then most_ticks else most_limit) }
+    ensures range { (most_limit ≤ result) × (result ≤ most_ticks) }
+{
+    if tickless {
+        Limits::MOST_TICKS
+    } else {
+        Limits::MOST as u64
+    }
+}
+
+// The limits of a document that is tickless or not.
+fn limits(document: &Table, tickless: bool) -> Result<Limits, Fault>
     ensures { Judges result
-        (option_and_then limits_fault (data_at section.Limits (table_view document.now)))
+        (option_and_then (limits_fault tickless) (data_at section.Limits (table_view document.now)))
         (limits_named (data_at section.Limits (table_view document.now))) }
 {
     let Some(value) = at_section(document, Section::Limits) else {
         return Ok(Limits {
-            ticks: Limits::MOST,
+            ticks: Limits::MOST as u64,
             steps: Limits::MOST,
         });
     };
@@ -45,11 +59,11 @@ fn limits(document: &Table) -> Result<Limits, Fault>
     let Some(table) = value.as_table() else {
         return Err(FaultKind::WrongKind.at(place));
     };
-    let (least, most) = (1, Limits::MOST);
     let value = at_key(table, Key::Ticks);
-    let ticks = optional_number(value, place.key(Key::Ticks), least, most, most)?;
+    let (most, default) = (most_ticks(tickless), Limits::MOST as u64);
+    let ticks = optional_long_number(value, place.key(Key::Ticks), 1, most, default)?;
     let value = at_key(table, Key::Steps);
-    let steps = optional_number(value, place.key(Key::Steps), least, most, most)?;
+    let steps = optional_number(value, place.key(Key::Steps), 1, Limits::MOST, Limits::MOST)?;
     Ok(Limits { ticks, steps })
 }
 
@@ -62,13 +76,13 @@ struct Parts {
     tasks: Vec<TaskDefinition>,
 }
 
-// The parts that these entries, whose loops are closed, and interrupts give. Only memory may be wanting.
+// The parts that these entries, whose blocks are closed, and interrupts give. Only memory may be wanting.
 fn parts_of(
     alloc: Global,
     entries: &NamedEntries<'_>,
     listed: &[Interrupt],
 ) -> Result<Parts, AllocError>
-    requires nest { AllByRecursion (λ (t : Definition). Nests 0 t.script)
+    requires nest { AllByRecursion (λ (t : Definition). Nests [] (edges_of t.script))
         (map (with_script (entries_view entries.now)) (entries_view entries.now).tasks) }
     requires room { IfSome entries.now.daemon (λ d. length entries.now.tasks.items < most_tasks) }
     ensures objects { IfOk result (λ parts.
@@ -101,6 +115,7 @@ fn app_of(
     alloc: Global,
     document: &Table,
     start: u32,
+    tickless: bool,
     limits: Limits,
     entries: &NamedEntries<'_>,
 ) -> Result<App, LoadError>
@@ -112,6 +127,7 @@ fn app_of(
         ∷ campaign_fault (isr_names (entries_view entries.now)) (table_view document.now) ∷ []))
         (record {
           start = start;
+          tickless = tickless;
           limits = limits;
           objects = all_objects (entries_view entries.now);
           group_count = length (entries_view entries.now).groups;
@@ -130,6 +146,7 @@ fn app_of(
     let parts = parts_of(alloc, entries, listed.as_slice())?;
     Ok(App::new(
         start,
+        tickless,
         limits,
         parts.objects,
         entries.group_count(),
@@ -164,8 +181,10 @@ impl FromDocument for App {
     fn from_document(alloc: Global, document: &Table) -> Result<App, LoadError> {
         let value = at_section(document, Section::Start);
         let start = optional_number(value, Place::section(Section::Start), 0, u32::MAX, 0)?;
-        let limits = limits(document)?;
+        let value = at_section(document, Section::Tickless);
+        let tickless = optional_boolean(value, Place::section(Section::Tickless))?;
+        let limits = limits(document, tickless)?;
         let entries = named_entries(document)?;
-        app_of(alloc, document, start, limits, &entries)
+        app_of(alloc, document, start, tickless, limits, &entries)
     }
 }

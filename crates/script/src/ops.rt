@@ -3,10 +3,11 @@ ghost use Rattle.std.specs.Prelude.{◌≡◌, ◌≤◌, ◌<◌, ◌++◌, ◌
 ghost use Rattle.std.specs.List.{AllByRecursion};
 ghost use Rattle.toml.specs.View.{view};
 ghost use Rattle.model.specs.Application.{Handler, Definition};
-ghost use Rattle.model.specs.Scripts.{InRange, IsScript, IsDefinition, Nests, may_stand, nesting_after, most_tasks, most_ops, most_handlers, most_handler_ops, most_name_bytes};
+ghost use Rattle.model.specs.Blocks.{Nests, edges_of, ending, may_come, open_behind};
+ghost use Rattle.model.specs.Scripts.{InRange, IsScript, IsDefinition, most_tasks, most_ops, most_handlers, most_handler_ops, most_name_bytes};
 ghost use Rattle.script.specs.Faults.{Judges};
 ghost use Rattle.script.specs.Entries.{object_view, isr_view, raw_view, entries_view};
-ghost use Rattle.script.specs.Ops.{allows, task_ops, handler_ops, op_in, op_fault, nesting_with, script_fault, script_named, handler_ops_fault, scripts_fault, with_isr_ops, with_script};
+ghost use Rattle.script.specs.Ops.{allows, handler_ops, op_in, op_fault, blocks_with, script_fault, ops_named, script_named, handler_ops_fault, scripts_fault, with_isr_ops, with_script};
 
 use crate::entries::NamedEntries;
 use crate::fault::{Fault, FaultKind};
@@ -16,18 +17,18 @@ use crate::raw_handler::RawHandler;
 use crate::raw_task::RawTask;
 use grammar::{AnyName, Finding, isr_op_of, op_of};
 use model::{
-    Access, HandlerDefinition, IsrOp, NestingFault, ObjectId, Op, Script, ScriptBuilder,
-    TaskDefinition,
+    Access, Edge, HandlerDefinition, IsrOp, NestingFault, ObjectId, Op, OpenBlocks, Script,
+    ScriptBuilder, TaskDefinition,
 };
 use std::alloc::{AllocError, Global};
 use toml::Value;
 
 /// An op of a text: a task's, or a handler's.
 pub(crate) trait TextOp: Copy {
-    ghost use Rattle.std.specs.Prelude.{◌≡◌, map, true, false, MatchOption};
+    ghost use Rattle.std.specs.Prelude.{◌≡◌, map};
     ghost use Rattle.grammar.specs.Grammar.{words_of};
     ghost use Rattle.script.specs.Entries.{object_view};
-    ghost use Rattle.script.specs.Ops.{Ops};
+    ghost use Rattle.script.specs.Ops.{Ops, edge_in};
 
     // What tells it from the other kind.
     ghost ops: { Ops Self };
@@ -44,10 +45,9 @@ pub(crate) trait TextOp: Copy {
     fn is_allowed(&self, objects: &[NamedObject<'_>]) -> bool
         ensures { result ≡ ops.is_allowed (map object_view objects.now) self.now };
 
-    /// How many loops are open after it, where so many are open before it; `None` where it may not stand there.
-    fn nesting_after(&self, nesting: u8) -> Option<u8>
-        ensures { MatchOption result (ops.may_stand nesting self.now ≡ false)
-            (λ past. (ops.may_stand nesting self.now ≡ true) × (past ≡ ops.nesting_past nesting self.now)) };
+    /// What it is to the blocks of its script, where these are open.
+    fn edge_in(&self, blocks: &OpenBlocks) -> Edge
+        ensures { result ≡ edge_in ops blocks.now self.now };
 }
 
 // Whether the object of this number allows a call.
@@ -80,8 +80,8 @@ impl TextOp for Op {
         }
     }
 
-    fn nesting_after(&self, nesting: u8) -> Option<u8> {
-        self.nesting_past(nesting)
+    fn edge_in(&self, blocks: &OpenBlocks) -> Edge {
+        blocks.ending(*self).edge()
     }
 }
 
@@ -108,8 +108,8 @@ impl TextOp for IsrOp {
         }
     }
 
-    fn nesting_after(&self, nesting: u8) -> Option<u8> {
-        Some(nesting)
+    fn edge_in(&self, _blocks: &OpenBlocks) -> Edge {
+        Edge::Inside
     }
 }
 
@@ -122,17 +122,17 @@ fn op_in<O: TextOp, F: Finding>(value: &Value, finding: &F) -> Option<O>
     O::of_text(value.as_str()?.as_bytes(), finding)
 }
 
-// How many loops are open after the op that a value spells, where so many are open before it. Its names are those of
-// entries, which allow it; there is a daemon if it is a command.
-fn nesting_with<O: TextOp>(
+// Goes past the op that a value spells, where these blocks are open. Its names are those of entries, which allow it; there is a
+// daemon if it is a command; and it may stand there.
+fn pass_op<O: TextOp>(
     entries: &NamedEntries<'_>,
-    nesting: u8,
+    blocks: &mut OpenBlocks,
     value: &Value,
     place: Place,
-) -> Result<u8, Fault>
-    ensures { Judges result
-        (op_fault O.ops (entries_view entries.now) nesting place (view value.now))
-        (nesting_with O.ops (entries_view entries.now) nesting (view value.now)) }
+) -> Result<(), Fault>
+    ensures checks { Judges result
+        (op_fault O.ops (entries_view entries.now) blocks.old place (view value.now)) tt }
+    ensures passed { OnOk result (blocks.new ≡ blocks_with O.ops (entries_view entries.now) blocks.old (view value.now)) }
 {
     if op_in::<O, AnyName>(value, &AnyName).is_none() {
         return Err(FaultKind::BadOp.at(place));
@@ -146,8 +146,12 @@ fn nesting_with<O: TextOp>(
     if !op.is_allowed(entries.objects.as_slice()) {
         return Err(FaultKind::OverwriteLength.at(place));
     }
-    op.nesting_after(nesting)
-        .ok_or(FaultKind::BadNesting.at(place))
+    let edge = op.edge_in(blocks);
+    if !blocks.may_stand(edge) {
+        return Err(FaultKind::BadNesting.at(place));
+    }
+    blocks.pass(edge);
+    Ok(())
 }
 
 // Checks the ops that these texts spell.
@@ -159,11 +163,11 @@ fn check_script<O: TextOp>(
     ensures { Judges result
         (script_fault O.ops (entries_view entries.now) place (map view texts.now)) tt }
 {
-    let mut nesting = 0;
+    let mut blocks = OpenBlocks::new();
     for (index, text) in texts.iter().enumerate() {
-        nesting = nesting_with::<O>(entries, nesting, text, place.element(index))?;
+        pass_op::<O>(entries, &mut blocks, text, place.element(index))?;
     }
-    if nesting > 0 {
+    if !blocks.is_empty() {
         return Err(FaultKind::BadNesting.at(place.element(texts.len())));
     }
     Ok(())
@@ -203,7 +207,7 @@ fn ops_of(
 ) -> Result<Vec<IsrOp>, AllocError>
     requires { length texts.now ≤ most_handler_ops }
     ensures ops { IfOk result (λ v. v.items
-        ≡ script_named handler_ops (entries_view entries.now) (map view texts.now)) }
+        ≡ ops_named handler_ops (entries_view entries.now) (map view texts.now)) }
     ensures few { IfOk result (λ v. length v.items ≤ most_handler_ops) }
 {
     let mut ops = Vec::new(alloc);
@@ -249,12 +253,12 @@ pub(crate) fn handlers_of(
     Ok(definitions)
 }
 
-/// Appends an op, which may stand there.
+/// Appends an op, which may come next.
 pub(crate) fn push(builder: &mut ScriptBuilder, op: Op) -> Result<(), AllocError>
     requires range { InRange op }
     requires room { length builder.old < most_ops }
-    requires stands { may_stand (nesting_after 0 builder.old) op ≡ true }
-    ensures { OnOk result (builder.new ≡ builder.old ++ op ∷ []) }
+    requires stands { may_come op builder.old ≡ true }
+    ensures { OnOk result (builder.new ≡ builder.old ++ ending (open_behind builder.old) op ∷ []) }
 {
     match builder.push(op) {
         Ok(()) => Ok(()),
@@ -263,16 +267,29 @@ pub(crate) fn push(builder: &mut ScriptBuilder, op: Op) -> Result<(), AllocError
     }
 }
 
-// The script that these texts spell, whose loops are closed.
+/// The script, whose blocks are closed.
+pub(crate) fn finish(builder: ScriptBuilder, alloc: Global) -> Result<Script, AllocError>
+    requires closed { open_behind builder ≡ [] }
+    ensures script { IfOk result (λ script. script ≡ builder) }
+    ensures formed { IfOk result IsScript }
+{
+    match builder.finish(alloc) {
+        Ok(script) => Ok(script),
+        Err(NestingFault::Memory) => Err(AllocError),
+        Err(NestingFault::BadNesting) => unreachable!(),
+    }
+}
+
+// The script that these texts spell, whose blocks are closed.
 fn script_of(
     alloc: Global,
     entries: &NamedEntries<'_>,
     texts: &[Value],
 ) -> Result<Script, AllocError>
     requires few { length texts.now ≤ most_ops }
-    requires nests { Nests 0 (script_named task_ops (entries_view entries.now) (map view texts.now)) }
+    requires nests { Nests [] (edges_of (script_named (entries_view entries.now) (map view texts.now))) }
     ensures script { IfOk result (λ script. script
-        ≡ script_named task_ops (entries_view entries.now) (map view texts.now)) }
+        ≡ script_named (entries_view entries.now) (map view texts.now)) }
     ensures formed { IfOk result IsScript }
 {
     let mut builder = ScriptBuilder::new(alloc);
@@ -282,33 +299,30 @@ fn script_of(
         };
         push(&mut builder, op)?;
     }
-    match builder.finish() {
-        Some(script) => Ok(script),
-        None => unreachable!(),
-    }
+    finish(builder, alloc)
 }
 
-// A task with its script, whose loops are closed.
+// A task with its script, whose blocks are closed.
 fn task_of(
     alloc: Global,
     entries: &NamedEntries<'_>,
     task: &RawTask<'_>,
 ) -> Result<TaskDefinition, AllocError>
-    requires { Nests 0 (script_named task_ops (entries_view entries.now) (map view task.now.script.now)) }
+    requires { Nests [] (edges_of (script_named (entries_view entries.now) (map view task.now.script.now))) }
     ensures task { IfOk result (λ t. t ≡ with_script (entries_view entries.now) (raw_view task.now)) }
     ensures formed { IfOk result IsDefinition }
 {
     let script = script_of(alloc, entries, task.script)?;
     let name = String::from_str(alloc, task.name)?;
-    Ok(TaskDefinition::new(name, task.priority, false, script))
+    Ok(TaskDefinition::new(name, task.priority, task.endless, script))
 }
 
-/// The tasks with their scripts, whose loops are closed.
+/// The tasks with their scripts, whose blocks are closed.
 pub(crate) fn tasks_of(
     alloc: Global,
     entries: &NamedEntries<'_>,
 ) -> Result<Vec<TaskDefinition>, AllocError>
-    requires { AllByRecursion (λ (t : Definition). Nests 0 t.script)
+    requires { AllByRecursion (λ (t : Definition). Nests [] (edges_of t.script))
         (map (with_script (entries_view entries.now)) (entries_view entries.now).tasks) }
     ensures tasks { IfOk result (λ v. v.items
         ≡ map (with_script (entries_view entries.now)) (entries_view entries.now).tasks) }

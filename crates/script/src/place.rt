@@ -4,6 +4,7 @@
 #[derive(Clone, Copy)]
 pub enum Section {
     Start,
+    Tickless,
     Limits,
     Queue,
     Binary,
@@ -27,6 +28,7 @@ impl Section {
     {
         match self {
             Section::Start => "start",
+            Section::Tickless => "tickless",
             Section::Limits => "limits",
             Section::Queue => "queue",
             Section::Binary => "binary",
@@ -53,6 +55,7 @@ pub enum Key {
     Initial,
     Ops,
     Priority,
+    Endless,
     Script,
     Tick,
     Handler,
@@ -76,6 +79,7 @@ impl Key {
             Key::Initial => "initial",
             Key::Ops => "ops",
             Key::Priority => "priority",
+            Key::Endless => "endless",
             Key::Script => "script",
             Key::Tick => "tick",
             Key::Handler => "handler",

@@ -10,6 +10,7 @@ use toml::Value;
 pub(crate) struct RawTask<'a> {
     pub(crate) name: &'a str,
     pub(crate) priority: u8,
+    pub(crate) endless: bool,
     pub(crate) script: &'a [Value],
     pub(crate) ghost short: { length name.now ≤ most_name_bytes },
     pub(crate) ghost known: { priority < priorities },
@@ -22,6 +23,7 @@ impl Default for RawTask<'_> {
         RawTask {
             name: "",
             priority: 0,
+            endless: false,
             script: &[],
         }
     }

@@ -16,7 +16,7 @@ use crate::place::{Key, Place, Section};
 use crate::raw_handler::{RawHandler, RawHandlers};
 use crate::raw_task::{RawTask, RawTasks};
 use crate::sections::{EntryReader, whole_section};
-use crate::values::{new_name, required_number, texts};
+use crate::values::{at_key, new_name, optional_boolean, required_number, texts};
 use model::{HandlerDefinition, Script};
 use toml::Table;
 
@@ -106,10 +106,13 @@ impl<'a> EntryReader<'a> for TaskReader<'_> {
     ) -> Result<RawTask<'a>, Fault> {
         let name = new_name(table, place, self.0, before)?;
         let priority = required_number(table, place, Key::Priority, 0, HIGHEST_PRIORITY)?;
+        let value = at_key(table, Key::Endless);
+        let endless = optional_boolean(value, place.key(Key::Endless))?;
         let script = texts(table, place, Key::Script, Script::MOST_OPS)?;
         Ok(RawTask {
             name,
             priority: priority as u8,
+            endless,
             script,
         })
     }

@@ -1,11 +1,11 @@
-//! What stands in a table: numbers, names, arrays and texts.
+//! What stands in a table: numbers, booleans, names, arrays and texts.
 ghost use Rattle.std.specs.Prelude.{◌≡◌, ◌≤◌, ◌++◌, Some, map, length, option_map, option_and_then, IfOk};
 ghost use Rattle.toml.specs.Data.{get_member, as_integer};
 ghost use Rattle.toml.specs.View.{view, table_view};
 ghost use Rattle.model.specs.Scripts.{most_name_bytes};
 ghost use Rattle.script.specs.declared.place.Key.TheVariants as key;
 ghost use Rattle.script.specs.Faults.{Judges, seen, key_word, required};
-ghost use Rattle.script.specs.Values.{data_of, number_fault, integer_named, number_or, number_named, name_fault, name_named, text_elements, texts_fault, texts_named};
+ghost use Rattle.script.specs.Values.{data_of, number_fault, integer_named, number_or, number_named, boolean_fault, boolean_named, name_fault, name_named, text_elements, texts_fault, texts_named};
 ghost use Rattle.script.specs.Arrays.{each_fault, array_of};
 ghost use Rattle.script.specs.Entries.{entries_view, names_of};
 ghost use Rattle.script.specs.Sections.{data_at};
@@ -54,21 +54,52 @@ pub(crate) fn array(value: &Value) -> Option<&[Value]>
 // ---- numbers
 
 // A number of this range.
-fn number(value: &Value, place: Place, least: u32, most: u32) -> Result<u32, Fault>
+fn long_number(value: &Value, place: Place, least: u64, most: u64) -> Result<u64, Fault>
     ensures checks { Judges result (number_fault least most place (view value.now))
         (integer_named (as_integer (view value.now))) }
     ensures range { IfOk result (λ n. (least ≤ n) × (n ≤ most)) }
 {
     match value.as_integer() {
         None => Err(FaultKind::WrongKind.at(place)),
-        Some(number) => match u32::try_from(number) {
+        Some(number) => match u64::try_from(number) {
             Ok(number) if least <= number && number <= most => Ok(number),
             _ => Err(FaultKind::OutOfRange.at(place)),
         },
     }
 }
 
+// The same of 32 bits.
+fn number(value: &Value, place: Place, least: u32, most: u32) -> Result<u32, Fault>
+    ensures checks { Judges result (number_fault least most place (view value.now))
+        (integer_named (as_integer (view value.now))) }
+    ensures range { IfOk result (λ n. (least ≤ n) × (n ≤ most)) }
+{
+    let number = long_number(value, place, least as u64, most as u64)?;
+    Ok(number as u32)
+}
+
 /// A number of this range, or the default where there is none.
+pub(crate) fn optional_long_number(
+    value: Option<&Value>,
+    place: Place,
+    least: u64,
+    most: u64,
+    default: u64,
+) -> Result<u64, Fault>
+    requires low { least ≤ default }
+    requires high { default ≤ most }
+    ensures checks { Judges result
+        (option_and_then (number_fault least most place) (data_of value.entry))
+        (number_or default (data_of value.entry)) }
+    ensures range { IfOk result (λ n. (least ≤ n) × (n ≤ most)) }
+{
+    match value {
+        None => Ok(default),
+        Some(value) => long_number(value, place, least, most),
+    }
+}
+
+/// The same of 32 bits.
 pub(crate) fn optional_number(
     value: Option<&Value>,
     place: Place,
@@ -105,6 +136,22 @@ pub(crate) fn required_number(
     match at_key(table, key) {
         None => Err(FaultKind::Missing.at(place.key(key))),
         Some(value) => number(value, place.key(key), least, most),
+    }
+}
+
+// ---- booleans
+
+/// A boolean; false where there is none.
+pub(crate) fn optional_boolean(value: Option<&Value>, place: Place) -> Result<bool, Fault>
+    ensures { Judges result
+        (option_and_then (boolean_fault place) (data_of value.entry)) (boolean_named (data_of value.entry)) }
+{
+    let Some(value) = value else {
+        return Ok(false);
+    };
+    match value.as_bool() {
+        Some(boolean) => Ok(boolean),
+        None => Err(FaultKind::WrongKind.at(place)),
     }
 }
 

@@ -58,20 +58,20 @@ module _ (app : Application) (shelf : Shelved) (h : IsShelf app shelf) (step : �
   stop_is d = subst (λ o. IfSome o (IsStop app shelf.limits (number * shelf.stride))) (slice_get-get_or shelf.stops number d stop_below) (h.are_stops number)
 
   -- the base run goes on there, and before
-  pub goes_on : (n : ℕ) → n ≤ step → end_of app shelf.limits (state_after app [] n) ≡ None
+  pub goes_on : (n : ℕ) → n ≤ step → end_of app shelf.limits (state_after app shelf.limits [] n) ≡ None
   goes_on n m = h.is_base.goes_on n (omega (arith, l, m))
 
   -- no more events than the base run has
-  pub few_before : length (events_after app [] step) ≤ length shelf.base.events
+  pub few_before : length (events_after app shelf.limits [] step) ≤ length shelf.base.events
   few_before =
-      let front = ap length (begins_with app [] step shelf.base.steps (omega (arith, l))) in
-      let cut = length-take (length (events_after app [] step)) (events_after app [] shelf.base.steps) in
+      let front = ap length (begins_with app shelf.limits [] step shelf.base.steps (omega (arith, l))) in
+      let cut = length-take (length (events_after app shelf.limits [] step)) (events_after app shelf.limits [] shelf.base.steps) in
       let all = ap length h.is_base.trace in
       omega (arith, front, cut, all)
 
   -- which it begins with
-  pub shared_is : (count : ℕ) → count ≡ length (events_after app [] step) → take count shelf.base.events ≡ events_after app [] step
-  shared_is count is = rw (is, h.is_base.trace) (begins_with app [] step shelf.base.steps (omega (arith, l)))
+  pub shared_is : (count : ℕ) → count ≡ length (events_after app shelf.limits [] step) → take count shelf.base.events ≡ events_after app shelf.limits [] step
+  shared_is count is = rw (is, h.is_base.trace) (begins_with app shelf.limits [] step shelf.base.steps (omega (arith, l)))
 
 -- ---- a run is the only one
 
@@ -89,7 +89,7 @@ module _ (app : Application) (plan : List Injection) (limits : Limits) where
       omega (arith, forth, back)
 
   pub same_events : (one other : Run) → IsRun app plan limits one → IsRun app plan limits other → one.events ≡ other.events
-  same_events one other is also = is.trace ∙ ap (events_after app plan) (same_steps one other is also) ∙ sym also.trace
+  same_events one other is also = is.trace ∙ ap (events_after app limits plan) (same_steps one other is also) ∙ sym also.trace
 
 -- ---- the row of a point that is reached
 
@@ -110,10 +110,10 @@ module _ (app : Application) (inside now : Shelved) (same : inside ≡ now) (kep
   pub parts_of : first_step point % now.stride + first_step point / inside.stride * inside.stride ≡ first_step point
   parts_of = rw (← ap (λ (s : Shelved). s.stride) same) (split app inside h (first_step point) l)
 
-  pub base_goes_on : (n : ℕ) → n ≤ first_step point → end_of app inside.limits (state_after app [] n) ≡ None
+  pub base_goes_on : (n : ℕ) → n ≤ first_step point → end_of app inside.limits (state_after app inside.limits [] n) ≡ None
   base_goes_on = goes_on app inside h (first_step point) l
 
-  pub shares_few : length (events_after app [] (first_step point)) ≤ length now.base.events
+  pub shares_few : length (events_after app now.limits [] (first_step point)) ≤ length now.base.events
   shares_few = few_before app now kept (first_step point) reached
 
   -- the row ends behind the point's step
@@ -122,7 +122,7 @@ module _ (app : Application) (inside now : Shelved) (same : inside ≡ now) (kep
     | inl less ↦ less
     | inr more ↦
         let end = is.ends in
-        let none = ap (λ (s : State). end_of app inside.limits s) (same_state app point (first_step point) (none_before point formed.in_order) run.steps more) ∙ base_goes_on run.steps more in
+        let none = ap (λ (s : State). end_of app inside.limits s) (same_state app inside.limits point (first_step point) (none_before point formed.in_order) run.steps more) ∙ base_goes_on run.steps more in
         absurd (cc)
   ]
 
@@ -149,7 +149,7 @@ module _ (app : Application) (inside now : Shelved) (same : inside ≡ now) (kep
 
 module _ (app : Application) (shelf : Shelved) (h : IsShelf app shelf) (point : List Injection) (reached : first_step point < shelf.base.steps)
     (old new : List Event) (none : old ≡ []) (ending : RowEnding) (row : IsRowFrom app point shelf.limits old new ending)
-    (before : ending.before ≡ length (events_after app [] (first_step point))) where
+    (before : ending.before ≡ length (events_after app shelf.limits [] (first_step point))) where
   is_own : new ≡ row.own
   is_own = row.kept ∙ ap (λ (events : List Event). events ++ row.own) none
 
@@ -166,7 +166,7 @@ module _ (app : Application) (shelf : Shelved) (h : IsShelf app shelf) (point : 
       let steps = same_steps app point shelf.limits run _ is row.run in
       let events = ap length (same_events app point shelf.limits run _ is row.run) in
       let own = ap length is_own in
-      let all = length-append (events_after app [] (first_step point)) row.own in
+      let all = length-append (events_after app shelf.limits [] (first_step point)) row.own in
       (rw steps (omega (arith, risen)), omega (arith, events, own, all, some, before))
 
 -- ---- a point that the base run doesn't reach

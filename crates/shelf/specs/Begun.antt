@@ -16,7 +16,7 @@ pub record HasBegun (app : Application) (point : List Injection) (limits : Limit
   pub past : first_step point < k.steps
   pub beyond : beginning.end ≡ None → last_step point < k.steps
   -- how the row ended there, if it did
-  pub end : beginning.end ≡ end_of app limits (state_after app point k.steps)
+  pub end : beginning.end ≡ end_of app limits (state_after app limits point k.steps)
   pub own : List Event
   pub kept : new ≡ old ++ own
-  pub events : events_after app point k.steps ≡ events_after app [] (first_step point) ++ own
+  pub events : events_after app limits point k.steps ≡ events_after app limits [] (first_step point) ++ own

@@ -11,7 +11,7 @@ use Rattle.shelf.specs.declared.stops.Stop.{Stop}
 pub record IsStop (app : Application) (limits : Limits) (step : ℕ) (stop : Stop) : Type 0 where
   pub way : IsUnderWay app [] limits stop.kernel
   pub there : stop.kernel.steps ≡ step
-  pub before : stop.before ≡ length (events_after app [] step)
+  pub before : stop.before ≡ length (events_after app limits [] step)
 
 -- These are the stops before steps 0, stride, 2 stride and so on.
 abbrev pub AreStops : Application → Limits → (stride : ℕ) → List Stop → Type 0

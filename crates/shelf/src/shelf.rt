@@ -64,7 +64,7 @@ impl Shelf {
         let base = Run {
             events: trail.into_events(),
             steps: kernel.steps(),
-            ticks: kernel.ticks() as u32,
+            ticks: kernel.ticks(),
             end,
         };
         Ok(Shelf {
@@ -124,7 +124,7 @@ impl Shelf {
         requires reached { first_step point.now < self.now.base.steps }
         ensures way { IsUnderWay app.now [] self.now.limits kernel.new }
         ensures there { kernel.new.steps + first_step point.now % self.now.stride ≡ first_step point.now }
-        ensures told { result ≡ length (events_after app.now [] kernel.new.steps) }
+        ensures told { result ≡ length (events_after app.now self.now.limits [] kernel.new.steps) }
     {
         let stop = &self.stops[(point.first_step() / self.stride) as usize];
         kernel.restore(&stop.kernel);
@@ -152,7 +152,7 @@ impl Shelf {
         requires meter { meter.old < 2 ^ 62 }
         ensures row { IfOk result (λ row.
             IsRowFrom app.now point.now self.now.limits (all_of trail.old) (all_of trail.new) row) }
-        ensures before { IfOk result (λ row. row.before ≡ length (events_after app.now [] (first_step point.now))) }
+        ensures before { IfOk result (λ row. row.before ≡ length (events_after app.now self.now.limits [] (first_step point.now))) }
         ensures meter { IfOk result (λ row. meter.new ≡ meter.old + cost_of self.now point.now row.steps) }
         ensures rises { meter.old ≤ meter.new }
         ensures kept { OnErr result (all_of trail.new ≡ all_of trail.old) }
@@ -201,7 +201,7 @@ impl Shelf {
         ensures far { kernel.new.steps ≤ until }
         ensures there { IfOk result (λ beginning. beginning.end ≡ None → kernel.new.steps ≡ until) }
         ensures begun { IfOk result (HasBegun app.now point.now self.now.limits kernel.new (all_of trail.old) (all_of trail.new)) }
-        ensures before { IfOk result (λ beginning. beginning.before ≡ length (events_after app.now [] (first_step point.now))) }
+        ensures before { IfOk result (λ beginning. beginning.before ≡ length (events_after app.now self.now.limits [] (first_step point.now))) }
         ensures meter { OnOk result
             (meter.new + first_step point.now ≡ meter.old + first_step point.now % self.now.stride + kernel.new.steps) }
         ensures rises { meter.old ≤ meter.new }

@@ -36,8 +36,8 @@ pub(crate) fn put_stops(
     requires near { stride ≤ 65536 }
     ensures way { IsUnderWay app.now [] limits.now kernel.new }
     ensures ended { IfOk result
-        (λ end. end_of app.now limits.now (state_after app.now [] kernel.new.steps) ≡ Some end) }
-    ensures events { OnOk result (all_of trail.new ≡ events_after app.now [] kernel.new.steps) }
+        (λ end. end_of app.now limits.now (state_after app.now limits.now [] kernel.new.steps) ≡ Some end) }
+    ensures events { OnOk result (all_of trail.new ≡ events_after app.now limits.now [] kernel.new.steps) }
     ensures stops { OnOk result (AreStops app.now limits.now stride stops.new.items) }
     ensures enough { OnOk result (kernel.new.steps ≤ length stops.new.items * stride) }
 {

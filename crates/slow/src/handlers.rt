@@ -43,7 +43,7 @@ impl SlowKernel {
     /// The base interrupts of this tick come.
     pub(super) fn interrupt(&mut self, app: &App) {
         for interrupt in app.interrupts() {
-            if interrupt.tick == self.elapsed {
+            if interrupt.tick as u64 == self.elapsed {
                 let is_suspended = self.is_scheduler_suspended();
                 count_if(&mut self.tally.held_interrupts, is_suspended);
                 self.handle(app, interrupt.handler);
@@ -63,6 +63,6 @@ impl SlowKernel {
     pub(super) fn is_interrupt_to_come(&self, app: &App) -> bool {
         app.interrupts()
             .iter()
-            .any(|interrupt| interrupt.tick > self.elapsed)
+            .any(|interrupt| interrupt.tick as u64 > self.elapsed)
     }
 }

@@ -8,9 +8,11 @@ use shared::Object;
 use std::alloc::Global;
 use waits_for_bits::BitWait;
 
+mod blocks;
 mod calls;
 mod daemon;
 mod handlers;
+mod idle;
 mod misuses;
 mod mutexes;
 mod shared;
@@ -124,6 +126,27 @@ pub struct Tally {
     /// The daemon set bits for a handler; it cleared some.
     pub sets_by_daemon: u32,
     pub clears_by_daemon: u32,
+    /// Idle let several ticks pass in a step; past the wrap of the tick.
+    pub jumps: u32,
+    pub wrapping_jumps: u32,
+    /// It did so up to a base interrupt; until a task woke; up to the limit; up to tick 0.
+    pub jumps_to_interrupt: u32,
+    pub jumps_to_wake: u32,
+    pub jumps_to_limit: u32,
+    pub jumps_to_zero: u32,
+    /// The condition of an `if` held; it didn't.
+    pub taken_branches: u32,
+    pub skipped_branches: u32,
+    /// A first branch came to its `else`.
+    pub skipped_others: u32,
+    /// A `break` left a loop; one for ever; one inside another.
+    pub breaks: u32,
+    pub breaks_for_ever: u32,
+    pub inner_breaks: u32,
+    /// A loop for ever began its next turn.
+    pub turns_for_ever: u32,
+    /// A script came to its end by an `if`, an `else` or a `break`.
+    pub ending_jumps: u32,
 }
 
 /// Counts something, where it is so.
@@ -138,7 +161,7 @@ pub struct SlowKernel {
     /// Which bits of each event group are set.
     groups: [u32; 16],
     time: u64,
-    pub elapsed: u32,
+    pub elapsed: u64,
     current: Option<TaskId>,
     /// Whether a call holds the scheduler.
     is_held: bool,
@@ -371,9 +394,8 @@ impl SlowKernel {
         count_if(&mut self.tally.bit_timeouts, is_bit_timeout);
     }
 
-    /// Time advances by a tick, and all who are due wake.
-    fn advance(&mut self) {
-        self.time = self.time.wrapping_add(1);
+    /// All who are due wake.
+    fn wake_due(&mut self) {
         for _ in 0..32 {
             let Some(task) = self.first_due() else {
                 return;
@@ -381,6 +403,12 @@ impl SlowKernel {
             self.count_timeout(task);
             self.make_ready(task);
         }
+    }
+
+    /// Time advances by a tick, and all who are due wake.
+    fn advance(&mut self) {
+        self.time = self.time.wrapping_add(1);
+        self.wake_due();
     }
 
     /// The tick interrupt: time advances, or the tick is held; the base interrupts of this tick come; and then there is one
@@ -392,6 +420,11 @@ impl SlowKernel {
         } else {
             self.advance();
         }
+        self.end_tick(app);
+    }
+
+    /// The base interrupts of this tick come, and then there is one switch, if there may be one.
+    fn end_tick(&mut self, app: &App) {
         self.interrupt(app);
         if self.may_switch() {
             self.slice();
@@ -488,41 +521,6 @@ impl SlowKernel {
         }
     }
 
-    fn expect(&mut self, app: &App, id: TaskId, wanted: Option<u32>) {
-        let task = self.task(id);
-        if task.answer == wanted {
-            self.complete(app, id, task);
-        } else {
-            self.stopped = Some(End::Check(id, task.op_index));
-        }
-    }
-
-    fn open_loop(&mut self, app: &App, id: TaskId, turns: u16) {
-        let mut task = self.task(id);
-        let nesting = task.nesting;
-        let start = task.op_index.wrapping_add(1);
-        if let Some(cell) = task.loops.get_mut(nesting) {
-            *cell = Loop { start, left: turns };
-        }
-        task.nesting = nesting.wrapping_add(1);
-        self.complete(app, id, task);
-    }
-
-    fn close_turn(&mut self, app: &App, id: TaskId) {
-        let mut task = self.task(id);
-        let outer = task.nesting.wrapping_sub(1);
-        let innermost = task.loops.get(outer).copied().unwrap_or_default();
-        if innermost.left > 1 {
-            if let Some(cell) = task.loops.get_mut(outer) {
-                cell.left = innermost.left - 1;
-            }
-            self.go_to(app, id, innermost.start, task);
-        } else {
-            task.nesting = outer;
-            self.complete(app, id, task);
-        }
-    }
-
     fn act(&mut self, app: &App, id: TaskId, op: Op) {
         match op {
             Op::Work(units) => self.work(app, id, units),
@@ -537,9 +535,13 @@ impl SlowKernel {
                 self.write(What::Mark(id, number));
                 self.complete(app, id, self.task(id));
             }
-            Op::Expect(wanted) => self.expect(app, id, wanted),
+            Op::Expect(condition) => self.expect(app, id, condition),
             Op::Repeat(turns) => self.open_loop(app, id, turns),
             Op::End => self.close_turn(app, id),
+            Op::If(condition) => self.branch(app, id, condition),
+            Op::Else => self.skip_other_branch(app, id),
+            Op::EndIf => self.complete(app, id, self.task(id)),
+            Op::Break => self.leave_loop(app, id),
             Op::Await(object, access, ticks) => {
                 self.go_on_waiting(app, id, object.number, access, ticks);
             }
@@ -568,9 +570,9 @@ impl SlowKernel {
         }
     }
 
-    fn act_current(&mut self, app: &App) {
+    fn act_current(&mut self, app: &App, limits: &Limits) {
         match self.current {
-            None => self.tick(app),
+            None => self.idle(app, limits),
             Some(id) => {
                 if let Some(op) = app.op(id, self.task(id).op_index) {
                     self.act_unless_misuse(app, id, op);
@@ -579,12 +581,12 @@ impl SlowKernel {
         }
     }
 
-    /// A step, before which the handlers of these injections come.
-    pub fn step(&mut self, app: &App, injections: &[Injection]) {
+    /// A step of a run under these limits, before which the handlers of these injections come.
+    pub fn step(&mut self, app: &App, limits: &Limits, injections: &[Injection]) {
         for injection in injections {
             self.inject(app, injection.handler);
         }
-        self.act_current(app);
+        self.act_current(app, limits);
         if self.may_switch() && self.current.is_some_and(|id| !self.is_ready(id)) {
             self.choose();
         }
@@ -604,15 +606,38 @@ impl SlowKernel {
         matches!(self.task(task).status, Status::Ended)
     }
 
-    /// Whether all tasks but the endless ones have come to the end of their scripts.
+    /// Whether the run waits for this task's end.
+    fn is_awaited(app: &App, task: TaskId) -> bool {
+        match app.tasks().get(task.number as usize) {
+            None => false,
+            Some(definition) => !definition.is_endless(),
+        }
+    }
+
+    /// Whether all tasks for whose ends the run waits have come to the end of their scripts. Where there is none, no run passes.
     fn are_all_ended(&self, app: &App) -> bool {
+        let mut is_any_awaited = false;
         for number in 0..32 {
             let task = TaskId { number };
-            if !self.is_ended(task) && !app.is_endless(task) {
+            let is_awaited = Self::is_awaited(app, task);
+            if is_awaited && !self.is_ended(task) {
                 return false;
             }
+            is_any_awaited |= is_awaited;
         }
-        true
+        is_any_awaited
+    }
+
+    /// Whether an endless task of the file has not come to its end.
+    pub fn is_any_endless_left(&self, app: &App) -> bool {
+        for number in 0..32 {
+            let task = TaskId { number };
+            let is_daemon = app.daemon() == Some(task);
+            if app.is_endless(task) && !is_daemon && !self.is_ended(task) {
+                return true;
+            }
+        }
+        false
     }
 
     /// Whether the running task is in the middle of a call: its next phase is Decide, Place, Unlock or Leave.

@@ -10,6 +10,10 @@ fn may_be_held(op: Op) -> bool {
         Op::Work(_)
             | Op::Repeat(_)
             | Op::End
+            | Op::If(_)
+            | Op::Else
+            | Op::EndIf
+            | Op::Break
             | Op::Mark(_)
             | Op::Expect(_)
             | Op::Time

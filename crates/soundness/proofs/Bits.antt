@@ -1,5 +1,5 @@
 -- What the calls on event groups keep.
-use Rattle.std.proofs.Common.{◌≡◌, ◌<◌, ◌≤◌, ◌+◌, ℕ, Bool, true, false, List, [], ◌∷◌, length, set as replaced, Option, Some, None, refl, ap, sym, subst, ◌∙◌, arith, get_or-set_same}
+use Rattle.std.proofs.Common.{◌≡◌, ◌<◌, ◌≤◌, ◌+◌, ℕ, Bool, true, false, List, [], ◌∷◌, length, Option, Some, None, refl, ap, sym, subst, ◌∙◌, arith, get_or-set_same}
 use Rattle.std.specs.List.{AllByRecursion, filter}
 use Rattle.std.specs.Option.{IfSome, option_map, is_some}
 use Rattle.std.proofs.Math.ListN.{length-set}
@@ -9,7 +9,7 @@ use Rattle.model.specs.declared.call.CallProgress.{CallProgress}
 use Rattle.model.specs.declared.call.Condition.{Condition}
 use Rattle.model.specs.declared.call.Phase.TheVariants.{Start, Leave, Final}
 use Rattle.model.specs.Application.{Application, op_at}
-use Rattle.model.specs.Scripts.{IsWellFormed, is_wait, nesting_past}
+use Rattle.model.specs.Scripts.{IsWellFormed, is_wait}
 use Rattle.model.specs.State.{State, Task, Status, Ready, Awake, Waiting, WaitingForBits, Asleep, Suspended, Ended, Wait, ticket_if_ready, ticket_if_for_bits, task_at, status_at, progress_at, call_at, bits_at, with_task, with_bits, go_on, take_ticket, for_each, no_task}
 use Rattle.model.specs.Order.{Key, Entry, key, tasks_of}
 use Rattle.model.specs.Switching.{make_ready, is_ready, choose}
@@ -21,6 +21,7 @@ use Rattle.model.proofs.Sorting.{by_test}
 use Rattle.model.proofs.Lists.{HasKey, list_has}
 use Rattle.model.proofs.Tables.{ticket_at, each-set}
 use Rattle.model.proofs.Statuses.{ready_free}
+use Rattle.soundness.proofs.InScripts.{nesting_past}
 use Rattle.soundness.proofs.Frames.{Keeps, keeps_both, keeps-set, keeps-with_call, keeps-take_ticket, keeps-set_deadline}
 use Rattle.soundness.proofs.Sound.{CanBeReady, can_still, framed, otherwise, changed, taken, kept_free, made_ready, answered, chosen, ready_reckoned}
 use Rattle.soundness.proofs.Called.{went_on, dated}

@@ -7,7 +7,7 @@ use Rattle.std.proofs.lemmas.Bool.{ltb-true}
 use Rattle.model.specs.declared.object.ObjectKind.{ObjectKind}
 use Rattle.model.specs.declared.object.ObjectKind.TheVariants.{Queue, Semaphore, Mutex}
 use Rattle.model.specs.declared.op.Op.{Op}
-use Rattle.model.specs.declared.op.Op.TheVariants.{Await, Do}
+use Rattle.model.specs.declared.op.Op.TheVariants.{Do}
 use Rattle.model.specs.declared.op.Access.{Access}
 use Rattle.model.specs.declared.op.Access.TheVariants.{Send, SendFront, Overwrite, Receive, Peek, Take, Give, Lock}
 use Rattle.model.specs.declared.call.CallProgress.{CallProgress}
@@ -16,7 +16,7 @@ use Rattle.model.specs.declared.call.Phase.TheVariants.{Start, Try, Decide, Plac
 use Rattle.model.specs.declared.call.WaitList.{WaitList}
 use Rattle.model.specs.declared.call.WaitList.TheVariants.{ToReceive, ToSend}
 use Rattle.model.specs.Application.{Application, op_at}
-use Rattle.model.specs.Scripts.{IsWellFormed, fits, fits_object, is_wait, nesting_past}
+use Rattle.model.specs.Scripts.{IsWellFormed, fits, fits_object, is_wait}
 use Rattle.model.specs.State.{State, Task, Object, Status, Wait, Ready, Awake, Waiting, Asleep, WaitingForBits, Suspended, Ended, ticket_if_ready, wait_if_waiting, wait_if_awake, task_at, status_at, progress_at, call_at, object_at, with_task, with_call, with_object, go_on, for_one, no_task, no_object}
 use Rattle.model.specs.Order.{Key, Entry, first, task_of}
 use Rattle.model.specs.Switching.{is_ready}
@@ -30,6 +30,7 @@ use Rattle.model.proofs.Sorting.{by_test}
 use Rattle.model.proofs.Lists.{HasKey, eqb-same, list_has}
 use Rattle.model.proofs.Tables.{ticket_at, table-set, held_after, each-set, each-set_but}
 use Rattle.model.proofs.Statuses.{ready_free}
+use Rattle.soundness.proofs.InScripts.{nesting_past}
 use Rattle.soundness.proofs.Sound.{IsKept, changed, taken, made_ready, answered, preempted, ready_reckoned}
 
 -- ---- lists of those who wait

@@ -1,5 +1,5 @@
 -- What the daemon's ops keep.
-use Rattle.std.proofs.Common.{◌≡◌, ◌<◌, ℕ, zero, suc, Bool, true, false, List, [], ◌∷◌, length, Option, Some, None, refl, ap, sym, subst, ◌∙◌, arith, drop, get_or-set_same}
+use Rattle.std.proofs.Common.{◌≡◌, ◌<◌, ℕ, Bool, true, false, List, [], ◌∷◌, length, Option, Some, None, refl, ap, sym, subst, ◌∙◌, arith, get_or-set_same}
 use Rattle.std.specs.Option.{IfSome}
 use Rattle.model.specs.declared.op.Op.{Op}
 use Rattle.model.specs.declared.op.Op.TheVariants.{NextCommand, Obey}
@@ -7,15 +7,16 @@ use Rattle.model.specs.declared.op.Access.TheVariants.{Receive}
 use Rattle.model.specs.declared.loops.Loop.{Loop}
 use Rattle.model.specs.declared.call.Phase.TheVariants.{Start, Decide}
 use Rattle.model.specs.declared.event.What.TheVariants as what
-use Rattle.model.specs.Application.{Application, commands_of, script_of, op_at}
-use Rattle.model.specs.Scripts.{IsDaemon, IsWellFormed, Nests, fits_object}
-use Rattle.model.specs.State.{State, Task, task_at, status_at, progress_at, call_at, bits_at, with_bits, no_task}
+use Rattle.model.specs.Application.{Application, commands_of, op_at}
+use Rattle.model.specs.Blocks.{loops_in}
+use Rattle.model.specs.Scripts.{IsDaemon, IsWellFormed, fits_object}
+use Rattle.model.specs.State.{State, Task, task_at, status_at, progress_at, call_at, bits_at, no_task}
 use Rattle.model.specs.Switching.{is_ready, write}
 use Rattle.model.specs.Waiting.{end_hold}
 use Rattle.model.specs.Objects.{possible, answer_to, fulfil}
 use Rattle.model.specs.Groups.{bits_without}
 use Rattle.model.specs.Daemon.{received, take_command, obeyed, clear_by_daemon}
-use Rattle.model.specs.Invariant.{Hold, course, list_of_op, IsPhaseOf, IsSound, IsState, wait_of}
+use Rattle.model.specs.Invariant.{AreOpenAt, Hold, course, list_of_op, IsPhaseOf, IsSound, IsState, wait_of}
 use Rattle.model.proofs.Sorting.{by_test}
 use Rattle.model.proofs.Statuses.{ready_free}
 use Rattle.soundness.proofs.InScripts.{known_at}
@@ -47,8 +48,8 @@ module _ (app : Application) (formed : IsWellFormed app) (hold : Hold) where
   no_loops s i h is =
       let own = known_at app formed i (progress_at s i).op_index Obey is in
       let d : IsDaemon app i = subst (λ o. IfSome o (IsDaemon app)) own.0 formed.daemon in
-      let nests : Nests (length (progress_at s i).loops) (drop 1 (NextCommand (commands_of app) ∷ Obey ∷ [])) = rw (own.1, d.script) at (h.progress i).nests in
-      none_open (progress_at s i).loops nests.1
+      let at : AreOpenAt (NextCommand (commands_of app) ∷ Obey ∷ []) 1 (length (progress_at s i).loops) = rw (own.1, d.script) at (h.progress i).nests in
+      none_open (progress_at s i).loops (sym at.count ∙ ap loops_in at.nests.1)
 
   -- it is done
   pub obeyed_done : (s : State) (i : ℕ) (clear : Bool) (bits : ℕ) → IsSound app hold s → wait_of (status_at s i) ≡ None → (progress_at s i).loops ≡ [] → IsSound app hold (obeyed app i clear bits s)

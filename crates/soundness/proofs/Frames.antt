@@ -1,5 +1,5 @@
 -- What a deed leaves as it was, as one record for each deed: a field more of the state is a field more here.
-use Rattle.std.proofs.Common.{max, ◌≡◌, ◌+◌, ◌-◌, ◌||◌, ℕ, Bool, true, eqb, leb, ltb, List, [], ◌∷◌, Option, Some, None, refl, sym, subst, ◌∙◌, length}
+use Rattle.std.proofs.Common.{max, ◌≡◌, ◌+◌, ◌-◌, ◌||◌, ℕ, Bool, true, eqb, leb, ltb, List, [], ◌∷◌, Option, Some, None, refl, sym, subst, ◌∙◌, length, drop}
 use Rattle.std.specs.Option.{option_map}
 use Rattle.std.proofs.Math.ListN.{length-set}
 use Rattle.model.specs.declared.op.Access.{Access}
@@ -13,7 +13,10 @@ use Rattle.model.specs.declared.event.What.{What}
 use Rattle.model.specs.declared.event.What.TheVariants as what
 use Rattle.model.specs.declared.op.IsrOp.{IsrOp}
 use Rattle.model.specs.declared.op.IsrOp.TheVariants as isr_op
-use Rattle.model.specs.Application.{Application, commands_of, op_count, ops_of, interrupts_at}
+use Rattle.model.specs.declared.answer.AnswerCondition.{AnswerCondition}
+use Rattle.model.specs.Answers.{holds}
+use Rattle.model.specs.Blocks.{jump_from}
+use Rattle.model.specs.Application.{Application, commands_of, op_count, ops_of, interrupts_at, script_of}
 use Rattle.model.specs.State.{State, Task, Object, Progress, Status, Ready, Asleep, Suspended, task_at, status_at, progress_at, call_at, object_at, with_task, with_progress, with_call, with_object, bits_at, with_bits, take_ticket, for_one, for_each}
 use Rattle.model.specs.Order.{tasks_of, task_of, first}
 use Rattle.model.specs.Switching.{make_ready, to_back, dispatch, choose, choice, is_same, is_ready, yield_now, is_outranked, is_sharing, preempt, slice, settle, is_held, unless_held, is_off, write}
@@ -21,7 +24,7 @@ use Rattle.model.specs.Time.{wake_due, due, sleep, set_previous_wake}
 use Rattle.model.specs.Waiting.{waiters, awake_status, is_locked, wake_one, wake_best, set_deadline, is_expired}
 use Rattle.model.specs.Objects.{possible, answer_to, object_after, list_woken, fulfil, attempt}
 use Rattle.model.specs.Calls.{try, do_now}
-use Rattle.model.specs.Ops.{one_if, go_to, moved_to, called, answer, use_up, delay, delay_until, open_loop, turn, close_turn}
+use Rattle.model.specs.Ops.{one_if, go_to, moved_to, called, answer, use_up, delay, delay_until, open_loop, next_turn, turn, close_turn, branch, skip_branch, leave_loop}
 use Rattle.model.specs.declared.call.Condition.{Condition}
 use Rattle.model.specs.Groups.{is_met, bits_without, bits_left, keep_answer, met_by, wake_with_bits, bits_set, bits_after_set, set, clear, answer_bits}
 use Rattle.model.specs.Suspension.{can_suspend, can_resume, suspend, resumed, resume, call_suspend, call_resume}
@@ -152,21 +155,43 @@ keeps-delay_until app i wake_time s =
     (keeps_both one slept (set_previous_wake i wake_time slept) (keeps-sleep i wake_time one) (keeps-set_previous_wake i wake_time slept))))
     (λ t. rw t (keeps_both s none (set_previous_wake i wake_time none) (keeps-answer app i (Some 0) s) (keeps-set_previous_wake i wake_time none)))
 
-pub keeps-open_loop : (app : Application) (i n : ℕ) (s : State) → Keeps s (open_loop app i n s)
+pub keeps-open_loop : (app : Application) (i : ℕ) (n : Option ℕ) (s : State) → Keeps s (open_loop app i n s)
 unfolding open_loop
 keeps-open_loop app i n s =
     let p : Progress = progress_at s i in
     keeps-go_to app i (p.op_index + 1) (record p { loops = record { start = p.op_index + 1; left = n } ∷ p.loops }) s
 
+keeps-next_turn : (app : Application) (i : ℕ) (p : Progress) (l : Loop) (ls : List Loop) (left : Option ℕ) (s : State) → Keeps s (next_turn app i p l ls left s)
+keeps-next_turn app i p l ls None s = keeps-go_to app i l.start p s
+keeps-next_turn app i p l ls (Some left) s = by_test (leb left 1)
+    (λ q. rw q (keeps-go_to app i (p.op_index + 1) (record p { loops = ls }) s))
+    (λ q. rw q (keeps-go_to app i l.start (record p { loops = record l { left = Some (left - 1) } ∷ ls }) s))
+
 keeps-turn : (app : Application) (i : ℕ) (p : Progress) (ls : List Loop) (s : State) → Keeps s (turn app i p ls s)
 keeps-turn app i p [] s = keeps-go_to app i (p.op_index + 1) p s
-keeps-turn app i p (l ∷ ls) s = by_test (leb l.left 1)
-    (λ q. rw q (keeps-go_to app i (p.op_index + 1) (record p { loops = ls }) s))
-    (λ q. rw q (keeps-go_to app i l.start (record p { loops = record l { left = l.left - 1 } ∷ ls }) s))
+keeps-turn app i p (l ∷ ls) s = keeps-next_turn app i p l ls l.left s
 
 pub keeps-close_turn : (app : Application) (i : ℕ) (s : State) → Keeps s (close_turn app i s)
 unfolding close_turn
 keeps-close_turn app i s = keeps-turn app i (progress_at s i) (progress_at s i).loops s
+
+pub keeps-branch : (app : Application) (i : ℕ) (condition : AnswerCondition) (s : State) → Keeps s (branch app i condition s)
+unfolding branch
+keeps-branch app i condition s =
+    let p : Progress = progress_at s i in
+    by_test (holds condition p.answer)
+    (λ q. rw q (keeps-go_to app i (p.op_index + 1) p s))
+    (λ q. rw q (keeps-go_to app i (jump_from (script_of app i) p.op_index) p s))
+
+pub keeps-skip_branch : (app : Application) (i : ℕ) (s : State) → Keeps s (skip_branch app i s)
+unfolding skip_branch
+keeps-skip_branch app i s = keeps-go_to app i (jump_from (script_of app i) (progress_at s i).op_index) (progress_at s i) s
+
+pub keeps-leave_loop : (app : Application) (i : ℕ) (s : State) → Keeps s (leave_loop app i s)
+unfolding leave_loop
+keeps-leave_loop app i s =
+    let p : Progress = progress_at s i in
+    keeps-go_to app i (jump_from (script_of app i) p.op_index) (record p { loops = drop 1 p.loops }) s
 
 -- ---- calls on objects
 

@@ -1,18 +1,21 @@
 -- While a `suspend_all` is in force the running task goes on, also when its script is done.
-use Rattle.std.proofs.Common.{◌≡◌, ◌≢◌, ◌<◌, ◌+◌, ◌-◌, ◌||◌, ◌⊎◌, inl, inr, ℕ, zero, suc, Bool, true, false, eqb, leb, ltb, List, [], ◌∷◌, length, Option, Some, None, refl, ap, ap₂, sym, subst, ◌∙◌, arith, get_or-set_same, get_or-set_other}
+use Rattle.std.proofs.Common.{◌≡◌, ◌≢◌, ◌<◌, ◌+◌, ◌-◌, ◌||◌, ◌⊎◌, inl, inr, ℕ, zero, suc, Bool, true, false, eqb, leb, ltb, List, [], ◌∷◌, length, Option, Some, None, refl, ap, ap₂, sym, subst, ◌∙◌, arith, get_or-set_same, get_or-set_other, drop}
 use Rattle.std.specs.List.{AllByRecursion, filter}
 use Rattle.std.specs.Option.{is_some, option_eq}
 use Rattle.std.proofs.lemmas.Option.{slice_get_past}
 use Rattle.model.specs.declared.op.Op.{Op}
-use Rattle.model.specs.declared.op.Op.TheVariants.{Work, Delay, DelayUntil, Yield, Time, Mark, Expect, Repeat, End, Await, Do, GiveMutex, MessagesWaiting, SpacesAvailable, SetBits, ClearBits, GetBits, WaitBits, Suspend, Resume, SuspendAll, ResumeAll, NextCommand, Obey}
+use Rattle.model.specs.declared.op.Op.TheVariants.{Work, Delay, DelayUntil, Yield, Time, Mark, Expect, Repeat, End, If, Else, EndIf, Break, Await, Do, GiveMutex, MessagesWaiting, SpacesAvailable, SetBits, ClearBits, GetBits, WaitBits, Suspend, Resume, SuspendAll, ResumeAll, NextCommand, Obey}
 use Rattle.model.specs.declared.loops.Loop.{Loop}
 use Rattle.model.specs.declared.event.What.TheVariants as what
+use Rattle.model.specs.declared.answer.AnswerCondition.{AnswerCondition}
+use Rattle.model.specs.Answers.{holds}
+use Rattle.model.specs.Blocks.{jump_from}
 use Rattle.model.specs.Application.{Application, script_of, op_at, op_count, interrupts_at}
 use Rattle.model.specs.State.{State, Task, Progress, Status, Ready, Awake, Waiting, Asleep, WaitingForBits, Suspended, Ended, ticket_if_ready, wake_time_of, task_at, status_at, progress_at, object_at, bits_at, with_bits, for_each, printed, no_task}
 use Rattle.model.specs.Order.{Entry, tasks_of}
 use Rattle.model.specs.Switching.{make_ready, is_ready, slice, preempt, is_scheduler_suspended, is_held, unless_held, write}
 use Rattle.model.specs.Time.{wake_due, due, is_due, delayed_list, advance, increment_tick, apply_one, apply_held}
-use Rattle.model.specs.Ops.{go_to, moved_to, answer, use_up, expect, open_loop, turn, close_turn}
+use Rattle.model.specs.Ops.{go_to, moved_to, answer, use_up, expect, open_loop, next_turn, turn, close_turn, branch, skip_branch, leave_loop}
 use Rattle.model.specs.Groups.{bits_without, clear}
 use Rattle.model.specs.Suspension.{suspend_all, resume_scheduler, resume_all}
 use Rattle.model.specs.Handlers.{handle, interrupt, tick_interrupt}
@@ -108,25 +111,43 @@ module _ (app : Application) (i : ℕ) where
 
   -- ---- the ops that may be done then
 
-  expected_on : (a : Option ℕ) (s : State) → i < length s.tasks → is_ready s i ≡ true → Continues app i s (expect app i a s)
+  expected_on : (condition : AnswerCondition) (s : State) → i < length s.tasks → is_ready s i ≡ true → Continues app i s (expect app i condition s)
   unfolding expect
-  expected_on a s l r = by_test (option_eq eqb (progress_at s i).answer a)
+  expected_on condition s l r = by_test (holds condition (progress_at s i).answer)
       (λ t. rw t (gone_to ((progress_at s i).op_index + 1) (progress_at s i) s l r))
       (λ t. rw t (record { current = refl; goes = inl r }))
 
+  next_on : (p : Progress) (x : Loop) (xs : List Loop) (left : Option ℕ) (s : State) → i < length s.tasks → is_ready s i ≡ true → Continues app i s (next_turn app i p x xs left s)
+  next_on p x xs None s l r = gone_to x.start p s l r
+  next_on p x xs (Some left) s l r = by_test (leb left 1)
+      (λ q. rw q (gone_to (p.op_index + 1) (record p { loops = xs }) s l r))
+      (λ q. rw q (gone_to x.start (record p { loops = record x { left = Some (left - 1) } ∷ xs }) s l r))
+
   turned_on : (p : Progress) (ls : List Loop) (s : State) → i < length s.tasks → is_ready s i ≡ true → Continues app i s (turn app i p ls s)
   turned_on p [] s l r = gone_to (p.op_index + 1) p s l r
-  turned_on p (x ∷ xs) s l r = by_test (leb x.left 1)
-      (λ q. rw q (gone_to (p.op_index + 1) (record p { loops = xs }) s l r))
-      (λ q. rw q (gone_to x.start (record p { loops = record x { left = x.left - 1 } ∷ xs }) s l r))
+  turned_on p (x ∷ xs) s l r = next_on p x xs x.left s l r
 
-  opened_on : (n : ℕ) (s : State) → i < length s.tasks → is_ready s i ≡ true → Continues app i s (open_loop app i n s)
+  opened_on : (n : Option ℕ) (s : State) → i < length s.tasks → is_ready s i ≡ true → Continues app i s (open_loop app i n s)
   unfolding open_loop
   opened_on n s l r = gone_to ((progress_at s i).op_index + 1) (record (progress_at s i) { loops = record { start = (progress_at s i).op_index + 1; left = n } ∷ (progress_at s i).loops }) s l r
 
   closed_on : (s : State) → i < length s.tasks → is_ready s i ≡ true → Continues app i s (close_turn app i s)
   unfolding close_turn
   closed_on s l r = turned_on (progress_at s i) (progress_at s i).loops s l r
+
+  branched_on : (condition : AnswerCondition) (s : State) → i < length s.tasks → is_ready s i ≡ true → Continues app i s (branch app i condition s)
+  unfolding branch
+  branched_on condition s l r = by_test (holds condition (progress_at s i).answer)
+      (λ t. rw t (gone_to ((progress_at s i).op_index + 1) (progress_at s i) s l r))
+      (λ t. rw t (gone_to (jump_from (script_of app i) (progress_at s i).op_index) (progress_at s i) s l r))
+
+  skipped_on : (s : State) → i < length s.tasks → is_ready s i ≡ true → Continues app i s (skip_branch app i s)
+  unfolding skip_branch
+  skipped_on s l r = gone_to (jump_from (script_of app i) (progress_at s i).op_index) (progress_at s i) s l r
+
+  left_on : (s : State) → i < length s.tasks → is_ready s i ≡ true → Continues app i s (leave_loop app i s)
+  unfolding leave_loop
+  left_on s l r = gone_to (jump_from (script_of app i) (progress_at s i).op_index) (record (progress_at s i) { loops = drop 1 (progress_at s i).loops }) s l r
 
   cleared_on : (group mask : ℕ) (s : State) → i < length s.tasks → is_ready s i ≡ true → Continues app i s (clear app i group mask s)
   unfolding clear
@@ -144,9 +165,13 @@ module _ (app : Application) (i : ℕ) where
   acted_on Yield s q ne on used l r = absurd (cc)
   acted_on Time s q ne on used l r = answering_on (Some (printed s.time)) s l r
   acted_on (Mark n) s q ne on used l r = let k = gone_to ((progress_at s i).op_index + 1) (progress_at s i) (write (what.Mark i n) s) l r in record { current = k.current; goes = k.goes }
-  acted_on (Expect a) s q ne on used l r = expected_on a s l r
+  acted_on (Expect c) s q ne on used l r = expected_on c s l r
   acted_on (Repeat n) s q ne on used l r = opened_on n s l r
   acted_on End s q ne on used l r = closed_on s l r
+  acted_on (If c) s q ne on used l r = branched_on c s l r
+  acted_on Else s q ne on used l r = skipped_on s l r
+  acted_on EndIf s q ne on used l r = gone_to ((progress_at s i).op_index + 1) (progress_at s i) s l r
+  acted_on Break s q ne on used l r = left_on s l r
   acted_on (Await o a ticks) s q ne on used l r = absurd (cc)
   acted_on (Do o a) s q ne on used l r = absurd (cc)
   acted_on (GiveMutex o) s q ne on used l r = absurd (cc)

@@ -1,11 +1,11 @@
 -- What a handler keeps of a state, and what it spares.
-use Rattle.std.proofs.Common.{◌≡◌, ◌<◌, ◌+◌, ◌&&◌, ◌||◌, ℕ, Bool, true, false, ltb, ap₂, inl, inr, get_or, set, List, [], ◌∷◌, Option, Some, None, refl, ap, sym, subst, ◌∙◌}
+use Rattle.std.proofs.Common.{◌⊎◌, ◌≡◌, ◌<◌, ◌+◌, ◌&&◌, ◌||◌, ℕ, Bool, true, false, ltb, ap₂, inl, inr, get_or, set, List, [], ◌∷◌, Option, Some, None, refl, ap, sym, subst, ◌∙◌}
 use Rattle.std.specs.List.{AllByRecursion, slice_get}
 use Rattle.std.specs.Option.{IfSome, is_some, option_map, unwrap_or}
 use Rattle.model.specs.declared.object.ObjectKind.{ObjectKind}
 use Rattle.model.specs.declared.object.ObjectKind.TheVariants.{Queue, Semaphore, Mutex}
 use Rattle.model.specs.declared.op.Op.{Op}
-use Rattle.model.specs.declared.op.Op.TheVariants.{Work, Delay, DelayUntil, Yield, Time, Mark, Expect, Repeat, End, Await, Do, GiveMutex, MessagesWaiting, SpacesAvailable, SetBits, ClearBits, GetBits, WaitBits, Suspend, Resume, SuspendAll, ResumeAll, NextCommand, Obey}
+use Rattle.model.specs.declared.op.Op.TheVariants.{Work, Delay, DelayUntil, Yield, Time, Mark, Expect, Repeat, End, If, Else, EndIf, Break, Await, Do, GiveMutex, MessagesWaiting, SpacesAvailable, SetBits, ClearBits, GetBits, WaitBits, Suspend, Resume, SuspendAll, ResumeAll, NextCommand, Obey}
 use Rattle.model.specs.declared.op.IsrOp.{IsrOp}
 use Rattle.model.specs.declared.op.IsrOp.TheVariants as isr_op
 use Rattle.model.specs.declared.op.Access.{Access}
@@ -13,20 +13,21 @@ use Rattle.model.specs.declared.op.Access.TheVariants.{Send, Receive}
 use Rattle.model.specs.declared.call.Phase.{Phase}
 use Rattle.model.specs.declared.call.Phase.TheVariants.{Start, Try, Decide, Place, Unlock, Leave, Final}
 use Rattle.model.specs.declared.call.WaitList.{WaitList}
+use Rattle.model.specs.declared.call.WaitList.TheVariants.{ToReceive, ToSend}
 use Rattle.model.specs.declared.event.What.{What}
 use Rattle.model.specs.declared.event.What.TheVariants as what
-use Rattle.model.specs.Application.{Application, commands_of, op_at, ops_of, interrupts_at}
+use Rattle.model.specs.Application.{Application, Limits, commands_of, op_at, ops_of, interrupts_at}
 use Rattle.model.specs.Scripts.{IsDaemon, IsWellFormed, fits, fits_object, has_group, is_mask, knows_isr}
 use Rattle.model.specs.Daemon.{item_of}
-use Rattle.model.specs.State.{State, Task, Progress, Object, Status, Wait, Ready, Awake, Waiting, Asleep, WaitingForBits, Suspended, Ended, ticket_if_ready, task_at, status_at, progress_at, call_at, object_at, bits_at, with_object, with_progress, for_one, for_each, no_task}
+use Rattle.model.specs.State.{State, Task, Progress, Object, Status, Wait, Ready, Awake, Waiting, Asleep, WaitingForBits, Suspended, Ended, ticket_if_ready, wake_time_of, task_at, status_at, progress_at, call_at, object_at, bits_at, with_object, with_progress, for_one, for_each, no_task}
 use Rattle.model.specs.Order.{Entry, first, task_of}
 use Rattle.model.specs.Ops.{one_if}
 use Rattle.model.specs.Suspension.{can_resume, phase_resumed, resumed, resume}
-use Rattle.model.specs.Switching.{make_ready, is_ready, is_scheduler_suspended, is_held, slice, write}
+use Rattle.model.specs.Switching.{make_ready, is_ready, is_scheduler_suspended, is_held, slice, unless_held, write}
 use Rattle.model.specs.Waiting.{waiters, awake_status, is_locked, wake_one, wake_best}
-use Rattle.model.specs.Time.{advance, increment_tick}
+use Rattle.model.specs.Time.{advance, increment_tick, jump}
 use Rattle.model.specs.Objects.{possible, answer_to, object_after, list_woken, list_for, fulfil, attempt}
-use Rattle.model.specs.Handlers.{isr_told, isr, isr_each, handle, interrupt, tick_interrupt}
+use Rattle.model.specs.Handlers.{isr_told, isr, isr_each, handle, interrupt, tick_interrupt, idle, ticks_ahead}
 use Rattle.model.specs.Invariant.{Hold, hold_of, course, list_of_op, IsPhaseOf, IsWaitOf, IsSound, Suspension, holds, IsPlacing, IsStranded, RunsIn, IsState, wait_of}
 use Rattle.model.proofs.Sorting.{by_test}
 use Rattle.model.proofs.Lists.{HasKey, list_has}
@@ -35,7 +36,7 @@ use Rattle.model.proofs.Unlocking.{is_locked-own}
 use Rattle.soundness.proofs.Settled.{when_held, when_free}
 use Rattle.soundness.proofs.InScripts.{isr_known}
 use Rattle.soundness.proofs.Frames.{Keeps, keeps, keeps_both, keeps-with_task, keeps-take_ticket, keeps-with_object, keeps-wake_one, keeps-isr, keeps-handle, keeps-write}
-use Rattle.soundness.proofs.Passing.{hold-increment}
+use Rattle.soundness.proofs.Passing.{either_way, hold-increment, hold-jump}
 use Rattle.soundness.proofs.Suspending.{suspended_free, each_resumed, resumed_task}
 use Rattle.soundness.proofs.Sound.{logged, sliced, woken, later, held_up}
 use Rattle.soundness.proofs.Called.{WaitsIn, waits_in, waits_key, same_list_eq, attempted, spared_one}
@@ -103,7 +104,7 @@ module _ (app : Application) (formed : IsWellFormed app) (hold : Hold) where
   unfolding increment_tick advance
   incremented s h = by_test (is_scheduler_suspended s)
       (λ t. rw t (held_up app formed hold s h))
-      (λ t. rw t (woken app formed hold (record s { time = s.time + 1; elapsed = s.elapsed + 1 }) (later app formed hold s h)))
+      (λ t. rw t (woken app formed hold (record s { time = s.time + 1; elapsed = s.elapsed + 1 }) (later app formed hold 1 s h)))
 
   -- a tick, and its base interrupts
   pub ticked : (s : State) → IsSound app hold s → s.locked ≡ hold.locked → IsSound app hold (tick_interrupt app s)
@@ -117,10 +118,30 @@ module _ (app : Application) (formed : IsWellFormed app) (hold : Hold) where
       (λ t. subst (IsSound app hold) (sym (when_held slice told t)) done)
       (λ t. subst (IsSound app hold) (sym (when_free slice told t)) (sliced app formed hold told done))
 
+  jumped_sound : (n : ℕ) (s : State) → IsSound app hold s → IsSound app hold (jump n s)
+  unfolding jump
+  jumped_sound n s h = woken app formed hold (record s { time = s.time + n; elapsed = s.elapsed + n }) (later app formed hold n s h)
+
+  pub jumped_there : (n : ℕ) (s : State) → IsSound app hold s → s.locked ≡ hold.locked → IsSound app hold (unless_held slice (interrupt app (jump n s)))
+  jumped_there n s h same =
+      let come : State = jump n s in
+      let still : come.locked ≡ hold.locked = ap (λ (x : Hold). x.locked) (hold-jump n s) ∙ same in
+      let told : State = interrupt app come in
+      let done : IsSound app hold told = interrupted come (jumped_sound n s h) still in
+      by_test (is_held told)
+      (λ t. subst (IsSound app hold) (sym (when_held slice told t)) done)
+      (λ t. subst (IsSound app hold) (sym (when_free slice told t)) (sliced app formed hold told done))
+
+  pub idled : (limits : Limits) (s : State) → IsSound app hold s → s.locked ≡ hold.locked → IsSound app hold (idle app limits s)
+  unfolding idle
+  idled limits s h same = either_way (IsSound app hold) app.tickless (unless_held slice (interrupt app (jump (ticks_ahead app limits s) s))) (tick_interrupt app s)
+      (jumped_there (ticks_ahead app limits s) s h same) (ticked s h same)
+
 -- ---- what is spared
 
 -- The same task runs. Each task is at its op, and where it was in it, but for one that is resumed; one who was Ready is so
--- still, and one who waited for the locked object has the same wait, though it may be Awake by now.
+-- still, and one who waited for the locked object has the same wait, though it may be Awake by now. Where none is locked, one who was to
+-- wake by itself is still to wake then, or is Ready.
 pub record Spares (old new : State) : Type 0 where
   pub kept : Keeps old new
   pub current : new.current ≡ old.current
@@ -131,9 +152,10 @@ pub record Spares (old new : State) : Type 0 where
   pub at : (i : ℕ) → can_resume (status_at old i) ≡ false → task_at new i ≡ record (task_at old i) { status = status_at new i }
   pub ready : (i : ℕ) → is_ready old i ≡ true → task_at new i ≡ task_at old i
   pub waits : (i : ℕ) (w : Wait) → wait_of (status_at old i) ≡ Some w → is_locked old.locked w.list ≡ true → wait_of (status_at new i) ≡ Some w
+  pub sleeps : old.locked ≡ None → (i : ℕ) → (is_ready new i ≡ true) ⊎ (wake_time_of (status_at new i) ≡ wake_time_of (status_at old i))
 
 pub spares : (s : State) → Spares s s
-spares s = record { kept = keeps s; current = refl; op_index = λ i. refl; holding = λ i. refl; place = λ i e. e; unsuspended = λ i e. e; at = λ i e. refl; ready = λ i r. refl; waits = λ i w e l. e }
+spares s = record { kept = keeps s; current = refl; op_index = λ i. refl; holding = λ i. refl; place = λ i e. e; unsuspended = λ i e. e; at = λ i e. refl; ready = λ i r. refl; waits = λ i w e l. e; sleeps = λ n i. inr refl }
 
 pub spares_both : (a b c : State) → Spares a b → Spares b c → Spares a c
 spares_both a b c h k = record {
@@ -146,12 +168,20 @@ spares_both a b c h k = record {
   at = λ i e. k.at i (h.unsuspended i e) ∙ ap (λ (t : Task). record t { status = status_at c i }) (h.at i e);
   ready = λ i r. k.ready i (subst (λ (t : Task). is_some (ticket_if_ready t.status) ≡ true) (sym (h.ready i r)) r) ∙ h.ready i r;
   waits = λ i w e l. k.waits i w (h.waits i w e l) (subst (λ (o : Option ℕ). is_locked o w.list ≡ true) (sym (ap (λ (x : Hold). x.locked) h.kept.hold)) l);
-}
+  sleeps = λ n i.
+      let m : b.locked ≡ None = ap (λ (x : Hold). x.locked) h.kept.hold ∙ n in
+      slept_both i (h.sleeps n i) (k.sleeps m i) (k.ready i);
+} where
+  slept_both : (i : ℕ) → (is_ready b i ≡ true) ⊎ (wake_time_of (status_at b i) ≡ wake_time_of (status_at a i)) → (is_ready c i ≡ true) ⊎ (wake_time_of (status_at c i) ≡ wake_time_of (status_at b i)) → (is_ready b i ≡ true → task_at c i ≡ task_at b i) → (is_ready c i ≡ true) ⊎ (wake_time_of (status_at c i) ≡ wake_time_of (status_at a i))
+  slept_both i x (inl r) stays = inl r
+  slept_both i (inl r) (inr e) stays = inl (ap (λ (t : Task). is_some (ticket_if_ready t.status)) (stays r) ∙ r)
+  slept_both i (inr d) (inr e) stays = inr (e ∙ d)
 
 -- where each task is where it was in its script
 pub spared_by : (old new : State) → Keeps old new → new.current ≡ old.current → ((i : ℕ) → task_at new i ≡ record (task_at old i) { status = status_at new i }) → ((i : ℕ) → can_resume (status_at old i) ≡ false → can_resume (status_at new i) ≡ false)
-    → ((i : ℕ) → is_ready old i ≡ true → task_at new i ≡ task_at old i) → ((i : ℕ) (w : Wait) → wait_of (status_at old i) ≡ Some w → is_locked old.locked w.list ≡ true → wait_of (status_at new i) ≡ Some w) → Spares old new
-spared_by old new kept current at unsuspended ready waits =
+    → ((i : ℕ) → is_ready old i ≡ true → task_at new i ≡ task_at old i) → ((i : ℕ) (w : Wait) → wait_of (status_at old i) ≡ Some w → is_locked old.locked w.list ≡ true → wait_of (status_at new i) ≡ Some w)
+    → (old.locked ≡ None → (i : ℕ) → (is_ready new i ≡ true) ⊎ (wake_time_of (status_at new i) ≡ wake_time_of (status_at old i))) → Spares old new
+spared_by old new kept current at unsuspended ready waits sleeps =
     let call : (i : ℕ) → progress_at new i ≡ progress_at old i = λ i. ap (λ (t : Task). t.progress) (at i) in
     record {
       kept = kept;
@@ -163,11 +193,12 @@ spared_by old new kept current at unsuspended ready waits =
       at = λ i _. at i;
       ready = ready;
       waits = waits;
+      sleeps = sleeps;
     }
 
 -- an event more
 spares-write : (w : What) (s : State) → Spares s (write w s)
-spares-write w s = spared_by s (write w s) (keeps-write w s) refl (λ i. refl) (λ i e. e) (λ i r. refl) (λ i v e l. e)
+spares-write w s = spared_by s (write w s) (keeps-write w s) refl (λ i. refl) (λ i e. e) (λ i r. refl) (λ i v e l. e) (λ n i. inr refl)
 
 -- ---- a wake spares
 
@@ -216,6 +247,17 @@ awake_unsuspended Ended e = refl
 unsuspended_but : (s : State) (j : ℕ) (u : Status) → can_resume u ≡ false → (i : ℕ) → can_resume (status_at s i) ≡ false → can_resume (get_or (set s.tasks j (record (task_at s j) { status = u })) i no_task).status ≡ false
 unsuspended_but s j u e = each-set no_task (λ i t. can_resume (status_at s i) ≡ false → can_resume t.status ≡ false) s.tasks j (record (task_at s j) { status = u }) (λ _. e) (λ i f. f)
 
+none_locked : (list : WaitList) → is_locked None list ≡ false
+none_locked (ToReceive object) = refl
+none_locked (ToSend object) = refl
+
+-- where none is locked, who is woken is Ready
+one_sleeps : (s : State) (j : ℕ) (list : WaitList) (i : ℕ) → s.locked ≡ None → (is_ready (wake_one j list s) i ≡ true) ⊎ (wake_time_of (status_at (wake_one j list s) i) ≡ wake_time_of (status_at s i))
+one_sleeps s j list i none =
+    let P : ℕ → Task → Type 0 = λ k t. (is_some (ticket_if_ready t.status) ≡ true) ⊎ (wake_time_of t.status ≡ wake_time_of (status_at s k)) in
+    let free : is_locked s.locked list ≡ false = ap (λ (o : Option ℕ). is_locked o list) none ∙ none_locked list in
+    rw free (each-set no_task P s.tasks j (record (task_at s j) { status = Ready s.next_ticket }) (inl refl) (λ k. inr refl) i)
+
 spares-wake_one : (s : State) (j : ℕ) (list : WaitList) → WaitsIn list (status_at s j) → Spares s (wake_one j list s)
 spares-wake_one s j list in_list = spared_by s (wake_one j list s)
     (keeps-wake_one j list s)
@@ -228,6 +270,7 @@ spares-wake_one s j list in_list = spared_by s (wake_one j list s)
     (λ t. rw t (unsuspended_but s j (Ready s.next_ticket) refl i e)))
     (λ i r. spared_one s i j list r in_list)
     (λ i w. one_waits s j list i w in_list)
+    (λ n i. one_sleeps s j list i n)
 
 first_spares : (s : State) (list : WaitList) (es : List Entry) → AllByRecursion (HasKey (waits_key list) s.tasks) es → Spares s (for_one (λ j. wake_one j list) (task_of (first es)) s)
 unfolding waits_key
@@ -243,7 +286,7 @@ spares-for None s = spares s
 spares-for (Some list) s = spares-wake_best list s
 
 spares-object : (o : ℕ) (x : Object) (s : State) → Spares s (with_object o x s)
-spares-object o x s = spared_by s (with_object o x s) (keeps-with_object o x s) refl (λ i. refl) (λ i e. e) (λ i r. refl) (λ i w e l. e)
+spares-object o x s = spared_by s (with_object o x s) (keeps-with_object o x s) refl (λ i. refl) (λ i e. e) (λ i r. refl) (λ i w e l. e) (λ n i. inr refl)
 
 spares-attempt : (caller : Option ℕ) (o : ℕ) (a : Access) (s : State) → Spares s (attempt caller o a s)
 unfolding attempt fulfil
@@ -297,6 +340,7 @@ spares-resumed s j suspended =
       at = each (λ i u. can_resume (status_at s i) ≡ false → u ≡ record (task_at s i) { status = u.status }) (λ e. absurd (cc)) (λ i e. refl);
       ready = each (λ i u. is_ready s i ≡ true → u ≡ task_at s i) (λ r. let f = ready_unsuspended (status_at s j) r in absurd (cc)) (λ i r. refl);
       waits = each (λ i u. (w : Wait) → wait_of (status_at s i) ≡ Some w → is_locked s.locked w.list ≡ true → wait_of u.status ≡ Some w) (λ w e l. let f = suspended_free (status_at s j) suspended in absurd (cc)) (λ i w e l. e);
+      sleeps = λ n. each (λ i u. (is_some (ticket_if_ready u.status) ≡ true) ⊎ (wake_time_of u.status ≡ wake_time_of (status_at s i))) (inl refl) (λ i. inr refl);
     }
 
 pub spares-resume : (j : ℕ) (s : State) → Spares s (resume j s)
@@ -347,9 +391,13 @@ place_locked hold (Some (DelayUntil n)) list p e = absurd p
 place_locked hold (Some Yield) list p e = absurd p
 place_locked hold (Some Time) list p e = absurd p
 place_locked hold (Some (Mark n)) list p e = absurd p
-place_locked hold (Some (Expect a)) list p e = absurd p
+place_locked hold (Some (Expect c)) list p e = absurd p
 place_locked hold (Some (Repeat n)) list p e = absurd p
 place_locked hold (Some End) list p e = absurd p
+place_locked hold (Some (If c)) list p e = absurd p
+place_locked hold (Some Else) list p e = absurd p
+place_locked hold (Some EndIf) list p e = absurd p
+place_locked hold (Some Break) list p e = absurd p
 place_locked hold (Some (Do o a)) list p e = absurd p
 place_locked hold (Some (GiveMutex o)) list p e = absurd p
 place_locked hold (Some (MessagesWaiting o)) list p e = absurd p

@@ -1,15 +1,21 @@
 -- The op at an index of a well formed script.
-use Rattle.std.proofs.Common.{◌≡◌, ◌≢◌, ◌<◌, ◌≤◌, ◌+◌, ℕ, zero, suc, true, eqb, ltb, List, [], ◌∷◌, drop, take, length, Option, Some, None, refl, ap, sym, subst, ◌∙◌, arith, add-one}
+use Rattle.std.proofs.Common.{◌≡◌, ◌≢◌, ◌<◌, ◌≤◌, ◌+◌, ◌-◌, ℕ, zero, suc, true, eqb, ltb, List, [], ◌∷◌, drop, take, length, Option, Some, None, refl, ap, sym, subst, ◌∙◌, arith, add-one}
 use Rattle.std.specs.List.{AllByRecursion, slice_get}
 use Rattle.std.specs.Option.{IfSome, option_map, unwrap_or}
 use Rattle.std.proofs.lemmas.Bool.{ltb-true, ltb-false}
 use Rattle.model.specs.declared.op.Op.{Op}
-use Rattle.model.specs.declared.op.Op.TheVariants.{Work, Delay, DelayUntil, Yield, Time, Mark, Expect, Repeat, End, Await, Do, GiveMutex, MessagesWaiting, SpacesAvailable, SetBits, ClearBits, GetBits, WaitBits, Suspend, Resume, SuspendAll, ResumeAll, NextCommand, Obey}
+use Rattle.model.specs.declared.op.Op.TheVariants.{Work, Delay, DelayUntil, Yield, Time, Mark, Expect, Repeat, End, If, Else, EndIf, Break, Await, Do, GiveMutex, MessagesWaiting, SpacesAvailable, SetBits, ClearBits, GetBits, WaitBits, Suspend, Resume, SuspendAll, ResumeAll, NextCommand, Obey}
 use Rattle.model.specs.declared.op.Access.TheVariants.{Receive}
 use Rattle.model.specs.declared.op.IsrOp.{IsrOp}
 use Rattle.model.specs.Application.{Application, Handler, Definition, of_file, commands_of, script_of, op_at, ops_of}
-use Rattle.model.specs.Scripts.{InRange, may_stand, nesting_past, Nests, IsScript, IsDefinition, IsHandler, IsDaemon, IsWellFormed, fits_object, knows, KnowsAll, knows_isr}
-use Rattle.model.specs.Invariant.{IsUsedBy}
+use Rattle.model.specs.declared.block.Block.{Block}
+use Rattle.model.specs.declared.block.Block.TheVariants as block
+use Rattle.model.specs.declared.block.Edge.{Edge}
+use Rattle.model.specs.declared.block.Edge.TheVariants.{OpensLoop, EndsLoop, OpensIf, OpensElse, EndsIf, Breaks, Inside}
+use Rattle.model.specs.Blocks.{edge_of, edges_of, loops_in, blocks_past, may_stand, Nests}
+use Rattle.model.specs.Scripts.{InRange, IsScript, IsDefinition, IsHandler, IsDaemon, IsWellFormed, fits_object, knows, KnowsAll, knows_isr}
+use Rattle.model.specs.declared.loops.Loop.{Loop}
+use Rattle.model.specs.Invariant.{AreOpenAt, LoopsNest, IsUsedBy}
 use Rattle.model.proofs.Sorting.{by_test}
 use Rattle.model.proofs.Lists.{eqb-refl, eqb-same}
 use Rattle.model.proofs.Nesting.{least_work}
@@ -25,19 +31,85 @@ formed_at (suc i) (d ∷ ds) h = formed_at i ds h.1
 pub script_formed : (app : Application) → IsWellFormed app → (i : ℕ) → IsScript (script_of app i)
 script_formed app h i = formed_at i app.tasks h.tasks
 
--- the op of an index, where so many loops are open
-pub stands_at : (d p : ℕ) (ops : List Op) (op : Op) → Nests d (drop p ops) → slice_get ops p ≡ Some op → may_stand d op ≡ true
-stands_at d p [] op n e = absurd (cc)
-stands_at d zero (o ∷ ops) op n e = let same : o ≡ op = cc in rw (← same) n.0
-stands_at d (suc p) (o ∷ ops) op n e = stands_at d p ops op n e
+-- the edge of the op of an index, and those behind it
+pub edges_at : (p : ℕ) (ops : List Op) (op : Op) → slice_get ops p ≡ Some op → drop p (edges_of ops) ≡ edge_of op ∷ drop (suc p) (edges_of ops)
+edges_at p [] op e = absurd (cc)
+edges_at zero (o ∷ ops) op e = let same : o ≡ op = cc in ap (λ x. edge_of x ∷ edges_of ops) same
+edges_at (suc p) (o ∷ ops) op e = edges_at p ops op e
 
-past : (d p : ℕ) (ops : List Op) (op : Op) → Nests d (drop p ops) → slice_get ops p ≡ Some op → Nests (nesting_past d op) (drop (suc p) ops)
-past d p [] op n e = absurd (cc)
-past d zero (o ∷ ops) op n e = let same : o ≡ op = cc in rw (← same) n.1
-past d (suc p) (o ∷ ops) op n e = past d p ops op n e
+-- An op stands where these blocks are open, and behind it come ops that end those that are open there.
+pub record Stands (loops : ℕ) (edge : Edge) (behind : List Edge) : Type 0 where
+  pub blocks : List Block
+  pub count : loops_in blocks ≡ loops
+  pub may : may_stand edge blocks ≡ true
+  pub nests : Nests (blocks_past edge blocks) behind
 
-pub nests_past : (d p : ℕ) (ops : List Op) (op : Op) → Nests d (drop p ops) → slice_get ops p ≡ Some op → Nests (nesting_past d op) (drop (p + 1) ops)
-nests_past d p ops op n e = rw add-one (past d p ops op n e)
+pub stands_at : (loops p : ℕ) (ops : List Op) (op : Op) → AreOpenAt ops p loops → slice_get ops p ≡ Some op
+    → Stands loops (edge_of op) (drop (p + 1) (edges_of ops))
+stands_at loops p ops op h e =
+    let n : Nests h.blocks (edge_of op ∷ drop (suc p) (edges_of ops)) = subst (Nests h.blocks) (edges_at p ops op e) h.nests in
+    let next : drop (suc p) (edges_of ops) ≡ drop (p + 1) (edges_of ops) = rw add-one refl in
+    record { blocks = h.blocks; count = h.count; may = n.0; nests = subst (Nests (blocks_past (edge_of op) h.blocks)) next n.1 }
+
+-- how many loops are open behind an op, where so many are open before it and it doesn't jump
+abbrev pub loops_past : ℕ → Edge → ℕ
+loops_past loops OpensLoop = loops + 1
+loops_past loops EndsLoop = loops - 1
+loops_past loops _ = loops
+
+abbrev pub nesting_past : ℕ → Op → ℕ
+nesting_past loops op = loops_past loops (edge_of op)
+
+counted_past : (e : Edge) (bs : List Block) → may_stand e bs ≡ true → loops_in (blocks_past e bs) ≡ loops_past (loops_in bs) e
+counted_past OpensLoop bs m = omega arith
+counted_past EndsLoop [] m = absurd (cc)
+counted_past EndsLoop (block.Loop ∷ bs) m = omega arith
+counted_past EndsLoop (block.If ∷ bs) m = absurd (cc)
+counted_past EndsLoop (block.Else ∷ bs) m = absurd (cc)
+counted_past OpensIf bs m = refl
+counted_past OpensElse [] m = absurd (cc)
+counted_past OpensElse (block.Loop ∷ bs) m = absurd (cc)
+counted_past OpensElse (block.If ∷ bs) m = refl
+counted_past OpensElse (block.Else ∷ bs) m = absurd (cc)
+counted_past EndsIf [] m = absurd (cc)
+counted_past EndsIf (block.Loop ∷ bs) m = absurd (cc)
+counted_past EndsIf (block.If ∷ bs) m = refl
+counted_past EndsIf (block.Else ∷ bs) m = refl
+counted_past Breaks bs m = refl
+counted_past Inside bs m = refl
+
+-- behind an op that doesn't jump
+pub nests_past : (loops p : ℕ) (ops : List Op) (op : Op) → AreOpenAt ops p loops → slice_get ops p ≡ Some op → AreOpenAt ops (p + 1) (nesting_past loops op)
+nests_past loops p ops op h e =
+    let t = stands_at loops p ops op h e in
+    record {
+      blocks = blocks_past (edge_of op) t.blocks;
+      count = counted_past (edge_of op) t.blocks t.may ∙ ap (λ n. loops_past n (edge_of op)) t.count;
+      nests = t.nests;
+    }
+
+-- an `end` stands in a loop
+pub no_end : (p : ℕ) (ops : List Op) → AreOpenAt ops p 0 → slice_get ops p ≡ Some End → ⊥
+no_end p ops h e =
+    let t = stands_at 0 p ops End h e in
+    by_blocks t.blocks t.count t.may where
+      by_blocks : (bs : List Block) → loops_in bs ≡ 0 → may_stand EndsLoop bs ≡ true → ⊥
+      by_blocks [] c m = absurd (cc)
+      by_blocks (block.Loop ∷ bs) c m = omega arith
+      by_blocks (block.If ∷ bs) c m = absurd (cc)
+      by_blocks (block.Else ∷ bs) c m = absurd (cc)
+
+pub one_less : (loops : List Loop) → 0 < length loops → length loops - 1 ≡ length (drop 1 loops)
+one_less [] l = absurd (omega arith)
+one_less (l ∷ ls) lt = omega arith
+
+pub without_first : (ops : List Op) (loops : List Loop) → LoopsNest ops loops → LoopsNest ops (drop 1 loops)
+without_first ops [] h = tt
+without_first ops (l ∷ ls) h = h.1
+
+-- At the first op nothing is open.
+pub open_at_first : (app : Application) → IsWellFormed app → (i : ℕ) → AreOpenAt (script_of app i) 0 0
+open_at_first app formed i = record { blocks = []; count = refl; nests = (script_formed app formed i).nests }
 
 pub used_none : (p : ℕ) (ops : List Op) → AllByRecursion InRange ops → IsUsedBy 0 (slice_get ops p)
 used_none p [] h = tt
@@ -47,9 +119,13 @@ used_none zero ((DelayUntil n) ∷ ops) h = tt
 used_none zero (Yield ∷ ops) h = tt
 used_none zero (Time ∷ ops) h = tt
 used_none zero ((Mark n) ∷ ops) h = tt
-used_none zero ((Expect a) ∷ ops) h = tt
+used_none zero ((Expect c) ∷ ops) h = tt
 used_none zero ((Repeat n) ∷ ops) h = tt
 used_none zero (End ∷ ops) h = tt
+used_none zero ((If c) ∷ ops) h = tt
+used_none zero (Else ∷ ops) h = tt
+used_none zero (EndIf ∷ ops) h = tt
+used_none zero (Break ∷ ops) h = tt
 used_none zero ((Await o a w) ∷ ops) h = tt
 used_none zero ((Do o a) ∷ ops) h = tt
 used_none zero ((GiveMutex o) ∷ ops) h = tt
@@ -96,9 +172,13 @@ known_if app i p (DelayUntil n) e = e
 known_if app i p Yield e = e
 known_if app i p Time e = e
 known_if app i p (Mark n) e = e
-known_if app i p (Expect a) e = e
+known_if app i p (Expect c) e = e
 known_if app i p (Repeat n) e = e
 known_if app i p End e = e
+known_if app i p (If c) e = e
+known_if app i p Else e = e
+known_if app i p EndIf e = e
+known_if app i p Break e = e
 known_if app i p (Await o a w) e = e
 known_if app i p (Do o a) e = e
 known_if app i p (GiveMutex o) e = e

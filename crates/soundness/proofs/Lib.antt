@@ -1,6 +1,7 @@
 pub mod Frames
 pub mod Passing
 pub mod InScripts
+pub mod Jumping
 pub mod Settled
 pub mod Sound
 pub mod Called
@@ -15,3 +16,4 @@ pub mod Daemon
 pub mod Going
 pub mod Obeyed
 pub mod Reached
+pub mod Idling

@@ -1,9 +1,9 @@
 -- What each op makes of the ticks and of the suspension of the scheduler: most leave both as they were.
-use Rattle.std.proofs.Common.{ap₂, Bool, ap, ◌≡◌, ◌≢◌, ◌≤◌, ◌+◌, ◌-◌, ◌||◌, ◌&&◌, ℕ, zero, suc, true, false, eqb, ltb, List, ◌++◌, Option, Some, None, refl, ◌∙◌, arith, length}
+use Rattle.std.proofs.Common.{ap₂, Bool, ap, ◌≡◌, ◌≢◌, ◌≤◌, ◌+◌, ◌-◌, ◌<◌, ◌||◌, ◌&&◌, ℕ, zero, suc, true, false, eqb, ltb, min, fold, List, [], ◌∷◌, ◌++◌, Option, Some, None, refl, ◌∙◌, arith, length}
 use Rattle.std.specs.Prelude.{if◌then◌else◌}
-use Rattle.std.specs.Option.{option_eq, is_some}
+use Rattle.std.specs.Option.{option_eq}
 use Rattle.model.specs.declared.op.Op.{Op}
-use Rattle.model.specs.declared.op.Op.TheVariants.{Work, Delay, DelayUntil, Yield, Time, Mark, Expect, Repeat, End, Await, Do, GiveMutex, MessagesWaiting, SpacesAvailable, SetBits, ClearBits, GetBits, WaitBits, Suspend, Resume, SuspendAll, ResumeAll, NextCommand, Obey}
+use Rattle.model.specs.declared.op.Op.TheVariants.{Work, Delay, DelayUntil, Yield, Time, Mark, Expect, Repeat, End, If, Else, EndIf, Break, Await, Do, GiveMutex, MessagesWaiting, SpacesAvailable, SetBits, ClearBits, GetBits, WaitBits, Suspend, Resume, SuspendAll, ResumeAll, NextCommand, Obey}
 use Rattle.model.specs.declared.op.Access.{Access}
 use Rattle.model.specs.declared.op.Access.TheVariants.{Receive}
 use Rattle.model.specs.declared.op.Command.{Command}
@@ -14,23 +14,25 @@ use Rattle.model.specs.declared.call.WaitList.TheVariants.{ToReceive, ToSend}
 use Rattle.model.specs.declared.event.Misuse.{Misuse}
 use Rattle.model.specs.declared.event.Misuse.TheVariants.{NotSuspended}
 use Rattle.model.specs.declared.event.What.TheVariants as what
-use Rattle.model.specs.Application.{Application, op_at}
+use Rattle.model.specs.declared.answer.AnswerCondition.{AnswerCondition}
+use Rattle.model.specs.Answers.{holds}
+use Rattle.model.specs.Application.{Application, Limits, op_at}
 use Rattle.model.specs.State.{State, status_at, progress_at, call_at, object_at, bits_at, for_one, printed}
 use Rattle.model.specs.Order.{tasks_of}
 use Rattle.model.specs.Switching.{choose, preempt, slice, settle, is_scheduler_suspended, is_held, unless_held, write}
 use Rattle.model.specs.Waiting.{awakened, wait_in, set_deadline, is_expired, end_hold, unlock_object, unlock}
-use Rattle.model.specs.Time.{advance, increment_tick, apply_one, apply_held}
+use Rattle.model.specs.Time.{advance, increment_tick, jump, apply_one, apply_held}
 use Rattle.model.specs.Ops.{answer, use_up, expect}
 use Rattle.model.specs.Objects.{possible}
 use Rattle.model.specs.Calls.{decide, leave_call, await}
 use Rattle.model.specs.Groups.{is_met, begin_set, set_bits, wait_for_bits, begin_bits_wait, check, final_bits, wait_bits}
 use Rattle.model.specs.Suspension.{suspend_all, resume_scheduler, resume_all}
-use Rattle.model.specs.Daemon.{next_command, obeyed, clear_by_daemon, end_set_by_daemon, obey, command_at}
-use Rattle.model.specs.Handlers.{interrupt, tick_interrupt}
+use Rattle.model.specs.Daemon.{next_command, obeyed, end_set_by_daemon, obey, command_at}
+use Rattle.model.specs.Handlers.{interrupt, tick_interrupt, idle, ticks_ahead, ticks_to_wake, ticks_to_interrupt}
 use Rattle.model.specs.Step.{is_ended, judge, act, act_unless, own_misuse, misuse, act_if, act_current, before_step, step, reset, nobody_ready, ready_at_reset, with_ops}
 use Rattle.model.specs.Invariant.{Hold, hold_of, InOne, course, Suspension, suspension_of}
 use Rattle.model.proofs.Sorting.{by_test}
-use Rattle.soundness.proofs.Frames.{Keeps, keeps, keeps_both, keeps-choose, keeps-yield_now, keeps-preempt, keeps-slice, keeps-settle, keeps-unless_held, keeps-all_ready, keeps-wake_due, keeps-go_to, keeps-answer, keeps-use_up, keeps-delay, keeps-delay_until, keeps-open_loop, keeps-close_turn, keeps-set_deadline, keeps-inherit, keeps-give_mutex, keeps-try, keeps-do_now, keeps-set, keeps-clear, keeps-answer_bits, keeps-call_suspend, keeps-call_resume, keeps-take_command, keeps-obeyed, keeps-clear_by_daemon, keeps-interrupt, keeps-before_step}
+use Rattle.soundness.proofs.Frames.{Keeps, keeps, keeps_both, keeps-choose, keeps-yield_now, keeps-preempt, keeps-slice, keeps-settle, keeps-unless_held, keeps-all_ready, keeps-wake_due, keeps-go_to, keeps-answer, keeps-use_up, keeps-delay, keeps-delay_until, keeps-open_loop, keeps-close_turn, keeps-branch, keeps-skip_branch, keeps-leave_loop, keeps-set_deadline, keeps-inherit, keeps-give_mutex, keeps-try, keeps-do_now, keeps-set, keeps-clear, keeps-answer_bits, keeps-call_suspend, keeps-call_resume, keeps-take_command, keeps-obeyed, keeps-clear_by_daemon, keeps-interrupt, keeps-before_step}
 
 -- ---- a call in its phases lets no time pass
 
@@ -69,7 +71,7 @@ lasts-leave_call i s =
     (λ t. rw t (lasts_both s free (choose free) ended (keeps-choose free)))
     (λ t. rw t (lasts_both s free (preempt free) ended (keeps-preempt free)))
 
-lasts-await : (app : Application) (i o : ℕ) (a : Access) (ticks : Option ℕ) (phase : Phase) (s : State) → Lasts s (await app i o a ticks phase s)
+pub lasts-await : (app : Application) (i o : ℕ) (a : Access) (ticks : Option ℕ) (phase : Phase) (s : State) → Lasts s (await app i o a ticks phase s)
 lasts-await app i o a ticks Start s = let t : State = set_deadline i ticks s in lasts s _ (keeps_both s t _ (keeps-set_deadline i ticks s) (keeps-try app i o a t))
 lasts-await app i o a ticks Try s = lasts s _ (keeps-try app i o a s)
 lasts-await app i o a ticks Decide s = lasts-decide i o a s
@@ -150,9 +152,9 @@ pub record Ends (old new : State) : Type 0 where
 ends : (s t : State) → Keeps s t → Ends s t
 ends s t k = record { lasts = lasts s t k; hold = k.hold }
 
-ends-expect : (app : Application) (i : ℕ) (a : Option ℕ) (s : State) → Ends s (expect app i a s)
+ends-expect : (app : Application) (i : ℕ) (condition : AnswerCondition) (s : State) → Ends s (expect app i condition s)
 unfolding expect
-ends-expect app i a s = by_test (option_eq eqb (progress_at s i).answer a)
+ends-expect app i condition s = by_test (holds condition (progress_at s i).answer)
     (λ t. rw t (ends s _ (keeps-go_to app i ((progress_at s i).op_index + 1) (progress_at s i) s)))
     (λ t. rw t (record { lasts = record { elapsed = refl; suspension = refl }; hold = refl }))
 
@@ -202,8 +204,96 @@ hold-tick app s = (keeps-tick app s).hold ∙ by_test (is_scheduler_suspended s)
 pub suspension-tick : (app : Application) (s : State) → s.suspensions ≡ 0 → suspension_of (tick_interrupt app s) ≡ suspension_of s
 suspension-tick app s none = (keeps-tick app s).suspension ∙ rw none refl
 
+pub held-tick : (app : Application) (s : State) → (tick_interrupt app s).held_ticks ≤ s.held_ticks + 1
+held-tick app s =
+    let e : (tick_interrupt app s).held_ticks ≡ (tick_come s).held_ticks = ap (λ (x : Suspension). x.held_ticks) (keeps-tick app s).suspension in
+    let come : (tick_come s).held_ticks ≤ s.held_ticks + 1 = by_test (is_scheduler_suspended s) (λ t. rw t (omega arith)) (λ t. rw t (omega arith)) in
+    omega arith
+
 pub suspensions-tick : (app : Application) (s : State) → (tick_interrupt app s).suspensions ≡ s.suspensions
 suspensions-tick app s = ap (λ (x : Suspension). x.suspensions) (keeps-tick app s).suspension ∙ by_test (is_scheduler_suspended s) (λ t. rw t refl) (λ t. rw t refl)
+
+-- ---- a jump: idle lets several ticks pass
+
+-- they have come, and have not been acted upon
+abbrev pub jump_come : ℕ → State → State
+jump_come n s = record s { time = s.time + n; elapsed = s.elapsed + n }
+
+keeps-jump : (n : ℕ) (s : State) → Keeps (jump_come n s) (jump n s)
+unfolding jump
+keeps-jump n s = keeps-wake_due (jump_come n s)
+
+pub hold-jump : (n : ℕ) (s : State) → hold_of (jump n s) ≡ hold_of s
+hold-jump n s = (keeps-jump n s).hold
+
+abbrev pub jumped : Application → ℕ → State → State
+jumped app n s = unless_held slice (interrupt app (jump n s))
+
+keeps-jumped : (app : Application) (n : ℕ) (s : State) → Keeps (jump_come n s) (jumped app n s)
+keeps-jumped app n s =
+    let come : State = jump n s in
+    let told : State = interrupt app come in
+    keeps_both (jump_come n s) come (unless_held slice told) (keeps-jump n s)
+    (keeps_both come told (unless_held slice told) (keeps-interrupt app come) (keeps-unless_held slice told keeps-slice))
+
+least : (a : ℕ) (xs : List ℕ) → fold min a xs ≤ a
+least a [] = omega arith
+least a (x ∷ xs) = let l = least (min a x) xs in omega arith
+
+pub either_way : (P : State → Type 0) (b : Bool) (x y : State) → P x → P y → P (if b then x else y)
+either_way P true x y p q = p
+either_way P false x y p q = q
+
+when_off : (b : Bool) (x y : State) → b ≡ false → (if b then x else y) ≡ y
+when_off true x y e = absurd (cc)
+when_off false x y e = refl
+
+when_on : (b : Bool) (x y : State) → b ≡ true → (if b then x else y) ≡ x
+when_on true x y e = refl
+when_on false x y e = absurd (cc)
+
+-- Where it may jump, it does.
+pub idle_jumps : (app : Application) (limits : Limits) (s : State) → app.tickless ≡ true → idle app limits s ≡ jumped app (ticks_ahead app limits s) s
+unfolding idle
+idle_jumps app limits s on = when_on app.tickless (jumped app (ticks_ahead app limits s) s) (tick_interrupt app s) on
+
+-- Where it may not jump, it lets one tick pass.
+pub idle_ticks : (app : Application) (limits : Limits) (s : State) → app.tickless ≡ false → idle app limits s ≡ tick_interrupt app s
+unfolding idle
+idle_ticks app limits s off = when_off app.tickless (jumped app (ticks_ahead app limits s) s) (tick_interrupt app s) off
+
+pub elapsed-idle : (app : Application) (limits : Limits) (s : State) → app.tickless ≡ false → (idle app limits s).elapsed ≡ s.elapsed + 1
+elapsed-idle app limits s off = ap (λ (t : State). t.elapsed) (idle_ticks app limits s off) ∙ elapsed-tick app s
+
+pub most-idle : (app : Application) (limits : Limits) (s : State) → s.elapsed < limits.ticks → (idle app limits s).elapsed ≤ limits.ticks
+unfolding idle
+most-idle app limits s l = either_way (λ t. t.elapsed ≤ limits.ticks) app.tickless (jumped app (ticks_ahead app limits s) s) (tick_interrupt app s)
+    (let n : ℕ = ticks_ahead app limits s in
+    let most : n ≤ limits.ticks - s.elapsed = least (limits.ticks - s.elapsed) (ticks_to_wake s ++ ticks_to_interrupt app s) in
+    let e : (jumped app n s).elapsed ≡ s.elapsed + n = (keeps-jumped app n s).elapsed in
+    omega arith)
+    (let e = elapsed-tick app s in omega arith)
+
+pub hold-idle : (app : Application) (limits : Limits) (s : State) → hold_of (idle app limits s) ≡ hold_of s
+unfolding idle
+hold-idle app limits s = either_way (λ t. hold_of t ≡ hold_of s) app.tickless (jumped app (ticks_ahead app limits s) s) (tick_interrupt app s)
+    (keeps-jumped app (ticks_ahead app limits s) s).hold (hold-tick app s)
+
+pub suspension-idle : (app : Application) (limits : Limits) (s : State) → s.suspensions ≡ 0 → suspension_of (idle app limits s) ≡ suspension_of s
+unfolding idle
+suspension-idle app limits s none = either_way (λ t. suspension_of t ≡ suspension_of s) app.tickless (jumped app (ticks_ahead app limits s) s) (tick_interrupt app s)
+    (keeps-jumped app (ticks_ahead app limits s) s).suspension (suspension-tick app s none)
+
+suspensions-idle : (app : Application) (limits : Limits) (s : State) → (idle app limits s).suspensions ≡ s.suspensions
+unfolding idle
+suspensions-idle app limits s = either_way (λ t. t.suspensions ≡ s.suspensions) app.tickless (jumped app (ticks_ahead app limits s) s) (tick_interrupt app s)
+    (ap (λ (x : Suspension). x.suspensions) (keeps-jumped app (ticks_ahead app limits s) s).suspension) (suspensions-tick app s)
+
+held-idle : (app : Application) (limits : Limits) (s : State) → (idle app limits s).held_ticks ≤ s.held_ticks + 1
+unfolding idle
+held-idle app limits s = either_way (λ t. t.held_ticks ≤ s.held_ticks + 1) app.tickless (jumped app (ticks_ahead app limits s) s) (tick_interrupt app s)
+    (let e : (jumped app (ticks_ahead app limits s) s).held_ticks ≡ s.held_ticks = ap (λ (x : Suspension). x.held_ticks) (keeps-jumped app (ticks_ahead app limits s) s).suspension in omega arith)
+    (held-tick app s)
 
 -- ---- the scheduler suspended and resumed
 
@@ -240,13 +330,14 @@ pub record Resumes (old new : State) : Type 0 where
   pub hold : hold_of new ≡ hold_of old
   pub suspensions : new.suspensions ≡ old.suspensions - 1
   pub held : old.suspensions ≡ 1 → new.held_ticks ≡ 0
+  pub no_more : new.held_ticks ≤ old.held_ticks
 
 pub resumes : (s : State) → Resumes s (resume_scheduler s)
 unfolding resume_scheduler
 resumes s = by_test (eqb s.suspensions 1)
     (λ t. rw t (let k = applies s.held_ticks (record s { suspensions = s.suspensions - 1 }) in
-    record { elapsed = k.elapsed; hold = k.hold; suspensions = k.suspensions; held = λ _. let e = k.held in omega arith }))
-    (λ t. rw t (record { elapsed = refl; hold = refl; suspensions = refl; held = λ e. let u : eqb s.suspensions 1 ≡ true = rw e refl in absurd (cc) }))
+    record { elapsed = k.elapsed; hold = k.hold; suspensions = k.suspensions; held = λ _. let e = k.held in omega arith; no_more = let e = k.held in omega arith }))
+    (λ t. rw t (record { elapsed = refl; hold = refl; suspensions = refl; held = λ e. let u : eqb s.suspensions 1 ≡ true = rw e refl in absurd (cc); no_more = omega arith }))
 
 pub resumes-all : (app : Application) (i : ℕ) (s : State) → Resumes s (resume_all app i s)
 unfolding resume_all
@@ -260,18 +351,20 @@ resumes-all app i s =
       hold = k.hold ∙ r.hold;
       suspensions = ap (λ (x : Suspension). x.suspensions) k.suspension ∙ r.suspensions;
       held = λ e. ap (λ (x : Suspension). x.held_ticks) k.suspension ∙ r.held e;
+      no_more = (let e : (unless_held preempt u).held_ticks ≡ t.held_ticks = ap (λ (x : Suspension). x.held_ticks) k.suspension in let less = r.no_more in omega arith);
     }
 
 pub record Suspends (old new : State) : Type 0 where
   pub elapsed : new.elapsed ≡ old.elapsed
   pub hold : hold_of new ≡ hold_of old
   pub suspensions : new.suspensions ≡ old.suspensions + 1
+  pub held : new.held_ticks ≡ old.held_ticks
 
 pub suspends-all : (app : Application) (i : ℕ) (s : State) → Suspends s (suspend_all app i s)
 unfolding suspend_all
 suspends-all app i s =
     let k = keeps-answer app i (Some 0) (record s { suspensions = s.suspensions + 1 }) in
-    record { elapsed = k.elapsed; hold = k.hold; suspensions = ap (λ (x : Suspension). x.suspensions) k.suspension }
+    record { elapsed = k.elapsed; hold = k.hold; suspensions = ap (λ (x : Suspension). x.suspensions) k.suspension; held = ap (λ (x : Suspension). x.held_ticks) k.suspension }
 
 -- ---- the ops
 
@@ -290,9 +383,13 @@ by_op P w s r f (DelayUntil n) = f (DelayUntil n) refl
 by_op P w s r f Yield = f Yield refl
 by_op P w s r f Time = f Time refl
 by_op P w s r f (Mark n) = f (Mark n) refl
-by_op P w s r f (Expect a) = f (Expect a) refl
+by_op P w s r f (Expect c) = f (Expect c) refl
 by_op P w s r f (Repeat n) = f (Repeat n) refl
 by_op P w s r f End = f End refl
+by_op P w s r f (If c) = f (If c) refl
+by_op P w s r f Else = f Else refl
+by_op P w s r f EndIf = f EndIf refl
+by_op P w s r f Break = f Break refl
 by_op P w s r f (Await o a ticks) = f (Await o a ticks) refl
 by_op P w s r f (Do o a) = f (Do o a) refl
 by_op P w s r f (GiveMutex o) = f (GiveMutex o) refl
@@ -317,9 +414,13 @@ ends-act app i (DelayUntil n) s t w = ends s _ (keeps-delay_until app i ((progre
 ends-act app i Yield s t w = ends s _ (keeps_both s _ _ (keeps-answer app i (Some 0) s) (keeps-yield_now (answer app i (Some 0) s)))
 ends-act app i Time s t w = ends s _ (keeps-answer app i (Some (printed s.time)) s)
 ends-act app i (Mark n) s t w = let k = keeps-go_to app i ((progress_at s i).op_index + 1) (progress_at s i) (write (what.Mark i n) s) in record { lasts = record { elapsed = k.elapsed; suspension = k.suspension }; hold = k.hold }
-ends-act app i (Expect a) s t w = ends-expect app i a s
+ends-act app i (Expect c) s t w = ends-expect app i c s
 ends-act app i (Repeat n) s t w = ends s _ (keeps-open_loop app i n s)
 ends-act app i End s t w = ends s _ (keeps-close_turn app i s)
+ends-act app i (If c) s t w = ends s _ (keeps-branch app i c s)
+ends-act app i Else s t w = ends s _ (keeps-skip_branch app i s)
+ends-act app i EndIf s t w = ends s _ (keeps-go_to app i ((progress_at s i).op_index + 1) (progress_at s i) s)
+ends-act app i Break s t w = ends s _ (keeps-leave_loop app i s)
 ends-act app i (Await o a ticks) s t w = absurd (cc)
 ends-act app i (Do o a) s t w = ends s _ (keeps-do_now app i o a s)
 ends-act app i (GiveMutex o) s t w = ends s _ (keeps-give_mutex app i o s)
@@ -343,9 +444,13 @@ lasts-act app i (DelayUntil n) s t = (ends-act app i (DelayUntil n) s refl refl)
 lasts-act app i Yield s t = (ends-act app i Yield s refl refl).lasts
 lasts-act app i Time s t = (ends-act app i Time s refl refl).lasts
 lasts-act app i (Mark n) s t = (ends-act app i (Mark n) s refl refl).lasts
-lasts-act app i (Expect a) s t = (ends-act app i (Expect a) s refl refl).lasts
+lasts-act app i (Expect c) s t = (ends-act app i (Expect c) s refl refl).lasts
 lasts-act app i (Repeat n) s t = (ends-act app i (Repeat n) s refl refl).lasts
 lasts-act app i End s t = (ends-act app i End s refl refl).lasts
+lasts-act app i (If c) s t = (ends-act app i (If c) s refl refl).lasts
+lasts-act app i Else s t = (ends-act app i Else s refl refl).lasts
+lasts-act app i EndIf s t = (ends-act app i EndIf s refl refl).lasts
+lasts-act app i Break s t = (ends-act app i Break s refl refl).lasts
 lasts-act app i (Await o a ticks) s t = lasts-await app i o a ticks (call_at s i).phase s
 lasts-act app i (Do o a) s t = (ends-act app i (Do o a) s refl refl).lasts
 lasts-act app i (GiveMutex o) s t = (ends-act app i (GiveMutex o) s refl refl).lasts
@@ -385,6 +490,14 @@ suspensions-act app i op s = by_op (λ op. (act app i op s).suspensions ≤ s.su
     (let e = (resumes-all app i s).suspensions in omega arith)
     (λ op t. let e : (act app i op s).suspensions ≡ s.suspensions = ap (λ (x : Suspension). x.suspensions) (lasts-act app i op s t).suspension in omega arith) op
 
+-- how many ticks are held after it
+held-act : (app : Application) (i : ℕ) (op : Op) (s : State) → (act app i op s).held_ticks ≤ s.held_ticks + 1
+held-act app i op s = by_op (λ op. (act app i op s).held_ticks ≤ s.held_ticks + 1)
+    (λ n. let e = held-tick app (use_up app i n s) in let f : (use_up app i n s).held_ticks ≡ s.held_ticks = ap (λ (x : Suspension). x.held_ticks) (keeps-use_up app i n s).suspension in omega arith)
+    (let e = (suspends-all app i s).held in omega arith)
+    (let e = (resumes-all app i s).no_more in omega arith)
+    (λ op t. let e : (act app i op s).held_ticks ≡ s.held_ticks = ap (λ (x : Suspension). x.held_ticks) (lasts-act app i op s t).suspension in omega arith) op
+
 -- a judgement
 pub judged : (i op_index : ℕ) (s : State) → Lasts s (judge i op_index s)
 unfolding judge
@@ -414,53 +527,73 @@ acts_calm app i op s none fine ne =
     ap (λ (kind : Option Misuse). act_unless app i kind op s) (misuse_calm s i op none ∙ fine)
     ∙ judged_calm i (progress_at s i).op_index (act app i op s) (calm_still app i op s none fine ne)
 
--- no more than one tick passes, and no more than one `suspend_all` comes into force
-pub record Moves (old new : State) : Type 0 where
-  pub elapsed : new.elapsed ≤ old.elapsed + 1
+-- no more than one tick passes, but where idle may jump, and then none past the limit; no more than one is held, and no more than one
+-- `suspend_all` comes into force
+pub record Moves (app : Application) (limits : Limits) (old new : State) : Type 0 where
+  pub elapsed : app.tickless ≡ false → new.elapsed ≤ old.elapsed + 1
+  pub most : old.elapsed < limits.ticks → new.elapsed ≤ limits.ticks
   pub suspensions : new.suspensions ≤ old.suspensions + 1
+  pub held : new.held_ticks ≤ old.held_ticks + 1
 
-moves-act_unless : (app : Application) (i : ℕ) (kind : Option Misuse) (op : Op) (s : State) → Moves s (act_unless app i kind op s)
-moves-act_unless app i None op s =
+moves-act_unless : (app : Application) (limits : Limits) (i : ℕ) (kind : Option Misuse) (op : Op) (s : State) → Moves app limits s (act_unless app i kind op s)
+moves-act_unless app limits i None op s =
     let t : State = act app i op s in
     let j = judged i (progress_at s i).op_index t in
     let e = j.elapsed in
     let f : (judge i (progress_at s i).op_index t).suspensions ≡ t.suspensions = ap (λ (x : Suspension). x.suspensions) j.suspension in
     let a = elapsed-act app i op s in
+    let g : (judge i (progress_at s i).op_index t).held_ticks ≡ t.held_ticks = ap (λ (x : Suspension). x.held_ticks) j.suspension in
     let b = suspensions-act app i op s in
-    record { elapsed = omega arith; suspensions = omega arith }
-moves-act_unless app i (Some kind) op s = record { elapsed = omega arith; suspensions = omega arith }
+    let h = held-act app i op s in
+    record { elapsed = λ off. omega arith; most = λ l. omega arith; suspensions = omega arith; held = omega arith }
+moves-act_unless app limits i (Some kind) op s = record { elapsed = λ off. omega arith; most = λ l. omega arith; suspensions = omega arith; held = omega arith }
 
-moves-act_if : (app : Application) (i : ℕ) (o : Option Op) (s : State) → Moves s (act_if app i o s)
-moves-act_if app i None s = record { elapsed = omega arith; suspensions = omega arith }
-moves-act_if app i (Some op) s = moves-act_unless app i (misuse s i op) op s
+moves-act_if : (app : Application) (limits : Limits) (i : ℕ) (o : Option Op) (s : State) → Moves app limits s (act_if app i o s)
+moves-act_if app limits i None s = record { elapsed = λ off. omega arith; most = λ l. omega arith; suspensions = omega arith; held = omega arith }
+moves-act_if app limits i (Some op) s = moves-act_unless app limits i (misuse s i op) op s
 
-moves-act_current : (app : Application) (r : Option ℕ) (s : State) → Moves s (act_current app r s)
-moves-act_current app None s = let e = elapsed-tick app s in let f = suspensions-tick app s in record { elapsed = omega arith; suspensions = omega arith }
-moves-act_current app (Some i) s = moves-act_if app i (op_at app i (progress_at s i).op_index) s
+moves-act_current : (app : Application) (limits : Limits) (r : Option ℕ) (s : State) → Moves app limits s (act_current app limits r s)
+moves-act_current app limits None s =
+    let f = suspensions-idle app limits s in
+    record { elapsed = λ off. (let e = elapsed-idle app limits s off in omega arith); most = λ l. most-idle app limits s l; suspensions = omega arith; held = held-idle app limits s }
+moves-act_current app limits (Some i) s = moves-act_if app limits i (op_at app i (progress_at s i).op_index) s
 
 -- ---- a step, and reset
 
-moves-step : (app : Application) (handlers : List ℕ) (s : State) → Moves s (step app handlers s)
+moves-step : (app : Application) (limits : Limits) (handlers : List ℕ) (s : State) → Moves app limits s (step app limits handlers s)
 unfolding step
-moves-step app handlers s =
+moves-step app limits handlers s =
     let begun : State = before_step app handlers s in
-    let acted : State = act_current app begun.current begun in
+    let acted : State = act_current app limits begun.current begun in
     let b = keeps-before_step app handlers s in
     let k = keeps-unless_held settle acted keeps-settle in
-    let m = moves-act_current app begun.current begun in
+    let m = moves-act_current app limits begun.current begun in
     let b1 : begun.elapsed ≡ s.elapsed = b.elapsed in
     let b2 : begun.suspensions ≡ s.suspensions = ap (λ (x : Suspension). x.suspensions) b.suspension in
     let k1 : (unless_held settle acted).elapsed ≡ acted.elapsed = k.elapsed in
     let k2 : (unless_held settle acted).suspensions ≡ acted.suspensions = ap (λ (x : Suspension). x.suspensions) k.suspension in
-    let m1 : acted.elapsed ≤ begun.elapsed + 1 = m.elapsed in
     let m2 : acted.suspensions ≤ begun.suspensions + 1 = m.suspensions in
-    record { elapsed = omega arith; suspensions = omega arith }
+    let b3 : begun.held_ticks ≡ s.held_ticks = ap (λ (x : Suspension). x.held_ticks) b.suspension in
+    let k3 : (unless_held settle acted).held_ticks ≡ acted.held_ticks = ap (λ (x : Suspension). x.held_ticks) k.suspension in
+    let h : acted.held_ticks ≤ begun.held_ticks + 1 = m.held in
+    record {
+      elapsed = λ off. (let m1 : acted.elapsed ≤ begun.elapsed + 1 = m.elapsed off in omega arith);
+      most = λ l. (let m3 : acted.elapsed ≤ limits.ticks = m.most (omega arith) in omega arith);
+      suspensions = omega arith;
+      held = omega arith;
+    }
 
-pub elapsed-step : (app : Application) (handlers : List ℕ) (s : State) → (step app handlers s).elapsed ≤ s.elapsed + 1
-elapsed-step app handlers s = (moves-step app handlers s).elapsed
+pub elapsed-step : (app : Application) (limits : Limits) (handlers : List ℕ) (s : State) → app.tickless ≡ false → (step app limits handlers s).elapsed ≤ s.elapsed + 1
+elapsed-step app limits handlers s = (moves-step app limits handlers s).elapsed
 
-pub suspensions-step : (app : Application) (handlers : List ℕ) (s : State) → (step app handlers s).suspensions ≤ s.suspensions + 1
-suspensions-step app handlers s = (moves-step app handlers s).suspensions
+pub most-step : (app : Application) (limits : Limits) (handlers : List ℕ) (s : State) → s.elapsed < limits.ticks → (step app limits handlers s).elapsed ≤ limits.ticks
+most-step app limits handlers s = (moves-step app limits handlers s).most
+
+pub held-step : (app : Application) (limits : Limits) (handlers : List ℕ) (s : State) → (step app limits handlers s).held_ticks ≤ s.held_ticks + 1
+held-step app limits handlers s = (moves-step app limits handlers s).held
+
+pub suspensions-step : (app : Application) (limits : Limits) (handlers : List ℕ) (s : State) → (step app limits handlers s).suspensions ≤ s.suspensions + 1
+suspensions-step app limits handlers s = (moves-step app limits handlers s).suspensions
 
 elapsed-nobody : (app : Application) → (nobody_ready app).elapsed ≡ 0
 unfolding nobody_ready

@@ -10,7 +10,7 @@ use Rattle.model.specs.declared.object.ObjectKind.TheVariants.{Queue, Semaphore,
 use Rattle.model.specs.declared.op.Op.{Op}
 use Rattle.model.specs.declared.event.Misuse.{Misuse}
 use Rattle.model.specs.declared.event.Misuse.TheVariants.{WhileSuspended, NotSuspended, EndedSuspended}
-use Rattle.model.specs.declared.op.Op.TheVariants.{Work, Delay, DelayUntil, Yield, Time, Mark, Expect, Repeat, End, Await, Do, GiveMutex, MessagesWaiting, SpacesAvailable, SetBits, ClearBits, GetBits, WaitBits, Suspend, Resume, SuspendAll, ResumeAll, NextCommand, Obey}
+use Rattle.model.specs.declared.op.Op.TheVariants.{Work, Delay, DelayUntil, Yield, Time, Mark, Expect, Repeat, End, If, Else, EndIf, Break, Await, Do, GiveMutex, MessagesWaiting, SpacesAvailable, SetBits, ClearBits, GetBits, WaitBits, Suspend, Resume, SuspendAll, ResumeAll, NextCommand, Obey}
 use Rattle.model.specs.declared.op.Access.{Access}
 use Rattle.model.specs.declared.op.Access.TheVariants.{Receive}
 use Rattle.model.specs.declared.op.Command.{Command}
@@ -21,7 +21,7 @@ use Rattle.model.specs.declared.event.Event.{Event}
 use Rattle.model.specs.declared.event.End as ending
 use Rattle.model.specs.declared.plan.Injection.{Injection}
 use Rattle.model.specs.declared.event.What.TheVariants as what
-use Rattle.model.specs.Application.{Application, Definition, script_of, op_at}
+use Rattle.model.specs.Application.{Application, Limits, Definition, script_of, op_at}
 use Rattle.model.specs.Scripts.{IsDefinition, IsObjectKind, IsWellFormed, fits_object, is_wait}
 use Rattle.model.specs.State.{State, task_at, progress_at, status_at, call_at, bits_at, go_on, no_task, no_object, for_each}
 use Rattle.model.specs.Switching.{make_ready, choose, choice, is_ready, preempt, settle, is_scheduler_suspended, is_held, unless_held, write}
@@ -44,9 +44,9 @@ use Rattle.model.proofs.Resets.{none_taken, call-reset, holders-reset}
 use Rattle.soundness.proofs.Settled.{IsSettled, settled-settle, settled-preempt, settled-reset, when_held, when_free, held_by_call, held_by_none}
 use Rattle.soundness.proofs.InScripts.{script_formed, used_none, range_at, known_at}
 use Rattle.soundness.proofs.Frames.{keeps-settle, keeps-choose, keeps-answer, keeps-answer_bits, keeps-try, keeps-set_deadline, keeps-all_ready, keeps-use_up, keeps-preempt, keeps-take_command, keeps-obeyed, keeps-clear_by_daemon}
-use Rattle.soundness.proofs.Passing.{is_instant, lasts-act, lasts-leave_call, lasts-end_set, lasts-end_command, lasts-final_bits, hold-tick, hold-act, suspension-tick, suspensions-tick, suspends-all, resumes-all, suspensions-step, suspension-reset}
-use Rattle.soundness.proofs.Sound.{CanBeReady, all_made_ready, runs, logged, settled, preempted, yielded, answered, used_up, expected, opened, closed, plain, delayed, delayed_until, call_none}
-use Rattle.soundness.proofs.Handled.{and_left, and_right, ticked, handled_between}
+use Rattle.soundness.proofs.Passing.{is_instant, lasts-act, lasts-leave_call, lasts-end_set, lasts-end_command, lasts-final_bits, hold-idle, suspension-idle, hold-act, suspension-tick, suspensions-tick, suspends-all, resumes-all, suspensions-step, held-step, suspension-reset}
+use Rattle.soundness.proofs.Sound.{CanBeReady, all_made_ready, runs, logged, settled, preempted, yielded, answered, used_up, expected, opened, closed, branched, skipped, loop_left, plain, delayed, delayed_until, call_none}
+use Rattle.soundness.proofs.Handled.{and_left, and_right, ticked, idled, handled_between}
 use Rattle.soundness.proofs.Trying.{tried, gave}
 use Rattle.soundness.proofs.Called.{done_now, dated, dated_at, phase_free, course_of_one}
 use Rattle.soundness.proofs.Phases.{free, unsuspended, suspended_not, calm_where, calm_held, decided, decided_held, placed, unlocked, unlocked_held, left, left_hold}
@@ -159,9 +159,13 @@ module _ (app : Application) (formed : IsWellFormed app) where
   acted s i Yield h u l r is w = yielded app formed free _ (answered app formed free s i Yield h (ready_free (status_at s i) r) is (Some 0) refl)
   acted s i Time h u l r is w = answered app formed free s i Time h (ready_free (status_at s i) r) is _ refl
   acted s i (Mark n) h u l r is w = plain app formed free (write (what.Mark i n) s) i (logged app formed free s _ s.steps s.stopped h) (ready_free (status_at s i) r) (Mark n) is (progress_at s i).answer refl
-  acted s i (Expect a) h u l r is w = expected app formed free s i (Expect a) h (ready_free (status_at s i) r) is a refl
+  acted s i (Expect c) h u l r is w = expected app formed free s i (Expect c) h (ready_free (status_at s i) r) is c refl
   acted s i (Repeat n) h u l r is w = opened app formed free s i (Repeat n) h (ready_free (status_at s i) r) is n refl
   acted s i End h u l r is w = closed app formed free s i End h (ready_free (status_at s i) r) is refl
+  acted s i (If c) h u l r is w = branched app formed free s i (If c) h (ready_free (status_at s i) r) is c refl
+  acted s i Else h u l r is w = skipped app formed free s i Else h (ready_free (status_at s i) r) is refl
+  acted s i EndIf h u l r is w = plain app formed free s i h (ready_free (status_at s i) r) EndIf is (progress_at s i).answer refl
+  acted s i Break h u l r is w = loop_left app formed free s i Break h (ready_free (status_at s i) r) is refl
   acted s i (Await o a ticks) h u l r is w = absurd (cc)
   acted s i (Do o a) h u l r is w = done_now app formed free s i o a h u l r is (and_left (fits_object app o a) _ (known_at app formed i (progress_at s i).op_index (Do o a) is))
   acted s i (GiveMutex o) h u l r is w = gave app formed free s i o h u l r is
@@ -397,9 +401,13 @@ module _ (app : Application) (formed : IsWellFormed app) where
       calm_done Yield is e = instant (start_only Yield refl is) off Yield is refl refl
       calm_done Time is e = instant (start_only Time refl is) off Time is refl refl
       calm_done (Mark n) is e = instant (start_only (Mark n) refl is) off (Mark n) is refl refl
-      calm_done (Expect a) is e = instant (start_only (Expect a) refl is) off (Expect a) is refl refl
+      calm_done (Expect c) is e = instant (start_only (Expect c) refl is) off (Expect c) is refl refl
       calm_done (Repeat n) is e = instant (start_only (Repeat n) refl is) off (Repeat n) is refl refl
       calm_done End is e = instant (start_only End refl is) off End is refl refl
+      calm_done (If c) is e = instant (start_only (If c) refl is) off (If c) is refl refl
+      calm_done Else is e = instant (start_only Else refl is) off Else is refl refl
+      calm_done EndIf is e = instant (start_only EndIf refl is) off EndIf is refl refl
+      calm_done Break is e = instant (start_only Break refl is) off Break is refl refl
       calm_done (Await o a ticks) is e = next o a ticks is (call_at s i).phase refl
       calm_done (Do o a) is e = instant (start_only (Do o a) refl is) off (Do o a) is refl refl
       calm_done (GiveMutex o) is e = instant (start_only (GiveMutex o) refl is) off (GiveMutex o) is refl refl
@@ -465,9 +473,13 @@ module _ (app : Application) (formed : IsWellFormed app) where
       suspended_done Yield is q = absurd (cc)
       suspended_done Time is q = continued Time is refl refl refl (λ e. absurd (cc))
       suspended_done (Mark n) is q = continued (Mark n) is refl refl refl (λ e. absurd (cc))
-      suspended_done (Expect a) is q = continued (Expect a) is refl refl refl (λ e. absurd (cc))
+      suspended_done (Expect c) is q = continued (Expect c) is refl refl refl (λ e. absurd (cc))
       suspended_done (Repeat n) is q = continued (Repeat n) is refl refl refl (λ e. absurd (cc))
       suspended_done End is q = continued End is refl refl refl (λ e. absurd (cc))
+      suspended_done (If c) is q = continued (If c) is refl refl refl (λ e. absurd (cc))
+      suspended_done Else is q = continued Else is refl refl refl (λ e. absurd (cc))
+      suspended_done EndIf is q = continued EndIf is refl refl refl (λ e. absurd (cc))
+      suspended_done Break is q = continued Break is refl refl refl (λ e. absurd (cc))
       suspended_done (Await o a ticks) is q = absurd (cc)
       suspended_done (Do o a) is q = absurd (cc)
       suspended_done (GiveMutex o) is q = absurd (cc)
@@ -496,12 +508,12 @@ module _ (app : Application) (formed : IsWellFormed app) where
       act_unless_done None e = judged_done i (progress_at s i).op_index (act app i op s) (act_done op is e)
       act_unless_done (Some kind) e = ended_only s _ h
 
-  current_done : (s : State) (r : Option ℕ) → IsState app s → s.current ≡ r → IsState app (unless_held settle (act_current app r s))
-  current_done s None h on =
+  current_done : (limits : Limits) (s : State) (r : Option ℕ) → IsState app s → s.current ≡ r → IsState app (unless_held settle (act_current app limits r s))
+  current_done limits s None h on =
       let none : is_held s ≡ false = subst (RunsIn app s) on h.runs in
       let off : s.call_hold ≡ false = no_call_holds s h none in
-      settled_at_rest _ (ticked app formed free s (sound_free s h off) (h.locked off)) (hold-tick app s ∙ hold_none s h off) (suspension-tick app s (ap (λ (x : Suspension). x.suspensions) (calm_free s h none)) ∙ calm_free s h none)
-  current_done s (Some i) h on = act_if_done s i h on (op_at app i (progress_at s i).op_index) refl
+      settled_at_rest _ (idled app formed free limits s (sound_free s h off) (h.locked off)) (hold-idle app limits s ∙ hold_none s h off) (suspension-idle app limits s (ap (λ (x : Suspension). x.suspensions) (calm_free s h none)) ∙ calm_free s h none)
+  current_done limits s (Some i) h on = act_if_done s i h on (op_at app i (progress_at s i).op_index) refl
 
   -- ---- handlers before a step
 
@@ -534,18 +546,18 @@ module _ (app : Application) (formed : IsWellFormed app) where
   unfolding before_step
   reached_before_step handlers s h = all_injected handlers (record s { log = [] }) (told s [] s.steps s.stopped h)
 
-  pub reached_step : (handlers : List ℕ) (s : State) → IsState app s → IsState app (step app handlers s)
+  pub reached_step : (limits : Limits) (handlers : List ℕ) (s : State) → IsState app s → IsState app (step app limits handlers s)
   unfolding step
-  reached_step handlers s h =
+  reached_step limits handlers s h =
       let r : State = before_step app handlers s in
-      let t : State = unless_held settle (act_current app r.current r) in
-      told t t.log (s.steps + 1) t.stopped (current_done r r.current (reached_before_step handlers s h) refl)
+      let t : State = unless_held settle (act_current app limits r.current r) in
+      told t t.log (s.steps + 1) t.stopped (current_done limits r r.current (reached_before_step handlers s h) refl)
 
 -- ---- reset
 
 progress-reset : (start i : ℕ) (ds : List Definition) → AllByRecursion IsDefinition ds → IsAt start (unwrap_or (option_map (λ (d : Definition). d.script) (slice_get ds i)) []) (get_or (map (task_at_reset start) ds) i no_task).progress (get_or (map (task_at_reset start) ds) i no_task).status
-progress-reset start i [] h = record { nests = refl; loops = tt; used = tt; reckoned = tt }
-progress-reset start zero (d ∷ ds) h = record { nests = h.0.script.nests; loops = tt; used = used_none 0 d.script h.0.script.ranges; reckoned = tt }
+progress-reset start i [] h = record { nests = record { blocks = []; count = refl; nests = refl }; loops = tt; used = tt; reckoned = tt }
+progress-reset start zero (d ∷ ds) h = record { nests = record { blocks = []; count = refl; nests = h.0.script.nests }; loops = tt; used = used_none 0 d.script h.0.script.ranges; reckoned = tt }
 progress-reset start (suc i) (d ∷ ds) h = progress-reset start i ds h.1
 
 contents-reset : (o : ℕ) (kinds : List ObjectKind) → AllByRecursion IsObjectKind kinds → IsObject (slice_get kinds o) (get_or (map object_at_reset kinds) o no_object)
@@ -614,14 +626,22 @@ module _ (app : Application) (formed : IsWellFormed app) where
   reached_reset = at_rest app formed _ (runs app formed free (ready_at_reset app) (choice (ready_at_reset app)) reached_ready (choice_within (ready_at_reset app))) reset_hold reset_calm (settled-reset app)
 
   -- every state of a run
-  pub reached_after : (plan : List Injection) (n : ℕ) → IsState app (state_after app plan n)
-  reached_after plan zero = reached_reset
-  reached_after plan (suc n) = reached_step app formed (injected plan n) (state_after app plan n) (reached_after plan n)
+  pub reached_after : (limits : Limits) (plan : List Injection) (n : ℕ) → IsState app (state_after app limits plan n)
+  reached_after limits plan zero = reached_reset
+  reached_after limits plan (suc n) = reached_step app formed limits (injected plan n) (state_after app limits plan n) (reached_after limits plan n)
+
+  -- no more ticks are held than steps have been done
+  pub held_after : (limits : Limits) (plan : List Injection) (n : ℕ) → (state_after app limits plan n).held_ticks ≤ n
+  held_after limits plan zero = let e : (reset app).held_ticks ≡ 0 = ap (λ (x : Suspension). x.held_ticks) (suspension-reset app) in omega arith
+  held_after limits plan (suc n) =
+      let e = held_after limits plan n in
+      let one = held-step app limits (injected plan n) (state_after app limits plan n) in
+      omega arith
 
   -- no more `suspend_all` are in force than steps have been done
-  pub suspensions_after : (plan : List Injection) (n : ℕ) → (state_after app plan n).suspensions ≤ n
-  suspensions_after plan zero = let e : (reset app).suspensions ≡ 0 = ap (λ (x : Suspension). x.suspensions) (suspension-reset app) in omega arith
-  suspensions_after plan (suc n) =
-      let e = suspensions_after plan n in
-      let one = suspensions-step app (injected plan n) (state_after app plan n) in
+  pub suspensions_after : (limits : Limits) (plan : List Injection) (n : ℕ) → (state_after app limits plan n).suspensions ≤ n
+  suspensions_after limits plan zero = let e : (reset app).suspensions ≡ 0 = ap (λ (x : Suspension). x.suspensions) (suspension-reset app) in omega arith
+  suspensions_after limits plan (suc n) =
+      let e = suspensions_after limits plan n in
+      let one = suspensions-step app limits (injected plan n) (state_after app limits plan n) in
       omega arith

@@ -3,7 +3,7 @@ use Rattle.std.proofs.Common.{◌≡◌, ℕ, zero, suc, true, false, not, List,
 use Rattle.std.specs.List.{AllByRecursion}
 use Rattle.std.specs.Prelude.{Bool, if◌then◌else◌}
 use Rattle.std.specs.Option.{IfSome, is_some, option_map}
-use Rattle.model.specs.Application.{Application}
+use Rattle.model.specs.Application.{Application, Limits}
 use Rattle.model.specs.State.{State, Status, Ready, Awake, Waiting, Asleep, WaitingForBits, Suspended, Ended, ticket_if_ready, task_at, for_one}
 use Rattle.model.specs.Order.{Key, Entry, key, first, task_of}
 use Rattle.model.specs.Switching.{ready_key, ready_list, is_ready, to_back, choice, is_same, choose, dispatch, yield_now, is_outranked, preempt, is_off, settle, is_held, unless_held}
@@ -17,7 +17,7 @@ use Rattle.model.proofs.Chosen.{same_eq}
 abbrev pub IsSettled : State → Type 0
 IsSettled s = IfSome s.current (λ task. is_ready s task ≡ true)
 
-keyed_ready : (priority : ℕ) (u : Status) (k : Key) → option_map (key priority) (ticket_if_ready u) ≡ Some k → is_some (ticket_if_ready u) ≡ true
+pub keyed_ready : (priority : ℕ) (u : Status) (k : Key) → option_map (key priority) (ticket_if_ready u) ≡ Some k → is_some (ticket_if_ready u) ≡ true
 keyed_ready priority (Ready n) k e = refl
 keyed_ready priority (Awake w) k e = absurd (cc)
 keyed_ready priority (Waiting w) k e = absurd (cc)
@@ -79,18 +79,18 @@ pub held_by_none : (s : State) → s.call_hold ≡ false → s.suspensions ≡ 0
 held_by_none s free none = rw (free, none) refl
 
 -- where it isn't held
-pub settled-step : (app : Application) (handlers : List ℕ) (s : State) → is_held (step app handlers s) ≡ false → IsSettled (step app handlers s)
+pub settled-step : (app : Application) (limits : Limits) (handlers : List ℕ) (s : State) → is_held (step app limits handlers s) ≡ false → IsSettled (step app limits handlers s)
 unfolding step
-settled-step app handlers s free = by_test (is_held t)
+settled-step app limits handlers s free = by_test (is_held t)
     (λ held. let same : is_held (unless_held settle t) ≡ is_held t = ap is_held (when_held settle t held) in absurd (cc))
     (λ none. subst IsSettled (sym (when_free settle t none)) (settled-settle t)) where
       t : State
-      t = let r : State = before_step app handlers s in act_current app r.current r
+      t = let r : State = before_step app handlers s in act_current app limits r.current r
 
 pub settled-reset : (app : Application) → IsSettled (reset app)
 unfolding reset
 settled-reset app = choice_ready (ready_at_reset app)
 
-pub settled_after : (app : Application) (plan : List Injection) (n : ℕ) → is_held (state_after app plan n) ≡ false → IsSettled (state_after app plan n)
-settled_after app plan zero free = settled-reset app
-settled_after app plan (suc n) free = settled-step app (injected plan n) (state_after app plan n) free
+pub settled_after : (app : Application) (limits : Limits) (plan : List Injection) (n : ℕ) → is_held (state_after app limits plan n) ≡ false → IsSettled (state_after app limits plan n)
+settled_after app limits plan zero free = settled-reset app
+settled_after app limits plan (suc n) free = settled-step app limits (injected plan n) (state_after app limits plan n) free

@@ -5,38 +5,42 @@ use Rattle.std.specs.Prelude.{Bool}
 use Rattle.std.specs.Option.{IfSome, is_some, option_eq}
 use Rattle.std.proofs.Math.ListN.{length-set}
 use Rattle.model.specs.declared.op.Op.{Op}
-use Rattle.model.specs.declared.op.Op.TheVariants.{Work, Delay, DelayUntil, Expect, Repeat, End}
+use Rattle.model.specs.declared.op.Op.TheVariants.{Work, Delay, DelayUntil, Expect, Repeat, End, If, Else, Break}
+use Rattle.model.specs.declared.answer.AnswerCondition.{AnswerCondition}
 use Rattle.model.specs.declared.call.CallProgress.{CallProgress}
 use Rattle.model.specs.declared.loops.Loop.{Loop}
 use Rattle.model.specs.declared.event.Event.{Event}
 use Rattle.model.specs.declared.event.End as ending
 use Rattle.model.specs.Application.{Application, script_of, op_at, op_count}
-use Rattle.model.specs.Scripts.{may_stand, nesting_past, Nests, IsWellFormed}
+use Rattle.model.specs.Answers.{holds}
+use Rattle.model.specs.Blocks.{edge_of, jump_from}
+use Rattle.model.specs.Scripts.{IsWellFormed}
 use Rattle.model.specs.State.{State, Task, Progress, Status, Wait, Ready, Awake, Waiting, Asleep, WaitingForBits, Suspended, Ended, ticket_if_ready, ticket_of, wake_time_of, no_call, task_at, progress_at, status_at, with_task, take_ticket, for_one, for_each, no_task}
 use Rattle.model.specs.Order.{Entry, tasks_of}
 use Rattle.model.specs.Switching.{make_ready, to_back, dispatch, choose, choice, is_same, is_ready, yield_now, is_outranked, is_sharing, preempt, slice, settle, is_off, write}
 use Rattle.model.specs.Waiting.{is_locked}
 use Rattle.model.specs.Time.{wake_due, due, is_due, delayed_list, delayed_key, sleep, set_previous_wake}
-use Rattle.model.specs.Ops.{go_to, moved_to, complete, called, answer, use_up, delay, delay_until, expect, open_loop, turn, close_turn}
-use Rattle.model.specs.Invariant.{HasTicketBelow, IsUsedBy, LoopsNest, IsReckoned, HasPriority, IsAt, Hold, course, IsPhaseOf, IsWaitOf, IsCall, IsSound, wait_of}
+use Rattle.model.specs.Ops.{go_to, moved_to, complete, called, answer, use_up, delay, delay_until, expect, open_loop, next_turn, turn, close_turn, branch, skip_branch, leave_loop}
+use Rattle.model.specs.Invariant.{HasTicketBelow, IsUsedBy, AreOpenAt, LoopsNest, IsReckoned, HasPriority, IsAt, Hold, course, IsPhaseOf, IsWaitOf, IsCall, IsSound, wait_of}
 use Rattle.model.proofs.Sorting.{by_test}
 use Rattle.model.proofs.Lists.{eqb-refl, eqb-same}
 use Rattle.model.proofs.Tables.{ticket_at, table-set, table-taken, each-set}
 use Rattle.model.proofs.Chosen.{choice_within, list_within}
 use Rattle.model.proofs.Statuses.{ready_awake, ready_free, free_unwoken}
-use Rattle.soundness.proofs.InScripts.{script_formed, stands_at, nests_past, used_none}
+use Rattle.soundness.proofs.InScripts.{script_formed, nesting_past, nests_past, no_end, one_less, without_first, open_at_first, used_none}
+use Rattle.soundness.proofs.Jumping.{after_if, after_else, after_break}
 use Rattle.soundness.proofs.Frames.{keeps-answer}
 
 -- ---- who wakes when
 
-later_reckoned : (now previous : ℕ) (u : Status) → IsReckoned now previous u → IsReckoned (now + 1) previous u
-later_reckoned now p (Ready n) h = omega arith
-later_reckoned now p (Awake w) h = omega arith
-later_reckoned now p (Waiting w) h = omega arith
-later_reckoned now p (Asleep w n) h = h
-later_reckoned now p (WaitingForBits g m d) h = omega arith
-later_reckoned now p Suspended h = tt
-later_reckoned now p Ended h = tt
+later_reckoned : (n now previous : ℕ) (u : Status) → IsReckoned now previous u → IsReckoned (now + n) previous u
+later_reckoned n now p (Ready t) h = omega arith
+later_reckoned n now p (Awake w) h = omega arith
+later_reckoned n now p (Waiting w) h = omega arith
+later_reckoned n now p (Asleep w t) h = h
+later_reckoned n now p (WaitingForBits g m d) h = omega arith
+later_reckoned n now p Suspended h = tt
+later_reckoned n now p Ended h = tt
 
 pub ready_reckoned : (now previous : ℕ) (u : Status) → IsReckoned now previous u → is_some (ticket_if_ready u) ≡ true → previous ≤ now
 ready_reckoned now p (Ready n) h t = h
@@ -128,12 +132,12 @@ call_none hold now op t none free =
     record { phase = subst P (sym none) tt; wait = subst W (sym free) tt; awake = subst A (sym (free_unwoken t.status free)) tt; near = subst N (sym none) tt }
 
 -- time passes
-near_later : (o : Option ℕ) (now : ℕ) → IfSome o (λ deadline. deadline < now + 4294967296) → IfSome o (λ deadline. deadline < (now + 1) + 4294967296)
-near_later None now h = tt
-near_later (Some deadline) now h = omega arith
+near_later : (n : ℕ) (o : Option ℕ) (now : ℕ) → IfSome o (λ deadline. deadline < now + 4294967296) → IfSome o (λ deadline. deadline < (now + n) + 4294967296)
+near_later n None now h = tt
+near_later n (Some deadline) now h = omega arith
 
-call_later : (hold : Hold) (now : ℕ) (op : Option Op) (t : Task) → IsCall hold now op t → IsCall hold (now + 1) op t
-call_later hold now op t c = record { phase = c.phase; wait = c.wait; awake = c.awake; near = near_later t.progress.call.deadline now c.near }
+call_later : (n : ℕ) (hold : Hold) (now : ℕ) (op : Option Op) (t : Task) → IsCall hold now op t → IsCall hold (now + n) op t
+call_later n hold now op t c = record { phase = c.phase; wait = c.wait; awake = c.awake; near = near_later n t.progress.call.deadline now c.near }
 
 -- ---- what each deed keeps
 
@@ -247,13 +251,13 @@ module _ (app : Application) (formed : IsWellFormed app) (hold : Hold) where
   unfolding wake_due
   woken s h = all_made_ready s (tasks_of (due s)) h (due_can s (λ i. (h.progress i).reckoned) (delayed_list s) (list_within delayed_key s.tasks))
 
-  pub later : (s : State) → IsSound app hold s → IsSound app hold (record s { time = s.time + 1; elapsed = s.elapsed + 1 })
-  later s h = let b = h.time.0 in let e = h.time.1 in record {
+  pub later : (n : ℕ) (s : State) → IsSound app hold s → IsSound app hold (record s { time = s.time + n; elapsed = s.elapsed + n })
+  later n s h = let b = h.time.0 in let e = h.time.1 in record {
     table = record { tickets = h.table.tickets; few = h.table.few; current = h.table.current; holders = h.table.holders };
     tasks = h.tasks;
     objects = h.objects;
-    progress = λ i. let a = h.progress i in record { nests = a.nests; loops = a.loops; used = a.used; reckoned = later_reckoned s.time (progress_at s i).previous_wake (status_at s i) a.reckoned };
-    calls = λ i. call_later hold s.time (op_at app i (progress_at s i).op_index) (task_at s i) (h.calls i);
+    progress = λ i. let a = h.progress i in record { nests = a.nests; loops = a.loops; used = a.used; reckoned = later_reckoned n s.time (progress_at s i).previous_wake (status_at s i) a.reckoned };
+    calls = λ i. call_later n hold s.time (op_at app i (progress_at s i).op_index) (task_at s i) (h.calls i);
     contents = h.contents;
     priorities = h.priorities;
     time = (omega arith, omega arith);
@@ -278,8 +282,8 @@ module _ (app : Application) (formed : IsWellFormed app) (hold : Hold) where
     table = record { tickets = h.table.tickets; few = h.table.few; current = h.table.current; holders = h.table.holders };
     tasks = h.tasks;
     objects = h.objects;
-    progress = λ i. let a = h.progress i in record { nests = a.nests; loops = a.loops; used = a.used; reckoned = later_reckoned s.time (progress_at s i).previous_wake (status_at s i) a.reckoned };
-    calls = λ i. call_later hold s.time (op_at app i (progress_at s i).op_index) (task_at s i) (h.calls i);
+    progress = λ i. let a = h.progress i in record { nests = a.nests; loops = a.loops; used = a.used; reckoned = later_reckoned 1 s.time (progress_at s i).previous_wake (status_at s i) a.reckoned };
+    calls = λ i. call_later 1 hold s.time (op_at app i (progress_at s i).op_index) (task_at s i) (h.calls i);
     contents = h.contents;
     priorities = h.priorities;
     time = (omega arith, omega arith);
@@ -303,7 +307,7 @@ module _ (app : Application) (formed : IsWellFormed app) (hold : Hold) where
     ticket_kept : HasTicketBelow s.next_ticket (status_at s i)
     ticket_kept = ticket_at s.next_ticket i s.tasks h.table.tickets
 
-    gone : (op_index : ℕ) (p : Progress) → p.previous_wake ≡ (progress_at s i).previous_wake → Nests (length p.loops) (drop op_index (script_of app i)) → LoopsNest (script_of app i) p.loops → IsSound app hold (go_to app i op_index p s)
+    gone : (op_index : ℕ) (p : Progress) → p.previous_wake ≡ (progress_at s i).previous_wake → AreOpenAt (script_of app i) op_index (length p.loops) → LoopsNest (script_of app i) p.loops → IsSound app hold (go_to app i op_index p s)
     unfolding go_to
     gone op_index p before n ls =
         let q : Progress = record p { op_index = op_index; used = 0; call = no_call } in
@@ -315,7 +319,7 @@ module _ (app : Application) (formed : IsWellFormed app) (hold : Hold) where
         (λ e. rw e (changed s i (record (task_at s i) { progress = q }) h ticket_kept (a (status_at s i) kept, c (status_at s i) free, h.priorities i)))
 
     module _ (op : Op) (is : op_at app i (progress_at s i).op_index ≡ Some op) where
-      past_it : Nests (nesting_past (length (progress_at s i).loops) op) (drop ((progress_at s i).op_index + 1) (script_of app i))
+      past_it : AreOpenAt (script_of app i) ((progress_at s i).op_index + 1) (nesting_past (length (progress_at s i).loops) op)
       past_it = nests_past (length (progress_at s i).loops) (progress_at s i).op_index (script_of app i) op (h.progress i).nests is
 
       -- an op that opens or closes no loop, whatever the answer
@@ -324,7 +328,7 @@ module _ (app : Application) (formed : IsWellFormed app) (hold : Hold) where
 
     -- back to the first op, where no loop is open
     pub restarted : (a : Option ℕ) → (progress_at s i).loops ≡ [] → IsSound app hold (go_to app i 0 (record (progress_at s i) { answer = a }) s)
-    restarted a none = gone 0 (record (progress_at s i) { answer = a }) refl (rw none (script_formed app formed i).nests) (rw none tt)
+    restarted a none = gone 0 (record (progress_at s i) { answer = a }) refl (rw none (open_at_first app formed i)) (rw none tt)
 
   module _ (s : State) (i : ℕ) (op : Op) (h : IsSound app hold s) (free : wait_of (status_at s i) ≡ None) (is : op_at app i (progress_at s i).op_index ≡ Some op) where
     pub answered : (a : Option ℕ) → nesting_past (length (progress_at s i).loops) op ≡ length (progress_at s i).loops → IsSound app hold (answer app i a s)
@@ -350,39 +354,75 @@ module _ (app : Application) (formed : IsWellFormed app) (hold : Hold) where
           h.priorities i,
         )))
 
-    pub expected : (a : Option ℕ) → op ≡ Expect a → IsSound app hold (expect app i a s)
+    pub expected : (condition : AnswerCondition) → op ≡ Expect condition → IsSound app hold (expect app i condition s)
     unfolding expect
-    expected a e = by_test (option_eq eqb (progress_at s i).answer a)
+    expected condition e = by_test (holds condition (progress_at s i).answer)
         (λ t. rw t (plain s i h free op is (progress_at s i).answer (rw e refl)))
         (λ t. rw t (logged s s.log s.steps _ h))
 
-    pub opened : (n : ℕ) → op ≡ Repeat n → IsSound app hold (open_loop app i n s)
+    pub opened : (turns : Option ℕ) → op ≡ Repeat turns → IsSound app hold (open_loop app i turns s)
     unfolding open_loop
-    opened n e =
+    opened turns e =
         let p : Progress = progress_at s i in
-        let inner : Nests (length p.loops + 1) (drop (p.op_index + 1) (script_of app i)) = rw e at (past_it s i h free op is) in
-        let deep : Nests (suc (length p.loops)) (drop (p.op_index + 1) (script_of app i)) = let n : length p.loops + 1 ≡ suc (length p.loops) = omega arith in rw n at inner in
-        gone s i h free (p.op_index + 1) (record p { loops = record { start = p.op_index + 1; left = n } ∷ p.loops }) refl deep (deep, (h.progress i).loops)
+        let Open : ℕ → Type 0 = AreOpenAt (script_of app i) (p.op_index + 1) in
+        let inner : Open (length p.loops + 1) = rw e at (past_it s i h free op is) in
+        let deep : Open (suc (length p.loops)) = let n : length p.loops + 1 ≡ suc (length p.loops) = omega arith in rw n at inner in
+        gone s i h free (p.op_index + 1) (record p { loops = record { start = p.op_index + 1; left = turns } ∷ p.loops }) refl deep (deep, (h.progress i).loops)
+
+    -- a turn of a loop that is open with these around it
+    next_by : (x : Loop) (xs : List Loop) (left : Option ℕ) → LoopsNest (script_of app i) (x ∷ xs)
+        → (progress_at s i).loops ≡ x ∷ xs → AreOpenAt (script_of app i) ((progress_at s i).op_index + 1) (length xs)
+        → IsSound app hold (next_turn app i (progress_at s i) x xs left s)
+    next_by x xs None all same rest =
+        let p : Progress = progress_at s i in
+        gone s i h free x.start p refl (rw same all.0) (rw same all)
+    next_by x xs (Some left) all same rest =
+        let p : Progress = progress_at s i in
+        by_test (leb left 1)
+        (λ q. rw q (gone s i h free (p.op_index + 1) (record p { loops = xs }) refl rest all.1))
+        (λ q. rw q (gone s i h free x.start (record p { loops = record x { left = Some (left - 1) } ∷ xs }) refl all.0 (all.0, all.1)))
 
     closed_by : op ≡ End → (ls : List Loop) → (progress_at s i).loops ≡ ls → IsSound app hold (turn app i (progress_at s i) ls s)
     closed_by e [] same =
-        let p : Progress = progress_at s i in
-        let may : may_stand (length p.loops) op ≡ true = stands_at (length p.loops) p.op_index (script_of app i) op (h.progress i).nests is in
-        let none : may_stand 0 End ≡ true = rw (same, e) at may in
-        absurd (cc)
+        let none : AreOpenAt (script_of app i) (progress_at s i).op_index 0 = rw same at (h.progress i).nests in
+        let end : op_at app i (progress_at s i).op_index ≡ Some End = rw e at is in
+        absurd (no_end (progress_at s i).op_index (script_of app i) none end)
     closed_by e (x ∷ xs) same =
         let p : Progress = progress_at s i in
         let all : LoopsNest (script_of app i) (x ∷ xs) = rw same at (h.progress i).loops in
-        let P : List Loop → Type 0 = λ us. Nests (nesting_past (length us) op) (drop (p.op_index + 1) (script_of app i)) in
-        let outer : Nests (length (x ∷ xs) - 1) (drop (p.op_index + 1) (script_of app i)) = rw e at (subst P same (past_it s i h free op is)) in
-        let rest : Nests (length xs) (drop (p.op_index + 1) (script_of app i)) = let n : length (x ∷ xs) - 1 ≡ length xs = omega arith in rw n at outer in
-        by_test (leb x.left 1)
-        (λ q. rw q (gone s i h free (p.op_index + 1) (record p { loops = xs }) refl rest all.1))
-        (λ q. rw q (gone s i h free x.start (record p { loops = record x { left = x.left - 1 } ∷ xs }) refl all.0 (all.0, all.1)))
+        let P : List Loop → Type 0 = λ us. AreOpenAt (script_of app i) (p.op_index + 1) (nesting_past (length us) op) in
+        let outer : AreOpenAt (script_of app i) (p.op_index + 1) (length (x ∷ xs) - 1) = rw e at (subst P same (past_it s i h free op is)) in
+        let rest : AreOpenAt (script_of app i) (p.op_index + 1) (length xs) = let n : length (x ∷ xs) - 1 ≡ length xs = omega arith in rw n at outer in
+        next_by x xs x.left all same rest
 
     pub closed : op ≡ End → IsSound app hold (close_turn app i s)
     unfolding close_turn
     closed e = closed_by e (progress_at s i).loops refl
+
+    pub branched : (condition : AnswerCondition) → op ≡ If condition → IsSound app hold (branch app i condition s)
+    unfolding branch
+    branched condition e =
+        let p : Progress = progress_at s i in
+        by_test (holds condition p.answer)
+        (λ t. rw t (plain s i h free op is p.answer (rw e refl)))
+        (λ t. rw t (gone s i h free (jump_from (script_of app i) p.op_index) p refl
+        (after_if (length p.loops) p.op_index (script_of app i) op (h.progress i).nests is (ap edge_of e)) (h.progress i).loops))
+
+    pub skipped : op ≡ Else → IsSound app hold (skip_branch app i s)
+    unfolding skip_branch
+    skipped e =
+        let p : Progress = progress_at s i in
+        gone s i h free (jump_from (script_of app i) p.op_index) p refl
+        (after_else (length p.loops) p.op_index (script_of app i) op (h.progress i).nests is (ap edge_of e)) (h.progress i).loops
+
+    pub loop_left : op ≡ Break → IsSound app hold (leave_loop app i s)
+    unfolding leave_loop
+    loop_left e =
+        let p : Progress = progress_at s i in
+        let at = after_break (length p.loops) p.op_index (script_of app i) op (h.progress i).nests is (ap edge_of e) in
+        gone s i h free (jump_from (script_of app i) p.op_index) (record p { loops = drop 1 p.loops }) refl
+        (subst (AreOpenAt (script_of app i) (jump_from (script_of app i) p.op_index)) (one_less p.loops at.0) at.1)
+        (without_first (script_of app i) p.loops (h.progress i).loops)
 
   pub slept : (s : State) (i wake_time : ℕ) → IsSound app hold s → (is_ready s i ≡ true → (progress_at s i).previous_wake ≤ wake_time) → IsSound app hold (sleep i wake_time s)
   unfolding sleep

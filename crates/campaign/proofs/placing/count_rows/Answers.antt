@@ -1,5 +1,5 @@
 use Rattle.std.specs.Prelude.{nat_lt}
-use Rattle.std.proofs.Common.{◌≡◌, ◌<◌, ◌≤◌, ◌∙◌, ◌+◌, ◌++◌, ℕ, length, take, drop, ap, refl, sym, arith}
+use Rattle.std.proofs.Common.{◌∙◌, ◌++◌, ℕ, take, drop, ap, refl, sym, arith}
 use Rattle.std.proofs.lemmas.List.{take_all}
 use Rattle.machine.specs.Logged.{all_of}
 use Rattle.model.specs.Campaign.{totals_of}

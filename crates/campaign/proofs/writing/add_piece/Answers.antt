@@ -1,8 +1,9 @@
-use Rattle.std.proofs.Common.{◌≡◌, ◌≤◌, ◌∙◌, ◌+◌, ◌-◌, ◌++◌, List, length, sym, subst, arith}
+use Rattle.std.proofs.Common.{◌≡◌, ◌≤◌, ◌∙◌, ◌+◌, ◌-◌, ◌++◌, List, length, slice_get, Some, sym, ap, subst, arith}
 use Rattle.std.proofs.lemmas.Result.{MatchResult-from_err}
 use Rattle.byte_io.specs.Bytes.{Sent, SentFront}
 use Rattle.model.specs.Campaign.{Row}
 use Rattle.report.specs.Text.{rows_text}
+use Rattle.campaign.specs.declared.campaign_report.Rows.{Rows}
 use Rattle.campaign.specs.declared.rows.Part.{Part}
 use Rattle.campaign.specs.Report.{whole, rows_in}
 use Rattle.campaign.specs.Pieces.{some_of}
@@ -77,7 +78,8 @@ add_place-requires g c =
     record {
       working = i.working;
       app = c.requires.app ∙ sym i.app;
-      base = c.requires.base;
+      base = ap (λ (rs : Rows). rs.base) c.requires.rows;
+      part = subst (λ (rs : Rows). slice_get rs.parts.items place.part ≡ Some part) (sym c.requires.rows) there;
       few = omega (arith, e.few, c.loop-cursor-test.true, c.requires.piece.within, c.requires.sound.few);
       kept = parts_kept rows.base rows.parts.items place.part part there c.requires.sound.kept;
       within = subst (λ (p : Part). place.first + place.count ≤ length p.kept) (same_part e.place.part part (sym e.place.at_part ∙ there)) e.place.within;

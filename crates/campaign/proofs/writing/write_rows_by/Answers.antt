@@ -16,7 +16,7 @@ returns-in_err-write_side_by_side-clause-text g c =
     let spelling = c.args.spelling.now in
     let rows = spelling.rows.now in
     let text : flat_map (text_of spelling) spelling.pieces.items ≡ rows_text spelling.app.now 0 (whole rows) =
-    text_of_all rows spelling.events.app spelling.pieces.items c.requires.pieces ∙ ap (λ app. rows_text app 0 (whole rows)) c.requires.spelling.app in
+    text_of_all rows spelling.texts.app spelling.pieces.items c.requires.pieces ∙ ap (λ app. rows_text app 0 (whole rows)) c.requires.spelling.app in
     MatchResult-from_err c.from_residual.result _ _ c.from_residual.ensures.0
     (λ y. rows_of_report spelling.app.now _ _ _ _ refl (subst (SentFront _ _) text c.in_err-write_side_by_side.ensures.text))
 
@@ -25,5 +25,5 @@ returns-clause-text g c =
     let spelling = c.args.spelling.now in
     let rows = spelling.rows.now in
     let text : flat_map (text_of spelling) spelling.pieces.items ≡ rows_text spelling.app.now 0 (whole rows) =
-    text_of_all rows spelling.events.app spelling.pieces.items c.requires.pieces ∙ ap (λ app. rows_text app 0 (whole rows)) c.requires.spelling.app in
+    text_of_all rows spelling.texts.app spelling.pieces.items c.requires.pieces ∙ ap (λ app. rows_text app 0 (whole rows)) c.requires.spelling.app in
     rows_and_totals spelling.app.now _ _ _ _ _ (subst (Appends _ _) text c.in_ok-write_side_by_side.ensures.text) c.write_totals.ensures.text

@@ -10,14 +10,15 @@ use Rattle.dice.proofs.Known.{are_handlers, are_interrupts, few_at, of_ok}
 use Rattle.dice.proofs.WithDaemon.{few_tasks, four_of_file, has_number, is_daemon, known_of_file}
 use Rattle.dice.proofs.Dice.app.Goals as goal
 
-pub new-requires-3 : goal.new-requires-3
-new-requires-3 c =
+pub new-requires-2 : goal.new-requires-2
+new-requires-2 c =
     let kinds : List ObjectKind = c.in_ok-objects.objects.items in
     let handlers : List Handler = c.in_ok-handlers.handlers.items in
     let tasks : List Definition = c.in_ok-tasks.tasks.items in
     let has_daemon : Bool = eqb c.roll-has_daemon.result 0 in
     let app : Application = record {
       start = 4294967295 - c.roll-start.result;
+      tickless = eqb c.roll-tickless.result 0;
       limits = c.in_ok-limits.limits;
       objects = kinds;
       group_count = 2;
@@ -34,9 +35,9 @@ new-requires-3 c =
     let tasks_few = few_tasks has_daemon kinds tasks are in
     let objects_few = c.in_ok-objects.ensures.few in
     let three = c.in_ok-handlers.ensures.three in
-    let of_interrupts : app.interrupts ≡ c.in_ok-listed.listed.items = of_ok c.new-2.result (λ interrupts. interrupts ≡ c.as_slice-3.result.now) c.in_ok-interrupts.interrupts c.in_ok-interrupts.ensures.value c.new-2.ensures ∙ c.as_slice-3.ensures.value in
+    let of_interrupts : app.interrupts ≡ c.in_ok-listed.listed.items = of_ok c.new.result (λ interrupts. interrupts ≡ c.as_slice-3.result.now) c.in_ok-interrupts.interrupts c.in_ok-interrupts.ensures.value c.new.ensures ∙ c.as_slice-3.ensures.value in
     let few : length app.interrupts ≤ 4 = subst (λ (is : List Interrupt). length is ≤ 4) (sym of_interrupts) c.in_ok-listed.ensures.few in
-    let formed : AreInterrupts 26 app.interrupts = subst (AreInterrupts 26) (sym of_interrupts) c.in_ok-listed.ensures.formed in
+    let formed : AreInterrupts 800001 app.interrupts = subst (AreInterrupts 800001) (sym of_interrupts) c.in_ok-listed.ensures.formed in
     record {
       some = tasks_few.0;
       few = tasks_few.1;

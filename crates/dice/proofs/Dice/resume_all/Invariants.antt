@@ -3,4 +3,4 @@ use Rattle.dice.specs.Known.{AreKnown}
 use Rattle.dice.proofs.Dice.resume_all.Given as goal
 
 abbrev pub invariant-loop-number : goal.invariant-loop-number
-invariant-loop-number l = (length l.script ≤ 8 + l.number) × AreKnown l.objects l.script
+invariant-loop-number l = (length l.script ≤ 24 + l.number) × AreKnown l.objects l.script

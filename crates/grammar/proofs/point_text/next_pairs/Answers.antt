@@ -1,7 +1,7 @@
-use Rattle.std.proofs.Common.{◌≡◌, ◌∙◌, ◌≤◌, ◌∷◌, ◌++◌, [], List, None, Some, ap, arith, length, map, rules, sym}
+use Rattle.std.proofs.Common.{◌≡◌, ◌∙◌, ◌≤◌, ◌∷◌, ◌++◌, [], List, None, ap, arith, length, map, rules, sym}
 use Rattle.std.specs.Prelude.{option_and_then}
 use Rattle.std.proofs.lemmas.List.{length-map, map-append}
-use Rattle.grammar.specs.Points.{RawPair, all_there, if_point, pair_view, raw_pairs}
+use Rattle.grammar.specs.Points.{RawPair, if_point, pair_view, raw_pairs}
 use Rattle.grammar.proofs.PointTexts.{behind, behind_none, behind_nothing, one_more, too_many}
 use Rattle.grammar.proofs.point_text.next_pairs.Goals as goal
 

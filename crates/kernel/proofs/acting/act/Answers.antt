@@ -1,5 +1,5 @@
 use Rattle.std.proofs.Common.{◌∙◌, ◌<◌, ap, arith, refl, subst, sym}
-use Rattle.model.specs.declared.op.Op.TheVariants.{Work, Delay, DelayUntil, Yield, Time, Mark, Expect, Repeat, End as EndLoop, Await, Do, MessagesWaiting, SpacesAvailable, SetBits, ClearBits, GetBits, WaitBits, Suspend, Resume, ResumeAll, NextCommand, Obey}
+use Rattle.model.specs.declared.op.Op.TheVariants.{Work, Delay, DelayUntil, Yield, Time, Mark, Expect, Repeat, End as EndLoop, If, Else, EndIf, Break, Await, Do, MessagesWaiting, SpacesAvailable, SetBits, ClearBits, GetBits, WaitBits, Suspend, Resume, ResumeAll, NextCommand, Obey}
 use Rattle.model.specs.declared.event.Misuse.TheVariants.{NotSuspended}
 use Rattle.model.specs.State.{Progress}
 use Rattle.machine.specs.StandsFor.{progress_in}
@@ -64,7 +64,7 @@ returns-in-SpacesAvailable g c =
 pub returns-in-Expect : goal.returns-in-Expect
 returns-in-Expect g c =
     let can = subst (CanOp c.args.app.now c.args.machine.now c.args.task) c.in-Expect.is c.requires.can in
-    any_by_form c.args.app.now c.args.machine.now c.expect.new.machine (g.L.Log.logged c.args.log.now) (g.L.Log.logged c.args.log.now) c.args.task c.args.op.now (Expect c.in-Expect.wanted) c.in-Expect.is c.requires.awake (λ s. refl) refl 65 all_within (moves_any 65 c.args.machine.now c.expect.new.machine (g.L.Log.logged c.args.log.now) _ can.tick.advance.agrees c.expect.ensures)
+    any_by_form c.args.app.now c.args.machine.now c.expect.new.machine (g.L.Log.logged c.args.log.now) (g.L.Log.logged c.args.log.now) c.args.task c.args.op.now (Expect c.in-Expect.condition) c.in-Expect.is c.requires.awake (λ s. refl) refl 65 all_within (moves_any 65 c.args.machine.now c.expect.new.machine (g.L.Log.logged c.args.log.now) _ can.tick.advance.agrees c.expect.ensures)
 
 pub returns-in-Repeat : goal.returns-in-Repeat
 returns-in-Repeat g c =
@@ -75,6 +75,26 @@ pub returns-in-End : goal.returns-in-End
 returns-in-End g c =
     let can = subst (CanOp c.args.app.now c.args.machine.now c.args.task) c.in-End.is c.requires.can in
     any_by_form c.args.app.now c.args.machine.now c.close_turn.new.machine (g.L.Log.logged c.args.log.now) (g.L.Log.logged c.args.log.now) c.args.task c.args.op.now EndLoop c.in-End.is c.requires.awake (λ s. refl) refl 65 all_within (moves_any 65 c.args.machine.now c.close_turn.new.machine (g.L.Log.logged c.args.log.now) _ can.tick.advance.agrees c.close_turn.ensures)
+
+pub returns-in-If : goal.returns-in-If
+returns-in-If g c =
+    let can = subst (CanOp c.args.app.now c.args.machine.now c.args.task) c.in-If.is c.requires.can in
+    any_by_form c.args.app.now c.args.machine.now c.branch-machine.new.machine (g.L.Log.logged c.args.log.now) (g.L.Log.logged c.args.log.now) c.args.task c.args.op.now (If c.in-If.condition) c.in-If.is c.requires.awake (λ s. refl) refl 65 all_within (moves_any 65 c.args.machine.now c.branch-machine.new.machine (g.L.Log.logged c.args.log.now) _ can.tick.advance.agrees c.branch-machine.ensures)
+
+pub returns-in-Else : goal.returns-in-Else
+returns-in-Else g c =
+    let can = subst (CanOp c.args.app.now c.args.machine.now c.args.task) c.in-Else.is c.requires.can in
+    any_by_form c.args.app.now c.args.machine.now c.skip_branch.new.machine (g.L.Log.logged c.args.log.now) (g.L.Log.logged c.args.log.now) c.args.task c.args.op.now Else c.in-Else.is c.requires.awake (λ s. refl) refl 65 all_within (moves_any 65 c.args.machine.now c.skip_branch.new.machine (g.L.Log.logged c.args.log.now) _ can.tick.advance.agrees c.skip_branch.ensures)
+
+pub returns-in-EndIf : goal.returns-in-EndIf
+returns-in-EndIf g c =
+    let can = subst (CanOp c.args.app.now c.args.machine.now c.args.task) c.in-EndIf.is c.requires.can in
+    any_by_form c.args.app.now c.args.machine.now c.end_if.new.machine (g.L.Log.logged c.args.log.now) (g.L.Log.logged c.args.log.now) c.args.task c.args.op.now EndIf c.in-EndIf.is c.requires.awake (λ s. refl) refl 65 all_within (moves_any 65 c.args.machine.now c.end_if.new.machine (g.L.Log.logged c.args.log.now) _ can.tick.advance.agrees c.end_if.ensures)
+
+pub returns-in-Break : goal.returns-in-Break
+returns-in-Break g c =
+    let can = subst (CanOp c.args.app.now c.args.machine.now c.args.task) c.in-Break.is c.requires.can in
+    any_by_form c.args.app.now c.args.machine.now c.leave_loop.new.machine (g.L.Log.logged c.args.log.now) (g.L.Log.logged c.args.log.now) c.args.task c.args.op.now Break c.in-Break.is c.requires.awake (λ s. refl) refl 65 all_within (moves_any 65 c.args.machine.now c.leave_loop.new.machine (g.L.Log.logged c.args.log.now) _ can.tick.advance.agrees c.leave_loop.ensures)
 
 pub returns-in-Await : goal.returns-in-Await
 returns-in-Await g c =

@@ -15,10 +15,10 @@ end_set-requires g c =
     record { room = room_for_two (g.L.Log.logged c.args.log.now).room c.requires.room; runs = can.0; can = can.1 }
 
 pub returns-in-WaitBits : goal.returns-in-WaitBits
-returns-in-WaitBits g c = leaves_wait c.args.app.now c.args.machine.now c.args.task c.args.op.now c.requires.going c.requires.can c.in-WaitBits.field-0 c.in-WaitBits.field-1 c.in-WaitBits.field-2 c.in-WaitBits.is c.leave_bits_wait.new.machine _ _ c.leave_bits_wait.ensures
+returns-in-WaitBits g c = λ limits. leaves_wait c.args.app.now c.args.machine.now c.args.task c.args.op.now c.requires.going c.requires.can c.in-WaitBits.field-0 c.in-WaitBits.field-1 c.in-WaitBits.field-2 c.in-WaitBits.is limits c.leave_bits_wait.new.machine _ _ c.leave_bits_wait.ensures
 
 pub returns-in-SetBits : goal.returns-in-SetBits
-returns-in-SetBits g c = ends_set c.args.app.now c.args.machine.now c.args.task c.args.op.now c.requires.going c.requires.can c.in-SetBits.field-0 c.in-SetBits.field-1 c.in-SetBits.is c.end_set.new.machine _ _ c.end_set.ensures
+returns-in-SetBits g c = λ limits. ends_set c.args.app.now c.args.machine.now c.args.task c.args.op.now c.requires.going c.requires.can c.in-SetBits.field-0 c.in-SetBits.field-1 c.in-SetBits.is limits c.end_set.new.machine _ _ c.end_set.ensures
 
 pub returns-in_default : goal.returns-in_default
 returns-in_default g c = absurd (no_other c.args.op.now c.requires.going.bits c.in_default.not-SetBits c.in_default.not-WaitBits)

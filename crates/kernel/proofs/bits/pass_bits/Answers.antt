@@ -13,8 +13,8 @@ use Rattle.kernel.proofs.bits.pass_bits.Goals as goal
 
 pub op_of-requires : goal.op_of-requires
 op_of-requires c =
-    let s = state_after c.args.app.now c.args.injections.now c.args.kernel.now.steps in
-    subst (λ (o : Option ℕ). IfSome o (λ task. task < length c.args.app.now.tasks)) c.requires.runs (runs_there c.args.app.now c.args.kernel.now s (hold_of s) c.requires.free.way.stands (reached_after c.args.app.now c.well_formed-2.ensures c.args.injections.now c.args.kernel.now.steps).sound)
+    let s = state_after c.args.app.now c.args.limits.now c.args.injections.now c.args.kernel.now.steps in
+    subst (λ (o : Option ℕ). IfSome o (λ task. task < length c.args.app.now.tasks)) c.requires.runs (runs_there c.args.app.now c.args.kernel.now s (hold_of s) c.requires.free.way.stands (reached_after c.args.app.now c.well_formed-2.ensures c.args.limits.now c.args.injections.now c.args.kernel.now.steps).sound)
 
 pub is_over_running-requires : goal.is_over_running-requires
 is_over_running-requires c = (c.args.task, c.requires.runs)
@@ -31,7 +31,7 @@ step_letting_go-requires-clause-letting c = record {
 pub step_letting_go-requires-clause-going : goal.step_letting_go-requires-clause-going
 step_letting_go-requires-clause-going c =
     let going = going_free c.requires.soon c.if-is_over_running.ensures c.args.injections.now c.requires.free in
-    can_step c.args.app.now c.well_formed-2.ensures c.args.injections.now c.args.limits.now c.well_formed-3.ensures c.args.kernel.now c.requires.free.way going
+    (c.args.limits.now, can_step c.args.app.now c.well_formed-2.ensures c.args.injections.now c.args.limits.now c.well_formed-3.ensures c.args.kernel.now c.requires.free.way going)
 
 pub returns-then-kernel-gt0 : goal.returns-then-kernel-gt0
 returns-then-kernel-gt0 c = tells_nothing refl
@@ -51,5 +51,5 @@ returns-then-is_err c = tells_nothing (told_after c.begin.new.self _ _ c.begin.e
 pub returns : goal.returns
 returns c =
     tells_a_step c.args.app.now c.well_formed-2.ensures c.args.limits.now c.well_formed-3.ensures c.args.until c.args.kernel.now c.step_letting_go.new.machine c.requires.soon
-    (going_free c.requires.soon c.if-is_over_running.ensures) c.step_letting_go.ensures.stands c.requires.free (all_of c.args.trail.now) (all_of c.step_letting_go.new.log)
-    (λ s h. told_after c.step_letting_go.new.log _ _ (c.step_letting_go.ensures.before ∙ c.begin.ensures.before) (c.step_letting_go.ensures.told s h))
+    (going_free c.requires.soon c.if-is_over_running.ensures) (c.step_letting_go.ensures.stands c.args.limits.now) c.requires.free (all_of c.args.trail.now) (all_of c.step_letting_go.new.log)
+    (λ s h. told_after c.step_letting_go.new.log _ _ (c.step_letting_go.ensures.before ∙ c.begin.ensures.before) (c.step_letting_go.ensures.told c.args.limits.now s h))

@@ -10,46 +10,47 @@ go_on_silently-requires-clause-can c =
     let call = c.requires.call in (
       call.ticks,
       subst (CanGoOn c.args.machine.now c.args.task c.args.object c.args.access call.ticks) call.reached
-          (can_go_on c.args.app.now c.well_formed-2.ensures c.args.machine.now c.requires.going c.args.task call.current c.args.object c.args.access call.ticks call.op call.awake),
+          (can_go_on c.args.app.now c.well_formed-2.ensures c.args.machine.now c.requires.going.1 c.args.task call.current c.args.object c.args.access call.ticks call.op call.awake),
     )
 
 pub go_on_silently-requires-clause-held : goal.go_on_silently-requires-clause-held
 go_on_silently-requires-clause-held c =
     let call = c.requires.call in
-    λ later. held_in_call c.args.app.now c.well_formed-2.ensures c.args.machine.now c.requires.going c.args.task call.current call.awake c.args.phase call.reached (holds_silently c.args.phase c.requires.silent later)
+    λ later. held_in_call c.args.app.now c.well_formed-2.ensures c.args.machine.now c.requires.going.1 c.args.task call.current call.awake c.args.phase call.reached (holds_silently c.args.phase c.requires.silent later)
 
 pub overflow_add-machine : goal.overflow_add-machine
 overflow_add-machine c =
-    let going = c.requires.going in
+    let limits = c.requires.going.0 in
+    let going = c.requires.going.1 in
     let held = c.go_on_silently.ensures.held in
-    let still = steps_held c.args.app.now c.args.machine.now c.args.task c.args.object c.args.access c.args.phase c.requires.call c.go_on_silently.new.machine
+    let still = steps_held c.args.app.now limits c.args.machine.now c.args.task c.args.object c.args.access c.args.phase c.requires.call c.go_on_silently.new.machine
     (λ log s h. c.go_on_silently.ensures.does c.args.app.now c.requires.call.ticks log s h) (omega arith) going.state going.stands in
     let is = steps_are c.args.machine.now going.state going.stands in
-    let low = below_limits c.args.app.now going.limits going.state going.goes_on in
+    let low = below_limits c.args.app.now limits going.state going.goes_on in
     let few = low.1 in
-    let most = going.step_limit in
+    let most = going.are.3 in
     omega arith
 
 pub returns-clause-stands : goal.returns-clause-stands
-returns-clause-stands c = λ s h.
+returns-clause-stands c = λ limits s h.
     let held = c.go_on_silently.ensures.held in
-    stepped_held c.args.app.now c.args.machine.now c.args.task c.args.object c.args.access c.args.phase c.requires.call c.go_on_silently.new.machine
+    stepped_held c.args.app.now limits c.args.machine.now c.args.task c.args.object c.args.access c.args.phase c.requires.call c.go_on_silently.new.machine
     (λ log s h. c.go_on_silently.ensures.does c.args.app.now c.requires.call.ticks log s h) (omega arith) s h
 
 pub returns-clause-silent : goal.returns-clause-silent
-returns-clause-silent c = λ s h.
+returns-clause-silent c = λ limits s h.
     let held = c.go_on_silently.ensures.held in
-    told_nothing c.args.app.now c.args.machine.now c.args.task c.args.object c.args.access c.args.phase c.requires.call c.go_on_silently.new.machine
+    told_nothing c.args.app.now limits c.args.machine.now c.args.task c.args.object c.args.access c.args.phase c.requires.call c.go_on_silently.new.machine
     (λ log s h. c.go_on_silently.ensures.does c.args.app.now c.requires.call.ticks log s h) (omega arith) s h
 
 pub returns-clause-on : goal.returns-clause-on
-returns-clause-on c = λ s h.
+returns-clause-on c = λ limits s h.
     let held = c.go_on_silently.ensures.held in
-    not_over_after c.args.app.now c.args.machine.now c.args.task c.args.object c.args.access c.args.phase c.requires.call c.go_on_silently.new.machine
+    not_over_after c.args.app.now limits c.args.machine.now c.args.task c.args.object c.args.access c.args.phase c.requires.call c.go_on_silently.new.machine
     (λ log s h. c.go_on_silently.ensures.does c.args.app.now c.requires.call.ticks log s h) (omega arith) s h c.requires.silent c.go_on_silently.ensures.remains.current
 
 pub returns-clause-call : goal.returns-clause-call
 returns-clause-call c = λ next e.
     let same = c.go_on_silently.ensures.remains in
-    still_in_call c.args.app.now c.args.machine.now c.args.task c.args.object c.args.access c.args.phase c.requires.call _
+    still_in_call c.args.app.now c.requires.going.0 c.args.machine.now c.args.task c.args.object c.args.access c.args.phase c.requires.call _
     (record { current = same.current; op_index = same.op_index; suspensions = same.suspensions }) next e

@@ -44,9 +44,9 @@ loop-preserved c =
     record {
       along = tells_then c.loop.invariant.along
           (tells_a_step c.args.app.now c.well_formed-2.ensures c.args.limits.now c.well_formed-3.ensures (c.args.kernel.now.steps + c.args.count) c.loop.kernel c.pass_tick.new.machine short
-          (λ plan f. quiet_on c.args.app.now c.args.limits.now left c.loop.kernel q (state_after c.args.app.now plan c.loop.kernel.steps) f.way.stands)
+          (λ plan f. quiet_on c.args.app.now c.args.limits.now left c.loop.kernel q (state_after c.args.app.now c.args.limits.now plan c.loop.kernel.steps) f.way.stands)
           (stands_passed c.args.app.now c.args.limits.now left c.loop.kernel c.pass_tick.new.machine q c.pass_tick.ensures) free [] []
           (silent c.args.app.now c.args.limits.now left c.loop.kernel q c.pass_tick.new.machine.clock c.pass_tick.ensures.clock));
-      quiet = λ n e. subst (λ (m : ℕ). IsQuiet c.args.app.now c.args.limits.now m c.pass_tick.new.machine) (let same : left ≡ suc n = omega arith in same) (quiet_stays c.args.app.now c.args.limits.now left c.loop.kernel c.pass_tick.new.machine q c.pass_tick.ensures (state_after c.args.app.now c.args.injections.now c.loop.kernel.steps) free.way.stands);
+      quiet = λ n e. subst (λ (m : ℕ). IsQuiet c.args.app.now c.args.limits.now m c.pass_tick.new.machine) (let same : left ≡ suc n = omega arith in same) (quiet_stays c.args.app.now c.args.limits.now left c.loop.kernel c.pass_tick.new.machine q c.pass_tick.ensures (state_after c.args.app.now c.args.limits.now c.args.injections.now c.loop.kernel.steps) free.way.stands);
       steps = omega arith;
     }

@@ -40,7 +40,7 @@ go_to_step-requires-clause-way c =
     let there = c.advance-before.ensures.there in
     let first = c.first_step-first.ensures in
     subst (λ (is : List Injection). IsUnderWay c.args.app.now is c.args.limits.now c.advance-before.new.kernel) (sym (c.as_slice.ensures ∙ c.injections-injections.ensures))
-    (row_way c.args.app.now c.args.point.now c.well_formed-2.ensures c.args.limits.now c.advance-before.new.kernel c.advance-before.ensures.way (omega arith))
+    (row_way c.args.app.now c.args.limits.now c.args.point.now c.well_formed-2.ensures c.advance-before.new.kernel c.advance-before.ensures.way (omega arith))
 
 pub go_to_step-requires-clause-soon : goal.go_to_step-requires-clause-soon
 go_to_step-requires-clause-soon c =
@@ -100,22 +100,22 @@ returns-clause-past c =
     let first = c.first_step-first.ensures in
     let on = c.go_to_step.ensures.on in
     let beyond = c.requires.beyond in
-    let end = subst (λ (is : List Injection). c.in_ok-end.end ≡ end_of c.args.app.now c.args.limits.now (state_after c.args.app.now is c.go_to_step.new.kernel.steps)) (c.as_slice.ensures ∙ c.injections-injections.ensures) c.in_ok-end.ensures.end in
-    past_it c.args.app.now c.args.point.now c.well_formed-2.ensures c.args.limits.now (c.requires.reached (first_step c.args.point.now) (omega arith)) c.go_to_step.new.kernel.steps (omega arith) c.in_ok-end.end end c.args.until c.in_ok-end.ensures.there (omega arith)
+    let end = subst (λ (is : List Injection). c.in_ok-end.end ≡ end_of c.args.app.now c.args.limits.now (state_after c.args.app.now c.args.limits.now is c.go_to_step.new.kernel.steps)) (c.as_slice.ensures ∙ c.injections-injections.ensures) c.in_ok-end.ensures.end in
+    past_it c.args.app.now c.args.limits.now c.args.point.now c.well_formed-2.ensures (c.requires.reached (first_step c.args.point.now) (omega arith)) c.go_to_step.new.kernel.steps (omega arith) c.in_ok-end.end end c.args.until c.in_ok-end.ensures.there (omega arith)
 
 pub returns-clause-before : goal.returns-clause-before
 returns-clause-before c =
-    ap (λ (n : ℕ). length (events_after c.args.app.now [] n) + c.advance-before.result) (sym (ap (λ (k : Machine). k.steps) c.kernel.view_is))
+    ap (λ (n : ℕ). length (events_after c.args.app.now c.args.limits.now [] n) + c.advance-before.result) (sym (ap (λ (k : Machine). k.steps) c.kernel.view_is))
     ∙ c.advance-before.ensures.count
-    ∙ ap (λ (n : ℕ). length (events_after c.args.app.now [] n)) c.first_step-first.ensures
+    ∙ ap (λ (n : ℕ). length (events_after c.args.app.now c.args.limits.now [] n)) c.first_step-first.ensures
 
 pub returns-clause-events : goal.returns-clause-events
 returns-clause-events c =
-    subst (λ (is : List Injection). all_of c.go_to_step.new.trail ≡ all_of c.args.trail.now ++ events_from c.args.app.now is c.advance-before.new.kernel.steps c.go_to_step.new.kernel.steps) (c.as_slice.ensures ∙ c.injections-injections.ensures) c.in_ok-end.ensures.events
-    ∙ ap (λ (n : ℕ). all_of c.args.trail.now ++ events_from c.args.app.now c.args.point.now n c.go_to_step.new.kernel.steps) (c.advance-before.ensures.there ∙ c.first_step-first.ensures)
+    subst (λ (is : List Injection). all_of c.go_to_step.new.trail ≡ all_of c.args.trail.now ++ events_from c.args.app.now c.args.limits.now is c.advance-before.new.kernel.steps c.go_to_step.new.kernel.steps) (c.as_slice.ensures ∙ c.injections-injections.ensures) c.in_ok-end.ensures.events
+    ∙ ap (λ (n : ℕ). all_of c.args.trail.now ++ events_from c.args.app.now c.args.limits.now c.args.point.now n c.go_to_step.new.kernel.steps) (c.advance-before.ensures.there ∙ c.first_step-first.ensures)
 
 pub returns-clause-end : goal.returns-clause-end
-returns-clause-end c = subst (λ (is : List Injection). c.in_ok-end.end ≡ end_of c.args.app.now c.args.limits.now (state_after c.args.app.now is c.go_to_step.new.kernel.steps)) (c.as_slice.ensures ∙ c.injections-injections.ensures) c.in_ok-end.ensures.end
+returns-clause-end c = subst (λ (is : List Injection). c.in_ok-end.end ≡ end_of c.args.app.now c.args.limits.now (state_after c.args.app.now c.args.limits.now is c.go_to_step.new.kernel.steps)) (c.as_slice.ensures ∙ c.injections-injections.ensures) c.in_ok-end.ensures.end
 
 pub returns-clause-meter : goal.returns-clause-meter
 returns-clause-meter c =

@@ -29,7 +29,10 @@ act-requires-clause-can g c =
     can.0 (none_in_force c.args.machine.now.suspensions (λ some. c.is_suspended.ensures.none c.if-is_suspended.false (can.1 some).depth))
 
 pub returns-in-Some-op_of : goal.returns-in-Some-op_of
-returns-in-Some-op_of g c = acts c.args.app.now c.args.machine.now c.in-Some.task (sym c.current.ensures.current ∙ c.in-Some.is) c.in-Some-op_of.op.now (let P : Progress → Type 0 = λ p. op_at c.args.app.now c.in-Some.task p.op_index ≡ Some c.in-Some-op_of.op.now in subst P (c.behind-machine.view_is ∙ c.progress.ensures) c.in-Some-op_of.ensures.some) c.act.new.machine _ _ c.act.ensures
+returns-in-Some-op_of g c = acts c.args.app.now c.args.limits.now c.args.machine.now c.in-Some.task (sym c.current.ensures.current ∙ c.in-Some.is) c.in-Some-op_of.op.now (let P : Progress → Type 0 = λ p. op_at c.args.app.now c.in-Some.task p.op_index ≡ Some c.in-Some-op_of.op.now in subst P (c.behind-machine.view_is ∙ c.progress.ensures) c.in-Some-op_of.ensures.some) c.act.new.machine _ _ c.act.ensures
 
 pub returns-in-None : goal.returns-in-None
-returns-in-None g c = rests c.args.app.now c.args.machine.now c.in-Some.task (sym c.current.ensures.current ∙ c.in-Some.is) (let P : Progress → Type 0 = λ p. op_at c.args.app.now c.in-Some.task p.op_index ≡ None in subst P (c.behind-machine.view_is ∙ c.progress.ensures) (c.in-None.ensures.none refl)) _
+returns-in-None g c = rests c.args.app.now c.args.limits.now c.args.machine.now c.in-Some.task (sym c.current.ensures.current ∙ c.in-Some.is) (let P : Progress → Type 0 = λ p. op_at c.args.app.now c.in-Some.task p.op_index ≡ None in subst P (c.behind-machine.view_is ∙ c.progress.ensures) (c.in-None.ensures.none refl)) _
+
+pub returns-then-is_suspended : goal.returns-then-is_suspended
+returns-then-is_suspended g c = c.act_while_suspended.ensures c.args.limits.now

@@ -74,7 +74,7 @@ pub returns-in_err-step_along-clause-kept : goal.returns-in_err-step_along-claus
 returns-in_err-step_along-clause-kept c =
     let there : GoesOn c.args.app.now c.args.limits.now c.args.until c.args.kernel.now c.go_on_in_room.new.kernel (all_of c.args.trail.now) (all_of c.go_on_in_room.new.trail) = tells_then c.steps.invariant.along c.go_on_in_room.ensures in
     let p = err_from_is_err_and c.from_residual.result c.from_residual.ensures.1 in
-    rw p.1 (events_from c.args.app.now c.args.injections.now c.args.kernel.now.steps c.go_on_in_room.new.kernel.steps, c.in_err-step_along.ensures.kept ∙ there.events c.args.injections.now c.requires.free)
+    rw p.1 (events_from c.args.app.now c.args.limits.now c.args.injections.now c.args.kernel.now.steps c.go_on_in_room.new.kernel.steps, c.in_err-step_along.ensures.kept ∙ there.events c.args.injections.now c.requires.free)
 
 pub returns-then-until-kernel-clause-to : goal.returns-then-until-kernel-clause-to
 returns-then-until-kernel-clause-to c = goes_then c.steps.invariant.along.to c.go_on_in_room.ensures.to

@@ -10,7 +10,7 @@ invariant-steps l = record {
   way : IsUnderWay l.app l.injections l.limits l.kernel;
   on : l.fn.kernel.steps ≤ l.kernel.steps;
   far : l.kernel.steps ≤ l.step;
-  events : all_of l.trail ≡ all_of l.fn.trail ++ events_from l.app l.injections l.fn.kernel.steps l.kernel.steps;
+  events : all_of l.trail ≡ all_of l.fn.trail ++ events_from l.app l.limits l.injections l.fn.kernel.steps l.kernel.steps;
   left : IsLeft l.injections l.left l.kernel.steps;
   meter : l.meter + l.fn.kernel.steps ≡ l.fn.meter + l.kernel.steps;
 }

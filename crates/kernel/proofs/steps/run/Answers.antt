@@ -3,14 +3,8 @@ use Rattle.std.proofs.lemmas.Result.{err_from_is_err_and}
 use Rattle.model.specs.declared.plan.Injection.{Injection}
 use Rattle.model.specs.Run.{IsRun}
 use Rattle.machine.proofs.Either.{elapsed_is}
-use Rattle.kernel.proofs.Running.{ticks_low, no_further, told_some, events_from_reset}
+use Rattle.kernel.proofs.Running.{no_further, told_some, events_from_reset}
 use Rattle.kernel.proofs.steps.run.Goals as goal
-
-pub overflow_cast-result : goal.overflow_cast-result
-overflow_cast-result c =
-    let e = c.elapsed.ensures.elapsed in
-    let low = ticks_low c.args.app.now c.injections-injections.result.now c.args.limits c.well_formed-2.ensures c.finish.new.kernel c.in_ok-end.ensures.way in
-    omega arith
 
 pub returns-clause-run : goal.returns-clause-run
 returns-clause-run c =
@@ -19,7 +13,7 @@ returns-clause-run c =
     subst P c.injections-injections.ensures (record {
       goes_on = e.way.goes_on;
       ends = e.ended;
-      trace = c.into_events.ensures ∙ e.events ∙ events_from_reset c.args.app.now c.injections-injections.result.now c.boot-kernel.result.steps c.finish.new.kernel.steps c.boot-kernel.ensures.steps c.new-trail.result c.new-trail.ensures.before c.new-trail.ensures.told;
+      trace = c.into_events.ensures ∙ e.events ∙ events_from_reset c.args.app.now c.args.limits c.injections-injections.result.now c.boot-kernel.result.steps c.finish.new.kernel.steps c.boot-kernel.ensures.steps c.new-trail.result c.new-trail.ensures.before c.new-trail.ensures.told;
       elapsed = c.elapsed.ensures.elapsed ∙ elapsed_is c.finish.new.kernel _ e.way.stands;
     })
 

@@ -28,35 +28,35 @@ pub overflow_add-machine : goal.overflow_add-machine
 overflow_add-machine g c =
     let going = c.requires.going in
     let a = c.settle.ensures.at _ (c.act_current.ensures.at _ (handled_before c.args.app.now c.args.handlers.now going.state c.inject_all.new.machine _ (c.inject_all.ensures.at _ (begun c.args.machine.now (g.L.Log.logged c.args.log.now).told going.state going.stands c.requires.begun)))) in
-    let still = steps_still c.args.app.now c.args.handlers.now going.state c.args.machine.now c.settle.new.self (g.L.Log.logged c.settle.new.log).told going.stands a in
+    let still = steps_still c.args.app.now c.args.limits.now c.args.handlers.now going.state c.args.machine.now c.settle.new.self (g.L.Log.logged c.settle.new.log).told going.stands a in
     let is = steps_are c.args.machine.now going.state going.stands in
-    let low = below_limits c.args.app.now going.limits going.state going.goes_on in
+    let low = below_limits c.args.app.now c.args.limits.now going.state going.goes_on in
     let few = low.1 in
-    let most = going.step_limit in
+    let most = going.are.3 in
     omega arith
 
 pub overflow_add-machine-2 : goal.overflow_add-machine-2
 overflow_add-machine-2 g c =
     let going = c.requires.going in
     let a = c.settle-2.ensures.at _ (c.act_current.ensures.at _ (handled_before c.args.app.now c.args.handlers.now going.state c.inject_all.new.machine _ (c.inject_all.ensures.at _ (begun c.args.machine.now (g.L.Log.logged c.args.log.now).told going.state going.stands c.requires.begun)))) in
-    let still = steps_still c.args.app.now c.args.handlers.now going.state c.args.machine.now c.settle-2.new.self (g.L.Log.logged c.settle-2.new.log).told going.stands a in
+    let still = steps_still c.args.app.now c.args.limits.now c.args.handlers.now going.state c.args.machine.now c.settle-2.new.self (g.L.Log.logged c.settle-2.new.log).told going.stands a in
     let is = steps_are c.args.machine.now going.state going.stands in
-    let low = below_limits c.args.app.now going.limits going.state going.goes_on in
+    let low = below_limits c.args.app.now c.args.limits.now going.state going.goes_on in
     let few = low.1 in
-    let most = going.step_limit in
+    let most = going.are.3 in
     omega arith
 
 pub returns-then-not-act_current-clause-stands : goal.returns-then-not-act_current-clause-stands
 returns-then-not-act_current-clause-stands g c = λ s h.
     let a = c.settle.ensures.at _ (c.act_current.ensures.at _ (handled_before c.args.app.now c.args.handlers.now s c.inject_all.new.machine _ (c.inject_all.ensures.at _ (begun c.args.machine.now (g.L.Log.logged c.args.log.now).told s h c.requires.begun)))) in
-    let still = steps_still c.args.app.now c.args.handlers.now s c.args.machine.now c.settle.new.self (g.L.Log.logged c.settle.new.log).told h a in
-    stepped c.args.app.now c.args.handlers.now s c.settle.new.self (g.L.Log.logged c.settle.new.log).told c.settle.new.self.steps (still ∙ steps_are c.args.machine.now s h) a
+    let still = steps_still c.args.app.now c.args.limits.now c.args.handlers.now s c.args.machine.now c.settle.new.self (g.L.Log.logged c.settle.new.log).told h a in
+    stepped c.args.app.now c.args.limits.now c.args.handlers.now s c.settle.new.self (g.L.Log.logged c.settle.new.log).told c.settle.new.self.steps (still ∙ steps_are c.args.machine.now s h) a
 
 pub returns-clause-stands : goal.returns-clause-stands
 returns-clause-stands g c = λ s h.
     let a = c.settle-2.ensures.at _ (c.act_current.ensures.at _ (handled_before c.args.app.now c.args.handlers.now s c.inject_all.new.machine _ (c.inject_all.ensures.at _ (begun c.args.machine.now (g.L.Log.logged c.args.log.now).told s h c.requires.begun)))) in
-    let still = steps_still c.args.app.now c.args.handlers.now s c.args.machine.now c.settle-2.new.self (g.L.Log.logged c.settle-2.new.log).told h a in
-    stepped c.args.app.now c.args.handlers.now s c.settle-2.new.self (g.L.Log.logged c.settle-2.new.log).told c.settle-2.new.self.steps (still ∙ steps_are c.args.machine.now s h) a
+    let still = steps_still c.args.app.now c.args.limits.now c.args.handlers.now s c.args.machine.now c.settle-2.new.self (g.L.Log.logged c.settle-2.new.log).told h a in
+    stepped c.args.app.now c.args.limits.now c.args.handlers.now s c.settle-2.new.self (g.L.Log.logged c.settle-2.new.log).told c.settle-2.new.self.steps (still ∙ steps_are c.args.machine.now s h) a
 
 pub returns-then-not-act_current-clause-told : goal.returns-then-not-act_current-clause-told
 unfolding step

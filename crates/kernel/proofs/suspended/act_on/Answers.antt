@@ -20,6 +20,18 @@ returns-in-Repeat g c = rw c.in-Repeat.is (moves_up 64 _ _ (g.L.Log.logged c.arg
 pub returns-in-End : goal.returns-in-End
 returns-in-End g c = rw c.in-End.is (moves_up 64 _ _ (g.L.Log.logged c.args.log.now) _ c.close_turn.ensures)
 
+pub returns-in-If : goal.returns-in-If
+returns-in-If g c = rw c.in-If.is (moves_up 64 _ _ (g.L.Log.logged c.args.log.now) _ c.branch-machine.ensures)
+
+pub returns-in-Else : goal.returns-in-Else
+returns-in-Else g c = rw c.in-Else.is (moves_up 64 _ _ (g.L.Log.logged c.args.log.now) _ c.skip_branch.ensures)
+
+pub returns-in-EndIf : goal.returns-in-EndIf
+returns-in-EndIf g c = rw c.in-EndIf.is (moves_up 64 _ _ (g.L.Log.logged c.args.log.now) _ c.end_if.ensures)
+
+pub returns-in-Break : goal.returns-in-Break
+returns-in-Break g c = rw c.in-Break.is (moves_up 64 _ _ (g.L.Log.logged c.args.log.now) _ c.leave_loop.ensures)
+
 pub returns-in-MessagesWaiting : goal.returns-in-MessagesWaiting
 returns-in-MessagesWaiting g c = rw c.in-MessagesWaiting.is (does_up 1 64 _ _ _ _ _ (omega arith) c.messages_waiting.ensures)
 
@@ -39,4 +51,4 @@ pub returns-in-ResumeAll : goal.returns-in-ResumeAll
 returns-in-ResumeAll g c = rw c.in-ResumeAll.is (does_up 2 64 _ _ _ _ _ (omega arith) c.resume_all.ensures)
 
 pub returns-in_default : goal.returns-in_default
-returns-in_default g c = let not = c.in_default in no_other c.args.op.now c.requires.stays not.not-Work not.not-Time not.not-Mark not.not-Expect not.not-Repeat not.not-End not.not-MessagesWaiting not.not-SpacesAvailable not.not-ClearBits not.not-GetBits not.not-SuspendAll not.not-ResumeAll
+returns-in_default g c = let not = c.in_default in no_other c.args.op.now c.requires.stays not.not-Work not.not-Time not.not-Mark not.not-Expect not.not-Repeat not.not-End not.not-If not.not-Else not.not-EndIf not.not-Break not.not-MessagesWaiting not.not-SpacesAvailable not.not-ClearBits not.not-GetBits not.not-SuspendAll not.not-ResumeAll

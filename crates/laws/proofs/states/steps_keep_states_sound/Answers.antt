@@ -1,5 +1,5 @@
 use Rattle.std.proofs.Common.{◌≤◌, ℕ, List, arith}
-use Rattle.model.specs.Application.{Application}
+use Rattle.model.specs.Application.{Application, Limits}
 use Rattle.model.specs.State.{State}
 use Rattle.model.specs.Step.{step}
 use Rattle.soundness.proofs.Passing.{suspensions-step}
@@ -9,9 +9,9 @@ use Rattle.laws.proofs.states.steps_keep_states_sound.Goals as goal
 pub returns-clause-sound : goal.returns-clause-sound
 returns-clause-sound c = reached_step
 
-in_step : (app : Application) (handlers : List ℕ) (s : State) → s.suspensions ≤ s.steps → (step app handlers s).suspensions ≤ (step app handlers s).steps
+in_step : (app : Application) (limits : Limits) (handlers : List ℕ) (s : State) → s.suspensions ≤ s.steps → (step app limits handlers s).suspensions ≤ (step app limits handlers s).steps
 unfolding step
-in_step app handlers s few = let one = suspensions-step app handlers s in omega arith
+in_step app limits handlers s few = let one = suspensions-step app limits handlers s in omega arith
 
 pub returns-clause-suspended : goal.returns-clause-suspended
 returns-clause-suspended c = in_step

@@ -31,6 +31,7 @@ new-requires c =
     let parts = c.in_ok-parts.ensures in
     let app : Application = record {
       start = c.args.start;
+      tickless = c.args.tickless;
       limits = c.args.limits;
       objects = c.in_ok-parts.parts.objects.items;
       group_count = c.group_count.result;

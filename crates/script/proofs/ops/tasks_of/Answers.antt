@@ -1,7 +1,8 @@
-use Rattle.std.proofs.Common.{◌+◌, map, drop, sym, subst, ◌≤◌}
+use Rattle.std.proofs.Common.{◌+◌, [], map, drop, sym, subst, ◌≤◌}
 use Rattle.std.proofs.Math.Nat.{le_trans}
 use Rattle.model.specs.Application.{Definition}
-use Rattle.model.specs.Scripts.{Nests, IsDefinition, most_tasks}
+use Rattle.model.specs.Blocks.{Nests, edges_of}
+use Rattle.model.specs.Scripts.{IsDefinition, most_tasks}
 use Rattle.script.specs.Entries.{raw_view, entries_view}
 use Rattle.script.specs.Ops.{with_script}
 use Rattle.script.proofs.Steps.{left_in, one_made, all_left, all_grown, counted, none_left, all_made}
@@ -15,7 +16,7 @@ task_of-requires c =
     let task = c.task-item.result in
     (all_left raw_view task (drop i tasks) (drop (i + 1) tasks)
     (left_in c.as_slice-task-items.result.now tasks c.as_slice-task-items.ensures.value i task c.loop-task-test.true c.task-item.is)
-    (with_script entries) (λ (t : Definition). Nests 0 t.script) c.loop-task.invariant.nest).0
+    (with_script entries) (λ (t : Definition). Nests [] (edges_of t.script)) c.loop-task.invariant.nest).0
 
 pub loop-task-preserved : goal.loop-task-preserved
 loop-task-preserved c =
@@ -30,8 +31,8 @@ loop-task-preserved c =
     let definition = c.in_ok-definition.definition in
     record {
       nest =
-          (all_left raw_view task (drop i tasks) (drop (i + 1) tasks) turn (with_script entries) (λ (t : Definition). Nests 0 t.script)
-          c.loop-task.invariant.nest).1;
+          (all_left raw_view task (drop i tasks) (drop (i + 1) tasks) turn (with_script entries)
+          (λ (t : Definition). Nests [] (edges_of t.script)) c.loop-task.invariant.nest).1;
       named =
           one_made raw_view task (drop i tasks) (drop (i + 1) tasks) turn (with_script entries) (map (with_script entries) (map raw_view tasks))
           before after definition c.loop-task.invariant.named c.in_ok-definition.ensures.task new;

@@ -1,4 +1,4 @@
-use Rattle.std.proofs.Common.{◌≡◌, ◌∙◌, ◌+◌, ◌++◌, ◌∷◌, [], List, Option, Some, ap, arith, drop, map, option_map, refl, rules, sym}
+use Rattle.std.proofs.Common.{◌≡◌, ◌∙◌, ◌+◌, ◌++◌, ◌∷◌, [], Option, Some, ap, arith, drop, map, option_map, refl, rules, sym}
 use Rattle.model.specs.declared.plan.Injection.{Injection}
 use Rattle.grammar.specs.Names.{index_of}
 use Rattle.grammar.specs.Points.{all_known, all_there, injection_at, known, pair_view}

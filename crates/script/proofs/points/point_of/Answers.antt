@@ -1,4 +1,4 @@
-use Rattle.std.proofs.Common.{◌≡◌, ◌∙◌, Some, map, rules, sym}
+use Rattle.std.proofs.Common.{◌≡◌, ◌∙◌, Some, map, sym}
 use Rattle.model.specs.Points.{IsPoint}
 use Rattle.grammar.specs.Points.{all_known, pair_view}
 use Rattle.grammar.proofs.PointTexts.{is_point, known_sound}

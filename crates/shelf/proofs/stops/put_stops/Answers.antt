@@ -12,8 +12,8 @@ use Rattle.shelf.proofs.stops.put_stops.Goals as goal
 pub returns-in-Some-clause-events : goal.returns-in-Some-clause-events
 returns-in-Some-clause-events c =
     c.in_ok-end.ensures.events
-    ∙ ap (λ (events : List Event). events ++ events_from c.args.app.now [] c.stops.kernel.steps c.follow.new.kernel.steps) c.stops.invariant.events
-    ∙ goes_on_with c.args.app.now [] c.stops.kernel.steps c.follow.new.kernel.steps c.in_ok-end.ensures.on
+    ∙ ap (λ (events : List Event). events ++ events_from c.args.app.now c.args.limits.now [] c.stops.kernel.steps c.follow.new.kernel.steps) c.stops.invariant.events
+    ∙ goes_on_with c.args.app.now c.args.limits.now [] c.stops.kernel.steps c.follow.new.kernel.steps c.in_ok-end.ensures.on
 
 pub stops-smaller : goal.stops-smaller
 stops-smaller c =
@@ -31,8 +31,8 @@ stops-preserved c =
     let there = c.in_ok-end.ensures.there c.in_default.is in
     let put = there ∙ c.stops.invariant.next in
     let events = c.in_ok-end.ensures.events
-    ∙ ap (λ (events : List Event). events ++ events_from c.args.app.now [] c.stops.kernel.steps c.follow.new.kernel.steps) c.stops.invariant.events
-    ∙ goes_on_with c.args.app.now [] c.stops.kernel.steps c.follow.new.kernel.steps c.in_ok-end.ensures.on in
+    ∙ ap (λ (events : List Event). events ++ events_from c.args.app.now c.args.limits.now [] c.stops.kernel.steps c.follow.new.kernel.steps) c.stops.invariant.events
+    ∙ goes_on_with c.args.app.now c.args.limits.now [] c.stops.kernel.steps c.follow.new.kernel.steps c.in_ok-end.ensures.on in
     let metered = c.in_ok-end.ensures.meter in
     let meter = c.stops.invariant.meter in
     let low = c.stops.invariant.low in
@@ -43,7 +43,7 @@ stops-preserved c =
       stops = one_more c.args.app.now c.args.limits.now c.args.stride c.stops.stops.items c.push.new.self.items _ c.stops.invariant.stops c.in_ok-push.ensures.items (record {
         way = subst (IsUnderWay c.args.app.now [] c.args.limits.now) (sym c.in_ok-snapshot.ensures) way;
         there = ap (λ (k : Machine). k.steps) c.in_ok-snapshot.ensures ∙ put;
-        before = c.len.ensures ∙ ap length events ∙ ap (λ (n : ℕ). length (events_after c.args.app.now [] n)) put;
+        before = c.len.ensures ∙ ap length events ∙ ap (λ (n : ℕ). length (events_after c.args.app.now c.args.limits.now [] n)) put;
       });
       next = put_more c.stops.stops.items c.push.new.self.items _ c.args.stride c.stops.next c.in_ok-push.ensures.items c.stops.invariant.next;
       meter = omega (arith, metered, meter);

@@ -9,7 +9,7 @@ abbrev pub invariant-stops : goal.invariant-stops
 invariant-stops l = record {
   way : IsUnderWay l.app [] l.limits l.kernel;
   far : l.kernel.steps ≤ l.next;
-  events : all_of l.trail ≡ events_after l.app [] l.kernel.steps;
+  events : all_of l.trail ≡ events_after l.app l.limits [] l.kernel.steps;
   stops : AreStops l.app l.limits l.stride l.stops.items;
   next : l.next ≡ length l.stops.items * l.stride;
   meter : l.meter ≡ l.kernel.steps;

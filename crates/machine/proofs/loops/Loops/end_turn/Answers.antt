@@ -3,4 +3,6 @@ use Rattle.machine.proofs.Looping.{one_turn_less}
 use Rattle.machine.proofs.loops.Loops.end_turn.Goals as goal
 
 pub returns-clause-loops : goal.returns-clause-loops
-returns-clause-loops c = one_turn_less c.self.inside.cells c.self.inside.nesting c.args.self.now c.self.view_is c.if-self-eq0.false (let n = c.self.invariant in omega arith) c.if-turn-le1.false
+returns-clause-loops c =
+    one_turn_less c.self.inside.cells c.self.inside.nesting c.in-Some.left c.args.self.now c.self.view_is c.if-self-eq0.false
+    (let n = c.self.invariant in omega arith) c.in-Some.is c.if-left-le1.false

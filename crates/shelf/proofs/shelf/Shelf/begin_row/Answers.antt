@@ -1,7 +1,8 @@
-use Rattle.std.proofs.Common.{◌≡◌, ◌<◌, ◌+◌, ℕ, None, [], ap, sym, subst, ◌∙◌, arith}
+use Rattle.std.proofs.Common.{◌≡◌, ◌<◌, ◌+◌, ℕ, None, [], length, ap, sym, subst, ◌∙◌, arith}
 use Rattle.model.specs.Points.{first_step, last_step}
 use Rattle.kernel.proofs.Running.{steps_under}
 use Rattle.model.specs.Application.{Limits}
+use Rattle.model.specs.Run.{events_after}
 use Rattle.machine.specs.Can.{IsUnderWay}
 use Rattle.model.proofs.Injected.{first_to_last}
 use Rattle.shelf.specs.Shelves.{Shelved}
@@ -13,12 +14,15 @@ pub begin_row-requires-clause-way : goal.begin_row-requires-clause-way
 begin_row-requires-clause-way c = subst (λ (l : Limits). IsUnderWay c.args.app.now [] l c.go_to_stop-told.new.kernel) (sym (ap (λ (s : Shelved). s.limits) c.self.view_is)) c.go_to_stop-told.ensures.way
 
 pub returns-clause-before : goal.returns-clause-before
-returns-clause-before c = ap (λ (told : ℕ). told + c.in_ok-beginning.beginning.before) c.go_to_stop-told.ensures.told ∙ c.in_ok-beginning.ensures.before
+returns-clause-before c =
+    let told = c.go_to_stop-told.ensures.told ∙ ap (λ (s : Shelved). length (events_after c.args.app.now s.limits [] c.go_to_stop-told.new.kernel.steps)) (sym c.self.view_is) in
+    ap (λ (told : ℕ). told + c.in_ok-beginning.beginning.before) told ∙ c.in_ok-beginning.ensures.before
+    ∙ ap (λ (s : Shelved). length (events_after c.args.app.now s.limits [] (first_step c.args.point.now))) c.self.view_is
 
 pub overflow_add-result : goal.overflow_add-result
 overflow_add-result c =
-    let told = c.go_to_stop-told.ensures.told in
-    let sum = c.in_ok-beginning.ensures.before in
+    let told = c.go_to_stop-told.ensures.told ∙ ap (λ (s : Shelved). length (events_after c.args.app.now s.limits [] c.go_to_stop-told.new.kernel.steps)) (sym c.self.view_is) in
+    let sum = c.in_ok-beginning.ensures.before ∙ ap (λ (s : Shelved). length (events_after c.args.app.now s.limits [] (first_step c.args.point.now))) c.self.view_is in
     let few = shares_few c.args.app.now _ c.args.self.now c.self.view_is c.requires.shelf c.args.point.now c.requires.reached in
     let all = c.count_events.ensures in
     let fits = c.count_events.type_inv in

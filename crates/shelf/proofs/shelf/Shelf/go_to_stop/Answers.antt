@@ -23,4 +23,5 @@ pub returns-clause-told : goal.returns-clause-told
 returns-clause-told c =
     let stop = read_is c.args.app.now _ c.args.self.now c.self.view_is c.requires.shelf c.args.point.now c.requires.reached c.first_step.result c.first_step.ensures c.index-stop.result.now _ c.index-stop.ensures in
     let there = ap (λ (k : Machine). k.steps) c.restore.ensures ∙ stop.there in
-    stop.before ∙ ap (λ (n : ℕ). length (events_after c.args.app.now [] n)) (sym there)
+    stop.before ∙ ap (λ (n : ℕ). length (events_after c.args.app.now c.self.inside.limits [] n)) (sym there)
+    ∙ ap (λ (s : Shelved). length (events_after c.args.app.now s.limits [] c.restore.new.self.steps)) c.self.view_is

@@ -1,7 +1,7 @@
-use Rattle.std.proofs.Common.{◌≡◌, ◌+◌, ◌*◌, ◌/◌, ℕ, [], ap, sym, subst, ◌∙◌, arith}
+use Rattle.std.proofs.Common.{◌≡◌, ◌+◌, ◌*◌, ◌/◌, ℕ, [], length, ap, sym, subst, ◌∙◌, arith}
 use Rattle.model.specs.Points.{first_step}
 use Rattle.model.specs.Application.{Limits}
-use Rattle.model.specs.Run.{IsRun}
+use Rattle.model.specs.Run.{IsRun, events_after}
 use Rattle.machine.specs.Can.{IsUnderWay}
 use Rattle.shelf.specs.Shelves.{Shelved}
 use Rattle.shelf.proofs.Along.{parts_of, shares_few, risen, risen_by_less}
@@ -11,12 +11,15 @@ pub run_row-requires-clause-way : goal.run_row-requires-clause-way
 run_row-requires-clause-way c = subst (λ (l : Limits). IsUnderWay c.args.app.now [] l c.go_to_stop-told.new.kernel) (sym (ap (λ (s : Shelved). s.limits) c.self.view_is)) c.go_to_stop-told.ensures.way
 
 pub returns-in-Ok-clause-before : goal.returns-in-Ok-clause-before
-returns-in-Ok-clause-before c = ap (λ (told : ℕ). told + c.in-Ok.row.before) c.go_to_stop-told.ensures.told ∙ c.in-Ok.ensures.before
+returns-in-Ok-clause-before c =
+    let told = c.go_to_stop-told.ensures.told ∙ ap (λ (s : Shelved). length (events_after c.args.app.now s.limits [] c.go_to_stop-told.new.kernel.steps)) (sym c.self.view_is) in
+    ap (λ (told : ℕ). told + c.in-Ok.row.before) told ∙ c.in-Ok.ensures.before
+    ∙ ap (λ (s : Shelved). length (events_after c.args.app.now s.limits [] (first_step c.args.point.now))) c.self.view_is
 
 pub overflow_add-result : goal.overflow_add-result
 overflow_add-result c =
-    let told = c.go_to_stop-told.ensures.told in
-    let sum = c.in-Ok.ensures.before in
+    let told = c.go_to_stop-told.ensures.told ∙ ap (λ (s : Shelved). length (events_after c.args.app.now s.limits [] c.go_to_stop-told.new.kernel.steps)) (sym c.self.view_is) in
+    let sum = c.in-Ok.ensures.before ∙ ap (λ (s : Shelved). length (events_after c.args.app.now s.limits [] (first_step c.args.point.now))) c.self.view_is in
     let few = shares_few c.args.app.now _ c.args.self.now c.self.view_is c.requires.shelf c.args.point.now c.requires.reached in
     let all = c.count_events.ensures in
     let fits = c.count_events.type_inv in

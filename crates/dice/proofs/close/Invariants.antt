@@ -1,6 +1,0 @@
-use Rattle.std.proofs.Common.{◌≤◌, ◌+◌, length}
-use Rattle.dice.specs.Known.{AreKnown}
-use Rattle.dice.proofs.close.Given as goal
-
-abbrev pub invariant-loop : goal.invariant-loop
-invariant-loop l = (length l.script ≤ 14 + l.counter) × AreKnown l.objects l.script

@@ -1,0 +1,232 @@
+-- Idle sleeps past no wake time, and past no base interrupt; and up to the first of them.
+use Rattle.std.proofs.Common.{min, fold, ap, sym, subst, ◌≡◌, ◌-◌, ◌<◌, ◌≤◌, ◌+◌, ℕ, zero, suc, true, ltb, List, [], ◌∷◌, ◌++◌, get_or, inl, inr, ◌⊎◌, leb, leb-false, Option, Some, None, refl, ◌∙◌, arith}
+use Rattle.std.specs.List.{AllByRecursion, Contains, cons_option, filter, filter_map}
+use Rattle.std.specs.Prelude.{map}
+use Rattle.std.specs.Option.{IfSome, option_map}
+use Rattle.std.proofs.lemmas.Bool.{leb-true, lt-ltb, ltb-true}
+use Rattle.std.proofs.lemmas.List.Elements.{Contains-append_cases}
+use Rattle.model.specs.Application.{Application, Interrupt, Limits}
+use Rattle.model.specs.State.{State, Task, wake_time_of, status_at, no_task}
+use Rattle.model.specs.Switching.{slice, unless_held, is_scheduler_suspended}
+use Rattle.model.specs.Time.{advance, increment_tick, jump}
+use Rattle.model.specs.Handlers.{interrupt, tick_interrupt, idle, ticks_ahead, ticks_to_wake, ticks_to_interrupt}
+use Rattle.model.proofs.Sorting.{by_test}
+use Rattle.soundness.proofs.Frames.{Keeps, keeps_both, keeps-interrupt, keeps-slice, keeps-unless_held, keeps-wake_due}
+use Rattle.soundness.proofs.Passing.{either_way, elapsed-tick, idle_jumps, jumped, jump_come}
+
+-- ---- who wakes later, and when
+
+-- Whoever wakes by itself after now does so no sooner than so many ticks from now.
+abbrev pub NoneBetween : ℕ → State → Type 0
+NoneBetween n s = (i : ℕ) → IfSome (wake_time_of (status_at s i)) (λ w. s.time < w → s.time + n ≤ w)
+
+pub none_in_one : (s : State) → NoneBetween 1 s
+none_in_one s i = by_time (wake_time_of (status_at s i)) where
+  by_time : (o : Option ℕ) → IfSome o (λ w. s.time < w → s.time + 1 ≤ w)
+  by_time None = tt
+  by_time (Some w) = λ l. omega arith
+
+least : (a : ℕ) (xs : List ℕ) → fold min a xs ≤ a
+least a [] = omega arith
+least a (x ∷ xs) = let l = least (min a x) xs in omega arith
+
+-- how many ticks it is to each wake time
+abbrev to_wakes : ℕ → List Task → List ℕ
+to_wakes now ts = filter_map (λ (t : Task). option_map (λ time. time - now) (wake_time_of t.status)) ts
+
+-- The least of these is no more than any task's.
+abbrev IsLeast : ℕ → ℕ → Option ℕ → List ℕ → Type 0
+IsLeast now a wake ds = IfSome wake (λ w. fold min a ds ≤ w - now)
+
+least_first : (now a : ℕ) (o : Option ℕ) (ds ys : List ℕ) → IsLeast now a o (cons_option (option_map (λ time. time - now) o) ds ++ ys)
+least_first now a None ds ys = tt
+least_first now a (Some w) ds ys = let l = least (min a (w - now)) (ds ++ ys) in omega arith
+
+least_rest : (now a : ℕ) (o wake : Option ℕ) (ds ys : List ℕ) → ((b : ℕ) → IsLeast now b wake (ds ++ ys)) → IsLeast now a wake (cons_option (option_map (λ time. time - now) o) ds ++ ys)
+least_rest now a None wake ds ys h = h a
+least_rest now a (Some w) wake ds ys h = h (min a (w - now))
+
+least_wake : (now : ℕ) (ts : List Task) (ys : List ℕ) (i a : ℕ) → IsLeast now a (wake_time_of (get_or ts i no_task).status) (to_wakes now ts ++ ys)
+least_wake now [] ys i a = tt
+least_wake now (t ∷ ts) ys zero a = least_first now a (wake_time_of t.status) (to_wakes now ts) ys
+least_wake now (t ∷ ts) ys (suc i) a = least_rest now a (wake_time_of t.status) (wake_time_of (get_or ts i no_task).status) (to_wakes now ts) ys (λ b. least_wake now ts ys i b)
+
+-- Idle jumps over nobody's wake time.
+pub none_ahead : (app : Application) (limits : Limits) (s : State) → NoneBetween (ticks_ahead app limits s) s
+none_ahead app limits s i = by_time (wake_time_of (status_at s i)) (least_wake s.time s.tasks (ticks_to_interrupt app s) i (limits.ticks - s.elapsed)) where
+  by_time : (o : Option ℕ) → IfSome o (λ w. ticks_ahead app limits s ≤ w - s.time) → IfSome o (λ w. s.time < w → s.time + ticks_ahead app limits s ≤ w)
+  by_time None h = tt
+  by_time (Some w) h = λ l. omega arith
+
+-- ---- base interrupts
+
+least_appended : (a : ℕ) (xs ys : List ℕ) (n : ℕ) → ((b : ℕ) → fold min b ys ≤ n) → fold min a (xs ++ ys) ≤ n
+least_appended a [] ys n h = h a
+least_appended a (x ∷ xs) ys n h = least_appended (min a x) xs ys n h
+
+-- how many ticks it is to each of these interrupts that is still to come
+abbrev to_come : ℕ → List Interrupt → List ℕ
+to_come elapsed is = map (λ (i : Interrupt). i.tick - elapsed) (filter (λ (i : Interrupt). ltb elapsed i.tick) is)
+
+-- So many are no more than to any.
+abbrev NonePast : ℕ → ℕ → List Interrupt → Type 0
+NonePast n elapsed is = AllByRecursion (λ (i : Interrupt). elapsed < i.tick → n ≤ i.tick - elapsed) is
+
+-- the same of the least of them, and of others before them
+abbrev IsLeastPast : ℕ → List ℕ → List Interrupt → Type 0
+IsLeastPast elapsed ds is = AllByRecursion (λ (i : Interrupt). elapsed < i.tick → (a : ℕ) → fold min a ds ≤ i.tick - elapsed) is
+
+past_more : (elapsed d : ℕ) (ds : List ℕ) (is : List Interrupt) → IsLeastPast elapsed ds is → IsLeastPast elapsed (d ∷ ds) is
+past_more elapsed d ds [] h = tt
+past_more elapsed d ds (i ∷ is) h = ((λ l a. h.0 l (min a d)), past_more elapsed d ds is h.1)
+
+least_past : (elapsed : ℕ) (is : List Interrupt) → IsLeastPast elapsed (to_come elapsed is) is
+least_past elapsed [] = tt
+least_past elapsed (i ∷ is) = by_test (ltb elapsed i.tick)
+    (λ t.
+    let more : to_come elapsed (i ∷ is) ≡ (i.tick - elapsed) ∷ to_come elapsed is = rw t refl in
+    subst (λ (ds : List ℕ). IsLeastPast elapsed ds (i ∷ is)) (sym more) (
+      (λ l a. least_to (min a (i.tick - elapsed)) (i.tick - elapsed) (to_come elapsed is) (below a (i.tick - elapsed))),
+      past_more elapsed (i.tick - elapsed) (to_come elapsed is) is (least_past elapsed is),
+    ))
+    (λ t.
+    let same : to_come elapsed (i ∷ is) ≡ to_come elapsed is = rw t refl in
+    subst (λ (ds : List ℕ). IsLeastPast elapsed ds (i ∷ is)) (sym same) (
+      (λ l a. absurd (let u = lt-ltb elapsed i.tick l in cc)),
+      least_past elapsed is,
+    )) where
+      below : (a d : ℕ) → min a d ≤ d
+      below a d = omega arith
+
+      least_to : (a d : ℕ) (xs : List ℕ) → a ≤ d → fold min a xs ≤ d
+      least_to a d xs l = let m = least a xs in omega arith
+
+none_past : (a elapsed : ℕ) (xs ys : List ℕ) (is : List Interrupt) → IsLeastPast elapsed ys is → NonePast (fold min a (xs ++ ys)) elapsed is
+none_past a elapsed xs ys [] h = tt
+none_past a elapsed xs ys (i ∷ is) h = ((λ l. least_appended a xs ys (i.tick - elapsed) (λ b. h.0 l b)), none_past a elapsed xs ys is h.1)
+
+-- ---- idle
+
+come-time : (s : State) → (increment_tick s).time ≤ s.time + 1
+unfolding increment_tick advance
+come-time s = by_test (is_scheduler_suspended s)
+    (λ t. rw t (omega arith))
+    (λ t. rw t (let e = (keeps-wake_due (record s { time = s.time + 1; elapsed = s.elapsed + 1 })).time in omega arith))
+
+-- base interrupts, and a switch, let no time pass
+keeps-end : (app : Application) (s : State) → Keeps s (unless_held slice (interrupt app s))
+keeps-end app s = let told : State = interrupt app s in keeps_both s told (unless_held slice told) (keeps-interrupt app s) (keeps-unless_held slice told keeps-slice)
+
+time-tick : (app : Application) (s : State) → (tick_interrupt app s).time ≤ s.time + 1
+unfolding tick_interrupt
+time-tick app s = let e = (keeps-end app (increment_tick s)).time in let l = come-time s in omega arith
+
+keeps-jumped : (app : Application) (n : ℕ) (s : State) → Keeps (jump_come n s) (jumped app n s)
+unfolding jump
+keeps-jumped app n s = keeps_both (jump_come n s) (jump n s) (jumped app n s) (keeps-wake_due (jump_come n s)) (keeps-end app (jump n s))
+
+module _ (app : Application) (limits : Limits) (s : State) where
+  time-idle : (w : ℕ) → s.time + 1 ≤ w → s.time + ticks_ahead app limits s ≤ w → (idle app limits s).time ≤ w
+  unfolding idle
+  time-idle w one many =
+      let n : ℕ = ticks_ahead app limits s in
+      either_way (λ (t : State). t.time ≤ w) app.tickless (jumped app n s) (tick_interrupt app s)
+      (let e : (jumped app n s).time ≡ s.time + n = (keeps-jumped app n s).time in omega arith)
+      (let l = time-tick app s in omega arith)
+
+  elapsed_within : (most : ℕ) → s.elapsed + 1 ≤ most → s.elapsed + ticks_ahead app limits s ≤ most → (idle app limits s).elapsed ≤ most
+  unfolding idle
+  elapsed_within most one many =
+      let n : ℕ = ticks_ahead app limits s in
+      either_way (λ (t : State). t.elapsed ≤ most) app.tickless (jumped app n s) (tick_interrupt app s)
+      (let e : (jumped app n s).elapsed ≡ s.elapsed + n = (keeps-jumped app n s).elapsed in omega arith)
+      (let e = elapsed-tick app s in omega arith)
+
+  pub idle_before_wake : (task : ℕ) → IfSome (wake_time_of (status_at s task)) (λ w. s.time < w → (idle app limits s).time ≤ w)
+  idle_before_wake task = by_time (wake_time_of (status_at s task)) (none_ahead app limits s task) where
+    by_time : (o : Option ℕ) → IfSome o (λ w. s.time < w → s.time + ticks_ahead app limits s ≤ w) → IfSome o (λ w. s.time < w → (idle app limits s).time ≤ w)
+    by_time None h = tt
+    by_time (Some w) h = λ l. time-idle w (omega arith) (h l)
+
+  before_each : (is : List Interrupt) → NonePast (ticks_ahead app limits s) s.elapsed is → AllByRecursion (λ (i : Interrupt). s.elapsed < i.tick → (idle app limits s).elapsed ≤ i.tick) is
+  before_each [] h = tt
+  before_each (i ∷ is) h = ((λ l. let m = h.0 l in elapsed_within i.tick (omega arith) (omega arith)), before_each is h.1)
+
+  pub idle_before_interrupts : AllByRecursion (λ (i : Interrupt). s.elapsed < i.tick → (idle app limits s).elapsed ≤ i.tick) app.interrupts
+  idle_before_interrupts = before_each app.interrupts (none_past (limits.ticks - s.elapsed) s.elapsed (ticks_to_wake s) (ticks_to_interrupt app s) app.interrupts (least_past s.elapsed app.interrupts))
+
+-- ---- what it sleeps up to
+
+-- who is in a list, one by one
+here : (x : ℕ) (xs : List ℕ) → Contains (x ∷ xs) x
+here x xs = (0, omega arith, refl)
+
+there : (y x : ℕ) (xs : List ℕ) → Contains xs x → Contains (y ∷ xs) x
+there y x xs (k, l, e) = (suc k, omega arith, e)
+
+here_or_there : (y x : ℕ) (xs : List ℕ) → Contains (y ∷ xs) x → (y ≡ x) ⊎ Contains xs x
+here_or_there y x xs (zero, l, e) = inl e
+here_or_there y x xs (suc k, l, e) = inr (k, omega arith, e)
+
+nowhere : (x : ℕ) → Contains [] x → ⊥
+nowhere x (k, l, e) = omega arith
+
+reached : (a : ℕ) (xs : List ℕ) → (fold min a xs ≡ a) ⊎ Contains xs (fold min a xs)
+reached a [] = inl refl
+reached a (x ∷ xs) = elim (reached (min a x) xs) [
+  | inl e ↦ by_test (leb a x)
+      (λ t. inl (let l = leb-true a x t in omega arith))
+      (λ t. inr (let l = leb-false a x t in let f : x ≡ fold min (min a x) xs = omega arith in subst (Contains (x ∷ xs)) f (here x xs)))
+  | inr c ↦ inr (there x (fold min (min a x) xs) xs c)
+]
+
+-- the times at which tasks wake by themselves
+abbrev pub wake_times : List Task → List ℕ
+wake_times ts = filter_map (λ (t : Task). wake_time_of t.status) ts
+
+one_wake : (now d : ℕ) (o : Option ℕ) (ds ws : List ℕ) → IfSome o (λ w. now < w) → (Contains ds d → Contains ws (now + d))
+    → Contains (cons_option (option_map (λ time. time - now) o) ds) d → Contains (cons_option o ws) (now + d)
+one_wake now d None ds ws later k c = k c
+one_wake now d (Some w) ds ws later k c = elim (here_or_there (w - now) d ds c) [
+  | inl e ↦ let f : w ≡ now + d = omega arith in subst (Contains (w ∷ ws)) f (here w ws)
+  | inr more ↦ there w (now + d) ws (k more)
+]
+
+hits_wake : (now d : ℕ) (ts : List Task) → ((i : ℕ) → IfSome (wake_time_of (get_or ts i no_task).status) (λ w. now < w)) → Contains (to_wakes now ts) d → Contains (wake_times ts) (now + d)
+hits_wake now d [] later c = absurd (nowhere d c)
+hits_wake now d (t ∷ ts) later c =
+    one_wake now d (wake_time_of t.status) (to_wakes now ts) (wake_times ts) (later 0) (λ more. hits_wake now d ts (λ i. later (suc i)) more) c
+
+hits_interrupt : (elapsed d : ℕ) (is : List Interrupt) → Contains (to_come elapsed is) d → Contains (map (λ (i : Interrupt). i.tick) is) (elapsed + d)
+hits_interrupt elapsed d [] c = absurd (nowhere d c)
+hits_interrupt elapsed d (i ∷ is) c = by_test (ltb elapsed i.tick)
+    (λ t.
+    let more : to_come elapsed (i ∷ is) ≡ (i.tick - elapsed) ∷ to_come elapsed is = rw t refl in
+    let l = ltb-true elapsed i.tick t in
+    let ticks : List ℕ = map (λ (i : Interrupt). i.tick) is in
+    elim (here_or_there (i.tick - elapsed) d (to_come elapsed is) (subst (λ (ds : List ℕ). Contains ds d) more c)) [
+      | inl e ↦ let f : i.tick ≡ elapsed + d = omega arith in subst (Contains (i.tick ∷ ticks)) f (here i.tick ticks)
+      | inr rest ↦ there i.tick (elapsed + d) ticks (hits_interrupt elapsed d is rest)
+    ])
+    (λ t.
+    let same : to_come elapsed (i ∷ is) ≡ to_come elapsed is = rw t refl in
+    there i.tick (elapsed + d) (map (λ (i : Interrupt). i.tick) is) (hits_interrupt elapsed d is (subst (λ (ds : List ℕ). Contains ds d) same c)))
+
+module _ (app : Application) (limits : Limits) (s : State) (on : app.tickless ≡ true) (low : s.elapsed ≤ limits.ticks) (later : (i : ℕ) → IfSome (wake_time_of (status_at s i)) (λ w. s.time < w)) where
+  abbrev slept : ℕ
+  slept = ticks_ahead app limits s
+
+  slept_time : (idle app limits s).time ≡ s.time + slept
+  slept_time = ap (λ (t : State). t.time) (idle_jumps app limits s on) ∙ (keeps-jumped app slept s).time
+
+  slept_elapsed : (idle app limits s).elapsed ≡ s.elapsed + slept
+  slept_elapsed = ap (λ (t : State). t.elapsed) (idle_jumps app limits s on) ∙ (keeps-jumped app slept s).elapsed
+
+  pub sleeps_until : Contains (wake_times s.tasks) (idle app limits s).time ⊎ (Contains (map (λ (i : Interrupt). i.tick) app.interrupts) (idle app limits s).elapsed ⊎ ((idle app limits s).elapsed ≡ limits.ticks))
+  sleeps_until = elim (reached (limits.ticks - s.elapsed) (ticks_to_wake s ++ ticks_to_interrupt app s)) [
+    | inl e ↦ inr (inr (let t = slept_elapsed in omega arith))
+    | inr c ↦ elim (Contains-append_cases (ticks_to_wake s) (ticks_to_interrupt app s) slept c) [
+      | inl w ↦ inl (subst (Contains (wake_times s.tasks)) (sym slept_time) (hits_wake s.time slept s.tasks later w))
+      | inr i ↦ inr (inl (subst (Contains (map (λ (i : Interrupt). i.tick) app.interrupts)) (sym slept_elapsed) (hits_interrupt s.elapsed slept app.interrupts i)))
+    ]
+  ]

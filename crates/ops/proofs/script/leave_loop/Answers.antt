@@ -1,0 +1,8 @@
+use Rattle.std.proofs.Common.{refl}
+use Rattle.machine.specs.StandsFor.{progress_in}
+use Rattle.ops.proofs.Working.{loop_left}
+use Rattle.ops.proofs.script.leave_loop.Goals as goal
+
+pub returns : goal.returns
+returns c = λ log s h.
+    loop_left c.args.app.now c.args.machine.now c.go_to.new.self log s h c.args.task c.requires.runs.current (progress_in c.args.machine.now.progress c.args.task) refl c.leave_loop.new.self c.jump_from-behind_loop.result c.jump_from-behind_loop.ensures c.leave_loop.ensures c.go_to.ensures.does

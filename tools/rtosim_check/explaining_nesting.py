@@ -1,0 +1,82 @@
+"""Why the program refuses the nesting of a script's blocks: loops and ifs that don't open and close as they must."""
+from .formats import DEEPEST, DEEPEST_LOOP, words_of
+from .nodes import Array, Text
+from .problem import joined, told
+
+OPENING = ("repeat", "if")
+CLOSED = "each end closes the last repeat or if that is open"
+PARTED = "an else parts the innermost block, which is an if, once"
+LEFT = "break leaves the innermost repeat that is open"
+
+
+class Block:
+    """A block that is open: its op's index and word, and the index of its else."""
+
+    def __init__(self, at, word):
+        self.at, self.word, self.parted_at = at, word, None
+
+
+def bad_nesting(context):
+    array = context.nodes[3] if len(context.nodes) > 3 else None
+    if not isinstance(array, Array) or context.place.at is None:
+        return None
+    opened = open_blocks(array.items[: context.place.at])
+    if context.node is None:
+        return unclosed(context, array, opened)
+    problem, rule = problem_of(first_word(context.node), opened)
+    return (context.node.span, told(context, problem), rule) if problem else None
+
+
+def first_word(node):
+    words = words_of(node.value) if isinstance(node, Text) else []
+    return words[0][0] if words else ""
+
+
+def open_blocks(items):
+    """The blocks that are still open after these ops."""
+    opened = []
+    for at, word in enumerate(map(first_word, items)):
+        if word in OPENING:
+            opened.append(Block(at, word))
+        elif word == "else" and opened:
+            opened[-1].parted_at = at
+        elif word == "end" and opened:
+            opened.pop()
+    return opened
+
+
+def problem_of(word, opened):
+    """What is wrong with an op of this word inside the open blocks, and the rule; both None where nothing is."""
+    loops = [it.at for it in opened if it.word == "repeat"]
+    if word == "repeat" and len(loops) == DEEPEST_LOOP:
+        return f"this is the fifth repeat inside one another: those of {joined(loops)} are open", f"loops are at most {DEEPEST_LOOP} deep"
+    if word in OPENING and len(opened) == DEEPEST:
+        problem = f"this is the ninth block inside one another: those of {joined([it.at for it in opened])} are open"
+        return problem, f"loops and ifs are at most {DEEPEST} deep together"
+    if word == "end" and not opened:
+        return "nothing is open here, which end could close", CLOSED
+    if word == "break" and not loops:
+        return "no loop is open here, which break could leave", LEFT
+    return problem_of_else(opened) if word == "else" else (None, None)
+
+
+def problem_of_else(opened):
+    if not opened:
+        return "no if is open here, which else could part", PARTED
+    last = opened[-1]
+    if last.word != "if":
+        return f"the innermost open block is the loop of {last.at}, which has no else", PARTED
+    if last.parted_at is not None:
+        return f"the if of {last.at} has an else already, that of {last.parted_at}", PARTED
+    return None, None
+
+
+def unclosed(context, array, opened):
+    if not opened:
+        return None
+    last = opened[-1]
+    node = array.items[last.at]
+    others = f" ({len(opened)} blocks are open)" if len(opened) > 1 else ""
+    what = "loop" if last.word == "repeat" else "if"
+    start = f'{context.entry.label}, script {last.at}, "{node.value}": this {what} is not closed'
+    return node.span, f'{start}; did you forget an "end" at the end of the script{others}?', "each repeat and each if needs an end"

@@ -1,0 +1,70 @@
+"""The clock of a run: how many ticks have elapsed at which boundary, as its lines tell them.
+
+In a tickless application a step of idle passes as many ticks as come before the next thing to happen, and any other step one at
+most. Who wakes then has a line; a base interrupt whose handler has no ops has none, and is known by the application."""
+from .lanes import Clock
+from .report import IDLE, Kind
+
+WRAP = 1 << 32
+
+
+class TickReader:
+    """Puts the clock of a run together. `boundary` answers when the event of an index is seen."""
+
+    def __init__(self, head, events, injected, boundary, application):
+        self.head, self.events, self.injected, self.boundary = head, events, injected, boundary
+        self.application = application if application is not None and application.is_tickless else None
+        self.is_tickless = self.application is not None or head.is_tickless
+        self.start = self.tick_at_reset()
+        self.boundaries, self.ticks = [0], [0]
+
+    def clock(self):
+        """Known are the ticks of lines, and those at both ends."""
+        last, is_idle = self.start, False
+        for index, event in enumerate(self.events):
+            elapsed = min(self.ticks[-1] + (event.tick - last) % WRAP, self.head.ticks)
+            last = event.tick
+            at = self.boundary(index)
+            self.lay_silent_jumps(is_idle, at, elapsed)
+            if event.kind is Kind.CALL and event.word != "resume_all":
+                self.know(at - 1, elapsed)
+            self.know(at, elapsed, is_latest=True)
+            is_idle = event.name == IDLE if event.kind is Kind.RUN else is_idle
+        if self.boundaries[-1] < self.head.steps:
+            elapsed = max(self.head.ticks, self.ticks[-1])
+            self.lay_silent_jumps(is_idle, self.head.steps, elapsed)
+            self.know(self.head.steps, elapsed)
+        return Clock(self.boundaries, self.ticks, self.start)
+
+    def know(self, boundary, elapsed, is_latest=False):
+        """The ticks of a boundary behind those that are known, or what a later line tells of the last of these."""
+        if boundary > self.boundaries[-1]:
+            self.boundaries.append(boundary)
+            self.ticks.append(elapsed)
+        elif boundary == self.boundaries[-1] and is_latest:
+            self.ticks[-1] = max(self.ticks[-1], elapsed)
+
+    def lay_silent_jumps(self, is_idle, end, elapsed):
+        """The ticks at which steps of idle before this boundary end that have no line: each is that of a base interrupt."""
+        start, last = self.boundaries[-1], self.ticks[-1]
+        if self.application is None or not is_idle or end - start < 2:
+            return
+        ticks = [it for it in self.application.interrupt_ticks if last < it < elapsed]
+        if len(ticks) == end - start - 1:
+            for at, tick in enumerate(ticks, start + 1):
+                self.know(at, tick)
+
+    def tick_at_reset(self):
+        """The printed tick at reset: counted back from a line of the last step, else taken for 0 where it can be. Of a tickless
+        application it is known; where it isn't given, no step before the first line passes more than a tick, since none is idle's."""
+        if self.application is not None:
+            return self.application.start
+        if not self.events:
+            return 0
+        first, last = self.events[0], self.events[-1]
+        if last.step == self.head.steps - 1 and (last.tick - first.tick) % WRAP <= self.head.ticks:
+            start = (last.tick - self.head.ticks) % WRAP
+            is_after = len(self.events) - 1 not in self.injected
+            if not self.is_tickless or is_after and (first.tick - start) % WRAP <= first.step + 1:
+                return start
+        return 0 if first.tick <= first.step + 1 else first.tick
