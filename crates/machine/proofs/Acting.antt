@@ -1,6 +1,6 @@
 -- A task goes on, and its call answers: what that makes of the states that the kernel stands for.
 use Rattle.std.proofs.Common.{◌≡◌, ◌≢◌, ◌<◌, ◌+◌, ℕ, Bool, true, set, List, length, get_or-set_same, Option, Some, refl, ap, sym, subst, ◌∙◌}
-use Rattle.std.specs.Option.{is_some, IfSome}
+use Rattle.std.specs.Option.{is_some, option_or, IfSome}
 use Rattle.std.proofs.lemmas.Bool.{eq-eqb, ne_eqb}
 use Rattle.std.proofs.lemmas.List.{set-set}
 use Rattle.model.specs.declared.call.Phase.TheVariants.{Place}
@@ -12,7 +12,7 @@ use Rattle.model.specs.Application.{Application, op_count}
 use Rattle.model.specs.State.{no_call, State, Task, Progress, task_at, progress_at, status_at, call_at, with_task, no_task}
 use Rattle.model.specs.State as state
 use Rattle.model.specs.Switching.{write, is_ready}
-use Rattle.model.specs.Ops.{go_to, moved_to, complete, called, answer}
+use Rattle.model.specs.Ops.{go_to, moved_to, complete, called, answer, fail}
 use Rattle.model.specs.Daemon.{received, obeyed}
 use Rattle.machine.specs.declared.machine.Machine.{Machine}
 use Rattle.sched.specs.Schedule.{Schedule, block}
@@ -94,6 +94,12 @@ obeyed_at app k mid new told s i r clear bits h is g =
 -- the step brings about an end
 pub stopped_at : (k : Machine) (log : List Event) (s : State) → At k log s → (end same : End) → end ≡ same → At (record k { stopped = Some end }) log (record s { stopped = Some same })
 stopped_at k log s h end same e = record { stands = stands-unseen k s h.stands s.log s.steps k.steps (Some same) (Some end) h.stands.rest.steps (ap Some e); log = h.log }
+
+-- a check fails in the step
+pub failed_at : (k : Machine) (log : List Event) (s : State) → At k log s → (check same : End) → check ≡ same → At (record k { stopped = option_or k.stopped (Some check) }) log (fail same s)
+failed_at k log s h check same e =
+    let is : option_or k.stopped (Some check) ≡ option_or s.stopped (Some same) = ap (λ (o : Option End). option_or o (Some check)) h.stands.rest.stopped ∙ ap (λ (x : End). option_or s.stopped (Some x)) e in
+    record { stands = stands-unseen k s h.stands s.log s.steps k.steps (option_or s.stopped (Some same)) (option_or k.stopped (Some check)) h.stands.rest.steps is; log = h.log }
 
 -- ---- the parts agree after a deed too
 

@@ -140,7 +140,7 @@ module _ (ds : List Definition) (k : ℕ) (d : Definition) (few : length ds ≤ 
   one_more : take (k + 1) ds ≡ take k ds ++ d ∷ []
   one_more = take_more ds k d l ∙ ap (λ x. take k ds ++ x ∷ []) (sym at)
 
-  pub progress_more : (start : ℕ) (ps : List Progress) → length ps ≡ 32 → ((i : ℕ) → progress_in ps i ≡ (get_or (map (task_at_reset start) (take k ds)) i no_task).progress) → (p : Progress) → p ≡ record no_progress { previous_wake = start } → (i : ℕ) → progress_in (set ps k p) i ≡ (get_or (map (task_at_reset start) (take (k + 1) ds)) i no_task).progress
+  pub progress_more : (start : ℕ) (ps : List Progress) → length ps ≡ 32 → ((i : ℕ) → progress_in ps i ≡ (get_or (map (task_at_reset start) (take k ds)) i no_task).progress) → (p : Progress) → p ≡ record no_progress { previous_wake = start; stamp = start } → (i : ℕ) → progress_in (set ps k p) i ≡ (get_or (map (task_at_reset start) (take (k + 1) ds)) i no_task).progress
   progress_more start ps full h p e i =
       let more : map (task_at_reset start) (take (k + 1) ds) ≡ map (task_at_reset start) (take k ds) ++ task_at_reset start d ∷ [] = ap (map (task_at_reset start)) one_more ∙ map-append (task_at_reset start) (take k ds) (d ∷ []) in
       let long : k ≡ length (map (task_at_reset start) (take k ds)) = sym (length-map (take k ds) (task_at_reset start) ∙ length_taken ds k l) in

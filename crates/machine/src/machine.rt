@@ -223,6 +223,15 @@ impl Machine {
         progress.previous_wake = time;
     }
 
+    /// A task notes this time.
+    pub fn set_stamp(&mut self, task: TaskId, time: u64)
+        ensures { self.new ≡ with_progress task
+            (record (progress_in self.old.progress task) { stamp = time }) self.old }
+    {
+        let progress = &mut self.progress[task.number as usize];
+        progress.stamp = time;
+    }
+
     /// A task is resumed at this time: it counts from then at the latest, and a call that was to decide tries again.
     pub fn set_resumed(&mut self, task: TaskId, now: u64)
         ensures { self.new ≡ with_progress task (resumed now (progress_in self.old.progress task)) self.old }

@@ -15,6 +15,8 @@ pub struct Progress {
     pub answer: Option<u32>,
     /// The time from which `delay_until` counts, in ticks without bound.
     pub previous_wake: u64,
+    /// The time of its last `stamp`, in ticks without bound; at first that at reset.
+    pub stamp: u64,
     /// How far the call of this op has come, if it is one that may wait.
     pub call: CallProgress,
 }
@@ -25,7 +27,7 @@ impl Model for Progress {
 
     ghost Value = { state.Progress };
 
-    ghost view = { λ p. record { op_index = p.op_index; used = p.used; loops = p.loops; answer = p.answer; previous_wake = p.previous_wake; call = p.call } };
+    ghost view = { λ p. record { op_index = p.op_index; used = p.used; loops = p.loops; answer = p.answer; previous_wake = p.previous_wake; stamp = p.stamp; call = p.call } };
 }
 
 impl Progress {
@@ -34,7 +36,7 @@ impl Progress {
 
     /// At the first op, of which nothing is done, and counting from this time.
     pub(crate) fn new(start: u64) -> Progress
-        ensures { result ≡ record no_progress { previous_wake = start } }
+        ensures { result ≡ record no_progress { previous_wake = start; stamp = start } }
     {
         Progress {
             op_index: 0,
@@ -42,6 +44,7 @@ impl Progress {
             loops: Loops::new(),
             answer: None,
             previous_wake: start,
+            stamp: start,
             call: CallProgress::default(),
         }
     }
@@ -64,6 +67,7 @@ impl Progress {
         self.loops.set_from(&other.loops);
         self.answer = other.answer;
         self.previous_wake = other.previous_wake;
+        self.stamp = other.stamp;
         self.call = other.call;
     }
 
@@ -75,6 +79,7 @@ impl Progress {
             || self.used != other.used
             || self.answer != other.answer
             || self.previous_wake != other.previous_wake
+            || self.stamp != other.stamp
             || self.call != other.call
         {
             return false;

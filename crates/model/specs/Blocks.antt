@@ -6,6 +6,8 @@ use Rattle.model.specs.declared.block.Edge.{Edge}
 use Rattle.model.specs.declared.block.Edge.TheVariants.{OpensLoop, EndsLoop, OpensIf, OpensElse, EndsIf, Breaks, Inside}
 use Rattle.model.specs.declared.op.Op.{Op}
 use Rattle.model.specs.declared.op.Op.TheVariants.{Repeat, End, If, Else, EndIf, Break}
+use Rattle.model.specs.declared.op.IsrOp.{IsrOp}
+use Rattle.model.specs.declared.op.IsrOp.TheVariants as isr
 
 -- of loops that are open at once
 abbrev pub most_loops : ℕ
@@ -26,6 +28,17 @@ edge_of Else = OpensElse
 edge_of EndIf = EndsIf
 edge_of Break = Breaks
 edge_of _ = Inside
+
+-- the same of an op of a handler, which has no loops
+abbrev pub edge_of_isr : IsrOp → Edge
+edge_of_isr (isr.If condition) = OpensIf
+edge_of_isr isr.Else = OpensElse
+edge_of_isr isr.EndIf = EndsIf
+edge_of_isr _ = Inside
+
+-- what the ops of a handler are to its blocks
+abbrev pub isr_edges_of : List IsrOp → List Edge
+isr_edges_of ops = map edge_of_isr ops
 
 -- what the ops of a script are to its blocks
 abbrev pub edges_of : List Op → List Edge

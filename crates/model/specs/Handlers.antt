@@ -1,7 +1,10 @@
 -- Interrupt handlers: they do their ops without waiting, before a step or at a tick.
-use Rattle.std.specs.Prelude.{ℕ, ◌+◌, ◌-◌, min, List, [], ◌∷◌, ◌++◌, Option, Some, None, nat_lt, if◌then◌else◌, map, filter, fold, filter_map, option_map}
+use Rattle.std.specs.Prelude.{ℕ, zero, suc, ◌+◌, ◌-◌, Bool, false, not, min, List, [], ◌∷◌, ◌++◌, Option, Some, None, nat_lt, if◌then◌else◌, map, filter, fold, filter_map, option_map}
 use Rattle.model.specs.declared.op.IsrOp.{IsrOp}
-use Rattle.model.specs.declared.op.IsrOp.TheVariants.{Do, Command, Resume, GetBits, Mark}
+use Rattle.model.specs.declared.op.IsrOp.TheVariants.{Do, Command, Resume, GetBits, Mark, Expect, If, Else, EndIf}
+use Rattle.model.specs.declared.event.End.TheVariants.{HandlerCheck}
+use Rattle.model.specs.Answers.{holds}
+use Rattle.model.specs.Blocks.{isr_edges_of, past_branch}
 use Rattle.model.specs.declared.op.Access.TheVariants.{Send}
 use Rattle.model.specs.declared.event.What.{What}
 use Rattle.model.specs.declared.event.What.TheVariants.{Isr, IsrNone, IsrMark}
@@ -9,7 +12,7 @@ use Rattle.model.specs.Application.{Application, Interrupt, Limits, ops_of, comm
 use Rattle.model.specs.State.{State, Task, wake_time_of, status_at, bits_at, for_each}
 use Rattle.model.specs.Switching.{write, preempt, slice, unless_held}
 use Rattle.model.specs.Time.{increment_tick, jump}
-use Rattle.model.specs.Ops.{one_if}
+use Rattle.model.specs.Ops.{fail, one_if}
 use Rattle.model.specs.Objects.{answer_to, attempt}
 use Rattle.model.specs.Suspension.{can_resume, resume}
 use Rattle.model.specs.Daemon.{item_of}
@@ -30,15 +33,40 @@ isr app handler op_index (Resume task) s =
     write (isr_told handler op_index (one_if (can_resume (status_at s task)))) (resume task s)
 isr app handler op_index (GetBits group) s = write (isr_told handler op_index (Some (bits_at s group))) s
 isr app handler op_index (Mark n) s = write (IsrMark handler n) s
+isr app handler op_index _ s = s
 
--- ops of a handler, one after another; the first is the one of this index
-abbrev pub isr_each : Application → ℕ → ℕ → List IsrOp → State → State
-isr_each app handler op_index [] s = s
-isr_each app handler op_index (op ∷ ops) s = isr_each app handler (op_index + 1) ops (isr app handler op_index op s)
+-- the last answer in a handler behind this op, where it is this before it; `mark` and the ops of blocks leave it (profile)
+abbrev pub isr_answer : Application → State → IsrOp → Option ℕ → Option ℕ
+isr_answer app s (Do object access) answer = answer_to s object access
+isr_answer app s (Command c) answer = answer_to s (commands_of app) (Send (item_of c))
+isr_answer app s (Resume task) answer = one_if (can_resume (status_at s task))
+isr_answer app s (GetBits group) answer = Some (bits_at s group)
+isr_answer app s _ answer = answer
 
--- The handler runs.
+-- It is an `expect` that fails where this is the last answer.
+abbrev pub is_failed : IsrOp → Option ℕ → Bool
+is_failed (Expect condition) answer = not (holds condition answer)
+is_failed _ answer = false
+
+-- over how many of the ops behind it an op jumps, where this is the last answer
+abbrev pub isr_jump : IsrOp → Option ℕ → List IsrOp → ℕ
+isr_jump (If condition) answer ops = if holds condition answer then 0 else past_branch 0 (isr_edges_of ops)
+isr_jump Else answer ops = past_branch 0 (isr_edges_of ops)
+isr_jump _ answer ops = 0
+
+-- Ops of a handler come one after another, of which the first is the one of this index, but for so many that are jumped over; this
+-- is the last answer. A failed `expect` ends the handler, and the run behind this step (profile).
+abbrev pub isr_each : Application → (handler op_index over : ℕ) → Option ℕ → List IsrOp → State → State
+isr_each app handler op_index over answer [] s = s
+isr_each app handler op_index (suc over) answer (op ∷ ops) s = isr_each app handler (op_index + 1) over answer ops s
+isr_each app handler op_index zero answer (op ∷ ops) s =
+    if is_failed op answer
+    then fail (HandlerCheck handler op_index) s
+    else isr_each app handler (op_index + 1) (isr_jump op answer ops) (isr_answer app s op answer) ops (isr app handler op_index op s)
+
+-- The handler runs; at first its last answer is `none`.
 unfoldable pub handle : Application → ℕ → State → State
-handle app handler s = isr_each app handler 0 (ops_of app handler) s
+handle app handler s = isr_each app handler 0 0 None (ops_of app handler) s
 
 -- An injected handler runs, and a higher task may run after it (`portYIELD_FROM_ISR`).
 unfoldable pub inject : Application → ℕ → State → State

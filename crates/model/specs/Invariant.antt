@@ -77,6 +77,8 @@ pub record IsAt (now : ℕ) (script : List Op) (p : Progress) (status : Status) 
   pub loops : LoopsNest script p.loops
   pub used : IsUsedBy p.used (slice_get script p.op_index)
   pub reckoned : IsReckoned now p.previous_wake status
+  -- its stamp is not after now
+  pub stamped : p.stamp ≤ now
 
 -- ---- calls
 

@@ -1,9 +1,11 @@
 -- Where a task is in its script: an op is complete, a call answers, loops turn.
-use Rattle.std.specs.Prelude.{ℕ, ◌+◌, ◌-◌, ◌==◌, Bool, List, [], ◌∷◌, drop, Option, Some, None, nat_lt, nat_le, if◌then◌else◌}
+use Rattle.std.specs.Prelude.{ℕ, ◌+◌, ◌-◌, ◌==◌, Bool, List, [], ◌∷◌, drop, min, Option, Some, None, nat_lt, nat_le, if◌then◌else◌}
 use Rattle.model.specs.declared.answer.AnswerCondition.{AnswerCondition}
 use Rattle.model.specs.declared.loops.Loop.{Loop}
 use Rattle.model.specs.declared.event.What.{What}
 use Rattle.model.specs.declared.event.What.TheVariants.{Call, CallNone}
+use Rattle.std.specs.Option.{option_or}
+use Rattle.model.specs.declared.event.End.{End}
 use Rattle.model.specs.declared.event.End.TheVariants.{Check}
 use Rattle.model.specs.Answers.{holds}
 use Rattle.model.specs.Blocks.{jump_from}
@@ -68,13 +70,25 @@ delay_until app task wake_time s =
     then set_previous_wake task wake_time (sleep task wake_time (answer app task (Some 1) s))
     else set_previous_wake task wake_time (answer app task (Some 0) s)
 
+-- The task notes the time.
+unfoldable pub stamp : Application → ℕ → State → State
+stamp app task s = complete app task (record (progress_at s task) { stamp = s.time }) s
+
+-- It answers how many ticks have passed since then, in 32 bits at most.
+unfoldable pub since : Application → ℕ → State → State
+since app task s = answer app task (Some (min (s.time - (progress_at s task).stamp) 4294967295)) s
+
 -- ---- ops of the script alone (profile)
+
+-- A check fails, which ends the run behind the step, unless one has failed in the step already.
+abbrev pub fail : End → State → State
+fail check s = record s { stopped = option_or s.stopped (Some check) }
 
 -- The op is complete if the condition holds of the last answer; else the run ends, and the task stays where it is.
 unfoldable pub expect : Application → ℕ → AnswerCondition → State → State
 expect app task condition s =
     let p = progress_at s task in
-    if holds condition p.answer then complete app task p s else record s { stopped = Some (Check task p.op_index) }
+    if holds condition p.answer then complete app task p s else fail (Check task p.op_index) s
 
 -- A loop of so many turns, or without end, begins at the next op.
 unfoldable pub open_loop : Application → ℕ → Option ℕ → State → State

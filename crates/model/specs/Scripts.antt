@@ -13,7 +13,7 @@ use Rattle.model.specs.declared.plan.Injection.{Injection}
 use Rattle.model.specs.declared.plan.PointEntry.{PointEntry}
 use Rattle.model.specs.declared.plan.PointEntry.TheVariants.{One, Every}
 use Rattle.model.specs.Points.{IsPoint}
-use Rattle.model.specs.Blocks.{Nests, NestsSoFar, edges_of}
+use Rattle.model.specs.Blocks.{Nests, NestsSoFar, edges_of, isr_edges_of}
 use Rattle.model.specs.Application.{Application, Handler, Interrupt, Definition, interrupts_at, of_file, commands_of, script_of, is_endless}
 
 -- ---- how many there may be (profile)
@@ -215,7 +215,7 @@ knows_isr app (isr.Do object access) = fits_object app object access && may_inte
 knows_isr app (isr.Command c) = is_some app.daemon && (has_group app c.group && is_mask c.mask)
 knows_isr app (isr.Resume task) = has_task app task
 knows_isr app (isr.GetBits group) = has_group app group
-knows_isr app (isr.Mark n) = true
+knows_isr app _ = true
 
 -- ---- the application
 
@@ -229,6 +229,7 @@ IsObjectKind Mutex = Unit {0}
 pub record IsHandler (app : Application) (handler : Handler) : Type 0 where
   pub name : length handler.name ≤ most_name_bytes
   pub few : length handler.ops ≤ most_handler_ops
+  pub nests : Nests [] (isr_edges_of handler.ops)
   -- each op speaks of what there is
   pub known : AllByRecursion (λ op. knows_isr app op ≡ true) handler.ops
 

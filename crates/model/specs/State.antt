@@ -84,6 +84,8 @@ pub record Progress : Type 0 where
   pub answer : Option ℕ
   -- the time from which `delay_until` counts (`pxPreviousWakeTime`); at first the time at reset
   pub previous_wake : ℕ
+  -- the time of its last `stamp`; at first the time at reset
+  pub stamp : ℕ
   pub call : CallProgress
 
 -- what the kernel keeps of a task
@@ -144,7 +146,7 @@ no_call = record { phase = Start; deadline = None; waits = false; inherited = fa
 
 -- at the first op, of which nothing is done
 abbrev pub no_progress : Progress
-no_progress = record { op_index = 0; used = 0; loops = []; answer = None; previous_wake = 0; call = no_call }
+no_progress = record { op_index = 0; used = 0; loops = []; answer = None; previous_wake = 0; stamp = 0; call = no_call }
 
 -- what stands where there is no task
 abbrev pub no_task : Task

@@ -3,7 +3,7 @@ use Rattle.std.specs.Prelude.{ℕ, ◌+◌, ◌-◌, ◌&&◌, ◌==◌, Bool, t
 use Rattle.model.specs.declared.object.ObjectKind.{ObjectKind}
 use Rattle.model.specs.declared.object.ObjectKind.TheVariants.{Queue, Semaphore, Mutex}
 use Rattle.model.specs.declared.op.Op.{Op}
-use Rattle.model.specs.declared.op.Op.TheVariants.{Work, Delay, DelayUntil, Yield, Time, Mark, Expect, Repeat, End, If, Else, EndIf, Break, Await, Do, GiveMutex, MessagesWaiting, SpacesAvailable, SetBits, ClearBits, GetBits, WaitBits, Suspend, Resume, SuspendAll, ResumeAll, NextCommand, Obey}
+use Rattle.model.specs.declared.op.Op.TheVariants.{Work, Delay, DelayUntil, Yield, Time, Mark, Expect, Repeat, End, If, Else, EndIf, Break, Stamp, Since, Await, Do, GiveMutex, MessagesWaiting, SpacesAvailable, SetBits, ClearBits, GetBits, WaitBits, Suspend, Resume, SuspendAll, ResumeAll, NextCommand, Obey}
 use Rattle.model.specs.declared.event.What.TheVariants as what
 use Rattle.model.specs.declared.event.End.TheVariants as end
 use Rattle.model.specs.declared.event.Misuse.{Misuse}
@@ -11,7 +11,7 @@ use Rattle.model.specs.declared.event.Misuse.TheVariants.{WhileSuspended, NotSus
 use Rattle.model.specs.Application.{Application, Definition, Limits, op_at}
 use Rattle.model.specs.State.{State, Task, Object, Status, Ended, no_progress, no_object, status_at, progress_at, call_at, object_at, bits_at, for_each, printed}
 use Rattle.model.specs.Switching.{write, is_same, make_ready, choice, yield_now, settle, is_scheduler_suspended, unless_held}
-use Rattle.model.specs.Ops.{complete, answer, use_up, delay, delay_until, expect, open_loop, close_turn, branch, skip_branch, leave_loop}
+use Rattle.model.specs.Ops.{complete, answer, use_up, delay, delay_until, expect, open_loop, close_turn, branch, skip_branch, leave_loop, stamp, since}
 use Rattle.model.specs.Calls.{await, do_now}
 use Rattle.model.specs.Mutexes.{give_mutex}
 use Rattle.model.specs.Groups.{set_bits, clear, wait_bits}
@@ -34,6 +34,8 @@ act app task (If condition) s = branch app task condition s
 act app task Else s = skip_branch app task s
 act app task EndIf s = complete app task (progress_at s task) s
 act app task Break s = leave_loop app task s
+act app task Stamp s = stamp app task s
+act app task Since s = since app task s
 act app task (Await object access ticks) s = await app task object access ticks (call_at s task).phase s
 act app task (Do object access) s = do_now app task object access s
 act app task (GiveMutex object) s = give_mutex app task object s
@@ -130,7 +132,7 @@ abbrev pub task_at_reset : ℕ → Definition → Task
 task_at_reset start d = record {
   base_priority = d.priority;
   priority = d.priority;
-  progress = record no_progress { previous_wake = start };
+  progress = record no_progress { previous_wake = start; stamp = start };
   status = Ended;
 }
 

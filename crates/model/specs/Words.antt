@@ -5,7 +5,7 @@ use Rattle.std.specs.Str.{bytes_eq}
 use Rattle.model.specs.declared.op.Access.{Access}
 use Rattle.model.specs.declared.op.Access.TheVariants.{Send, SendFront, Overwrite, Receive, Peek, Take, Give, Lock}
 use Rattle.model.specs.declared.op.Op.{Op}
-use Rattle.model.specs.declared.op.Op.TheVariants.{Work, Delay, DelayUntil, Yield, Time, Mark, Expect, Repeat, End, If, Else, EndIf, Break, Await, Do, GiveMutex, MessagesWaiting, SpacesAvailable, SetBits, ClearBits, GetBits, WaitBits, Suspend, Resume, SuspendAll, ResumeAll, NextCommand, Obey}
+use Rattle.model.specs.declared.op.Op.TheVariants.{Work, Delay, DelayUntil, Yield, Time, Mark, Expect, Repeat, End, If, Else, EndIf, Break, Stamp, Since, Await, Do, GiveMutex, MessagesWaiting, SpacesAvailable, SetBits, ClearBits, GetBits, WaitBits, Suspend, Resume, SuspendAll, ResumeAll, NextCommand, Obey}
 use Rattle.model.specs.declared.op.Command.{Command}
 use Rattle.model.specs.declared.op.IsrOp.{IsrOp}
 use Rattle.model.specs.declared.op.IsrOp.TheVariants as isr
@@ -37,6 +37,8 @@ word_of (If condition) = codes "if"
 word_of Else = codes "else"
 word_of EndIf = codes "end"
 word_of Break = codes "break"
+word_of Stamp = codes "stamp"
+word_of Since = codes "since"
 word_of (Await object access ticks) = word_of_access access
 word_of (Do object access) = word_of_access access
 word_of (GiveMutex object) = codes "unlock"
@@ -64,6 +66,10 @@ word_of_isr (isr.Command c) = word_of_command c
 word_of_isr (isr.Resume task) = codes "resume"
 word_of_isr (isr.GetBits group) = codes "bits"
 word_of_isr (isr.Mark n) = codes "mark"
+word_of_isr (isr.Expect condition) = codes "expect"
+word_of_isr (isr.If condition) = codes "if"
+word_of_isr isr.Else = codes "else"
+word_of_isr isr.EndIf = codes "end"
 
 -- ---- names
 

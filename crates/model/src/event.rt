@@ -62,6 +62,8 @@ pub enum End {
     Pass,
     /// An `expect` failed: its task and the index of the op.
     Check(TaskId, u16),
+    /// An `expect` of a handler failed: the handler and the index of the op.
+    HandlerCheck(HandlerId, u16),
     /// A task's op is a misuse: the task, the index of the op, and which.
     Misuse(TaskId, u16, Misuse),
     /// The limit of elapsed ticks is reached.

@@ -152,6 +152,10 @@ pub enum Op {
     EndIf,
     /// Leaves the innermost loop (profile).
     Break,
+    /// Notes the time, from which `since` counts (profile).
+    Stamp,
+    /// Answers how many ticks have passed since the last `stamp`, at first since reset, at most 4,294,967,295 (profile).
+    Since,
     /// A call that waits until the object allows it, at most for so many ticks, 0 to 4,294,967,294; `None` is for ever
     /// (`portMAX_DELAY`). It is one of send, send_front, receive, peek, take and lock.
     Await(ObjectId, Access, Option<u32>),
@@ -224,6 +228,8 @@ impl Op {
             Op::If(_) => "if",
             Op::Else => "else",
             Op::Break => "break",
+            Op::Stamp => "stamp",
+            Op::Since => "since",
             Op::Await(_, access, _) | Op::Do(_, access) => access.word(),
             Op::GiveMutex(_) => "unlock",
             Op::MessagesWaiting(_) => "waiting",
@@ -255,11 +261,32 @@ pub enum IsrOp {
     GetBits(GroupId),
     /// Writes a mark line with this number, 0 to 4,294,967,295 (profile).
     Mark(u32),
+    /// Ends the handler, and the run behind the step, where this doesn't hold of the answer of the handler's op before (profile).
+    Expect(AnswerCondition),
+    /// Goes on where this holds of that answer, and else behind its `else`, or behind its `end` where it has none (profile).
+    If(AnswerCondition),
+    /// Goes on behind the `end` of its `if` (profile).
+    Else,
+    /// Ends an `if`, and does nothing (profile).
+    EndIf,
 }
 
 impl IsrOp {
     ghost use Rattle.std.specs.Prelude.{◌≡◌};
     ghost use Rattle.model.specs.Words.{word_of_isr};
+    ghost use Rattle.model.specs.Blocks.{edge_of_isr};
+
+    /// What it is to the blocks of its handler.
+    pub fn edge(&self) -> Edge
+        ensures { result ≡ edge_of_isr self.now }
+    {
+        match self {
+            IsrOp::If(_) => Edge::OpensIf,
+            IsrOp::Else => Edge::OpensElse,
+            IsrOp::EndIf => Edge::EndsIf,
+            _ => Edge::Inside,
+        }
+    }
 
     /// The first word of the op's text.
     pub fn word(&self) -> &'static str
@@ -271,6 +298,10 @@ impl IsrOp {
             IsrOp::Resume(_) => "resume",
             IsrOp::GetBits(_) => "bits",
             IsrOp::Mark(_) => "mark",
+            IsrOp::Expect(_) => "expect",
+            IsrOp::If(_) => "if",
+            IsrOp::Else => "else",
+            IsrOp::EndIf => "end",
         }
     }
 }

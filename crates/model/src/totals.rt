@@ -47,7 +47,7 @@ impl Totals {
         }
         match end {
             End::Pass => self.pass += 1,
-            End::Check(_, _) => self.check += 1,
+            End::Check(_, _) | End::HandlerCheck(_, _) => self.check += 1,
             End::Misuse(_, _, _) => self.misuse += 1,
             End::Ticks => self.ticks += 1,
             End::Steps => self.steps += 1,

@@ -1,5 +1,6 @@
 -- What the ops of a script alone, and those that let time pass, make of the states that the kernel stands for.
-use Rattle.std.proofs.Common.{◌≡◌, ◌≢◌, ◌<◌, ◌≤◌, ◌+◌, ◌-◌, ℕ, true, false, eqb, leb, ltb, List, [], ◌∷◌, length, Option, Some, None, refl, ap, sym, subst, ◌∙◌, arith}
+use Rattle.std.proofs.Common.{◌≡◌, ◌≢◌, ◌<◌, ◌≤◌, ◌+◌, ◌-◌, ℕ, true, false, eqb, leb, ltb, List, [], ◌∷◌, length, Option, Some, None, refl, ap, sym, subst, ◌∙◌, arith, min}
+use Rattle.std.specs.Option.{option_or}
 use Rattle.std.specs.Prelude.{Bool, drop, option_map, if◌then◌else◌}
 use Rattle.std.proofs.lemmas.Bool.{lt-ltb, le-ltb, eq-eqb, ne_eqb}
 use Rattle.model.specs.declared.call.Phase.TheVariants.{Place}
@@ -14,14 +15,14 @@ use Rattle.model.specs.State.{State, Progress, progress_at}
 use Rattle.model.specs.State as state
 use Rattle.model.specs.Switching.{yield_now, is_ready}
 use Rattle.model.specs.Time.{sleep, set_previous_wake}
-use Rattle.model.specs.Ops.{go_to, complete, answer, use_up, delay, delay_until, expect, open_loop, turn, close_turn, branch, skip_branch, leave_loop}
+use Rattle.model.specs.Ops.{go_to, complete, answer, use_up, delay, delay_until, expect, open_loop, turn, close_turn, branch, skip_branch, leave_loop, stamp, since}
 use Rattle.model.proofs.Sorting.{by_test}
 use Rattle.soundness.proofs.Frames.{keeps-answer, keeps-sleep}
 use Rattle.model.specs.Ops as step
 use Rattle.machine.specs.Loops.{after_turn, is_last, next_turn}
 use Rattle.machine.specs.declared.machine.Machine.{Machine}
 use Rattle.machine.specs.StandsFor.{progress_in, At, with_progress}
-use Rattle.machine.proofs.Acting.{within, changed, Goes, Completes, at_mid, goes, completes, stopped_at}
+use Rattle.machine.proofs.Acting.{within, changed, Goes, Completes, at_mid, goes, completes, failed_at}
 
 module _ (app : Application) (k new : Machine) (log : List Event) (s : State) (h : At k log s) (i : ℕ) (r : k.sched.current ≡ Some i) (v : Progress) (e : v ≡ progress_in k.progress i) where
   same : v ≡ progress_at s i
@@ -49,11 +50,11 @@ module _ (app : Application) (k new : Machine) (log : List Event) (s : State) (h
   unfolding expect
   expect_held condition t g = rw (held condition true t) (g log s h)
 
-  pub expect_failed : (condition : AnswerCondition) → false ≡ holds condition v.answer → At (record k { stopped = Some (ending.Check i v.op_index) }) log (expect app i condition s)
+  pub expect_failed : (condition : AnswerCondition) → false ≡ holds condition v.answer → At (record k { stopped = option_or k.stopped (Some (ending.Check i v.op_index)) }) log (expect app i condition s)
   unfolding expect
   expect_failed condition t =
       let u : holds condition (progress_at s i).answer ≡ false = held condition false t in
-      rw u (stopped_at k log s h (ending.Check i v.op_index) (ending.Check i (progress_at s i).op_index) (ap (λ (p : Progress). ending.Check i p.op_index) same))
+      rw u (failed_at k log s h (ending.Check i v.op_index) (ending.Check i (progress_at s i).op_index) (ap (λ (p : Progress). ending.Check i p.op_index) same))
 
   pub branch_taken : (condition : AnswerCondition) → true ≡ holds condition v.answer → Completes app k i new → At new log (branch app i condition s)
   unfolding branch
@@ -76,6 +77,13 @@ module _ (app : Application) (k new : Machine) (log : List Event) (s : State) (h
   loop_left mid next at is g =
       let left : Progress → Progress = λ (p : Progress). record p { loops = drop 1 p.loops } in
       rw (← jump_same next at) (goes app k mid new log s h i r (left v) (left (progress_at s i)) is (ap left same) placed refl next g)
+
+  -- The task notes the time.
+  pub stamped_at : (mid : Machine) (now : ℕ) → now ≡ k.clock.now → mid ≡ with_progress i (record v { stamp = now }) k → Completes app mid i new → At new log (stamp app i s)
+  unfolding stamp
+  stamped_at mid now told is g =
+      completes app k mid new log s h i r (record v { stamp = now }) (record (progress_at s i) { stamp = s.time }) is
+      (ap (λ (n : ℕ). record v { stamp = n }) (told ∙ h.stands.rest.clock.now) ∙ ap (λ (p : Progress). record p { stamp = s.time }) same) placed refl g
 
   pub loop_opened : (mid : Machine) (n : Option ℕ) → mid ≡ with_progress i (record v { loops = record { start = v.op_index + 1; left = n } ∷ v.loops }) k → Completes app mid i new → At new log (open_loop app i n s)
   unfolding open_loop
@@ -130,6 +138,13 @@ module _ (app : Application) (k new : Machine) (log : List Event) (s : State) (h
         let m : next_turn (progress_at s i).loops ≡ Some start = ap (λ (p : Progress). next_turn p.loops) (sym same) ∙ n in
         rw (one_left (progress_at s i) (progress_at s i).loops start refl m)
         (goes app k mid new log s h i r (record v { loops = after_turn v.loops }) (record (progress_at s i) { loops = after_turn (progress_at s i).loops }) is mid_is placed refl start g)
+
+-- `since` answers what the clock and the stamp of the kernel say
+pub since_at : (app : Application) (new : Machine) (told : List Event) (s : State) (i now stamp : ℕ) → now ≡ s.time → stamp ≡ (progress_at s i).stamp
+    → At new told (answer app i (Some (min (now - stamp) 4294967295)) s) → At new told (since app i s)
+unfolding since
+since_at app new told s i now stamp is_now is_stamp a =
+    subst (λ (n : ℕ). At new told (answer app i (Some n) s)) (ap (λ (n : ℕ). min (n - stamp) 4294967295) is_now ∙ ap (λ (n : ℕ). min (s.time - n) 4294967295) is_stamp) a
 
 -- an answer takes no time
 pub time-answer : (app : Application) (i : ℕ) (a : Option ℕ) (s : State) → (answer app i a s).time ≡ s.time

@@ -64,6 +64,7 @@ pub record Can (app : Application) (k : Machine) (task : ℕ) (op : Op) : Type 0
   pub nesting : HasLoopRoom op (length (progress_in k.progress task).loops)
   pub object : HasObject k op
   pub previous_wake : (progress_in k.progress task).previous_wake ≤ k.clock.now
+  pub stamp : (progress_in k.progress task).stamp ≤ k.clock.now
   pub time : k.clock.now + 2 ^ 32 < 2 ^ 63
 
 -- ---- a call that waits
@@ -134,6 +135,7 @@ pub record CanHold (app : Application) (k : Machine) (task : ℕ) (op : Op) : Ty
   pub objects : HasObjects app k
   pub used : IsUsedBy (progress_in k.progress task).used (Some op)
   pub nesting : HasLoopRoom op (length (progress_in k.progress task).loops)
+  pub stamp : (progress_in k.progress task).stamp ≤ k.clock.now
 
 -- What another priority of a task leaves as it is: all but priorities, and who is before whom in the ready lists.
 pub record Reranks (old new : Machine) : Type 0 where

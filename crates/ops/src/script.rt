@@ -33,7 +33,8 @@ pub fn expect(machine: &mut Machine, app: &App, task: TaskId, condition: AnswerC
     if condition.holds(progress.answer) {
         machine.complete(app, task);
     } else {
-        machine.stopped = Some(End::Check(task, progress.op_index));
+        let failed = End::Check(task, progress.op_index);
+        machine.stopped = machine.stopped.or(Some(failed));
     }
 }
 

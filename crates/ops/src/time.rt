@@ -2,7 +2,7 @@
 ghost use Rattle.std.specs.Prelude.{◌≡◌, ◌<◌, ◌≤◌, ◌+◌, Some};
 ghost use Rattle.model.specs.declared.op.Op.TheVariants as op;
 ghost use Rattle.model.specs.Time.{sleep, set_previous_wake};
-ghost use Rattle.model.specs.Ops.{use_up};
+ghost use Rattle.model.specs.Ops.{use_up, stamp, since};
 ghost use Rattle.model.specs.Step.{act};
 ghost use Rattle.model.specs.Invariant.{IsUsedBy};
 ghost use Rattle.machine.specs.StandsFor.{Does, Moves, progress_in};
@@ -101,4 +101,25 @@ pub fn time<L: Log>(machine: &mut Machine, app: &App, task: TaskId, log: &mut L)
 {
     let tick = machine.clock.tick();
     machine.answer(app, task, tick, log);
+}
+
+/// `stamp`: the task notes the time.
+pub fn stamp(machine: &mut Machine, app: &App, task: TaskId)
+    requires runs { Runs machine.old task }
+    ensures { Moves machine.old machine.new (stamp app.now task) }
+{
+    let now = machine.clock.now();
+    machine.set_stamp(task, now);
+    machine.complete(app, task);
+}
+
+/// `since`: how many ticks have passed since the task's last `stamp` is the answer, or 4294967295 where there are more.
+pub fn since<L: Log>(machine: &mut Machine, app: &App, task: TaskId, log: &mut L)
+    requires room { 1 ≤ (L.logged log.old).room }
+    requires runs { Runs machine.old task }
+    requires stamped { (progress_in machine.old.progress task).stamp ≤ machine.old.clock.now }
+    ensures { Does 1 machine.old (L.logged log.old) machine.new (L.logged log.new) (since app.now task) }
+{
+    let passed = machine.clock.now() - machine.progress(task).stamp;
+    machine.answer(app, task, passed.min(u32::MAX as u64) as u32, log);
 }

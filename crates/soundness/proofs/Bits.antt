@@ -128,14 +128,14 @@ module _ (app : Application) (formed : IsWellFormed app) (hold : Hold) where
       let a = h.progress i in
       let c = h.calls i in
       changed app formed hold s i (record (task_at s i) { progress = record (progress_at s i) { call = record (call_at s i) { kept = Some bits } } }) h (ticket_at s.next_ticket i s.tasks h.table.tickets)
-      (record { nests = a.nests; loops = a.loops; used = a.used; reckoned = a.reckoned }, record { phase = c.phase; wait = c.wait; awake = c.awake; near = c.near }, h.priorities i)
+      (record { nests = a.nests; loops = a.loops; used = a.used; reckoned = a.reckoned; stamped = a.stamped }, record { phase = c.phase; wait = c.wait; awake = c.awake; near = c.near }, h.priorities i)
 
   wanted : (s : State) (i : ℕ) (w : Condition) → IsSound app hold s → IsSound app hold (want i w s)
   wanted s i w h =
       let a = h.progress i in
       let c = h.calls i in
       changed app formed hold s i (record (task_at s i) { progress = record (progress_at s i) { call = record (call_at s i) { wants = Some w } } }) h (ticket_at s.next_ticket i s.tasks h.table.tickets)
-      (record { nests = a.nests; loops = a.loops; used = a.used; reckoned = a.reckoned }, record { phase = c.phase; wait = c.wait; awake = c.awake; near = c.near }, h.priorities i)
+      (record { nests = a.nests; loops = a.loops; used = a.used; reckoned = a.reckoned; stamped = a.stamped }, record { phase = c.phase; wait = c.wait; awake = c.awake; near = c.near }, h.priorities i)
 
   still_can_all : (s : State) (i bits : ℕ) (js : List ℕ) → CanBeReady s i → AllByRecursion (CanBeReady s) js → AllByRecursion (CanBeReady (wake_with_bits i bits s)) js
   still_can_all s i bits [] c a = tt

@@ -133,7 +133,7 @@ module _ (app : Application) (formed : IsWellFormed app) (hold : Hold) where
       let reckoned : IsReckoned s.time (progress_at s i).previous_wake (Waiting w.wait) = subst R w.is a.reckoned in
       let waits : IfSome (wait_of (Waiting w.wait)) (λ x. IsWaitOf (op_at app i (progress_at s i).op_index) (call_at s i).deadline x) = subst W w.is c.wait in
       changed app formed hold s i (record (task_at s i) { status = u }) h (subst B (sym same) below) (
-        record { nests = a.nests; loops = a.loops; used = a.used; reckoned = subst R (sym same) reckoned },
+        record { nests = a.nests; loops = a.loops; used = a.used; reckoned = subst R (sym same) reckoned; stamped = a.stamped },
         record { phase = c.phase; wait = subst W (sym same) waits; awake = subst A (sym same) there; near = c.near },
         ((h.priorities i).0, (h.priorities i).1, subst P (sym same) (subst P w.is (h.priorities i).2)),
       )
@@ -215,7 +215,7 @@ module _ (app : Application) (formed : IsWellFormed app) (hold : Hold) where
       let a = h.progress i in
       let c = h.calls i in
       changed app formed hold s i (record (task_at s i) { progress = record (progress_at s i) { call = record (call_at s i) { phase = phase } } }) h (ticket_at s.next_ticket i s.tasks h.table.tickets)
-      (record { nests = a.nests; loops = a.loops; used = a.used; reckoned = a.reckoned }, record { phase = p; wait = c.wait; awake = c.awake; near = c.near }, h.priorities i)
+      (record { nests = a.nests; loops = a.loops; used = a.used; reckoned = a.reckoned; stamped = a.stamped }, record { phase = p; wait = c.wait; awake = c.awake; near = c.near }, h.priorities i)
 
   -- a call that begins gets its deadline
   pub dated : (s : State) (i : ℕ) (ticks : Option ℕ) → IsSound app hold s → wait_of (status_at s i) ≡ None → is_wait ticks ≡ true → IsSound app hold (set_deadline i ticks s)
@@ -226,7 +226,7 @@ module _ (app : Application) (formed : IsWellFormed app) (hold : Hold) where
       let deadline : Option ℕ = option_map (λ n. s.time + n) ticks in
       let W : Option Wait → Type 0 = λ o. IfSome o (λ w. IsWaitOf (op_at app i (progress_at s i).op_index) deadline w) in
       changed app formed hold s i (record (task_at s i) { progress = record (progress_at s i) { call = record (call_at s i) { deadline = deadline } } }) h (ticket_at s.next_ticket i s.tasks h.table.tickets)
-      (record { nests = a.nests; loops = a.loops; used = a.used; reckoned = a.reckoned }, record { phase = c.phase; wait = subst W (sym free) tt; awake = c.awake; near = near_now ticks s.time range }, h.priorities i)
+      (record { nests = a.nests; loops = a.loops; used = a.used; reckoned = a.reckoned; stamped = a.stamped }, record { phase = c.phase; wait = subst W (sym free) tt; awake = c.awake; near = near_now ticks s.time range }, h.priorities i)
 
   -- the call is done, or not, and answers
   pub replied : (s t : State) (i : ℕ) (op : Op) (reply : Option ℕ) → IsSound app hold t → task_at t i ≡ task_at s i → is_ready s i ≡ true → op_at app i (progress_at s i).op_index ≡ Some op → ((nesting : ℕ) → nesting_past nesting op ≡ nesting) → IsSound app hold (answer app i reply t)
@@ -255,10 +255,10 @@ module _ (app : Application) (formed : IsWellFormed app) (hold : Hold) where
       let past : (progress_at s i).previous_wake ≤ s.time = ready_reckoned s.time (progress_at s i).previous_wake (status_at s i) a0.reckoned r in
       let L : Option Op → Type 0 = λ op. list_of_op op ≡ Some list in
       let h1 : IsSound app hold s1 = changed app formed hold s i t h (ticket_at s.next_ticket i s.tasks h.table.tickets)
-      (record { nests = a0.nests; loops = a0.loops; used = a0.used; reckoned = a0.reckoned }, record { phase = c0.phase; wait = c0.wait; awake = c0.awake; near = c0.near }, h.priorities i) in
+      (record { nests = a0.nests; loops = a0.loops; used = a0.used; reckoned = a0.reckoned; stamped = a0.stamped }, record { phase = c0.phase; wait = c0.wait; awake = c0.awake; near = c0.near }, h.priorities i) in
       let K : Task → Type 0 = λ u. IsKept app formed hold s.time i (record u { status = f s.next_ticket }) in
       taken app formed hold s1 i f h1 (omega arith) (subst K (sym at) (
-        record { nests = a0.nests; loops = a0.loops; used = a0.used; reckoned = past },
+        record { nests = a0.nests; loops = a0.loops; used = a0.used; reckoned = past; stamped = a0.stamped },
         record { phase = c0.phase; wait = record { list = subst L (sym is) listed; deadline = refl }; awake = tt; near = c0.near },
         ((h.priorities i).0, (h.priorities i).1, (h.priorities i).1),
       ))

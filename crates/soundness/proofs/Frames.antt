@@ -1,5 +1,5 @@
 -- What a deed leaves as it was, as one record for each deed: a field more of the state is a field more here.
-use Rattle.std.proofs.Common.{max, ◌≡◌, ◌+◌, ◌-◌, ◌||◌, ℕ, Bool, true, eqb, leb, ltb, List, [], ◌∷◌, Option, Some, None, refl, sym, subst, ◌∙◌, length, drop}
+use Rattle.std.proofs.Common.{max, ◌≡◌, ◌+◌, ◌-◌, ◌||◌, ℕ, Bool, true, eqb, leb, ltb, List, [], ◌∷◌, Option, Some, None, refl, sym, subst, ◌∙◌, length, drop, zero, suc, min}
 use Rattle.std.specs.Option.{option_map}
 use Rattle.std.proofs.Math.ListN.{length-set}
 use Rattle.model.specs.declared.op.Access.{Access}
@@ -14,6 +14,8 @@ use Rattle.model.specs.declared.event.What.TheVariants as what
 use Rattle.model.specs.declared.op.IsrOp.{IsrOp}
 use Rattle.model.specs.declared.op.IsrOp.TheVariants as isr_op
 use Rattle.model.specs.declared.answer.AnswerCondition.{AnswerCondition}
+use Rattle.model.specs.declared.event.End.{End}
+use Rattle.model.specs.declared.event.End.TheVariants.{HandlerCheck}
 use Rattle.model.specs.Answers.{holds}
 use Rattle.model.specs.Blocks.{jump_from}
 use Rattle.model.specs.Application.{Application, commands_of, op_count, ops_of, interrupts_at, script_of}
@@ -24,43 +26,42 @@ use Rattle.model.specs.Time.{wake_due, due, sleep, set_previous_wake}
 use Rattle.model.specs.Waiting.{waiters, awake_status, is_locked, wake_one, wake_best, set_deadline, is_expired}
 use Rattle.model.specs.Objects.{possible, answer_to, object_after, list_woken, fulfil, attempt}
 use Rattle.model.specs.Calls.{try, do_now}
-use Rattle.model.specs.Ops.{one_if, go_to, moved_to, called, answer, use_up, delay, delay_until, open_loop, next_turn, turn, close_turn, branch, skip_branch, leave_loop}
+use Rattle.model.specs.Ops.{one_if, go_to, moved_to, called, answer, use_up, delay, delay_until, open_loop, next_turn, turn, close_turn, branch, skip_branch, leave_loop, stamp, since, fail}
 use Rattle.model.specs.declared.call.Condition.{Condition}
 use Rattle.model.specs.Groups.{is_met, bits_without, bits_left, keep_answer, met_by, wake_with_bits, bits_set, bits_after_set, set, clear, answer_bits}
 use Rattle.model.specs.Suspension.{can_suspend, can_resume, suspend, resumed, resume, call_suspend, call_resume}
 use Rattle.model.specs.Daemon.{item_of, received, take_command, obeyed, clear_by_daemon}
 use Rattle.model.specs.Mutexes.{set_priority, mutexes_held, lend, inherits, inherit_from, inherit, best_priority, fall_back, after_timeout, disinherit, give_mutex}
 use Rattle.model.specs.Invariant.{hold_of, suspension_of}
-use Rattle.model.specs.Handlers.{isr_told, isr, isr_each, handle, inject, interrupt}
+use Rattle.model.specs.Handlers.{isr_told, isr, isr_answer, isr_jump, is_failed, isr_each, handle, inject, interrupt}
 use Rattle.model.specs.Step.{before_step}
 use Rattle.model.proofs.Sorting.{by_test}
 use Rattle.soundness.proofs.Settled.{when_held, when_free}
 
--- No time passes, no step is done, the run is not stopped, there are as many tasks, the same is held and locked, and as many
+-- No time passes, no step is done, there are as many tasks, the same is held and locked, and as many
 -- `suspend_all` are in force.
 pub record Keeps (old new : State) : Type 0 where
   pub time : new.time ≡ old.time
   pub elapsed : new.elapsed ≡ old.elapsed
   pub steps : new.steps ≡ old.steps
-  pub stopped : new.stopped ≡ old.stopped
   pub tasks : length new.tasks ≡ length old.tasks
   pub hold : hold_of new ≡ hold_of old
   pub suspension : suspension_of new ≡ suspension_of old
 
 pub keeps : (s : State) → Keeps s s
-keeps s = record { time = refl; elapsed = refl; steps = refl; stopped = refl; tasks = refl; hold = refl; suspension = refl }
+keeps s = record { time = refl; elapsed = refl; steps = refl; tasks = refl; hold = refl; suspension = refl }
 
 -- one deed, and then another
 pub keeps_both : (a b c : State) → Keeps a b → Keeps b c → Keeps a c
-keeps_both a b c h k = record { time = k.time ∙ h.time; elapsed = k.elapsed ∙ h.elapsed; steps = k.steps ∙ h.steps; stopped = k.stopped ∙ h.stopped; tasks = k.tasks ∙ h.tasks; hold = k.hold ∙ h.hold; suspension = k.suspension ∙ h.suspension }
+keeps_both a b c h k = record { time = k.time ∙ h.time; elapsed = k.elapsed ∙ h.elapsed; steps = k.steps ∙ h.steps; tasks = k.tasks ∙ h.tasks; hold = k.hold ∙ h.hold; suspension = k.suspension ∙ h.suspension }
 
 -- ---- who runs
 
 pub keeps-with_task : (i : ℕ) (t : Task) (s : State) → Keeps s (with_task i t s)
-keeps-with_task i t s = record { time = refl; elapsed = refl; steps = refl; stopped = refl; tasks = length-set s.tasks i t; hold = refl; suspension = refl }
+keeps-with_task i t s = record { time = refl; elapsed = refl; steps = refl; tasks = length-set s.tasks i t; hold = refl; suspension = refl }
 
 pub keeps-take_ticket : (i : ℕ) (f : ℕ → Status) (s : State) → Keeps s (take_ticket i f s)
-keeps-take_ticket i f s = record { time = refl; elapsed = refl; steps = refl; stopped = refl; tasks = length-set s.tasks i (record (task_at s i) { status = f s.next_ticket }); hold = refl; suspension = refl }
+keeps-take_ticket i f s = record { time = refl; elapsed = refl; steps = refl; tasks = length-set s.tasks i (record (task_at s i) { status = f s.next_ticket }); hold = refl; suspension = refl }
 
 pub keeps-to_back : (i : ℕ) (s : State) → Keeps s (to_back i s)
 unfolding to_back
@@ -72,7 +73,7 @@ keeps-one_back (Some i) s = keeps-to_back i s
 
 pub keeps-choose : (s : State) → Keeps s (choose s)
 unfolding choose dispatch
-keeps-choose s = by_test (is_same (choice s) s.current) (λ t. rw t (keeps s)) (λ t. rw t (record { time = refl; elapsed = refl; steps = refl; stopped = refl; tasks = refl; hold = refl; suspension = refl }))
+keeps-choose s = by_test (is_same (choice s) s.current) (λ t. rw t (keeps s)) (λ t. rw t (record { time = refl; elapsed = refl; steps = refl; tasks = refl; hold = refl; suspension = refl }))
 
 pub keeps-yield_now : (s : State) → Keeps s (yield_now s)
 unfolding yield_now
@@ -119,7 +120,7 @@ unfolding answer
 keeps-answer app i a s =
     let p : Progress = record (progress_at s i) { answer = a } in
     let k = keeps-go_to app i (p.op_index + 1) p (write (called i p.op_index a) s) in
-    record { time = k.time; elapsed = k.elapsed; steps = k.steps; stopped = k.stopped; tasks = k.tasks; hold = k.hold; suspension = k.suspension }
+    record { time = k.time; elapsed = k.elapsed; steps = k.steps; tasks = k.tasks; hold = k.hold; suspension = k.suspension }
 
 pub keeps-use_up : (app : Application) (i n : ℕ) (s : State) → Keeps s (use_up app i n s)
 unfolding use_up
@@ -187,6 +188,14 @@ pub keeps-skip_branch : (app : Application) (i : ℕ) (s : State) → Keeps s (s
 unfolding skip_branch
 keeps-skip_branch app i s = keeps-go_to app i (jump_from (script_of app i) (progress_at s i).op_index) (progress_at s i) s
 
+pub keeps-stamp : (app : Application) (i : ℕ) (s : State) → Keeps s (stamp app i s)
+unfolding stamp
+keeps-stamp app i s = let p : Progress = progress_at s i in keeps-go_to app i (p.op_index + 1) (record p { stamp = s.time }) s
+
+pub keeps-since : (app : Application) (i : ℕ) (s : State) → Keeps s (since app i s)
+unfolding since
+keeps-since app i s = keeps-answer app i (Some (min (s.time - (progress_at s i).stamp) 4294967295)) s
+
 pub keeps-leave_loop : (app : Application) (i : ℕ) (s : State) → Keeps s (leave_loop app i s)
 unfolding leave_loop
 keeps-leave_loop app i s =
@@ -213,7 +222,7 @@ unfolding fulfil
 keeps-fulfil caller o a s =
     let t : State = with_object o (object_after caller a (object_at s o)) s in
     let k : Keeps t (for_one wake_best (list_woken caller o a) t) = keeps-for_one wake_best (list_woken caller o a) t (λ list. keeps-wake_best list t) in
-    record { time = k.time; elapsed = k.elapsed; steps = k.steps; stopped = k.stopped; tasks = k.tasks; hold = k.hold; suspension = k.suspension }
+    record { time = k.time; elapsed = k.elapsed; steps = k.steps; tasks = k.tasks; hold = k.hold; suspension = k.suspension }
 
 pub keeps-attempt : (caller : Option ℕ) (o : ℕ) (a : Access) (s : State) → Keeps s (attempt caller o a s)
 unfolding attempt
@@ -268,7 +277,7 @@ keeps-disinherit i s = by_test (eqb (mutexes_held s i) 0)
     (λ t. rw t (keeps s))
 
 pub keeps-with_object : (o : ℕ) (x : Object) (s : State) → Keeps s (with_object o x s)
-keeps-with_object o x s = record { time = refl; elapsed = refl; steps = refl; stopped = refl; tasks = refl; hold = refl; suspension = refl }
+keeps-with_object o x s = record { time = refl; elapsed = refl; steps = refl; tasks = refl; hold = refl; suspension = refl }
 
 pub keeps-give_mutex : (app : Application) (i o : ℕ) (s : State) → Keeps s (give_mutex app i o s)
 unfolding give_mutex
@@ -304,7 +313,7 @@ keeps-do_now app i o a s =
 -- ---- event groups, and tasks suspended and resumed
 
 pub keeps-with_bits : (group bits : ℕ) (s : State) → Keeps s (with_bits group bits s)
-keeps-with_bits group bits s = record { time = refl; elapsed = refl; steps = refl; stopped = refl; tasks = refl; hold = refl; suspension = refl }
+keeps-with_bits group bits s = record { time = refl; elapsed = refl; steps = refl; tasks = refl; hold = refl; suspension = refl }
 
 keeps-wake_with_bits : (bits i : ℕ) (s : State) → Keeps s (wake_with_bits i bits s)
 keeps-wake_with_bits bits i s =
@@ -381,7 +390,7 @@ pub keeps-obeyed : (app : Application) (i : ℕ) (clear : Bool) (bits : ℕ) (s 
 unfolding obeyed
 keeps-obeyed app i clear bits s =
     let k = keeps-go_to app i 0 (record (progress_at s i) { answer = Some bits }) (write (what.Obeyed i clear bits) s) in
-    record { time = k.time; elapsed = k.elapsed; steps = k.steps; stopped = k.stopped; tasks = k.tasks; hold = k.hold; suspension = k.suspension }
+    record { time = k.time; elapsed = k.elapsed; steps = k.steps; tasks = k.tasks; hold = k.hold; suspension = k.suspension }
 
 pub keeps-clear_by_daemon : (app : Application) (i group mask : ℕ) (s : State) → Keeps s (clear_by_daemon app i group mask s)
 unfolding clear_by_daemon
@@ -393,7 +402,7 @@ keeps-clear_by_daemon app i group mask s =
 -- ---- handlers
 
 pub keeps-write : (w : What) (s : State) → Keeps s (write w s)
-keeps-write w s = record { time = refl; elapsed = refl; steps = refl; stopped = refl; tasks = refl; hold = refl; suspension = refl }
+keeps-write w s = record { time = refl; elapsed = refl; steps = refl; tasks = refl; hold = refl; suspension = refl }
 
 pub keeps-isr : (app : Application) (handler op_index : ℕ) (op : IsrOp) (s : State) → Keeps s (isr app handler op_index op s)
 keeps-isr app handler op_index (isr_op.Do o a) s =
@@ -411,16 +420,28 @@ keeps-isr app handler op_index (isr_op.Resume task) s =
     keeps_both s t (write w t) (keeps-resume task s) (keeps-write w t)
 keeps-isr app handler op_index (isr_op.GetBits group) s = keeps-write (isr_told handler op_index (Some (bits_at s group))) s
 keeps-isr app handler op_index (isr_op.Mark n) s = keeps-write (what.IsrMark handler n) s
+keeps-isr app handler op_index (isr_op.Expect condition) s = keeps s
+keeps-isr app handler op_index (isr_op.If condition) s = keeps s
+keeps-isr app handler op_index isr_op.Else s = keeps s
+keeps-isr app handler op_index isr_op.EndIf s = keeps s
 
-keeps-isr_each : (app : Application) (handler op_index : ℕ) (ops : List IsrOp) (s : State) → Keeps s (isr_each app handler op_index ops s)
-keeps-isr_each app handler op_index [] s = keeps s
-keeps-isr_each app handler op_index (op ∷ ops) s =
+pub keeps-fail : (check : End) (s : State) → Keeps s (fail check s)
+keeps-fail check s = record { time = refl; elapsed = refl; steps = refl; tasks = refl; hold = refl; suspension = refl }
+
+keeps-isr_each : (app : Application) (handler op_index over : ℕ) (answer : Option ℕ) (ops : List IsrOp) (s : State) → Keeps s (isr_each app handler op_index over answer ops s)
+keeps-isr_each app handler op_index over answer [] s = keeps s
+keeps-isr_each app handler op_index (suc over) answer (op ∷ ops) s = keeps-isr_each app handler (op_index + 1) over answer ops s
+keeps-isr_each app handler op_index zero answer (op ∷ ops) s =
     let t : State = isr app handler op_index op s in
-    keeps_both s t (isr_each app handler (op_index + 1) ops t) (keeps-isr app handler op_index op s) (keeps-isr_each app handler (op_index + 1) ops t)
+    let next : Option ℕ = isr_answer app s op answer in
+    let over : ℕ = isr_jump op answer ops in
+    by_test (is_failed op answer)
+    (λ f. rw f (keeps-fail (HandlerCheck handler op_index) s))
+    (λ f. rw f (keeps_both s t (isr_each app handler (op_index + 1) over next ops t) (keeps-isr app handler op_index op s) (keeps-isr_each app handler (op_index + 1) over next ops t)))
 
 pub keeps-handle : (app : Application) (handler : ℕ) (s : State) → Keeps s (handle app handler s)
 unfolding handle
-keeps-handle app handler s = keeps-isr_each app handler 0 (ops_of app handler) s
+keeps-handle app handler s = keeps-isr_each app handler 0 0 None (ops_of app handler) s
 
 pub keeps-inject : (app : Application) (handler : ℕ) (s : State) → Keeps s (inject app handler s)
 unfolding inject
@@ -437,4 +458,4 @@ pub keeps-before_step : (app : Application) (handlers : List ℕ) (s : State) �
 unfolding before_step
 keeps-before_step app handlers s =
     let k : Keeps (record s { log = [] }) (for_each (inject app) handlers (record s { log = [] })) = keeps-each (inject app) (keeps-inject app) handlers (record s { log = [] }) in
-    record { time = k.time; elapsed = k.elapsed; steps = k.steps; stopped = k.stopped; tasks = k.tasks; hold = k.hold; suspension = k.suspension }
+    record { time = k.time; elapsed = k.elapsed; steps = k.steps; tasks = k.tasks; hold = k.hold; suspension = k.suspension }

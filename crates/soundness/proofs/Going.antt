@@ -4,7 +4,7 @@ use Rattle.std.specs.List.{AllByRecursion, filter}
 use Rattle.std.specs.Option.{is_some, option_eq}
 use Rattle.std.proofs.lemmas.Option.{slice_get_past}
 use Rattle.model.specs.declared.op.Op.{Op}
-use Rattle.model.specs.declared.op.Op.TheVariants.{Work, Delay, DelayUntil, Yield, Time, Mark, Expect, Repeat, End, If, Else, EndIf, Break, Await, Do, GiveMutex, MessagesWaiting, SpacesAvailable, SetBits, ClearBits, GetBits, WaitBits, Suspend, Resume, SuspendAll, ResumeAll, NextCommand, Obey}
+use Rattle.model.specs.declared.op.Op.TheVariants.{Work, Delay, DelayUntil, Yield, Time, Mark, Expect, Repeat, End, If, Else, EndIf, Break, Stamp, Since, Await, Do, GiveMutex, MessagesWaiting, SpacesAvailable, SetBits, ClearBits, GetBits, WaitBits, Suspend, Resume, SuspendAll, ResumeAll, NextCommand, Obey}
 use Rattle.model.specs.declared.loops.Loop.{Loop}
 use Rattle.model.specs.declared.event.What.TheVariants as what
 use Rattle.model.specs.declared.answer.AnswerCondition.{AnswerCondition}
@@ -15,7 +15,7 @@ use Rattle.model.specs.State.{State, Task, Progress, Status, Ready, Awake, Waiti
 use Rattle.model.specs.Order.{Entry, tasks_of}
 use Rattle.model.specs.Switching.{make_ready, is_ready, slice, preempt, is_scheduler_suspended, is_held, unless_held, write}
 use Rattle.model.specs.Time.{wake_due, due, is_due, delayed_list, advance, increment_tick, apply_one, apply_held}
-use Rattle.model.specs.Ops.{go_to, moved_to, answer, use_up, expect, open_loop, next_turn, turn, close_turn, branch, skip_branch, leave_loop}
+use Rattle.model.specs.Ops.{go_to, moved_to, answer, use_up, expect, open_loop, next_turn, turn, close_turn, branch, skip_branch, leave_loop, stamp, since}
 use Rattle.model.specs.Groups.{bits_without, clear}
 use Rattle.model.specs.Suspension.{suspend_all, resume_scheduler, resume_all}
 use Rattle.model.specs.Handlers.{handle, interrupt, tick_interrupt}
@@ -149,6 +149,14 @@ module _ (app : Application) (i : ℕ) where
   unfolding leave_loop
   left_on s l r = gone_to (jump_from (script_of app i) (progress_at s i).op_index) (record (progress_at s i) { loops = drop 1 (progress_at s i).loops }) s l r
 
+  stamped_on : (s : State) → i < length s.tasks → is_ready s i ≡ true → Continues app i s (stamp app i s)
+  unfolding stamp
+  stamped_on s l r = gone_to ((progress_at s i).op_index + 1) (record (progress_at s i) { stamp = s.time }) s l r
+
+  since_on : (s : State) → i < length s.tasks → is_ready s i ≡ true → Continues app i s (since app i s)
+  unfolding since
+  since_on s l r = answering_on _ s l r
+
   cleared_on : (group mask : ℕ) (s : State) → i < length s.tasks → is_ready s i ≡ true → Continues app i s (clear app i group mask s)
   unfolding clear
   cleared_on group mask s l r = let k = answering_on (Some (bits_at s group)) (with_bits group (bits_without (bits_at s group) mask) s) l r in record { current = k.current; goes = k.goes }
@@ -172,6 +180,8 @@ module _ (app : Application) (i : ℕ) where
   acted_on Else s q ne on used l r = skipped_on s l r
   acted_on EndIf s q ne on used l r = gone_to ((progress_at s i).op_index + 1) (progress_at s i) s l r
   acted_on Break s q ne on used l r = left_on s l r
+  acted_on Stamp s q ne on used l r = stamped_on s l r
+  acted_on Since s q ne on used l r = since_on s l r
   acted_on (Await o a ticks) s q ne on used l r = absurd (cc)
   acted_on (Do o a) s q ne on used l r = absurd (cc)
   acted_on (GiveMutex o) s q ne on used l r = absurd (cc)

@@ -1,11 +1,11 @@
 -- What a handler keeps of a state, and what it spares.
-use Rattle.std.proofs.Common.{◌⊎◌, ◌≡◌, ◌<◌, ◌+◌, ◌&&◌, ◌||◌, ℕ, Bool, true, false, ltb, ap₂, inl, inr, get_or, set, List, [], ◌∷◌, Option, Some, None, refl, ap, sym, subst, ◌∙◌}
+use Rattle.std.proofs.Common.{◌⊎◌, ◌≡◌, ◌<◌, ◌+◌, ◌&&◌, ◌||◌, ℕ, Bool, true, false, ltb, ap₂, inl, inr, get_or, set, List, [], ◌∷◌, Option, Some, None, refl, ap, sym, subst, ◌∙◌, suc, zero}
 use Rattle.std.specs.List.{AllByRecursion, slice_get}
 use Rattle.std.specs.Option.{IfSome, is_some, option_map, unwrap_or}
 use Rattle.model.specs.declared.object.ObjectKind.{ObjectKind}
 use Rattle.model.specs.declared.object.ObjectKind.TheVariants.{Queue, Semaphore, Mutex}
 use Rattle.model.specs.declared.op.Op.{Op}
-use Rattle.model.specs.declared.op.Op.TheVariants.{Work, Delay, DelayUntil, Yield, Time, Mark, Expect, Repeat, End, If, Else, EndIf, Break, Await, Do, GiveMutex, MessagesWaiting, SpacesAvailable, SetBits, ClearBits, GetBits, WaitBits, Suspend, Resume, SuspendAll, ResumeAll, NextCommand, Obey}
+use Rattle.model.specs.declared.op.Op.TheVariants.{Work, Delay, DelayUntil, Yield, Time, Mark, Expect, Repeat, End, If, Else, EndIf, Break, Stamp, Since, Await, Do, GiveMutex, MessagesWaiting, SpacesAvailable, SetBits, ClearBits, GetBits, WaitBits, Suspend, Resume, SuspendAll, ResumeAll, NextCommand, Obey}
 use Rattle.model.specs.declared.op.IsrOp.{IsrOp}
 use Rattle.model.specs.declared.op.IsrOp.TheVariants as isr_op
 use Rattle.model.specs.declared.op.Access.{Access}
@@ -21,13 +21,15 @@ use Rattle.model.specs.Scripts.{IsDaemon, IsWellFormed, fits, fits_object, has_g
 use Rattle.model.specs.Daemon.{item_of}
 use Rattle.model.specs.State.{State, Task, Progress, Object, Status, Wait, Ready, Awake, Waiting, Asleep, WaitingForBits, Suspended, Ended, ticket_if_ready, wake_time_of, task_at, status_at, progress_at, call_at, object_at, bits_at, with_object, with_progress, for_one, for_each, no_task}
 use Rattle.model.specs.Order.{Entry, first, task_of}
-use Rattle.model.specs.Ops.{one_if}
+use Rattle.model.specs.Ops.{one_if, fail}
 use Rattle.model.specs.Suspension.{can_resume, phase_resumed, resumed, resume}
 use Rattle.model.specs.Switching.{make_ready, is_ready, is_scheduler_suspended, is_held, slice, unless_held, write}
 use Rattle.model.specs.Waiting.{waiters, awake_status, is_locked, wake_one, wake_best}
 use Rattle.model.specs.Time.{advance, increment_tick, jump}
 use Rattle.model.specs.Objects.{possible, answer_to, object_after, list_woken, list_for, fulfil, attempt}
-use Rattle.model.specs.Handlers.{isr_told, isr, isr_each, handle, interrupt, tick_interrupt, idle, ticks_ahead}
+use Rattle.model.specs.declared.event.End.{End as RunEnd}
+use Rattle.model.specs.declared.event.End.TheVariants.{HandlerCheck}
+use Rattle.model.specs.Handlers.{isr_told, isr, isr_answer, isr_jump, is_failed, isr_each, handle, interrupt, tick_interrupt, idle, ticks_ahead}
 use Rattle.model.specs.Invariant.{Hold, hold_of, course, list_of_op, IsPhaseOf, IsWaitOf, IsSound, Suspension, holds, IsPlacing, IsStranded, RunsIn, IsState, wait_of}
 use Rattle.model.proofs.Sorting.{by_test}
 use Rattle.model.proofs.Lists.{HasKey, list_has}
@@ -35,7 +37,7 @@ use Rattle.model.proofs.Tables.{each-set}
 use Rattle.model.proofs.Unlocking.{is_locked-own}
 use Rattle.soundness.proofs.Settled.{when_held, when_free}
 use Rattle.soundness.proofs.InScripts.{isr_known}
-use Rattle.soundness.proofs.Frames.{Keeps, keeps, keeps_both, keeps-with_task, keeps-take_ticket, keeps-with_object, keeps-wake_one, keeps-isr, keeps-handle, keeps-write}
+use Rattle.soundness.proofs.Frames.{Keeps, keeps, keeps_both, keeps-with_task, keeps-take_ticket, keeps-with_object, keeps-wake_one, keeps-fail, keeps-isr, keeps-handle, keeps-write}
 use Rattle.soundness.proofs.Passing.{either_way, hold-increment, hold-jump}
 use Rattle.soundness.proofs.Suspending.{suspended_free, each_resumed, resumed_task}
 use Rattle.soundness.proofs.Sound.{logged, sliced, woken, later, held_up}
@@ -81,16 +83,23 @@ module _ (app : Application) (formed : IsWellFormed app) (hold : Hold) where
   isr_done s handler op_index (isr_op.Resume task) known h same = let t : State = resume task s in logged app formed hold t _ t.steps t.stopped (resumed_task app formed hold s task h)
   isr_done s handler op_index (isr_op.GetBits group) known h same = logged app formed hold s _ s.steps s.stopped h
   isr_done s handler op_index (isr_op.Mark n) known h same = logged app formed hold s _ s.steps s.stopped h
+  isr_done s handler op_index (isr_op.Expect condition) known h same = h
+  isr_done s handler op_index (isr_op.If condition) known h same = h
+  isr_done s handler op_index isr_op.Else known h same = h
+  isr_done s handler op_index isr_op.EndIf known h same = h
 
-  each_done : (ops : List IsrOp) (s : State) (handler op_index : ℕ) → AllByRecursion (λ (op : IsrOp). knows_isr app op ≡ true) ops → IsSound app hold s → s.locked ≡ hold.locked → IsSound app hold (isr_each app handler op_index ops s)
-  each_done [] s handler op_index known h same = h
-  each_done (op ∷ ops) s handler op_index known h same =
+  each_done : (ops : List IsrOp) (s : State) (handler op_index over : ℕ) (answer : Option ℕ) → AllByRecursion (λ (op : IsrOp). knows_isr app op ≡ true) ops → IsSound app hold s → s.locked ≡ hold.locked → IsSound app hold (isr_each app handler op_index over answer ops s)
+  each_done [] s handler op_index over answer known h same = h
+  each_done (op ∷ ops) s handler op_index (suc over) answer known h same = each_done ops s handler (op_index + 1) over answer known.1 h same
+  each_done (op ∷ ops) s handler op_index zero answer known h same =
       let t : State = isr app handler op_index op s in
-      each_done ops t handler (op_index + 1) known.1 (isr_done s handler op_index op known.0 h same) (ap (λ (x : Hold). x.locked) (keeps-isr app handler op_index op s).hold ∙ same)
+      by_test (is_failed op answer)
+      (λ f. rw f (logged app formed hold s s.log s.steps _ h))
+      (λ f. rw f (each_done ops t handler (op_index + 1) (isr_jump op answer ops) (isr_answer app s op answer) known.1 (isr_done s handler op_index op known.0 h same) (ap (λ (x : Hold). x.locked) (keeps-isr app handler op_index op s).hold ∙ same)))
 
   pub handled : (s : State) (handler : ℕ) → IsSound app hold s → s.locked ≡ hold.locked → IsSound app hold (handle app handler s)
   unfolding handle
-  handled s handler h same = each_done (ops_of app handler) s handler 0 (isr_known app formed handler) h same
+  handled s handler h same = each_done (ops_of app handler) s handler 0 0 None (isr_known app formed handler) h same
 
   all_handled : (handlers : List ℕ) (s : State) → IsSound app hold s → s.locked ≡ hold.locked → IsSound app hold (for_each (handle app) handlers s)
   all_handled [] s h same = h
@@ -365,16 +374,30 @@ spares-isr app handler op_index (isr_op.Resume j) s =
     spares_both s t (write w t) (spares-resume j s) (spares-write w t)
 spares-isr app handler op_index (isr_op.GetBits group) s = spares-write (isr_told handler op_index (Some (bits_at s group))) s
 spares-isr app handler op_index (isr_op.Mark n) s = spares-write (what.IsrMark handler n) s
+spares-isr app handler op_index (isr_op.Expect condition) s = spares s
+spares-isr app handler op_index (isr_op.If condition) s = spares s
+spares-isr app handler op_index isr_op.Else s = spares s
+spares-isr app handler op_index isr_op.EndIf s = spares s
 
-spares-isr_each : (app : Application) (handler op_index : ℕ) (ops : List IsrOp) (s : State) → Spares s (isr_each app handler op_index ops s)
-spares-isr_each app handler op_index [] s = spares s
-spares-isr_each app handler op_index (op ∷ ops) s =
+spares-fail : (check : RunEnd) (s : State) → Spares s (fail check s)
+spares-fail check s =
+    let k = spares s in
+    record { kept = keeps-fail check s; current = k.current; op_index = k.op_index; holding = k.holding; place = k.place; unsuspended = k.unsuspended; at = k.at; ready = k.ready; waits = k.waits; sleeps = k.sleeps }
+
+spares-isr_each : (app : Application) (handler op_index over : ℕ) (answer : Option ℕ) (ops : List IsrOp) (s : State) → Spares s (isr_each app handler op_index over answer ops s)
+spares-isr_each app handler op_index over answer [] s = spares s
+spares-isr_each app handler op_index (suc over) answer (op ∷ ops) s = spares-isr_each app handler (op_index + 1) over answer ops s
+spares-isr_each app handler op_index zero answer (op ∷ ops) s =
     let t : State = isr app handler op_index op s in
-    spares_both s t (isr_each app handler (op_index + 1) ops t) (spares-isr app handler op_index op s) (spares-isr_each app handler (op_index + 1) ops t)
+    let next : Option ℕ = isr_answer app s op answer in
+    let over : ℕ = isr_jump op answer ops in
+    by_test (is_failed op answer)
+    (λ f. rw f (spares-fail (HandlerCheck handler op_index) s))
+    (λ f. rw f (spares_both s t (isr_each app handler (op_index + 1) over next ops t) (spares-isr app handler op_index op s) (spares-isr_each app handler (op_index + 1) over next ops t)))
 
 pub spares-handle : (app : Application) (handler : ℕ) (s : State) → Spares s (handle app handler s)
 unfolding handle
-spares-handle app handler s = spares-isr_each app handler 0 (ops_of app handler) s
+spares-handle app handler s = spares-isr_each app handler 0 0 None (ops_of app handler) s
 
 -- ---- so every state stays one of a run
 
@@ -398,6 +421,8 @@ place_locked hold (Some (If c)) list p e = absurd p
 place_locked hold (Some Else) list p e = absurd p
 place_locked hold (Some EndIf) list p e = absurd p
 place_locked hold (Some Break) list p e = absurd p
+place_locked hold (Some Stamp) list p e = absurd p
+place_locked hold (Some Since) list p e = absurd p
 place_locked hold (Some (Do o a)) list p e = absurd p
 place_locked hold (Some (GiveMutex o)) list p e = absurd p
 place_locked hold (Some (MessagesWaiting o)) list p e = absurd p

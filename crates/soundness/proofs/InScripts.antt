@@ -4,7 +4,7 @@ use Rattle.std.specs.List.{AllByRecursion, slice_get}
 use Rattle.std.specs.Option.{IfSome, option_map, unwrap_or}
 use Rattle.std.proofs.lemmas.Bool.{ltb-true, ltb-false}
 use Rattle.model.specs.declared.op.Op.{Op}
-use Rattle.model.specs.declared.op.Op.TheVariants.{Work, Delay, DelayUntil, Yield, Time, Mark, Expect, Repeat, End, If, Else, EndIf, Break, Await, Do, GiveMutex, MessagesWaiting, SpacesAvailable, SetBits, ClearBits, GetBits, WaitBits, Suspend, Resume, SuspendAll, ResumeAll, NextCommand, Obey}
+use Rattle.model.specs.declared.op.Op.TheVariants.{Work, Delay, DelayUntil, Yield, Time, Mark, Expect, Repeat, End, If, Else, EndIf, Break, Stamp, Since, Await, Do, GiveMutex, MessagesWaiting, SpacesAvailable, SetBits, ClearBits, GetBits, WaitBits, Suspend, Resume, SuspendAll, ResumeAll, NextCommand, Obey}
 use Rattle.model.specs.declared.op.Access.TheVariants.{Receive}
 use Rattle.model.specs.declared.op.IsrOp.{IsrOp}
 use Rattle.model.specs.Application.{Application, Handler, Definition, of_file, commands_of, script_of, op_at, ops_of}
@@ -126,6 +126,8 @@ used_none zero ((If c) ∷ ops) h = tt
 used_none zero (Else ∷ ops) h = tt
 used_none zero (EndIf ∷ ops) h = tt
 used_none zero (Break ∷ ops) h = tt
+used_none zero (Stamp ∷ ops) h = tt
+used_none zero (Since ∷ ops) h = tt
 used_none zero ((Await o a w) ∷ ops) h = tt
 used_none zero ((Do o a) ∷ ops) h = tt
 used_none zero ((GiveMutex o) ∷ ops) h = tt
@@ -179,6 +181,8 @@ known_if app i p (If c) e = e
 known_if app i p Else e = e
 known_if app i p EndIf e = e
 known_if app i p Break e = e
+known_if app i p Stamp e = e
+known_if app i p Since e = e
 known_if app i p (Await o a w) e = e
 known_if app i p (Do o a) e = e
 known_if app i p (GiveMutex o) e = e

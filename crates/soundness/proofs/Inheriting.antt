@@ -156,7 +156,7 @@ module _ (app : Application) (formed : IsWellFormed app) (hold : Hold) where
       by_test (eqb (task_at s i).priority priority)
       (λ t. rw t h)
       (λ t. rw t (went_back app formed hold (with_task i u s) (Some i) (changed app formed hold s i u h (ticket_at s.next_ticket i s.tasks h.table.tickets) (
-        record { nests = a.nests; loops = a.loops; used = a.used; reckoned = a.reckoned },
+        record { nests = a.nests; loops = a.loops; used = a.used; reckoned = a.reckoned; stamped = a.stamped },
         record { phase = c.phase; wait = c.wait; awake = c.awake; near = c.near },
         (least, most, (h.priorities i).2),
       )) (rw length-set l)))
@@ -172,7 +172,7 @@ module _ (app : Application) (formed : IsWellFormed app) (hold : Hold) where
       let a = h.progress i in
       let c = h.calls i in
       lent (with_task i u s) (task_at s i).priority holder (changed app formed hold s i u h (ticket_at s.next_ticket i s.tasks h.table.tickets) (
-        record { nests = a.nests; loops = a.loops; used = a.used; reckoned = a.reckoned },
+        record { nests = a.nests; loops = a.loops; used = a.used; reckoned = a.reckoned; stamped = a.stamped },
         record { phase = c.phase; wait = c.wait; awake = c.awake; near = c.near },
         h.priorities i,
       )) (rw length-set l) (h.priorities i).1

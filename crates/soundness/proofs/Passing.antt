@@ -3,7 +3,7 @@ use Rattle.std.proofs.Common.{ap₂, Bool, ap, ◌≡◌, ◌≢◌, ◌≤◌, 
 use Rattle.std.specs.Prelude.{if◌then◌else◌}
 use Rattle.std.specs.Option.{option_eq}
 use Rattle.model.specs.declared.op.Op.{Op}
-use Rattle.model.specs.declared.op.Op.TheVariants.{Work, Delay, DelayUntil, Yield, Time, Mark, Expect, Repeat, End, If, Else, EndIf, Break, Await, Do, GiveMutex, MessagesWaiting, SpacesAvailable, SetBits, ClearBits, GetBits, WaitBits, Suspend, Resume, SuspendAll, ResumeAll, NextCommand, Obey}
+use Rattle.model.specs.declared.op.Op.TheVariants.{Work, Delay, DelayUntil, Yield, Time, Mark, Expect, Repeat, End, If, Else, EndIf, Break, Stamp, Since, Await, Do, GiveMutex, MessagesWaiting, SpacesAvailable, SetBits, ClearBits, GetBits, WaitBits, Suspend, Resume, SuspendAll, ResumeAll, NextCommand, Obey}
 use Rattle.model.specs.declared.op.Access.{Access}
 use Rattle.model.specs.declared.op.Access.TheVariants.{Receive}
 use Rattle.model.specs.declared.op.Command.{Command}
@@ -32,7 +32,7 @@ use Rattle.model.specs.Handlers.{interrupt, tick_interrupt, idle, ticks_ahead, t
 use Rattle.model.specs.Step.{is_ended, judge, act, act_unless, own_misuse, misuse, act_if, act_current, before_step, step, reset, nobody_ready, ready_at_reset, with_ops}
 use Rattle.model.specs.Invariant.{Hold, hold_of, InOne, course, Suspension, suspension_of}
 use Rattle.model.proofs.Sorting.{by_test}
-use Rattle.soundness.proofs.Frames.{Keeps, keeps, keeps_both, keeps-choose, keeps-yield_now, keeps-preempt, keeps-slice, keeps-settle, keeps-unless_held, keeps-all_ready, keeps-wake_due, keeps-go_to, keeps-answer, keeps-use_up, keeps-delay, keeps-delay_until, keeps-open_loop, keeps-close_turn, keeps-branch, keeps-skip_branch, keeps-leave_loop, keeps-set_deadline, keeps-inherit, keeps-give_mutex, keeps-try, keeps-do_now, keeps-set, keeps-clear, keeps-answer_bits, keeps-call_suspend, keeps-call_resume, keeps-take_command, keeps-obeyed, keeps-clear_by_daemon, keeps-interrupt, keeps-before_step}
+use Rattle.soundness.proofs.Frames.{Keeps, keeps, keeps_both, keeps-choose, keeps-yield_now, keeps-preempt, keeps-slice, keeps-settle, keeps-unless_held, keeps-all_ready, keeps-wake_due, keeps-go_to, keeps-answer, keeps-use_up, keeps-delay, keeps-delay_until, keeps-open_loop, keeps-close_turn, keeps-branch, keeps-skip_branch, keeps-leave_loop, keeps-stamp, keeps-since, keeps-set_deadline, keeps-inherit, keeps-give_mutex, keeps-try, keeps-do_now, keeps-set, keeps-clear, keeps-answer_bits, keeps-call_suspend, keeps-call_resume, keeps-take_command, keeps-obeyed, keeps-clear_by_daemon, keeps-interrupt, keeps-before_step}
 
 -- ---- a call in its phases lets no time pass
 
@@ -390,6 +390,8 @@ by_op P w s r f (If c) = f (If c) refl
 by_op P w s r f Else = f Else refl
 by_op P w s r f EndIf = f EndIf refl
 by_op P w s r f Break = f Break refl
+by_op P w s r f Stamp = f Stamp refl
+by_op P w s r f Since = f Since refl
 by_op P w s r f (Await o a ticks) = f (Await o a ticks) refl
 by_op P w s r f (Do o a) = f (Do o a) refl
 by_op P w s r f (GiveMutex o) = f (GiveMutex o) refl
@@ -421,6 +423,8 @@ ends-act app i (If c) s t w = ends s _ (keeps-branch app i c s)
 ends-act app i Else s t w = ends s _ (keeps-skip_branch app i s)
 ends-act app i EndIf s t w = ends s _ (keeps-go_to app i ((progress_at s i).op_index + 1) (progress_at s i) s)
 ends-act app i Break s t w = ends s _ (keeps-leave_loop app i s)
+ends-act app i Stamp s t w = ends s _ (keeps-stamp app i s)
+ends-act app i Since s t w = ends s _ (keeps-since app i s)
 ends-act app i (Await o a ticks) s t w = absurd (cc)
 ends-act app i (Do o a) s t w = ends s _ (keeps-do_now app i o a s)
 ends-act app i (GiveMutex o) s t w = ends s _ (keeps-give_mutex app i o s)
@@ -451,6 +455,8 @@ lasts-act app i (If c) s t = (ends-act app i (If c) s refl refl).lasts
 lasts-act app i Else s t = (ends-act app i Else s refl refl).lasts
 lasts-act app i EndIf s t = (ends-act app i EndIf s refl refl).lasts
 lasts-act app i Break s t = (ends-act app i Break s refl refl).lasts
+lasts-act app i Stamp s t = (ends-act app i Stamp s refl refl).lasts
+lasts-act app i Since s t = (ends-act app i Since s refl refl).lasts
 lasts-act app i (Await o a ticks) s t = lasts-await app i o a ticks (call_at s i).phase s
 lasts-act app i (Do o a) s t = (ends-act app i (Do o a) s refl refl).lasts
 lasts-act app i (GiveMutex o) s t = (ends-act app i (GiveMutex o) s refl refl).lasts

@@ -214,7 +214,7 @@ module _ (app : Application) (formed : IsWellFormed app) where
         let A : Option Wait → Type 0 = λ w. IfSome w (λ x. is_locked None x.list ≡ true) in
         let none : (j : ℕ) → wait_if_awake (status_at s j) ≡ None = λ j. none_awake s.locked (wait_if_awake (status_at s j)) leaves (h.sound.calls j).awake in
         rehung app formed (hold_of s) free s1 i t h1 l (ticket_at s.next_ticket i s.tasks h.sound.table.tickets) (
-          record { nests = a.nests; loops = a.loops; used = a.used; reckoned = a.reckoned },
+          record { nests = a.nests; loops = a.loops; used = a.used; reckoned = a.reckoned; stamped = a.stamped },
           record { phase = fits; wait = c.wait; awake = subst A (sym (none i)) tt; near = c.near },
           h.sound.priorities i,
         )
@@ -288,7 +288,7 @@ module _ (app : Application) (formed : IsWellFormed app) where
             let A : Option Wait → Type 0 = λ w. IfSome w (λ x. is_locked None x.list ≡ true) in
             let l1 : i < length opened.tasks = rw kept_opened.tasks l in
             rehung app formed (hold_of s) still opened i left_task opened_sound l1 (ticket_at opened.next_ticket i opened.tasks opened_sound.table.tickets) (
-              record { nests = a.nests; loops = a.loops; used = a.used; reckoned = a.reckoned },
+              record { nests = a.nests; loops = a.loops; used = a.used; reckoned = a.reckoned; stamped = a.stamped },
               record { phase = subst O (sym (at_opened i)) (subst (λ way. IsPhaseOf still way Leave) (sym on) (held, refl)); wait = c.wait; awake = subst A (sym (none_opened i)) tt; near = c.near },
               opened_sound.priorities i,
             )

@@ -10,7 +10,7 @@ use Rattle.model.specs.declared.object.ObjectKind.TheVariants.{Queue, Semaphore,
 use Rattle.model.specs.declared.op.Op.{Op}
 use Rattle.model.specs.declared.event.Misuse.{Misuse}
 use Rattle.model.specs.declared.event.Misuse.TheVariants.{WhileSuspended, NotSuspended, EndedSuspended}
-use Rattle.model.specs.declared.op.Op.TheVariants.{Work, Delay, DelayUntil, Yield, Time, Mark, Expect, Repeat, End, If, Else, EndIf, Break, Await, Do, GiveMutex, MessagesWaiting, SpacesAvailable, SetBits, ClearBits, GetBits, WaitBits, Suspend, Resume, SuspendAll, ResumeAll, NextCommand, Obey}
+use Rattle.model.specs.declared.op.Op.TheVariants.{Work, Delay, DelayUntil, Yield, Time, Mark, Expect, Repeat, End, If, Else, EndIf, Break, Stamp, Since, Await, Do, GiveMutex, MessagesWaiting, SpacesAvailable, SetBits, ClearBits, GetBits, WaitBits, Suspend, Resume, SuspendAll, ResumeAll, NextCommand, Obey}
 use Rattle.model.specs.declared.op.Access.{Access}
 use Rattle.model.specs.declared.op.Access.TheVariants.{Receive}
 use Rattle.model.specs.declared.op.Command.{Command}
@@ -45,7 +45,7 @@ use Rattle.soundness.proofs.Settled.{IsSettled, settled-settle, settled-preempt,
 use Rattle.soundness.proofs.InScripts.{script_formed, used_none, range_at, known_at}
 use Rattle.soundness.proofs.Frames.{keeps-settle, keeps-choose, keeps-answer, keeps-answer_bits, keeps-try, keeps-set_deadline, keeps-all_ready, keeps-use_up, keeps-preempt, keeps-take_command, keeps-obeyed, keeps-clear_by_daemon}
 use Rattle.soundness.proofs.Passing.{is_instant, lasts-act, lasts-leave_call, lasts-end_set, lasts-end_command, lasts-final_bits, hold-idle, suspension-idle, hold-act, suspension-tick, suspensions-tick, suspends-all, resumes-all, suspensions-step, held-step, suspension-reset}
-use Rattle.soundness.proofs.Sound.{CanBeReady, all_made_ready, runs, logged, settled, preempted, yielded, answered, used_up, expected, opened, closed, branched, skipped, loop_left, plain, delayed, delayed_until, call_none}
+use Rattle.soundness.proofs.Sound.{CanBeReady, all_made_ready, runs, logged, settled, preempted, yielded, answered, used_up, expected, opened, closed, branched, skipped, loop_left, stamped, since_stamped, plain, delayed, delayed_until, call_none}
 use Rattle.soundness.proofs.Handled.{and_left, and_right, ticked, idled, handled_between}
 use Rattle.soundness.proofs.Trying.{tried, gave}
 use Rattle.soundness.proofs.Called.{done_now, dated, dated_at, phase_free, course_of_one}
@@ -166,6 +166,8 @@ module _ (app : Application) (formed : IsWellFormed app) where
   acted s i Else h u l r is w = skipped app formed free s i Else h (ready_free (status_at s i) r) is refl
   acted s i EndIf h u l r is w = plain app formed free s i h (ready_free (status_at s i) r) EndIf is (progress_at s i).answer refl
   acted s i Break h u l r is w = loop_left app formed free s i Break h (ready_free (status_at s i) r) is refl
+  acted s i Stamp h u l r is w = stamped app formed free s i Stamp h (ready_free (status_at s i) r) is refl
+  acted s i Since h u l r is w = since_stamped app formed free s i Since h (ready_free (status_at s i) r) is refl
   acted s i (Await o a ticks) h u l r is w = absurd (cc)
   acted s i (Do o a) h u l r is w = done_now app formed free s i o a h u l r is (and_left (fits_object app o a) _ (known_at app formed i (progress_at s i).op_index (Do o a) is))
   acted s i (GiveMutex o) h u l r is w = gave app formed free s i o h u l r is
@@ -408,6 +410,8 @@ module _ (app : Application) (formed : IsWellFormed app) where
       calm_done Else is e = instant (start_only Else refl is) off Else is refl refl
       calm_done EndIf is e = instant (start_only EndIf refl is) off EndIf is refl refl
       calm_done Break is e = instant (start_only Break refl is) off Break is refl refl
+      calm_done Stamp is e = instant (start_only Stamp refl is) off Stamp is refl refl
+      calm_done Since is e = instant (start_only Since refl is) off Since is refl refl
       calm_done (Await o a ticks) is e = next o a ticks is (call_at s i).phase refl
       calm_done (Do o a) is e = instant (start_only (Do o a) refl is) off (Do o a) is refl refl
       calm_done (GiveMutex o) is e = instant (start_only (GiveMutex o) refl is) off (GiveMutex o) is refl refl
@@ -480,6 +484,8 @@ module _ (app : Application) (formed : IsWellFormed app) where
       suspended_done Else is q = continued Else is refl refl refl (λ e. absurd (cc))
       suspended_done EndIf is q = continued EndIf is refl refl refl (λ e. absurd (cc))
       suspended_done Break is q = continued Break is refl refl refl (λ e. absurd (cc))
+      suspended_done Stamp is q = continued Stamp is refl refl refl (λ e. absurd (cc))
+      suspended_done Since is q = continued Since is refl refl refl (λ e. absurd (cc))
       suspended_done (Await o a ticks) is q = absurd (cc)
       suspended_done (Do o a) is q = absurd (cc)
       suspended_done (GiveMutex o) is q = absurd (cc)
@@ -556,8 +562,8 @@ module _ (app : Application) (formed : IsWellFormed app) where
 -- ---- reset
 
 progress-reset : (start i : ℕ) (ds : List Definition) → AllByRecursion IsDefinition ds → IsAt start (unwrap_or (option_map (λ (d : Definition). d.script) (slice_get ds i)) []) (get_or (map (task_at_reset start) ds) i no_task).progress (get_or (map (task_at_reset start) ds) i no_task).status
-progress-reset start i [] h = record { nests = record { blocks = []; count = refl; nests = refl }; loops = tt; used = tt; reckoned = tt }
-progress-reset start zero (d ∷ ds) h = record { nests = record { blocks = []; count = refl; nests = h.0.script.nests }; loops = tt; used = used_none 0 d.script h.0.script.ranges; reckoned = tt }
+progress-reset start i [] h = record { nests = record { blocks = []; count = refl; nests = refl }; loops = tt; used = tt; reckoned = tt; stamped = omega arith }
+progress-reset start zero (d ∷ ds) h = record { nests = record { blocks = []; count = refl; nests = h.0.script.nests }; loops = tt; used = used_none 0 d.script h.0.script.ranges; reckoned = tt; stamped = omega arith }
 progress-reset start (suc i) (d ∷ ds) h = progress-reset start i ds h.1
 
 contents-reset : (o : ℕ) (kinds : List ObjectKind) → AllByRecursion IsObjectKind kinds → IsObject (slice_get kinds o) (get_or (map object_at_reset kinds) o no_object)

@@ -1,11 +1,11 @@
 -- What every deed keeps.
-use Rattle.std.proofs.Common.{◌≡◌, ◌≢◌, ◌<◌, ◌≤◌, ◌+◌, ◌-◌, ℕ, suc, true, false, eqb, leb, ltb, ltb-false, ◌||◌, List, [], ◌∷◌, length, get_or, set, drop, Option, Some, None, refl, ap, sym, subst, ◌∙◌, arith, get_or-set_same, get_or-set_other}
+use Rattle.std.proofs.Common.{◌≡◌, ◌≢◌, ◌<◌, ◌≤◌, ◌+◌, ◌-◌, ℕ, suc, true, false, eqb, leb, ltb, ltb-false, ◌||◌, List, [], ◌∷◌, length, get_or, set, drop, Option, Some, None, refl, ap, sym, subst, ◌∙◌, arith, get_or-set_same, get_or-set_other, min}
 use Rattle.std.specs.List.{AllByRecursion, filter}
 use Rattle.std.specs.Prelude.{Bool}
 use Rattle.std.specs.Option.{IfSome, is_some, option_eq}
 use Rattle.std.proofs.Math.ListN.{length-set}
 use Rattle.model.specs.declared.op.Op.{Op}
-use Rattle.model.specs.declared.op.Op.TheVariants.{Work, Delay, DelayUntil, Expect, Repeat, End, If, Else, Break}
+use Rattle.model.specs.declared.op.Op.TheVariants.{Work, Delay, DelayUntil, Expect, Repeat, End, If, Else, Break, Stamp, Since}
 use Rattle.model.specs.declared.answer.AnswerCondition.{AnswerCondition}
 use Rattle.model.specs.declared.call.CallProgress.{CallProgress}
 use Rattle.model.specs.declared.loops.Loop.{Loop}
@@ -20,7 +20,7 @@ use Rattle.model.specs.Order.{Entry, tasks_of}
 use Rattle.model.specs.Switching.{make_ready, to_back, dispatch, choose, choice, is_same, is_ready, yield_now, is_outranked, is_sharing, preempt, slice, settle, is_off, write}
 use Rattle.model.specs.Waiting.{is_locked}
 use Rattle.model.specs.Time.{wake_due, due, is_due, delayed_list, delayed_key, sleep, set_previous_wake}
-use Rattle.model.specs.Ops.{go_to, moved_to, complete, called, answer, use_up, delay, delay_until, expect, open_loop, next_turn, turn, close_turn, branch, skip_branch, leave_loop}
+use Rattle.model.specs.Ops.{go_to, moved_to, complete, called, answer, use_up, delay, delay_until, expect, open_loop, next_turn, turn, close_turn, branch, skip_branch, leave_loop, stamp, since}
 use Rattle.model.specs.Invariant.{HasTicketBelow, IsUsedBy, AreOpenAt, LoopsNest, IsReckoned, HasPriority, IsAt, Hold, course, IsPhaseOf, IsWaitOf, IsCall, IsSound, wait_of}
 use Rattle.model.proofs.Sorting.{by_test}
 use Rattle.model.proofs.Lists.{eqb-refl, eqb-same}
@@ -196,7 +196,7 @@ module _ (app : Application) (formed : IsWellFormed app) (hold : Hold) where
   pub kept_free : (s : State) (i : ℕ) (u : Status) → IsSound app hold s → wait_of u ≡ None → IsReckoned s.time (progress_at s i).previous_wake u → IsKept s.time i (record (task_at s i) { status = u })
   kept_free s i u h free r =
       let a = h.progress i in
-      (record { nests = a.nests; loops = a.loops; used = a.used; reckoned = r }, call_free hold s.time (op_at app i (progress_at s i).op_index) (task_at s i) u free (h.calls i), ((h.priorities i).0, (h.priorities i).1, subst (λ o. IfSome o (λ w. w.priority < 32)) (sym free) tt))
+      (record { nests = a.nests; loops = a.loops; used = a.used; reckoned = r; stamped = a.stamped }, call_free hold s.time (op_at app i (progress_at s i).op_index) (task_at s i) u free (h.calls i), ((h.priorities i).0, (h.priorities i).1, subst (λ o. IfSome o (λ w. w.priority < 32)) (sym free) tt))
 
   pub made_ready : (s : State) (i : ℕ) → IsSound app hold s → CanBeReady s i → IsSound app hold (make_ready i s)
   made_ready s i h c = taken s i Ready h (omega arith) (kept_free s i (Ready s.next_ticket) h refl c.1)
@@ -256,7 +256,7 @@ module _ (app : Application) (formed : IsWellFormed app) (hold : Hold) where
     table = record { tickets = h.table.tickets; few = h.table.few; current = h.table.current; holders = h.table.holders };
     tasks = h.tasks;
     objects = h.objects;
-    progress = λ i. let a = h.progress i in record { nests = a.nests; loops = a.loops; used = a.used; reckoned = later_reckoned n s.time (progress_at s i).previous_wake (status_at s i) a.reckoned };
+    progress = λ i. let a = h.progress i in record { nests = a.nests; loops = a.loops; used = a.used; reckoned = later_reckoned n s.time (progress_at s i).previous_wake (status_at s i) a.reckoned; stamped = let le = a.stamped in omega arith };
     calls = λ i. call_later n hold s.time (op_at app i (progress_at s i).op_index) (task_at s i) (h.calls i);
     contents = h.contents;
     priorities = h.priorities;
@@ -282,7 +282,7 @@ module _ (app : Application) (formed : IsWellFormed app) (hold : Hold) where
     table = record { tickets = h.table.tickets; few = h.table.few; current = h.table.current; holders = h.table.holders };
     tasks = h.tasks;
     objects = h.objects;
-    progress = λ i. let a = h.progress i in record { nests = a.nests; loops = a.loops; used = a.used; reckoned = later_reckoned 1 s.time (progress_at s i).previous_wake (status_at s i) a.reckoned };
+    progress = λ i. let a = h.progress i in record { nests = a.nests; loops = a.loops; used = a.used; reckoned = later_reckoned 1 s.time (progress_at s i).previous_wake (status_at s i) a.reckoned; stamped = let le = a.stamped in omega arith };
     calls = λ i. call_later 1 hold s.time (op_at app i (progress_at s i).op_index) (task_at s i) (h.calls i);
     contents = h.contents;
     priorities = h.priorities;
@@ -307,11 +307,11 @@ module _ (app : Application) (formed : IsWellFormed app) (hold : Hold) where
     ticket_kept : HasTicketBelow s.next_ticket (status_at s i)
     ticket_kept = ticket_at s.next_ticket i s.tasks h.table.tickets
 
-    gone : (op_index : ℕ) (p : Progress) → p.previous_wake ≡ (progress_at s i).previous_wake → AreOpenAt (script_of app i) op_index (length p.loops) → LoopsNest (script_of app i) p.loops → IsSound app hold (go_to app i op_index p s)
+    gone : (op_index : ℕ) (p : Progress) → p.previous_wake ≡ (progress_at s i).previous_wake → p.stamp ≤ s.time → AreOpenAt (script_of app i) op_index (length p.loops) → LoopsNest (script_of app i) p.loops → IsSound app hold (go_to app i op_index p s)
     unfolding go_to
-    gone op_index p before n ls =
+    gone op_index p before stamped n ls =
         let q : Progress = record p { op_index = op_index; used = 0; call = no_call } in
-        let a : (u : Status) → IsReckoned s.time p.previous_wake u → IsAt s.time (script_of app i) q u = λ u r. record { nests = n; loops = ls; used = used_none op_index (script_of app i) (script_formed app formed i).ranges; reckoned = r } in
+        let a : (u : Status) → IsReckoned s.time p.previous_wake u → IsAt s.time (script_of app i) q u = λ u r. record { nests = n; loops = ls; used = used_none op_index (script_of app i) (script_formed app formed i).ranges; reckoned = r; stamped = stamped } in
         let c : (u : Status) → wait_of u ≡ None → IsCall hold s.time (op_at app i op_index) (record (task_at s i) { progress = q; status = u }) = λ u f. call_none hold s.time (op_at app i op_index) (record (task_at s i) { progress = q; status = u }) refl f in
         let kept : IsReckoned s.time p.previous_wake (status_at s i) = rw before (h.progress i).reckoned in
         by_test (eqb op_index (op_count app i))
@@ -324,11 +324,11 @@ module _ (app : Application) (formed : IsWellFormed app) (hold : Hold) where
 
       -- an op that opens or closes no loop, whatever the answer
       pub plain : (a : Option ℕ) → nesting_past (length (progress_at s i).loops) op ≡ length (progress_at s i).loops → IsSound app hold (complete app i (record (progress_at s i) { answer = a }) s)
-      plain a e = gone ((progress_at s i).op_index + 1) (record (progress_at s i) { answer = a }) refl (rw e at past_it) (h.progress i).loops
+      plain a e = gone ((progress_at s i).op_index + 1) (record (progress_at s i) { answer = a }) refl (h.progress i).stamped (rw e at past_it) (h.progress i).loops
 
     -- back to the first op, where no loop is open
     pub restarted : (a : Option ℕ) → (progress_at s i).loops ≡ [] → IsSound app hold (go_to app i 0 (record (progress_at s i) { answer = a }) s)
-    restarted a none = gone 0 (record (progress_at s i) { answer = a }) refl (rw none (open_at_first app formed i)) (rw none tt)
+    restarted a none = gone 0 (record (progress_at s i) { answer = a }) refl (h.progress i).stamped (rw none (open_at_first app formed i)) (rw none tt)
 
   module _ (s : State) (i : ℕ) (op : Op) (h : IsSound app hold s) (free : wait_of (status_at s i) ≡ None) (is : op_at app i (progress_at s i).op_index ≡ Some op) where
     pub answered : (a : Option ℕ) → nesting_past (length (progress_at s i).loops) op ≡ length (progress_at s i).loops → IsSound app hold (answer app i a s)
@@ -349,7 +349,7 @@ module _ (app : Application) (formed : IsWellFormed app) (hold : Hold) where
         let more : (progress_at s i).used + 1 < n = omega arith in
         let V : Option Op → Type 0 = λ o. IsUsedBy ((progress_at s i).used + 1) o in
         rw t (changed s i (record (task_at s i) { progress = record (progress_at s i) { used = (progress_at s i).used + 1 } }) h (ticket_kept s i h free) (
-          record { nests = a.nests; loops = a.loops; used = subst V (sym (is ∙ ap Some e)) more; reckoned = a.reckoned },
+          record { nests = a.nests; loops = a.loops; used = subst V (sym (is ∙ ap Some e)) more; reckoned = a.reckoned; stamped = a.stamped },
           record { phase = c.phase; wait = c.wait; awake = c.awake; near = c.near },
           h.priorities i,
         )))
@@ -367,7 +367,7 @@ module _ (app : Application) (formed : IsWellFormed app) (hold : Hold) where
         let Open : ℕ → Type 0 = AreOpenAt (script_of app i) (p.op_index + 1) in
         let inner : Open (length p.loops + 1) = rw e at (past_it s i h free op is) in
         let deep : Open (suc (length p.loops)) = let n : length p.loops + 1 ≡ suc (length p.loops) = omega arith in rw n at inner in
-        gone s i h free (p.op_index + 1) (record p { loops = record { start = p.op_index + 1; left = turns } ∷ p.loops }) refl deep (deep, (h.progress i).loops)
+        gone s i h free (p.op_index + 1) (record p { loops = record { start = p.op_index + 1; left = turns } ∷ p.loops }) refl (h.progress i).stamped deep (deep, (h.progress i).loops)
 
     -- a turn of a loop that is open with these around it
     next_by : (x : Loop) (xs : List Loop) (left : Option ℕ) → LoopsNest (script_of app i) (x ∷ xs)
@@ -375,12 +375,12 @@ module _ (app : Application) (formed : IsWellFormed app) (hold : Hold) where
         → IsSound app hold (next_turn app i (progress_at s i) x xs left s)
     next_by x xs None all same rest =
         let p : Progress = progress_at s i in
-        gone s i h free x.start p refl (rw same all.0) (rw same all)
+        gone s i h free x.start p refl (h.progress i).stamped (rw same all.0) (rw same all)
     next_by x xs (Some left) all same rest =
         let p : Progress = progress_at s i in
         by_test (leb left 1)
-        (λ q. rw q (gone s i h free (p.op_index + 1) (record p { loops = xs }) refl rest all.1))
-        (λ q. rw q (gone s i h free x.start (record p { loops = record x { left = Some (left - 1) } ∷ xs }) refl all.0 (all.0, all.1)))
+        (λ q. rw q (gone s i h free (p.op_index + 1) (record p { loops = xs }) refl (h.progress i).stamped rest all.1))
+        (λ q. rw q (gone s i h free x.start (record p { loops = record x { left = Some (left - 1) } ∷ xs }) refl (h.progress i).stamped all.0 (all.0, all.1)))
 
     closed_by : op ≡ End → (ls : List Loop) → (progress_at s i).loops ≡ ls → IsSound app hold (turn app i (progress_at s i) ls s)
     closed_by e [] same =
@@ -405,22 +405,32 @@ module _ (app : Application) (formed : IsWellFormed app) (hold : Hold) where
         let p : Progress = progress_at s i in
         by_test (holds condition p.answer)
         (λ t. rw t (plain s i h free op is p.answer (rw e refl)))
-        (λ t. rw t (gone s i h free (jump_from (script_of app i) p.op_index) p refl
+        (λ t. rw t (gone s i h free (jump_from (script_of app i) p.op_index) p refl (h.progress i).stamped
         (after_if (length p.loops) p.op_index (script_of app i) op (h.progress i).nests is (ap edge_of e)) (h.progress i).loops))
 
     pub skipped : op ≡ Else → IsSound app hold (skip_branch app i s)
     unfolding skip_branch
     skipped e =
         let p : Progress = progress_at s i in
-        gone s i h free (jump_from (script_of app i) p.op_index) p refl
+        gone s i h free (jump_from (script_of app i) p.op_index) p refl (h.progress i).stamped
         (after_else (length p.loops) p.op_index (script_of app i) op (h.progress i).nests is (ap edge_of e)) (h.progress i).loops
+
+    pub stamped : op ≡ Stamp → IsSound app hold (stamp app i s)
+    unfolding stamp
+    stamped e =
+        let p : Progress = progress_at s i in
+        gone s i h free (p.op_index + 1) (record p { stamp = s.time }) refl (omega arith) (rw e at (past_it s i h free op is)) (h.progress i).loops
+
+    pub since_stamped : op ≡ Since → IsSound app hold (since app i s)
+    unfolding since
+    since_stamped e = answered (Some (min (s.time - (progress_at s i).stamp) 4294967295)) (rw e refl)
 
     pub loop_left : op ≡ Break → IsSound app hold (leave_loop app i s)
     unfolding leave_loop
     loop_left e =
         let p : Progress = progress_at s i in
         let at = after_break (length p.loops) p.op_index (script_of app i) op (h.progress i).nests is (ap edge_of e) in
-        gone s i h free (jump_from (script_of app i) p.op_index) (record p { loops = drop 1 p.loops }) refl
+        gone s i h free (jump_from (script_of app i) p.op_index) (record p { loops = drop 1 p.loops }) refl (h.progress i).stamped
         (subst (AreOpenAt (script_of app i) (jump_from (script_of app i) p.op_index)) (one_less p.loops at.0) at.1)
         (without_first (script_of app i) p.loops (h.progress i).loops)
 
@@ -436,7 +446,7 @@ module _ (app : Application) (formed : IsWellFormed app) (hold : Hold) where
       let a = h.progress i in
       let c = h.calls i in
       changed s i (record (task_at s i) { progress = record (progress_at s i) { previous_wake = time } }) h (ticket_at s.next_ticket i s.tasks h.table.tickets)
-      (record { nests = a.nests; loops = a.loops; used = a.used; reckoned = r }, record { phase = c.phase; wait = c.wait; awake = c.awake; near = c.near }, h.priorities i)
+      (record { nests = a.nests; loops = a.loops; used = a.used; reckoned = r; stamped = a.stamped }, record { phase = c.phase; wait = c.wait; awake = c.awake; near = c.near }, h.priorities i)
 
   -- One who has begun to sleep until a time may count from it.
   reckoned_asleep : (s : State) (i wake_time : ℕ) → i < length s.tasks → is_some (ticket_of (status_at s i)) ≡ is_ready s i → IsReckoned (sleep i wake_time s).time wake_time (status_at (sleep i wake_time s) i)

@@ -87,7 +87,7 @@ module _ (app : Application) (formed : IsWellFormed app) (hold : Hold) where
       let l : j < length s.tasks = is_there s j suspended in
       let s1 : State = with_task j t s in
       let h1 : IsSound app hold s1 = changed app formed hold s j t h (ticket_at s.next_ticket j s.tasks h.table.tickets) (
-        record { nests = a.nests; loops = a.loops; used = a.used; reckoned = suspended_reckoned s.time p.previous_wake (status_at s j) suspended },
+        record { nests = a.nests; loops = a.loops; used = a.used; reckoned = suspended_reckoned s.time p.previous_wake (status_at s j) suspended; stamped = a.stamped },
         record { phase = phase_again hold _ (progress_at s j).call.phase c.phase; wait = c.wait; awake = c.awake; near = c.near },
         h.priorities j,
       ) in

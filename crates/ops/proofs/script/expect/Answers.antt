@@ -9,4 +9,4 @@ returns-then-holds c = λ log s h.
 
 pub returns-else-holds : goal.returns-else-holds
 returns-else-holds c = λ log s h.
-    expect_failed c.args.app.now c.args.machine.now c.args.machine.now log s h c.args.task c.requires.runs.current (the_view c.progress.inside) (c.progress.view_is ∙ c.progress-progress.ensures) c.args.condition c.if-holds.ensures
+    rw c.or-machine.ensures (expect_failed c.args.app.now c.args.machine.now c.args.machine.now log s h c.args.task c.requires.runs.current (the_view c.progress.inside) (c.progress.view_is ∙ c.progress-progress.ensures) c.args.condition c.if-holds.ensures)
