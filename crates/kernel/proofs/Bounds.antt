@@ -472,10 +472,6 @@ module _ (app : Application) (formed : IsWellFormed app) {limits : Limits} (k : 
   pub there_after : (handlers : List ℕ) (new : Machine) → Stands new (before_step app handlers now) → IfSome new.sched.current (λ task. task < length app.tasks)
   there_after handlers new h = runs_there app new (before_step app handlers now) (hold_of (before_step app handlers now)) h (reached_before_step app formed handlers now c.sound).sound
 
-  pub can_go_on : (task : TaskId) → k.sched.current ≡ Some task → (object : ℕ) (access : Access) (ticks : Option ℕ) → op_at app task (progress_in k.progress task).op_index ≡ Some (Await object access ticks) → k.suspensions ≡ 0
-      → CanGoOn k task object access ticks (progress_in k.progress task).call.phase
-  can_go_on task runs object access ticks is awake = can_op app formed k now c.sound c.stands early_now little_now task runs awake (Await object access ticks) is
-
   pub can_do : (task : TaskId) → k.sched.current ≡ Some task → k.suspensions ≡ 0 → (op : Op) → op_at app task (progress_in k.progress task).op_index ≡ Some op → CanOp app k task op
   can_do task runs awake op at = can_op app formed k now c.sound c.stands early_now little_now task runs awake op at
 

@@ -1,10 +1,11 @@
 -- Steps of a call that waits, from where it decides to where it lets go of the scheduler.
 use denote.Enum.Bare.{sameb, same_true}
-use Rattle.std.proofs.Common.{◌≡◌, ◌≢◌, ◌<◌, ◌+◌, ℕ, Bool, true, false, not, rules, List, [], refl, ap, sym, ◌∙◌, arith}
+use Rattle.std.proofs.Common.{◌≡◌, ◌≢◌, ◌<◌, ◌+◌, ℕ, Bool, true, false, not, rules, List, [], Option, None, refl, ap, sym, subst, ◌∙◌, arith}
 use Rattle.std.specs.Prelude.{nat_lt}
 use Rattle.std.proofs.lemmas.Bool.{lt-ltb}
 use Rattle.model.specs.declared.op.Access.{Access}
-use Rattle.model.specs.declared.op.Op.TheVariants.{Await}
+use Rattle.model.specs.declared.op.Access.TheVariants.{Receive}
+use Rattle.model.specs.declared.op.Op.TheVariants.{Await, NextCommand}
 use Rattle.model.specs.declared.call.Phase.{Phase}
 use Rattle.model.specs.declared.call.Phase.TheVariants.{Start, Try, Decide, Place, Unlock, Leave, Final}
 use Rattle.model.specs.Invariant.{holds}
@@ -14,19 +15,22 @@ use Rattle.model.specs.Application.{Application, Limits, op_at}
 use Rattle.model.specs.State.{State, Progress, progress_at}
 use Rattle.model.specs.Switching.{is_held, settle, unless_held}
 use Rattle.model.specs.Calls.{await, leave_call}
-use Rattle.model.specs.Step.{act_current, before_step, step}
+use Rattle.model.specs.Step.{act_current, act_unless, before_step, misuse, step}
 use Rattle.sched.specs.StandsFor as sched
 use Rattle.sched.specs.Schedule.{Schedule}
 use Rattle.sched.proofs.Standing.{held_by_depth}
 use Rattle.machine.specs.declared.machine.Machine.{Machine}
 use Rattle.machine.specs.Logged.{Logged}
 use Rattle.machine.specs.StandsFor.{Stands, AtAny, Does, DoesAny, progress_in}
-use Rattle.ops.specs.Can.{CanLeave}
+use Rattle.ops.specs.Can.{CanGoOn, CanLeave}
+use Rattle.kernel.specs.Can.{CanOp}
 use Rattle.ops.specs.InCall.{IsSilent, Remains}
-use Rattle.kernel.specs.InCall.{IsInPhase, IsLeaving}
+use Rattle.kernel.specs.InCall.{IsCallOn, IsInPhase, IsLeaving}
+use Rattle.kernel.specs.InCall.IsCallOn.{Awaits, Receives}
 use Rattle.kernel.specs.Over.{is_over}
 use Rattle.machine.proofs.Either.{any, either, current_is, does_any, does_more, progress_is, steps_are, suspensions_are}
-use Rattle.kernel.proofs.Acted.{freely}
+use Rattle.kernel.proofs.Acted.{any_by_form, two_within}
+use Rattle.ops.proofs.Commanding.{receive_in_phase}
 use Rattle.ops.proofs.Calling.{in_phase}
 use Rattle.kernel.proofs.Counting.{steps_still}
 use Rattle.machine.proofs.Switches.{settled_before, settled_held}
@@ -43,6 +47,21 @@ holds_silently Place s a = refl
 holds_silently Unlock s a = refl
 holds_silently Leave s a = absurd s
 holds_silently Final s a = absurd s
+
+-- A phase past its tries.
+abbrev pub IsPast : Phase → Type 0
+IsPast Start = ⊥
+IsPast Try = ⊥
+IsPast _ = Unit {0}
+
+pub past_silent : (phase : Phase) → IsSilent phase → IsPast phase
+past_silent Start s = s
+past_silent Try s = s
+past_silent Decide s = tt
+past_silent Place s = tt
+past_silent Unlock s = tt
+past_silent Leave s = tt
+past_silent Final s = tt
 
 -- A phase that isn't another than this one.
 pub same_phase : (a b : Phase) → false ≡ not (sameb the_type a b) → a ≡ b
@@ -66,23 +85,46 @@ module _ (app : Application) (limits : Limits) (k : Machine) (task object : ℕ)
   still_in_call new r next e = record {
     current = r.current ∙ c.current;
     ticks = c.ticks;
-    op = ap (λ (n : ℕ). op_at app task n) r.op_index ∙ c.op;
+    op = c.op;
+    at = ap (λ (n : ℕ). op_at app task n) r.op_index ∙ c.at;
+    on = c.on;
     reached = e;
     awake = r.suspensions ∙ c.awake;
   }
 
-  -- What the call does in its phase is what the step does,
-  pub acts_in_phase : (new : Machine) (old_log new_log : Logged) → DoesAny 2 k old_log new new_log (await app task object access c.ticks phase) → DoesAny 65 k old_log new new_log (λ s. act_current app limits s.current s)
-  acts_in_phase new old_log new_log does =
-      let all = does_more 2 65 k new old_log new_log _ (omega arith) (in_phase app k new old_log new_log task object access c.ticks phase c.reached does) in
-      acts app limits k task c.current (Await object access c.ticks) c.op new old_log new_log (freely app k new old_log new_log task (Await object access c.ticks) c.awake (λ s. refl) (λ e. absurd (cc)) all)
+  -- The call can do what is next,
+  pub can_in_phase : CanOp app k task c.op → CanGoOn k task object access c.ticks phase
+  can_in_phase can = by_form c.on where
+    by_form : IsCallOn c.op object access c.ticks → CanGoOn k task object access c.ticks phase
+    by_form (Awaits e) = subst (CanGoOn k task object access c.ticks) c.reached (subst (CanOp app k task) e can)
+    by_form (Receives e a t) =
+        subst (CanGoOn k task object access c.ticks) c.reached
+        (subst (λ (n : Option ℕ). CanGoOn k task object access n (progress_in k.progress task).call.phase) (sym t)
+        (subst (λ (x : Access). CanGoOn k task object x None (progress_in k.progress task).call.phase) (sym a) (subst (CanOp app k task) e can)))
 
-  module _ (new : Machine) (does : (log : List Event) (s : State) → AtAny k log s → AtAny new log (await app task object access c.ticks phase s)) where
+  -- and what it does in its phase is what the step does,
+  pub acts_in_phase : IsPast phase → (new : Machine) (old_log new_log : Logged) → DoesAny 2 k old_log new new_log (await app task object access c.ticks phase) → DoesAny 65 k old_log new new_log (λ s. act_current app limits s.current s)
+  acts_in_phase past new old_log new_log does = acts app limits k task c.current c.op c.at new old_log new_log (by_form c.on) where
+    not_before : (other : Phase) → (IsPast other → ⊥) → (progress_in k.progress task).call.phase ≡ other → ⊥
+    not_before other off e = off (subst IsPast (sym c.reached ∙ e) past)
+
+    by_form : IsCallOn c.op object access c.ticks → DoesAny 65 k old_log new new_log (λ s. act_unless app task (misuse s task c.op) c.op s)
+    by_form (Awaits e) =
+        any_by_form app k new old_log new_log task c.op (Await object access c.ticks) e c.awake (λ s. refl) refl 2 two_within
+        (in_phase app k new old_log new_log task object access c.ticks phase c.reached does)
+    by_form (Receives e a t) =
+        any_by_form app k new old_log new_log task c.op (NextCommand object) e c.awake (λ s. refl) refl 2 two_within
+        (receive_in_phase app k new old_log new_log task object (not_before Start (λ x. x)) (not_before Try (λ x. x))
+        (in_phase app k new old_log new_log task object Receive None phase c.reached
+        (subst (λ (n : Option ℕ). DoesAny 2 k old_log new new_log (await app task object Receive n phase)) t
+        (subst (λ (x : Access). DoesAny 2 k old_log new new_log (await app task object x c.ticks phase)) a does))))
+
+  module _ (past : IsPast phase) (new : Machine) (does : (log : List Event) (s : State) → AtAny k log s → AtAny new log (await app task object access c.ticks phase s)) where
     acts_there : (log : List Event) (s : State) → AtAny k log s → AtAny new log (act_current app limits s.current s)
     acts_there log s h =
         let told : Logged = record { before = []; told = log; room = 65 } in
         let one : DoesAny 2 k told new told (await app task object access c.ticks phase) = record { at = does log; few = omega arith; before = refl } in
-        (acts_in_phase new told told one).at s h
+        (acts_in_phase past new told told one).at s h
 
     -- as it tells nothing, and switches nothing.
     module _ (held : 0 < new.sched.depth) (s : State) (h : Stands k s) where
@@ -104,9 +146,9 @@ module _ (app : Application) (limits : Limits) (k : Machine) (task object : ℕ)
       not_over_after silent same =
           let now : Progress = progress_at s task in
           let is : progress_in k.progress task ≡ now = progress_is k s h task in
-          not_over_silently app limits task object access c.ticks phase silent s
+          not_over_silently app limits task object access c.ticks phase silent c.op c.on s
           (sym (current_is k s h) ∙ c.current)
-          (ap (λ (p : Progress). op_at app task p.op_index) (sym is) ∙ c.op)
+          (ap (λ (p : Progress). op_at app task p.op_index) (sym is) ∙ c.at)
           (ap (λ (p : Progress). p.call.phase) (sym is) ∙ c.reached)
           (sym (suspensions_are k s h) ∙ c.awake)
           (sym (current_is (record new { steps = new.steps + 1 }) (step app limits [] s) stepped_held) ∙ same ∙ c.current)
@@ -114,4 +156,4 @@ module _ (app : Application) (limits : Limits) (k : Machine) (task object : ℕ)
 -- So it is where the call lets go of the scheduler.
 pub leaves : (app : Application) (limits : Limits) (k new : Machine) (task : ℕ) → IsLeaving app k task → CanLeave k task → (old_log new_log : Logged) → Does 1 k old_log new new_log (leave_call task) → DoesAny 65 k old_log new new_log (λ s. act_current app limits s.current s)
 leaves app limits k new task l can old_log new_log does =
-    acts_in_phase app limits k task l.0 l.1 Leave l.2 new old_log new_log (does_more 1 2 k new old_log new_log (leave_call task) (omega arith) (does_any 1 k new old_log new_log (leave_call task) can.call.agrees does))
+    acts_in_phase app limits k task l.0 l.1 Leave l.2 tt new old_log new_log (does_more 1 2 k new old_log new_log (leave_call task) (omega arith) (does_any 1 k new old_log new_log (leave_call task) can.call.agrees does))

@@ -1,5 +1,8 @@
 -- Where a call on an event group lets go of the scheduler.
 use Rattle.std.proofs.Common.{◌≡◌, ◌≢◌, ℕ, true, Option, refl, subst, arith}
+use Rattle.std.specs.Option.{unwrap_or}
+use Rattle.model.specs.declared.op.Command.{Command}
+use Rattle.model.specs.Daemon.{command_of, end_set_by_daemon}
 use Rattle.model.specs.declared.op.Op.{Op}
 use Rattle.model.specs.declared.op.Op.TheVariants.{Work, Delay, DelayUntil, Yield, Time, Mark, Expect, Repeat, End, If, Else, EndIf, Break, Await, Do, GiveMutex, MessagesWaiting, SpacesAvailable, SetBits, ClearBits, GetBits, WaitBits, Suspend, Resume, SuspendAll, ResumeAll, NextCommand, Obey}
 use Rattle.model.specs.declared.call.Condition.{Condition}
@@ -12,11 +15,12 @@ use Rattle.model.specs.Ops.{answer}
 use Rattle.model.specs.Step.{act_current}
 use Rattle.machine.specs.declared.machine.Machine.{Machine}
 use Rattle.machine.specs.Logged.{Logged}
-use Rattle.machine.specs.StandsFor.{Does, DoesAny}
+use Rattle.machine.specs.StandsFor.{Does, DoesAny, progress_in}
 use Rattle.machine.proofs.Either.{does_any, does_more}
 use Rattle.ops.specs.Can.{CanLeave, CanSetBits, CanWaitBits}
 use Rattle.machine.specs.Can.{Runs}
 use Rattle.ops.proofs.EventBits.{set_in_phase, wait_in_phase}
+use Rattle.ops.proofs.Commanding.{obey_in_phase}
 use Rattle.kernel.specs.Bits.{IsLettingGo, is_for_bits}
 use Rattle.kernel.specs.Can.{CanOp}
 use Rattle.kernel.proofs.Acted.{any_by_form, two_within}
@@ -43,33 +47,43 @@ module _ (app : Application) (k : Machine) (task : ℕ) (op : Op) (l : IsLetting
         (any_by_form app k new old_log new_log task op (WaitBits group condition ticks) is l.awake (λ s. refl) refl 2 two_within
         (wait_in_phase app k new old_log new_log task group condition ticks Leave l.reached (does_more 1 2 k new old_log new_log _ (omega arith) (does_any 1 k new old_log new_log _ can_leave_wait.call.agrees does))))
 
+  module _ (is : op ≡ Obey) where
+    pub can_end_command : Runs k task × CanLeave k task
+    can_end_command = subst (CanSetBits k task) l.reached (subst (CanOp app k task) is can)
+
+    pub ends_command : (limits : Limits) (new : Machine) (old_log new_log : Logged) (c : Command) → c ≡ command_of (unwrap_or (progress_in k.progress task).answer 0) → Does 2 k old_log new new_log (end_set_by_daemon app task c.group) → DoesAny 65 k old_log new new_log (λ s. act_current app limits s.current s)
+    ends_command limits new old_log new_log c same does =
+        acts app limits k task l.current op l.at new old_log new_log
+        (any_by_form app k new old_log new_log task op Obey is l.awake (λ s. refl) refl 2 two_within
+        (obey_in_phase app k new old_log new_log task c Leave l.reached same (does_any 2 k new old_log new_log _ can_end_command.1.call.agrees does)))
+
 -- No other op is for bits.
-pub no_other : (op : Op) → is_for_bits op ≡ true → ((group mask : ℕ) → op ≢ SetBits group mask) → ((group : ℕ) (condition : Condition) (ticks : Option ℕ) → op ≢ WaitBits group condition ticks) → ⊥
-no_other (Work n) e sets waits = absurd (cc)
-no_other (Delay n) e sets waits = absurd (cc)
-no_other (DelayUntil n) e sets waits = absurd (cc)
-no_other Yield e sets waits = absurd (cc)
-no_other Time e sets waits = absurd (cc)
-no_other (Mark n) e sets waits = absurd (cc)
-no_other (Expect a) e sets waits = absurd (cc)
-no_other (Repeat n) e sets waits = absurd (cc)
-no_other End e sets waits = absurd (cc)
-no_other (If c) e sets waits = absurd (cc)
-no_other Else e sets waits = absurd (cc)
-no_other EndIf e sets waits = absurd (cc)
-no_other Break e sets waits = absurd (cc)
-no_other (Await o a w) e sets waits = absurd (cc)
-no_other (Do o a) e sets waits = absurd (cc)
-no_other (GiveMutex o) e sets waits = absurd (cc)
-no_other (MessagesWaiting o) e sets waits = absurd (cc)
-no_other (SpacesAvailable o) e sets waits = absurd (cc)
-no_other (ClearBits g m) e sets waits = absurd (cc)
-no_other (GetBits g) e sets waits = absurd (cc)
-no_other (Suspend j) e sets waits = absurd (cc)
-no_other (Resume j) e sets waits = absurd (cc)
-no_other SuspendAll e sets waits = absurd (cc)
-no_other ResumeAll e sets waits = absurd (cc)
-no_other (NextCommand o) e sets waits = absurd (cc)
-no_other Obey e sets waits = absurd (cc)
-no_other (SetBits group mask) e sets waits = sets group mask refl
-no_other (WaitBits group condition ticks) e sets waits = waits group condition ticks refl
+pub no_other : (op : Op) → is_for_bits op ≡ true → ((group mask : ℕ) → op ≢ SetBits group mask) → ((group : ℕ) (condition : Condition) (ticks : Option ℕ) → op ≢ WaitBits group condition ticks) → (op ≢ Obey) → ⊥
+no_other (Work n) e sets waits obeys = absurd (cc)
+no_other (Delay n) e sets waits obeys = absurd (cc)
+no_other (DelayUntil n) e sets waits obeys = absurd (cc)
+no_other Yield e sets waits obeys = absurd (cc)
+no_other Time e sets waits obeys = absurd (cc)
+no_other (Mark n) e sets waits obeys = absurd (cc)
+no_other (Expect a) e sets waits obeys = absurd (cc)
+no_other (Repeat n) e sets waits obeys = absurd (cc)
+no_other End e sets waits obeys = absurd (cc)
+no_other (If c) e sets waits obeys = absurd (cc)
+no_other Else e sets waits obeys = absurd (cc)
+no_other EndIf e sets waits obeys = absurd (cc)
+no_other Break e sets waits obeys = absurd (cc)
+no_other (Await o a w) e sets waits obeys = absurd (cc)
+no_other (Do o a) e sets waits obeys = absurd (cc)
+no_other (GiveMutex o) e sets waits obeys = absurd (cc)
+no_other (MessagesWaiting o) e sets waits obeys = absurd (cc)
+no_other (SpacesAvailable o) e sets waits obeys = absurd (cc)
+no_other (ClearBits g m) e sets waits obeys = absurd (cc)
+no_other (GetBits g) e sets waits obeys = absurd (cc)
+no_other (Suspend j) e sets waits obeys = absurd (cc)
+no_other (Resume j) e sets waits obeys = absurd (cc)
+no_other SuspendAll e sets waits obeys = absurd (cc)
+no_other ResumeAll e sets waits obeys = absurd (cc)
+no_other (NextCommand o) e sets waits obeys = absurd (cc)
+no_other Obey e sets waits obeys = obeys refl
+no_other (SetBits group mask) e sets waits obeys = sets group mask refl
+no_other (WaitBits group condition ticks) e sets waits obeys = waits group condition ticks refl

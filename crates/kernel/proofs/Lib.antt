@@ -12,6 +12,8 @@ pub mod Silent
 pub mod InCall
 pub mod Counting
 pub mod LettingGo
+pub mod Setting
 pub mod Along
 pub mod Resting
 pub mod Ahead
+pub mod Amid

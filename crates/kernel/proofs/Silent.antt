@@ -1,28 +1,36 @@
 -- A phase of a call in which it tells nothing ends neither a task nor the run.
-use Rattle.std.proofs.Common.{◌≡◌, ◌||◌, ◌&&◌, leb, ℕ, true, false, eqb, ltb, List, [], ◌∷◌, ◌++◌, Option, Some, None, refl, ap, sym, subst, ◌∙◌}
+use Rattle.std.proofs.Common.{◌≡◌, ◌≢◌, ◌||◌, ◌&&◌, leb, ℕ, true, false, eqb, ltb, List, [], ◌∷◌, ◌++◌, Option, Some, None, refl, ap, sym, subst, ◌∙◌}
 use Rattle.std.specs.Option.{is_some}
 use Rattle.model.specs.declared.event.End.{End}
 use Rattle.model.specs.declared.op.Access.{Access}
-use Rattle.model.specs.declared.op.Op.TheVariants.{Await}
+use Rattle.std.specs.Prelude.{Bool, if◌then◌else◌}
+use Rattle.model.specs.declared.op.Command.{Command}
+use Rattle.model.specs.declared.op.Op.{Op}
+use Rattle.model.specs.declared.op.Op.TheVariants.{Obey, SuspendAll}
 use Rattle.model.specs.declared.call.CallProgress.{CallProgress}
 use Rattle.model.specs.declared.call.Phase.{Phase}
 use Rattle.model.specs.declared.call.Phase.TheVariants.{Start, Try, Decide, Place, Unlock, Leave, Final}
 use Rattle.model.specs.declared.call.WaitList.TheVariants.{ToReceive, ToSend}
 use Rattle.model.specs.Application.{Application, Limits, is_any_awaited, op_at}
-use Rattle.model.specs.State.{State, Task, Waiting, task_at, status_at, progress_at, call_at, object_at, with_task, with_call, for_one, for_each, no_task}
+use Rattle.model.specs.State.{State, Task, Waiting, task_at, status_at, progress_at, call_at, object_at, bits_at, with_task, with_call, for_one, for_each, no_task}
 use Rattle.model.specs.Order.{tasks_of}
 use Rattle.model.specs.Switching.{is_ready, is_same, is_off, choice, make_ready, to_back, dispatch, choose, settle, is_held, unless_held}
 use Rattle.model.specs.Waiting.{awakened, is_expired, wait_in, unlock_object, unlock}
 use Rattle.model.specs.Objects.{list_for, possible}
 use Rattle.model.specs.Mutexes.{set_priority, lend, inherits, inherit_from, inherit}
+use Rattle.model.specs.Groups.{keep_answer, wake_with_bits, bits_set, met_by, set, begin_set}
+use Rattle.model.specs.Daemon.{clear_by_daemon, command_at, next_command, obey}
 use Rattle.model.specs.Calls.{decide, await}
-use Rattle.model.specs.Step.{is_ended, act_current, act_if, before_step, step}
+use Rattle.model.specs.Step.{is_ended, act, act_current, act_if, before_step, own_misuse, step}
 use Rattle.model.specs.Run.{are_all_ended, is_stuck}
 use Rattle.model.proofs.Sorting.{by_test}
 use Rattle.model.proofs.Tables.{each-set}
-use Rattle.soundness.proofs.Frames.{keeps-inherit, keeps-all_ready, keeps-settle, keeps-unless_held}
-use Rattle.soundness.proofs.Passing.{acts_calm, lasts-await}
+use Rattle.soundness.proofs.Frames.{keeps-inherit, keeps-all_ready, keeps-set, keeps-settle, keeps-unless_held}
+use Rattle.soundness.proofs.Passing.{acts_calm, lasts-await, lasts-begin_set}
 use Rattle.ops.specs.InCall.{IsSilent}
+use Rattle.ops.proofs.Commanding.{same_after}
+use Rattle.kernel.specs.InCall.{IsCallOn}
+use Rattle.kernel.specs.InCall.IsCallOn.{Awaits, Receives}
 use Rattle.kernel.specs.Over.{is_at_tick_limit, is_over}
 use Rattle.kernel.proofs.Ending.{each_of, none_of, not_all_but, not_passed, runs_on, some_left}
 
@@ -137,34 +145,46 @@ on-settle s j on = by_test (is_off s s.current) (λ t. rw t (on-choose s j on)) 
 on-unless_held : (s : State) → EndsNobody s (unless_held settle s)
 on-unless_held s j on = by_test (is_held s) (λ t. rw t on) (λ t. rw t (on-settle s j on))
 
+-- ---- a set
+
+on-wake_met : (bits : ℕ) (js : List ℕ) (s : State) → EndsNobody s (for_each (λ task. wake_with_bits task bits) js s)
+on-wake_met bits [] s j on = on
+on-wake_met bits (i ∷ js) s j on = on-wake_met bits js (wake_with_bits i bits s) j (on-make_ready (keep_answer i bits s) i j (on-with_call s i (record (call_at s i) { kept = Some bits }) j on))
+
+on-set : (s : State) (group mask : ℕ) → EndsNobody s (set group mask s)
+unfolding set
+on-set s group mask j on = on-wake_met (bits_set group mask s) (met_by group (bits_set group mask s) s) s j on
+
+on-begin_set : (s : State) (i group mask : ℕ) → EndsNobody s (begin_set i group mask s)
+unfolding begin_set
+on-begin_set s i group mask j on =
+    let t : State = set group mask (record s { call_hold = true }) in
+    let u : State = keep_answer i (bits_at t group) t in
+    on-with_call u i (record (call_at u i) { phase = Leave }) j (on-with_call t i (record (call_at t i) { kept = Some (bits_at t group) }) j (on-set (record s { call_hold = true }) group mask j on))
+
+stopped-begin_set : (s : State) (i group mask : ℕ) → (begin_set i group mask s).stopped ≡ s.stopped
+unfolding begin_set
+stopped-begin_set s i group mask = (keeps-set group mask (record s { call_hold = true })).stopped
+
 -- ---- the step
 
-module _ (app : Application) (limits : Limits) (task object : ℕ) (access : Access) (ticks : Option ℕ) (phase : Phase) (silent : IsSilent phase) where
-  acts_silently : (s : State) → s.current ≡ Some task → op_at app task (progress_at s task).op_index ≡ Some (Await object access ticks) → (call_at s task).phase ≡ phase → s.suspensions ≡ 0
-      → act_current app limits s.current s ≡ await app task object access ticks phase s
-  acts_silently s runs is reached none =
-      ap (λ c. act_current app limits c s) runs
-      ∙ ap (λ o. act_if app task o s) is
-      ∙ acts_calm app task (Await object access ticks) s none refl (λ e. absurd (cc))
-      ∙ ap (λ p. await app task object access ticks p s) reached
-
-  -- a run that isn't over before such a step isn't over after it
-  pub not_over_silently : (s : State) → s.current ≡ Some task → op_at app task (progress_at s task).op_index ≡ Some (Await object access ticks) → (call_at s task).phase ≡ phase → s.suspensions ≡ 0
-      → (step app limits [] s).current ≡ Some task → is_over app limits s ≡ false → is_over app limits (step app limits [] s) ≡ false
+-- Where what is done in a step ends nobody and stops nothing, and lets no tick pass, a run that isn't over before it isn't over after it.
+module _ (app : Application) (limits : Limits) (task : ℕ) (s done : State) (does : act_current app limits s.current (record s { log = [] }) ≡ done)
+    (ends_nobody : EndsNobody s done) (stops_not : done.stopped ≡ s.stopped) (lasts_not : done.elapsed ≡ s.elapsed) where
+  pub not_over_by : (step app limits [] s).current ≡ Some task → is_over app limits s ≡ false → is_over app limits (step app limits [] s) ≡ false
   unfolding step before_step
-  not_over_silently s runs is reached none still going =
+  not_over_by still going =
       let begun : State = record s { log = [] } in
       let acted : State = act_current app limits begun.current begun in
-      let does : acted ≡ await app task object access ticks phase begun = acts_silently begun runs is reached none in
       let ended : State = step app limits [] s in
-      let stopped : ended.stopped ≡ s.stopped = (keeps-unless_held settle acted keeps-settle).stopped ∙ ap (λ (x : State). x.stopped) does ∙ stopped-await app task object access ticks phase begun silent in
+      let stopped : ended.stopped ≡ s.stopped = (keeps-unless_held settle acted keeps-settle).stopped ∙ ap (λ (x : State). x.stopped) does ∙ stops_not in
       let each = each_of (is_some s.stopped) (are_all_ended app s) (is_at_tick_limit app limits s) (is_stuck app s) going in
-      let lasts : acted.elapsed ≡ s.elapsed = ap (λ (x : State). x.elapsed) does ∙ (lasts-await app task object access ticks phase begun).elapsed in
+      let lasts : acted.elapsed ≡ s.elapsed = ap (λ (x : State). x.elapsed) does ∙ lasts_not in
       let early : is_at_tick_limit app limits ended ≡ false = ap (λ (n : ℕ). app.tickless && leb limits.ticks n) ((keeps-unless_held settle acted keeps-settle).elapsed ∙ lasts) ∙ each.2 in
       let goes : are_all_ended app ended ≡ false = by_test (is_any_awaited app)
       (λ t.
       let one = some_left app.tasks s.tasks (rw t at each.1) in
-      let on : is_ended (status_at acted one.0) ≡ false = subst (λ (x : State). is_ended (status_at x one.0) ≡ false) (sym does) (on-await app task object access ticks phase begun silent one.0 one.2) in
+      let on : is_ended (status_at acted one.0) ≡ false = subst (λ (x : State). is_ended (status_at x one.0) ≡ false) (sym does) (ends_nobody one.0 one.2) in
       not_passed app ended (not_all_but app.tasks ended.tasks one.0 one.1 (on-unless_held acted one.0 on)))
       (λ t. rw t refl) in
       none_of (is_some ended.stopped) (are_all_ended app ended) (is_at_tick_limit app limits ended) (is_stuck app ended)
@@ -172,3 +192,64 @@ module _ (app : Application) (limits : Limits) (task object : ℕ) (access : Acc
       goes
       early
       (runs_on app ended task still)
+
+-- What the op of a call that waits does in such a phase is what the call does.
+module _ (app : Application) (task object : ℕ) (access : Access) (ticks : Option ℕ) (phase : Phase) (silent : IsSilent phase) (s : State) (reached : (call_at s task).phase ≡ phase) where
+  not_begun : (other : Phase) → (IsSilent other → ⊥) → phase ≡ other → ⊥
+  not_begun other loud e = loud (subst IsSilent e silent)
+
+  call_acts : (op : Op) → IsCallOn op object access ticks → act app task op s ≡ await app task object access ticks phase s
+  call_acts op (Awaits e) = ap (λ o. act app task o s) e ∙ ap (λ p. await app task object access ticks p s) reached
+  call_acts op (Receives e a t) =
+      ap (λ o. act app task o s) e
+      ∙ ap (λ p. next_command app task object p s) reached
+      ∙ sym (same_after app task object phase s (not_begun Start (λ x. x)) (not_begun Try (λ x. x)))
+      ∙ ap (λ x. await app task object x None phase s) (sym a)
+      ∙ ap (λ x. await app task object access x phase s) (sym t)
+
+  call_allowed : (op : Op) → IsCallOn op object access ticks → (own_misuse s task op ≡ None) × (op ≢ SuspendAll)
+  call_allowed op (Awaits e) = (ap (own_misuse s task) e, λ x. let y = sym e ∙ x in absurd (cc))
+  call_allowed op (Receives e a t) = (ap (own_misuse s task) e, λ x. let y = sym e ∙ x in absurd (cc))
+
+module _ (app : Application) (limits : Limits) (task object : ℕ) (access : Access) (ticks : Option ℕ) (phase : Phase) (silent : IsSilent phase) (op : Op) (on : IsCallOn op object access ticks) where
+  acts_silently : (s : State) → s.current ≡ Some task → op_at app task (progress_at s task).op_index ≡ Some op → (call_at s task).phase ≡ phase → s.suspensions ≡ 0
+      → act_current app limits s.current s ≡ await app task object access ticks phase s
+  acts_silently s runs is reached none =
+      let allowed = call_allowed app task object access ticks phase silent s reached op on in
+      ap (λ c. act_current app limits c s) runs
+      ∙ ap (λ o. act_if app task o s) is
+      ∙ acts_calm app task op s none allowed.0 allowed.1
+      ∙ call_acts app task object access ticks phase silent s reached op on
+
+  -- a run that isn't over before such a step isn't over after it
+  pub not_over_silently : (s : State) → s.current ≡ Some task → op_at app task (progress_at s task).op_index ≡ Some op → (call_at s task).phase ≡ phase → s.suspensions ≡ 0
+      → (step app limits [] s).current ≡ Some task → is_over app limits s ≡ false → is_over app limits (step app limits [] s) ≡ false
+  not_over_silently s runs is reached none still going =
+      let begun : State = record s { log = [] } in
+      not_over_by app limits task s (await app task object access ticks phase begun) (acts_silently begun runs is reached none)
+      (on-await app task object access ticks phase begun silent) (stopped-await app task object access ticks phase begun silent) (lasts-await app task object access ticks phase begun).elapsed
+      still going
+
+-- So it is where the daemon begins to set the bits of a command.
+module _ (app : Application) (limits : Limits) (task : ℕ) (s : State) (runs : s.current ≡ Some task) (is : op_at app task (progress_at s task).op_index ≡ Some Obey) (reached : (call_at s task).phase ≡ Start) (none : s.suspensions ≡ 0) (sets : (command_at s task).clear ≡ false) where
+  begun : State
+  begun = record s { log = [] }
+
+  command : Command
+  command = command_at s task
+
+  begins_set : act_current app limits s.current begun ≡ begin_set task command.group command.mask begun
+  unfolding begun command
+  begins_set =
+      ap (λ c. act_current app limits c begun) runs
+      ∙ ap (λ o. act_if app task o begun) is
+      ∙ acts_calm app task Obey begun none refl (λ e. absurd (cc))
+      ∙ ap (λ p. obey app task command p begun) reached
+      ∙ ap (λ (b : Bool). if b then clear_by_daemon app task command.group command.mask begun else begin_set task command.group command.mask begun) sets
+
+  pub not_over_setting : (running : ℕ) → (step app limits [] s).current ≡ Some running → is_over app limits s ≡ false → is_over app limits (step app limits [] s) ≡ false
+  unfolding begun command
+  not_over_setting running still going =
+      not_over_by app limits running s (begin_set task command.group command.mask begun) begins_set
+      (on-begin_set begun task command.group command.mask) (stopped-begin_set begun task command.group command.mask) (lasts-begin_set task command.group command.mask begun).elapsed
+      still going

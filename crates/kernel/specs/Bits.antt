@@ -1,16 +1,17 @@
 -- The steps in which a call on an event group lets go of the scheduler.
 use Rattle.std.specs.Prelude.{◌≡◌, ℕ, Bool, true, false, Some}
 use Rattle.model.specs.declared.op.Op.{Op}
-use Rattle.model.specs.declared.op.Op.TheVariants.{SetBits, WaitBits}
+use Rattle.model.specs.declared.op.Op.TheVariants.{SetBits, WaitBits, Obey}
 use Rattle.model.specs.declared.call.Phase.TheVariants.{Leave}
 use Rattle.model.specs.Application.{Application, op_at}
 use Rattle.machine.specs.declared.machine.Machine.{Machine}
 use Rattle.machine.specs.StandsFor.{progress_in}
 
--- an op that sets bits, or waits for them
+-- an op that sets bits, or waits for them, or does the daemon's command
 abbrev pub is_for_bits : Op → Bool
 is_for_bits (SetBits group mask) = true
 is_for_bits (WaitBits group condition ticks) = true
+is_for_bits Obey = true
 is_for_bits _ = false
 
 -- The running task's op is such a one, and lets go of the scheduler next; no `suspend_all` is in force.

@@ -6,5 +6,7 @@ pub mod Along
 pub mod Quiet
 pub mod Over
 pub mod InCall
+pub mod InScript
 pub mod Bits
+pub mod Commands
 pub mod Left

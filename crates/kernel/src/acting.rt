@@ -1,7 +1,9 @@
 //! What the running task's op does.
-ghost use Rattle.std.specs.Prelude.{◌≡◌, ◌<◌, ◌≤◌};
+ghost use Rattle.std.specs.Prelude.{◌≡◌, ◌<◌, ◌≤◌, true};
 ghost use Rattle.model.specs.Step.{act_unless, misuse, act};
-ghost use Rattle.machine.specs.StandsFor.{DoesAny, Does};
+ghost use Rattle.machine.specs.StandsFor.{DoesAny, Does, IsPlaced};
+ghost use Rattle.kernel.specs.declared.acting.Following.TheVariants as following;
+ghost use Rattle.kernel.specs.InScript.{is_of_script};
 ghost use Rattle.kernel.specs.Can.{CanOp};
 ghost use Rattle.model.specs.declared.op.Op.TheVariants as op;
 ghost use Rattle.model.specs.Ops.{use_up};
@@ -20,6 +22,60 @@ use ops::script::{branch, close_turn, end_if, expect, leave_loop, mark, open_loo
 use ops::suspension::{call_resume, call_suspend};
 use ops::time::{call_yield, delay, delay_until, time, use_up};
 
+/// What may come behind a step that told nothing, and is done with the step's parts at hand.
+#[derive(Clone, Copy, PartialEq)]
+pub(crate) enum Following {
+    /// Nothing: any other step.
+    Nothing,
+    /// Steps that are done one after another: those of a call, or those of a `work` of which a tick is left before the last.
+    Steps,
+    /// Those in which the daemon does the command that it has received.
+    Command,
+    /// The op to which its task has come amid its script, while nothing else changed.
+    NextOp,
+}
+
+impl Following {
+    ghost use Rattle.std.specs.Prelude.{◌≡◌, ◌≢◌, true};
+    ghost use Rattle.kernel.specs.declared.acting.Following.TheVariants as following;
+
+    /// The task's next op, if it is still amid its script.
+    #[inline(always)]
+    fn op_if(is_amid: bool) -> Following
+        ensures { result ≡ following.NextOp → is_amid ≡ true }
+    {
+        if is_amid {
+            Following::NextOp
+        } else {
+            Following::Nothing
+        }
+    }
+
+    /// Steps, if some may come.
+    #[inline(always)]
+    fn steps_if(may_come: bool) -> Following
+        ensures { result ≢ following.NextOp }
+    {
+        if may_come {
+            Following::Steps
+        } else {
+            Following::Nothing
+        }
+    }
+
+    /// Those of a command, if one was received, or else those of the call that waits for one.
+    #[inline(always)]
+    fn command_if(received: bool) -> Following
+        ensures { result ≢ following.NextOp }
+    {
+        if received {
+            Following::Command
+        } else {
+            Following::Steps
+        }
+    }
+}
+
 /// `work`: a tick of it is used up, and the tick passes.
 #[inline(always)]
 pub(crate) fn work<L: Log>(machine: &mut Machine, app: &App, task: TaskId, ticks: u32, log: &mut L)
@@ -32,8 +88,8 @@ pub(crate) fn work<L: Log>(machine: &mut Machine, app: &App, task: TaskId, ticks
     tick_interrupt(machine, app, log);
 }
 
-/// What the running task's op does, where no `suspend_all` is in force; a misuse ends the run, and does nothing else. It answers whether
-/// steps may come behind it that are done one after another: those of a call, or those of a `work` of which a tick is left before the last.
+/// What the running task's op does, where no `suspend_all` is in force; a misuse ends the run, and does nothing else. It answers what
+/// may come behind it.
 #[inline(always)]
 pub(crate) fn act<L: Log>(
     machine: &mut Machine,
@@ -41,44 +97,47 @@ pub(crate) fn act<L: Log>(
     task: TaskId,
     op: &Op,
     log: &mut L,
-) -> bool
+) -> Following
     requires room { 65 ≤ (L.logged log.old).room }
     requires can { CanOp app.now machine.old task op.now }
     requires awake { machine.old.suspensions ≡ 0 }
-    ensures { DoesAny 65 machine.old (L.logged log.old) machine.new (L.logged log.new)
+    ensures does { DoesAny 65 machine.old (L.logged log.old) machine.new (L.logged log.new)
         (λ s. act_unless app.now task (misuse s task op.now) op.now s) }
+    ensures amid { result ≡ following.NextOp → IsPlaced machine.old machine.new task }
+    ensures silent { result ≡ following.NextOp → L.logged log.new ≡ L.logged log.old }
+    ensures plain { result ≡ following.NextOp → is_of_script op.now ≡ true }
 {
     match *op {
         Op::Work(ticks) => {
             // This tick and the last aren't passed with others.
             let left = ticks - machine.progress(task).used;
             work(machine, app, task, ticks, log);
-            return left > 2;
+            return Following::steps_if(left > 2);
         }
         Op::Await(object, access, ticks) => {
             go_on_waiting(machine, app, task, object, access, ticks, log);
-            return true;
+            return Following::Steps;
         }
         Op::SetBits(group, mask) => {
             set_bits(machine, app, task, group, mask, log);
-            return true;
+            return Following::Steps;
         }
         Op::WaitBits(group, condition, ticks) => {
             wait_bits(machine, app, task, group, condition, ticks, log);
-            return true;
+            return Following::Steps;
         }
+        Op::Expect(condition) => return Following::op_if(expect(machine, app, task, condition)),
+        Op::Repeat(turns) => return Following::op_if(open_loop(machine, app, task, turns)),
+        Op::End => return Following::op_if(close_turn(machine, app, task)),
+        Op::If(condition) => return Following::op_if(branch(machine, app, task, condition)),
+        Op::Else => return Following::op_if(skip_branch(machine, app, task)),
+        Op::EndIf => return Following::op_if(end_if(machine, app, task)),
+        Op::Break => return Following::op_if(leave_loop(machine, app, task)),
         Op::Delay(ticks) => delay(machine, app, task, ticks, log),
         Op::DelayUntil(ticks) => delay_until(machine, app, task, ticks, log),
         Op::Yield => call_yield(machine, app, task, log),
         Op::Time => time(machine, app, task, log),
         Op::Mark(number) => mark(machine, app, task, number, log),
-        Op::Expect(condition) => expect(machine, app, task, condition),
-        Op::Repeat(turns) => open_loop(machine, app, task, turns),
-        Op::End => close_turn(machine, app, task),
-        Op::If(condition) => branch(machine, app, task, condition),
-        Op::Else => skip_branch(machine, app, task),
-        Op::EndIf => end_if(machine, app, task),
-        Op::Break => leave_loop(machine, app, task),
         Op::Do(object, access) => do_now(machine, app, task, object, access, log),
         Op::GiveMutex(object) => give_mutex(machine, app, task, object, log),
         Op::MessagesWaiting(object) => messages_waiting(machine, app, task, object, log),
@@ -89,8 +148,13 @@ pub(crate) fn act<L: Log>(
         Op::Resume(other) => call_resume(machine, app, task, other, log),
         Op::SuspendAll => call_suspend_all(machine, app, task, log),
         Op::ResumeAll => machine.misuse(task, Misuse::NotSuspended),
-        Op::NextCommand(queue) => next_command(machine, app, task, queue, log),
-        Op::Obey => obey(machine, app, task, log),
+        Op::NextCommand(queue) => {
+            return Following::command_if(next_command(machine, app, task, queue, log));
+        }
+        Op::Obey => {
+            obey(machine, app, task, log);
+            return Following::Steps;
+        }
     }
-    false
+    Following::Nothing
 }

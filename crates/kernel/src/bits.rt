@@ -1,6 +1,6 @@
 //! The steps in which a call on an event group lets go of the scheduler. Each comes after a step that told nothing, in which the call
 //! has taken hold of it, and is done with the call in hand.
-ghost use Rattle.std.specs.Prelude.{◌≡◌, ◌<◌, ◌≤◌, [], IfSome};
+ghost use Rattle.std.specs.Prelude.{◌≡◌, ◌<◌, ◌≤◌, [], IfSome, Some, length};
 ghost use Rattle.model.specs.declared.call.Phase.TheVariants.{Leave};
 ghost use Rattle.model.specs.Application.{Limits};
 ghost use Rattle.model.specs.State.{State};
@@ -9,26 +9,29 @@ ghost use Rattle.machine.specs.Logged.{all_of};
 ghost use Rattle.machine.specs.StandsFor.{DoesAny, Stands, progress_in};
 ghost use Rattle.kernel.specs.Bits.{IsLettingGo, is_for_bits};
 ghost use Rattle.kernel.specs.Can.{CanOp, CanStepUnderSome};
-ghost use Rattle.kernel.specs.Along.{IsFree, GoesOn};
+ghost use Rattle.kernel.specs.Along.{IsFree, GoesOn, IsGoing, GoesFurther};
 
+use crate::acting::Following;
+use crate::commands::pass_command;
 use crate::in_call::{pass_leave, phase};
 use crate::quiet::pass_on;
 use crate::steps::{is_over_running, op_of};
 use machine::{Log, Machine, Trail};
 use model::{App, Injection, Limits, Op, Phase, TaskId};
+use ops::daemon::{command_of, end_set_by_daemon};
 use ops::event_groups::{end_set, leave_bits_wait};
 
-/// Whether an op sets bits, or waits for them.
+/// Whether an op sets bits, or waits for them, or does the daemon's command.
 #[inline(always)]
 fn is_for_bits(op: &Op) -> bool
     ensures { result ≡ is_for_bits op.now }
 {
-    matches!(op, Op::SetBits(_, _) | Op::WaitBits(_, _, _))
+    matches!(op, Op::SetBits(_, _) | Op::WaitBits(_, _, _) | Op::Obey)
 }
 
 /// The running task, where its call lets go of the scheduler next.
 #[inline(always)]
-fn letting_go(machine: &Machine) -> Option<TaskId>
+pub(crate) fn letting_go(machine: &Machine) -> Option<TaskId>
     ensures current { IfSome result (λ task. machine.now.sched.current ≡ Some task) }
     ensures reached { IfSome result (λ task. (progress_in machine.now.progress task).call.phase ≡ Leave) }
 {
@@ -51,6 +54,10 @@ fn let_go<L: Log>(machine: &mut Machine, app: &App, task: TaskId, op: &Op, log: 
     match *op {
         Op::WaitBits(_, _, _) => leave_bits_wait(machine, task, log),
         Op::SetBits(_, _) => end_set(machine, app, task, log),
+        Op::Obey => {
+            let group = command_of(machine, task).group;
+            end_set_by_daemon(machine, app, task, group, log);
+        }
         // No other op is for bits.
         _ => {}
     }
@@ -75,6 +82,26 @@ fn step_letting_go<L: Log>(machine: &mut Machine, app: &App, task: TaskId, op: &
     machine.steps += 1;
 }
 
+/// The op of the running task, whose call lets go of the scheduler next, where it is one for bits.
+#[inline(always)]
+fn op_letting_go<'a>(machine: &Machine, app: &'a App, task: TaskId) -> Option<&'a Op>
+    requires there { task < length app.now.tasks }
+    requires runs { machine.now.sched.current ≡ Some task }
+    requires reached { (progress_in machine.now.progress task).call.phase ≡ Leave }
+    ensures { IfSome result (λ op. IsLettingGo app.now machine.now task op.now) }
+{
+    if machine.suspensions > 0 {
+        return None;
+    }
+    let Some(op) = op_of(app, task, machine.progress(task).op_index) else {
+        return None;
+    };
+    if !is_for_bits(op) {
+        return None;
+    }
+    Some(op)
+}
+
 /// Does the step in which the running task's call on an event group lets go of the scheduler, where it has come to that. It comes before
 /// the step of this number, and before that one the plan has no injection and no limit is reached.
 #[inline(always)]
@@ -95,18 +122,42 @@ fn pass_bits(
 {
     app.well_formed();
     limits.well_formed();
-    if kernel.suspensions > 0 {
-        return;
-    }
-    let Some(op) = op_of(app, task, kernel.progress(task).op_index) else {
+    let Some(op) = op_letting_go(kernel, app, task) else {
         return;
     };
-    if !is_for_bits(op) {
+    if is_over_running(kernel, app, task, limits) {
         return;
     }
-    if is_over_running(kernel, app, limits) {
+    if trail.begin().is_err() {
         return;
     }
+    step_letting_go(kernel, app, task, op, trail);
+}
+
+/// The same along a run that isn't over there: not where that step is of this number.
+#[inline(always)]
+pub(crate) fn pass_bits_on(
+    kernel: &mut Machine,
+    app: &App,
+    injections: &[Injection],
+    until: u32,
+    task: TaskId,
+    limits: &Limits,
+    trail: &mut Trail,
+)
+    requires going { IsGoing app.now limits.now until kernel.old injections.now }
+    requires runs { kernel.old.sched.current ≡ Some task }
+    requires reached { (progress_in kernel.old.progress task).call.phase ≡ Leave }
+    ensures { GoesFurther app.now limits.now until kernel.old kernel.new (all_of trail.old) (all_of trail.new) }
+{
+    app.well_formed();
+    limits.well_formed();
+    if until <= kernel.steps {
+        return;
+    }
+    let Some(op) = op_letting_go(kernel, app, task) else {
+        return;
+    };
     if trail.begin().is_err() {
         return;
     }
@@ -121,7 +172,7 @@ pub(crate) fn pass_more(
     app: &App,
     injections: &[Injection],
     until: u32,
-    may_follow: bool,
+    following: Following,
     limits: &Limits,
     trail: &mut Trail,
 )
@@ -130,7 +181,11 @@ pub(crate) fn pass_more(
     ensures { GoesOn app.now limits.now until kernel.old kernel.new (all_of trail.old) (all_of trail.new) }
 {
     app.well_formed();
-    if !may_follow || !trail.is_silent() {
+    if following == Following::Nothing || following == Following::NextOp || !trail.is_silent() {
+        return;
+    }
+    if following == Following::Command {
+        pass_command(kernel, app, injections, until, limits, trail);
         return;
     }
     if let Some(task) = letting_go(kernel) {

@@ -1,6 +1,6 @@
 //! The steps of a call that waits, from where it decides until it has let go of the scheduler. They are done one after another,
 //! with the call in hand, and nothing is looked for in each.
-ghost use Rattle.std.specs.Prelude.{◌≡◌, ◌+◌, ◌≤◌, false, List, [], IfSome};
+ghost use Rattle.std.specs.Prelude.{◌≡◌, ◌+◌, ◌≤◌, ℕ, false, List, [], Option, IfSome};
 ghost use Rattle.model.specs.declared.call.Phase as declared;
 ghost use Rattle.model.specs.declared.call.Phase.TheVariants.{Decide, Leave};
 ghost use Rattle.model.specs.declared.plan.Injection as definitions;
@@ -12,7 +12,7 @@ ghost use Rattle.machine.specs.Logged.{all_of};
 ghost use Rattle.machine.specs.StandsFor.{Stands, progress_in};
 ghost use Rattle.kernel.specs.Can.{CanStepUnderSome};
 ghost use Rattle.ops.specs.InCall.{IsSilent};
-ghost use Rattle.kernel.specs.InCall.{IsInPhase, IsLeaving};
+ghost use Rattle.kernel.specs.InCall.{IsCallOn, IsInPhase, IsLeaving};
 ghost use Rattle.kernel.specs.Over.{is_over};
 ghost use Rattle.kernel.specs.Along.{IsFree, GoesOn, NoneIsOver, IsGoing, GoesFurther};
 
@@ -20,6 +20,18 @@ use crate::steps::{is_at_tick_limit, is_left_alone, op_of};
 use machine::{Log, Machine, Trail};
 use model::{Access, App, Injection, Limits, ObjectId, Op, Phase, TaskId};
 use ops::calls::{go_on_silently, leave_call};
+
+/// On which object an op is a call that waits, and what it does there.
+#[inline(always)]
+fn call_of(op: &Op) -> Option<(ObjectId, Access)>
+    ensures { IfSome result (λ call. (ticks : Option ℕ) × IsCallOn op.now call.0 call.1 ticks) }
+{
+    match *op {
+        Op::Await(object, access, _) => Some((object, access)),
+        Op::NextCommand(queue) => Some((queue, Access::Receive)),
+        _ => None,
+    }
+}
 
 /// The phase that is next of a task's call.
 pub(crate) fn phase(machine: &Machine, task: TaskId) -> Phase
@@ -171,11 +183,12 @@ pub(crate) fn pass_call(
     if kernel.suspensions > 0 || until.saturating_sub(kernel.steps) < 3 {
         return None;
     }
-    let op = op_of(app, task, kernel.progress(task).op_index)?;
-    let Op::Await(object, access, _) = *op else {
+    let Some(op) = op_of(app, task, kernel.progress(task).op_index) else {
         return None;
     };
-    let call = (object, access);
+    let Some(call) = call_of(op) else {
+        return None;
+    };
     pass_phase(kernel, app, injections, task, &call, Phase::Decide, limits);
     pass_if_next(kernel, app, injections, task, &call, Phase::Place, limits);
     pass_if_next(kernel, app, injections, task, &call, Phase::Unlock, limits);

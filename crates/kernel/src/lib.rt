@@ -3,6 +3,7 @@
 
 mod acting;
 mod bits;
+mod commands;
 mod handlers;
 mod idle;
 mod in_call;

@@ -1,5 +1,5 @@
 //! Steps, and whole runs.
-ghost use Rattle.std.specs.Prelude.{◌≡◌, true, false, ℕ, ◌<◌, ◌≤◌, ◌+◌, ◌^◌, ◌++◌, [], Some, None, ◌||◌, ◌&&◌, IfSome, IsNone, IfOk, OnOk, OnErr, drop, length};
+ghost use Rattle.std.specs.Prelude.{◌≡◌, ◌≢◌, true, false, ℕ, ◌<◌, ◌≤◌, ◌+◌, ◌^◌, ◌++◌, [], Some, None, ◌||◌, ◌&&◌, IfSome, IsNone, IfOk, OnOk, OnErr, drop, length};
 ghost use Rattle.std.specs.List.{AllByRecursion, list_all, list_any};
 ghost use Rattle.model.specs.Application.{is_endless, op_at};
 ghost use Rattle.model.specs.State.{State, Task};
@@ -16,10 +16,12 @@ ghost use Rattle.kernel.specs.Blocked.{is_blocked};
 ghost use Rattle.kernel.specs.Over.{is_at_tick_limit, is_over};
 ghost use Rattle.machine.specs.Can.{IsUnderWay};
 ghost use Rattle.kernel.specs.Can.{CanAct, CanStep};
-ghost use Rattle.kernel.specs.Along.{IsFree, GoesTo, GoesOn};
+ghost use Rattle.kernel.specs.InScript.{IsAt, IsAtNone};
+ghost use Rattle.kernel.specs.declared.acting.Following.TheVariants as following;
+ghost use Rattle.kernel.specs.Along.{IsFree, GoesTo, GoesOn, IsGoing, GoesFurther};
 ghost use Rattle.kernel.specs.Rows.{events_from, Extends};
 
-use crate::acting::act;
+use crate::acting::{Following, act};
 use crate::bits::pass_more;
 use crate::handlers::inject_all;
 use crate::idle::idle;
@@ -46,43 +48,69 @@ pub(crate) fn op_of(app: &App, task: TaskId, op_index: u16) -> Option<&Op>
     definition.ops().get(op_index as usize)
 }
 
-/// Whether a `suspend_all` is in force.
-// It holds the scheduler, and mostly nothing does, as has just been asked (`is_over_on_the_way`).
+/// The op that the running task is at, where no `suspend_all` is in force; `None` also where idle runs.
 #[inline(always)]
-fn is_suspended(machine: &Machine) -> bool
-    ensures some { result ≡ true → 0 < machine.now.suspensions }
-    ensures none { result ≡ false → machine.now.sched.depth ≡ machine.now.suspensions → machine.now.suspensions ≡ 0 }
+fn current_op<'a>(machine: &Machine, app: &'a App) -> Option<(TaskId, &'a Op)>
+    requires there { IfSome machine.now.sched.current (λ task. task < length app.now.tasks) }
+    ensures some { IfSome result (λ found. IsAt app.now machine.now found.0 found.1.now) }
+    ensures none { IsNone result → IsAtNone app.now machine.now }
 {
-    machine.sched.depth() > 0 && machine.suspensions > 0
+    let Some(task) = machine.sched.current() else {
+        return None;
+    };
+    if machine.suspensions > 0 {
+        return None;
+    }
+    match op_of(app, task, machine.progress(task).op_index) {
+        None => None,
+        Some(op) => Some((task, op)),
+    }
 }
 
-/// What a step does: the running task's op, or idle. It answers whether steps may come behind it that are done one after
-/// another (`pass_more`).
+/// What a step does in which the running task has no op, or a `suspend_all` is in force, or idle runs. It answers what may come behind it
+/// (`pass_more`).
 #[inline(always)]
-fn act_current<L: Log>(machine: &mut Machine, app: &App, limits: &Limits, log: &mut L) -> bool
+fn act_otherwise<L: Log>(
+    machine: &mut Machine,
+    app: &App,
+    limits: &Limits,
+    log: &mut L,
+) -> Following
+    requires room { 65 ≤ (L.logged log.old).room }
+    requires there { IfSome machine.old.sched.current (λ task. task < length app.now.tasks) }
+    requires can { CanAct app.now limits.now machine.old }
+    requires none { IsAtNone app.now machine.old }
+    ensures does { DoesAny 65 machine.old (L.logged log.old) machine.new (L.logged log.new)
+        (λ s. act_current app.now limits.now s.current s) }
+    ensures other { result ≢ following.NextOp }
+{
+    let Some(task) = machine.sched.current() else {
+        idle(machine, app, limits, log);
+        return Following::Steps;
+    };
+    if machine.suspensions > 0 {
+        act_while_suspended(machine, app, task, log);
+    }
+    Following::Nothing
+}
+
+/// What a step does: the running task's op, or idle. It answers what may come behind it (`pass_more`).
+#[inline(always)]
+fn act_current<L: Log>(machine: &mut Machine, app: &App, limits: &Limits, log: &mut L) -> Following
     requires room { 65 ≤ (L.logged log.old).room }
     requires there { IfSome machine.old.sched.current (λ task. task < length app.now.tasks) }
     requires can { CanAct app.now limits.now machine.old }
     ensures { DoesAny 65 machine.old (L.logged log.old) machine.new (L.logged log.new)
         (λ s. act_current app.now limits.now s.current s) }
 {
-    let Some(task) = machine.sched.current() else {
-        idle(machine, app, limits, log);
-        return true;
-    };
-    if is_suspended(machine) {
-        act_while_suspended(machine, app, task, log);
-        return false;
-    }
-    let op_index = machine.progress(task).op_index;
-    match op_of(app, task, op_index) {
-        Some(op) => act(machine, app, task, op, log),
-        None => false,
+    match current_op(machine, app) {
+        Some(found) => act(machine, app, found.0, found.1, log),
+        None => act_otherwise(machine, app, limits, log),
     }
 }
 
-/// One step of the run, before which these handlers come, whose events go to a log that has none of this step yet. It answers whether
-/// steps may come behind it that are done one after another (`pass_more`).
+/// One step of the run, before which these handlers come, whose events go to a log that has none of this step yet. It answers what may
+/// come behind it (`pass_more`).
 #[inline(always)]
 fn step_onto<L: Log>(
     machine: &mut Machine,
@@ -90,7 +118,7 @@ fn step_onto<L: Log>(
     handlers: &[HandlerId],
     limits: &Limits,
     log: &mut L,
-) -> bool
+) -> Following
     requires few { length handlers.now ≤ 3 }
     requires going { CanStep app.now limits.now machine.old }
     requires begun { (L.logged log.old).told ≡ [] }
@@ -103,14 +131,82 @@ fn step_onto<L: Log>(
     app.well_formed();
     inject_all(machine, app, handlers, log);
     // The end of the step stands twice, so that nothing is asked behind an op behind which nothing may follow.
-    if !act_current(machine, app, limits, log) {
+    let following = act_current(machine, app, limits, log);
+    if following == Following::Nothing {
         machine.settle(log);
         machine.steps += 1;
-        return false;
+        return Following::Nothing;
     }
     machine.settle(log);
     machine.steps += 1;
-    true
+    following
+}
+
+/// One step of the run without handlers, in which the running task does this op. Its events go to a log that has none of this step yet. It
+/// answers what may come behind it (`pass_more`).
+#[inline(always)]
+fn step_at<L: Log>(
+    machine: &mut Machine,
+    app: &App,
+    task: TaskId,
+    op: &Op,
+    limits: &Limits,
+    log: &mut L,
+) -> Following
+    requires going { CanStep app.now limits.now machine.old }
+    requires at { IsAt app.now machine.old task op.now }
+    requires begun { (L.logged log.old).told ≡ [] }
+    requires room { 128 ≤ (L.logged log.old).room }
+    ensures stands { (s : State) → Stands machine.old s → Stands machine.new (step app.now limits.now [] s) }
+    ensures told { (s : State) → Stands machine.old s → (L.logged log.new).told ≡ (step app.now limits.now [] s).log }
+    ensures before { (L.logged log.new).before ≡ (L.logged log.old).before }
+    ensures silent { result ≡ following.NextOp → L.logged log.new ≡ L.logged log.old }
+    ensures runs { result ≡ following.NextOp → machine.new.sched.current ≡ Some task }
+    ensures awake { result ≡ following.NextOp → machine.new.suspensions ≡ 0 }
+    ensures on { result ≡ following.NextOp → (s : State) → Stands machine.old s → is_over app.now limits.now s ≡ false
+        → is_over app.now limits.now (step app.now limits.now [] s) ≡ false }
+{
+    app.well_formed();
+    let _ = limits;
+    let following = act(machine, app, task, op, log);
+    // The end of the step stands thrice, so that nothing is asked behind an op behind which nothing may follow, and none switches that only
+    // takes its task to another.
+    if following == Following::NextOp {
+        machine.steps += 1;
+        return Following::NextOp;
+    }
+    if following == Following::Nothing {
+        machine.settle(log);
+        machine.steps += 1;
+        return Following::Nothing;
+    }
+    machine.settle(log);
+    machine.steps += 1;
+    following
+}
+
+/// One step of the run without handlers, in which the running task has no op, or a `suspend_all` is in force, or idle runs. Its events go to
+/// a log that has none of this step yet. It answers what may come behind it (`pass_more`).
+#[inline(always)]
+fn step_otherwise<L: Log>(
+    machine: &mut Machine,
+    app: &App,
+    limits: &Limits,
+    log: &mut L,
+) -> Following
+    requires going { CanStep app.now limits.now machine.old }
+    requires none { IsAtNone app.now machine.old }
+    requires begun { (L.logged log.old).told ≡ [] }
+    requires room { 128 ≤ (L.logged log.old).room }
+    ensures stands { (s : State) → Stands machine.old s → Stands machine.new (step app.now limits.now [] s) }
+    ensures told { (s : State) → Stands machine.old s → (L.logged log.new).told ≡ (step app.now limits.now [] s).log }
+    ensures before { (L.logged log.new).before ≡ (L.logged log.old).before }
+{
+    app.well_formed();
+    let following = act_otherwise(machine, app, limits, log);
+    machine.settle(log);
+    machine.steps += 1;
+    following
 }
 
 /// One step of the run: these handlers, three at most, and then the running task's op, or a tick of idle (profile). The
@@ -177,6 +273,35 @@ fn are_others_ended(machine: &Machine, app: &App) -> bool
     true
 }
 
+/// Whether the run waits for a task's end: it isn't endless, and is Ready or waits for bits.
+#[inline(always)]
+fn is_awaited(machine: &Machine, app: &App, task: TaskId) -> bool
+    ensures { (s : State) → Stands machine.now s → result ≡ true → are_all_ended app.now s ≡ false }
+{
+    if app.is_endless(task) {
+        return false;
+    }
+    if machine.sched.is_ready(task) {
+        return true;
+    }
+    machine.groups.is_waiting(task)
+}
+
+/// Whether every task but the endless ones is Ended, and there is one, where this task runs.
+#[inline(always)]
+fn are_all_ended_beside(machine: &Machine, app: &App, task: TaskId) -> bool
+    ensures { (s : State) → Stands machine.now s → result ≡ are_all_ended app.now s }
+{
+    if !app.has_endless() {
+        app.well_formed();
+        return is_nobody_left(machine);
+    }
+    if is_awaited(machine, app, task) {
+        return false;
+    }
+    are_others_ended(machine, app)
+}
+
 /// Whether every task but the endless ones is Ended, and there is one.
 #[inline(always)]
 fn are_all_ended(machine: &Machine, app: &App) -> bool
@@ -198,7 +323,13 @@ pub(crate) fn is_left_alone(machine: &Machine, app: &App, task: TaskId) -> bool
     if !app.has_endless() {
         return false;
     }
-    app.is_endless(task) && are_others_ended(machine, app)
+    if !app.is_endless(task) {
+        return false;
+    }
+    if is_awaited(machine, app, app.first_awaited()) {
+        return false;
+    }
+    are_others_ended(machine, app)
 }
 
 /// Whether idle runs, no task will wake by itself, and no base interrupt is to come.
@@ -243,40 +374,63 @@ pub(crate) fn is_over(machine: &Machine, app: &App, limits: &Limits) -> bool
     is_stuck(machine, app)
 }
 
-/// The same where a task runs: then the run isn't stuck.
+/// The same where this task runs: then the run isn't stuck.
 #[inline(always)]
-pub(crate) fn is_over_running(machine: &Machine, app: &App, limits: &Limits) -> bool
-    requires { (task : ℕ) × (machine.now.sched.current ≡ Some task) }
+pub(crate) fn is_over_running(machine: &Machine, app: &App, task: TaskId, limits: &Limits) -> bool
+    requires { machine.now.sched.current ≡ Some task }
     ensures { (s : State) → Stands machine.now s → result ≡ is_over app.now limits.now s }
 {
     if machine.stopped.is_some() {
         return true;
     }
-    if are_all_ended(machine, app) {
+    if are_all_ended_beside(machine, app, task) {
         return true;
     }
     is_at_tick_limit(machine, app, limits)
 }
 
-/// The same in a state that a run comes to. A task that runs there while nothing holds the scheduler is Ready, so the run is over only if
-/// it has been stopped, or that task is endless and left alone.
+/// The running task and the op that it is at (`current_op`) in a state that a run comes to, or any task and none; where the run is over
+/// there, nothing at all. A task
+/// that runs there while nothing holds the scheduler is Ready, so the run is over only if it has been stopped, or that task is endless and
+/// left alone.
 #[inline(always)]
-fn is_over_on_the_way(machine: &Machine, app: &App, limits: &Limits) -> bool
-    ensures { (s : State) → Stands machine.now s → IsState app.now s → result ≡ is_over app.now limits.now s }
+fn op_if_going<'a>(
+    machine: &Machine,
+    app: &'a App,
+    limits: &Limits,
+) -> Option<(TaskId, Option<&'a Op>)>
+    requires there { IfSome machine.now.sched.current (λ task. task < length app.now.tasks) }
+    requires depth { machine.now.suspensions ≤ machine.now.sched.depth }
+    ensures going { IfSome result (λ found. (s : State) → Stands machine.now s → IsState app.now s
+        → is_over app.now limits.now s ≡ false) }
+    ensures some { IfSome result (λ found. IfSome found.1 (λ op. IsAt app.now machine.now found.0 op.now)) }
+    ensures none { IfSome result (λ found. IsNone found.1 → IsAtNone app.now machine.now) }
 {
     let Some(task) = machine.sched.current() else {
-        return is_over(machine, app, limits);
+        if is_over(machine, app, limits) {
+            return None;
+        }
+        return Some((TaskId { number: 0 }, None));
     };
     if machine.sched.depth() > 0 {
-        return is_over(machine, app, limits);
+        if is_over(machine, app, limits) {
+            return None;
+        }
+        return match current_op(machine, app) {
+            None => Some((TaskId { number: 0 }, None)),
+            Some(pair) => Some((pair.0, Some(pair.1))),
+        };
     }
     if machine.stopped.is_some() {
-        return true;
+        return None;
     }
     if is_left_alone(machine, app, task) {
-        return true;
+        return None;
     }
-    is_at_tick_limit(machine, app, limits)
+    if is_at_tick_limit(machine, app, limits) {
+        return None;
+    }
+    Some((task, op_of(app, task, machine.progress(task).op_index)))
 }
 
 /// The end of the run before its next step, under these limits: the first that holds of a failed `expect` or a misuse,
@@ -431,6 +585,79 @@ pub(crate) fn count_steps(meter: &mut Meter, steps: u32)
     }
 }
 
+/// The steps in which the running task only goes on amid its script, beginning with this op, and the next, which does more; but none from
+/// the step before this one on. The run is under way, and isn't over; the trail has no event of this step yet. It answers what may come
+/// behind the last of them (`pass_more`).
+#[inline(always)]
+fn step_along_script(
+    kernel: &mut Machine,
+    app: &App,
+    injections: &[Injection],
+    until: u32,
+    task: TaskId,
+    first: &Op,
+    limits: &Limits,
+    trail: &mut Trail,
+) -> Following
+    requires going { IsGoing app.now limits.now until kernel.old injections.now }
+    requires soon { kernel.old.steps + 1 < until }
+    requires at { IsAt app.now kernel.old task first.now }
+    requires begun { trail.old.told ≡ [] }
+    requires room { 128 ≤ trail.old.room }
+    ensures along { GoesFurther app.now limits.now until kernel.old kernel.new (all_of trail.old) (all_of trail.new) }
+    ensures on { kernel.old.steps < kernel.new.steps }
+    ensures soon { kernel.new.steps < until }
+{
+    app.well_formed();
+    limits.well_formed();
+    let last = until - 2;
+    let mut op = first;
+    'steps: loop {
+        let following = step_at(kernel, app, task, op, limits, trail);
+        if following != Following::NextOp || last < kernel.steps {
+            return following;
+        }
+        let Some(next) = op_of(app, task, kernel.progress(task).op_index) else {
+            return Following::Nothing;
+        };
+        op = next;
+    }
+}
+
+/// The next step, and those before it in which the running task only goes on amid its script; but none from the step before this one on. The
+/// running task is at this op, if at any, the run is under way, and isn't over; the trail has no event of this step yet. It answers what may
+/// come behind the last of them (`pass_more`).
+#[inline(always)]
+fn step_on(
+    kernel: &mut Machine,
+    app: &App,
+    injections: &[Injection],
+    until: u32,
+    task: TaskId,
+    op: Option<&Op>,
+    limits: &Limits,
+    trail: &mut Trail,
+) -> Following
+    requires going { IsGoing app.now limits.now until kernel.old injections.now }
+    requires soon { kernel.old.steps + 1 < until }
+    requires some { IfSome op (λ op. IsAt app.now kernel.old task op.now) }
+    requires none { IsNone op → IsAtNone app.now kernel.old }
+    requires begun { trail.old.told ≡ [] }
+    requires room { 128 ≤ trail.old.room }
+    ensures along { GoesFurther app.now limits.now until kernel.old kernel.new (all_of trail.old) (all_of trail.new) }
+    ensures on { kernel.old.steps < kernel.new.steps }
+    ensures soon { kernel.new.steps < until }
+{
+    app.well_formed();
+    limits.well_formed();
+    match op {
+        Some(first) => {
+            step_along_script(kernel, app, injections, until, task, first, limits, trail)
+        }
+        None => step_otherwise(kernel, app, limits, trail),
+    }
+}
+
 /// Goes on as `go_on` does, but counts nothing, and also stops before the last step, so that two steps may be done at once, and where
 /// the trail has less room than a step may need and gets no more.
 #[inline(never)]
@@ -452,11 +679,13 @@ fn go_on_in_room(
         if trail.begin().is_err() {
             return;
         }
-        if is_over_on_the_way(kernel, app, limits) {
+        let Some(found) = op_if_going(kernel, app, limits) else {
             return;
-        }
-        let may_follow = step_onto(kernel, app, &[], limits, trail);
-        pass_more(kernel, app, injections, until, may_follow, limits, trail);
+        };
+        let following = step_on(
+            kernel, app, injections, until, found.0, found.1, limits, trail,
+        );
+        pass_more(kernel, app, injections, until, following, limits, trail);
     }
 }
 

@@ -122,13 +122,27 @@ fn act_on<L: Log>(machine: &mut Machine, app: &App, task: TaskId, op: &Op, log: 
         Op::Work(ticks) => work_on(machine, app, task, ticks, log),
         Op::Time => time(machine, app, task, log),
         Op::Mark(number) => mark(machine, app, task, number, log),
-        Op::Expect(condition) => expect(machine, app, task, condition),
-        Op::Repeat(turns) => open_loop(machine, app, task, turns),
-        Op::End => close_turn(machine, app, task),
-        Op::If(condition) => branch(machine, app, task, condition),
-        Op::Else => skip_branch(machine, app, task),
-        Op::EndIf => end_if(machine, app, task),
-        Op::Break => leave_loop(machine, app, task),
+        Op::Expect(condition) => {
+            expect(machine, app, task, condition);
+        }
+        Op::Repeat(turns) => {
+            open_loop(machine, app, task, turns);
+        }
+        Op::End => {
+            close_turn(machine, app, task);
+        }
+        Op::If(condition) => {
+            branch(machine, app, task, condition);
+        }
+        Op::Else => {
+            skip_branch(machine, app, task);
+        }
+        Op::EndIf => {
+            end_if(machine, app, task);
+        }
+        Op::Break => {
+            leave_loop(machine, app, task);
+        }
         Op::MessagesWaiting(object) => messages_waiting(machine, app, task, object, log),
         Op::SpacesAvailable(object) => spaces_available(machine, app, task, object, log),
         Op::ClearBits(group, mask) => clear_bits(machine, app, task, group, mask, log),

@@ -18,7 +18,7 @@ use Rattle.machine.specs.declared.machine.Machine.{Machine}
 use Rattle.sched.specs.Schedule.{Schedule, block}
 use Rattle.sched.proofs.Standing as on_sched
 use Rattle.groups.specs.StandsFor.{bits_wait}
-use Rattle.machine.specs.StandsFor.{progress_in, At, with_progress}
+use Rattle.machine.specs.StandsFor.{progress_in, At, with_progress, IsPlaced}
 use Rattle.machine.specs.Can.{Agrees, Runs}
 use Rattle.machine.proofs.Parts.{stands-changed, stands-gone, stands-ended, stands-unseen, stands-told}
 
@@ -47,6 +47,10 @@ Goes app k i op_index new = (log : List Event) (s : State) → At k log s → At
 -- or after the op that it was at is complete
 abbrev pub Completes : Application → Machine → ℕ → Machine → Type 0
 Completes app k i new = (log : List Event) (s : State) → At k log s → At new log (complete app i (progress_at s i) s)
+
+-- Where the task makes progress, and is placed then, all in all it is placed.
+pub placed_then : (k mid new : Machine) (i : ℕ) (p : Progress) → mid ≡ with_progress i p k → IsPlaced mid new i → IsPlaced k new i
+placed_then k mid new i p is n = (n.0, n.1 ∙ ap (with_progress i n.0) is ∙ ap (λ (ps : List Progress). record k { progress = ps }) (set-set k.progress i p n.0))
 
 -- The running task of the kernel makes progress, and then goes on.
 module _ (app : Application) (k mid new : Machine) (log : List Event) (s : State) (h : At k log s) (i : ℕ) (r : k.sched.current ≡ Some i) (p q : Progress) (is : mid ≡ with_progress i p k) (same : p ≡ q) (off : p.call.phase ≢ Place) (wants : q.call.wants ≡ (call_at s i).wants) where

@@ -104,3 +104,7 @@ change step time before now =
 -- The kernel keeps this as the task's progress.
 abbrev pub with_progress : ℕ → Progress → Machine → Machine
 with_progress task p k = record k { progress = slice_set k.progress task p }
+
+-- Another progress of the task is kept, and all else is as it was.
+abbrev pub IsPlaced : Machine → Machine → ℕ → Type 0
+IsPlaced old new task = (p : Progress) × (new ≡ with_progress task p old)

@@ -1,10 +1,10 @@
 //! An op is complete, or is a misuse: the task goes on, and its call answers.
-ghost use Rattle.std.specs.Prelude.{◌≡◌, ◌<◌, ◌≤◌, ◌+◌, Some, None};
+ghost use Rattle.std.specs.Prelude.{◌≡◌, ◌<◌, ◌≤◌, ◌+◌, true, Some, None};
 ghost use Rattle.model.specs.State.{progress_at};
 ghost use Rattle.model.specs.Ops.{go_to, complete, called, answer, one_if};
 ghost use Rattle.model.specs.Daemon.{obeyed, received};
 ghost use Rattle.model.specs.Step.{misuse, misused};
-ghost use Rattle.machine.specs.StandsFor.{Does, Moves};
+ghost use Rattle.machine.specs.StandsFor.{Does, IsPlaced, Moves};
 ghost use Rattle.machine.specs.Can.{Runs};
 
 use crate::log::Log;
@@ -29,13 +29,14 @@ pub fn one_if(did: bool) -> u32
 }
 
 impl Machine {
-    /// The running task goes on at this op; past its last one it is Ended.
+    /// The running task goes on at this op; past its last one it is Ended. It answers whether the task is still amid its script.
     // Most ops end so, and a call would cost a third of it.
     #[inline(always)]
-    pub fn go_to(&mut self, app: &App, task: TaskId, op_index: u16)
+    pub fn go_to(&mut self, app: &App, task: TaskId, op_index: u16) -> bool
         requires { Runs self.old task }
         ensures does { Moves self.old self.new
             (λ s. go_to app.now task op_index (progress_at s task) s) }
+        ensures amid { result ≡ true → IsPlaced self.old self.new task }
         ensures depth { self.new.sched.depth ≡ self.old.sched.depth }
         ensures clock { self.new.clock ≡ self.old.clock }
         ensures queues { self.new.queues ≡ self.old.queues }
@@ -44,22 +45,25 @@ impl Machine {
         self.set_op_index(task, op_index);
         if op_index as usize == app.op_count(task) {
             self.sched.block(task);
+            return false;
         }
+        true
     }
 
-    /// The op that the running task is at is complete.
+    /// The op that the running task is at is complete. It answers whether the task is still amid its script.
     #[inline(always)]
-    pub fn complete(&mut self, app: &App, task: TaskId)
+    pub fn complete(&mut self, app: &App, task: TaskId) -> bool
         requires { Runs self.old task }
         ensures does { Moves self.old self.new
             (λ s. complete app.now task (progress_at s task) s) }
+        ensures amid { result ≡ true → IsPlaced self.old self.new task }
         ensures depth { self.new.sched.depth ≡ self.old.sched.depth }
         ensures clock { self.new.clock ≡ self.old.clock }
         ensures queues { self.new.queues ≡ self.old.queues }
         ensures suspensions { self.new.suspensions ≡ self.old.suspensions }
     {
         let next = self.progress(task).op_index + 1;
-        self.go_to(app, task, next);
+        self.go_to(app, task, next)
     }
 
     /// A call of the running task is complete with this answer, or with `none`.

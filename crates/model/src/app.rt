@@ -112,6 +112,18 @@ fn is_any_awaited(tasks: &[TaskDefinition]) -> bool
     false
 }
 
+// The first task that is not endless; where each is, the first.
+fn first_awaited(tasks: &[TaskDefinition]) -> TaskId {
+    for number in 0..32 {
+        if let Some(task) = tasks.get(number as usize) {
+            if !task.is_endless() {
+                return TaskId { number };
+            }
+        }
+    }
+    TaskId { number: 0 }
+}
+
 /// An interrupt handler as the file has it: a name, and ops (profile).
 #[derive(Drop)]
 pub struct HandlerDefinition {
@@ -174,6 +186,8 @@ pub struct App {
     // whether some task is endless, and whether some is not
     has_endless: bool,
     has_awaited: bool,
+    // the first that is not
+    first_awaited: TaskId,
 }
 
 impl Model for App {
@@ -273,6 +287,7 @@ impl App {
     {
         let has_endless = is_any_endless(tasks.as_slice());
         let has_awaited = is_any_awaited(tasks.as_slice());
+        let first_awaited = first_awaited(tasks.as_slice());
         App {
             start,
             tickless,
@@ -286,6 +301,7 @@ impl App {
             points,
             has_endless,
             has_awaited,
+            first_awaited,
         }
     }
 
@@ -417,6 +433,12 @@ impl App {
         ensures { result ≡ is_any_awaited self.now }
     {
         self.has_awaited
+    }
+
+    /// The first task that isn't endless. No contract says so: whoever goes by it asks `is_endless` of it.
+    #[inline]
+    pub fn first_awaited(&self) -> TaskId {
+        self.first_awaited
     }
 
     /// Whether no run waits for the end of this task; `false` where there is no such task.

@@ -1,8 +1,8 @@
 //! The daemon's ops: it waits for a command of a handler, and sets or clears bits of an event group for it.
-ghost use Rattle.std.specs.Prelude.{◌≡◌, ◌<◌, ◌≤◌, None};
+ghost use Rattle.std.specs.Prelude.{◌≡◌, ◌<◌, ◌≤◌, None, unwrap_or};
 ghost use Rattle.model.specs.declared.op.Access.TheVariants as access;
 ghost use Rattle.model.specs.declared.op.Op.TheVariants as op;
-ghost use Rattle.model.specs.Daemon.{clear_by_daemon, end_set_by_daemon, take_command};
+ghost use Rattle.model.specs.Daemon.{clear_by_daemon, command_of, end_set_by_daemon, take_command};
 ghost use Rattle.model.specs.Step.{act};
 ghost use Rattle.machine.specs.StandsFor.{Does, DoesAny, progress_in};
 ghost use Rattle.machine.specs.Can.{Runs};
@@ -14,14 +14,15 @@ use crate::queues::fulfil;
 use machine::{Log, Machine};
 use model::{Access, App, Command, GroupId, ObjectId, Phase, TaskId};
 
-/// A command that is there is taken. Otherwise the daemon decides to wait for one.
+/// A command that is there is taken. Otherwise the daemon decides to wait for one. It answers whether there was one.
+#[inline(always)]
 fn take_command<L: Log>(
     machine: &mut Machine,
     app: &App,
     task: TaskId,
     queue: ObjectId,
     log: &mut L,
-)
+) -> bool
     requires room { 1 ≤ (L.logged log.old).room }
     requires can { CanTry machine.old task queue access.Receive }
     ensures { Does 1 machine.old (L.logged log.old) machine.new (L.logged log.new)
@@ -31,12 +32,14 @@ fn take_command<L: Log>(
         let item = fulfil(machine, Some(task), queue, Access::Receive);
         machine.received(app, task, item);
         machine.preempt(log);
-    } else {
-        machine.set_phase(task, Phase::Decide);
+        return true;
     }
+    machine.set_phase(task, Phase::Decide);
+    false
 }
 
-/// The next phase of the daemon's receive, which waits for ever, and of which no event tells.
+/// The next phase of the daemon's receive, which waits for ever, and of which no event tells. It answers whether a command was
+/// received.
 // Few applications have a daemon, so it is no part of the step.
 #[inline(never)]
 pub fn next_command<L: Log>(
@@ -45,7 +48,7 @@ pub fn next_command<L: Log>(
     task: TaskId,
     queue: ObjectId,
     log: &mut L,
-)
+) -> bool
     requires room { 2 ≤ (L.logged log.old).room }
     requires can { CanGoOn machine.old task queue access.Receive None
         (progress_in machine.old.progress task).call.phase }
@@ -55,7 +58,10 @@ pub fn next_command<L: Log>(
     match machine.progress(task).call.phase {
         Phase::Start => take_command(machine, app, task, queue, log),
         Phase::Try => take_command(machine, app, task, queue, log),
-        _ => go_on_waiting(machine, app, task, queue, Access::Receive, None, log),
+        _ => {
+            go_on_waiting(machine, app, task, queue, Access::Receive, None, log);
+            false
+        }
     }
 }
 
@@ -78,7 +84,7 @@ fn clear_by_daemon<L: Log>(
 }
 
 /// The hold of a set ends, and the bits of the group are the answer.
-fn end_set_by_daemon<L: Log>(
+pub fn end_set_by_daemon<L: Log>(
     machine: &mut Machine,
     app: &App,
     task: TaskId,
@@ -98,7 +104,15 @@ fn end_set_by_daemon<L: Log>(
     machine.preempt(log);
 }
 
-/// The next phase of the command that the daemon has received, its last answer.
+/// The command that the daemon has received, its last answer.
+#[inline(always)]
+pub fn command_of(machine: &Machine, task: TaskId) -> Command
+    ensures { result ≡ command_of (unwrap_or (progress_in machine.now.progress task).answer 0) }
+{
+    Command::of_item(machine.progress(task).answer.unwrap_or(0))
+}
+
+/// The next phase of the command that the daemon has received.
 #[inline(never)]
 pub fn obey<L: Log>(machine: &mut Machine, app: &App, task: TaskId, log: &mut L)
     requires room { 2 ≤ (L.logged log.old).room }
@@ -106,10 +120,8 @@ pub fn obey<L: Log>(machine: &mut Machine, app: &App, task: TaskId, log: &mut L)
     ensures { DoesAny 2 machine.old (L.logged log.old) machine.new (L.logged log.new)
         (act app.now task op.Obey) }
 {
-    let progress = machine.progress(task);
-    let phase = progress.call.phase;
-    let command = Command::of_item(progress.answer.unwrap_or(0));
-    match phase {
+    let command = command_of(machine, task);
+    match machine.progress(task).call.phase {
         Phase::Start if command.clear => {
             clear_by_daemon(machine, app, task, command.group, command.mask, log);
         }

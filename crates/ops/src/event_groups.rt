@@ -100,7 +100,7 @@ fn wake_met(machine: &mut Machine, met: &Met)
 /// The scheduler is held, and the bits are set; what is left of them will be the answer.
 // Inlined, the list of those who are met would be part of every step.
 #[inline(never)]
-pub(crate) fn begin_set(machine: &mut Machine, task: TaskId, group: GroupId, mask: u32)
+pub fn begin_set(machine: &mut Machine, task: TaskId, group: GroupId, mask: u32)
     requires { CanDecide machine.old task }
     ensures { Moves machine.old machine.new (definitions.begin_set task group mask) }
 {

@@ -1,12 +1,13 @@
-//! Ops of the script alone: marks, expectations, loops, branches (profile).
-ghost use Rattle.std.specs.Prelude.{◌≡◌, ◌<◌, ◌≤◌, ◌+◌, length};
+//! Ops of the script alone: marks, expectations, loops, branches (profile). Those that tell nothing answer whether they did no more than to
+//! take the task to another op of its script.
+ghost use Rattle.std.specs.Prelude.{◌≡◌, ◌<◌, ◌≤◌, ◌+◌, true, length};
 ghost use Rattle.model.specs.declared.op.Op.TheVariants as op;
 ghost use Rattle.model.specs.Ops.{expect, open_loop, close_turn, complete, branch, skip_branch, leave_loop};
 ghost use Rattle.model.specs.State.{progress_at};
 ghost use Rattle.model.specs.Application.{script_of};
 ghost use Rattle.model.specs.Blocks.{jump_from};
 ghost use Rattle.model.specs.Step.{act};
-ghost use Rattle.machine.specs.StandsFor.{Does, Moves, progress_in};
+ghost use Rattle.machine.specs.StandsFor.{Does, IsPlaced, Moves, progress_in};
 ghost use Rattle.machine.specs.Can.{Runs};
 
 use machine::{Log, Machine};
@@ -25,35 +26,39 @@ pub fn mark<L: Log>(machine: &mut Machine, app: &App, task: TaskId, number: u32,
 }
 
 /// `expect`: the run ends where the condition doesn't hold of the last answer.
-pub fn expect(machine: &mut Machine, app: &App, task: TaskId, condition: AnswerCondition)
+pub fn expect(machine: &mut Machine, app: &App, task: TaskId, condition: AnswerCondition) -> bool
     requires runs { Runs machine.old task }
-    ensures { Moves machine.old machine.new (expect app.now task condition) }
+    ensures does { Moves machine.old machine.new (expect app.now task condition) }
+    ensures amid { result ≡ true → IsPlaced machine.old machine.new task }
 {
     let progress = machine.progress(task);
     if condition.holds(progress.answer) {
-        machine.complete(app, task);
+        machine.complete(app, task)
     } else {
         let failed = End::Check(task, progress.op_index);
         machine.stopped = machine.stopped.or(Some(failed));
+        false
     }
 }
 
 /// `repeat`: a loop of so many turns, or without end, begins at the next op.
-pub fn open_loop(machine: &mut Machine, app: &App, task: TaskId, turns: Option<u16>)
+pub fn open_loop(machine: &mut Machine, app: &App, task: TaskId, turns: Option<u16>) -> bool
     requires runs { Runs machine.old task }
     requires nesting { length (progress_in machine.old.progress task).loops < 4 }
-    ensures { Moves machine.old machine.new (open_loop app.now task turns) }
+    ensures does { Moves machine.old machine.new (open_loop app.now task turns) }
+    ensures amid { result ≡ true → IsPlaced machine.old machine.new task }
 {
     let start = machine.progress(task).op_index + 1;
     machine.push_loop(task, Loop { start, left: turns });
-    machine.complete(app, task);
+    machine.complete(app, task)
 }
 
 /// `end`: the next turn begins, or the loop is left.
 #[inline(always)]
-pub fn close_turn(machine: &mut Machine, app: &App, task: TaskId)
+pub fn close_turn(machine: &mut Machine, app: &App, task: TaskId) -> bool
     requires runs { Runs machine.old task }
-    ensures { Moves machine.old machine.new (close_turn app.now task) }
+    ensures does { Moves machine.old machine.new (close_turn app.now task) }
+    ensures amid { result ≡ true → IsPlaced machine.old machine.new task }
 {
     match machine.end_turn(task) {
         Some(start) => machine.go_to(app, task, start),
@@ -72,45 +77,49 @@ fn jump_from(machine: &Machine, app: &App, task: TaskId) -> u16
 
 /// `if`: the first branch is next where the condition holds of the last answer, and else what is behind it.
 #[inline(always)]
-pub fn branch(machine: &mut Machine, app: &App, task: TaskId, condition: AnswerCondition)
+pub fn branch(machine: &mut Machine, app: &App, task: TaskId, condition: AnswerCondition) -> bool
     requires runs { Runs machine.old task }
-    ensures { Moves machine.old machine.new (branch app.now task condition) }
+    ensures does { Moves machine.old machine.new (branch app.now task condition) }
+    ensures amid { result ≡ true → IsPlaced machine.old machine.new task }
 {
     let answer = machine.progress(task).answer;
     if condition.holds(answer) {
-        machine.complete(app, task);
+        machine.complete(app, task)
     } else {
         let behind_branch = jump_from(machine, app, task);
-        machine.go_to(app, task, behind_branch);
+        machine.go_to(app, task, behind_branch)
     }
 }
 
 /// `else`: what is behind the `end` of its `if` is next.
 #[inline(always)]
-pub fn skip_branch(machine: &mut Machine, app: &App, task: TaskId)
+pub fn skip_branch(machine: &mut Machine, app: &App, task: TaskId) -> bool
     requires runs { Runs machine.old task }
-    ensures { Moves machine.old machine.new (skip_branch app.now task) }
+    ensures does { Moves machine.old machine.new (skip_branch app.now task) }
+    ensures amid { result ≡ true → IsPlaced machine.old machine.new task }
 {
     let behind_if = jump_from(machine, app, task);
-    machine.go_to(app, task, behind_if);
+    machine.go_to(app, task, behind_if)
 }
 
 /// The `end` of an `if`: the next op is next.
 #[inline(always)]
-pub fn end_if(machine: &mut Machine, app: &App, task: TaskId)
+pub fn end_if(machine: &mut Machine, app: &App, task: TaskId) -> bool
     requires runs { Runs machine.old task }
-    ensures { Moves machine.old machine.new (λ s. complete app.now task (progress_at s task) s) }
+    ensures does { Moves machine.old machine.new (λ s. complete app.now task (progress_at s task) s) }
+    ensures amid { result ≡ true → IsPlaced machine.old machine.new task }
 {
-    machine.complete(app, task);
+    machine.complete(app, task)
 }
 
 /// `break`: the innermost loop is left; what is behind its `end` is next.
 #[inline(always)]
-pub fn leave_loop(machine: &mut Machine, app: &App, task: TaskId)
+pub fn leave_loop(machine: &mut Machine, app: &App, task: TaskId) -> bool
     requires runs { Runs machine.old task }
-    ensures { Moves machine.old machine.new (leave_loop app.now task) }
+    ensures does { Moves machine.old machine.new (leave_loop app.now task) }
+    ensures amid { result ≡ true → IsPlaced machine.old machine.new task }
 {
     let behind_loop = jump_from(machine, app, task);
     machine.leave_loop(task);
-    machine.go_to(app, task, behind_loop);
+    machine.go_to(app, task, behind_loop)
 }

@@ -1,5 +1,5 @@
 use Rattle.kernel.proofs.Acted.{room_for_one, room_for_two}
-use Rattle.kernel.proofs.LettingGo.{can_end_set, can_leave_wait, ends_set, leaves_wait, no_other}
+use Rattle.kernel.proofs.LettingGo.{can_end_command, can_end_set, can_leave_wait, ends_command, ends_set, leaves_wait, no_other}
 use Rattle.kernel.proofs.bits.let_go.Goals as goal
 
 pub leave_bits_wait-requires : goal.leave_bits_wait-requires
@@ -14,6 +14,14 @@ end_set-requires g c =
     let can = can_end_set c.args.app.now c.args.machine.now c.args.task c.args.op.now c.requires.going c.requires.can c.in-SetBits.field-0 c.in-SetBits.field-1 c.in-SetBits.is in
     record { room = room_for_two (g.L.Log.logged c.args.log.now).room c.requires.room; runs = can.0; can = can.1 }
 
+pub end_set_by_daemon-requires : goal.end_set_by_daemon-requires
+end_set_by_daemon-requires g c =
+    let can = can_end_command c.args.app.now c.args.machine.now c.args.task c.args.op.now c.requires.going c.requires.can c.in-Obey.is in
+    record { room = room_for_two (g.L.Log.logged c.args.log.now).room c.requires.room; runs = can.0; can = can.1 }
+
+pub returns-in-Obey : goal.returns-in-Obey
+returns-in-Obey g c = λ limits. ends_command c.args.app.now c.args.machine.now c.args.task c.args.op.now c.requires.going c.requires.can c.in-Obey.is limits c.end_set_by_daemon.new.machine _ _ c.command_of-group.result c.command_of-group.ensures c.end_set_by_daemon.ensures
+
 pub returns-in-WaitBits : goal.returns-in-WaitBits
 returns-in-WaitBits g c = λ limits. leaves_wait c.args.app.now c.args.machine.now c.args.task c.args.op.now c.requires.going c.requires.can c.in-WaitBits.field-0 c.in-WaitBits.field-1 c.in-WaitBits.field-2 c.in-WaitBits.is limits c.leave_bits_wait.new.machine _ _ c.leave_bits_wait.ensures
 
@@ -21,4 +29,4 @@ pub returns-in-SetBits : goal.returns-in-SetBits
 returns-in-SetBits g c = λ limits. ends_set c.args.app.now c.args.machine.now c.args.task c.args.op.now c.requires.going c.requires.can c.in-SetBits.field-0 c.in-SetBits.field-1 c.in-SetBits.is limits c.end_set.new.machine _ _ c.end_set.ensures
 
 pub returns-in_default : goal.returns-in_default
-returns-in_default g c = absurd (no_other c.args.op.now c.requires.going.bits c.in_default.not-SetBits c.in_default.not-WaitBits)
+returns-in_default g c = absurd (no_other c.args.op.now c.requires.going.bits c.in_default.not-SetBits c.in_default.not-WaitBits c.in_default.not-Obey)

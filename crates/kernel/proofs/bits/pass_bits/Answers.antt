@@ -1,7 +1,5 @@
-use Rattle.std.proofs.Common.{◌≡◌, ◌<◌, ◌∙◌, ℕ, length, Option, Some, refl, sym, subst, append-nil, arith}
+use Rattle.std.proofs.Common.{◌<◌, ◌∙◌, ℕ, length, Option, refl, subst, append-nil}
 use Rattle.std.specs.Option.{IfSome}
-use Rattle.model.specs.Application.{op_at}
-use Rattle.model.specs.State.{Progress}
 use Rattle.model.specs.Run.{state_after}
 use Rattle.model.specs.Invariant.{hold_of}
 use Rattle.soundness.proofs.Reached.{reached_after}
@@ -11,36 +9,18 @@ use Rattle.kernel.proofs.Bounds.{runs_there}
 use Rattle.kernel.proofs.Running.{can_step, told_after}
 use Rattle.kernel.proofs.bits.pass_bits.Goals as goal
 
-pub op_of-requires : goal.op_of-requires
-op_of-requires c =
+pub op_letting_go-requires-clause-there : goal.op_letting_go-requires-clause-there
+op_letting_go-requires-clause-there c =
     let s = state_after c.args.app.now c.args.limits.now c.args.injections.now c.args.kernel.now.steps in
     subst (λ (o : Option ℕ). IfSome o (λ task. task < length c.args.app.now.tasks)) c.requires.runs (runs_there c.args.app.now c.args.kernel.now s (hold_of s) c.requires.free.way.stands (reached_after c.args.app.now c.well_formed-2.ensures c.args.limits.now c.args.injections.now c.args.kernel.now.steps).sound)
-
-pub is_over_running-requires : goal.is_over_running-requires
-is_over_running-requires c = (c.args.task, c.requires.runs)
-
-pub step_letting_go-requires-clause-letting : goal.step_letting_go-requires-clause-letting
-step_letting_go-requires-clause-letting c = record {
-  current = c.requires.runs;
-  at = (let P : Progress → Type 0 = λ p. op_at c.args.app.now c.args.task p.op_index ≡ Some c.in-Some.op.now in subst P (c.behind-kernel.view_is ∙ c.progress.ensures) c.in-Some.ensures.some);
-  bits = sym c.if-not-is_for_bits.ensures;
-  reached = c.requires.reached;
-  awake = (let l = c.if-kernel-gt0.false in omega arith);
-}
 
 pub step_letting_go-requires-clause-going : goal.step_letting_go-requires-clause-going
 step_letting_go-requires-clause-going c =
     let going = going_free c.requires.soon c.if-is_over_running.ensures c.args.injections.now c.requires.free in
     (c.args.limits.now, can_step c.args.app.now c.well_formed-2.ensures c.args.injections.now c.args.limits.now c.well_formed-3.ensures c.args.kernel.now c.requires.free.way going)
 
-pub returns-then-kernel-gt0 : goal.returns-then-kernel-gt0
-returns-then-kernel-gt0 c = tells_nothing refl
-
 pub returns-in_default : goal.returns-in_default
 returns-in_default c = tells_nothing refl
-
-pub returns-then-not-is_for_bits : goal.returns-then-not-is_for_bits
-returns-then-not-is_for_bits c = tells_nothing refl
 
 pub returns-then-is_over_running : goal.returns-then-is_over_running
 returns-then-is_over_running c = tells_nothing refl

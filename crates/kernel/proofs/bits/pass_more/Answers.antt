@@ -3,8 +3,8 @@ use Rattle.machine.specs.Logged.{all_of}
 use Rattle.kernel.proofs.Along.{behind, free_next, tells_nothing, tells_on}
 use Rattle.kernel.proofs.bits.pass_more.Goals as goal
 
-pub returns-then-not-may_follow : goal.returns-then-not-may_follow
-returns-then-not-may_follow c = tells_nothing refl
+pub returns-then-eq : goal.returns-then-eq
+returns-then-eq c = tells_nothing refl
 
 pub pass_leave-requires-clause-going : goal.pass_leave-requires-clause-going
 pass_leave-requires-clause-going c = record { free = free_next c.pass_on.ensures.along.to c.requires.free; going = c.in-Some-pass_on.ensures.going c.args.injections.now c.requires.free }

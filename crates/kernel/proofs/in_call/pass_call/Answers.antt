@@ -2,8 +2,8 @@ use Rattle.std.proofs.Common.{◌≡◌, ◌<◌, ◌≤◌, ◌+◌, ◌&&◌, 
 use Rattle.std.specs.Option.{IfSome, is_some}
 use Rattle.model.specs.declared.call.Phase.TheVariants.{Decide, Leave}
 use Rattle.model.specs.declared.plan.Injection.{Injection}
-use Rattle.model.specs.Application.{Application, Limits, is_endless}
-use Rattle.model.specs.State.{State}
+use Rattle.model.specs.Application.{Application, Limits, is_endless, op_at}
+use Rattle.model.specs.State.{Progress, State}
 use Rattle.model.specs.Scripts.{IsWellFormed}
 use Rattle.model.specs.Run.{are_all_ended, state_after}
 use Rattle.model.specs.Invariant.{hold_of}
@@ -65,6 +65,17 @@ pass_phase-requires-clause-going c =
     let none = none_over c.args.app.now c.well_formed-2.ensures c.args.limits.now c.args.until c.args.kernel.now c.args.task c.requires.runs c.requires.decides (omega (arith, c.if-kernel-gt0.false)) (sym c.if-is_some.ensures) (λ s h. sym (c.if-is_left_alone.ensures s h)) (λ s h. sym (c.if-is_at_tick_limit.ensures s h)) in
     going_soon (omega arith) (record { free = c.requires.free; going = none c.args.injections.now c.requires.free })
 
+pub pass_phase-requires-clause-call : goal.pass_phase-requires-clause-call
+pass_phase-requires-clause-call c = record {
+  current = c.requires.runs;
+  ticks = c.in-Some-call_of.ensures.0;
+  op = c.in-Some.op.now;
+  at = (let P : Progress → Type 0 = λ p. op_at c.args.app.now c.args.task p.op_index ≡ Some c.in-Some.op.now in subst P (c.behind-kernel.view_is ∙ c.progress.ensures) c.in-Some.ensures.some);
+  on = c.in-Some-call_of.ensures.1;
+  reached = c.requires.decides;
+  awake = (let l = c.if-kernel-gt0.false in omega arith);
+}
+
 pub pass_if_next-requires-clause-going : goal.pass_if_next-requires-clause-going
 pass_if_next-requires-clause-going c =
     let left = c.saturating_sub.ensures in
@@ -102,4 +113,4 @@ returns-clause-going c = λ plan f.
     c.pass_if_next-2.ensures.going plan (third_soon (omega arith) none c.pass_phase.ensures.along c.pass_phase.ensures.going c.pass_if_next.ensures.along c.pass_if_next.ensures.going plan f)
 
 pub returns-clause-leaving : goal.returns-clause-leaving
-returns-clause-leaving c = (c.in-Await.object, c.in-Await.access, c.pass_if_next-2.ensures.call Leave (sym c.phase.ensures ∙ same_phase c.phase.result Leave c.if-ne.ensures))
+returns-clause-leaving c = (c.in-Some-call_of.call.0, c.in-Some-call_of.call.1, c.pass_if_next-2.ensures.call Leave (sym c.phase.ensures ∙ same_phase c.phase.result Leave c.if-ne.ensures))

@@ -1,16 +1,15 @@
-use Rattle.std.proofs.Common.{subst, arith}
-use Rattle.ops.specs.Can.{CanGoOn}
-use Rattle.kernel.proofs.Bounds.{below_limits, can_go_on, held_in_call}
+use Rattle.std.proofs.Common.{arith}
+use Rattle.kernel.proofs.Bounds.{below_limits, can_do, held_in_call}
 use Rattle.machine.proofs.Either.{steps_are}
-use Rattle.kernel.proofs.InCall.{holds_silently, not_over_after, steps_held, still_in_call, stepped_held, told_nothing}
+use Rattle.kernel.proofs.InCall.{can_in_phase, holds_silently, not_over_after, past_silent, steps_held, still_in_call, stepped_held, told_nothing}
 use Rattle.kernel.proofs.in_call.step_in_call.Goals as goal
 
 pub go_on_silently-requires-clause-can : goal.go_on_silently-requires-clause-can
 go_on_silently-requires-clause-can c =
     let call = c.requires.call in (
       call.ticks,
-      subst (CanGoOn c.args.machine.now c.args.task c.args.object c.args.access call.ticks) call.reached
-          (can_go_on c.args.app.now c.well_formed-2.ensures c.args.machine.now c.requires.going.1 c.args.task call.current c.args.object c.args.access call.ticks call.op call.awake),
+      can_in_phase c.args.app.now c.requires.going.0 c.args.machine.now c.args.task c.args.object c.args.access c.args.phase call
+          (can_do c.args.app.now c.well_formed-2.ensures c.args.machine.now c.requires.going.1 c.args.task call.current call.awake call.op call.at),
     )
 
 pub go_on_silently-requires-clause-held : goal.go_on_silently-requires-clause-held
@@ -23,7 +22,7 @@ overflow_add-machine c =
     let limits = c.requires.going.0 in
     let going = c.requires.going.1 in
     let held = c.go_on_silently.ensures.held in
-    let still = steps_held c.args.app.now limits c.args.machine.now c.args.task c.args.object c.args.access c.args.phase c.requires.call c.go_on_silently.new.machine
+    let still = steps_held c.args.app.now limits c.args.machine.now c.args.task c.args.object c.args.access c.args.phase c.requires.call (past_silent c.args.phase c.requires.silent) c.go_on_silently.new.machine
     (λ log s h. c.go_on_silently.ensures.does c.args.app.now c.requires.call.ticks log s h) (omega arith) going.state going.stands in
     let is = steps_are c.args.machine.now going.state going.stands in
     let low = below_limits c.args.app.now limits going.state going.goes_on in
@@ -34,19 +33,19 @@ overflow_add-machine c =
 pub returns-clause-stands : goal.returns-clause-stands
 returns-clause-stands c = λ limits s h.
     let held = c.go_on_silently.ensures.held in
-    stepped_held c.args.app.now limits c.args.machine.now c.args.task c.args.object c.args.access c.args.phase c.requires.call c.go_on_silently.new.machine
+    stepped_held c.args.app.now limits c.args.machine.now c.args.task c.args.object c.args.access c.args.phase c.requires.call (past_silent c.args.phase c.requires.silent) c.go_on_silently.new.machine
     (λ log s h. c.go_on_silently.ensures.does c.args.app.now c.requires.call.ticks log s h) (omega arith) s h
 
 pub returns-clause-silent : goal.returns-clause-silent
 returns-clause-silent c = λ limits s h.
     let held = c.go_on_silently.ensures.held in
-    told_nothing c.args.app.now limits c.args.machine.now c.args.task c.args.object c.args.access c.args.phase c.requires.call c.go_on_silently.new.machine
+    told_nothing c.args.app.now limits c.args.machine.now c.args.task c.args.object c.args.access c.args.phase c.requires.call (past_silent c.args.phase c.requires.silent) c.go_on_silently.new.machine
     (λ log s h. c.go_on_silently.ensures.does c.args.app.now c.requires.call.ticks log s h) (omega arith) s h
 
 pub returns-clause-on : goal.returns-clause-on
 returns-clause-on c = λ limits s h.
     let held = c.go_on_silently.ensures.held in
-    not_over_after c.args.app.now limits c.args.machine.now c.args.task c.args.object c.args.access c.args.phase c.requires.call c.go_on_silently.new.machine
+    not_over_after c.args.app.now limits c.args.machine.now c.args.task c.args.object c.args.access c.args.phase c.requires.call (past_silent c.args.phase c.requires.silent) c.go_on_silently.new.machine
     (λ log s h. c.go_on_silently.ensures.does c.args.app.now c.requires.call.ticks log s h) (omega arith) s h c.requires.silent c.go_on_silently.ensures.remains.current
 
 pub returns-clause-call : goal.returns-clause-call

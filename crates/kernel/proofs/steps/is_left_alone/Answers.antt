@@ -7,9 +7,13 @@ pub returns-then-not-has_endless : goal.returns-then-not-has_endless
 returns-then-not-has_endless c = λ s h.
     sym (ap (λ (b : Bool). b && are_all_ended c.args.app.now s) (none_endless c.args.app.now.tasks c.args.task (sym c.has_endless.ensures ∙ c.if-not-has_endless.true)))
 
-pub returns-then-is_endless : goal.returns-then-is_endless
-returns-then-is_endless c = λ s h.
-    c.are_others_ended.ensures s h ∙ sym (ap (λ (b : Bool). b && are_all_ended c.args.app.now s) (sym c.is_endless.ensures ∙ c.if-is_endless.true))
+pub returns-then-not-is_endless : goal.returns-then-not-is_endless
+returns-then-not-is_endless c = λ s h. sym (ap (λ (b : Bool). b && are_all_ended c.args.app.now s) (sym c.is_endless.ensures ∙ c.if-not-is_endless.true))
 
-pub returns-else-is_endless : goal.returns-else-is_endless
-returns-else-is_endless c = λ s h. c.if-is_endless.false ∙ sym (ap (λ (b : Bool). b && are_all_ended c.args.app.now s) (sym c.is_endless.ensures ∙ c.if-is_endless.false))
+pub returns-then-is_awaited : goal.returns-then-is_awaited
+returns-then-is_awaited c = λ s h.
+    sym (ap (λ (b : Bool). b && are_all_ended c.args.app.now s) (sym c.is_endless.ensures ∙ c.if-not-is_endless.false) ∙ c.is_awaited.ensures s h c.if-is_awaited.true)
+
+pub returns : goal.returns
+returns c = λ s h.
+    c.are_others_ended.ensures s h ∙ sym (ap (λ (b : Bool). b && are_all_ended c.args.app.now s) (sym c.is_endless.ensures ∙ c.if-not-is_endless.false))

@@ -12,25 +12,25 @@ pub returns-in-Mark : goal.returns-in-Mark
 returns-in-Mark g c = rw c.in-Mark.is (does_up 1 64 _ _ _ _ _ (omega arith) c.mark.ensures)
 
 pub returns-in-Expect : goal.returns-in-Expect
-returns-in-Expect g c = rw c.in-Expect.is (moves_up 64 _ _ (g.L.Log.logged c.args.log.now) _ c.expect.ensures)
+returns-in-Expect g c = rw c.in-Expect.is (moves_up 64 _ _ (g.L.Log.logged c.args.log.now) _ c.expect.ensures.does)
 
 pub returns-in-Repeat : goal.returns-in-Repeat
-returns-in-Repeat g c = rw c.in-Repeat.is (moves_up 64 _ _ (g.L.Log.logged c.args.log.now) _ c.open_loop.ensures)
+returns-in-Repeat g c = rw c.in-Repeat.is (moves_up 64 _ _ (g.L.Log.logged c.args.log.now) _ c.open_loop.ensures.does)
 
 pub returns-in-End : goal.returns-in-End
-returns-in-End g c = rw c.in-End.is (moves_up 64 _ _ (g.L.Log.logged c.args.log.now) _ c.close_turn.ensures)
+returns-in-End g c = rw c.in-End.is (moves_up 64 _ _ (g.L.Log.logged c.args.log.now) _ c.close_turn.ensures.does)
 
 pub returns-in-If : goal.returns-in-If
-returns-in-If g c = rw c.in-If.is (moves_up 64 _ _ (g.L.Log.logged c.args.log.now) _ c.branch-machine.ensures)
+returns-in-If g c = rw c.in-If.is (moves_up 64 _ _ (g.L.Log.logged c.args.log.now) _ c.branch-machine.ensures.does)
 
 pub returns-in-Else : goal.returns-in-Else
-returns-in-Else g c = rw c.in-Else.is (moves_up 64 _ _ (g.L.Log.logged c.args.log.now) _ c.skip_branch.ensures)
+returns-in-Else g c = rw c.in-Else.is (moves_up 64 _ _ (g.L.Log.logged c.args.log.now) _ c.skip_branch.ensures.does)
 
 pub returns-in-EndIf : goal.returns-in-EndIf
-returns-in-EndIf g c = rw c.in-EndIf.is (moves_up 64 _ _ (g.L.Log.logged c.args.log.now) _ c.end_if.ensures)
+returns-in-EndIf g c = rw c.in-EndIf.is (moves_up 64 _ _ (g.L.Log.logged c.args.log.now) _ c.end_if.ensures.does)
 
 pub returns-in-Break : goal.returns-in-Break
-returns-in-Break g c = rw c.in-Break.is (moves_up 64 _ _ (g.L.Log.logged c.args.log.now) _ c.leave_loop.ensures)
+returns-in-Break g c = rw c.in-Break.is (moves_up 64 _ _ (g.L.Log.logged c.args.log.now) _ c.leave_loop.ensures.does)
 
 pub returns-in-MessagesWaiting : goal.returns-in-MessagesWaiting
 returns-in-MessagesWaiting g c = rw c.in-MessagesWaiting.is (does_up 1 64 _ _ _ _ _ (omega arith) c.messages_waiting.ensures)

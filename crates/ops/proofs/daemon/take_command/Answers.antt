@@ -23,8 +23,8 @@ returns-then-possible g c = record {
   before = c.preempt.ensures.does.before;
 }
 
-pub returns-else-possible : goal.returns-else-possible
-returns-else-possible g c = record {
+pub returns : goal.returns
+returns g c = record {
   at = λ s h.
       took_none c.args.app.now c.set_phase.new.self (g.L.Log.logged c.args.log.now).told s c.args.task c.args.queue (sym (c.possible.ensures.stands s None h.stands.rest.queues) ∙ c.if-possible.false)
       (gone_on c.args.machine.now c.set_phase.new.self (g.L.Log.logged c.args.log.now).told s h c.args.task c.requires.can.runs.current Decide c.set_phase.ensures (λ e. absurd (cc)));

@@ -3,10 +3,10 @@ use Rattle.machine.specs.contracts.progress.Progress.{the_view}
 use Rattle.ops.proofs.Working.{expect_held, expect_failed}
 use Rattle.ops.proofs.script.expect.Goals as goal
 
-pub returns-then-holds : goal.returns-then-holds
-returns-then-holds c = λ log s h.
+pub returns-then-holds-clause-does : goal.returns-then-holds-clause-does
+returns-then-holds-clause-does c = λ log s h.
     expect_held c.args.app.now c.args.machine.now c.complete.new.self log s h c.args.task c.requires.runs.current (the_view c.progress.inside) (c.progress.view_is ∙ c.progress-progress.ensures) c.args.condition c.if-holds.ensures c.complete.ensures.does
 
-pub returns-else-holds : goal.returns-else-holds
-returns-else-holds c = λ log s h.
+pub returns-else-holds-clause-does : goal.returns-else-holds-clause-does
+returns-else-holds-clause-does c = λ log s h.
     rw c.or-machine.ensures (expect_failed c.args.app.now c.args.machine.now c.args.machine.now log s h c.args.task c.requires.runs.current (the_view c.progress.inside) (c.progress.view_is ∙ c.progress-progress.ensures) c.args.condition c.if-holds.ensures)
