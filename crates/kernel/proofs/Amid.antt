@@ -3,7 +3,7 @@ use denote.Enum.Bare.{sameb, same_true}
 use Rattle.std.proofs.Common.{◌≡◌, ◌≢◌, rules, ◌+◌, ℕ, Bool, true, false, not, eqb, leb, List, [], ◌∷◌, Option, Some, None, ◌≤◌, refl, ap, sym, subst, ◌∙◌, arith, append-nil}
 use Rattle.model.specs.declared.event.End.{End}
 use Rattle.model.specs.declared.op.Op.{Op}
-use Rattle.model.specs.declared.op.Op.TheVariants.{Work, Delay, DelayUntil, Yield, Time, Mark, Expect, Repeat, End as EndLoop, If, Else, EndIf, Break, Await, Do, GiveMutex, MessagesWaiting, SpacesAvailable, SetBits, ClearBits, GetBits, WaitBits, Suspend, Resume, SuspendAll, ResumeAll, NextCommand, Obey}
+use Rattle.model.specs.declared.op.Op.TheVariants.{Work, Delay, DelayUntil, Yield, Time, Mark, Expect, Repeat, End as EndLoop, If, Else, EndIf, Break, Stamp, Since, Await, Do, GiveMutex, MessagesWaiting, SpacesAvailable, SetBits, ClearBits, GetBits, WaitBits, Suspend, Resume, SuspendAll, ResumeAll, NextCommand, Obey}
 use Rattle.model.specs.declared.event.Event.{Event}
 use Rattle.model.specs.declared.loops.Loop.{Loop}
 use Rattle.model.specs.Answers.{holds}
@@ -52,6 +52,8 @@ no_misuse (If c) t s task = refl
 no_misuse Else t s task = refl
 no_misuse EndIf t s task = refl
 no_misuse Break t s task = refl
+no_misuse Stamp t s task = absurd (cc)
+no_misuse Since t s task = absurd (cc)
 no_misuse (Await o a w) t s task = absurd (cc)
 no_misuse (Do o a) t s task = absurd (cc)
 no_misuse (GiveMutex o) t s task = absurd (cc)
@@ -86,6 +88,8 @@ can_of_script app k task (If x) t c = c
 can_of_script app k task Else t c = c
 can_of_script app k task EndIf t c = c
 can_of_script app k task Break t c = c
+can_of_script app k task Stamp t c = c
+can_of_script app k task Since t c = c
 can_of_script app k task (Await o a w) t c = absurd (cc)
 can_of_script app k task (Do o a) t c = c
 can_of_script app k task (GiveMutex o) t c = c
@@ -146,6 +150,8 @@ other-act app i (If c) s t = λ j apart on. by_test (holds c (progress_at s i).a
 other-act app i Else s t = λ j apart on. other-go_to app i _ _ s j apart on
 other-act app i EndIf s t = λ j apart on. other-go_to app i _ _ s j apart on
 other-act app i Break s t = λ j apart on. other-go_to app i _ _ s j apart on
+other-act app i Stamp s t = absurd (cc)
+other-act app i Since s t = absurd (cc)
 other-act app i (Await o a w) s t = absurd (cc)
 other-act app i (Do o a) s t = absurd (cc)
 other-act app i (GiveMutex o) s t = absurd (cc)

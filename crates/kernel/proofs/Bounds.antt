@@ -15,7 +15,7 @@ use Rattle.model.specs.declared.call.Condition.{Condition}
 use Rattle.model.specs.declared.op.Access.{Access}
 use Rattle.model.specs.declared.op.Access.TheVariants.{Receive}
 use Rattle.model.specs.declared.op.Op.{Op}
-use Rattle.model.specs.declared.op.Op.TheVariants.{Work, Delay, DelayUntil, Yield, Time, Mark, Expect, Repeat, End as EndLoop, If, Else, EndIf, Break, Await, Do, GiveMutex, MessagesWaiting, SpacesAvailable, SetBits, ClearBits, GetBits, WaitBits, Suspend, Resume, SuspendAll, ResumeAll, NextCommand, Obey}
+use Rattle.model.specs.declared.op.Op.TheVariants.{Work, Delay, DelayUntil, Yield, Time, Mark, Expect, Repeat, End as EndLoop, If, Else, EndIf, Break, Stamp, Since, Await, Do, GiveMutex, MessagesWaiting, SpacesAvailable, SetBits, ClearBits, GetBits, WaitBits, Suspend, Resume, SuspendAll, ResumeAll, NextCommand, Obey}
 use Rattle.model.specs.Application.{Application, Limits, script_of, op_at}
 use Rattle.model.specs.declared.block.Block.{Block}
 use Rattle.model.specs.Blocks.{edge_of, loops_in, may_stand}
@@ -83,6 +83,8 @@ loop_room (If c) nesting h = tt
 loop_room Else nesting h = tt
 loop_room EndIf nesting h = tt
 loop_room Break nesting h = tt
+loop_room Stamp nesting h = tt
+loop_room Since nesting h = tt
 loop_room (Await o a w) nesting h = tt
 loop_room (Do o a) nesting h = tt
 loop_room (GiveMutex o) nesting h = tt
@@ -117,6 +119,8 @@ known_object app i p (If c) brief t k room = tt
 known_object app i p Else brief t k room = tt
 known_object app i p EndIf brief t k room = tt
 known_object app i p Break brief t k room = tt
+known_object app i p Stamp brief t k room = tt
+known_object app i p Since brief t k room = tt
 known_object app i p (Await o a w) brief t k room = absurd (cc)
 known_object app i p (Do o a) brief t k room = room o a (and_left (fits_object app o a) _ t)
 known_object app i p (GiveMutex o) brief t k room = tt
@@ -271,6 +275,11 @@ module _ (app : Application) (formed : IsWellFormed app) (k : Machine) (state : 
             let H : Progress → Type 0 = λ p. p.previous_wake ≤ k.clock.now in
             subst H (sym same) (rw (now_is k state stands) lower)
 
+      stamped : (progress_in k.progress task).stamp ≤ k.clock.now
+      stamped =
+          let H : Progress → Type 0 = λ p. p.stamp ≤ k.clock.now in
+          subst H (sym same) (rw (now_is k state stands) (reached.sound.progress task).stamped)
+
         can : k.suspensions ≡ 0 → IsBrief op → Can app k task op
         can awake brief = record {
           runs = runs_on free;
@@ -279,6 +288,7 @@ module _ (app : Application) (formed : IsWellFormed app) (k : Machine) (state : 
           nesting = nesting;
           object = known_object app task (progress_at state task).op_index op brief known k rooms;
           previous_wake = previous;
+          stamp = stamped;
           time = let l = time_low in omega arith;
         }
 
@@ -373,6 +383,8 @@ module _ (app : Application) (formed : IsWellFormed app) (k : Machine) (state : 
     can_op awake Else is = brief_can Else is awake refl
     can_op awake EndIf is = brief_can EndIf is awake refl
     can_op awake Break is = brief_can Break is awake refl
+    can_op awake Stamp is = brief_can Stamp is awake refl
+    can_op awake Since is = brief_can Since is awake refl
     can_op awake (Await o a w) is = subst (λ (p : Progress). CanGoOn k task o a w p.call.phase) (sym same) (goes_on o a w (Await o a w) is refl (and_left (fits_object app o a) _ (known (Await o a w) is)) (in_range (Await o a w) is) awake (call_at state task).phase refl)
     can_op awake (Do o a) is = brief_can (Do o a) is awake refl
     can_op awake (GiveMutex o) is = brief_can (GiveMutex o) is awake refl
@@ -406,6 +418,7 @@ module _ (app : Application) (formed : IsWellFormed app) (k : Machine) (state : 
           objects = rooms;
           used = used op is;
           nesting = nesting op is;
+          stamp = stamped op is;
         }
 
   -- where idle runs, nothing is held

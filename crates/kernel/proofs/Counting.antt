@@ -2,7 +2,7 @@
 use Rattle.std.proofs.Common.{◌≡◌, ◌+◌, ◌-◌, ◌||◌, ◌&&◌, ℕ, zero, suc, true, false, eqb, List, ◌++◌, Option, Some, None, refl, sym, ◌∙◌, length}
 use Rattle.std.specs.Option.{option_eq}
 use Rattle.model.specs.declared.op.Op.{Op}
-use Rattle.model.specs.declared.op.Op.TheVariants.{Work, Delay, DelayUntil, Yield, Time, Mark, Expect, Repeat, End, If, Else, EndIf, Break, Await, Do, GiveMutex, MessagesWaiting, SpacesAvailable, SetBits, ClearBits, GetBits, WaitBits, Suspend, Resume, SuspendAll, ResumeAll, NextCommand, Obey}
+use Rattle.model.specs.declared.op.Op.TheVariants.{Work, Delay, DelayUntil, Yield, Time, Mark, Expect, Repeat, End, If, Else, EndIf, Break, Stamp, Since, Await, Do, GiveMutex, MessagesWaiting, SpacesAvailable, SetBits, ClearBits, GetBits, WaitBits, Suspend, Resume, SuspendAll, ResumeAll, NextCommand, Obey}
 use Rattle.model.specs.declared.op.Access.{Access}
 use Rattle.model.specs.declared.op.Access.TheVariants.{Receive}
 use Rattle.model.specs.declared.op.Command.{Command}
@@ -34,7 +34,7 @@ use Rattle.model.specs.declared.event.Event.{Event}
 use Rattle.machine.specs.declared.machine.Machine.{Machine}
 use Rattle.machine.specs.StandsFor.{Stands, AtAny}
 use Rattle.machine.proofs.Either.{steps_are}
-use Rattle.soundness.proofs.Frames.{keeps-choose, keeps-yield_now, keeps-preempt, keeps-slice, keeps-settle, keeps-unless_held, keeps-all_ready, keeps-wake_due, keeps-go_to, keeps-answer, keeps-use_up, keeps-delay, keeps-delay_until, keeps-open_loop, keeps-close_turn, keeps-branch, keeps-skip_branch, keeps-leave_loop, keeps-set_deadline, keeps-inherit, keeps-give_mutex, keeps-try, keeps-do_now, keeps-set, keeps-clear, keeps-answer_bits, keeps-call_suspend, keeps-call_resume, keeps-take_command, keeps-obeyed, keeps-clear_by_daemon, keeps-interrupt, keeps-before_step}
+use Rattle.soundness.proofs.Frames.{keeps-choose, keeps-yield_now, keeps-preempt, keeps-slice, keeps-settle, keeps-unless_held, keeps-all_ready, keeps-wake_due, keeps-go_to, keeps-answer, keeps-use_up, keeps-delay, keeps-delay_until, keeps-open_loop, keeps-close_turn, keeps-branch, keeps-skip_branch, keeps-leave_loop, keeps-stamp, keeps-since, keeps-set_deadline, keeps-inherit, keeps-give_mutex, keeps-try, keeps-do_now, keeps-set, keeps-clear, keeps-answer_bits, keeps-call_suspend, keeps-call_resume, keeps-take_command, keeps-obeyed, keeps-clear_by_daemon, keeps-interrupt, keeps-before_step}
 
 steps-unlock : (s : State) → (unlock s).steps ≡ s.steps
 unfolding unlock
@@ -197,6 +197,8 @@ steps-act app i (If c) s = (keeps-branch app i c s).steps
 steps-act app i Else s = (keeps-skip_branch app i s).steps
 steps-act app i EndIf s = (keeps-go_to app i ((progress_at s i).op_index + 1) (progress_at s i) s).steps
 steps-act app i Break s = (keeps-leave_loop app i s).steps
+steps-act app i Stamp s = (keeps-stamp app i s).steps
+steps-act app i Since s = (keeps-since app i s).steps
 steps-act app i (Await o a ticks) s = steps-await app i o a ticks (call_at s i).phase s
 steps-act app i (Do o a) s = (keeps-do_now app i o a s).steps
 steps-act app i (GiveMutex o) s = (keeps-give_mutex app i o s).steps

@@ -1,13 +1,13 @@
 -- Handlers: what their ops, and one handler after another, make of a state.
 use Rattle.std.proofs.lemmas.Bool.{leb-true}
-use Rattle.std.proofs.Common.{◌≡◌, ◌<◌, ◌≤◌, ◌+◌, ◌&&◌, leb, ℕ, zero, suc, List, [], ◌∷◌, ◌++◌, length, map, get_or, take, false, true, Option, None, ap, sym, subst, ◌∙◌, arith, Some}
+use Rattle.std.proofs.Common.{◌≡◌, ◌<◌, ◌≤◌, ◌+◌, ◌&&◌, leb, ℕ, zero, suc, List, [], ◌∷◌, ◌++◌, length, map, get_or, take, drop, false, true, Option, None, ap, refl, sym, subst, ◌-◌, ◌∙◌, arith, Some}
 use Rattle.std.specs.List.{AllByRecursion}
-use Rattle.std.proofs.lemmas.List.{length-take-le, take_more}
+use Rattle.std.proofs.lemmas.List.{drop_all, drop_more, length-drop, take_all, take_more}
 use Rattle.model.specs.declared.event.What.{What}
 use Rattle.model.specs.declared.event.What.TheVariants.{IsrMark}
 use Rattle.model.specs.declared.op.IsrOp.{IsrOp}
 use Rattle.model.specs.declared.op.Command as command
-use Rattle.model.specs.declared.op.IsrOp.TheVariants.{Do, Command, Resume, GetBits, Mark}
+use Rattle.model.specs.declared.op.IsrOp.TheVariants.{Do, Command, Resume, GetBits, Mark, Expect, If, Else, EndIf}
 use Rattle.model.specs.declared.op.Access.TheVariants.{Send}
 use Rattle.model.specs.declared.op.Access.{Access}
 use Rattle.std.specs.Prelude.{option_map, slice_get, unwrap_or}
@@ -19,22 +19,26 @@ use Rattle.model.specs.declared.event.Event.{Event}
 use Rattle.model.specs.Switching.{is_held, preempt, write}
 use Rattle.soundness.proofs.Settled.{when_free, when_held, held_by_call}
 use Rattle.model.specs.Objects.{answer_to, attempt}
-use Rattle.model.specs.Handlers.{isr_told, isr, isr_each, handle, inject}
+use Rattle.model.specs.declared.event.End.TheVariants.{HandlerCheck}
+use Rattle.model.specs.Handlers.{isr_told, isr, isr_answer, isr_jump, is_failed, isr_each, handle, inject}
 use Rattle.model.proofs.Chosen.{each-end}
 use Rattle.soundness.proofs.InScripts.{isr_known}
 use Rattle.machine.specs.declared.machine.Machine.{Machine}
-use Rattle.machine.specs.StandsFor.{Stands, At, AtAny}
+use Rattle.machine.specs.Logged.{Logged}
+use Rattle.machine.specs.StandsFor.{Stands, At, AtAny, Does, DoesAny, Moves, MovesAny}
 use Rattle.machine.proofs.Parts.{rest_again}
-use Rattle.machine.proofs.Either.{any, either}
+use Rattle.machine.proofs.Either.{any, either, steps_are}
+use Rattle.machine.proofs.Renewed.{renewed}
 use Rattle.soundness.proofs.Handled.{and_left, and_right, commands_fit}
 use Rattle.ops.specs.Can.{HasIsrObject, HasObjects}
-use Rattle.machine.specs.Can.{Leaves}
+use Rattle.ops.proofs.Calling.{leaves_both, leaves_same}
+use Rattle.machine.specs.Can.{Leaves, StandsForSome}
 use Rattle.std.specs.Option.{option_map, is_some}
 use Rattle.model.specs.Suspension.{can_resume, resume}
 use Rattle.objects.proofs.Kept.{same}
 use Rattle.groups.specs.StandsFor as groups
 use Rattle.machine.specs.StandsFor.Stands.{Placed, Placing}
-use Rattle.model.specs.Ops.{answer, one_if}
+use Rattle.model.specs.Ops.{answer, fail, one_if}
 
 -- ---- an op
 
@@ -73,6 +77,10 @@ op_fits app formed k handler i op room l e = by_op op (at (ops_of app handler) i
   by_op (Resume i) known = tt
   by_op (GetBits g) known = tt
   by_op (Mark n) known = tt
+  by_op (Expect c) known = tt
+  by_op (If c) known = tt
+  by_op Else known = tt
+  by_op EndIf known = tt
 
 -- and there are few
 pub handler_short : (app : Application) → IsWellFormed app → (handler : ℕ) → length (ops_of app handler) ≤ 16
@@ -84,18 +92,125 @@ handler_short app formed handler = by_index app.handlers handler formed.handlers
 
 -- ---- one op after another
 
-each_op : (app : Application) (handler n : ℕ) (ops : List IsrOp) (op : IsrOp) (s : State) → isr_each app handler n (ops ++ op ∷ []) s ≡ isr app handler (n + length ops) op (isr_each app handler n ops s)
-each_op app handler n [] op s = let same : n ≡ n + 0 = omega arith in ap (λ (m : ℕ). isr app handler m op s) same
-each_op app handler n (x ∷ xs) op s =
-    let same : n + 1 + length xs ≡ n + suc (length xs) = omega arith in
-    each_op app handler (n + 1) xs op (isr app handler n x s) ∙ ap (λ (m : ℕ). isr app handler m op (isr_each app handler (n + 1) xs (isr app handler n x s))) same
+-- The ops behind one are what is left of them.
+pub behind_is : (ops : List IsrOp) (i : ℕ) → i < length ops → take (length ops - (i + 1)) (drop (i + 1) ops) ≡ drop (i + 1) ops
+behind_is ops i l = take_all (length ops - (i + 1)) (drop (i + 1) ops) (let e = length-drop (i + 1) ops in omega (arith, e))
 
-pub op_more : (P : State → Type 0) (app : Application) (handler : ℕ) (ops : List IsrOp) (s : State) (i : ℕ) (op : IsrOp) → i < length ops → op ≡ get_or ops i op → P (isr app handler i op (isr_each app handler 0 (take i ops) s)) → P (isr_each app handler 0 (take (i + 1) ops) s)
-op_more P app handler ops s i op l e h =
-    let more : take (i + 1) ops ≡ take i ops ++ op ∷ [] = take_more ops i op l ∙ ap (λ (x : IsrOp). take i ops ++ x ∷ []) (sym e) in
-    let many : length (take i ops) ≡ i = length-take-le i ops (omega arith) in
-    let same : 0 + length (take i ops) ≡ i = omega (arith, many) in
-    rw (more, each_op app handler 0 (take i ops) op s, same) h
+pub behind_short : (ops : List IsrOp) (i : ℕ) → i < length ops → length ops ≤ 16 → length (take (length ops - (i + 1)) (drop (i + 1) ops)) ≤ 16
+behind_short ops i l few = rw (behind_is ops i l) (let e = length-drop (i + 1) ops in omega (arith, e))
+
+-- A handler of which the ops before this index are done goes on so: over so many ops it jumps, this is its last answer, and this the state.
+abbrev pub GoesOnSo : Application → (handler : ℕ) → List IsrOp → State → (op_index over : ℕ) → (last : Option ℕ) → State → Type 0
+GoesOnSo app handler ops s op_index over last t = isr_each app handler 0 0 None ops s ≡ isr_each app handler op_index over last (drop op_index ops) t
+
+module _ (app : Application) (handler : ℕ) (ops : List IsrOp) (i : ℕ) (op : IsrOp) (l : i < length ops) (is : op ≡ get_or ops i op) (last : Option ℕ) (s t : State) where
+  ahead : (over : ℕ) → GoesOnSo app handler ops s i over last t → isr_each app handler 0 0 None ops s ≡ isr_each app handler i over last (op ∷ drop (i + 1) ops) t
+  ahead over h = h ∙ ap (λ (xs : List IsrOp). isr_each app handler i over last xs t) (drop_more ops i op l ∙ ap (λ (x : IsrOp). x ∷ drop (i + 1) ops) (sym is))
+
+  -- the op is jumped over
+  jumped_over : (over left : ℕ) → over ≡ suc left → GoesOnSo app handler ops s i over last t → GoesOnSo app handler ops s (i + 1) left last t
+  jumped_over over left e h = ahead over h ∙ rw e refl
+
+  -- it is a check that fails
+  check_failed : true ≡ is_failed op last → GoesOnSo app handler ops s i 0 last t → isr_each app handler 0 0 None ops s ≡ fail (HandlerCheck handler i) t
+  check_failed f h = ahead 0 h ∙ rw (sym f) refl
+
+  -- it is done
+  op_done : false ≡ is_failed op last → GoesOnSo app handler ops s i 0 last t
+      → GoesOnSo app handler ops s (i + 1) (isr_jump op last (drop (i + 1) ops)) (isr_answer app t op last) (isr app handler i op t)
+  op_done f h = ahead 0 h ∙ rw (sym f) refl
+
+-- The kernel stands for such states, and so many events at most are told.
+pub record IsAmid (app : Application) (handler : ℕ) (ops : List IsrOp) (old : Machine) (old_log : Logged) (op_index over : ℕ) (last : Option ℕ) (new : Machine) (new_log : Logged) : Type 0 where
+  pub at : (s : State) → At old old_log.told s → (t : State) × At new new_log.told t × GoesOnSo app handler ops s op_index over last t
+  pub any : (s : State) → AtAny old old_log.told s → (t : State) × AtAny new new_log.told t × GoesOnSo app handler ops s op_index over last t
+  pub few : old_log.room ≤ new_log.room + op_index
+  pub before : new_log.before ≡ old_log.before
+  pub leaves : Leaves old new
+
+module _ (app : Application) (handler : ℕ) (ops : List IsrOp) (old : Machine) (old_log : Logged) where
+  pub amid_begins : IsAmid app handler ops old old_log 0 0 None old old_log
+  amid_begins = record { at = λ s h. (s, h, refl); any = λ s h. (s, h, refl); few = omega arith; before = refl; leaves = leaves_same old }
+
+  module _ (i over : ℕ) (last : Option ℕ) (mid : Machine) (mid_log : Logged) (so : IsAmid app handler ops old old_log i over last mid mid_log) where
+    pub amid_stands : StandsForSome old → StandsForSome mid
+    amid_stands h =
+        let s : State = record (h.0) { log = old_log.told } in
+        let after = so.any s (record { stands = renewed old h.0 h.1 old_log.told (h.0).steps old.steps (steps_are old h.0 h.1); log = refl }) in
+        (after.0, (after.1).stands)
+
+    -- all ops are done
+    all_done : length ops ≤ i → (s t : State) → GoesOnSo app handler ops s i over last t → isr_each app handler 0 0 None ops s ≡ t
+    all_done l s t h = h ∙ ap (λ (xs : List IsrOp). isr_each app handler i over last xs t) (drop_all i ops l)
+
+    module _ (l : length ops ≤ i) (few : i ≤ 16) (all : ops ≡ ops_of app handler) where
+      pub amid_handled : Does 16 old old_log mid mid_log (handle app handler)
+      unfolding handle
+      amid_handled = record {
+        at = λ s h. let a = so.at s h in subst (λ (x : State). At mid mid_log.told x) (sym (all_done l s a.0 a.2) ∙ ap (λ (xs : List IsrOp). isr_each app handler 0 0 None xs s) all) a.1;
+        few = let f = so.few in omega arith;
+        before = so.before;
+      }
+
+      pub amid_handled_any : DoesAny 16 old old_log mid mid_log (handle app handler)
+      unfolding handle
+      amid_handled_any = record {
+        at = λ s h. let a = so.any s h in subst (λ (x : State). AtAny mid mid_log.told x) (sym (all_done l s a.0 a.2) ∙ ap (λ (xs : List IsrOp). isr_each app handler 0 0 None xs s) all) a.1;
+        few = let f = so.few in omega arith;
+        before = so.before;
+      }
+
+    module _ (op : IsrOp) (l : i < length ops) (is : op ≡ get_or ops i op) where
+      -- the op is jumped over
+      pub amid_jumped : 0 < over → IsAmid app handler ops old old_log (i + 1) (over - 1) last mid mid_log
+      amid_jumped some =
+          let e : over ≡ suc (over - 1) = omega arith in
+          record {
+            at = λ s h. let a = so.at s h in (a.0, a.1, jumped_over app handler ops i op l is last s a.0 over (over - 1) e a.2);
+            any = λ s h. let a = so.any s h in (a.0, a.1, jumped_over app handler ops i op l is last s a.0 over (over - 1) e a.2);
+            few = let f = so.few in omega arith;
+            before = so.before;
+            leaves = so.leaves;
+          }
+
+      module _ (none : over ≡ 0) where
+        here : (s t : State) → GoesOnSo app handler ops s i over last t → GoesOnSo app handler ops s i 0 last t
+        here s t h = rw none at h
+
+        -- it is done
+        pub amid_did : false ≡ is_failed op last → (new : Machine) (new_log : Logged) (given : Option ℕ) → Does 1 mid mid_log new new_log (isr app handler i op) → DoesAny 1 mid mid_log new new_log (isr app handler i op)
+            → Leaves mid new → ((s : State) → Stands mid s → given ≡ isr_answer app s op last) → IsAmid app handler ops old old_log (i + 1) (isr_jump op last (drop (i + 1) ops)) given new new_log
+        amid_did f new new_log given does any leaves answer = record {
+          at = λ s h. let a = so.at s h in (isr app handler i op a.0, does.at a.0 a.1, with_answer s a.0 (Placed (a.1).stands) (here s a.0 a.2));
+          any = λ s h. let a = so.any s h in (isr app handler i op a.0, any.at a.0 a.1, with_answer s a.0 (a.1).stands (here s a.0 a.2));
+          few = let a = so.few in let b = does.few in omega arith;
+          before = does.before ∙ so.before;
+          leaves = leaves_both old mid new so.leaves leaves;
+        } where
+          with_answer : (s t : State) → Stands mid t → GoesOnSo app handler ops s i 0 last t → GoesOnSo app handler ops s (i + 1) (isr_jump op last (drop (i + 1) ops)) given (isr app handler i op t)
+          with_answer s t stands h =
+              subst (λ (x : Option ℕ). GoesOnSo app handler ops s (i + 1) (isr_jump op last (drop (i + 1) ops)) x (isr app handler i op t)) (sym (answer t stands)) (op_done app handler ops i op l is last s t f h)
+
+        -- it is a check that fails
+        module _ (f : true ≡ is_failed op last) (all : ops ≡ ops_of app handler) (few : i ≤ 16) (new : Machine) where
+          ends : (s t : State) → GoesOnSo app handler ops s i over last t → fail (HandlerCheck handler i) t ≡ isr_each app handler 0 0 None (ops_of app handler) s
+          ends s t h = sym (check_failed app handler ops i op l is last s t f (here s t h)) ∙ ap (λ (xs : List IsrOp). isr_each app handler 0 0 None xs s) all
+
+          pub amid_failed : Moves mid new (fail (HandlerCheck handler i)) → Does 16 old old_log new mid_log (handle app handler)
+          unfolding handle
+          amid_failed moves = record {
+            at = λ s h. let a = so.at s h in subst (λ (x : State). At new mid_log.told x) (ends s a.0 a.2) (moves mid_log.told a.0 a.1);
+            few = let a = so.few in omega arith;
+            before = so.before;
+          }
+
+          pub amid_failed_any : MovesAny mid new (fail (HandlerCheck handler i)) → DoesAny 16 old old_log new mid_log (handle app handler)
+          unfolding handle
+          amid_failed_any moves = record {
+            at = λ s h. let a = so.any s h in subst (λ (x : State). AtAny new mid_log.told x) (ends s a.0 a.2) (moves mid_log.told a.0 a.1);
+            few = let a = so.few in omega arith;
+            before = so.before;
+          }
 
 -- ---- one after another
 

@@ -7,7 +7,7 @@ use Rattle.model.specs.declared.event.End.TheVariants as ending
 use Rattle.model.specs.declared.event.Misuse.{Misuse}
 use Rattle.model.specs.declared.event.Misuse.TheVariants.{WhileSuspended, NotSuspended, EndedSuspended}
 use Rattle.model.specs.declared.op.Op.{Op}
-use Rattle.model.specs.declared.op.Op.TheVariants.{Work, Delay, DelayUntil, Yield, Time, Mark, Expect, Repeat, End as EndLoop, If, Else, EndIf, Break, Await, Do, GiveMutex, MessagesWaiting, SpacesAvailable, SetBits, ClearBits, GetBits, WaitBits, Suspend, Resume, SuspendAll, ResumeAll, NextCommand, Obey}
+use Rattle.model.specs.declared.op.Op.TheVariants.{Work, Delay, DelayUntil, Yield, Time, Mark, Expect, Repeat, End as EndLoop, If, Else, EndIf, Break, Stamp, Since, Await, Do, GiveMutex, MessagesWaiting, SpacesAvailable, SetBits, ClearBits, GetBits, WaitBits, Suspend, Resume, SuspendAll, ResumeAll, NextCommand, Obey}
 use Rattle.model.specs.Application.{Application}
 use Rattle.model.specs.State.{State, status_at, progress_at}
 use Rattle.model.specs.Switching.{is_held, is_scheduler_suspended, slice}
@@ -89,6 +89,8 @@ goes_on s i (If c) is t = rw is refl
 goes_on s i Else is t = rw is refl
 goes_on s i EndIf is t = rw is refl
 goes_on s i Break is t = rw is refl
+goes_on s i Stamp is t = rw is refl
+goes_on s i Since is t = rw is refl
 goes_on s i (Await o a w) is t = absurd (cc)
 goes_on s i (Do o a) is t = absurd (cc)
 goes_on s i (GiveMutex o) is t = absurd (cc)
@@ -106,35 +108,37 @@ goes_on s i (NextCommand o) is t = absurd (cc)
 goes_on s i Obey is t = absurd (cc)
 
 -- every other op may switch
-pub no_other : {X : Type 0} (op : Op) → may_switch op ≡ false → ((n : ℕ) → op ≢ Work n) → (op ≢ Time) → ((n : ℕ) → op ≢ Mark n) → ((c : AnswerCondition) → op ≢ Expect c) → ((n : Option ℕ) → op ≢ Repeat n) → (op ≢ EndLoop) → ((c : AnswerCondition) → op ≢ If c) → (op ≢ Else) → (op ≢ EndIf) → (op ≢ Break) → ((o : ℕ) → op ≢ MessagesWaiting o) → ((o : ℕ) → op ≢ SpacesAvailable o) → ((group mask : ℕ) → op ≢ ClearBits group mask) → ((group : ℕ) → op ≢ GetBits group) → (op ≢ SuspendAll) → (op ≢ ResumeAll) → X
-no_other (Work n) t work time mark expect repeat end_ if_ else_ end_if break_ messages spaces clear get suspend_ resume_ = absurd (work n refl)
-no_other (Delay n) t work time mark expect repeat end_ if_ else_ end_if break_ messages spaces clear get suspend_ resume_ = absurd (cc)
-no_other (DelayUntil n) t work time mark expect repeat end_ if_ else_ end_if break_ messages spaces clear get suspend_ resume_ = absurd (cc)
-no_other Yield t work time mark expect repeat end_ if_ else_ end_if break_ messages spaces clear get suspend_ resume_ = absurd (cc)
-no_other Time t work time mark expect repeat end_ if_ else_ end_if break_ messages spaces clear get suspend_ resume_ = absurd (time refl)
-no_other (Mark n) t work time mark expect repeat end_ if_ else_ end_if break_ messages spaces clear get suspend_ resume_ = absurd (mark n refl)
-no_other (Expect a) t work time mark expect repeat end_ if_ else_ end_if break_ messages spaces clear get suspend_ resume_ = absurd (expect a refl)
-no_other (Repeat n) t work time mark expect repeat end_ if_ else_ end_if break_ messages spaces clear get suspend_ resume_ = absurd (repeat n refl)
-no_other EndLoop t work time mark expect repeat end_ if_ else_ end_if break_ messages spaces clear get suspend_ resume_ = absurd (end_ refl)
-no_other (If c) t work time mark expect repeat end_ if_ else_ end_if break_ messages spaces clear get suspend_ resume_ = absurd (if_ c refl)
-no_other Else t work time mark expect repeat end_ if_ else_ end_if break_ messages spaces clear get suspend_ resume_ = absurd (else_ refl)
-no_other EndIf t work time mark expect repeat end_ if_ else_ end_if break_ messages spaces clear get suspend_ resume_ = absurd (end_if refl)
-no_other Break t work time mark expect repeat end_ if_ else_ end_if break_ messages spaces clear get suspend_ resume_ = absurd (break_ refl)
-no_other (Await o a w) t work time mark expect repeat end_ if_ else_ end_if break_ messages spaces clear get suspend_ resume_ = absurd (cc)
-no_other (Do o a) t work time mark expect repeat end_ if_ else_ end_if break_ messages spaces clear get suspend_ resume_ = absurd (cc)
-no_other (GiveMutex o) t work time mark expect repeat end_ if_ else_ end_if break_ messages spaces clear get suspend_ resume_ = absurd (cc)
-no_other (MessagesWaiting o) t work time mark expect repeat end_ if_ else_ end_if break_ messages spaces clear get suspend_ resume_ = absurd (messages o refl)
-no_other (SpacesAvailable o) t work time mark expect repeat end_ if_ else_ end_if break_ messages spaces clear get suspend_ resume_ = absurd (spaces o refl)
-no_other (SetBits g m) t work time mark expect repeat end_ if_ else_ end_if break_ messages spaces clear get suspend_ resume_ = absurd (cc)
-no_other (ClearBits g m) t work time mark expect repeat end_ if_ else_ end_if break_ messages spaces clear get suspend_ resume_ = absurd (clear g m refl)
-no_other (GetBits g) t work time mark expect repeat end_ if_ else_ end_if break_ messages spaces clear get suspend_ resume_ = absurd (get g refl)
-no_other (WaitBits g c w) t work time mark expect repeat end_ if_ else_ end_if break_ messages spaces clear get suspend_ resume_ = absurd (cc)
-no_other (Suspend j) t work time mark expect repeat end_ if_ else_ end_if break_ messages spaces clear get suspend_ resume_ = absurd (cc)
-no_other (Resume j) t work time mark expect repeat end_ if_ else_ end_if break_ messages spaces clear get suspend_ resume_ = absurd (cc)
-no_other SuspendAll t work time mark expect repeat end_ if_ else_ end_if break_ messages spaces clear get suspend_ resume_ = absurd (suspend_ refl)
-no_other ResumeAll t work time mark expect repeat end_ if_ else_ end_if break_ messages spaces clear get suspend_ resume_ = absurd (resume_ refl)
-no_other (NextCommand o) t work time mark expect repeat end_ if_ else_ end_if break_ messages spaces clear get suspend_ resume_ = absurd (cc)
-no_other Obey t work time mark expect repeat end_ if_ else_ end_if break_ messages spaces clear get suspend_ resume_ = absurd (cc)
+pub no_other : {X : Type 0} (op : Op) → may_switch op ≡ false → ((n : ℕ) → op ≢ Work n) → (op ≢ Time) → ((n : ℕ) → op ≢ Mark n) → ((c : AnswerCondition) → op ≢ Expect c) → ((n : Option ℕ) → op ≢ Repeat n) → (op ≢ EndLoop) → ((c : AnswerCondition) → op ≢ If c) → (op ≢ Else) → (op ≢ EndIf) → (op ≢ Break) → (op ≢ Stamp) → (op ≢ Since) → ((o : ℕ) → op ≢ MessagesWaiting o) → ((o : ℕ) → op ≢ SpacesAvailable o) → ((group mask : ℕ) → op ≢ ClearBits group mask) → ((group : ℕ) → op ≢ GetBits group) → (op ≢ SuspendAll) → (op ≢ ResumeAll) → X
+no_other (Work n) t work time mark expect repeat end_ if_ else_ end_if break_ stamp_ since_ messages spaces clear get suspend_ resume_ = absurd (work n refl)
+no_other (Delay n) t work time mark expect repeat end_ if_ else_ end_if break_ stamp_ since_ messages spaces clear get suspend_ resume_ = absurd (cc)
+no_other (DelayUntil n) t work time mark expect repeat end_ if_ else_ end_if break_ stamp_ since_ messages spaces clear get suspend_ resume_ = absurd (cc)
+no_other Yield t work time mark expect repeat end_ if_ else_ end_if break_ stamp_ since_ messages spaces clear get suspend_ resume_ = absurd (cc)
+no_other Time t work time mark expect repeat end_ if_ else_ end_if break_ stamp_ since_ messages spaces clear get suspend_ resume_ = absurd (time refl)
+no_other (Mark n) t work time mark expect repeat end_ if_ else_ end_if break_ stamp_ since_ messages spaces clear get suspend_ resume_ = absurd (mark n refl)
+no_other (Expect a) t work time mark expect repeat end_ if_ else_ end_if break_ stamp_ since_ messages spaces clear get suspend_ resume_ = absurd (expect a refl)
+no_other (Repeat n) t work time mark expect repeat end_ if_ else_ end_if break_ stamp_ since_ messages spaces clear get suspend_ resume_ = absurd (repeat n refl)
+no_other EndLoop t work time mark expect repeat end_ if_ else_ end_if break_ stamp_ since_ messages spaces clear get suspend_ resume_ = absurd (end_ refl)
+no_other (If c) t work time mark expect repeat end_ if_ else_ end_if break_ stamp_ since_ messages spaces clear get suspend_ resume_ = absurd (if_ c refl)
+no_other Else t work time mark expect repeat end_ if_ else_ end_if break_ stamp_ since_ messages spaces clear get suspend_ resume_ = absurd (else_ refl)
+no_other EndIf t work time mark expect repeat end_ if_ else_ end_if break_ stamp_ since_ messages spaces clear get suspend_ resume_ = absurd (end_if refl)
+no_other Break t work time mark expect repeat end_ if_ else_ end_if break_ stamp_ since_ messages spaces clear get suspend_ resume_ = absurd (break_ refl)
+no_other Stamp t work time mark expect repeat end_ if_ else_ end_if break_ stamp_ since_ messages spaces clear get suspend_ resume_ = absurd (stamp_ refl)
+no_other Since t work time mark expect repeat end_ if_ else_ end_if break_ stamp_ since_ messages spaces clear get suspend_ resume_ = absurd (since_ refl)
+no_other (Await o a w) t work time mark expect repeat end_ if_ else_ end_if break_ stamp_ since_ messages spaces clear get suspend_ resume_ = absurd (cc)
+no_other (Do o a) t work time mark expect repeat end_ if_ else_ end_if break_ stamp_ since_ messages spaces clear get suspend_ resume_ = absurd (cc)
+no_other (GiveMutex o) t work time mark expect repeat end_ if_ else_ end_if break_ stamp_ since_ messages spaces clear get suspend_ resume_ = absurd (cc)
+no_other (MessagesWaiting o) t work time mark expect repeat end_ if_ else_ end_if break_ stamp_ since_ messages spaces clear get suspend_ resume_ = absurd (messages o refl)
+no_other (SpacesAvailable o) t work time mark expect repeat end_ if_ else_ end_if break_ stamp_ since_ messages spaces clear get suspend_ resume_ = absurd (spaces o refl)
+no_other (SetBits g m) t work time mark expect repeat end_ if_ else_ end_if break_ stamp_ since_ messages spaces clear get suspend_ resume_ = absurd (cc)
+no_other (ClearBits g m) t work time mark expect repeat end_ if_ else_ end_if break_ stamp_ since_ messages spaces clear get suspend_ resume_ = absurd (clear g m refl)
+no_other (GetBits g) t work time mark expect repeat end_ if_ else_ end_if break_ stamp_ since_ messages spaces clear get suspend_ resume_ = absurd (get g refl)
+no_other (WaitBits g c w) t work time mark expect repeat end_ if_ else_ end_if break_ stamp_ since_ messages spaces clear get suspend_ resume_ = absurd (cc)
+no_other (Suspend j) t work time mark expect repeat end_ if_ else_ end_if break_ stamp_ since_ messages spaces clear get suspend_ resume_ = absurd (cc)
+no_other (Resume j) t work time mark expect repeat end_ if_ else_ end_if break_ stamp_ since_ messages spaces clear get suspend_ resume_ = absurd (cc)
+no_other SuspendAll t work time mark expect repeat end_ if_ else_ end_if break_ stamp_ since_ messages spaces clear get suspend_ resume_ = absurd (suspend_ refl)
+no_other ResumeAll t work time mark expect repeat end_ if_ else_ end_if break_ stamp_ since_ messages spaces clear get suspend_ resume_ = absurd (resume_ refl)
+no_other (NextCommand o) t work time mark expect repeat end_ if_ else_ end_if break_ stamp_ since_ messages spaces clear get suspend_ resume_ = absurd (cc)
+no_other Obey t work time mark expect repeat end_ if_ else_ end_if break_ stamp_ since_ messages spaces clear get suspend_ resume_ = absurd (cc)
 
 -- `suspend_all` is none in any case
 pub no_misuse : (s : State) (i : ℕ) → misuse s i SuspendAll ≡ None

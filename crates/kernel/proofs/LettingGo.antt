@@ -4,7 +4,7 @@ use Rattle.std.specs.Option.{unwrap_or}
 use Rattle.model.specs.declared.op.Command.{Command}
 use Rattle.model.specs.Daemon.{command_of, end_set_by_daemon}
 use Rattle.model.specs.declared.op.Op.{Op}
-use Rattle.model.specs.declared.op.Op.TheVariants.{Work, Delay, DelayUntil, Yield, Time, Mark, Expect, Repeat, End, If, Else, EndIf, Break, Await, Do, GiveMutex, MessagesWaiting, SpacesAvailable, SetBits, ClearBits, GetBits, WaitBits, Suspend, Resume, SuspendAll, ResumeAll, NextCommand, Obey}
+use Rattle.model.specs.declared.op.Op.TheVariants.{Work, Delay, DelayUntil, Yield, Time, Mark, Expect, Repeat, End, If, Else, EndIf, Break, Stamp, Since, Await, Do, GiveMutex, MessagesWaiting, SpacesAvailable, SetBits, ClearBits, GetBits, WaitBits, Suspend, Resume, SuspendAll, ResumeAll, NextCommand, Obey}
 use Rattle.model.specs.declared.call.Condition.{Condition}
 use Rattle.model.specs.declared.call.Phase.TheVariants.{Start, Leave, Final}
 use Rattle.model.specs.Application.{Application, Limits}
@@ -72,6 +72,8 @@ no_other (If c) e sets waits obeys = absurd (cc)
 no_other Else e sets waits obeys = absurd (cc)
 no_other EndIf e sets waits obeys = absurd (cc)
 no_other Break e sets waits obeys = absurd (cc)
+no_other Stamp e sets waits obeys = absurd (cc)
+no_other Since e sets waits obeys = absurd (cc)
 no_other (Await o a w) e sets waits obeys = absurd (cc)
 no_other (Do o a) e sets waits obeys = absurd (cc)
 no_other (GiveMutex o) e sets waits obeys = absurd (cc)

@@ -6,8 +6,10 @@ pub mod Running
 pub mod Injecting
 pub mod Ticking
 pub mod Handling
+pub mod Branching
 pub mod Planned
 pub mod Held
+pub mod Unstopped
 pub mod Silent
 pub mod InCall
 pub mod Counting

@@ -25,13 +25,14 @@ use Rattle.model.specs.Step.{is_ended, act, act_current, act_if, before_step, ow
 use Rattle.model.specs.Run.{are_all_ended, is_stuck}
 use Rattle.model.proofs.Sorting.{by_test}
 use Rattle.model.proofs.Tables.{each-set}
-use Rattle.soundness.proofs.Frames.{keeps-inherit, keeps-all_ready, keeps-set, keeps-settle, keeps-unless_held}
+use Rattle.soundness.proofs.Frames.{keeps-settle, keeps-unless_held}
 use Rattle.soundness.proofs.Passing.{acts_calm, lasts-await, lasts-begin_set}
 use Rattle.ops.specs.InCall.{IsSilent}
 use Rattle.ops.proofs.Commanding.{same_after}
 use Rattle.kernel.specs.InCall.{IsCallOn}
 use Rattle.kernel.specs.InCall.IsCallOn.{Awaits, Receives}
 use Rattle.kernel.specs.Over.{is_at_tick_limit, is_over}
+use Rattle.kernel.proofs.Unstopped.{stopped-all_ready, stopped-inherit, stopped-set, stopped-settled}
 use Rattle.kernel.proofs.Ending.{each_of, none_of, not_all_but, not_passed, runs_on, some_left}
 
 -- Whoever wasn't Ended isn't.
@@ -114,14 +115,14 @@ on-await app i o a ticks Final s silent = absurd silent
 
 stopped-decide : (s : State) (i o : ℕ) (a : Access) → (decide i o a s).stopped ≡ s.stopped
 unfolding decide wait_in
-stopped-decide s i o a = by_test (possible s o a || is_expired s i) (λ t. rw t refl) (λ t. rw t (keeps-inherit i o s).stopped)
+stopped-decide s i o a = by_test (possible s o a || is_expired s i) (λ t. rw t refl) (λ t. rw t (stopped-inherit s i o))
 
 stopped-unlock : (s : State) → (unlock s).stopped ≡ s.stopped
 unfolding unlock
 stopped-unlock s = by_locked s.locked where
   by_locked : (o : Option ℕ) → (for_one unlock_object o s).stopped ≡ s.stopped
   by_locked None = refl
-  by_locked (Some o) = (keeps-all_ready (tasks_of (awakened s (ToReceive o)) ++ tasks_of (awakened s (ToSend o))) (record s { locked = None })).stopped
+  by_locked (Some o) = stopped-all_ready (tasks_of (awakened s (ToReceive o)) ++ tasks_of (awakened s (ToSend o))) (record s { locked = None })
 
 stopped-await : (app : Application) (i o : ℕ) (a : Access) (ticks : Option ℕ) (phase : Phase) (s : State) → IsSilent phase → (await app i o a ticks phase s).stopped ≡ s.stopped
 stopped-await app i o a ticks Start s silent = absurd silent
@@ -164,7 +165,7 @@ on-begin_set s i group mask j on =
 
 stopped-begin_set : (s : State) (i group mask : ℕ) → (begin_set i group mask s).stopped ≡ s.stopped
 unfolding begin_set
-stopped-begin_set s i group mask = (keeps-set group mask (record s { call_hold = true })).stopped
+stopped-begin_set s i group mask = stopped-set (record s { call_hold = true }) group mask
 
 -- ---- the step
 
@@ -177,7 +178,7 @@ module _ (app : Application) (limits : Limits) (task : ℕ) (s done : State) (do
       let begun : State = record s { log = [] } in
       let acted : State = act_current app limits begun.current begun in
       let ended : State = step app limits [] s in
-      let stopped : ended.stopped ≡ s.stopped = (keeps-unless_held settle acted keeps-settle).stopped ∙ ap (λ (x : State). x.stopped) does ∙ stops_not in
+      let stopped : ended.stopped ≡ s.stopped = stopped-settled acted ∙ ap (λ (x : State). x.stopped) does ∙ stops_not in
       let each = each_of (is_some s.stopped) (are_all_ended app s) (is_at_tick_limit app limits s) (is_stuck app s) going in
       let lasts : acted.elapsed ≡ s.elapsed = ap (λ (x : State). x.elapsed) does ∙ lasts_not in
       let early : is_at_tick_limit app limits ended ≡ false = ap (λ (n : ℕ). app.tickless && leb limits.ticks n) ((keeps-unless_held settle acted keeps-settle).elapsed ∙ lasts) ∙ each.2 in

@@ -20,7 +20,7 @@ use ops::mutexes::give_mutex;
 use ops::queues::{do_now, messages_waiting, spaces_available};
 use ops::script::{branch, close_turn, end_if, expect, leave_loop, mark, open_loop, skip_branch};
 use ops::suspension::{call_resume, call_suspend};
-use ops::time::{call_yield, delay, delay_until, time, use_up};
+use ops::time::{call_yield, delay, delay_until, since, stamp, time, use_up};
 
 /// What may come behind a step that told nothing, and is done with the step's parts at hand.
 #[derive(Clone, Copy, PartialEq)]
@@ -138,6 +138,8 @@ pub(crate) fn act<L: Log>(
         Op::Yield => call_yield(machine, app, task, log),
         Op::Time => time(machine, app, task, log),
         Op::Mark(number) => mark(machine, app, task, number, log),
+        Op::Stamp => stamp(machine, app, task),
+        Op::Since => since(machine, app, task, log),
         Op::Do(object, access) => do_now(machine, app, task, object, access, log),
         Op::GiveMutex(object) => give_mutex(machine, app, task, object, log),
         Op::MessagesWaiting(object) => messages_waiting(machine, app, task, object, log),

@@ -8,6 +8,7 @@ mod handlers;
 mod idle;
 mod in_call;
 mod kernel;
+mod looking;
 mod quiet;
 mod rests;
 mod rows;

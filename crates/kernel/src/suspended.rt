@@ -18,7 +18,7 @@ use ops::event_groups::{clear_bits, get_bits};
 use ops::queues::{messages_waiting, spaces_available};
 use ops::script::{branch, close_turn, end_if, expect, leave_loop, mark, open_loop, skip_branch};
 use ops::suspension::{resume_all, suspend_all};
-use ops::time::{time, use_up};
+use ops::time::{since, stamp, time, use_up};
 
 /// Whether an op may switch, or wait.
 fn may_switch(op: &Op) -> bool
@@ -122,6 +122,8 @@ fn act_on<L: Log>(machine: &mut Machine, app: &App, task: TaskId, op: &Op, log: 
         Op::Work(ticks) => work_on(machine, app, task, ticks, log),
         Op::Time => time(machine, app, task, log),
         Op::Mark(number) => mark(machine, app, task, number, log),
+        Op::Stamp => stamp(machine, app, task),
+        Op::Since => since(machine, app, task, log),
         Op::Expect(condition) => {
             expect(machine, app, task, condition);
         }

@@ -1,7 +1,10 @@
 -- Steps and events are another's: what that makes of the states that the kernel stands for.
-use Rattle.std.proofs.Common.{◌≡◌, ℕ, List, [], ◌∷◌, ◌++◌, Some, refl, ap, ◌∙◌}
+use Rattle.std.proofs.Common.{◌≡◌, ℕ, List, [], ◌∷◌, ◌++◌, Option, Some, refl, ap, ◌∙◌}
+use Rattle.std.specs.Option.{option_or}
+use Rattle.model.specs.declared.event.End.{End}
 use Rattle.model.specs.declared.event.Event.{Event}
 use Rattle.model.specs.State.{State, printed}
+use Rattle.model.specs.Ops.{fail}
 use Rattle.model.specs.Switching.{write}
 use Rattle.model.specs.declared.call.WaitList.{WaitList}
 use Rattle.model.specs.Step.{step}
@@ -19,9 +22,10 @@ use Rattle.objects.proofs.Awake.{at_locked_same}
 use Rattle.machine.proofs.Parts.{same_parts, stands-unseen}
 use Rattle.machine.proofs.Either.{steps_are, now_is}
 
-begun_before : (k : Machine) (s : State) (task : ℕ) (list : WaitList) → StandsBefore task list k s → (log : List Event) (steps : ℕ) (n : ℕ) → n ≡ steps → StandsBefore task list (record k { steps = n }) (record s { log = log; steps = steps })
-begun_before k s task list b log steps n e =
-    let new : State = record s { log = log; steps = steps } in
+begun_before : (k : Machine) (s : State) (task : ℕ) (list : WaitList) → StandsBefore task list k s → (log : List Event) (steps n : ℕ) (stopped end : Option End) → n ≡ steps → end ≡ stopped
+    → StandsBefore task list (record k { steps = n; stopped = end }) (record s { log = log; steps = steps; stopped = stopped })
+begun_before k s task list b log steps n stopped end e same_end =
+    let new : State = record s { log = log; steps = steps; stopped = stopped } in
     let table : IsTable new = record { tickets = b.sched.table.tickets; few = b.sched.table.few; current = b.sched.table.current; holders = b.sched.table.holders } in
     let same : SameWaits s new = same_parts s new refl refl refl in
     record {
@@ -34,7 +38,7 @@ begun_before k s task list b log steps n e =
       progress = b.progress;
       full = b.full;
       steps = e;
-      stopped = b.stopped;
+      stopped = same_end;
       current = b.current;
       held = b.held;
       phase = b.phase;
@@ -45,7 +49,14 @@ begun_before k s task list b log steps n e =
 -- steps and events are another's
 pub renewed : (k : Machine) (s : State) → Stands k s → (log : List Event) (steps : ℕ) (n : ℕ) → n ≡ steps → Stands (record k { steps = n }) (record s { log = log; steps = steps })
 renewed k s (Placed h) log steps n e = Placed (stands-unseen k s h log steps n s.stopped k.stopped e h.rest.stopped)
-renewed k s (Placing task list b) log steps n e = Placing task list (begun_before k s task list b log steps n e)
+renewed k s (Placing task list b) log steps n e = Placing task list (begun_before k s task list b log steps n s.stopped k.stopped e b.stopped)
+
+-- a check fails in the step
+pub failed_any : (k : Machine) (s : State) → Stands k s → (check : End) → Stands (record k { stopped = option_or k.stopped (Some check) }) (fail check s)
+failed_any k s (Placed h) check =
+    Placed (stands-unseen k s h s.log s.steps k.steps (option_or s.stopped (Some check)) (option_or k.stopped (Some check)) h.rest.steps (ap (λ (o : Option End). option_or o (Some check)) h.rest.stopped))
+failed_any k s (Placing task list b) check =
+    Placing task list (begun_before k s task list b s.log s.steps k.steps (option_or s.stopped (Some check)) (option_or k.stopped (Some check)) b.steps (ap (λ (o : Option End). option_or o (Some check)) b.stopped))
 
 -- an event is told
 pub any_written : (k : Machine) (log new_log : List Event) (s : State) (e : Event) → AtAny k log s → new_log ≡ log ++ e ∷ [] → e.step ≡ k.steps → e.tick ≡ printed k.clock.now → AtAny k new_log (write e.what s)

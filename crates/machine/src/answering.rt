@@ -1,10 +1,11 @@
 //! An op is complete, or is a misuse: the task goes on, and its call answers.
 ghost use Rattle.std.specs.Prelude.{◌≡◌, ◌<◌, ◌≤◌, ◌+◌, true, Some, None};
+ghost use Rattle.std.specs.Option.{option_or};
 ghost use Rattle.model.specs.State.{progress_at};
-ghost use Rattle.model.specs.Ops.{go_to, complete, called, answer, one_if};
+ghost use Rattle.model.specs.Ops.{go_to, complete, called, answer, fail, one_if};
 ghost use Rattle.model.specs.Daemon.{obeyed, received};
 ghost use Rattle.model.specs.Step.{misuse, misused};
-ghost use Rattle.machine.specs.StandsFor.{Does, IsPlaced, Moves};
+ghost use Rattle.machine.specs.StandsFor.{Does, IsPlaced, Moves, MovesAny};
 ghost use Rattle.machine.specs.Can.{Runs};
 
 use crate::log::Log;
@@ -127,5 +128,15 @@ impl Machine {
     {
         let op_index = self.progress(task).op_index;
         self.stopped = Some(End::Misuse(task, op_index, misuse));
+    }
+
+    /// A check fails, which ends the run behind the step, unless one has failed in the step already.
+    #[inline]
+    pub fn fail(&mut self, check: End)
+        ensures does { Moves self.old self.new (fail check) }
+        ensures any { MovesAny self.old self.new (fail check) }
+        ensures new { self.new ≡ record self.old { stopped = option_or self.old.stopped (Some check) } }
+    {
+        self.stopped = self.stopped.or(Some(check));
     }
 }

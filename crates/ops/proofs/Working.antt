@@ -1,6 +1,5 @@
 -- What the ops of a script alone, and those that let time pass, make of the states that the kernel stands for.
 use Rattle.std.proofs.Common.{◌≡◌, ◌≢◌, ◌<◌, ◌≤◌, ◌+◌, ◌-◌, ℕ, true, false, eqb, leb, ltb, List, [], ◌∷◌, length, Option, Some, None, refl, ap, sym, subst, ◌∙◌, arith, min}
-use Rattle.std.specs.Option.{option_or}
 use Rattle.std.specs.Prelude.{Bool, drop, option_map, if◌then◌else◌}
 use Rattle.std.proofs.lemmas.Bool.{lt-ltb, le-ltb, eq-eqb, ne_eqb}
 use Rattle.model.specs.declared.call.Phase.TheVariants.{Place}
@@ -15,14 +14,14 @@ use Rattle.model.specs.State.{State, Progress, progress_at}
 use Rattle.model.specs.State as state
 use Rattle.model.specs.Switching.{yield_now, is_ready}
 use Rattle.model.specs.Time.{sleep, set_previous_wake}
-use Rattle.model.specs.Ops.{go_to, complete, answer, use_up, delay, delay_until, expect, open_loop, turn, close_turn, branch, skip_branch, leave_loop, stamp, since}
+use Rattle.model.specs.Ops.{go_to, complete, answer, use_up, delay, delay_until, expect, open_loop, turn, close_turn, branch, skip_branch, leave_loop, stamp, since, fail}
 use Rattle.model.proofs.Sorting.{by_test}
 use Rattle.soundness.proofs.Frames.{keeps-answer, keeps-sleep}
 use Rattle.model.specs.Ops as step
 use Rattle.machine.specs.Loops.{after_turn, is_last, next_turn}
 use Rattle.machine.specs.declared.machine.Machine.{Machine}
 use Rattle.machine.specs.StandsFor.{progress_in, At, with_progress}
-use Rattle.machine.proofs.Acting.{within, changed, Goes, Completes, at_mid, goes, completes, failed_at}
+use Rattle.machine.proofs.Acting.{within, changed, Goes, Completes, at_mid, goes, completes}
 
 module _ (app : Application) (k new : Machine) (log : List Event) (s : State) (h : At k log s) (i : ℕ) (r : k.sched.current ≡ Some i) (v : Progress) (e : v ≡ progress_in k.progress i) where
   same : v ≡ progress_at s i
@@ -50,11 +49,11 @@ module _ (app : Application) (k new : Machine) (log : List Event) (s : State) (h
   unfolding expect
   expect_held condition t g = rw (held condition true t) (g log s h)
 
-  pub expect_failed : (condition : AnswerCondition) → false ≡ holds condition v.answer → At (record k { stopped = option_or k.stopped (Some (ending.Check i v.op_index)) }) log (expect app i condition s)
+  pub expect_failed : (condition : AnswerCondition) → false ≡ holds condition v.answer → At new log (fail (ending.Check i v.op_index) s) → At new log (expect app i condition s)
   unfolding expect
-  expect_failed condition t =
+  expect_failed condition t failed =
       let u : holds condition (progress_at s i).answer ≡ false = held condition false t in
-      rw u (failed_at k log s h (ending.Check i v.op_index) (ending.Check i (progress_at s i).op_index) (ap (λ (p : Progress). ending.Check i p.op_index) same))
+      rw u (subst (λ (p : Progress). At new log (fail (ending.Check i p.op_index) s)) same failed)
 
   pub branch_taken : (condition : AnswerCondition) → true ≡ holds condition v.answer → Completes app k i new → At new log (branch app i condition s)
   unfolding branch

@@ -36,7 +36,7 @@ pub fn expect(machine: &mut Machine, app: &App, task: TaskId, condition: AnswerC
         machine.complete(app, task)
     } else {
         let failed = End::Check(task, progress.op_index);
-        machine.stopped = machine.stopped.or(Some(failed));
+        machine.fail(failed);
         false
     }
 }

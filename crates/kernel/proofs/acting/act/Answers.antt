@@ -1,5 +1,5 @@
 use Rattle.std.proofs.Common.{◌∙◌, ◌<◌, ap, arith, refl, subst, sym}
-use Rattle.model.specs.declared.op.Op.TheVariants.{Work, Delay, DelayUntil, Yield, Time, Mark, Expect, Repeat, End as EndLoop, If, Else, EndIf, Break, Await, Do, MessagesWaiting, SpacesAvailable, SetBits, ClearBits, GetBits, WaitBits, Suspend, Resume, ResumeAll, NextCommand, Obey}
+use Rattle.model.specs.declared.op.Op.TheVariants.{Work, Delay, DelayUntil, Yield, Time, Mark, Expect, Repeat, End as EndLoop, If, Else, EndIf, Break, Stamp, Since, Await, Do, MessagesWaiting, SpacesAvailable, SetBits, ClearBits, GetBits, WaitBits, Suspend, Resume, ResumeAll, NextCommand, Obey}
 use Rattle.model.specs.declared.event.Misuse.TheVariants.{NotSuspended}
 use Rattle.model.specs.State.{Progress}
 use Rattle.machine.specs.StandsFor.{progress_in}
@@ -45,6 +45,16 @@ pub returns-in-Mark-clause-does : goal.returns-in-Mark-clause-does
 returns-in-Mark-clause-does g c =
     let can = subst (CanOp c.args.app.now c.args.machine.now c.args.task) c.in-Mark.is c.requires.can in
     does_by_form c.args.app.now c.args.machine.now c.mark.new.machine (g.L.Log.logged c.args.log.now) (g.L.Log.logged c.mark.new.log) c.args.task c.args.op.now (Mark c.in-Mark.number) c.in-Mark.is c.requires.awake (λ s. refl) refl 1 one_within can.tick.advance.agrees c.mark.ensures
+
+pub returns-in-Stamp-clause-does : goal.returns-in-Stamp-clause-does
+returns-in-Stamp-clause-does g c =
+    let can = subst (CanOp c.args.app.now c.args.machine.now c.args.task) c.in-Stamp.is c.requires.can in
+    any_by_form c.args.app.now c.args.machine.now c.stamp.new.machine (g.L.Log.logged c.args.log.now) (g.L.Log.logged c.args.log.now) c.args.task c.args.op.now Stamp c.in-Stamp.is c.requires.awake (λ s. refl) refl 65 all_within (moves_any 65 c.args.machine.now c.stamp.new.machine (g.L.Log.logged c.args.log.now) _ can.tick.advance.agrees c.stamp.ensures)
+
+pub returns-in-Since-clause-does : goal.returns-in-Since-clause-does
+returns-in-Since-clause-does g c =
+    let can = subst (CanOp c.args.app.now c.args.machine.now c.args.task) c.in-Since.is c.requires.can in
+    does_by_form c.args.app.now c.args.machine.now c.since.new.machine (g.L.Log.logged c.args.log.now) (g.L.Log.logged c.since.new.log) c.args.task c.args.op.now Since c.in-Since.is c.requires.awake (λ s. refl) refl 1 one_within can.tick.advance.agrees c.since.ensures
 
 pub returns-in-Do-clause-does : goal.returns-in-Do-clause-does
 returns-in-Do-clause-does g c =
@@ -168,6 +178,16 @@ pub mark-requires : goal.mark-requires
 mark-requires g c =
     let can = subst (CanOp c.args.app.now c.args.machine.now c.args.task) c.in-Mark.is c.requires.can in
     record { room = room_for_one (g.L.Log.logged c.args.log.now).room c.requires.room; runs = can.runs }
+
+pub stamp-requires : goal.stamp-requires
+stamp-requires g c =
+    let can = subst (CanOp c.args.app.now c.args.machine.now c.args.task) c.in-Stamp.is c.requires.can in
+    can.runs
+
+pub since-requires : goal.since-requires
+since-requires g c =
+    let can = subst (CanOp c.args.app.now c.args.machine.now c.args.task) c.in-Since.is c.requires.can in
+    record { room = room_for_one (g.L.Log.logged c.args.log.now).room c.requires.room; runs = can.runs; stamped = can.stamp }
 
 pub go_on_waiting-requires : goal.go_on_waiting-requires
 go_on_waiting-requires g c =

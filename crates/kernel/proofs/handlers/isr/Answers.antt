@@ -1,6 +1,9 @@
-use Rattle.std.proofs.Common.{ap, ◌∙◌}
+use Rattle.std.proofs.Common.{◌≡◌, Some, ap, arith, inl, inr, refl, subst, sym, ◌∙◌}
+use Rattle.model.specs.declared.op.IsrOp.{IsrOp}
+use Rattle.model.specs.State.{State}
+use Rattle.model.specs.Handlers.{isr}
 use Rattle.model.specs.Ops.{one_if}
-use Rattle.machine.specs.StandsFor.{At, AtAny}
+use Rattle.machine.specs.StandsFor.{At, AtAny, DoesAny}
 use Rattle.machine.specs.StandsFor.Stands.{Placed}
 use Rattle.kernel.proofs.Handling.{did_command, did_op, did_mark, groups_stand, told_bits, told_resume}
 use Rattle.kernel.proofs.handlers.isr.Goals as goal
@@ -82,3 +85,32 @@ returns-in-Command-clause-any g c = record {
   few = c.write-in-Command.ensures.any.few;
   before = c.write-in-Command.ensures.any.before;
 }
+
+-- ---- the last answer
+
+pub returns-in-Do-clause-answer : goal.returns-in-Do-clause-answer
+returns-in-Do-clause-answer g c = λ s h. rw c.in-Do.is (c.attempt-answer.ensures.answer s h)
+
+pub returns-in-Command-clause-answer : goal.returns-in-Command-clause-answer
+returns-in-Command-clause-answer g c = λ s h. rw (c.in-Command.is, ← c.commands.ensures) (c.attempt-sent.ensures.answer s h)
+
+pub returns-in-Resume-clause-answer : goal.returns-in-Resume-clause-answer
+returns-in-Resume-clause-answer g c = λ s h. rw c.in-Resume.is (c.one_if.ensures ∙ ap one_if (c.resume-did.ensures.answer s h))
+
+pub returns-in-GetBits-clause-answer : goal.returns-in-GetBits-clause-answer
+returns-in-GetBits-clause-answer g c = λ s h. rw c.in-GetBits.is (ap Some (c.bits-bits.ensures.stands s (groups_stand c.args.machine.now s h)))
+
+pub returns-in-Mark-clause-answer : goal.returns-in-Mark-clause-answer
+returns-in-Mark-clause-answer g c = λ s h. rw c.in-Mark.is refl
+
+pub returns-in-Expect-clause-any : goal.returns-in-Expect-clause-any
+returns-in-Expect-clause-any g c = elim c.in-Expect.is [
+  inl e ↦ same (e.1) (λ s. refl) |
+  inr e ↦ elim e [
+    inl e ↦ same (e.1) (λ s. refl) |
+    inr e ↦ elim e [ inl e ↦ same e (λ s. refl) | inr e ↦ same e (λ s. refl) ]
+  ]
+] where
+  same : {op : IsrOp} → c.args.op.now ≡ op → ((s : State) → isr c.args.app.now c.args.handler c.args.op_index op s ≡ s)
+      → DoesAny 1 c.args.machine.now (g.L.Log.logged c.args.log.now) c.args.machine.now (g.L.Log.logged c.args.log.now) (isr c.args.app.now c.args.handler c.args.op_index c.args.op.now)
+  same e none = record { at = λ s h. rw e (subst (λ (t : State). AtAny c.args.machine.now (g.L.Log.logged c.args.log.now).told t) (sym (none s)) h); few = omega arith; before = refl }

@@ -32,6 +32,12 @@ returns-in-EndIf g c = rw c.in-EndIf.is (moves_up 64 _ _ (g.L.Log.logged c.args.
 pub returns-in-Break : goal.returns-in-Break
 returns-in-Break g c = rw c.in-Break.is (moves_up 64 _ _ (g.L.Log.logged c.args.log.now) _ c.leave_loop.ensures.does)
 
+pub returns-in-Stamp : goal.returns-in-Stamp
+returns-in-Stamp g c = rw c.in-Stamp.is (moves_up 64 _ _ (g.L.Log.logged c.args.log.now) _ c.stamp.ensures)
+
+pub returns-in-Since : goal.returns-in-Since
+returns-in-Since g c = rw c.in-Since.is (does_up 1 64 _ _ _ _ _ (omega arith) c.since.ensures)
+
 pub returns-in-MessagesWaiting : goal.returns-in-MessagesWaiting
 returns-in-MessagesWaiting g c = rw c.in-MessagesWaiting.is (does_up 1 64 _ _ _ _ _ (omega arith) c.messages_waiting.ensures)
 
@@ -51,4 +57,4 @@ pub returns-in-ResumeAll : goal.returns-in-ResumeAll
 returns-in-ResumeAll g c = rw c.in-ResumeAll.is (does_up 2 64 _ _ _ _ _ (omega arith) c.resume_all.ensures)
 
 pub returns-in_default : goal.returns-in_default
-returns-in_default g c = let not = c.in_default in no_other c.args.op.now c.requires.stays not.not-Work not.not-Time not.not-Mark not.not-Expect not.not-Repeat not.not-End not.not-If not.not-Else not.not-EndIf not.not-Break not.not-MessagesWaiting not.not-SpacesAvailable not.not-ClearBits not.not-GetBits not.not-SuspendAll not.not-ResumeAll
+returns-in_default g c = let not = c.in_default in no_other c.args.op.now c.requires.stays not.not-Work not.not-Time not.not-Mark not.not-Expect not.not-Repeat not.not-End not.not-If not.not-Else not.not-EndIf not.not-Break not.not-Stamp not.not-Since not.not-MessagesWaiting not.not-SpacesAvailable not.not-ClearBits not.not-GetBits not.not-SuspendAll not.not-ResumeAll

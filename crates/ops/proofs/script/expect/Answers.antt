@@ -9,4 +9,4 @@ returns-then-holds-clause-does c = λ log s h.
 
 pub returns-else-holds-clause-does : goal.returns-else-holds-clause-does
 returns-else-holds-clause-does c = λ log s h.
-    rw c.or-machine.ensures (expect_failed c.args.app.now c.args.machine.now c.args.machine.now log s h c.args.task c.requires.runs.current (the_view c.progress.inside) (c.progress.view_is ∙ c.progress-progress.ensures) c.args.condition c.if-holds.ensures)
+    expect_failed c.args.app.now c.args.machine.now c.fail.new.self log s h c.args.task c.requires.runs.current (the_view c.progress.inside) (c.progress.view_is ∙ c.progress-progress.ensures) c.args.condition c.if-holds.ensures (c.fail.ensures.does log s h)

@@ -1,0 +1,69 @@
+//! What a handler makes of its last answer: whether an `expect` fails, and where an `if` and an `else` go on.
+ghost use Rattle.std.specs.Prelude.{◌≡◌, ◌<◌, ◌≤◌, ◌+◌, ◌^◌, List, ◌∷◌, IfSome, IsNone, length};
+ghost use Rattle.model.specs.declared.block.Edge as declared;
+ghost use Rattle.model.specs.Blocks.{isr_edges_of, past_branch};
+ghost use Rattle.model.specs.Handlers.{is_failed, isr_jump};
+
+use model::{Edge, IsrOp};
+
+/// Whether it is an `expect` that fails where this is the last answer.
+#[inline(always)]
+pub(crate) fn is_failed(op: &IsrOp, last: Option<u32>) -> bool
+    ensures { result ≡ is_failed op.now last }
+{
+    match *op {
+        IsrOp::Expect(condition) => !condition.holds(last),
+        _ => false,
+    }
+}
+
+/// Over how many of these ops, which are those behind it, an op jumps where this is the last answer.
+#[inline(always)]
+pub(crate) fn isr_jump(op: &IsrOp, behind: &[IsrOp], last: Option<u32>) -> usize
+    requires { length behind.now ≤ 16 }
+    ensures { result ≡ isr_jump op.now last behind.now }
+{
+    match *op {
+        IsrOp::If(condition) if !condition.holds(last) => past_branch(behind),
+        IsrOp::Else => past_branch(behind),
+        _ => 0,
+    }
+}
+
+/// How many `if` are open in a branch behind an op that is this to the blocks, where so many are before it; `None` where it ends the branch.
+#[inline(always)]
+fn inner_behind(inner: usize, edge: Edge) -> Option<usize>
+    requires { inner < 2 ^ 63 }
+    ensures more { IfSome result (λ behind. (edges : List declared.Edge)
+        → past_branch inner (edge ∷ edges) ≡ past_branch behind edges + 1) }
+    ensures few { IfSome result (λ behind. behind ≤ inner + 1) }
+    ensures ends { IsNone result → (edges : List declared.Edge) → past_branch inner (edge ∷ edges) ≡ 1 }
+{
+    match edge {
+        Edge::OpensIf => Some(inner + 1),
+        Edge::OpensElse => {
+            if inner == 0 {
+                None
+            } else {
+                Some(inner)
+            }
+        }
+        Edge::EndsIf => inner.checked_sub(1),
+        _ => Some(inner),
+    }
+}
+
+/// How many of these ops there are to the end of the branch in which they begin, its `else` or `end` included.
+fn past_branch(ops: &[IsrOp]) -> usize
+    requires { length ops.now ≤ 16 }
+    ensures { result ≡ past_branch 0 (isr_edges_of ops.now) }
+{
+    let mut inner: usize = 0;
+    for (passed, op) in ops.iter().enumerate() {
+        match inner_behind(inner, op.edge()) {
+            None => return passed + 1,
+            Some(behind) => inner = behind,
+        }
+    }
+    ops.len()
+}
