@@ -268,17 +268,17 @@ module _ (app : Application) (formed : IsWellFormed app) (k : Machine) (state : 
       runs_on : state.call_hold ≡ false → Runs k task
       runs_on free = runs_ready (placed free) (ready_here free)
 
+      stamped : (progress_in k.progress task).stamp ≤ k.clock.now
+      stamped =
+          let H : Progress → Type 0 = λ p. p.stamp ≤ k.clock.now in
+          subst H (sym same) (rw (now_is k state stands) (reached.sound.progress task).stamped)
+
       module _ (free : state.call_hold ≡ false) where
         previous : (progress_in k.progress task).previous_wake ≤ k.clock.now
         previous =
             let lower = ready_reckoned state.time (progress_at state task).previous_wake (status_at state task) (reached.sound.progress task).reckoned (ready_here free) in
             let H : Progress → Type 0 = λ p. p.previous_wake ≤ k.clock.now in
             subst H (sym same) (rw (now_is k state stands) lower)
-
-      stamped : (progress_in k.progress task).stamp ≤ k.clock.now
-      stamped =
-          let H : Progress → Type 0 = λ p. p.stamp ≤ k.clock.now in
-          subst H (sym same) (rw (now_is k state stands) (reached.sound.progress task).stamped)
 
         can : k.suspensions ≡ 0 → IsBrief op → Can app k task op
         can awake brief = record {

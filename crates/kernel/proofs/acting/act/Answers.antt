@@ -182,7 +182,7 @@ mark-requires g c =
 pub stamp-requires : goal.stamp-requires
 stamp-requires g c =
     let can = subst (CanOp c.args.app.now c.args.machine.now c.args.task) c.in-Stamp.is c.requires.can in
-    can.runs
+    record { runs = can.runs }
 
 pub since-requires : goal.since-requires
 since-requires g c =
