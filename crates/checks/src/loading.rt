@@ -113,6 +113,51 @@ fn branches_and_endless_tasks_are_loaded(rt: HostRuntime) {
     assert!(rt; !app.is_endless(TaskId { number: 1 }));
 }
 
+const LOOKING_HANDLERS: &str = "
+[[handler]]
+name = 'h'
+ops = [
+    'expect none', 'if   below 007 ', 'if not none', 'mark 1', 'else', 'expect above 4294967295',
+    'end', '  else ', 'if 4294967295', 'expect not 0', 'end', 'end',
+]
+
+[[handler]]
+name = 'deep'
+ops = [
+    'if 1', 'if 1', 'if 1', 'if 1', 'if 1', 'if 1', 'if 1', 'if 1',
+    'end', 'end', 'end', 'end', 'end', 'end', 'end', 'end',
+]
+
+[[task]]
+name = 'a'
+priority = 1
+script = ['stamp', '  since ', 'expect below 6']
+";
+
+#[test]
+fn handlers_that_look_and_tasks_that_measure_time_are_loaded(rt: HostRuntime) {
+    let app = loaded(&rt, rt.alloc(), LOOKING_HANDLERS);
+    let isr_ops = [
+        IsrOp::Expect(AnswerCondition::Is(None)),
+        IsrOp::If(AnswerCondition::Below(7)),
+        IsrOp::If(AnswerCondition::IsNot(None)),
+        IsrOp::Mark(1),
+        IsrOp::Else,
+        IsrOp::Expect(AnswerCondition::Above(4_294_967_295)),
+        IsrOp::EndIf,
+        IsrOp::Else,
+        IsrOp::If(AnswerCondition::Is(Some(4_294_967_295))),
+        IsrOp::Expect(AnswerCondition::IsNot(Some(0))),
+        IsrOp::EndIf,
+        IsrOp::EndIf,
+    ];
+    has_isr_ops(&rt, &app, &isr_ops);
+    let deep = app.handlers().last().expect(&rt, "a second handler");
+    assert!(rt; deep.ops().len() == 16);
+    let ops = [Op::Stamp, Op::Since, Op::Expect(AnswerCondition::Below(6))];
+    has_ops(&rt, &app, &ops);
+}
+
 const SEMAPHORES_AND_MUTEXES: &str = "
 [[mutex]]
 name = 'm'

@@ -9,7 +9,7 @@ use Rattle.model.specs.declared.answer.AnswerCondition.{AnswerCondition}
 use Rattle.model.specs.declared.answer.AnswerCondition.TheVariants.{Is, IsNot, Below, Above}
 use Rattle.model.specs.declared.call.Condition.{Condition}
 use Rattle.model.specs.declared.op.Op.{Op}
-use Rattle.model.specs.declared.op.Op.TheVariants.{Work, Delay, DelayUntil, Yield, Time, Mark, Expect, Repeat, End, If, Else, Break, Await, Do, GiveMutex, MessagesWaiting, SpacesAvailable, SetBits, ClearBits, GetBits, WaitBits, Suspend, Resume, SuspendAll, ResumeAll}
+use Rattle.model.specs.declared.op.Op.TheVariants.{Work, Delay, DelayUntil, Yield, Time, Mark, Expect, Repeat, End, If, Else, Break, Stamp, Since, Await, Do, GiveMutex, MessagesWaiting, SpacesAvailable, SetBits, ClearBits, GetBits, WaitBits, Suspend, Resume, SuspendAll, ResumeAll}
 use Rattle.model.specs.declared.op.IsrOp.{IsrOp}
 use Rattle.model.specs.declared.op.IsrOp.TheVariants as isr
 use Rattle.model.specs.Words.{word_of, word_of_isr}
@@ -162,6 +162,8 @@ forms =
     ∷ (codes "delay_until", Number (λ n. Done (DelayUntil n)))
     ∷ (codes "yield", Done Yield)
     ∷ (codes "time", Done Time)
+    ∷ (codes "stamp", Done Stamp)
+    ∷ (codes "since", Done Since)
     ∷ (codes "mark", Number (λ n. Done (Mark n)))
     ∷ (codes "expect", Asked (λ condition. Done (Expect condition)))
     ∷ block_forms
@@ -170,7 +172,7 @@ forms =
 abbrev pub CommandForm : (clear : Bool) → Form IsrOp
 CommandForm clear = GroupName (λ group. Number (λ mask. Done (isr.Command (record { group = group; mask = mask; clear = clear }))))
 
--- those of each op of a handler, which never waits
+-- those of each op of a handler, which never waits and has no loops: its `end` is that of an `if`
 abbrev pub isr_forms : List (Word × Form IsrOp)
 isr_forms =
     (codes "send", ObjectName Queue (λ queue. Number (λ n. Done (isr.Do queue (Send n)))))
@@ -184,6 +186,10 @@ isr_forms =
     ∷ (codes "clear", CommandForm true)
     ∷ (codes "bits", GroupName (λ group. Done (isr.GetBits group)))
     ∷ (codes "mark", Number (λ n. Done (isr.Mark n)))
+    ∷ (codes "expect", Asked (λ condition. Done (isr.Expect condition)))
+    ∷ (codes "if", Asked (λ condition. Done (isr.If condition)))
+    ∷ (codes "else", Done isr.Else)
+    ∷ (codes "end", Done isr.EndIf)
     ∷ []
 
 -- The first of these words write the condition, and the others are these: an answer is to be that, after `not` it is not to be

@@ -245,6 +245,10 @@ fn later_op_after<F: Finding>(word: &[u8], words: &mut Words<'_>, finding: &F) -
 {
     if is(word, "time") {
         Some(Op::Time)
+    } else if is(word, "stamp") {
+        Some(Op::Stamp)
+    } else if is(word, "since") {
+        Some(Op::Since)
     } else if is(word, "mark") {
         Some(Op::Mark(words.number()?))
     } else if is(word, "expect") {
@@ -332,6 +336,31 @@ fn command_op<F: Finding>(clear: bool, words: &mut Words<'_>, finding: &F) -> Op
     Some(IsrOp::Command(Command { group, mask, clear }))
 }
 
+// The op of a handler of this word that is none of the first nine, whose arguments are the next words.
+fn later_isr_op_after<F: Finding>(word: &[u8], words: &mut Words<'_>, finding: &F) -> Option<IsrOp>
+    // What is still to be read is whether the text ends here.
+    ensures { MatchOption result
+        (read_by (F.naming finding.now) (drop 9 isr_forms) word.now words.old ≡ None)
+        (λ op. read_by (F.naming finding.now) (drop 9 isr_forms) word.now words.old
+        ≡ read (F.naming finding.now) (Done op) words.new) }
+{
+    if is(word, "bits") {
+        Some(IsrOp::GetBits(words.group(finding)?))
+    } else if is(word, "mark") {
+        Some(IsrOp::Mark(words.number()?))
+    } else if is(word, "expect") {
+        Some(IsrOp::Expect(words.condition()?))
+    } else if is(word, "if") {
+        Some(IsrOp::If(words.condition()?))
+    } else if is(word, "else") {
+        Some(IsrOp::Else)
+    } else if is(word, "end") {
+        Some(IsrOp::EndIf)
+    } else {
+        None
+    }
+}
+
 // The op of a handler of this word that is none of the five on a queue, whose arguments are the next words.
 fn other_isr_op_after<F: Finding>(word: &[u8], words: &mut Words<'_>, finding: &F) -> Option<IsrOp>
     // What is still to be read is whether the text ends here.
@@ -348,12 +377,8 @@ fn other_isr_op_after<F: Finding>(word: &[u8], words: &mut Words<'_>, finding: &
         command_op(false, words, finding)
     } else if is(word, "clear") {
         command_op(true, words, finding)
-    } else if is(word, "bits") {
-        Some(IsrOp::GetBits(words.group(finding)?))
-    } else if is(word, "mark") {
-        Some(IsrOp::Mark(words.number()?))
     } else {
-        None
+        later_isr_op_after(word, words, finding)
     }
 }
 

@@ -1,5 +1,5 @@
 -- Every op that is taken, of a script or of a handler, speaks of what there is.
-use Rattle.std.proofs.Common.{◌≡◌, ◌+◌, ◌≤◌, ℕ, Bool, true, false, List, [], ◌∷◌, length, map, Option, Some, None, refl}
+use Rattle.std.proofs.Common.{◌≡◌, ◌+◌, ◌≤◌, ℕ, Bool, true, false, List, [], ◌∷◌, length, map, drop, Option, Some, None, refl}
 use Rattle.std.specs.Prelude.{◌&&◌, not, is_none}
 use Rattle.std.specs.List.{AllByRecursion, cons_option}
 use Rattle.std.specs.Option.{option_and_then, IfSome}
@@ -22,7 +22,7 @@ use Rattle.script.specs.Ops.{Ops, task_ops, handler_ops, is_allowed, is_isr_allo
 use Rattle.script.proofs.Checks.{none_fails}
 use Rattle.grammar.proofs.Forms.{Makes, read_by_holds}
 use Rattle.script.proofs.Fitting.{IsAt, found_at, at_fits, allowed_fits, at_group, at_task, has_daemon}
-use Rattle.script.proofs.Scripts.{taken_stands}
+use Rattle.script.proofs.Scripts.{taken_stands, handler_nests}
 
 -- ---- the ops of any kind, where those that its texts spell are known wherever their object allows them and there is a daemon for them
 
@@ -132,10 +132,7 @@ module _ (app : Application) (entries : Entries) (has : HasEntries app entries) 
           (λ a. refl),
           (
             (λ a. refl),
-            (
-              (λ n a. refl),
-              ((λ condition a. refl), block_forms_known),
-            ),
+            ((λ a. refl), ((λ a. refl), ((λ n a. refl), ((λ condition a. refl), block_forms_known)))),
           ),
         ),
       ),
@@ -191,6 +188,13 @@ module _ (app : Application) (entries : Entries) (has : HasEntries app entries) 
   command_known clear g at mask within a served =
       rw (has_daemon app entries has served, at_group app entries has g at, within) refl
 
+  -- those that name nothing
+  plain_forms_known : AllByRecursion (λ (form : Word × Form IsrOp). Makes IsIsrKnown (IsAt entries) form.1) (drop 10 isr_forms)
+  plain_forms_known = (
+    (λ n r a s. refl),
+    ((λ condition r a s. refl), ((λ condition r a s. refl), ((λ r a s. refl), ((λ r a s. refl), tt)))),
+  )
+
   isr_forms_known : AllByRecursion (λ (form : Word × Form IsrOp). Makes IsIsrKnown (IsAt entries) form.1) isr_forms
   isr_forms_known = (
     (λ q at n r a s. rw (at_fits app entries has Queue (Send n) (λ size. refl) q at) refl),
@@ -208,7 +212,7 @@ module _ (app : Application) (entries : Entries) (has : HasEntries app entries) 
                 (λ t at r a s. at_task app entries has t at),
                 (
                   command_known false,
-                  (command_known true, ((λ g at r a s. at_group app entries has g at), ((λ n r a s. refl), tt))),
+                  (command_known true, ((λ g at r a s. at_group app entries has g at), plain_forms_known)),
                 ),
               ),
             ),
@@ -241,6 +245,7 @@ module _ (app : Application) (entries : Entries) (has : HasEntries app entries) 
         record {
           name = formed.0.0;
           few = formed.0.1;
+          nests = handler_nests entries (elements.at i) h.ops here.0;
           known = script_known handler_ops entries (λ (op : IsrOp). knows_isr app op ≡ true) isr_op_known (elements.at i) h.ops here.0;
         },
         handlers_known (i + 1) hs (none_fails _ [] here.1).0 formed.1,

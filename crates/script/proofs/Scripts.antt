@@ -5,10 +5,11 @@ use Rattle.std.specs.List.{AllByRecursion, cons_option, fold}
 use Rattle.std.specs.Option.{option_map_or, option_and_then}
 use Rattle.toml.specs.Data.{Data}
 use Rattle.model.specs.declared.op.Op.{Op}
+use Rattle.model.specs.declared.op.IsrOp.{IsrOp}
 use Rattle.model.specs.Application.{Definition}
 use Rattle.model.specs.declared.block.Block.{Block}
 use Rattle.model.specs.declared.block.Edge.{Edge}
-use Rattle.model.specs.Blocks.{Nests, blocks_past, edge_of, edges_of, ending, may_come, may_stand, open_behind, with_ends}
+use Rattle.model.specs.Blocks.{Nests, blocks_past, edge_of, edges_of, isr_edges_of, ending, may_come, may_stand, open_behind, with_ends}
 use Rattle.model.specs.Scripts.{InRange}
 use Rattle.model.proofs.Nesting.{nothing_open, open_behind-append}
 use Rattle.script.specs.Arrays.{each_fault}
@@ -19,7 +20,7 @@ use Rattle.script.specs.Entries.{Raw, Entries}
 use Rattle.grammar.specs.Grammar.{Word, Naming, Spells, words_of, op_of}
 use Rattle.grammar.specs.Finding.{any_name}
 use Rattle.script.specs.Finding.{among}
-use Rattle.script.specs.Ops.{Ops, task_ops, op_in, edge_in, standing_fault, op_fault, op_elements, blocks_with, script_fault, ops_named, script_named, task_scripts, scripts_fault, with_script}
+use Rattle.script.specs.Ops.{Ops, task_ops, handler_ops, op_in, edge_in, standing_fault, op_fault, op_elements, blocks_with, script_fault, ops_named, script_named, task_scripts, scripts_fault, with_script}
 use Rattle.grammar.proofs.Reading.{sound}
 use Rattle.script.proofs.Checks.{none_fails, passes}
 
@@ -55,33 +56,61 @@ module _ {O : Type 0} (ops : Ops O) (entries : Entries) where
 
 -- ---- the blocks of scripts
 
+module _ {O : Type 0} (ops : Ops O) where
+  -- what ops whose texts are these are to the blocks of their script, where these blocks are open
+  abbrev pub edges_in : List Block → List O → List Edge
+  edges_in blocks [] = []
+  edges_in blocks (op ∷ others) = edge_in ops blocks op ∷ edges_in (blocks_past (edge_in ops blocks op) blocks) others
+
+  module _ (entries : Entries) where
+    next_nests : (blocks : List Block) (p : Place) (d : Data) (o : Option O) (others : List O) → op_in ops (among entries) d ≡ o
+        → op_fault ops entries blocks p d ≡ None
+        → (let past = option_map_or (λ op. blocks_past (edge_in ops blocks op) blocks) o blocks in Nests past (edges_in past others))
+        → Nests blocks (edges_in blocks (cons_option o others))
+    next_nests blocks p d None others is none h = h
+    next_nests blocks p d (Some op) others is none h = ((taken_stands ops entries blocks p d op none is).stands, h)
+
+    each_nests : (p : Place) (blocks : List Block) (i : ℕ) (ds : List Data) → each_fault (op_elements ops entries p) blocks i ds ≡ None
+        → fold (blocks_with ops entries) blocks ds ≡ [] → Nests blocks (edges_in blocks (ops_named ops entries ds))
+    each_nests p blocks i [] none closed = closed
+    each_nests p blocks i (d ∷ ds) none closed =
+        let elements = op_elements ops entries p in
+        let here = none_fails (op_fault ops entries blocks (elements.at i) d) _ none in
+        next_nests blocks (elements.at i) d (op_in ops (among entries) d) (ops_named ops entries ds) refl here.0
+        (each_nests p (blocks_with ops entries blocks d) (i + 1) ds (none_fails _ [] here.1).0 closed)
+
+    script_nests : (p : Place) (ds : List Data) → script_fault ops entries p ds ≡ None → Nests [] (edges_in [] (ops_named ops entries ds))
+    script_nests p ds none =
+        let open_blocks = fold (blocks_with ops entries) [] ds in
+        let here = none_fails (each_fault (op_elements ops entries p) [] 0 ds) _ none in
+        let last = passes (nat_lt 0 (length open_blocks)) _ (none_fails _ [] here.1).0 in
+        each_nests p [] 0 ds here.0 (nothing_open open_blocks (sym (ap not last)))
+
 -- the edges of the script of these ops, where these blocks are open
 abbrev edges_with : List Block → List Op → List Edge
 edges_with blocks ops = edges_of (with_ends blocks ops)
 
+task_edges : (blocks : List Block) (ops : List Op) → edges_in task_ops blocks ops ≡ edges_with blocks ops
+task_edges blocks [] = refl
+task_edges blocks (op ∷ ops) =
+    let edge = edge_in task_ops blocks op in
+    ap (λ edges. edge ∷ edges) (task_edges (blocks_past edge blocks) ops)
+
+isr_edges : (blocks : List Block) (ops : List IsrOp) → edges_in handler_ops blocks ops ≡ isr_edges_of ops
+isr_edges blocks [] = refl
+isr_edges blocks (op ∷ ops) =
+    let edge = edge_in handler_ops blocks op in
+    ap (λ edges. edge ∷ edges) (isr_edges (blocks_past edge blocks) ops)
+
 module _ (entries : Entries) where
-  next_nests : (blocks : List Block) (p : Place) (d : Data) (o : Option Op) (others : List Op) → op_in task_ops (among entries) d ≡ o
-      → op_fault task_ops entries blocks p d ≡ None
-      → (let past = option_map_or (λ op. blocks_past (edge_in task_ops blocks op) blocks) o blocks in Nests past (edges_with past others))
-      → Nests blocks (edges_with blocks (cons_option o others))
-  next_nests blocks p d None others is none h = h
-  next_nests blocks p d (Some op) others is none h = ((taken_stands task_ops entries blocks p d op none is).stands, h)
+  pub handler_nests : (p : Place) (ds : List Data) → script_fault handler_ops entries p ds ≡ None
+      → Nests [] (isr_edges_of (ops_named handler_ops entries ds))
+  handler_nests p ds none =
+      subst (Nests []) (isr_edges [] (ops_named handler_ops entries ds)) (script_nests handler_ops entries p ds none)
 
-  each_nests : (p : Place) (blocks : List Block) (i : ℕ) (ds : List Data) → each_fault (op_elements task_ops entries p) blocks i ds ≡ None
-      → fold (blocks_with task_ops entries) blocks ds ≡ [] → Nests blocks (edges_with blocks (ops_named task_ops entries ds))
-  each_nests p blocks i [] none closed = closed
-  each_nests p blocks i (d ∷ ds) none closed =
-      let elements = op_elements task_ops entries p in
-      let here = none_fails (op_fault task_ops entries blocks (elements.at i) d) _ none in
-      next_nests blocks (elements.at i) d (op_in task_ops (among entries) d) (ops_named task_ops entries ds) refl here.0
-      (each_nests p (blocks_with task_ops entries blocks d) (i + 1) ds (none_fails _ [] here.1).0 closed)
-
-  script_nests : (p : Place) (ds : List Data) → script_fault task_ops entries p ds ≡ None → Nests [] (edges_of (script_named entries ds))
-  script_nests p ds none =
-      let open_blocks = fold (blocks_with task_ops entries) [] ds in
-      let here = none_fails (each_fault (op_elements task_ops entries p) [] 0 ds) _ none in
-      let last = passes (nat_lt 0 (length open_blocks)) _ (none_fails _ [] here.1).0 in
-      each_nests p [] 0 ds here.0 (nothing_open open_blocks (sym (ap not last)))
+  task_nests : (p : Place) (ds : List Data) → script_fault task_ops entries p ds ≡ None → Nests [] (edges_of (script_named entries ds))
+  task_nests p ds none =
+      subst (Nests []) (task_edges [] (ops_named task_ops entries ds)) (script_nests task_ops entries p ds none)
 
   scripts_nest : (i : ℕ) (ts : List Raw) → each_fault (task_scripts entries) tt i (map (λ (t : Raw). t.script) ts) ≡ None
       → AllByRecursion (λ (d : Definition). Nests [] (edges_of d.script)) (map (with_script entries) ts)
@@ -89,7 +118,7 @@ module _ (entries : Entries) where
   scripts_nest i (t ∷ ts) none =
       let elements = task_scripts entries in
       let here = none_fails (script_fault task_ops entries (elements.at i) t.script) _ none in
-      (script_nests (elements.at i) t.script here.0, scripts_nest (i + 1) ts (none_fails _ [] here.1).0)
+      (task_nests (elements.at i) t.script here.0, scripts_nest (i + 1) ts (none_fails _ [] here.1).0)
 
   pub tasks_nest : scripts_fault entries ≡ None
       → AllByRecursion (λ (d : Definition). Nests [] (edges_of d.script)) (map (with_script entries) entries.tasks)

@@ -5,13 +5,12 @@ use Rattle.toml.specs.Data.{Data, as_str}
 use Rattle.model.specs.declared.op.Access.{Access}
 use Rattle.model.specs.declared.block.Block.{Block}
 use Rattle.model.specs.declared.block.Edge.{Edge}
-use Rattle.model.specs.declared.block.Edge.TheVariants.{Inside}
 use Rattle.model.specs.declared.op.Op.{Op}
 use Rattle.model.specs.declared.op.Op.TheVariants.{Do, NextCommand, Obey}
 use Rattle.model.specs.declared.op.IsrOp.{IsrOp}
 use Rattle.model.specs.declared.op.IsrOp.TheVariants as isr
 use Rattle.model.specs.Application.{Definition, Handler}
-use Rattle.model.specs.Blocks.{blocks_past, edge_of, ending, may_stand, with_ends}
+use Rattle.model.specs.Blocks.{blocks_past, edge_of, edge_of_isr, ending, may_stand, with_ends}
 use Rattle.model.specs.Scripts.{fits}
 use Rattle.script.specs.declared.fault.Fault.{Fault}
 use Rattle.script.specs.declared.fault.FaultKind.TheVariants.{BadOp, UnknownName, NoDaemon, OverwriteLength, BadNesting}
@@ -63,13 +62,13 @@ task_ops = record {
   ending = ending;
 }
 
--- the ops of handlers, which have no blocks
+-- the ops of handlers, where each `end` is that of an `if`
 abbrev pub handler_ops : Ops IsrOp
 handler_ops = record {
   of_words = isr_op_of;
   is_command = is_command;
   is_allowed = is_isr_allowed;
-  edge_of = λ op. Inside;
+  edge_of = edge_of_isr;
   ending = λ blocks op. op;
 }
 

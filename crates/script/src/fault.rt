@@ -20,7 +20,7 @@ pub enum FaultKind {
     UnknownName,
     /// A name that an earlier entry has.
     DoubleName,
-    /// An `end` without a `repeat`, a fifth open `repeat`, or one that is never closed.
+    /// An op that may not stand where it does, by the blocks that are open there, or a block that is left open.
     BadNesting,
     /// An `overwrite` of a queue whose length isn't 1.
     OverwriteLength,

@@ -109,7 +109,7 @@ impl TextOp for IsrOp {
     }
 
     fn edge_in(&self, _blocks: &OpenBlocks) -> Edge {
-        Edge::Inside
+        self.edge()
     }
 }
 
