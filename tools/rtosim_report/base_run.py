@@ -26,8 +26,8 @@ class Origin(enum.Enum):
     """From where the base run is known."""
 
     GIVEN = "given"
-    TOLD = "told by the report"
-    PRESUMED = "presumed: what most rows tell but for their handlers' lines; --base or --application gives it"
+    TOLD = "in the report"
+    PRESUMED = "presumed: what most rows have but for their handlers' lines; --base or --application gives it"
     PART = "--base or --application gives the rest"
 
 
@@ -80,7 +80,7 @@ def given_base(reader, origin=Origin.GIVEN):
     for run in reader:
         if run.head.is_base():
             return base_of(run, origin)
-    raise WordsFault("the report that --base names does not tell the base run")
+    raise WordsFault("the report that --base names does not have the base run")
 
 
 @dataclass

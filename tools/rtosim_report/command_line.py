@@ -105,7 +105,7 @@ class Job:
         if run is not None:
             return timeline.of_row(run, base, self.texts)
         if base is None or base.head is None:
-            raise WordsFault("the report does not tell the base run: --row N, --base or --application")
+            raise WordsFault("the report does not have the base run: --row N, --base or --application")
         return timeline.of_base(base, self.texts)
 
 

@@ -87,7 +87,7 @@ def write_classes(output, suite, classes, lone_run=None, allows_empty=False):
     if not classes and lone_run is not None:
         cases.append(("the base run", lone_run.verdict, lone_run.text()))
     if not classes and not allows_empty:
-        cases.append(("the campaign has points", NO_POINTS, "no row tells what happens at a point"))
+        cases.append(("the campaign has points", NO_POINTS, "no row shows what happens at a point"))
     failing = [name for name, verdict, _ in cases if not verdict.passes]
     skipped = sum(name in suite.accepted for name in failing)
     write_start(output, suite, Counts(len(cases), len(failing) - skipped, skipped))

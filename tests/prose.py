@@ -1,0 +1,146 @@
+"""Cases of tests/check about the documents: no sentence is too long, each link leads somewhere, README is short, and what it shows and
+counts is so.
+
+    tests/prose.py    prints each sentence that is too long, with its file and line"""
+import glob
+import os
+import re
+
+import believed
+from cases import case, equal, holds
+from running import ROOT, stored
+
+MOST_WORDS = 40
+README_LINES = 130
+BEGINS_A_BLOCK = re.compile(r"^\s*(#+|[-*]|\d+\.)\s")
+LINK = re.compile(r"\[[^]]*\]\(([^)\s]+)\)")
+# A stop, perhaps with what closes a bracket, a quotation or an emphasis, and a word that may begin a sentence.
+BETWEEN_SENTENCES = re.compile(r"(?<=[.?!])[)\"*]*\s+(?=[\"(*`\[A-Z0-9])")
+
+
+def documents():
+    return ["README.md", "CHANGELOG.md", *sorted(os.path.relpath(it, ROOT) for it in glob.glob(f"{ROOT}/docs/*.md"))]
+
+
+def text_of(name):
+    return stored(name).decode()
+
+
+def prose_lines(text):
+    """The number and the text of each line, empty where it is of a program: between fences, or indented behind an empty line."""
+    is_fenced = is_in_list = is_program = False
+    is_after_empty = True
+    for number, line in enumerate(text.splitlines(), 1):
+        is_fence = line.lstrip().startswith("```")
+        is_fenced ^= is_fence
+        indented = " " * (6 if is_in_list else 4)
+        is_program = line.startswith(indented) and (is_program or is_after_empty) or is_program and not line
+        if BEGINS_A_BLOCK.match(line) and not is_program:
+            is_in_list = not line.startswith("#")
+        elif line and not line.startswith(" "):
+            is_in_list = False
+        is_after_empty = not line
+        yield number, "" if is_fenced or is_fence or is_program else line
+
+
+def blocks(text):
+    """Each paragraph, heading, item of a list and cell of a table, with the number of its first line."""
+    first, block = 0, []
+    for number, line in [*prose_lines(text), (0, "")]:
+        is_row = line.startswith("|")
+        if block and (is_row or not line.strip() or BEGINS_A_BLOCK.match(line)):
+            yield first, " ".join(block)
+            block = []
+        if is_row:
+            yield from ((number, cell) for cell in re.split(r"(?<!\\)\|", line))
+        elif line.strip():
+            first = first if block else number
+            block.append(BEGINS_A_BLOCK.sub("", line, count=1).strip())
+
+
+def sentences(block):
+    """Its sentences, with one word in the place of each piece of code and of each link's address."""
+    plain = re.sub(r"\]\([^)]*\)", "]", re.sub(r"`[^`]*`", "`CODE`", block))
+    return BETWEEN_SENTENCES.split(plain)
+
+
+def words(sentence):
+    return sum(1 for it in sentence.split() if re.search(r"\w", it))
+
+
+def long_sentences(text):
+    return [(line, it) for line, block in blocks(text) for it in sentences(block) if words(it) > MOST_WORDS]
+
+
+def anchors(text):
+    """Where a link into a document may lead: to its headings, in the form in which hosts of repositories name them."""
+    headings = (line.lstrip("# ") for _, line in prose_lines(text) if line.startswith("#"))
+    return {re.sub(r"[^\w -]", "", it.lower()).replace(" ", "-") for it in headings}
+
+
+def fenced(text, kind):
+    return re.findall(rf"(?m)^```{kind}\n((?:.*\n)*?)```$", text)
+
+
+@case
+def no_sentence_of_a_document_has_more_than_40_words():
+    equal([f"{name}:{line}: {it}" for name in documents() for line, it in long_sentences(text_of(name))], [])
+
+
+@case
+def sentences_are_counted_by_their_words():
+    is_long = "word " * 40 + "word."
+    equal([line for line, _ in long_sentences(f"A\n\n{is_long}\n")], [3])
+    equal([line for line, _ in long_sentences(f"- a\n- b\n  {is_long}\n\n| a | {is_long} |\n")], [2, 5])
+    equal(long_sentences(f"{'word ' * 20}`a b`. {'Word ' * 20}\n\n    {is_long}\n\n```\n{is_long}\n```\n"), [])
+
+
+@case
+def each_link_of_a_document_leads_somewhere():
+    lost = []
+    for name in documents():
+        for link in LINK.findall("\n".join(line for _, line in prose_lines(text_of(name)))):
+            file, _, anchor = link.partition("#")
+            path = os.path.normpath(os.path.join(os.path.dirname(name), file)) if file else name
+            is_there = link.startswith("https://") or os.path.exists(f"{ROOT}/{path}")
+            if not is_there or anchor and anchor not in anchors(text_of(path)):
+                lost.append(f"{name}: {link}")
+    equal(lost, [])
+
+
+@case
+def readme_is_short_and_says_the_kits_version_once():
+    readme = text_of("README.md")
+    assert readme.count("\n") <= README_LINES, readme.count("\n")
+    equal([name for name in documents() for _ in re.findall("rattle-kit-", text_of(name))], ["README.md"])
+
+
+@case
+def readme_shows_the_example_and_its_report():
+    readme = text_of("README.md")
+    plain = lambda toml: re.sub(r",(?=\])", "", re.sub(r"(?m)^#.*|\s", "", toml))
+    equal([plain(it) for it in fenced(readme, "toml")], [plain(text_of("examples/lost_wake_up.toml"))])
+    asked, *lines = next(it for it in fenced(readme, "") if it.startswith("$ bin/rtosim campaign")).splitlines(True)
+    report = text_of("examples/lost_wake_up.report")
+    equal(asked, "$ bin/rtosim campaign examples/lost_wake_up.toml\n")
+    holds(report, "".join(lines[:-1]))
+    assert report.endswith(lines[-1]), lines[-1]
+
+
+@case
+def readme_counts_the_definitions_that_a_reader_believes():
+    readme = text_of("README.md")
+    for file in (believed.KERNEL, believed.SERVING):
+        lines = sum(believed.believed(file).values())
+        near = [f"some {it:,} lines" for it in (lines // 100 * 100, -(-lines // 100) * 100)]
+        assert any(it in readme.replace("\n", " ") for it in near), f"{lines} lines of {file}"
+    first = ("Switching", "Time", "Objects", "Calls", "Step", "Run")
+    holds(readme, ", ".join(first))
+    lines = sum(believed.lines_of(f"crates/model/specs/{it}.antt") for it in first)
+    assert lines < 300, lines
+
+
+if __name__ == "__main__":
+    for name in documents():
+        for line, it in long_sentences(text_of(name)):
+            print(f"{name}:{line}: {words(it)} words: {it}")
