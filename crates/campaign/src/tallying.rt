@@ -17,7 +17,7 @@ fn kind_of(end: End) -> usize
 {
     match end {
         End::Pass => 0,
-        End::Check(_, _) => 1,
+        End::Check(_, _) | End::HandlerCheck(_, _) => 1,
         End::Misuse(_, _, _) => 2,
         End::Ticks => 3,
         End::Steps => 4,

@@ -2,7 +2,7 @@
 use Rattle.std.proofs.Common.{◌≤◌, Bool, true, false, length, lit≤}
 use Rattle.std.specs.Prelude.{codes, if◌then◌else◌}
 use Rattle.model.specs.declared.op.Op.{Op}
-use Rattle.model.specs.declared.op.Op.TheVariants.{Work, Delay, DelayUntil, Yield, Time, Mark, Expect, Repeat, End, If, Else, EndIf, Break, Await, Do, GiveMutex, MessagesWaiting, SpacesAvailable, SetBits, ClearBits, GetBits, WaitBits, Suspend, Resume, SuspendAll, ResumeAll, NextCommand, Obey}
+use Rattle.model.specs.declared.op.Op.TheVariants.{Work, Delay, DelayUntil, Yield, Time, Mark, Expect, Repeat, End, If, Else, EndIf, Break, Stamp, Since, Await, Do, GiveMutex, MessagesWaiting, SpacesAvailable, SetBits, ClearBits, GetBits, WaitBits, Suspend, Resume, SuspendAll, ResumeAll, NextCommand, Obey}
 use Rattle.model.specs.declared.op.Access.{Access}
 use Rattle.model.specs.declared.op.Access.TheVariants.{Send, SendFront, Overwrite, Receive, Peek, Take, Give, Lock}
 use Rattle.model.specs.declared.op.IsrOp.{IsrOp}
@@ -34,6 +34,8 @@ word_short (If c) = lit≤ tt
 word_short Else = lit≤ tt
 word_short EndIf = lit≤ tt
 word_short Break = lit≤ tt
+word_short Stamp = lit≤ tt
+word_short Since = lit≤ tt
 word_short (Await o a ticks) = access_short a
 word_short (Do o a) = access_short a
 word_short (GiveMutex o) = lit≤ tt
@@ -61,3 +63,7 @@ isr_word_short (isr_op.Command c) = command_short c.clear
 isr_word_short (isr_op.Resume t) = lit≤ tt
 isr_word_short (isr_op.GetBits g) = lit≤ tt
 isr_word_short (isr_op.Mark n) = lit≤ tt
+isr_word_short (isr_op.Expect c) = lit≤ tt
+isr_word_short (isr_op.If c) = lit≤ tt
+isr_word_short isr_op.Else = lit≤ tt
+isr_word_short isr_op.EndIf = lit≤ tt

@@ -74,10 +74,15 @@ code_of EndedSuspended = 4
 abbrev pub op_text : Application → (task op_index : ℕ) → List ℕ
 op_text app task op_index = name_of app task ++ codes " " ++ decimal op_index
 
+-- the same of a handler
+abbrev pub isr_op_text : Application → (handler op_index : ℕ) → List ℕ
+isr_op_text app handler op_index = handler_name_of app handler ++ codes " " ++ decimal op_index
+
 -- how a run ends
 abbrev pub verdict_text : Application → End → List ℕ
 verdict_text app ending.Pass = codes "pass"
 verdict_text app (ending.Check task op_index) = codes "check " ++ op_text app task op_index
+verdict_text app (ending.HandlerCheck handler op_index) = codes "check " ++ isr_op_text app handler op_index
 verdict_text app (ending.Misuse task op_index kind) =
     codes "misuse " ++ op_text app task op_index ++ codes " " ++ decimal (code_of kind)
 verdict_text app ending.Ticks = codes "ticks"

@@ -4,7 +4,7 @@
 ghost use Rattle.std.specs.Prelude.{◌≡◌, ◌≤◌, ◌+◌, ◌++◌, length, take, codes, decimal, if◌then◌else◌};
 ghost use Rattle.model.specs.Words.{name_of, handler_name_of};
 ghost use Rattle.report.specs.Again.{number_text};
-ghost use Rattle.report.specs.Text.{word_at, call_front, obeyed_front, isr_word_at, isr_front, code_of, op_text, verdict_text, injection_text, point_text, reached_text, title_text, head_text, total_text};
+ghost use Rattle.report.specs.Text.{word_at, call_front, obeyed_front, isr_word_at, isr_front, code_of, op_text, isr_op_text, verdict_text, injection_text, point_text, reached_text, title_text, head_text, total_text};
 ghost use Rattle.report.specs.Fronts.{mark_front, isr_mark_front, run_front};
 
 use crate::title::Title;
@@ -198,6 +198,17 @@ fn push_op(page: &mut Page, app: &App, task: TaskId, op_index: u16)
     page.push_number(op_index as u32);
 }
 
+// Adds the handler and the index of an op: the same of a handler.
+fn push_isr_op(page: &mut Page, app: &App, handler: HandlerId, op_index: u16)
+    requires { length page.old + 27 ≤ Page.SIZE }
+    ensures text { page.new ≡ page.old ++ isr_op_text app.now handler op_index }
+    ensures size { length page.new ≤ length page.old + 27 }
+{
+    page.push_text(handler_name(app, handler));
+    page.push_array(b" ");
+    page.push_number(op_index as u32);
+}
+
 fn push_verdict(page: &mut Page, app: &App, end: End)
     requires { length page.old + 64 ≤ Page.SIZE }
     ensures text { page.new ≡ page.old ++ verdict_text app.now end }
@@ -208,6 +219,10 @@ fn push_verdict(page: &mut Page, app: &App, end: End)
         End::Check(task, op_index) => {
             page.push_array(b"check ");
             push_op(page, app, task, op_index);
+        }
+        End::HandlerCheck(handler, op_index) => {
+            page.push_array(b"check ");
+            push_isr_op(page, app, handler, op_index);
         }
         End::Misuse(task, op_index, misuse) => {
             page.push_array(b"misuse ");
