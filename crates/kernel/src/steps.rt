@@ -111,7 +111,7 @@ fn act_current<L: Log>(machine: &mut Machine, app: &App, limits: &Limits, log: &
 
 /// One step of the run, before which these handlers come, whose events go to a log that has none of this step yet. It answers what may
 /// come behind it (`pass_more`).
-#[inline(always)]
+#[inline(never)]
 fn step_onto<L: Log>(
     machine: &mut Machine,
     app: &App,
@@ -185,9 +185,10 @@ fn step_at<L: Log>(
     following
 }
 
-/// One step of the run without handlers, in which the running task has no op, or a `suspend_all` is in force, or idle runs. Its events go to
-/// a log that has none of this step yet. It answers what may come behind it (`pass_more`).
-#[inline(always)]
+/// One step of the run without handlers, where something holds the scheduler or idle runs. Its events go to a log that has none of this step
+/// yet. It answers what may come behind it (`pass_more`).
+// Most steps are none of these, and are the faster without them.
+#[inline(never)]
 fn step_otherwise<L: Log>(
     machine: &mut Machine,
     app: &App,
@@ -195,7 +196,6 @@ fn step_otherwise<L: Log>(
     log: &mut L,
 ) -> Following
     requires going { CanStep app.now limits.now machine.old }
-    requires none { IsAtNone app.now machine.old }
     requires begun { (L.logged log.old).told ≡ [] }
     requires room { 128 ≤ (L.logged log.old).room }
     ensures stands { (s : State) → Stands machine.old s → Stands machine.new (step app.now limits.now [] s) }
@@ -203,6 +203,9 @@ fn step_otherwise<L: Log>(
     ensures before { (L.logged log.new).before ≡ (L.logged log.old).before }
 {
     app.well_formed();
+    if machine.suspensions == 0 && machine.sched.current().is_some() {
+        return step_onto(machine, app, &[], limits, log);
+    }
     let following = act_otherwise(machine, app, limits, log);
     machine.settle(log);
     machine.steps += 1;
@@ -389,10 +392,9 @@ pub(crate) fn is_over_running(machine: &Machine, app: &App, task: TaskId, limits
     is_at_tick_limit(machine, app, limits)
 }
 
-/// The running task and the op that it is at (`current_op`) in a state that a run comes to, or any task and none; where the run is over
-/// there, nothing at all. A task
-/// that runs there while nothing holds the scheduler is Ready, so the run is over only if it has been stopped, or that task is endless and
-/// left alone.
+/// The running task and the op that it is at, if nothing holds the scheduler in a state that a run comes to; or any task and none, where
+/// something does or idle runs. Where the run is over there, nothing at all. A task that runs there while nothing holds the scheduler is
+/// Ready, so the run is over only if it has been stopped, or that task is endless and left alone.
 #[inline(always)]
 fn op_if_going<'a>(
     machine: &Machine,
@@ -404,7 +406,6 @@ fn op_if_going<'a>(
     ensures going { IfSome result (λ found. (s : State) → Stands machine.now s → IsState app.now s
         → is_over app.now limits.now s ≡ false) }
     ensures some { IfSome result (λ found. IfSome found.1 (λ op. IsAt app.now machine.now found.0 op.now)) }
-    ensures none { IfSome result (λ found. IsNone found.1 → IsAtNone app.now machine.now) }
 {
     let Some(task) = machine.sched.current() else {
         if is_over(machine, app, limits) {
@@ -416,10 +417,7 @@ fn op_if_going<'a>(
         if is_over(machine, app, limits) {
             return None;
         }
-        return match current_op(machine, app) {
-            None => Some((TaskId { number: 0 }, None)),
-            Some(pair) => Some((pair.0, Some(pair.1))),
-        };
+        return Some((TaskId { number: 0 }, None));
     }
     if machine.stopped.is_some() {
         return None;
@@ -641,7 +639,6 @@ fn step_on(
     requires going { IsGoing app.now limits.now until kernel.old injections.now }
     requires soon { kernel.old.steps + 1 < until }
     requires some { IfSome op (λ op. IsAt app.now kernel.old task op.now) }
-    requires none { IsNone op → IsAtNone app.now kernel.old }
     requires begun { trail.old.told ≡ [] }
     requires room { 128 ≤ trail.old.room }
     ensures along { GoesFurther app.now limits.now until kernel.old kernel.new (all_of trail.old) (all_of trail.new) }

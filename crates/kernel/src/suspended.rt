@@ -181,8 +181,7 @@ fn act_unless_it_switches<L: Log>(
 
 /// What the running task does while a `suspend_all` is in force: its op, if it has one.
 // It finds the op by itself, so that the usual path needs it nowhere in memory.
-#[cold]
-#[inline(never)]
+#[inline(always)]
 pub(crate) fn act_while_suspended<L: Log>(
     machine: &mut Machine,
     app: &App,

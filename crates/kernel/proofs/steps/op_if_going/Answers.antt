@@ -9,11 +9,8 @@ use Rattle.machine.proofs.Either.{current_is, stopped_is}
 use Rattle.kernel.proofs.Ending.{alone_unheld, none_of, runs_on}
 use Rattle.kernel.proofs.steps.op_if_going.Goals as goal
 
-pub returns-in-Some-current_op-clause-going : goal.returns-in-Some-current_op-clause-going
-returns-in-Some-current_op-clause-going c = λ s h is. sym (c.if-is_over-2.ensures s h)
-
-pub returns-in-None-clause-going : goal.returns-in-None-clause-going
-returns-in-None-clause-going c = λ s h is. sym (c.if-is_over-2.ensures s h)
+pub returns-then-depth-gt0-clause-going : goal.returns-then-depth-gt0-clause-going
+returns-then-depth-gt0-clause-going c = λ s h is. sym (c.if-is_over-2.ensures s h)
 
 pub returns-clause-going : goal.returns-clause-going
 returns-clause-going c = λ s h is.
