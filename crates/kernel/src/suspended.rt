@@ -157,6 +157,7 @@ fn act_on<L: Log>(machine: &mut Machine, app: &App, task: TaskId, op: &Op, log: 
 }
 
 /// What an op does while a `suspend_all` is in force: one that may switch is a misuse.
+#[inline(always)]
 fn act_unless_it_switches<L: Log>(
     machine: &mut Machine,
     app: &App,
