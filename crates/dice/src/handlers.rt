@@ -8,7 +8,8 @@ ghost use Rattle.dice.specs.Known.{AreInterrupts, IsKnownHandler, IsKnownIsr, Is
 use super::handler_ops::HandlerOps;
 use super::{Dice, Role, Theme};
 use model::{
-    Access, Command, HandlerDefinition, HandlerId, Interrupt, IsrOp, ObjectId, ObjectKind,
+    Access, AnswerCondition, Command, HandlerDefinition, HandlerId, Interrupt, IsrOp, ObjectId,
+    ObjectKind,
 };
 use std::alloc::Global;
 
@@ -121,6 +122,15 @@ impl Dice {
         }
     }
 
+    /// What a handler expects of its last answer: mostly something that holds.
+    fn expectation(&mut self) -> AnswerCondition {
+        if self.roll(3) == 0 {
+            self.answer_condition()
+        } else {
+            AnswerCondition::IsNot(Some(9 + self.roll(3)))
+        }
+    }
+
     /// An op of a handler that looks: it opens or ends a branch, or expects something.
     fn looking_op(&mut self, objects: &[ObjectKind]) -> IsrOp
         ensures { IsKnownIsr objects.now result }
@@ -130,7 +140,7 @@ impl Dice {
             0..=4 => IsrOp::If(self.answer_condition()),
             5..=6 => IsrOp::Else,
             7..=9 => IsrOp::EndIf,
-            _ => IsrOp::Expect(self.answer_condition()),
+            _ => IsrOp::Expect(self.expectation()),
         }
     }
 
