@@ -368,24 +368,24 @@ fn the_slow_program_agrees(rt: HostRuntime) {
         &seen,
         seen.suspended_waits > 800 && seen.held_ticks > 2_700,
     );
-    let has_commands = seen.commands > 3_350 && seen.refused_commands > 700;
+    let has_commands = seen.commands > 3_320 && seen.refused_commands > 640;
     has_enough(&rt, &seen, has_commands);
-    let has_done = seen.sets_by_daemon > 2_600 && seen.clears_by_daemon > 1_030;
+    let has_done = seen.sets_by_daemon > 2_550 && seen.clears_by_daemon > 1_100;
     has_enough(&rt, &seen, has_done && seen.passes_beside_daemon > 200);
     let has_jumps = seen.jumps > 5_070 && seen.wrapping_jumps > 3_040;
     has_enough(&rt, &seen, has_jumps && seen.jumps_to_zero > 520);
     let has_ends = seen.jumps_to_interrupt > 2_770 && seen.jumps_to_wake > 3_330;
     has_enough(&rt, &seen, has_ends && seen.jumps_to_limit > 1_540);
-    let has_branches = seen.taken_branches > 370 && seen.skipped_branches > 700;
+    let has_branches = seen.taken_branches > 470 && seen.skipped_branches > 710;
     has_enough(
         &rt,
         &seen,
         has_branches && seen.passes_beside_endless > 1_320,
     );
-    let has_checks = seen.passed_checks > 560 && seen.failed_checks > 120;
-    has_enough(&rt, &seen, has_checks && seen.taken_by_handlers > 450);
-    let has_times = seen.stamps > 3_250 && seen.measures > 1_500;
-    has_enough(&rt, &seen, has_times && seen.skipped_by_handlers > 850);
+    let has_checks = seen.passed_checks > 530 && seen.failed_checks > 135;
+    has_enough(&rt, &seen, has_checks && seen.taken_by_handlers > 550);
+    let has_times = seen.stamps > 3_350 && seen.measures > 1_600;
+    has_enough(&rt, &seen, has_times && seen.skipped_by_handlers > 1_020);
 }
 
 #[test]
@@ -398,16 +398,16 @@ fn the_slow_program_agrees_where_handlers_are_injected(rt: HostRuntime) {
     let has_awakenings = seen.own_awakenings > 2_400 && seen.other_awakenings > 475;
     has_enough(&rt, &seen, has_awakenings && seen.mixed_unlocks > 45);
     has_enough(&rt, &seen, seen.locked_gives > 1_050);
-    let has_commands = seen.commands > 5_270 && seen.refused_commands > 2_430;
-    has_enough(&rt, &seen, has_commands && seen.window_commands > 1_800);
-    let has_done = seen.sets_by_daemon > 4_100 && seen.clears_by_daemon > 1_850;
+    let has_commands = seen.commands > 5_270 && seen.refused_commands > 2_460;
+    has_enough(&rt, &seen, has_commands && seen.window_commands > 1_890);
+    let has_done = seen.sets_by_daemon > 4_110 && seen.clears_by_daemon > 1_850;
     has_enough(&rt, &seen, has_done && seen.passes_beside_daemon > 180);
-    let has_beside = made.beside_daemon > made.all / 3 && made.in_its_window > 21_900;
+    let has_beside = made.beside_daemon > made.all / 3 && made.in_its_window > 23_500;
     has_enough(&rt, &seen, has_beside);
     let has_jumps = seen.jumps > 6_760 && seen.wrapping_jumps > 4_400;
     has_enough(&rt, &seen, has_jumps && seen.jumps_to_zero > 940);
     let has_ends = seen.jumps_to_interrupt > 3_460 && seen.jumps_to_wake > 5_510;
-    has_enough(&rt, &seen, has_ends && seen.jumps_to_limit > 2_130);
+    has_enough(&rt, &seen, has_ends && seen.jumps_to_limit > 2_280);
 }
 
 #[test]
@@ -484,20 +484,20 @@ fn the_slow_program_agrees_where_tasks_are_suspended(rt: HostRuntime) {
 #[test]
 fn the_slow_program_agrees_where_tasks_and_handlers_go_by_answers(rt: HostRuntime) {
     let seen = seen_in(&rt, rt.alloc(), Sort::Decision);
-    let has_branches = seen.taken_branches > 9_400 && seen.skipped_branches > 13_000;
-    has_enough(&rt, &seen, has_branches && seen.skipped_others > 1_830);
-    let has_breaks = seen.breaks > 3_240 && seen.breaks_for_ever > 1_080;
-    has_enough(&rt, &seen, has_breaks && seen.inner_breaks > 370);
-    let has_ends = seen.turns_for_ever > 2_980 && seen.ending_jumps > 9_680;
+    let has_branches = seen.taken_branches > 9_100 && seen.skipped_branches > 12_900;
+    has_enough(&rt, &seen, has_branches && seen.skipped_others > 1_740);
+    let has_breaks = seen.breaks > 2_940 && seen.breaks_for_ever > 1_050;
+    has_enough(&rt, &seen, has_breaks && seen.inner_breaks > 400);
+    let has_ends = seen.turns_for_ever > 2_970 && seen.ending_jumps > 9_310;
     has_enough(&rt, &seen, has_ends);
-    let has_endless = seen.passes_beside_endless > 720 && seen.endless_alone_ended > 330;
+    let has_endless = seen.passes_beside_endless > 750 && seen.endless_alone_ended > 325;
     has_enough(&rt, &seen, has_endless);
-    let has_checks = seen.passed_checks > 4_000 && seen.failed_checks > 1_450;
-    has_enough(&rt, &seen, has_checks && seen.later_failures > 190);
-    let has_branches = seen.taken_by_handlers > 4_050 && seen.skipped_by_handlers > 7_300;
+    let has_checks = seen.passed_checks > 4_000 && seen.failed_checks > 1_540;
+    has_enough(&rt, &seen, has_checks && seen.later_failures > 240);
+    let has_branches = seen.taken_by_handlers > 4_260 && seen.skipped_by_handlers > 7_460;
     has_enough(&rt, &seen, has_branches);
-    let has_times = seen.stamps > 8_400 && seen.measures > 4_150;
-    has_enough(&rt, &seen, has_times && seen.long_measures > 5);
+    let has_times = seen.stamps > 8_770 && seen.measures > 4_150;
+    has_enough(&rt, &seen, has_times && seen.long_measures > 12);
 }
 
 /// The application that a file describes.
