@@ -15,7 +15,7 @@ use Rattle.model.specs.Step.{is_ended, nobody_ready}
 use Rattle.model.specs.Run.{IsRun, Run, are_all_ended, end_of, state_after}
 use Rattle.model.proofs.Sorting.{by_test}
 use Rattle.soundness.proofs.Handled.{and_left, and_right}
-use Rattle.laws.specs.Looking.{is_misuse_of_some}
+use Rattle.laws.specs.Looking.{is_by_misuse}
 use Rattle.laws.proofs.Changes.{Stops, is_failed_check, kept_after}
 use Rattle.laws.proofs.Sleeping.{NoneBetween}
 
@@ -29,7 +29,7 @@ no_pass-framed s t e n m stops h = elim stops [
   | inl same ↦ (λ passes. h (sym same ∙ passes))
   | inr fails ↦ elim fails [
     | inl check ↦ (λ passes. let contrary : is_failed_check (Some Pass) ≡ true = subst (λ o. is_failed_check o ≡ true) passes check.1 in absurd (cc))
-    | inr misused ↦ (λ passes. let contrary : is_misuse_of_some (Some Pass) ≡ true = subst (λ o. is_misuse_of_some o ≡ true) passes misused in absurd (cc))
+    | inr misused ↦ (λ passes. let contrary : is_by_misuse (Some Pass) ≡ true = subst (λ o. is_by_misuse o ≡ true) passes misused in absurd (cc))
   ]
 ]
 

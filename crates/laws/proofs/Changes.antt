@@ -20,7 +20,7 @@ use Rattle.model.specs.declared.event.What.{What}
 use Rattle.model.specs.declared.event.What.TheVariants as what
 use Rattle.model.specs.declared.event.Misuse.{Misuse}
 use Rattle.model.specs.declared.event.End.{End as Ending}
-use Rattle.model.specs.declared.event.End.TheVariants.{Check, HandlerCheck, Misuse as MisuseEnd}
+use Rattle.model.specs.declared.event.End.TheVariants.{Check, HandlerCheck}
 use Rattle.model.specs.declared.loops.Loop.{Loop}
 use Rattle.model.specs.declared.answer.AnswerCondition.{AnswerCondition}
 use Rattle.model.specs.Answers.{holds}
@@ -51,7 +51,7 @@ use Rattle.soundness.proofs.Settled.{when_held, when_free}
 use Rattle.soundness.proofs.Passing.{either_way, jumped}
 use Rattle.soundness.proofs.Frames.{keeps-answer, keeps-all_ready, keeps-inherit}
 use Rattle.soundness.proofs.Inheriting.{reranks-inherit}
-use Rattle.laws.specs.Looking.{is_misuse_of_some}
+use Rattle.laws.specs.Looking.{is_by_misuse}
 use Rattle.laws.proofs.Sleeping.{NoneBetween, none_in_one, none_ahead}
 use Rattle.laws.proofs.Choice.{at_index, All-from_in_order}
 
@@ -119,7 +119,7 @@ is_failed_check _ = false
 
 -- It goes on, or is stopped, as before; or it went on and fails by a check; or it is a misuse.
 abbrev pub Stops : Option Ending → Option Ending → Type 0
-Stops old new = (new ≡ old) ⊎ (((old ≡ None) × (is_failed_check new ≡ true)) ⊎ (is_misuse_of_some new ≡ true))
+Stops old new = (new ≡ old) ⊎ (((old ≡ None) × (is_failed_check new ≡ true)) ⊎ (is_by_misuse new ≡ true))
 
 -- A check that fails stops it, unless it is stopped already.
 stops-fail : (stopped : Option Ending) (check : Ending) → is_failed_check (Some check) ≡ true → Stops stopped (option_or stopped (Some check))

@@ -1,11 +1,7 @@
 -- Handlers that look: what their checks and branches come to, and by what a run is stopped.
-use Rattle.std.proofs.Common.{◌≡◌, ◌+◌, ◌++◌, ◌⊎◌, inl, inr, ℕ, zero, suc, Bool, true, false, length, List, [], ◌∷◌, map, Option, Some, None, refl, ap, ap₂, sym, subst, ◌∙◌, arith}
-use Rattle.std.specs.Prelude.{if◌then◌else◌}
-use Rattle.std.specs.Option.{option_or}
+use Rattle.std.proofs.Common.{◌≡◌, ◌+◌, ◌++◌, ◌⊎◌, inl, inr, ℕ, zero, suc, true, false, length, List, [], ◌∷◌, Option, Some, None, refl, ap, sym, subst, ◌∙◌, arith}
 use Rattle.std.proofs.lemmas.List.{length-map, map-append}
 use Rattle.model.specs.declared.answer.AnswerCondition.{AnswerCondition}
-use Rattle.model.specs.declared.block.Edge.{Edge}
-use Rattle.model.specs.declared.block.Edge.TheVariants.{EndsIf}
 use Rattle.model.specs.declared.call.WaitList.{WaitList}
 use Rattle.model.specs.declared.event.End.{End}
 use Rattle.model.specs.declared.event.End.TheVariants.{HandlerCheck}
@@ -14,7 +10,7 @@ use Rattle.model.specs.declared.op.Access.TheVariants.{Send}
 use Rattle.model.specs.declared.op.IsrOp.{IsrOp}
 use Rattle.model.specs.declared.op.IsrOp.TheVariants as isr_op
 use Rattle.model.specs.Answers.{holds}
-use Rattle.model.specs.Application.{Application, Limits, commands_of, interrupts_at, ops_of}
+use Rattle.model.specs.Application.{Application, Limits, commands_of, ops_of}
 use Rattle.model.specs.Blocks.{edge_of_isr, isr_edges_of, past_branch}
 use Rattle.model.specs.Daemon.{item_of}
 use Rattle.model.specs.Handlers.{handle, inject, isr, isr_answer, isr_each, isr_jump, is_failed}
@@ -22,18 +18,18 @@ use Rattle.model.specs.Objects.{attempt, fulfil, list_woken, object_after, possi
 use Rattle.model.specs.Ops.{fail}
 use Rattle.model.specs.Order.{first, task_of, tasks_of}
 use Rattle.model.specs.Run.{end_of}
-use Rattle.model.specs.State.{State, Task, Status, for_each, for_one, object_at, status_at, take_ticket, with_object, with_task}
+use Rattle.model.specs.State.{State, for_each, for_one, object_at, status_at, with_object}
 use Rattle.model.specs.Step.{act_current, before_step}
 use Rattle.model.specs.Suspension.{can_resume, resume}
-use Rattle.model.specs.Switching.{choice, choose, dispatch, is_held, is_outranked, is_ready, is_same, make_ready, preempt, to_back, unless_held, yield_now}
+use Rattle.model.specs.Switching.{choice, choose, dispatch, is_held, is_outranked, is_ready, is_same, preempt, to_back, yield_now}
 use Rattle.model.specs.Time.{due, wake_due}
 use Rattle.model.specs.Waiting.{is_locked, waiters, wake_best, wake_one}
 use Rattle.model.proofs.Sorting.{by_test}
 use Rattle.soundness.proofs.Settled.{when_free, when_held}
 use Rattle.laws.specs.Branches.{AreWhole, ends_branch}
-use Rattle.laws.specs.Looking.{is_misuse_of_some, is_misused}
+use Rattle.laws.specs.Looking.{is_by_misuse, is_misused}
 use Rattle.laws.proofs.Blocks.{past_whole_branch}
-use Rattle.laws.proofs.Changes.{Remains, Stays, Stops, anyone, kept-act_current}
+use Rattle.laws.proofs.Changes.{Stops, anyone, kept-act_current}
 use Rattle.laws.proofs.Awaited.{stopped-all_ready}
 use Rattle.laws.proofs.Sleeping.{NoneBetween}
 
@@ -187,11 +183,11 @@ module _ (end : End) where
 
   stands-framed : (s t : State) → t.tasks ≡ s.tasks → t.next_ticket ≡ s.next_ticket → t.time ≡ s.time → Stops s.stopped t.stopped → StandsOrMisused s → StandsOrMisused t
   stands-framed s t e n m stops h = elim stops [
-    | inl same ↦ subst (λ (o : Option End). (o ≡ Some end) ⊎ (is_misuse_of_some o ≡ true)) (sym same) h
+    | inl same ↦ subst (λ (o : Option End). (o ≡ Some end) ⊎ (is_by_misuse o ≡ true)) (sym same) h
     | inr fails ↦ elim fails [
       | inl check ↦ elim h [
         | inl stopped ↦ (let contrary : None ≡ Some end = sym check.0 ∙ stopped in absurd (cc))
-        | inr misused ↦ (let contrary : is_misuse_of_some None ≡ true = subst (λ o. is_misuse_of_some o ≡ true) check.0 misused in absurd (cc))
+        | inr misused ↦ (let contrary : is_by_misuse None ≡ true = subst (λ o. is_by_misuse o ≡ true) check.0 misused in absurd (cc))
       ]
       | inr misused ↦ inr misused
     ]
@@ -201,7 +197,7 @@ module _ (end : End) where
   unfolding wake_due
   stands-passed n s none h =
       let t : State = record s { time = s.time + n } in
-      subst (λ (o : Option End). (o ≡ Some end) ⊎ (is_misuse_of_some o ≡ true)) (sym (stopped-all_ready (tasks_of (due t)) t)) h
+      subst (λ (o : Option End). (o ≡ Some end) ⊎ (is_by_misuse o ≡ true)) (sym (stopped-all_ready (tasks_of (due t)) t)) h
 
   pub stands_in_step : (app : Application) (limits : Limits) (running : Option ℕ) (s : State) → IsStopped s → StandsOrMisused (act_current app limits running s)
   stands_in_step app limits running s h =

@@ -1,19 +1,17 @@
 -- Tasks that measure time: what `stamp` and `since` do, and that nothing else changes a stamp.
-use Rattle.std.proofs.Common.{◌≡◌, ◌<◌, ◌+◌, ◌-◌, ◌&&◌, not, min, ℕ, zero, suc, Bool, true, false, eqb, length, List, [], ◌∷◌, map, get_or, set, inl, inr, Option, Some, None, refl, ap, sym, subst, ◌∙◌}
-use Rattle.std.specs.Prelude.{slice_get, if◌then◌else◌}
+use Rattle.std.proofs.Common.{◌≡◌, ◌<◌, ◌+◌, ◌-◌, not, min, ℕ, zero, suc, Bool, true, eqb, length, List, [], ◌∷◌, map, get_or, inl, inr, Option, Some, None, refl, ap, sym, subst, ◌∙◌}
+use Rattle.std.specs.Prelude.{slice_get}
 use Rattle.std.specs.Option.{IfSome}
-use Rattle.model.specs.declared.event.Misuse.TheVariants.{WhileSuspended}
 use Rattle.model.specs.declared.op.Op.TheVariants.{Since, Stamp}
 use Rattle.model.specs.Application.{Application, Definition, Limits, definition_of, op_at}
 use Rattle.model.specs.Ops.{answer, called, go_to, since, stamp}
 use Rattle.model.specs.Order.{tasks_of}
 use Rattle.model.specs.State.{State, Task, Progress, Status, Ready, no_task, for_each, progress_at, status_at, task_at, take_ticket, with_task}
-use Rattle.model.specs.Step.{act, before_step, misuse, nobody_ready, ready_at_reset, reset, step, task_at_reset, with_ops}
+use Rattle.model.specs.Step.{before_step, misuse, nobody_ready, ready_at_reset, reset, step, task_at_reset, with_ops}
 use Rattle.model.specs.Switching.{is_scheduler_suspended, make_ready, write}
 use Rattle.model.specs.Time.{due, wake_due}
 use Rattle.model.proofs.Lists.{eqb-refl, eqb-same}
 use Rattle.model.proofs.Sorting.{by_test}
-use Rattle.model.proofs.Tables.{each-set}
 use Rattle.laws.specs.Branches.{IsQuiet}
 use Rattle.laws.proofs.Blocks.{at-go_to, fits_held, quiet-go_to}
 use Rattle.laws.proofs.Changes.{Remains, Stays, Stops, kept-step, one_task}

@@ -1,5 +1,5 @@
 -- Worked examples of tasks that measure time: applications, what is injected, and what their runs come to.
-use Rattle.std.specs.Prelude.{List, [], ◌∷◌, Some, codes}
+use Rattle.std.specs.Prelude.{List, [], ◌∷◌, codes}
 use Rattle.model.specs.declared.answer.AnswerCondition.TheVariants.{Below, Above}
 use Rattle.model.specs.declared.op.Op.TheVariants.{Work, Delay, Expect, Stamp, Since, SuspendAll, ResumeAll}
 use Rattle.model.specs.declared.event.End.TheVariants.{Pass, Check}
