@@ -26,7 +26,8 @@ pub fn passed_checks_change_nothing()
 /// Behind a check of a handler that fails no op of the handler is done, whichever there are. All that comes of it is that the run ends
 /// with this check, if it doesn't end already.
 pub fn failed_checks_end_the_handler()
-    ensures nothing { (app : Application) (handler op_index : ℕ) (condition : AnswerCondition) (answer : Option ℕ) (ops : List IsrOp) (s : State)
+    ensures nothing { (app : Application) (handler op_index : ℕ) (condition : AnswerCondition) (answer : Option ℕ) (ops : List IsrOp)
+        (s : State)
         → holds condition answer ≡ false
         → isr_each app handler op_index 0 answer (Expect condition ∷ ops) s ≡ fail (HandlerCheck handler op_index) s }
     ensures ends { (app : Application) (limits : Limits) (check : End) (s : State) → s.stopped ≡ None
@@ -46,7 +47,8 @@ pub fn first_failed_check_counts()
 /// is behind that branch and its `else` is next, or behind its `end` if there is no `else`. An `else`, to which the first branch comes
 /// at its end, goes on behind the `end` of the other. What is passed is not done.
 pub fn handlers_do_one_branch()
-    ensures taken { (app : Application) (handler op_index : ℕ) (condition : AnswerCondition) (answer : Option ℕ) (ops : List IsrOp) (s : State)
+    ensures taken { (app : Application) (handler op_index : ℕ) (condition : AnswerCondition) (answer : Option ℕ) (ops : List IsrOp)
+        (s : State)
         → holds condition answer ≡ true
         → isr_each app handler op_index 0 answer (If condition ∷ ops) s ≡ isr_each app handler (op_index + 1) 0 answer ops s }
     ensures skipped { (app : Application) (handler op_index : ℕ) (condition : AnswerCondition) (answer : Option ℕ) (first : List IsrOp)
