@@ -1,10 +1,12 @@
-"""Random applications, with campaigns of all steps of two handlers: half of them with a daemon, half of them tickless, and half of them
-with branches and endless tasks."""
+"""Random applications, with campaigns of all steps of two handlers: half of them with a daemon, half of them tickless, half of them with
+branches and endless tasks, and half of them with handlers that look at answers and tasks that measure time."""
 import json
 import random
 
 # How deep loops are at most, and how deep blocks are, which are loops and ifs.
 DEEPEST_LOOP, DEEPEST = 4, 8
+# How many ops a handler has at most.
+MOST_OPS = 16
 
 
 class Scripts:
@@ -65,11 +67,30 @@ class Scripts:
         return ops + self.op(opened, 0)
 
 
+class Handlers(Scripts):
+    """Random ops of handlers that look at answers, by branches in one another and by checks. There are no loops."""
+
+    def handler(self):
+        """Few ops, or now and then branches as deep as may be, which are as many ops as may be."""
+        if self.dice.random() < 0.05:
+            return [*(f"if {self.condition()}" for _ in range(DEEPEST)), *["end"] * DEEPEST]
+        while True:
+            ops = self.ops((), 3) if self.dice.random() < 0.9 else []
+            if len(ops) <= MOST_OPS:
+                return ops
+
+    def op(self, opened, most):
+        chance = self.dice.random()
+        if chance < 0.3 and len(opened) < most:
+            return self.branch(opened, most)
+        return [f"expect {self.condition()}"] if chance < 0.45 else [self.plain_op()]
+
+
 class Applications:
     """Random applications, most of which have something that can't end, fails or isn't reached. Those of even seeds have a daemon,
     and handlers that set and clear bits by it. Of four seeds the last two are tickless: they sleep and wait for up to nearly a turn of the
     tick, begin at any tick, and have base interrupts amid their sleeps. Of eight seeds the last four have branches, and tasks that are
-    endless."""
+    endless. Of sixteen seeds the last eight have handlers that look at answers, and tasks that measure time."""
 
     def __init__(self, seed):
         self.dice, self.has_daemon = random.Random(seed), seed % 2 == 0
@@ -77,12 +98,21 @@ class Applications:
         self.is_tickless, self.long_dice = seed % 4 > 1, random.Random(-1 - seed)
         # So has one with branches.
         self.has_branches, self.block_dice = seed % 8 > 3, random.Random(f"blocks {seed}")
+        # And so has one whose handlers look.
+        self.looks, self.look_dice = seed % 16 > 7, random.Random(f"looks {seed}")
 
     def ticks(self, few):
         """So few ticks, and in a tickless application perhaps many."""
         return self.long_dice.choice((few, 3, 40, 700, 4000, 86400000, 4294967294)) if self.is_tickless else few
 
     def task_op(self):
+        return self.clock_op() if self.looks and self.look_dice.random() < 0.3 else self.other_op()
+
+    def clock_op(self):
+        """An op by which a task measures time, or a check of how much has passed."""
+        return self.look_dice.choice(("stamp", "stamp", "since", "since", "since", f"expect below {self.ticks(3)}"))
+
+    def other_op(self):
         q, s, t = (self.dice.choice(it) for it in ("qr", "sc", "ab"))
         wait = self.dice.choice(("forever", "forever", 0, 2))
         wait = self.ticks(2) if wait == 2 else wait
@@ -110,6 +140,11 @@ class Applications:
         ops = ("send q 1", "send_front q 1", "give s", "give c", "receive q", "overwrite r 1", "resume a", "mark 1", "peek q")
         return self.command() if self.has_daemon and self.dice.random() < 0.4 else self.dice.choice(ops)
 
+    def handler(self):
+        if self.looks:
+            return Handlers(self.look_dice, self.handler_op).handler()
+        return [self.handler_op() for _ in range(self.dice.randrange(6))]
+
     def command(self):
         return f"{self.dice.choice(('set', 'set', 'clear'))} g {self.dice.randrange(1, 8)}"
 
@@ -129,7 +164,7 @@ class Applications:
         return [f'[[interrupt]]\ntick = {it}\nhandler = "{self.long_dice.choice("hk")}"' for it in ticks]
 
     def text(self):
-        handlers = [[self.handler_op() for _ in range(self.dice.randrange(6))] for _ in "hk"]
+        handlers = [self.handler() for _ in "hk"]
         parts = [self.beginning(), 'queue = [{ name = "q", length = 2 }, { name = "r", length = 1 }]']
         parts.append('binary = [{ name = "s" }]\nmutex = [{ name = "m" }]')
         parts.append(f'counting = [{{ name = "c", max = 2, initial = {self.dice.randrange(2)} }}]\ngroup = [{{ name = "g" }}]')

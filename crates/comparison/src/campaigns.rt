@@ -33,7 +33,7 @@ impl Seen {
     fn count(&mut self, reached: bool, end: End) {
         let count = match end {
             End::Pass => &mut self.pass,
-            End::Check(_, _) => &mut self.check,
+            End::Check(_, _) | End::HandlerCheck(_, _) => &mut self.check,
             End::Misuse(_, _, _) => &mut self.misuse,
             End::Ticks => &mut self.ticks,
             End::Steps => &mut self.steps,

@@ -53,7 +53,7 @@ fn push_number_or(file: &mut String, number: Option<u32>, none: &str) -> Result<
     }
 }
 
-// What a script asks of the last answer, as words.
+// What a script or a handler asks of the last answer, as words.
 fn push_answer_condition(file: &mut String, condition: AnswerCondition) -> Result<(), AllocError> {
     match condition {
         AnswerCondition::Is(wanted) => push_number_or(file, wanted, "none"),
@@ -138,6 +138,8 @@ fn push_isr_rest(file: &mut String, app: &App, op: &IsrOp) -> Result<(), AllocEr
             push_name(file, "e", command.group.number)?;
             push_number(file, command.mask)
         }
+        IsrOp::Expect(condition) | IsrOp::If(condition) => push_answer_condition(file, condition),
+        IsrOp::Else | IsrOp::EndIf => Ok(()),
     }
 }
 

@@ -112,6 +112,22 @@ struct Seen {
     turns_for_ever: usize,
     /// A script came to its end by an `if`, an `else` or a `break`.
     ending_jumps: usize,
+    /// The condition of a handler's `expect` held.
+    passed_checks: usize,
+    /// It didn't.
+    failed_checks: usize,
+    /// A check failed in a step in which one had failed before.
+    later_failures: usize,
+    /// The condition of a handler's `if` held.
+    taken_by_handlers: usize,
+    /// It didn't.
+    skipped_by_handlers: usize,
+    /// A task noted the time.
+    stamps: usize,
+    /// Ticks had passed since then.
+    measures: usize,
+    /// More had than an answer can be.
+    long_measures: usize,
     /// The run passed, and an endless task had not come to its end.
     passes_beside_endless: usize,
     /// Only endless tasks were there, and all were Ended.
@@ -139,6 +155,8 @@ impl Seen {
         self.count_commands(slow, app);
         self.count_jumps(slow);
         self.count_branches(slow);
+        self.count_looks(slow);
+        self.count_measures(slow);
         self.count_endless(slow, app);
         self.count_injections(injections);
     }
@@ -203,6 +221,22 @@ impl Seen {
         see(&mut self.inner_breaks, tally.inner_breaks);
         see(&mut self.turns_for_ever, tally.turns_for_ever);
         see(&mut self.ending_jumps, tally.ending_jumps);
+    }
+
+    fn count_looks(&mut self, slow: &SlowKernel) {
+        let tally = slow.tally;
+        see(&mut self.passed_checks, tally.passed_checks);
+        see(&mut self.failed_checks, tally.failed_checks);
+        see(&mut self.later_failures, tally.later_failures);
+        see(&mut self.taken_by_handlers, tally.taken_by_handlers);
+        see(&mut self.skipped_by_handlers, tally.skipped_by_handlers);
+    }
+
+    fn count_measures(&mut self, slow: &SlowKernel) {
+        let tally = slow.tally;
+        see(&mut self.stamps, tally.stamps);
+        see(&mut self.measures, tally.measures);
+        see(&mut self.long_measures, tally.long_measures);
     }
 
     fn count_endless(&mut self, slow: &SlowKernel, app: &App) {
@@ -275,7 +309,7 @@ enum Sort {
     Gathering,
     /// Tasks are suspended. Handlers are injected in three of four runs.
     Suspension,
-    /// Tasks go by what was answered. Handlers are injected in every other run.
+    /// Tasks and handlers go by what was answered. Handlers are injected in every other run.
     Decision,
 }
 
@@ -334,20 +368,24 @@ fn the_slow_program_agrees(rt: HostRuntime) {
         &seen,
         seen.suspended_waits > 800 && seen.held_ticks > 2_700,
     );
-    let has_commands = seen.commands > 3_500 && seen.refused_commands > 700;
+    let has_commands = seen.commands > 3_320 && seen.refused_commands > 640;
     has_enough(&rt, &seen, has_commands);
-    let has_done = seen.sets_by_daemon > 2_780 && seen.clears_by_daemon > 1_160;
+    let has_done = seen.sets_by_daemon > 2_550 && seen.clears_by_daemon > 1_100;
     has_enough(&rt, &seen, has_done && seen.passes_beside_daemon > 200);
     let has_jumps = seen.jumps > 5_070 && seen.wrapping_jumps > 3_040;
     has_enough(&rt, &seen, has_jumps && seen.jumps_to_zero > 520);
     let has_ends = seen.jumps_to_interrupt > 2_770 && seen.jumps_to_wake > 3_330;
     has_enough(&rt, &seen, has_ends && seen.jumps_to_limit > 1_540);
-    let has_branches = seen.taken_branches > 460 && seen.skipped_branches > 790;
+    let has_branches = seen.taken_branches > 470 && seen.skipped_branches > 710;
     has_enough(
         &rt,
         &seen,
         has_branches && seen.passes_beside_endless > 1_320,
     );
+    let has_checks = seen.passed_checks > 530 && seen.failed_checks > 135;
+    has_enough(&rt, &seen, has_checks && seen.taken_by_handlers > 550);
+    let has_times = seen.stamps > 3_350 && seen.measures > 1_600;
+    has_enough(&rt, &seen, has_times && seen.skipped_by_handlers > 1_020);
 }
 
 #[test]
@@ -360,16 +398,16 @@ fn the_slow_program_agrees_where_handlers_are_injected(rt: HostRuntime) {
     let has_awakenings = seen.own_awakenings > 2_400 && seen.other_awakenings > 475;
     has_enough(&rt, &seen, has_awakenings && seen.mixed_unlocks > 45);
     has_enough(&rt, &seen, seen.locked_gives > 1_050);
-    let has_commands = seen.commands > 5_270 && seen.refused_commands > 2_560;
-    has_enough(&rt, &seen, has_commands && seen.window_commands > 1_930);
-    let has_done = seen.sets_by_daemon > 4_250 && seen.clears_by_daemon > 1_850;
+    let has_commands = seen.commands > 5_270 && seen.refused_commands > 2_460;
+    has_enough(&rt, &seen, has_commands && seen.window_commands > 1_890);
+    let has_done = seen.sets_by_daemon > 4_110 && seen.clears_by_daemon > 1_850;
     has_enough(&rt, &seen, has_done && seen.passes_beside_daemon > 180);
-    let has_beside = made.beside_daemon > made.all / 3 && made.in_its_window > 23_700;
+    let has_beside = made.beside_daemon > made.all / 3 && made.in_its_window > 23_500;
     has_enough(&rt, &seen, has_beside);
     let has_jumps = seen.jumps > 6_760 && seen.wrapping_jumps > 4_400;
     has_enough(&rt, &seen, has_jumps && seen.jumps_to_zero > 940);
     let has_ends = seen.jumps_to_interrupt > 3_460 && seen.jumps_to_wake > 5_510;
-    has_enough(&rt, &seen, has_ends && seen.jumps_to_limit > 2_290);
+    has_enough(&rt, &seen, has_ends && seen.jumps_to_limit > 2_280);
 }
 
 #[test]
@@ -444,16 +482,22 @@ fn the_slow_program_agrees_where_tasks_are_suspended(rt: HostRuntime) {
 }
 
 #[test]
-fn the_slow_program_agrees_where_tasks_go_by_answers(rt: HostRuntime) {
+fn the_slow_program_agrees_where_tasks_and_handlers_go_by_answers(rt: HostRuntime) {
     let seen = seen_in(&rt, rt.alloc(), Sort::Decision);
-    let has_branches = seen.taken_branches > 9_650 && seen.skipped_branches > 13_400;
-    has_enough(&rt, &seen, has_branches && seen.skipped_others > 1_920);
-    let has_breaks = seen.breaks > 3_240 && seen.breaks_for_ever > 1_160;
-    has_enough(&rt, &seen, has_breaks && seen.inner_breaks > 430);
-    let has_ends = seen.turns_for_ever > 3_220 && seen.ending_jumps > 9_680;
+    let has_branches = seen.taken_branches > 9_100 && seen.skipped_branches > 12_900;
+    has_enough(&rt, &seen, has_branches && seen.skipped_others > 1_740);
+    let has_breaks = seen.breaks > 2_940 && seen.breaks_for_ever > 1_050;
+    has_enough(&rt, &seen, has_breaks && seen.inner_breaks > 400);
+    let has_ends = seen.turns_for_ever > 2_970 && seen.ending_jumps > 9_310;
     has_enough(&rt, &seen, has_ends);
-    let has_endless = seen.passes_beside_endless > 780 && seen.endless_alone_ended > 330;
+    let has_endless = seen.passes_beside_endless > 750 && seen.endless_alone_ended > 325;
     has_enough(&rt, &seen, has_endless);
+    let has_checks = seen.passed_checks > 4_000 && seen.failed_checks > 1_540;
+    has_enough(&rt, &seen, has_checks && seen.later_failures > 240);
+    let has_branches = seen.taken_by_handlers > 4_260 && seen.skipped_by_handlers > 7_460;
+    has_enough(&rt, &seen, has_branches);
+    let has_times = seen.stamps > 8_770 && seen.measures > 4_150;
+    has_enough(&rt, &seen, has_times && seen.long_measures > 12);
 }
 
 /// The application that a file describes.

@@ -7,7 +7,7 @@ use Rattle.std.specs.Result.{result_ok}
 use Rattle.model.specs.declared.object.ObjectKind.{ObjectKind}
 use Rattle.model.specs.declared.block.Block.{Block}
 use Rattle.model.specs.declared.op.Op.{Op}
-use Rattle.model.specs.Blocks.{edge_of, ending, ends_loop, is_innermost, is_loop, open_behind}
+use Rattle.model.specs.Blocks.{Nests, edge_of, isr_edges_of, ending, ends_loop, is_innermost, is_loop, open_behind}
 use Rattle.std.proofs.lemmas.Bool.{lt-ltb}
 use Rattle.std.proofs.lemmas.List.{length-map}
 use Rattle.model.specs.declared.op.Command.{Command}
@@ -72,13 +72,14 @@ known_ops app has_daemon objects same two four has [] h = tt
 known_ops app has_daemon objects same two four has (op ∷ ops) h =
     (h.0 app same two four has, known_ops app has_daemon objects same two four has ops h.1)
 
--- a handler of a short name and few ops that are known
+-- a handler of a short name and few ops that nest and are known
 pub known_handler : (has_daemon : Bool) (objects : List ObjectKind) (handler : Handler) → length handler.name ≤ most_name_bytes
-    → length handler.ops ≤ most_handler_ops → AllByRecursion (IsKnownIsrWith has_daemon objects) handler.ops
+    → length handler.ops ≤ most_handler_ops → Nests [] (isr_edges_of handler.ops) → AllByRecursion (IsKnownIsrWith has_daemon objects) handler.ops
     → IsKnownHandler has_daemon objects handler
-known_handler has_daemon objects handler name few known app same two four has = record {
+known_handler has_daemon objects handler name few nests known app same two four has = record {
   name = name;
   few = few;
+  nests = nests;
   known = known_ops app has_daemon objects same two four has handler.ops known;
 }
 

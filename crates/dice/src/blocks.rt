@@ -66,14 +66,14 @@ impl Dice {
         ensures range { InRange result }
         ensures known { IsKnown objects.now result }
     {
-        match self.roll(24) {
+        match self.roll(26) {
             0..=11 => self.block_op(objects),
-            12 => Op::Time,
-            13 => Op::Mark(self.roll(10)),
-            14 => Op::Expect(self.answer_condition()),
-            15..=16 => Op::Delay(self.ticks(4)),
-            17 => Op::Work(1 + self.roll(2)),
-            18 => self.begin_suspension(objects),
+            12..=14 => self.clock_op(objects),
+            15 => Op::Mark(self.roll(10)),
+            16 => Op::Expect(self.answer_condition()),
+            17..=18 => Op::Delay(self.ticks(4)),
+            19 => Op::Work(1 + self.roll(2)),
+            20 => self.begin_suspension(objects),
             _ => match self.call(objects) {
                 Some(op) => op,
                 None => Op::Yield,

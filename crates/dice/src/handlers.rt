@@ -1,14 +1,30 @@
 //! Handlers, and base interrupts.
-ghost use Rattle.std.specs.Prelude.{◌+◌, ◌≤◌, ◌≡◌, IsTrue, Some, IfSome, length};
+ghost use Rattle.std.specs.Prelude.{◌+◌, ◌≤◌, ◌≡◌, [], IsTrue, Some, IfSome, length};
 ghost use Rattle.std.specs.List.{AllByRecursion, slice_get};
 ghost use Rattle.model.specs.declared.object.ObjectKind.TheVariants as of_kind;
+ghost use Rattle.model.specs.Blocks.{Nests, isr_edges_of};
 ghost use Rattle.dice.specs.Known.{AreInterrupts, IsKnownHandler, IsKnownIsr, IsKnownIsrWith};
 
+use super::handler_ops::HandlerOps;
 use super::{Dice, Role, Theme};
 use model::{
-    Access, Command, HandlerDefinition, HandlerId, Interrupt, IsrOp, ObjectId, ObjectKind,
+    Access, AnswerCondition, Command, HandlerDefinition, HandlerId, Interrupt, IsrOp, ObjectId,
+    ObjectKind,
 };
 use std::alloc::Global;
+
+/// Ends the branches that are open.
+fn close(ops: &mut HandlerOps, objects: &[ObjectKind], has_daemon: bool)
+    requires few { length ops.old ≤ 8 }
+    requires known { AllByRecursion (IsKnownIsrWith has_daemon objects.now) ops.old }
+    ensures few { length ops.new ≤ 16 }
+    ensures known { AllByRecursion (IsKnownIsrWith has_daemon objects.now) ops.new }
+{
+    let _ = objects;
+    for _ in 0..8_u8 {
+        ops.push(IsrOp::EndIf);
+    }
+}
 
 impl Dice {
     /// A call of a handler on this queue, which has this length.
@@ -96,9 +112,44 @@ impl Dice {
         }
     }
 
+    /// Whether the next op of a handler looks at the answer of the one before: often where tasks go by what was answered too, and
+    /// seldom in applications of all sorts.
+    fn looks(&mut self) -> bool {
+        match self.theme {
+            Theme::Decision => self.roll(5) < 3,
+            Theme::Any => self.roll(10) == 0,
+            Theme::Crowd | Theme::Contest | Theme::Gathering | Theme::Suspension => false,
+        }
+    }
+
+    /// What a handler expects of its last answer: mostly something that holds.
+    fn expectation(&mut self) -> AnswerCondition {
+        if self.roll(3) == 0 {
+            self.answer_condition()
+        } else {
+            AnswerCondition::IsNot(Some(9 + self.roll(3)))
+        }
+    }
+
+    /// An op of a handler that looks: it opens or ends a branch, or expects something.
+    fn looking_op(&mut self, objects: &[ObjectKind]) -> IsrOp
+        ensures { IsKnownIsr objects.now result }
+    {
+        let _ = objects;
+        match self.roll(12) {
+            0..=4 => IsrOp::If(self.answer_condition()),
+            5..=6 => IsrOp::Else,
+            7..=9 => IsrOp::EndIf,
+            _ => IsrOp::Expect(self.expectation()),
+        }
+    }
+
     fn isr_op(&mut self, objects: &[ObjectKind], has_daemon: bool) -> IsrOp
         ensures { IsKnownIsrWith has_daemon objects.now result }
     {
+        if self.looks() {
+            return self.looking_op(objects);
+        }
         if has_daemon && self.commands() {
             return self.isr_command(objects, has_daemon);
         }
@@ -113,7 +164,38 @@ impl Dice {
         IsrOp::Mark(self.roll(10))
     }
 
-    /// A handler of up to five ops.
+    /// How many ops a handler may have before its end.
+    fn isr_op_count(&mut self) -> u32
+        ensures { result ≤ 8 }
+    {
+        match self.theme {
+            Theme::Decision => self.roll(9),
+            _ => self.roll(6),
+        }
+    }
+
+    /// Up to five ops of a handler, or eight where it goes by what was answered. One that may not stand where it would is left out.
+    /// Then the branches that are open end.
+    fn isr_ops(
+        &mut self,
+        alloc: Global,
+        objects: &[ObjectKind],
+        has_daemon: bool,
+    ) -> Option<Vec<IsrOp>>
+        ensures few { IfSome result (λ ops. length ops.items ≤ 16) }
+        ensures nests { IfSome result (λ ops. Nests [] (isr_edges_of ops.items)) }
+        ensures known { IfSome result (λ ops. AllByRecursion (IsKnownIsrWith has_daemon objects.now) ops.items) }
+    {
+        let mut ops = HandlerOps::new(alloc);
+        let length = self.isr_op_count();
+        for _ in 0..length {
+            ops.push(self.isr_op(objects, has_daemon));
+        }
+        close(&mut ops, objects, has_daemon);
+        ops.finish()
+    }
+
+    /// A handler.
     fn handler(
         &mut self,
         alloc: Global,
@@ -125,11 +207,7 @@ impl Dice {
         ensures { IfSome result (λ handler. IsKnownHandler has_daemon objects.now handler) }
     {
         self.role = Role::Any;
-        let mut ops = Vec::new(alloc);
-        let length = self.roll(6);
-        for _ in 0..length {
-            ops.push(self.isr_op(objects, has_daemon)).ok()?;
-        }
+        let ops = self.isr_ops(alloc, objects, has_daemon)?;
         let name = String::from_str(alloc, name).ok()?;
         Some(HandlerDefinition::new(name, ops))
     }

@@ -18,6 +18,7 @@ use std::alloc::Global;
 mod blocks;
 mod calls;
 mod daemon;
+mod handler_ops;
 mod handlers;
 mod kinds;
 mod ops;
@@ -58,7 +59,7 @@ enum Theme {
     Gathering,
     /// They suspend and resume each other, and the scheduler.
     Suspension,
-    /// They go by what was answered: their scripts have branches, and loops that are left.
+    /// They go by what was answered: their scripts have branches, and loops that are left. So do the handlers. They measure time.
     Decision,
 }
 
@@ -114,7 +115,7 @@ impl Dice {
         Dice::of_theme(seed, Theme::Suspension)
     }
 
-    /// For applications whose tasks go by what was answered.
+    /// For applications whose tasks and handlers go by what was answered.
     pub fn deciding(seed: u32) -> Self {
         Dice::of_theme(seed, Theme::Decision)
     }

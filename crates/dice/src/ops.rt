@@ -7,21 +7,37 @@ use super::{Dice, Role, Theme};
 use model::{Condition, GroupId, ObjectKind, Op, TaskId};
 
 impl Dice {
+    /// An op that asks for the time; or, in applications of all sorts and where tasks go by what was answered, one that measures it.
+    pub(super) fn clock_op(&mut self, objects: &[ObjectKind]) -> Op
+        ensures range { InRange result }
+        ensures known { IsKnown objects.now result }
+    {
+        let _ = objects;
+        if !matches!(self.theme, Theme::Any | Theme::Decision) {
+            return Op::Time;
+        }
+        match self.roll(5) {
+            0..=1 => Op::Stamp,
+            2..=3 => Op::Since,
+            _ => Op::Time,
+        }
+    }
+
     /// An op that speaks of no object, no event group and no task.
     fn plain_op(&mut self, objects: &[ObjectKind]) -> Op
         ensures range { InRange result }
         ensures known { IsKnown objects.now result }
     {
-        match self.roll(27) {
+        match self.roll(29) {
             0..=4 => Op::Work(1 + self.roll(3)),
             5..=8 => Op::Delay(self.ticks(4)),
             9..=12 => Op::DelayUntil(self.period(4)),
             13..=15 => Op::Yield,
-            16 => Op::Time,
-            17 => Op::Mark(self.roll(10)),
-            18..=19 => self.repeat(objects, 12),
-            20 => self.block_op(objects),
-            21..=24 => Op::End,
+            16..=18 => self.clock_op(objects),
+            19 => Op::Mark(self.roll(10)),
+            20..=21 => self.repeat(objects, 12),
+            22 => self.block_op(objects),
+            23..=26 => Op::End,
             _ => Op::Expect(self.answer_condition()),
         }
     }
@@ -145,7 +161,7 @@ impl Dice {
     {
         match self.roll(16) {
             0..=6 => Op::Work(1 + self.roll(4)),
-            7 => Op::Time,
+            7 => self.clock_op(objects),
             8 => Op::Mark(self.roll(10)),
             9 => Op::GetBits(self.group()),
             10 => Op::ClearBits(self.group(), self.mask()),

@@ -7,14 +7,16 @@ use Rattle.model.specs.declared.event.End.{End}
 use Rattle.model.specs.declared.event.End.TheVariants.{Pass, Ticks, Steps, Stuck}
 use Rattle.model.specs.declared.plan.Injection.{Injection}
 use Rattle.model.specs.Application.{Application, Definition, Limits, definition_of, is_any_awaited, is_endless, without_endless}
-use Rattle.model.specs.State.{State, Task, no_task, status_at, with_task}
-use Rattle.model.specs.Time.{wake_due}
+use Rattle.model.specs.State.{State, Task, for_each, no_task, status_at, with_task}
+use Rattle.model.specs.Order.{tasks_of}
+use Rattle.model.specs.Switching.{make_ready}
+use Rattle.model.specs.Time.{due, wake_due}
 use Rattle.model.specs.Step.{is_ended, nobody_ready}
 use Rattle.model.specs.Run.{IsRun, Run, are_all_ended, end_of, state_after}
 use Rattle.model.proofs.Sorting.{by_test}
-use Rattle.soundness.proofs.Frames.{keeps-wake_due}
 use Rattle.soundness.proofs.Handled.{and_left, and_right}
-use Rattle.laws.proofs.Changes.{Stops, is_failure, kept_after}
+use Rattle.laws.specs.Looking.{is_by_misuse}
+use Rattle.laws.proofs.Changes.{Stops, is_failed_check, kept_after}
 use Rattle.laws.proofs.Sleeping.{NoneBetween}
 
 -- ---- a run is stopped by a failure alone
@@ -25,11 +27,19 @@ IsNoPass s = s.stopped ≡ Some Pass → ⊥
 no_pass-framed : (s t : State) → t.tasks ≡ s.tasks → t.next_ticket ≡ s.next_ticket → t.time ≡ s.time → Stops s.stopped t.stopped → IsNoPass s → IsNoPass t
 no_pass-framed s t e n m stops h = elim stops [
   | inl same ↦ (λ passes. h (sym same ∙ passes))
-  | inr fails ↦ (λ passes. let contrary : is_failure (Some Pass) ≡ true = subst (λ o. is_failure o ≡ true) passes fails in absurd (cc))
+  | inr fails ↦ elim fails [
+    | inl check ↦ (λ passes. let contrary : is_failed_check (Some Pass) ≡ true = subst (λ o. is_failed_check o ≡ true) passes check.1 in absurd (cc))
+    | inr misused ↦ (λ passes. let contrary : is_by_misuse (Some Pass) ≡ true = subst (λ o. is_by_misuse o ≡ true) passes misused in absurd (cc))
+  ]
 ]
 
+pub stopped-all_ready : (is : List ℕ) (s : State) → (for_each make_ready is s).stopped ≡ s.stopped
+stopped-all_ready [] s = refl
+stopped-all_ready (i ∷ is) s = stopped-all_ready is (make_ready i s)
+
 no_pass-passed : (n : ℕ) (s : State) → NoneBetween n s → IsNoPass s → IsNoPass (wake_due (record s { time = s.time + n }))
-no_pass-passed n s none h = λ passes. h (sym (keeps-wake_due (record s { time = s.time + n })).stopped ∙ passes)
+unfolding wake_due
+no_pass-passed n s none h = let t : State = record s { time = s.time + n } in λ passes. h (sym (stopped-all_ready (tasks_of (due t)) t) ∙ passes)
 
 no_pass : (app : Application) (limits : Limits) (plan : List Injection) (n : ℕ) → IsNoPass (state_after app limits plan n)
 unfolding nobody_ready

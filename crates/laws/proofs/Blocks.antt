@@ -27,7 +27,7 @@ use Rattle.laws.specs.Branches.{AllStay, AreWhole, Encloses, IsQuiet, ends_branc
 
 -- ---- where the task is behind its op
 
-at-go_to : (app : Application) (i n : ℕ) (p : Progress) (s : State) → i < length s.tasks → progress_at (go_to app i n p s) i ≡ record p { op_index = n; used = 0; call = no_call }
+pub at-go_to : (app : Application) (i n : ℕ) (p : Progress) (s : State) → i < length s.tasks → progress_at (go_to app i n p s) i ≡ record p { op_index = n; used = 0; call = no_call }
 unfolding go_to
 at-go_to app i n p s l = ap (λ (t : Task). t.progress) (get_or-set_same s.tasks i (moved_to (op_count app i) n p (task_at s i)) no_task l)
 
@@ -56,7 +56,7 @@ inner_end past n m h =
     let less : suc n - 1 ≡ n = omega arith in
     rw (not_zero n 1 (past (suc n - 1) + 1), less) (one_more (past n) m h)
 
-past_whole_branch : (blocks : List Block) (es : List Edge) (last : Edge) (behind : List Edge) → AreWhole blocks es → ends_branch last ≡ true
+pub past_whole_branch : (blocks : List Block) (es : List Edge) (last : Edge) (behind : List Edge) → AreWhole blocks es → ends_branch last ≡ true
     → past_branch (branches_in blocks) (es ++ last ∷ behind) ≡ length es + 1
 past_whole_branch [] [] OpensElse behind w e = refl
 past_whole_branch [] [] EndsIf behind w e = refl
@@ -254,7 +254,7 @@ module _ (app : Application) (i : ℕ) (s : State) (l : i < length s.tasks) wher
 
   -- ---- what they leave as it was
 
-  quiet-go_to : (n : ℕ) (p : Progress) → p.answer ≡ (progress_at s i).answer → IsQuiet i s (go_to app i n p s)
+  pub quiet-go_to : (n : ℕ) (p : Progress) → p.answer ≡ (progress_at s i).answer → IsQuiet i s (go_to app i n p s)
   unfolding go_to
   quiet-go_to n p e = record {
     time = refl;
@@ -293,7 +293,7 @@ module _ (app : Application) (i : ℕ) (s : State) (l : i < length s.tasks) wher
   quiet-act op t = absurd (cc)
 
 -- no op that may not be done while the scheduler is suspended
-fits_held : (suspended : Bool) → (if suspended && false then Some WhileSuspended else None) ≡ None
+pub fits_held : (suspended : Bool) → (if suspended && false then Some WhileSuspended else None) ≡ None
 fits_held false = refl
 fits_held true = refl
 

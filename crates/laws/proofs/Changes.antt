@@ -1,13 +1,13 @@
 -- What every deed keeps of who sleeps and who has which ticket, and so every step.
-use Rattle.std.proofs.Common.{drop, get_or-set_same, ◌-◌, ◌&&◌, length, ltb-false, ◌≡◌, ◌≢◌, ◌<◌, ◌≤◌, ◌+◌, ◌||◌, ℕ, zero, suc, true, false, eqb, leb, ltb, leb-false, inl, inr, ◌⊎◌, List, [], ◌∷◌, map, get_or, set, Option, Some, None, refl, ap, ap₂, sym, subst, ◌∙◌, arith}
+use Rattle.std.proofs.Common.{drop, get_or-set_same, ◌-◌, ◌&&◌, length, ltb-false, min, ◌≡◌, ◌≢◌, ◌<◌, ◌≤◌, ◌+◌, ◌||◌, ℕ, zero, suc, true, false, eqb, leb, ltb, leb-false, inl, inr, ◌⊎◌, List, [], ◌∷◌, map, get_or, set, Option, Some, None, refl, ap, ap₂, sym, subst, ◌∙◌, arith}
 use Rattle.std.specs.List.{AllByRecursion, filter}
 use Rattle.std.specs.Prelude.{Bool, ◌++◌, if◌then◌else◌}
-use Rattle.std.specs.Option.{IfSome, option_eq, option_map, unwrap_or, is_some}
+use Rattle.std.specs.Option.{IfSome, option_eq, option_map, option_or, unwrap_or, is_some}
 use Rattle.std.proofs.lemmas.Bool.{ltb-true}
 use Rattle.std.proofs.lemmas.List.{get_or_past}
 use Rattle.std.proofs.Math.ListN.{length-set}
 use Rattle.model.specs.declared.op.Op.{Op}
-use Rattle.model.specs.declared.op.Op.TheVariants.{Work, Delay, DelayUntil, Yield, Time, Mark, Expect, Repeat, End, If, Else, EndIf, Break, Await, Do, GiveMutex, MessagesWaiting, SpacesAvailable, SetBits, ClearBits, GetBits, WaitBits, Suspend, Resume, SuspendAll, ResumeAll, NextCommand, Obey}
+use Rattle.model.specs.declared.op.Op.TheVariants.{Work, Delay, DelayUntil, Yield, Time, Mark, Expect, Repeat, End, If, Else, EndIf, Break, Stamp, Since, Await, Do, GiveMutex, MessagesWaiting, SpacesAvailable, SetBits, ClearBits, GetBits, WaitBits, Suspend, Resume, SuspendAll, ResumeAll, NextCommand, Obey}
 use Rattle.model.specs.declared.op.Access.{Access}
 use Rattle.model.specs.declared.op.Access.TheVariants.{Send, Receive}
 use Rattle.model.specs.declared.op.Command.{Command}
@@ -20,7 +20,7 @@ use Rattle.model.specs.declared.event.What.{What}
 use Rattle.model.specs.declared.event.What.TheVariants as what
 use Rattle.model.specs.declared.event.Misuse.{Misuse}
 use Rattle.model.specs.declared.event.End.{End as Ending}
-use Rattle.model.specs.declared.event.End.TheVariants.{Check, Misuse as MisuseEnd}
+use Rattle.model.specs.declared.event.End.TheVariants.{Check, HandlerCheck}
 use Rattle.model.specs.declared.loops.Loop.{Loop}
 use Rattle.model.specs.declared.answer.AnswerCondition.{AnswerCondition}
 use Rattle.model.specs.Answers.{holds}
@@ -37,8 +37,8 @@ use Rattle.model.specs.Time.{delayed_key, delayed_list, is_due, due, wake_due, a
 use Rattle.model.specs.declared.plan.Injection.{Injection}
 use Rattle.model.specs.declared.op.IsrOp.{IsrOp}
 use Rattle.model.specs.declared.op.IsrOp.TheVariants as isr_op
-use Rattle.model.specs.Handlers.{isr_told, isr, isr_each, handle, inject, interrupt, tick_interrupt, idle, ticks_ahead}
-use Rattle.model.specs.Ops.{one_if, go_to, called, answer, use_up, delay, delay_until, expect, open_loop, next_turn, turn, close_turn, branch, skip_branch, leave_loop}
+use Rattle.model.specs.Handlers.{isr_told, isr, isr_answer, isr_jump, is_failed, isr_each, handle, inject, interrupt, tick_interrupt, idle, ticks_ahead}
+use Rattle.model.specs.Ops.{one_if, go_to, called, answer, use_up, delay, delay_until, expect, open_loop, next_turn, turn, close_turn, branch, skip_branch, leave_loop, stamp, since, fail}
 use Rattle.model.specs.declared.call.Condition.{Condition}
 use Rattle.model.specs.Groups.{is_met, met_by, keep_answer, want, wake_with_bits, bits_set, bits_after_set, set as set_in_group, begin_set, set_bits, clear, answer_bits, wait_for_bits, begin_bits_wait, check, final_bits, wait_bits}
 use Rattle.model.specs.Suspension.{can_suspend, can_resume, suspend, resumed, resume, call_suspend, call_resume, suspend_all, resume_scheduler, resume_all}
@@ -51,6 +51,7 @@ use Rattle.soundness.proofs.Settled.{when_held, when_free}
 use Rattle.soundness.proofs.Passing.{either_way, jumped}
 use Rattle.soundness.proofs.Frames.{keeps-answer, keeps-all_ready, keeps-inherit}
 use Rattle.soundness.proofs.Inheriting.{reranks-inherit}
+use Rattle.laws.specs.Looking.{is_by_misuse}
 use Rattle.laws.proofs.Sleeping.{NoneBetween, none_in_one, none_ahead}
 use Rattle.laws.proofs.Choice.{at_index, All-from_in_order}
 
@@ -110,23 +111,36 @@ begun_later i c ticks s some =
 
 -- ---- a run that is stopped
 
--- It failed: by a check, or by a misuse.
-abbrev pub is_failure : Option Ending → Bool
-is_failure (Some (Check task op_index)) = true
-is_failure (Some (MisuseEnd task op_index kind)) = true
-is_failure _ = false
+-- It failed by a check.
+abbrev pub is_failed_check : Option Ending → Bool
+is_failed_check (Some (Check task op_index)) = true
+is_failed_check (Some (HandlerCheck handler op_index)) = true
+is_failed_check _ = false
 
--- It goes on, or is stopped, as before, or it fails.
+-- It goes on, or is stopped, as before; or it went on and fails by a check; or it is a misuse.
 abbrev pub Stops : Option Ending → Option Ending → Type 0
-Stops old new = (new ≡ old) ⊎ (is_failure new ≡ true)
+Stops old new = (new ≡ old) ⊎ (((old ≡ None) × (is_failed_check new ≡ true)) ⊎ (is_by_misuse new ≡ true))
+
+-- A check that fails stops it, unless it is stopped already.
+stops-fail : (stopped : Option Ending) (check : Ending) → is_failed_check (Some check) ≡ true → Stops stopped (option_or stopped (Some check))
+stops-fail None check is = inr (inl (refl, is))
+stops-fail (Some end) check is = inl refl
+
+-- ---- what a task keeps
+
+-- its base priority, and, where it may not stamp, its stamp
+abbrev pub Remains : (stamps : Bool) → Task → Task → Type 0
+Remains stamps old new = (new.base_priority ≡ old.base_priority) × (stamps ≡ false → new.progress.stamp ≡ old.progress.stamp)
 
 -- ---- what every step keeps, if four kinds of change keep it
 
 module _ (P : State → Type 0)
+    -- which tasks may stamp
+    (stamps : ℕ → Bool)
     -- neither the clock's count of ticks, nor who runs, nor the steps and events matter; a run may be stopped
     (framed : (s t : State) → t.tasks ≡ s.tasks → t.next_ticket ≡ s.next_ticket → t.time ≡ s.time → Stops s.stopped t.stopped → P s → P t)
-    -- a task goes on, or is Suspended or Ended; its base priority stays
-    (moved : (s : State) (i : ℕ) (t : Task) → Stays (status_at s i) t.status → t.base_priority ≡ (task_at s i).base_priority → P s → P (with_task i t s))
+    -- a task goes on, or is Suspended or Ended
+    (moved : (s : State) (i : ℕ) (t : Task) → Stays (status_at s i) t.status → Remains (stamps i) (task_at s i) t → P s → P (with_task i t s))
     -- a task takes a ticket, and wakes by itself later, if it does
     (taken : (s : State) (i : ℕ) (status : ℕ → Status) → ticket_of (status s.next_ticket) ≡ Some s.next_ticket → IfSome (wake_time_of (status s.next_ticket)) (λ w. s.time < w) → P s → P (take_ticket i status s))
     -- ticks pass, one or several, before the last of which nobody wakes, and all who are due are Ready
@@ -158,24 +172,28 @@ module _ (P : State → Type 0)
   unfolding settle
   kept-settle s h = by_test (is_off s s.current) (λ t. rw t (kept-choose s h)) (λ t. rw t h)
 
-  kept-go_to : (app : Application) (i op_index : ℕ) (p : Progress) (s : State) → P s → P (go_to app i op_index p s)
+  -- where a task that may not stamp goes on, it has the stamp that it had
+  abbrev SameStamp : ℕ → Progress → State → Type 0
+  SameStamp i p s = stamps i ≡ false → p.stamp ≡ (progress_at s i).stamp
+
+  kept-go_to : (app : Application) (i op_index : ℕ) (p : Progress) (s : State) → SameStamp i p s → P s → P (go_to app i op_index p s)
   unfolding go_to
-  kept-go_to app i op_index p s h = by_test (eqb op_index (op_count app i))
-      (λ t. rw t (moved s i (record (task_at s i) { progress = record p { op_index = op_index; used = 0; call = no_call }; status = Ended }) (inr (refl, refl)) refl h))
-      (λ t. rw t (moved s i (record (task_at s i) { progress = record p { op_index = op_index; used = 0; call = no_call } }) (inl (refl, refl)) refl h))
+  kept-go_to app i op_index p s same h = by_test (eqb op_index (op_count app i))
+      (λ t. rw t (moved s i (record (task_at s i) { progress = record p { op_index = op_index; used = 0; call = no_call }; status = Ended }) (inr (refl, refl)) (refl, same) h))
+      (λ t. rw t (moved s i (record (task_at s i) { progress = record p { op_index = op_index; used = 0; call = no_call } }) (inl (refl, refl)) (refl, same) h))
 
   kept-answer : (app : Application) (i : ℕ) (a : Option ℕ) (s : State) → P s → P (answer app i a s)
   unfolding answer
   kept-answer app i a s h =
       let p : Progress = record (progress_at s i) { answer = a } in
       let t : State = write (called i p.op_index a) s in
-      kept-go_to app i (p.op_index + 1) p t (framed s t refl refl refl (inl refl) h)
+      kept-go_to app i (p.op_index + 1) p t (λ _. refl) (framed s t refl refl refl (inl refl) h)
 
   kept-use_up : (app : Application) (i n : ℕ) (s : State) → P s → P (use_up app i n s)
   unfolding use_up
   kept-use_up app i n s h = by_test (eqb ((progress_at s i).used + 1) n)
-      (λ t. rw t (kept-go_to app i ((progress_at s i).op_index + 1) (progress_at s i) s h))
-      (λ t. rw t (moved s i (record (task_at s i) { progress = record (progress_at s i) { used = (progress_at s i).used + 1 } }) (inl (refl, refl)) refl h))
+      (λ t. rw t (kept-go_to app i ((progress_at s i).op_index + 1) (progress_at s i) s (λ _. refl) h))
+      (λ t. rw t (moved s i (record (task_at s i) { progress = record (progress_at s i) { used = (progress_at s i).used + 1 } }) (inl (refl, refl)) (refl, λ _. refl) h))
 
   kept-sleep : (i w : ℕ) (s : State) → s.time < w → P s → P (sleep i w s)
   unfolding sleep
@@ -183,7 +201,7 @@ module _ (P : State → Type 0)
 
   kept-set_previous_wake : (i time : ℕ) (s : State) → P s → P (set_previous_wake i time s)
   unfolding set_previous_wake
-  kept-set_previous_wake i time s h = moved s i (record (task_at s i) { progress = record (progress_at s i) { previous_wake = time } }) (inl (refl, refl)) refl h
+  kept-set_previous_wake i time s h = moved s i (record (task_at s i) { progress = record (progress_at s i) { previous_wake = time } }) (inl (refl, refl)) (refl, λ _. refl) h
 
   kept-delay : (app : Application) (i n : ℕ) (s : State) → P s → P (delay app i n s)
   unfolding delay
@@ -204,35 +222,46 @@ module _ (P : State → Type 0)
       (λ t. let l = ltb-true s.time w t in rw t (kept-set_previous_wake i w (sleep i w one) (kept-sleep i w one (omega arith) (kept-answer app i (Some 1) s h))))
       (λ t. rw t (kept-set_previous_wake i w (answer app i (Some 0) s) (kept-answer app i (Some 0) s h)))
 
+  kept-fail : (check : Ending) (s : State) → is_failed_check (Some check) ≡ true → P s → P (fail check s)
+  kept-fail check s is h = framed s (fail check s) refl refl refl (stops-fail s.stopped check is) h
+
+  kept-stamp : (app : Application) (i : ℕ) (s : State) → stamps i ≡ true → P s → P (stamp app i s)
+  unfolding stamp
+  kept-stamp app i s may h = kept-go_to app i ((progress_at s i).op_index + 1) (record (progress_at s i) { stamp = s.time }) s (λ no. absurd (cc)) h
+
+  kept-since : (app : Application) (i : ℕ) (s : State) → P s → P (since app i s)
+  unfolding since
+  kept-since app i s h = kept-answer app i (Some (min (s.time - (progress_at s i).stamp) 4294967295)) s h
+
   kept-expect : (app : Application) (i : ℕ) (condition : AnswerCondition) (s : State) → P s → P (expect app i condition s)
   unfolding expect
   kept-expect app i condition s h = by_test (holds condition (progress_at s i).answer)
-      (λ t. rw t (kept-go_to app i ((progress_at s i).op_index + 1) (progress_at s i) s h))
-      (λ t. rw t (framed s _ refl refl refl (inr refl) h))
+      (λ t. rw t (kept-go_to app i ((progress_at s i).op_index + 1) (progress_at s i) s (λ _. refl) h))
+      (λ t. rw t (kept-fail (Check i (progress_at s i).op_index) s refl h))
 
-  kept-next_turn : (app : Application) (i : ℕ) (p : Progress) (l : Loop) (ls : List Loop) (left : Option ℕ) (s : State) → P s → P (next_turn app i p l ls left s)
-  kept-next_turn app i p l ls None s h = kept-go_to app i l.start p s h
-  kept-next_turn app i p l ls (Some left) s h = by_test (leb left 1)
-      (λ q. rw q (kept-go_to app i (p.op_index + 1) (record p { loops = ls }) s h))
-      (λ q. rw q (kept-go_to app i l.start _ s h))
+  kept-next_turn : (app : Application) (i : ℕ) (p : Progress) (l : Loop) (ls : List Loop) (left : Option ℕ) (s : State) → SameStamp i p s → P s → P (next_turn app i p l ls left s)
+  kept-next_turn app i p l ls None s same h = kept-go_to app i l.start p s same h
+  kept-next_turn app i p l ls (Some left) s same h = by_test (leb left 1)
+      (λ q. rw q (kept-go_to app i (p.op_index + 1) (record p { loops = ls }) s same h))
+      (λ q. rw q (kept-go_to app i l.start _ s same h))
 
-  kept-turn : (app : Application) (i : ℕ) (p : Progress) (ls : List Loop) (s : State) → P s → P (turn app i p ls s)
-  kept-turn app i p [] s h = kept-go_to app i (p.op_index + 1) p s h
-  kept-turn app i p (l ∷ ls) s h = kept-next_turn app i p l ls l.left s h
+  kept-turn : (app : Application) (i : ℕ) (p : Progress) (ls : List Loop) (s : State) → SameStamp i p s → P s → P (turn app i p ls s)
+  kept-turn app i p [] s same h = kept-go_to app i (p.op_index + 1) p s same h
+  kept-turn app i p (l ∷ ls) s same h = kept-next_turn app i p l ls l.left s same h
 
   kept-branch : (app : Application) (i : ℕ) (condition : AnswerCondition) (s : State) → P s → P (branch app i condition s)
   unfolding branch
   kept-branch app i condition s h =
       let p : Progress = progress_at s i in
       by_test (holds condition p.answer)
-      (λ q. rw q (kept-go_to app i (p.op_index + 1) p s h))
-      (λ q. rw q (kept-go_to app i (jump_from (script_of app i) p.op_index) p s h))
+      (λ q. rw q (kept-go_to app i (p.op_index + 1) p s (λ _. refl) h))
+      (λ q. rw q (kept-go_to app i (jump_from (script_of app i) p.op_index) p s (λ _. refl) h))
 
   kept-leave_loop : (app : Application) (i : ℕ) (s : State) → P s → P (leave_loop app i s)
   unfolding leave_loop
   kept-leave_loop app i s h =
       let p : Progress = progress_at s i in
-      kept-go_to app i (jump_from (script_of app i) p.op_index) (record p { loops = drop 1 p.loops }) s h
+      kept-go_to app i (jump_from (script_of app i) p.op_index) (record p { loops = drop 1 p.loops }) s (λ _. refl) h
 
   -- ---- calls on objects
 
@@ -250,7 +279,7 @@ module _ (P : State → Type 0)
 
   kept-wake_one : (i : ℕ) (list : WaitList) (s : State) → P s → P (wake_one i list s)
   kept-wake_one i list s h = by_test (is_locked s.locked list)
-      (λ t. rw t (moved s i (record (task_at s i) { status = awake_status (status_at s i) }) (inl (same_awake (status_at s i))) refl h))
+      (λ t. rw t (moved s i (record (task_at s i) { status = awake_status (status_at s i) }) (inl (same_awake (status_at s i))) (refl, λ _. refl) h))
       (λ t. rw t (made_ready s i h))
 
   kept-wake_best : (list : WaitList) (s : State) → P s → P (wake_best list s)
@@ -269,7 +298,7 @@ module _ (P : State → Type 0)
 
   -- a task's call goes on
   kept-with_call : (i : ℕ) (call : CallProgress) (s : State) → P s → P (with_call i call s)
-  kept-with_call i call s h = moved s i (record (task_at s i) { progress = record (progress_at s i) { call = call } }) (inl (refl, refl)) refl h
+  kept-with_call i call s h = moved s i (record (task_at s i) { progress = record (progress_at s i) { call = call } }) (inl (refl, refl)) (refl, λ _. refl) h
 
   kept-set_deadline : (i : ℕ) (ticks : Option ℕ) (s : State) → P s → P (set_deadline i ticks s)
   unfolding set_deadline
@@ -283,7 +312,7 @@ module _ (P : State → Type 0)
       let t : Task = record (task_at s i) { priority = priority } in
       by_test (eqb (task_at s i).priority priority)
       (λ e. rw e h)
-      (λ e. rw e (kept-to_back i (with_task i t s) (moved s i t (inl (refl, refl)) refl h)))
+      (λ e. rw e (kept-to_back i (with_task i t s) (moved s i t (inl (refl, refl)) (refl, λ _. refl) h)))
 
   kept-lend : (priority holder : ℕ) (s : State) → P s → P (lend priority holder s)
   kept-lend priority holder s h = by_test (ltb (task_at s holder).priority priority)
@@ -376,13 +405,13 @@ module _ (P : State → Type 0)
   kept-suspend : (i : ℕ) (s : State) → P s → P (suspend i s)
   unfolding suspend
   kept-suspend i s h = by_test (can_suspend (status_at s i))
-      (λ t. rw t (moved s i (record (task_at s i) { status = Suspended }) (inr (refl, refl)) refl h))
+      (λ t. rw t (moved s i (record (task_at s i) { status = Suspended }) (inr (refl, refl)) (refl, λ _. refl) h))
       (λ t. rw t h)
 
   kept-resume : (i : ℕ) (s : State) → P s → P (resume i s)
   unfolding resume
   kept-resume i s h = by_test (can_resume (status_at s i))
-      (λ t. rw t (made_ready _ i (moved s i (record (task_at s i) { progress = resumed s.time (progress_at s i) }) (inl (refl, refl)) refl h)))
+      (λ t. rw t (made_ready _ i (moved s i (record (task_at s i) { progress = resumed s.time (progress_at s i) }) (inl (refl, refl)) (refl, λ _. refl) h)))
       (λ t. rw t h)
 
   kept-replied : (app : Application) (i : ℕ) (a : Option ℕ) (s : State) → P s → P (preempt (answer app i a s))
@@ -458,7 +487,7 @@ module _ (P : State → Type 0)
 
   kept-received : (app : Application) (i : ℕ) (a : Option ℕ) (s : State) → P s → P (received app i a s)
   unfolding received
-  kept-received app i a s h = kept-go_to app i ((progress_at s i).op_index + 1) (record (progress_at s i) { answer = a }) s h
+  kept-received app i a s h = kept-go_to app i ((progress_at s i).op_index + 1) (record (progress_at s i) { answer = a }) s (λ _. refl) h
 
   kept-take_command : (app : Application) (i o : ℕ) (s : State) → P s → P (take_command app i o s)
   unfolding take_command
@@ -479,7 +508,7 @@ module _ (P : State → Type 0)
   unfolding obeyed
   kept-obeyed app i clear bits s h =
       let t : State = write (what.Obeyed i clear bits) s in
-      kept-go_to app i 0 (record (progress_at s i) { answer = Some bits }) t (framed s t refl refl refl (inl refl) h)
+      kept-go_to app i 0 (record (progress_at s i) { answer = Some bits }) t (λ _. refl) (framed s t refl refl refl (inl refl) h)
 
   kept-clear_by_daemon : (app : Application) (i group mask : ℕ) (s : State) → P s → P (clear_by_daemon app i group mask s)
   unfolding clear_by_daemon
@@ -515,15 +544,23 @@ module _ (P : State → Type 0)
   kept-isr app handler op_index (isr_op.Resume i) s h = kept-write (isr_told handler op_index (one_if (can_resume (status_at s i)))) (resume i s) (kept-resume i s h)
   kept-isr app handler op_index (isr_op.GetBits group) s h = kept-write (isr_told handler op_index (Some (bits_at s group))) s h
   kept-isr app handler op_index (isr_op.Mark n) s h = kept-write (what.IsrMark handler n) s h
+  kept-isr app handler op_index (isr_op.Expect condition) s h = h
+  kept-isr app handler op_index (isr_op.If condition) s h = h
+  kept-isr app handler op_index isr_op.Else s h = h
+  kept-isr app handler op_index isr_op.EndIf s h = h
 
-  kept-isr_each : (app : Application) (handler op_index : ℕ) (ops : List IsrOp) (s : State) → P s → P (isr_each app handler op_index ops s)
-  kept-isr_each app handler op_index [] s h = h
-  kept-isr_each app handler op_index (op ∷ ops) s h =
-      kept-isr_each app handler (op_index + 1) ops (isr app handler op_index op s) (kept-isr app handler op_index op s h)
+  kept-isr_each : (app : Application) (handler op_index over : ℕ) (answer : Option ℕ) (ops : List IsrOp) (s : State) → P s → P (isr_each app handler op_index over answer ops s)
+  kept-isr_each app handler op_index over answer [] s h = h
+  kept-isr_each app handler op_index (suc over) answer (op ∷ ops) s h = kept-isr_each app handler (op_index + 1) over answer ops s h
+  kept-isr_each app handler op_index zero answer (op ∷ ops) s h =
+      let t : State = isr app handler op_index op s in
+      by_test (is_failed op answer)
+      (λ f. rw f (kept-fail (HandlerCheck handler op_index) s refl h))
+      (λ f. rw f (kept-isr_each app handler (op_index + 1) (isr_jump op answer ops) (isr_answer app s op answer) ops t (kept-isr app handler op_index op s h)))
 
   kept-handle : (app : Application) (handler : ℕ) (s : State) → P s → P (handle app handler s)
   unfolding handle
-  kept-handle app handler s h = kept-isr_each app handler 0 (ops_of app handler) s h
+  kept-handle app handler s h = kept-isr_each app handler 0 0 None (ops_of app handler) s h
 
   kept-each : {A : Type 0} (deed : A → State → State) (k : (a : A) (s : State) → P s → P (deed a s)) (ones : List A) (s : State) → P s → P (for_each deed ones s)
   kept-each deed k [] s h = h
@@ -593,72 +630,93 @@ module _ (P : State → Type 0)
   kept-judge : (i op_index : ℕ) (s : State) → P s → P (judge i op_index s)
   unfolding judge
   kept-judge i op_index s h = by_test (is_scheduler_suspended s && is_ended (status_at s i))
-      (λ t. rw t (framed s _ refl refl refl (inr refl) h))
+      (λ t. rw t (framed s _ refl refl refl (inr (inr refl)) h))
       (λ t. rw t h)
 
   -- ---- a step, and a run
 
-  kept-act : (app : Application) (i : ℕ) (op : Op) (s : State) → P s → P (act app i op s)
+  -- who may not stamp does no `stamp`
+  abbrev MayStamp : ℕ → Option Op → Type 0
+  MayStamp i op = op ≡ Some Stamp → stamps i ≡ true
+
+  kept-act : (app : Application) (i : ℕ) (op : Op) (s : State) → MayStamp i (Some op) → P s → P (act app i op s)
   unfolding open_loop close_turn skip_branch clear call_suspend call_resume suspend_all resume_all
-  kept-act app i (Work n) s h = kept-tick app (use_up app i n s) (kept-use_up app i n s h)
-  kept-act app i (Delay n) s h = kept-delay app i n s h
-  kept-act app i (DelayUntil n) s h = kept-delay_until app i ((progress_at s i).previous_wake + n) s h
-  kept-act app i Yield s h = kept-yield_now (answer app i (Some 0) s) (kept-answer app i (Some 0) s h)
-  kept-act app i Time s h = kept-answer app i (Some (printed s.time)) s h
-  kept-act app i (Mark n) s h =
+  kept-act app i (Work n) s may h = kept-tick app (use_up app i n s) (kept-use_up app i n s h)
+  kept-act app i (Delay n) s may h = kept-delay app i n s h
+  kept-act app i (DelayUntil n) s may h = kept-delay_until app i ((progress_at s i).previous_wake + n) s h
+  kept-act app i Yield s may h = kept-yield_now (answer app i (Some 0) s) (kept-answer app i (Some 0) s h)
+  kept-act app i Time s may h = kept-answer app i (Some (printed s.time)) s h
+  kept-act app i (Mark n) s may h =
       let t : State = write (what.Mark i n) s in
-      kept-go_to app i ((progress_at s i).op_index + 1) (progress_at s i) t (framed s t refl refl refl (inl refl) h)
-  kept-act app i (Expect condition) s h = kept-expect app i condition s h
-  kept-act app i (Repeat n) s h = kept-go_to app i ((progress_at s i).op_index + 1) _ s h
-  kept-act app i End s h = kept-turn app i (progress_at s i) (progress_at s i).loops s h
-  kept-act app i (If condition) s h = kept-branch app i condition s h
-  kept-act app i Else s h = kept-go_to app i (jump_from (script_of app i) (progress_at s i).op_index) (progress_at s i) s h
-  kept-act app i EndIf s h = kept-go_to app i ((progress_at s i).op_index + 1) (progress_at s i) s h
-  kept-act app i Break s h = kept-leave_loop app i s h
-  kept-act app i (Await o a ticks) s h = kept-await app i o a ticks (call_at s i).phase s h
-  kept-act app i (Do o a) s h = kept-do_now app i o a s h
-  kept-act app i (GiveMutex o) s h = kept-give_mutex app i o s h
-  kept-act app i (MessagesWaiting o) s h = kept-answer app i _ s h
-  kept-act app i (SpacesAvailable o) s h = kept-answer app i _ s h
-  kept-act app i (SetBits g m) s h = kept-set_bits app i g m (call_at s i).phase s h
-  kept-act app i (ClearBits g m) s h = kept-answer app i _ _ (kept-with_bits g _ s h)
-  kept-act app i (GetBits g) s h = kept-answer app i _ s h
-  kept-act app i (WaitBits g c ticks) s h = kept-wait_bits app i g c ticks (call_at s i).phase s h
-  kept-act app i (Suspend j) s h = kept-replied app i _ (suspend j s) (kept-suspend j s h)
-  kept-act app i (Resume j) s h = kept-replied app i _ (resume j s) (kept-resume j s h)
-  kept-act app i (NextCommand o) s h = kept-next_command app i o (call_at s i).phase s h
-  kept-act app i Obey s h = kept-obey app i (command_at s i) (call_at s i).phase s h
-  kept-act app i SuspendAll s h = let t : State = record s { suspensions = s.suspensions + 1 } in kept-answer app i (Some 0) t (framed s t refl refl refl (inl refl) h)
-  kept-act app i ResumeAll s h = kept-unless_held preempt kept-preempt _ (kept-answer app i (Some 0) (resume_scheduler s) (kept-resume_scheduler s h))
+      kept-go_to app i ((progress_at s i).op_index + 1) (progress_at s i) t (λ _. refl) (framed s t refl refl refl (inl refl) h)
+  kept-act app i (Expect condition) s may h = kept-expect app i condition s h
+  kept-act app i (Repeat n) s may h = kept-go_to app i ((progress_at s i).op_index + 1) _ s (λ _. refl) h
+  kept-act app i End s may h = kept-turn app i (progress_at s i) (progress_at s i).loops s (λ _. refl) h
+  kept-act app i (If condition) s may h = kept-branch app i condition s h
+  kept-act app i Else s may h = kept-go_to app i (jump_from (script_of app i) (progress_at s i).op_index) (progress_at s i) s (λ _. refl) h
+  kept-act app i EndIf s may h = kept-go_to app i ((progress_at s i).op_index + 1) (progress_at s i) s (λ _. refl) h
+  kept-act app i Break s may h = kept-leave_loop app i s h
+  kept-act app i Stamp s may h = kept-stamp app i s (may refl) h
+  kept-act app i Since s may h = kept-since app i s h
+  kept-act app i (Await o a ticks) s may h = kept-await app i o a ticks (call_at s i).phase s h
+  kept-act app i (Do o a) s may h = kept-do_now app i o a s h
+  kept-act app i (GiveMutex o) s may h = kept-give_mutex app i o s h
+  kept-act app i (MessagesWaiting o) s may h = kept-answer app i _ s h
+  kept-act app i (SpacesAvailable o) s may h = kept-answer app i _ s h
+  kept-act app i (SetBits g m) s may h = kept-set_bits app i g m (call_at s i).phase s h
+  kept-act app i (ClearBits g m) s may h = kept-answer app i _ _ (kept-with_bits g _ s h)
+  kept-act app i (GetBits g) s may h = kept-answer app i _ s h
+  kept-act app i (WaitBits g c ticks) s may h = kept-wait_bits app i g c ticks (call_at s i).phase s h
+  kept-act app i (Suspend j) s may h = kept-replied app i _ (suspend j s) (kept-suspend j s h)
+  kept-act app i (Resume j) s may h = kept-replied app i _ (resume j s) (kept-resume j s h)
+  kept-act app i (NextCommand o) s may h = kept-next_command app i o (call_at s i).phase s h
+  kept-act app i Obey s may h = kept-obey app i (command_at s i) (call_at s i).phase s h
+  kept-act app i SuspendAll s may h = let t : State = record s { suspensions = s.suspensions + 1 } in kept-answer app i (Some 0) t (framed s t refl refl refl (inl refl) h)
+  kept-act app i ResumeAll s may h = kept-unless_held preempt kept-preempt _ (kept-answer app i (Some 0) (resume_scheduler s) (kept-resume_scheduler s h))
 
-  kept-act_unless : (app : Application) (i : ℕ) (kind : Option Misuse) (op : Op) (s : State) → P s → P (act_unless app i kind op s)
-  kept-act_unless app i None op s h = kept-judge i (progress_at s i).op_index (act app i op s) (kept-act app i op s h)
-  kept-act_unless app i (Some kind) op s h = framed s (act_unless app i (Some kind) op s) refl refl refl (inr refl) h
+  kept-act_unless : (app : Application) (i : ℕ) (kind : Option Misuse) (op : Op) (s : State) → MayStamp i (Some op) → P s → P (act_unless app i kind op s)
+  kept-act_unless app i None op s may h = kept-judge i (progress_at s i).op_index (act app i op s) (kept-act app i op s may h)
+  kept-act_unless app i (Some kind) op s may h = framed s (act_unless app i (Some kind) op s) refl refl refl (inr (inr refl)) h
 
-  kept-act_if : (app : Application) (i : ℕ) (o : Option Op) (s : State) → P s → P (act_if app i o s)
-  kept-act_if app i None s h = h
-  kept-act_if app i (Some op) s h = kept-act_unless app i (misuse s i op) op s h
+  kept-act_if : (app : Application) (i : ℕ) (o : Option Op) (s : State) → MayStamp i o → P s → P (act_if app i o s)
+  kept-act_if app i None s may h = h
+  kept-act_if app i (Some op) s may h = kept-act_unless app i (misuse s i op) op s may h
 
-  kept-act_current : (app : Application) (limits : Limits) (r : Option ℕ) (s : State) → P s → P (act_current app limits r s)
-  kept-act_current app limits None s h = kept-idle app limits s h
-  kept-act_current app limits (Some i) s h = kept-act_if app i (op_at app i (progress_at s i).op_index) s h
+  -- the same of the running task, if there is one
+  abbrev pub RunsAndMayStamp : Application → Option ℕ → State → Type 0
+  RunsAndMayStamp app running s = (i : ℕ) → running ≡ Some i → MayStamp i (op_at app i (progress_at s i).op_index)
 
-  kept-step : (app : Application) (limits : Limits) (handlers : List ℕ) (s : State) → P s → P (step app limits handlers s)
+  pub kept-act_current : (app : Application) (limits : Limits) (r : Option ℕ) (s : State) → RunsAndMayStamp app r s → P s → P (act_current app limits r s)
+  kept-act_current app limits None s may h = kept-idle app limits s h
+  kept-act_current app limits (Some i) s may h = kept-act_if app i (op_at app i (progress_at s i).op_index) s (may i refl) h
+
+  pub kept-step : (app : Application) (limits : Limits) (handlers : List ℕ) (s : State) → RunsAndMayStamp app (before_step app handlers s).current (before_step app handlers s) → P s → P (step app limits handlers s)
   unfolding step
-  kept-step app limits handlers s h =
+  kept-step app limits handlers s may h =
       let begun : State = before_step app handlers s in
       let acted : State = unless_held settle (act_current app limits begun.current begun) in
-      framed acted (record acted { steps = s.steps + 1 }) refl refl refl (inl refl) (kept-unless_held settle kept-settle (act_current app limits begun.current begun) (kept-act_current app limits begun.current begun (kept-before_step app handlers s h)))
+      framed acted (record acted { steps = s.steps + 1 }) refl refl refl (inl refl) (kept-unless_held settle kept-settle (act_current app limits begun.current begun) (kept-act_current app limits begun.current begun may (kept-before_step app handlers s h)))
 
-  kept-reset : (app : Application) → P (nobody_ready app) → P (reset app)
+  pub kept-reset : (app : Application) → P (nobody_ready app) → P (reset app)
   unfolding reset ready_at_reset
   kept-reset app h =
       let s : State = for_each make_ready (with_ops 0 app.tasks) (nobody_ready app) in
       framed s (record s { current = choice s }) refl refl refl (inl refl) (kept-all_ready (with_ops 0 app.tasks) (nobody_ready app) h)
 
+-- any task may stamp
+abbrev pub anyone : ℕ → Bool
+anyone i = true
+
+-- what every state of a run has, if four kinds of change keep it
+module _ (P : State → Type 0)
+    (framed : (s t : State) → t.tasks ≡ s.tasks → t.next_ticket ≡ s.next_ticket → t.time ≡ s.time → Stops s.stopped t.stopped → P s → P t)
+    (moved : (s : State) (i : ℕ) (t : Task) → Stays (status_at s i) t.status → Remains true (task_at s i) t → P s → P (with_task i t s))
+    (taken : (s : State) (i : ℕ) (status : ℕ → Status) → ticket_of (status s.next_ticket) ≡ Some s.next_ticket → IfSome (wake_time_of (status s.next_ticket)) (λ w. s.time < w) → P s → P (take_ticket i status s))
+    (passed : (n : ℕ) (s : State) → NoneBetween n s → P s → P (wake_due (record s { time = s.time + n }))) where
   pub kept_after : (app : Application) → P (nobody_ready app) → (limits : Limits) (plan : List Injection) (n : ℕ) → P (state_after app limits plan n)
-  kept_after app h limits plan zero = kept-reset app h
-  kept_after app h limits plan (suc n) = kept-step app limits (injected plan n) (state_after app limits plan n) (kept_after app h limits plan n)
+  kept_after app h limits plan zero = kept-reset P anyone framed moved taken passed app h
+  kept_after app h limits plan (suc n) =
+      kept-step P anyone framed moved taken passed app limits (injected plan n) (state_after app limits plan n) (λ i runs is. refl) (kept_after app h limits plan n)
 
 -- ---- a change of one task
 
@@ -694,8 +752,8 @@ later-set s i t now l h j = elim (one_task s.tasks i t j) [
   | inr e ↦ subst (Later now) (sym (status_same (get_or (set s.tasks i t) j no_task) (get_or s.tasks j no_task) e)) (h j)
 ]
 
-later-moved : (s : State) (i : ℕ) (t : Task) → Stays (status_at s i) t.status → t.base_priority ≡ (task_at s i).base_priority → WakeLater s → WakeLater (with_task i t s)
-later-moved s i t u base h =
+later-moved : (s : State) (i : ℕ) (t : Task) → Stays (status_at s i) t.status → Remains true (task_at s i) t → WakeLater s → WakeLater (with_task i t s)
+later-moved s i t u remains h =
     let W : Option ℕ → Type 0 = λ o. IfSome o (λ w. s.time < w) in
     later-set s i t s.time (elim u [ inl e ↦ subst W (sym e.1) (h i) | inr e ↦ subst W (sym e.1) tt ]) h
 

@@ -1,7 +1,7 @@
 -- The ends of a campaign's totals add up to its rows.
 use Rattle.std.proofs.Common.{◌≡◌, ◌≤◌, ◌+◌, suc, List, [], ◌∷◌, cond, length, refl, arith, ◌∙◌}
 use Rattle.model.specs.declared.event.End.{End}
-use Rattle.model.specs.declared.event.End.TheVariants.{Pass, Check, Misuse, Ticks, Steps, Stuck}
+use Rattle.model.specs.declared.event.End.TheVariants.{Pass, Check, HandlerCheck, Misuse, Ticks, Steps, Stuck}
 use Rattle.model.specs.declared.totals.Totals.{Totals}
 use Rattle.model.specs.Campaign.{Row, ended, totals_of, is_pass, is_check, is_misuse, is_ticks, is_steps, is_stuck_end}
 use Rattle.model.proofs.Counting.{passed_few}
@@ -13,6 +13,7 @@ one_end : (end : End) (row : Row) (a b c d e f : List Row)
     ≡ suc (length a + length b + length c + length d + length e + length f)
 one_end Pass row a b c d e f = omega arith
 one_end (Check task op_index) row a b c d e f = omega arith
+one_end (HandlerCheck handler op_index) row a b c d e f = omega arith
 one_end (Misuse task op_index kind) row a b c d e f = omega arith
 one_end Ticks row a b c d e f = omega arith
 one_end Steps row a b c d e f = omega arith

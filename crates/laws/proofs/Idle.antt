@@ -4,7 +4,7 @@ use Rattle.std.specs.List.{AllByRecursion, list_any}
 use Rattle.std.specs.Option.{option_eq}
 use Rattle.std.proofs.lemmas.Bool.{le-ltb}
 use Rattle.model.specs.declared.op.Op.{Op}
-use Rattle.model.specs.declared.op.Op.TheVariants.{Work, Delay, DelayUntil, Yield, Time, Mark, Expect, Repeat, End, If, Else, EndIf, Break, Await, Do, GiveMutex, MessagesWaiting, SpacesAvailable, SetBits, ClearBits, GetBits, WaitBits, Suspend, Resume, SuspendAll, ResumeAll, NextCommand, Obey}
+use Rattle.model.specs.declared.op.Op.TheVariants.{Work, Delay, DelayUntil, Yield, Time, Mark, Expect, Repeat, End, If, Else, EndIf, Break, Stamp, Since, Await, Do, GiveMutex, MessagesWaiting, SpacesAvailable, SetBits, ClearBits, GetBits, WaitBits, Suspend, Resume, SuspendAll, ResumeAll, NextCommand, Obey}
 use Rattle.model.specs.declared.op.Access.{Access}
 use Rattle.model.specs.declared.op.Access.TheVariants.{Receive}
 use Rattle.model.specs.declared.op.Command.{Command}
@@ -26,7 +26,7 @@ use Rattle.model.specs.Calls.{try, lock, decide, leave_call, await, do_now}
 use Rattle.model.specs.declared.plan.Injection.{Injection}
 use Rattle.model.specs.Handlers.{handle, interrupt, tick_interrupt, idle, ticks_ahead}
 use Rattle.model.specs.Time.{advance, due, increment_tick, jump, sleep, set_previous_wake, wake_due}
-use Rattle.model.specs.Ops.{go_to, answer, use_up, delay, delay_until, expect, open_loop, next_turn, turn, close_turn, branch, skip_branch, leave_loop}
+use Rattle.model.specs.Ops.{go_to, answer, use_up, delay, delay_until, expect, open_loop, next_turn, turn, close_turn, branch, skip_branch, leave_loop, stamp, since}
 use Rattle.model.specs.Groups.{is_met, begin_set, set_bits, clear, answer_bits, wait_for_bits, begin_bits_wait, check, final_bits, wait_bits}
 use Rattle.model.specs.Suspension.{call_suspend, call_resume, suspend_all, resume_scheduler, resume_all}
 use Rattle.model.specs.Daemon.{take_command, next_command, obeyed, clear_by_daemon, obey, command_at}
@@ -312,7 +312,7 @@ unfolding judge
 idle-judge i op_index s h = by_test (is_scheduler_suspended s && is_ended (status_at s i)) (λ t. rw t h) (λ t. rw t h)
 
 idle-act : (app : Application) (i : ℕ) (op : Op) (s : State) → s.current ≡ Some i → IdleAlone (act app i op s)
-unfolding answer go_to open_loop close_turn skip_branch leave_loop clear call_suspend call_resume suspend_all
+unfolding answer go_to open_loop close_turn skip_branch leave_loop stamp since clear call_suspend call_resume suspend_all
 idle-act app i (Work n) s r = idle-work app i (use_up app i n s) (current-use_up app i n s ∙ r)
 idle-act app i (Delay n) s r = idle-delay app i n s r
 idle-act app i (DelayUntil n) s r = still_runs i s (delay_until app i ((progress_at s i).previous_wake + n) s) r (current-delay_until app i ((progress_at s i).previous_wake + n) s)
@@ -326,6 +326,8 @@ idle-act app i (If condition) s r = still_runs i s (branch app i condition s) r 
 idle-act app i Else s r = still_runs i s (skip_branch app i s) r refl
 idle-act app i EndIf s r = still_runs i s (act app i EndIf s) r refl
 idle-act app i Break s r = still_runs i s (leave_loop app i s) r refl
+idle-act app i Stamp s r = still_runs i s (stamp app i s) r refl
+idle-act app i Since s r = still_runs i s (since app i s) r refl
 idle-act app i (Await o a ticks) s r = idle-await app i o a ticks (call_at s i).phase s r
 idle-act app i (Do o a) s r = idle-do_now app i o a s
 idle-act app i (GiveMutex o) s r = idle-give_mutex app i o s

@@ -11,3 +11,5 @@ pub mod Priorities
 pub mod Ends
 pub mod Blocks
 pub mod Awaited
+pub mod Handling
+pub mod Measuring

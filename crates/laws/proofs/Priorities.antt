@@ -1,5 +1,5 @@
 -- A task's base priority is the one that the file gives it, and its priority is not below that.
-use Rattle.std.proofs.Common.{◌≡◌, ◌≤◌, ◌+◌, ℕ, zero, suc, List, [], ◌∷◌, map, get_or, Option, Some, None, refl, ap, ◌∙◌}
+use Rattle.std.proofs.Common.{◌≡◌, ◌≤◌, ◌+◌, ℕ, zero, suc, true, List, [], ◌∷◌, map, get_or, Option, Some, None, refl, ap, ◌∙◌}
 use Rattle.std.specs.Prelude.{slice_get}
 use Rattle.std.specs.Option.{IfSome}
 use Rattle.model.specs.declared.plan.Injection.{Injection}
@@ -14,7 +14,7 @@ use Rattle.model.specs.Run.{state_after}
 use Rattle.model.proofs.Tables.{each-set}
 use Rattle.soundness.proofs.Reached.{reached_after}
 use Rattle.laws.proofs.Sleeping.{NoneBetween}
-use Rattle.laws.proofs.Changes.{Stays, Stops, kept_after}
+use Rattle.laws.proofs.Changes.{Remains, Stays, Stops, kept_after}
 
 -- ---- base priorities are those at reset
 
@@ -28,8 +28,8 @@ module _ (app : Application) where
   base-framed : (s t : State) → t.tasks ≡ s.tasks → t.next_ticket ≡ s.next_ticket → t.time ≡ s.time → Stops s.stopped t.stopped → AreAtReset s → AreAtReset t
   base-framed s t e n m stops h = λ i. ap (λ (ts : List Task). (get_or ts i no_task).base_priority) e ∙ h i
 
-  base-moved : (s : State) (i : ℕ) (t : Task) → Stays (status_at s i) t.status → t.base_priority ≡ (task_at s i).base_priority → AreAtReset s → AreAtReset (with_task i t s)
-  base-moved s i t u base h = each-set no_task (λ j v. v.base_priority ≡ base_at_reset j) s.tasks i t (base ∙ h i) h
+  base-moved : (s : State) (i : ℕ) (t : Task) → Stays (status_at s i) t.status → Remains true (task_at s i) t → AreAtReset s → AreAtReset (with_task i t s)
+  base-moved s i t u remains h = each-set no_task (λ j v. v.base_priority ≡ base_at_reset j) s.tasks i t (remains.0 ∙ h i) h
 
   base-taken : (s : State) (i : ℕ) (f : ℕ → Status) → AreAtReset s → AreAtReset (take_ticket i f s)
   base-taken s i f h = each-set no_task (λ j v. v.base_priority ≡ base_at_reset j) s.tasks i (record (task_at s i) { status = f s.next_ticket }) (h i) h

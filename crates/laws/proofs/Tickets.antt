@@ -1,5 +1,5 @@
 -- Two tasks have two tickets.
-use Rattle.std.proofs.Common.{◌≡◌, ◌<◌, ◌≤◌, ◌+◌, ℕ, inl, inr, ◌⊎◌, List, [], ◌∷◌, map, get_or, set, Option, Some, None, refl, ap, sym, subst, ◌∙◌, arith}
+use Rattle.std.proofs.Common.{◌≡◌, ◌<◌, ◌≤◌, ◌+◌, ℕ, true, inl, inr, ◌⊎◌, List, [], ◌∷◌, map, get_or, set, Option, Some, None, refl, ap, sym, subst, ◌∙◌, arith}
 use Rattle.std.specs.Option.{IfSome}
 use Rattle.model.specs.declared.plan.Injection.{Injection}
 use Rattle.model.specs.Application.{Application, Limits}
@@ -10,7 +10,7 @@ use Rattle.model.specs.Time.{due, wake_due}
 use Rattle.model.specs.Step.{nobody_ready, task_at_reset}
 use Rattle.model.specs.Run.{state_after}
 use Rattle.laws.proofs.Sleeping.{NoneBetween}
-use Rattle.laws.proofs.Changes.{Stays, Stops, kept_after, one_task, status_same, ended_at_reset}
+use Rattle.laws.proofs.Changes.{Remains, Stays, Stops, kept_after, one_task, status_same, ended_at_reset}
 
 abbrev Below : ℕ → Status → Type 0
 Below next u = IfSome (ticket_of u) (λ ticket. ticket < next)
@@ -71,9 +71,9 @@ module _ (s : State) (k : ℕ) (t : Task) (h : TicketsApart s) where
     | inr e ↦ subst (Below next) (sym (status_same _ _ e)) (g i)
   ]
 
-apart-moved : (s : State) (i : ℕ) (t : Task) → Stays (status_at s i) t.status → t.base_priority ≡ (task_at s i).base_priority → TicketsApart s → TicketsApart (with_task i t s)
+apart-moved : (s : State) (i : ℕ) (t : Task) → Stays (status_at s i) t.status → Remains true (task_at s i) t → TicketsApart s → TicketsApart (with_task i t s)
 unfolding new_at
-apart-moved s i t u base h =
+apart-moved s i t u remains h =
     let B : Option ℕ → Type 0 = λ o. IfSome o (λ ticket. ticket < s.next_ticket) in
     record {
       below = below-set s i t h s.next_ticket (elim u [ inl e ↦ subst B (sym e.0) (h.below i) | inr e ↦ subst B (sym e.0) tt ]) h.below;

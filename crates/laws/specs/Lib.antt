@@ -6,5 +6,8 @@ pub mod EndlessExamples
 pub mod Examples
 pub mod HandlerExamples
 pub mod HoldExamples
+pub mod Looking
+pub mod LookingExamples
 pub mod MutexExamples
+pub mod StampExamples
 pub mod TicklessExamples

@@ -8,6 +8,8 @@ ghost use Rattle.laws.specs.DaemonExamples.{daemon_examples, daemon_rows};
 ghost use Rattle.laws.specs.TicklessExamples.{tickless_examples};
 ghost use Rattle.laws.specs.BranchExamples.{branch_examples};
 ghost use Rattle.laws.specs.EndlessExamples.{endless_examples};
+ghost use Rattle.laws.specs.LookingExamples.{looking_examples};
+ghost use Rattle.laws.specs.StampExamples.{stamp_examples};
 
 /// Each application of the table of worked examples runs as the table says: round robin, `delay 0` that yields, `delay 1`
 /// that sleeps, sleepers of one time past the wrap of the tick; a receive that times out, a peek that passes a wake on, a send
@@ -76,4 +78,17 @@ pub fn examples_with_branches_run()
 /// fails by what that task finds, is stuck where the other can't end, and, with endless tasks alone, never passes.
 pub fn examples_with_endless_tasks_run()
     ensures { AllByRecursion RunsWith endless_examples }
+{}
+
+/// Each application of the table of examples with handlers that look runs as the table says: one that expects room, before each step of
+/// a run in which it finds none once; one whose last answer is `none` at first; one that fails twice before a step, and one before a
+/// step that is a misuse; one that makes room where there is none; branches in branches.
+pub fn examples_with_handlers_that_look_run()
+    ensures { AllByRecursion RunsWith looking_examples }
+{}
+
+/// Each application of the table of examples with stamps runs as the table says: a task that measures time since reset, past the wrap of
+/// the tick, and while the scheduler is held; one that measures as much as an answer can be; one that misses its deadline.
+pub fn examples_with_stamps_run()
+    ensures { AllByRecursion RunsWith stamp_examples }
 {}

@@ -6,7 +6,9 @@ mod branches;
 mod campaigns;
 mod endless;
 mod examples;
+mod looking;
 mod runs;
+mod stamps;
 mod states;
 
 pub use branches::{
@@ -18,10 +20,16 @@ pub use endless::{
 };
 pub use examples::{
     examples_run, examples_with_a_daemon_run, examples_with_branches_run,
-    examples_with_endless_tasks_run, examples_with_handlers_run, examples_with_holds_run,
-    examples_with_mutexes_run, rows_of_one_receive, rows_of_two_injections, tickless_examples_run,
+    examples_with_endless_tasks_run, examples_with_handlers_run,
+    examples_with_handlers_that_look_run, examples_with_holds_run, examples_with_mutexes_run,
+    examples_with_stamps_run, rows_of_one_receive, rows_of_two_injections, tickless_examples_run,
+};
+pub use looking::{
+    failed_checks_end_the_handler, first_failed_check_counts, handlers_do_one_branch,
+    passed_checks_change_nothing,
 };
 pub use runs::{late_points_do_nothing, row_is_one, run_is_one};
+pub use stamps::{stamps_measure_time, stamps_stay, stamps_take_no_time};
 pub use states::{
     choice_in_words, idle_runs_alone, idle_sleeps_past_nothing,
     idle_sleeps_until_something_happens, no_one_outranks_after_a_tick, no_switch_while_held,

@@ -4,7 +4,7 @@ use super::{SlowKernel, Task, count_if};
 use model::{AnswerCondition, App, End, Loop, Op, Script, TaskId};
 
 /// Whether a condition holds of an answer.
-fn is_so(condition: AnswerCondition, answer: Option<u32>) -> bool {
+pub(super) fn is_so(condition: AnswerCondition, answer: Option<u32>) -> bool {
     match condition {
         AnswerCondition::Is(wanted) => answer == wanted,
         AnswerCondition::IsNot(other) => answer != other,
@@ -74,7 +74,7 @@ impl SlowKernel {
         if is_so(condition, task.answer) {
             self.complete(app, id, task);
         } else {
-            self.stopped = Some(End::Check(id, task.op_index));
+            self.fail(End::Check(id, task.op_index));
         }
     }
 

@@ -1,7 +1,23 @@
 //! Interrupt handlers: their ops, and how they come.
 
+use super::blocks::is_so;
 use super::{SlowKernel, count_if};
-use model::{Access, App, HandlerId, IsrOp, What};
+use model::{Access, AnswerCondition, App, End, HandlerDefinition, HandlerId, IsrOp, What};
+
+/// Where a handler goes on that leaves the branch whose first op is this one: behind its `else` or its `end`. Those that open on the
+/// way are passed whole.
+fn behind_branch(ops: &[IsrOp], first: u16) -> u16 {
+    let mut opened = 0_u16;
+    for index in first..HandlerDefinition::MOST_OPS as u16 {
+        match ops.get(index as usize) {
+            Some(IsrOp::If(_)) => opened = opened.wrapping_add(1),
+            Some(IsrOp::Else | IsrOp::EndIf) if opened == 0 => return index.wrapping_add(1),
+            Some(IsrOp::EndIf) => opened = opened.wrapping_sub(1),
+            _ => {}
+        }
+    }
+    first
+}
 
 impl SlowKernel {
     /// A call of a handler is tried once, and never waits.
@@ -13,10 +29,21 @@ impl SlowKernel {
         answer
     }
 
-    /// An op of a handler, which tells its answer.
-    fn isr(&mut self, app: &App, handler: HandlerId, op_index: u16, op: &IsrOp) {
+    /// An op of a handler, which tells its answer, if it has one. That is the handler's last answer then, and else the one before.
+    fn isr(
+        &mut self,
+        app: &App,
+        handler: HandlerId,
+        op_index: u16,
+        op: &IsrOp,
+        last: Option<u32>,
+    ) -> Option<u32> {
         let answer = match *op {
-            IsrOp::Mark(number) => return self.write(What::IsrMark(handler, number)),
+            IsrOp::Mark(number) => {
+                self.write(What::IsrMark(handler, number));
+                return last;
+            }
+            IsrOp::Expect(_) | IsrOp::If(_) | IsrOp::Else | IsrOp::EndIf => return last,
             IsrOp::Do(object, access) => self.attempt_isr(object.number, access),
             IsrOp::Command(command) => self.send_command(app, command),
             IsrOp::Resume(task) => Some(self.resume(task) as u32),
@@ -26,17 +53,57 @@ impl SlowKernel {
             Some(answer) => What::Isr(handler, op_index, answer),
             None => What::IsrNone(handler, op_index),
         });
+        answer
     }
 
-    /// The handler does its ops one after another, and nothing switches.
+    /// Whether an op is an `expect` that fails.
+    fn is_failing(&mut self, op: &IsrOp, last: Option<u32>) -> bool {
+        let IsrOp::Expect(condition) = *op else {
+            return false;
+        };
+        let is_passed = is_so(condition, last);
+        count_if(&mut self.tally.passed_checks, is_passed);
+        count_if(&mut self.tally.failed_checks, !is_passed);
+        !is_passed
+    }
+
+    /// Whether the first branch of an `if` is done.
+    fn is_taken(&mut self, condition: AnswerCondition, last: Option<u32>) -> bool {
+        let is_taken = is_so(condition, last);
+        count_if(&mut self.tally.taken_by_handlers, is_taken);
+        count_if(&mut self.tally.skipped_by_handlers, !is_taken);
+        is_taken
+    }
+
+    /// The index of the op that is next behind that of this index.
+    fn next_op(&mut self, ops: &[IsrOp], op_index: u16, op: &IsrOp, last: Option<u32>) -> u16 {
+        let behind = op_index.wrapping_add(1);
+        match *op {
+            IsrOp::If(condition) if self.is_taken(condition, last) => behind,
+            IsrOp::If(_) | IsrOp::Else => behind_branch(ops, behind),
+            _ => behind,
+        }
+    }
+
+    /// The handler does its ops one after another, and nothing switches. What is behind an `expect` that fails isn't done.
     fn handle(&mut self, app: &App, handler: HandlerId) {
         let Some(definition) = app.handlers().get(handler.number as usize) else {
             return;
         };
-        let mut op_index: u16 = 0;
-        for op in definition.ops() {
-            self.isr(app, handler, op_index, op);
-            op_index = op_index.wrapping_add(1);
+        let ops = definition.ops();
+        let mut op_index = 0;
+        let mut answer = None;
+        for _ in 0..ops.len() {
+            let Some(op) = ops.get(op_index as usize) else {
+                return;
+            };
+            if self.is_failing(op, answer) {
+                self.fail(End::HandlerCheck(handler, op_index));
+                return;
+            }
+            let next = self.next_op(ops, op_index, op, answer);
+            answer = self.isr(app, handler, op_index, op, answer);
+            op_index = next;
         }
     }
 

@@ -71,6 +71,7 @@ struct Task {
     nesting: usize,
     answer: Option<u32>,
     previous_wake: u64,
+    stamp: u64,
     call: Call,
     status: Status,
 }
@@ -147,6 +148,18 @@ pub struct Tally {
     pub turns_for_ever: u32,
     /// A script came to its end by an `if`, an `else` or a `break`.
     pub ending_jumps: u32,
+    /// The condition of a handler's `expect` held; it didn't.
+    pub passed_checks: u32,
+    pub failed_checks: u32,
+    /// A check failed, of a handler or of a task, in a step in which one had failed before.
+    pub later_failures: u32,
+    /// The condition of a handler's `if` held; it didn't.
+    pub taken_by_handlers: u32,
+    pub skipped_by_handlers: u32,
+    /// A task noted the time; some ticks had passed since; more than an answer can be.
+    pub stamps: u32,
+    pub measures: u32,
+    pub long_measures: u32,
 }
 
 /// Counts something, where it is so.
@@ -190,6 +203,7 @@ impl SlowKernel {
             nesting: 0,
             answer: None,
             previous_wake: app.start() as u64,
+            stamp: app.start() as u64,
             call: Call::default(),
             status: Status::Ended,
         };
@@ -521,6 +535,31 @@ impl SlowKernel {
         }
     }
 
+    fn stamp(&mut self, app: &App, id: TaskId) {
+        let task = Task {
+            stamp: self.time,
+            ..self.task(id)
+        };
+        count_if(&mut self.tally.stamps, true);
+        self.complete(app, id, task);
+    }
+
+    fn since(&mut self, app: &App, id: TaskId) {
+        let passed = self.time.saturating_sub(self.task(id).stamp);
+        count_if(&mut self.tally.measures, passed > 0);
+        count_if(&mut self.tally.long_measures, passed > 4_294_967_295);
+        self.answer(app, id, Some(passed.min(4_294_967_295) as u32));
+    }
+
+    /// A check fails. The first one that does in a step ends the run behind it.
+    fn fail(&mut self, check: End) {
+        let is_later = self.stopped.is_some();
+        count_if(&mut self.tally.later_failures, is_later);
+        if !is_later {
+            self.stopped = Some(check);
+        }
+    }
+
     fn act(&mut self, app: &App, id: TaskId, op: Op) {
         match op {
             Op::Work(units) => self.work(app, id, units),
@@ -542,6 +581,8 @@ impl SlowKernel {
             Op::Else => self.skip_other_branch(app, id),
             Op::EndIf => self.complete(app, id, self.task(id)),
             Op::Break => self.leave_loop(app, id),
+            Op::Stamp => self.stamp(app, id),
+            Op::Since => self.since(app, id),
             Op::Await(object, access, ticks) => {
                 self.go_on_waiting(app, id, object.number, access, ticks);
             }

@@ -17,6 +17,8 @@ fn may_be_held(op: Op) -> bool {
             | Op::Mark(_)
             | Op::Expect(_)
             | Op::Time
+            | Op::Stamp
+            | Op::Since
             | Op::MessagesWaiting(_)
             | Op::SpacesAvailable(_)
             | Op::GetBits(_)
