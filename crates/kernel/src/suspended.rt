@@ -110,6 +110,7 @@ fn work_on<L: Log>(machine: &mut Machine, app: &App, task: TaskId, ticks: u32, l
 }
 
 /// What an op that doesn't switch does while a `suspend_all` is in force.
+#[inline(always)]
 fn act_on<L: Log>(machine: &mut Machine, app: &App, task: TaskId, op: &Op, log: &mut L)
     requires room { 64 ≤ (L.logged log.old).room }
     requires can { CanHold app.now machine.old task op.now }
