@@ -187,7 +187,8 @@ def the_base_run_with_its_state():
     table = good_and_quick("classes", *given)
     equal(table.splitlines()[1:], [
         '  stuck: driver waits in op 2 "lock bus forever" (held by itself)', "  deadlock: driver waits for itself"])
-    holds(good_and_quick("svg", *given), "deadlock: driver waits for itself")
+    for command in ("svg", "junit"):
+        holds(good_and_quick(command, *given), "deadlock: driver waits for itself")
 
 
 @case

@@ -33,7 +33,7 @@ class Job:
         self.source = self.open_source()
         self.texts = read_application(self.application) if self.application is not None and has_texts else None
         self.base = None
-        self.lone_run = None
+        self.lone_run, self.ending = None, []
         self.asked = 0 if self.is_made_here and words.asks_for_states else MOST_ASKED
         self.endings = Endings(self.texts, self.ask_for_state)
 
@@ -96,6 +96,7 @@ class Job:
         for run in self.runs():
             found = classifier.add(run)
             self.lone_run = run.head if run.head.row is None else None
+            self.ending = self.endings.lines_of(run) if self.lone_run else []
             rows += found is not None
             if see and found is not None:
                 see(run, found)
@@ -142,9 +143,7 @@ def do_classes(job, output):
             if not (job.words.failing and it.verdict.passes):
                 output.line(it.name)
     else:
-        has_run = not rows and job.base is not None and job.base.head is not None
-        ending = job.endings.lines_of(job.base.run()) if has_run else ()
-        table.write_classes(output, classes, job.base, rows, job.given, job.words.failing, ending)
+        table.write_classes(output, classes, job.base, rows, job.given, job.words.failing, job.ending)
     return 0 if accepted is None else known.judged([it.name for it in classes if not it.verdict.passes], accepted)
 
 
@@ -189,7 +188,8 @@ def do_junit(job, output):
         junit.write_rows(output, suite, job.quiet_runs(), junit.counts_of(classes))
         return 0
     is_a_run = job.lone_run is not None and not job.is_made_here
-    failing = junit.write_classes(output, suite, classes, job.lone_run, job.words.allow_empty or is_a_run)
+    told = None if job.lone_run is None else junit.LoneRun(job.lone_run, job.ending)
+    failing = junit.write_classes(output, suite, classes, told, job.words.allow_empty or is_a_run)
     return 0 if job.words.accept is None else known.judged(failing, accepted)
 
 

@@ -90,10 +90,10 @@ def base_words(base):
 
 
 def write_classes(output, classes, base, rows, given, failing=False, ending=()):
-    """The table, with the lines of each class below its own; of those that fail alone, where that is asked for. Where there are no rows,
-    what the base run says at its end."""
+    """The table, with the lines of each class below its own; of those that fail alone, where that is asked for; and what a lone run says
+    at its end."""
     output.line(f"{counted(rows, 'row')} in {counted(len(classes), 'class')}; {base_words(base)}")
-    for it in () if rows else ending:
+    for it in ending:
         output.line(f"  {it}")
     passing = [it for it in classes if it.verdict.passes] if failing else []
     if passing:
