@@ -230,8 +230,9 @@ def the_program_is_asked_for_the_state():
         asked = "run locks.toml --at {} --handler button --state".format(11 if is_row_11 else 12)
         equal(read("bin/rtosim.calls").decode().splitlines()[-1], asked)
         os.remove("bin/rtosim.calls")
-    for words in (["classes", "--names"], ["json"], ["junit", "--rows"], ["svg", "--campaign"], ["svg", "--row", "1"], ["svg"],
-                  ["show", "0"]):
+    holds(good("svg", "--campaign", "--application", "locks.toml", companion=companion), f"<title>{'; '.join(STUCK)}</title>")
+    os.remove("bin/rtosim.calls")
+    for words in (["classes", "--names"], ["json"], ["junit", "--rows"], ["svg", "--row", "1"], ["svg"], ["show", "0"]):
         good(*words, "--application", "locks.toml", companion=companion)
         assert b"--state" not in read("bin/rtosim.calls"), words
     # with REPORT the program isn't run

@@ -314,7 +314,7 @@ def parsed(words):
     add_formats(commands)
     found = parser.parse_args(words)
     if getattr(found, "campaign", False):
-        found.about_a_run = found.asks_for_states = False
+        found.about_a_run = False
     if getattr(found, "names", False) or getattr(found, "rows", False):
         found.asks_for_states = False
     check_together(parser, found)
