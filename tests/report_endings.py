@@ -9,7 +9,7 @@ import xml.etree.ElementTree as tree
 from cases import case, equal, holds
 from reports import PATIENCE, PROGRAM, ROOT, SVG, good, good_and_quick, is_refused, overlaps, read, report_of, source_of, stand_in
 from running import session
-from rtosim_report import end_state, endings
+from rtosim_report import base_run, end_state, endings, timeline
 from rtosim_report.application import read_application
 from rtosim_report.reading import lone_run_of
 
@@ -136,6 +136,20 @@ def rows_whose_check_names_a_handler_are_read_by_each_command():
     file = f"{LOOKING}/of_the_checks_that_fail_in_a_step_the_first_is_told"
     picture = good_and_quick("svg", "--row", "0", f"{file}.report", "--application", f"{file}.toml")
     holds(picture, '<title>check h 0 in 2 steps, 1 ticks</title>')
+
+
+@case
+def a_check_of_a_handler_without_a_line():
+    """Without the application it is known to be none of a task where another one runs."""
+    for lines, kinds in (
+        ("3 1 run -\n", {"(not named)": "TASK", "idle": "IDLE", "h": "HANDLER"}),
+        ("1 0 call a 0 time = 0\n3 1 run b\n", {"a": "TASK", "b": "TASK", "h": "HANDLER"}),
+        ("1 0 call a 0 time = 0\n3 1 run h\n", {"a": "TASK", "h": "TASK"}), ("1 0 call h 0 time = 0\n", {"h": "TASK"}),
+        ("1 0 isr h 0 give = 0\n3 1 run -\n", {"(not named)": "TASK", "idle": "IDLE", "h": "HANDLER"}),
+    ):
+        base = base_run.given_base(source_of(f"base: check h 1 in 5 steps, 2 ticks\n{lines}").reader())
+        found = timeline.of_base(base)
+        equal((lines, {it.name: it.kind.name for it in found.lanes}), (lines, kinds))
 
 
 @case
