@@ -1,5 +1,6 @@
 """Cases of tests/report: what a run that fails says at its end. The runs in tests/runs/state and tests/runs/looking are what the
 program writes of the files there, with the state at the end."""
+import glob
 import os
 import re
 import shutil
@@ -51,7 +52,8 @@ def where_each_task_is():
             'ticks: reader waits in op 0 "receive rx 9" until tick 3, sleeper sleeps until tick 4294967289 before op 1 "time", '
             'late sleeps until tick 4294967295 before op 1 "time"']),
         ("the_daemon_is_last", 1, ['stuck: listener waits in op 0 "wait events 3 all keep forever"']),
-        ("a_run_that_passes_has_ended_tasks_and_endless_ones", 0, []), ("a_misuse_and_who_holds_the_mutex", 0, []),
+        ("a_misuse_and_who_holds_the_mutex", 0, ['misuse other 1 3: "unlock bus", of a mutex that the task doesn\'t hold']),
+        ("a_run_that_passes_has_ended_tasks_and_endless_ones", 0, []),
         ("a_run_without_a_step", 0, []),
     ):
         equal((name, ending_of(name, at)), (name, wanted))
@@ -90,10 +92,22 @@ def what_a_check_expected_and_what_the_answer_is():
     for folder in (LOOKING, STAMP):
         for file in os.listdir(folder):
             for point, lines in endings_of(f"{folder}/{file[:-7]}").items() if file.endswith(".report") else ():
-                # a misuse has no words
-                equal((file, point, len(lines)), (file, point, int(point == "0 h" or not file.startswith(("a_misuse", "a_last_op")))))
+                equal((file, point, len(lines)), (file, point, 1))
                 count += 1
     assert count > 50, count
+
+
+@case
+def each_misuse_has_its_words():
+    count = 0
+    for file in sorted(glob.glob(f"{ROOT}/tests/runs/misuse/*.out") + glob.glob(f"{ROOT}/tests/runs/branch/*.out")):
+        found = lone_run_of(source_of(read(file).decode()).reader())
+        if found.head.verdict.kind == "misuse":
+            words = endings.Endings(read_application(f"{file[:-4]}.toml")).lines_of(found)
+            code = found.head.verdict.numbers[1]
+            equal((file, [it.rpartition('"')[2] for it in words]), (file, [f", {endings.MISUSES[code]}"]))
+            count += 1
+    assert count > 5, count
 
 
 @case

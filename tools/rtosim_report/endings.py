@@ -1,5 +1,5 @@
 """What a run that fails says at its end, in words with the names and the texts of the application: of a check what was expected and what
-the answer is; of a run that is stuck, or comes to a limit, where each task is, who holds what it waits for, and who wait for each other."""
+the answer is; of a misuse what is wrong with it; of a run that is stuck, or comes to a limit, where each task is, who holds what it waits for, and who wait for each other."""
 from typing import List, Optional
 
 from .end_state import EndState, Status, TaskState, state_of
@@ -10,6 +10,11 @@ NEVER_DONE = ("stuck", "ticks", "steps")
 # The daemon's first op, in which it waits for a command.
 OP_OF_RECEIVE = 0
 LOCKS, CHECKS = "lock", "expect"
+# What is wrong with the op of a misuse, by its code.
+MISUSES = {
+    1: "which may wait or switch, while a suspend_all is in force", 2: "while no suspend_all is in force",
+    3: "of a mutex that the task doesn't hold", 4: "which ends the task, while a suspend_all is in force",
+}
 PLAIN = {Status.RUNS: "runs", Status.READY: "is Ready", Status.AWAKE: "is Awake", Status.SUSPENDED: "is suspended"}
 
 
@@ -27,6 +32,8 @@ class Endings:
             return []
         if kind == "check":
             return self.lines_of_check(run)
+        if kind == "misuse":
+            return self.lines_of_misuse(run.head.verdict)
         state = (state_of(run.state) or self.ask(run.head)) if kind in NEVER_DONE else None
         return [] if state is None else self.lines_of_state(kind, state)
 
@@ -38,6 +45,11 @@ class Endings:
             return []
         answer = "none" if found[0] is None else found[0]
         return [f'{verdict.text}: "{op.text}", the answer is {answer}']
+
+    def lines_of_misuse(self, verdict):
+        index, code = verdict.numbers
+        op = self.application.op(verdict.task, index)
+        return [f'{verdict.text}: "{op.text}", {MISUSES[code]}'] if op is not None and code in MISUSES else []
 
     def failed_answer(self, run):
         """The answer of which the check was not true, in a list of one; None where it isn't found."""
