@@ -1,5 +1,5 @@
 """Random applications, with campaigns of all steps of two handlers: half of them with a daemon, half of them tickless, and half of them
-with branches and endless tasks."""
+with branches, also in handlers, with endless tasks and with stamps."""
 import json
 import random
 
@@ -68,8 +68,8 @@ class Scripts:
 class Applications:
     """Random applications, most of which have something that can't end, fails or isn't reached. Those of even seeds have a daemon,
     and handlers that set and clear bits by it. Of four seeds the last two are tickless: they sleep and wait for up to nearly a turn of the
-    tick, begin at any tick, and have base interrupts amid their sleeps. Of eight seeds the last four have branches, and tasks that are
-    endless."""
+    tick, begin at any tick, and have base interrupts amid their sleeps. Of eight seeds the last four have branches, tasks that are
+    endless, stamps, and handlers that look."""
 
     def __init__(self, seed):
         self.dice, self.has_daemon = random.Random(seed), seed % 2 == 0
@@ -83,6 +83,8 @@ class Applications:
         return self.long_dice.choice((few, 3, 40, 700, 4000, 86400000, 4294967294)) if self.is_tickless else few
 
     def task_op(self):
+        if self.has_branches and self.block_dice.random() < 0.1:
+            return self.block_dice.choice(("stamp", "since"))
         q, s, t = (self.dice.choice(it) for it in ("qr", "sc", "ab"))
         wait = self.dice.choice(("forever", "forever", 0, 2))
         wait = self.ticks(2) if wait == 2 else wait
@@ -128,8 +130,20 @@ class Applications:
         ticks = self.long_dice.sample(range(1, 4001), self.long_dice.randrange(4)) if self.is_tickless else []
         return [f'[[interrupt]]\ntick = {it}\nhandler = "{self.long_dice.choice("hk")}"' for it in ticks]
 
+    def handler(self):
+        """Ops of a handler, of which half have blocks with branches where the tasks have some."""
+        ops = [self.handler_op() for _ in range(self.dice.randrange(6))]
+        if not self.has_branches or self.block_dice.random() < 0.5:
+            return ops
+        blocks = Scripts(self.block_dice, self.handler_op)
+        looks = [f"expect {blocks.condition()}"] * (self.block_dice.random() < 0.2)
+        while True:
+            found = [*ops[:3], *blocks.branch((), self.block_dice.choice((1, 1, 2, 3))), *looks, *ops[3:]]
+            if len(found) <= 16 and not any(it.startswith("repeat") for it in found):
+                return found
+
     def text(self):
-        handlers = [[self.handler_op() for _ in range(self.dice.randrange(6))] for _ in "hk"]
+        handlers = [self.handler() for _ in "hk"]
         parts = [self.beginning(), 'queue = [{ name = "q", length = 2 }, { name = "r", length = 1 }]']
         parts.append('binary = [{ name = "s" }]\nmutex = [{ name = "m" }]')
         parts.append(f'counting = [{{ name = "c", max = 2, initial = {self.dice.randrange(2)} }}]\ngroup = [{{ name = "g" }}]')
