@@ -1,5 +1,5 @@
-"""Cases of tests/program: scripts with branches, and tasks that serve for ever, at the limits of docs/FORMATS.md; and random scripts, of
-which what is written is found here too, op by op, from docs/KERNEL.md."""
+"""Cases of tests/program: scripts with branches, and tasks that serve for ever, at the limits of docs/FORMATS.md; and random scripts and
+handlers, of which what is written is found here too, op by op, from docs/KERNEL.md."""
 import hashlib
 import json
 import random
@@ -143,11 +143,11 @@ def partners(script):
 
 
 class Run:
-    """The run of one task, whose script has marks, looks at the time, work, checks and blocks."""
+    """The run of one task, whose script has marks, looks at the time, stamps, work, checks and blocks."""
 
     def __init__(self, script):
         self.script, self.partners = script, partners(script)
-        self.at = self.step = self.tick = 0
+        self.at = self.step = self.tick = self.stamp = 0
         self.answer, self.turns, self.lines = None, {}, []
         self.verdict = self.end()
 
@@ -173,9 +173,11 @@ class Run:
         word, there = op[0], self.partners[at]
         if word == "mark":
             self.line(f"mark a {op[1]}")
-        elif word == "time":
-            self.answer = self.tick
-            self.line(f"call a {at} time = {self.tick}")
+        elif word in ("time", "since"):
+            self.answer = self.tick - self.stamp * (word == "since")
+            self.line(f"call a {at} {word} = {self.answer}")
+        elif word == "stamp":
+            self.stamp = self.tick
         elif word == "work":
             self.tick += 1
         elif word == "repeat":
@@ -209,7 +211,7 @@ def random_scripts_of_one_task():
     ends = {}
     for seed in range(400):
         dice = random.Random(seed)
-        script = Scripts(dice, lambda: dice.choice(("time", "time", "work 1", "mark 7"))).script(seed % 5 == 0)
+        script = Scripts(dice, lambda: dice.choice(("time", "time", "since", "stamp", "work 1", "mark 7"))).script(seed % 5 == 0)
         wanted = Run(script)
         ends[wanted.verdict.split()[0]] = ends.get(wanted.verdict.split()[0], 0) + 1
         found = run_text(of_one_task(script))
@@ -252,3 +254,81 @@ def random_scripts_whose_blocks_are_mostly_bad():
             wanted = Run(script)
             equal(run_text(of_one_task(script))[1], wanted.text())
     assert good > 40, good
+
+
+# -- random handlers
+
+
+class Handled:
+    """A handler that comes once, before the first step of a task that resumes nobody: its queue has room for two items."""
+
+    def __init__(self, ops):
+        self.ops, self.partners = ops, partners(ops)
+        self.items, self.answer, self.lines = [], None, []
+        self.failed = self.end()
+
+    def end(self):
+        """Does the ops, and answers the index of the check that fails, or None."""
+        at = 0
+        while at < len(self.ops):
+            op, there = self.ops[at].split(), self.partners[at]
+            if op[0] == "expect" and not holds(op[1:], self.answer):
+                return at
+            if op[0] == "mark":
+                self.lines.append(f"0 0 mark h {op[1]}\n")
+            elif op[0] in ("send", "receive", "resume"):
+                self.call(op, at)
+            at = 1 + (there["parted"] if op[0] == "if" and not holds(op[1:], self.answer) else there["end"] if op[0] == "else" else at)
+        return None
+
+    def call(self, op, at):
+        if op[0] == "send":
+            self.answer = int(len(self.items) < 2)
+            self.items += [int(op[2])] * self.answer
+        elif op[0] == "receive":
+            self.answer = self.items.pop(0) if self.items else None
+        else:
+            self.answer = 0
+        self.lines.append(f"0 0 isr h {at} {op[0]} = {'none' if self.answer is None else self.answer}\n")
+
+    def text(self):
+        verdict = "pass" if self.failed is None else f"check h {self.failed}"
+        return f"row 0 at 0 h: {verdict} in 1 steps, 1 ticks\n{''.join(self.lines)}0 1 run -\n".encode()
+
+
+def of_one_handler(ops):
+    queue = '[[queue]]\nname = "q"\nlength = 2\n'
+    return f'{queue}[[handler]]\nname = "h"\nops = {json.dumps(ops)}\n' + task("work 1")
+
+
+@case
+def random_handlers_that_look():
+    checks = tried = 0
+    for seed in range(2000):
+        dice = random.Random(seed)
+        plain = lambda: dice.choice(("send q 1", "send q 0", "receive q", "receive q", "resume a", "mark 7"))
+        ops = Scripts(dice, plain).ops((), 1 + seed % 8)
+        if len(ops) > 16 or any(it.startswith("repeat") for it in ops):
+            continue
+        wanted = Handled(ops)
+        checks, tried = checks + (wanted.failed is not None), tried + 1
+        found = run_text(of_one_handler(ops), "--at", "0", "--handler", "h")
+        equal((ops, found), (ops, (int(wanted.failed is not None), wanted.text(), b"")))
+    assert tried > 300 and checks > 20, (tried, checks)
+
+
+@case
+def random_handlers_whose_blocks_are_mostly_bad():
+    good = 0
+    for seed in range(600):
+        dice = random.Random(seed)
+        ops = [dice.choice(("if 0", "if none", "if 1", "else", "end", "end", "mark 1")[: 3 if at < seed % 10 else None])
+               for at in range(dice.randrange(1, 12))]
+        ops += ["end"] * dice.choice((0, 1, 2, min(seed % 10, 5)))
+        bad = first_bad_op(ops)
+        good += bad is None
+        if bad is not None:
+            faults(of_one_handler(ops), f"7 BadNesting: handler 0 ops {bad}")
+        else:
+            equal(run_text(of_one_handler(ops), "--at", "0", "--handler", "h")[1], Handled(ops).text())
+    assert good > 20, good

@@ -9,6 +9,7 @@ import subprocess
 import sys
 
 from cases import equal, holds
+from running import session
 
 ROOT = os.path.dirname(os.path.dirname(os.path.realpath(__file__)))
 sys.path.insert(0, f"{ROOT}/tools")
@@ -172,15 +173,16 @@ def timeline_of(name, row=None, folder="examples"):
     return timeline.of_row(runs[row], base)
 
 
+# Words of a row with its state are answered as the example's session has them, and else refused.
 STAND_IN = """#!/bin/sh
 echo "$*" >>"$0.calls"
-case $1 in
-run) cat {out} ;;
-campaign) cat {report} ;;
+case "$1 $#" in
+"run 7") cat "$0.at.$4.$6" 2>/dev/null || exit 2 ;;
+"run "*) cat {out} ;;
+"campaign "*) cat {report} ;;
 esac
 exit {status}
 """
-
 
 
 def stand_in(room, name="lost_wake_up", status=1, report=None):
@@ -192,4 +194,8 @@ def stand_in(room, name="lost_wake_up", status=1, report=None):
     with open(f"{room}/bin/rtosim", "w") as it:
         it.write(STAND_IN.format(out=f"{file}.out", report=report or f"{file}.report", status=status))
     os.chmod(f"{room}/bin/rtosim", 0o755)
+    for words, lines, _ in session(f"examples/{name}.session") if os.path.exists(f"{file}.session") else ():
+        if words[-1] == "--state":
+            with open(f"{room}/bin/rtosim.at.{words[3]}.{words[5]}", "wb") as it:
+                it.write(lines)
     return f"{room}/bin/rtosim-report"

@@ -1,7 +1,7 @@
 """Why the program refuses the condition of an op, as of `if` and `expect`."""
 import re
 
-from .formats import MEANT_FRONTS, MEANT_NONE, MEANT_WITH_EQUAL, Condition
+from .formats import MEANT_ANSWERS, MEANT_FRONTS, MEANT_NONE, MEANT_WITH_EQUAL, Condition
 from .nearness import did_you_mean, near, quoted
 from .problem import Problem
 
@@ -80,6 +80,8 @@ def no_answer(word, may_be_none):
     ends = f"{condition.least} to {condition.most}" + (condition.or_else if may_be_none else "")
     if may_be_none and (near(word, ["none"]) or word in MEANT_NONE):
         return f'expected a number, {ends}, found "{word}"; did you mean "none"?'
+    if word in MEANT_ANSWERS:
+        return f'expected a number, {ends}, found "{word}"; did you mean "{MEANT_ANSWERS[word]}"?'
     if re.fullmatch("[0-9]{11,}", word):
         return f"{word} has more than ten digits"
     if re.fullmatch("-?[0-9]+", word):

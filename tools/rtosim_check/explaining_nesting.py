@@ -1,10 +1,12 @@
-"""Why the program refuses the nesting of a script's blocks: loops and ifs that don't open and close as they must."""
+"""Why the program refuses the nesting of blocks: loops and ifs that don't open and close as they must. A handler has ifs alone."""
 from .formats import DEEPEST, DEEPEST_LOOP, words_of
 from .nodes import Array, Text
 from .problem import joined, told
 
 OPENING = ("repeat", "if")
-CLOSED = "each end closes the last repeat or if that is open"
+CLOSED = {"task": "each end closes the last repeat or if that is open", "handler": "each end closes the last if that is open"}
+DEEP = {"task": f"loops and ifs are at most {DEEPEST} deep together", "handler": f"ifs are at most {DEEPEST} deep"}
+NEEDS_AN_END = {"task": "each repeat and each if needs an end", "handler": "each if needs an end"}
 PARTED = "an else parts the innermost block, which is an if, once"
 LEFT = "break leaves the innermost repeat that is open"
 
@@ -23,7 +25,7 @@ def bad_nesting(context):
     opened = open_blocks(array.items[: context.place.at])
     if context.node is None:
         return unclosed(context, array, opened)
-    problem, rule = problem_of(first_word(context.node), opened)
+    problem, rule = problem_of(first_word(context.node), opened, context.place.section)
     return (context.node.span, told(context, problem), rule) if problem else None
 
 
@@ -45,16 +47,16 @@ def open_blocks(items):
     return opened
 
 
-def problem_of(word, opened):
+def problem_of(word, opened, section):
     """What is wrong with an op of this word inside the open blocks, and the rule; both None where nothing is."""
     loops = [it.at for it in opened if it.word == "repeat"]
     if word == "repeat" and len(loops) == DEEPEST_LOOP:
         return f"this is the fifth repeat inside one another: those of {joined(loops)} are open", f"loops are at most {DEEPEST_LOOP} deep"
     if word in OPENING and len(opened) == DEEPEST:
         problem = f"this is the ninth block inside one another: those of {joined([it.at for it in opened])} are open"
-        return problem, f"loops and ifs are at most {DEEPEST} deep together"
+        return problem, DEEP[section]
     if word == "end" and not opened:
-        return "nothing is open here, which end could close", CLOSED
+        return "nothing is open here, which end could close", CLOSED[section]
     if word == "break" and not loops:
         return "no loop is open here, which break could leave", LEFT
     return problem_of_else(opened) if word == "else" else (None, None)
@@ -78,5 +80,6 @@ def unclosed(context, array, opened):
     node = array.items[last.at]
     others = f" ({len(opened)} blocks are open)" if len(opened) > 1 else ""
     what = "loop" if last.word == "repeat" else "if"
-    start = f'{context.entry.label}, script {last.at}, "{node.value}": this {what} is not closed'
-    return node.span, f'{start}; did you forget an "end" at the end of the script{others}?', "each repeat and each if needs an end"
+    section, key = context.place.section, context.place.key
+    start = f'{context.entry.label}, {key} {last.at}, "{node.value}": this {what} is not closed'
+    return node.span, f'{start}; did you forget an "end" at the end of the {key}{others}?', NEEDS_AN_END[section]

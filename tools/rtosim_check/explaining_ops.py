@@ -3,8 +3,8 @@ import re
 
 from .explaining_points import listed
 from .explaining_conditions import problem_of_condition
-from .formats import (CALLED, COMMANDS, DAEMON, EXAMPLE_OF_A_DAEMON, KIN, LATER_OPS, MEANT_OPS, MEANT_TURNS, MEANT_WAITS, NUMBER, OPS,
-                      PLURALS, SECTIONS, Choice, Name, Turns, Wait, op_of, words_of)
+from .formats import (CALLED, COMMANDS, DAEMON, EXAMPLE_OF_A_DAEMON, KIN, LOOPS, MEANT_OPS, MEANT_TURNS, MEANT_WAITS, MEASURES, NUMBER,
+                      OPS, PLURALS, SECTIONS, Choice, Name, Turns, Wait, op_of, words_of)
 from .nearness import did_you_mean, near, quoted
 from .nodes import Integer, Text
 from .problem import Problem, told
@@ -75,9 +75,6 @@ def problem_of_word(words, section):
         return None
     if section == "handler" and word in OPS["task"]:
         return Problem(start, end, op_of_tasks(word), all_ops("handler"))
-    if word in LATER_OPS[section]:
-        message = f'the program takes no such op: "{word}" is one of a later version'
-        return Problem(start, end, message, all_ops(section))
     meant = near(word, OPS[section], MEANT_OPS) or near(without_isr(word), OPS[section], MEANT_OPS)
     of_tasks = near(without_isr(word), OPS["task"], MEANT_OPS) if section == "handler" and not meant else None
     if of_tasks:
@@ -98,8 +95,10 @@ def op_of_tasks(word):
     """What to say of an op of tasks in a handler."""
     if word in WAITING:
         return f'"{word}" is an op of tasks: a handler never waits'
-    if word in LATER_OPS["handler"]:
-        return f'"{word}" is an op of tasks, and one of handlers in a later version'
+    if word in LOOPS:
+        return f'"{word}" is an op of tasks: a handler has no loops'
+    if word in MEASURES:
+        return f'"{word}" is an op of tasks: no time passes in a handler'
     return f'"{word}" is an op of tasks, and a handler has no such op'
 
 

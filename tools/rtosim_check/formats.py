@@ -258,6 +258,8 @@ TASK_OPS = table_of(
     Op("delay_until", Number("n", 1, what="how many ticks"), does="sleeps until n ticks after the time from which it counts"),
     Op("yield", does="lets the next task of its priority run"),
     Op("time", does="answers the tick"),
+    Op("stamp", does="notes the time for the next since"),
+    Op("since", does="answers how many ticks have passed since the last stamp, or since reset"),
     Op("mark", Number("n"), does="writes a line with n"),
     Op("expect", Condition(), does="ends the run with check where C doesn't hold"),
     Op("if", Condition(), does="goes on with the next op where C holds, and else behind its else, or behind its end, which closes it"),
@@ -296,14 +298,17 @@ HANDLER_OPS = table_of(
     Op("set", G, B, does="has the daemon set bits of an event group, where its queue has room for the command"),
     Op("clear", G, B, does="has the daemon clear bits of an event group, where its queue has room for the command"),
     TASK_OPS["bits"], TASK_OPS["mark"],
+    Op("expect", Condition(), does="ends the handler, and behind the step the run with check, where C doesn't hold"),
+    TASK_OPS["if"], TASK_OPS["else"],
+    Op("end", does="closes an if"),
 )
 # How deep loops are at most, and how deep blocks are, which are loops and ifs.
 DEEPEST_LOOP, DEEPEST = 4, 8
 OPS = {"task": TASK_OPS, "handler": HANDLER_OPS}
 # Ops of handlers that are commands to the daemon.
 COMMANDS = ("set", "clear")
-# Words of ops of later versions. When the program takes one, it moves up, with its arguments.
-LATER_OPS = {"task": ("stamp", "since"), "handler": ("expect", "if", "else", "end")}
+# Ops of loops, and ops that measure, which a handler has none of.
+LOOPS, MEASURES = ("repeat", "break"), ("stamp", "since")
 
 # What FreeRTOS and others call the ops.
 MEANT_OPS = {
@@ -317,7 +322,8 @@ MEANT_OPS = {
     "while": "repeat", "until": "repeat", "when": "if", "elif": "else", "elseif": "else", "elsif": "else", "otherwise": "else",
     "endif": "end", "end_if": "end", "fi": "end", "done": "end", "endloop": "end", "endwhile": "end", "leave": "break", "exit": "break",
     "write": "send", "post": "give", "release": "give", "signal": "give", "acquire": "take", "loop": "repeat", "for": "repeat",
-    "assert": "expect", "print": "mark", "log": "mark", "trace": "mark", "now": "time", "compute": "work", "run": "work",
+    "assert": "expect", "configassert": "expect", "print": "mark", "log": "mark", "trace": "mark", "now": "time", "compute": "work",
+    "run": "work", "elapsed": "since", "lap": "since", "timestamp": "stamp", "start_timer": "stamp", "deadline": "since",
     "notify": "give", "set_bits": "set", "clear_bits": "clear", "get_bits": "bits", "wait_bits": "wait",
 }
 # Ops that do the like to things of other kinds.
@@ -327,6 +333,7 @@ MEANT_FRONTS = {"==": "", "=": "", "is": "", "equals": "", "eq": "", "!=": "not"
                 "<": "below", "less": "below", "lt": "below", "under": "below", ">": "above", "greater": "above", "more": "above",
                 "gt": "above", "over": "above"}
 MEANT_WITH_EQUAL = {"<=": ("below", 1), "le": ("below", 1), ">=": ("above", -1), "ge": ("above", -1)}
+MEANT_ANSWERS = {"pdPASS": "1", "pdTRUE": "1", "true": "1", "pdFAIL": "0", "pdFALSE": "0", "errQUEUE_FULL": "0"}
 MEANT_NONE = ("nothing", "null", "NULL", "fail", "failed", "errQUEUE_EMPTY", "empty", "false")
 MEANT_WAITS = ("portmax_delay", "infinite", "infinity", "inf", "ever", "always", "max", "-1", "endless", "0xffffffff", "4294967295",
                "wait_forever", "oswaitforever", "none", "never")

@@ -11,6 +11,7 @@ from .paths import Paths
 
 NOBODY = "no op that is ever reached"
 WRITES = ("send", "send_front", "overwrite")
+FILLS = ("send", "send_front", "give", *COMMANDS)
 SLEEPS = ("delay", "delay_until")
 LIMIT = SECTIONS["limits"].keys["ticks"]
 PASSES = "a run passes when every task that isn't endless has come to the end of its script, and there is one"
@@ -191,17 +192,29 @@ def of_handlers(application, handlers):
     if application.daemon is not None:
         room[NAMELESS] = integer_of(application.daemon.table, "length")
     for script in handlers:
-        put = {}
+        # Of each op how much the handler has put into what at least, whichever way it came there: ways go on alone.
+        before = {0: {}}
         for at, (words, node) in enumerate(script.ops):
-            name = NAMELESS if words[0] in COMMANDS else words[1]
-            if words[0] in ("send", "send_front", "give", *COMMANDS):
-                if put.get(name, 0) >= room.get(name, 1 << 32):
-                    yield always_fails(script, at, node, room[name])
-                put[name] = min(put.get(name, 0) + 1, room.get(name, 1 << 32))
-            elif words[0] == "overwrite":
-                put[name] = 1
-            elif words[0] == "receive":
-                put[name] = max(put.get(name, 0) - 1, 0)
+            put = before[at]
+            name = NAMELESS if words[0] in COMMANDS else words[1] if len(words) > 1 else None
+            if words[0] in FILLS and put.get(name, 0) >= room.get(name, 1 << 32):
+                yield always_fails(script, at, node, room[name])
+            after = filled(put, words[0], name, room.get(name, 1 << 32))
+            for following in script.paths.after(at):
+                before[following] = least(before[following], after) if following in before else after
+
+
+def filled(put, word, name, room):
+    """How much there is in what behind an op."""
+    if word in FILLS:
+        return {**put, name: min(put.get(name, 0) + 1, room)}
+    if word == "overwrite":
+        return {**put, name: 1}
+    return {**put, name: max(put.get(name, 0) - 1, 0)} if word == "receive" else put
+
+
+def least(one, other):
+    return {it: min(one[it], other[it]) for it in one if it in other}
 
 
 def always_fails(script, at, node, room):

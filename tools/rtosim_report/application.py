@@ -9,6 +9,8 @@ from .faults import Fault
 SILENT_WORDS = {"work", "mark", "expect", "repeat", "end", "if", "else", "break", "stamp"}
 # Ops whose second word isn't the name of an object, a group or a task.
 NAMELESS = SILENT_WORDS | {"delay", "delay_until", "yield", "time", "since", "suspend_all", "resume_all"}
+# The sections of the objects, which are numbered in this order.
+OBJECTS = ("queue", "binary", "counting", "mutex")
 ORDINALS = {2: "2nd", 3: "3rd"}
 
 
@@ -58,7 +60,7 @@ class Script(NamedTuple):
 
 class Application(NamedTuple):
     """The scripts by their names. The daemon is a task without one. `start` is the tick at reset; `interrupt_ticks` are the elapsed
-    ticks of the base interrupts, rising."""
+    ticks of the base interrupts, rising; `objects` are the names of queues, semaphores and mutexes in the order of their numbers."""
 
     tasks: Dict[str, Script]
     handlers: Dict[str, Script]
@@ -66,6 +68,7 @@ class Application(NamedTuple):
     is_tickless: bool = False
     start: int = 0
     interrupt_ticks: List[int] = []
+    objects: List[str] = []
 
     def script(self, name) -> Optional[Script]:
         return self.tasks.get(name) or self.handlers.get(name)
@@ -95,7 +98,8 @@ def read_application(name):
     daemon = document.get("daemon")
     return Application({it.name: it for it in tasks}, {it.name: it for it in handlers},
                        script_of(daemon, "") if isinstance(daemon, dict) else None, document.get("tickless") is True,
-                       number_of(document, "start"), sorted({number_of(it, "tick") for it in entries(document, "interrupt")}))
+                       number_of(document, "start"), sorted({number_of(it, "tick") for it in entries(document, "interrupt")}),
+                       [str(it.get("name")) for section in OBJECTS for it in entries(document, section)])
 
 
 def document_of(text):

@@ -13,7 +13,7 @@ from .causes import failed_calls
 from .faults import BadReport, Fault, WordsFault
 from .grammar import EVENT_LINES
 from .injections import own_stretches, own_words, without
-from .reading import run_of_part
+from .reading import Run, run_of_part
 from .report import Head, Line
 
 # So many rows are looked at to presume the base run.
@@ -40,6 +40,7 @@ class BaseRun:
     origin: Origin
     known_until: int
     text: bytes = b""
+    state: bytes = b""
     steps: List[int] = field(default_factory=list)
     offsets: List[int] = field(default_factory=list)
     places: Dict[int, Tuple[int, int]] = field(default_factory=dict)
@@ -53,6 +54,10 @@ class BaseRun:
         self.offsets = [0]
         for it in texts:
             self.offsets.append(self.offsets[-1] + len(it))
+
+    def run(self):
+        """Itself as a run of a report, whose place there isn't known."""
+        return Run(self.head, self.text, 0, self.state)
 
     def position(self, step):
         """How many lines stand before this step."""
@@ -72,7 +77,7 @@ def texts_of(lines):
 
 
 def base_of(run, origin):
-    return BaseRun(run.head, run.checked_lines(), origin, run.head.steps)
+    return BaseRun(run.head, run.checked_lines(), origin, run.head.steps, state=run.state)
 
 
 def given_base(reader, origin=Origin.GIVEN):

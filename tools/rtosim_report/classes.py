@@ -11,6 +11,7 @@ from typing import Dict, List, Optional
 from . import differences
 from .base_run import is_base_exactly, tail_of_row
 from .causes import Causes, failed_beyond
+from .endings import Endings
 from .faults import BadReport
 from .report import Head
 
@@ -33,7 +34,7 @@ class By(enum.Enum):
 
 @dataclass
 class OutcomeClass:
-    """Rows of one outcome, counted. Of the rows only the head of the first one is kept, and what differs in it."""
+    """Rows of one outcome, counted. Of the rows only the head of the first one is kept, what differs in it, and what it says at its end."""
 
     first: Head
     is_base: bool
@@ -41,6 +42,7 @@ class OutcomeClass:
     name: str = ""
     is_by_cause: bool = False
     failed: str = ""
+    ending: List[str] = field(default_factory=list)
     number: int = 0
     rows: int = 0
     not_reached: int = 0
@@ -75,9 +77,9 @@ class OutcomeClass:
 class Classifier:
     """Puts rows into classes, one after another; its memory is that of the classes and the base run."""
 
-    def __init__(self, base, by=By.OUTCOME, application=None):
+    def __init__(self, base, by=By.OUTCOME, application=None, endings=None):
         self.base, self.by = base, by
-        self.causes = Causes(application)
+        self.causes, self.endings = Causes(application), endings or Endings(application)
         self.classes: Dict[object, OutcomeClass] = {}
 
     def add(self, run) -> Optional[OutcomeClass]:
@@ -138,7 +140,7 @@ class Classifier:
             name = self.name_as_base(run) + failed_words
         else:
             name = lasting_words(run.head.verdict, words)
-        return OutcomeClass(run.head, key is None, words, name, is_by_cause, failed_words)
+        return OutcomeClass(run.head, key is None, words, name, is_by_cause, failed_words, self.endings.lines_of(run))
 
     def name_as_base(self, run):
         return AS_BASE if run.head.verdict.passes else f"{AS_BASE}: {self.causes.end_of(run)}"

@@ -7,15 +7,20 @@ import sys
 from .application import read_application
 from .base_run import find_base, given_base, tail_of_row
 from .classes import By, Classifier
+from .end_state import state_of
+from .endings import Endings
 from .escaping import plain
 from .faults import STATUS_OUTPUT, Fault, WordsFault, counted
 from .output import ReaderLeft, output_file, standard_output
-from .source import base_source, campaign_source, file_source, standard_input
+from .reading import lone_run_of
+from .source import base_source, campaign_source, file_source, standard_input, state_source
 from .table import Given
 
 DESCRIPTION = "Reads a report of `rtosim run` or `rtosim campaign`: which points matter, pictures, other tools' formats."
 # So the name of an application ends, where a report may stand too.
 APPLICATION = ".toml"
+# So many rows' states are asked for.
+MOST_ASKED = 100
 
 
 class Job:
@@ -28,7 +33,9 @@ class Job:
         self.source = self.open_source()
         self.texts = read_application(self.application) if self.application is not None and has_texts else None
         self.base = None
-        self.lone_run = None
+        self.lone_run, self.ending = None, []
+        self.asked = 0 if self.is_made_here and words.asks_for_states else MOST_ASKED
+        self.endings = Endings(self.texts, self.ask_for_state)
 
     @property
     def given(self):
@@ -61,6 +68,18 @@ class Job:
         finally:
             reader.progress.end()
 
+    def ask_for_state(self, head):
+        """The state at the end of a row, as the program writes it. Where it writes none once, it isn't asked again."""
+        if self.asked >= MOST_ASKED or head.point is not None and not head.point.is_single:
+            return None
+        self.asked += 1
+        source = state_source(self.application, head.point)
+        run = None if source is None else lone_run_of(source.reader())
+        if run is None or run.head.end_text() != head.end_text() or not run.state:
+            self.asked = MOST_ASKED
+            return None
+        return state_of(run.state)
+
     def find_base(self):
         if self.words.base is not None:
             self.base = given_base(file_source(self.words.base).reader())
@@ -72,11 +91,12 @@ class Job:
 
     def classify(self, see=None):
         """All rows in classes. Each row and its class are shown to `see`."""
-        classifier = Classifier(self.find_base(), self.words.by, self.texts)
+        classifier = Classifier(self.find_base(), self.words.by, self.texts, self.endings)
         rows = 0
         for run in self.runs():
             found = classifier.add(run)
             self.lone_run = run.head if run.head.row is None else None
+            self.ending = self.endings.lines_of(run) if self.lone_run else []
             rows += found is not None
             if see and found is not None:
                 see(run, found)
@@ -103,10 +123,14 @@ class Job:
 
         run, base = self.wanted_run(self.words.row)
         if run is not None:
-            return timeline.of_row(run, base, self.texts)
+            found = timeline.of_row(run, base, self.texts)
+            found.ending = self.endings.lines_of(run)
+            return found
         if base is None or base.head is None:
             raise WordsFault("the report does not have the base run: --row N, --base or --application")
-        return timeline.of_base(base, self.texts)
+        found = timeline.of_base(base, self.texts)
+        found.ending = self.endings.lines_of(base.run())
+        return found
 
 
 def do_classes(job, output):
@@ -119,7 +143,7 @@ def do_classes(job, output):
             if not (job.words.failing and it.verdict.passes):
                 output.line(it.name)
     else:
-        table.write_classes(output, classes, job.base, rows, job.given, job.words.failing)
+        table.write_classes(output, classes, job.base, rows, job.given, job.words.failing, job.ending)
     return 0 if accepted is None else known.judged([it.name for it in classes if not it.verdict.passes], accepted)
 
 
@@ -143,7 +167,8 @@ def do_show(job, output):
     from . import show
 
     run, base = job.wanted_run(job.words.row)
-    show.write_row(output, run, base, job.words.context, job.words.output is None and sys.stdout.isatty())
+    has_colour = job.words.output is None and sys.stdout.isatty()
+    show.write_row(output, run, base, job.words.context, has_colour, job.endings.lines_of(run))
 
 
 def do_json(job, output):
@@ -163,7 +188,8 @@ def do_junit(job, output):
         junit.write_rows(output, suite, job.quiet_runs(), junit.counts_of(classes))
         return 0
     is_a_run = job.lone_run is not None and not job.is_made_here
-    failing = junit.write_classes(output, suite, classes, job.lone_run, job.words.allow_empty or is_a_run)
+    told = None if job.lone_run is None else junit.LoneRun(job.lone_run, job.ending)
+    failing = junit.write_classes(output, suite, classes, told, job.words.allow_empty or is_a_run)
     return 0 if job.words.accept is None else known.judged(failing, accepted)
 
 
@@ -213,7 +239,7 @@ def add_options(parser):
     parser.add_argument("--workers", type=workers, metavar="N|auto", help="of how many workers the program makes use")
     parser.add_argument("--partial", action="store_true", help="take the whole rows of a report that is cut off")
     parser.add_argument("--output", "-o", metavar="FILE", help="write to this file, when all of it is there")
-    parser.set_defaults(by=By.DEFAULT, row=None, about_a_run=False, accept=None)
+    parser.set_defaults(by=By.DEFAULT, row=None, about_a_run=False, accept=None, asks_for_states=False)
 
 
 def add_classes(commands):
@@ -227,7 +253,7 @@ and the outcome of those that pass")
     parser.add_argument("--failing", action="store_true", help="those that fail alone")
     parser.add_argument("--names", action="store_true", help="the names of the classes, a line each")
     add_accept(parser)
-    parser.set_defaults(do=do_classes)
+    parser.set_defaults(do=do_classes, asks_for_states=True)
 
 
 def add_accept(parser):
@@ -247,7 +273,7 @@ def add_show(commands):
     parser.add_argument("row", type=int, metavar="N", help="the row's number")
     add_common(parser)
     parser.add_argument("--context", type=int, metavar="LINES", help="fold what is alike but for so many lines")
-    parser.set_defaults(do=do_show)
+    parser.set_defaults(do=do_show, asks_for_states=True)
 
 
 def add_formats(commands):
@@ -259,16 +285,16 @@ def add_formats(commands):
     parser.add_argument("--rows", action="store_true", help="a test case for each row")
     parser.add_argument("--allow-empty", action="store_true", help="a campaign without points is no failure")
     add_accept(parser)
-    parser.set_defaults(do=do_junit, by=By.CAUSE)
+    parser.set_defaults(do=do_junit, by=By.CAUSE, asks_for_states=True)
     parser = commands.add_parser("svg", help="a picture of a run, or of a campaign")
     add_common(parser)
     which = parser.add_mutually_exclusive_group()
     which.add_argument("--row", type=int, metavar="N", help="of this row, not of the base run")
     which.add_argument("--campaign", action="store_true", help="of all points, by class")
-    parser.set_defaults(do=do_svg, about_a_run=True)
+    parser.set_defaults(do=do_svg, about_a_run=True, asks_for_states=True)
     parser = commands.add_parser("html", help="a page to look through a campaign: the map, the classes, rows beside the base run")
     add_common(parser)
-    parser.set_defaults(do=do_html)
+    parser.set_defaults(do=do_html, asks_for_states=True)
     for name, do, help_text in (
         ("perfetto", do_perfetto, "a run as a Chrome trace, for ui.perfetto.dev"),
         ("vcd", do_vcd, "a run as a value change dump, for GTKWave and PulseView"),
@@ -289,6 +315,8 @@ def parsed(words):
     found = parser.parse_args(words)
     if getattr(found, "campaign", False):
         found.about_a_run = False
+    if getattr(found, "names", False) or getattr(found, "rows", False):
+        found.asks_for_states = False
     check_together(parser, found)
     return found
 

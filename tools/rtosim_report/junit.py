@@ -2,12 +2,12 @@
 import os
 import time
 from dataclasses import dataclass
-from typing import FrozenSet
+from typing import FrozenSet, List
 from xml.sax.saxutils import escape, quoteattr
 
 from .escaping import plain
 from .faults import counted
-from .report import Verdict
+from .report import Head, Verdict
 from .table import Given, command_of, words_of
 
 NO_POINTS = Verdict("no points", "empty")
@@ -27,6 +27,14 @@ class Counts:
     cases: int
     failures: int
     skipped: int = 0
+
+
+@dataclass(frozen=True)
+class LoneRun:
+    """The base run of a report without rows, and what it says at its end."""
+
+    head: Head
+    ending: List[str]
 
 
 def attribute(text):
@@ -85,7 +93,7 @@ def write_classes(output, suite, classes, lone_run=None, allows_empty=False):
     unless there may be none. Returns the names of those that fail."""
     cases = [(it.name, it.verdict, class_text(it, suite)) for it in classes]
     if not classes and lone_run is not None:
-        cases.append(("the base run", lone_run.verdict, lone_run.text()))
+        cases.append(("the base run", lone_run.head.verdict, "\n".join([lone_run.head.text(), *lone_run.ending])))
     if not classes and not allows_empty:
         cases.append(("the campaign has points", NO_POINTS, "no row shows what happens at a point"))
     failing = [name for name, verdict, _ in cases if not verdict.passes]

@@ -118,6 +118,8 @@ class Timeline:
     endings: List[Tuple[Lane, int]] = field(default_factory=list)
     ops: Dict[Lane, List[Stretch]] = field(default_factory=dict)
     is_presumed: bool = False
+    # What the run says at its end, in words.
+    ending: List[str] = field(default_factory=list)
 
     @property
     def steps(self):

@@ -136,7 +136,8 @@ class Picture:
             if it.is_by_cause:
                 words = f"{it.name}, {counted(it.rows, 'row')}"
             shown = words if len(words) <= LONGEST_WORDS else words[: LONGEST_WORDS - 2] + ".."
-            output.line(drawing.label(46, top + 1, shown, "" if it.verdict.passes else "fails"))
+            ending = "; ".join(it.ending) or None
+            output.line(drawing.label(46, top + 1, shown, "" if it.verdict.passes else "fails", title=ending))
             top += 20
         left_out = self.classes[self.shown :]
         rows = counted(sum(it.rows for it in left_out), "row")

@@ -3,8 +3,8 @@ import functools
 import re
 from typing import List, NamedTuple, Optional
 
-from . import grammar
-from .faults import BadReport, CutOff
+from . import end_state, grammar
+from .faults import BadReport, CutOff, Fault
 from .report import Head, Injection, Line, Point, Verdict
 
 BLOCK = 1 << 20
@@ -15,11 +15,13 @@ AFTER_A_HEAD = f"an event ({grammar.AN_EVENT}), the next row's head line or the 
 
 
 class Run(NamedTuple):
-    """One run of a report: its head, the bytes of its event lines, and the number of its head line in the text."""
+    """One run of a report: its head, the bytes of its event lines, and the number of its head line in the text; and behind a lone run
+    the lines of the state at its end, where it was asked for."""
 
     head: Head
     text: bytes
     line_number: int
+    state: bytes = b""
 
     def lines(self, start=0) -> List[Line]:
         """The event lines from this byte on, checked."""
@@ -150,7 +152,7 @@ class Reader:
             raise BadReport(1, grammar.A_FIRST_LINE, line)
         if not text.endswith(b"\n"):
             raise CutOff(1 + text.count(b"\n"), "a line feed at the line's end", None)
-        return Run(head, body, 1)
+        return with_state(Run(head, body, 1))
 
     def rest(self, kept):
         parts = [kept]
@@ -170,7 +172,7 @@ class Reader:
                 yield self.row_of(row[4:])
             self.check_total(total)
         elif self.tally.rows == 0 and text.endswith(b"\n"):
-            yield self.row_of(text[4:])
+            yield with_state(self.row_of(text[4:]))
         else:
             self.cut_off(text)
 
@@ -200,6 +202,21 @@ class Reader:
                 raise CutOff(self.line_number, grammar.A_TOTAL, self.tally.rows)
         elif line.decode("ascii", "replace") != self.tally.text():
             raise BadReport(self.line_number, f"`{self.tally.text()}`, as the rows are", line)
+
+
+def lone_run_of(reader):
+    """The one run that a text tells; None where it tells something else."""
+    try:
+        runs = list(reader)
+    except Fault:
+        return None
+    return runs[0] if len(runs) == 1 else None
+
+
+def with_state(run):
+    """A lone run, with the lines of its state apart from those of the run."""
+    body, state = end_state.parted(run.text, run.line_number + 1)
+    return run._replace(text=body, state=state)
 
 
 def whole_rows(kept):
@@ -284,4 +301,4 @@ def run_of_part(part):
     """The run of such a text, or None where it is none. The number of its line isn't known."""
     match = grammar.ROW_HEAD.match(part + b"\n")
     head = None if match is None else row_head(match)
-    return None if head is None else Run(head, part[match.end() :] + b"\n" * (match.end() <= len(part)), 0)
+    return None if head is None else with_state(Run(head, part[match.end() :] + b"\n" * (match.end() <= len(part)), 0))

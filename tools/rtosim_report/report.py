@@ -44,7 +44,7 @@ class Verdict(NamedTuple):
 
     @property
     def task(self) -> Optional[str]:
-        """The task that a `check` or a `misuse` names."""
+        """The task that a `check` or a `misuse` names; of a check it may be a handler."""
         words = self.text.split(" ")
         return words[1] if len(words) > 1 else None
 

@@ -104,8 +104,8 @@ def text_of(line):
     return b" ".join(line).decode("ascii") if line else ""
 
 
-def write_row(output, run, base, context=None, has_colour=False):
-    """The two heads, the pairs, and what the marks mean."""
+def write_row(output, run, base, context=None, has_colour=False, ending=()):
+    """The two heads, the pairs, what the row says at its end, and what the marks mean."""
     pairs = all_pairs(run, base)
     base_head = base.head.text() if base and base.head else "base: not known whole"
     width = max([len(base_head)] + [len(text_of(it.base)) for it in pairs])
@@ -121,6 +121,8 @@ def write_row(output, run, base, context=None, has_colour=False):
         colour = COLOURS.get(it.mark) if has_colour else None
         output.line(f"\x1b[{colour}m{line}\x1b[0m" if colour else line)
     write_folded(output, folded)
+    for it in ending:
+        output.line(f"  {it}")
     output.line(LEGEND)
 
 

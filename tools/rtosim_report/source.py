@@ -1,6 +1,7 @@
 """Where a report comes from: a file, standard input, or the program. It can be read again and again, from its beginning.
 
 What can't be read twice, as a pipe, is copied to a file without a name in the folder for temporary files."""
+import io
 import os
 import subprocess
 import sys
@@ -85,6 +86,18 @@ def program_source(*words):
     if status not in STATUSES_OF_REPORTS:
         raise ProgramFault(status if status > 0 else 70)
     return Source(report)
+
+
+def state_source(application, point):
+    """The run of a row of one injection, or the base run, with the state at its end; None where the program writes none. It has made
+    a report before, so what it says of words that it doesn't know is kept from standard error."""
+    words = [] if point is None else ["--at", str(point[0].step), "--handler", point[0].handler]
+    try:
+        streams = {"stdout": subprocess.PIPE, "stderr": subprocess.DEVNULL}
+        ran = subprocess.run([PROGRAM, "run", application, *words, "--state"], check=False, **streams)
+    except OSError:
+        return None
+    return Source(io.BytesIO(ran.stdout)) if ran.returncode in STATUSES_OF_REPORTS and ran.stdout else None
 
 
 def base_source(application):

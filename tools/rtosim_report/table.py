@@ -40,9 +40,9 @@ def what_differs(it):
 
 
 def words_of(it):
-    """The cause, where it says more than the verdict, and what differs in the first row."""
+    """The cause, where it says more than the verdict, what differs in the first row, and what that says at its end."""
     lines = [it.name] if it.is_by_cause and it.name != it.verdict.text else []
-    return [*lines, what_differs(it) if not lines else (it.what_differs or AS_BASE)]
+    return [*lines, what_differs(it) if not lines else (it.what_differs or AS_BASE), *it.ending]
 
 
 def span(fewest, most):
@@ -89,9 +89,12 @@ def base_words(base):
     return f"the base run: {base.head.end_text()}{origin}"
 
 
-def write_classes(output, classes, base, rows, given, failing=False):
-    """The table, with the lines of each class below its own; of those that fail alone, where that is asked for."""
+def write_classes(output, classes, base, rows, given, failing=False, ending=()):
+    """The table, with the lines of each class below its own; of those that fail alone, where that is asked for; and what a lone run says
+    at its end."""
     output.line(f"{counted(rows, 'row')} in {counted(len(classes), 'class')}; {base_words(base)}")
+    for it in ending:
+        output.line(f"  {it}")
     passing = [it for it in classes if it.verdict.passes] if failing else []
     if passing:
         output.line(f"passing, and not shown: {counted(sum(it.rows for it in passing), 'row')} in {counted(len(passing), 'class')}")

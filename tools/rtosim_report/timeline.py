@@ -100,8 +100,12 @@ class Builder:
         return None if daemon is None else daemon.name
 
     def is_handler(self, name, handlers):
-        """Whether it is a handler that ends the run by a check."""
-        return name in handlers or self.application is not None and name in self.application.handlers
+        """Whether it is a handler that ends the run by a check. Without the application it is one that has a line, or whose check fails
+        while another one runs: a task that checks runs, and doesn't leave the processor by that."""
+        if name in handlers or self.application is not None:
+            return name in handlers or name in self.application.handlers
+        changes = [it.name for it in self.events if it.kind is Kind.RUN]
+        return self.head.verdict.kind == "check" and changes != [] and changes[-1] != name
 
     def first_runner(self, handlers):
         """Who runs at reset: whom a line tells before the first change, or where that is to idle the one task that is named, since

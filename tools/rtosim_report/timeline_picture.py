@@ -1,5 +1,6 @@
 """A run as a picture: a lane for each task, for idle and for each handler, in bands that stand below each other."""
 import math
+import textwrap
 from dataclasses import dataclass
 from itertools import groupby
 from typing import List
@@ -11,8 +12,8 @@ from .lanes import Doing, LaneKind, WindowKind
 PLOT, RIGHT, TOP = 1080, 24, 58
 WIDEST_STEP, NARROWEST_STEP, MOST_BANDS = 54, 6, 16
 LABEL_ROW, BAR, LANE_GAP, AXIS, BAND_GAP = 14, 14, 12, 40, 18
-# A row of the axis.
-AXIS_ROW = 14
+# A row of the axis, and one of what the run says at its end.
+AXIS_ROW, ENDING_ROW = 14, 16
 LEAST_VISIBLE = 0.75
 STYLES = [
     (".runs", "fill:#2f6fce", "fill:#5c9bf5"),
@@ -50,6 +51,8 @@ class Layout:
     lane_tops: List[float]
     band_height: float
     axis: float
+    # What the run says at its end, cut into lines.
+    ending: List[str]
 
     def band_of(self, boundary):
         return min(boundary // self.band_steps, self.bands - 1)
@@ -75,7 +78,7 @@ class Layout:
 
     @property
     def height(self):
-        return self.band_top(self.bands) + 22
+        return self.band_top(self.bands) + 22 + ENDING_ROW * len(self.ending)
 
 
 def rows_of(lane):
@@ -96,7 +99,9 @@ def layout_of(timeline):
     left = 22 + drawing.width_of("x" * max([margin] + [len(it.name) for it in timeline.lanes]))
     step_width = min(WIDEST_STEP, PLOT / band_steps)
     axis = AXIS + AXIS_ROW * timeline.outlasts_printed_ticks
-    return Layout(timeline, left, step_width, band_steps, math.ceil(steps / band_steps), tops, at + axis, axis)
+    room = int((left + PLOT + RIGHT - 24) / drawing.CHARACTER)
+    ending = [line for it in timeline.ending for line in textwrap.wrap(it, room, break_on_hyphens=False)]
+    return Layout(timeline, left, step_width, band_steps, math.ceil(steps / band_steps), tops, at + axis, axis, ending)
 
 
 def axis_numbers(timeline, last):
@@ -117,6 +122,8 @@ def write(output, timeline):
     write_lane_contents(output, layout)
     write_injections(output, layout)
     write_legend(output, layout)
+    for at, text in enumerate(layout.ending):
+        output.line(drawing.label(12, layout.band_top(layout.bands) + 8 + ENDING_ROW * at, text, "fails"))
     drawing.end(output)
 
 

@@ -1,0 +1,88 @@
+"""What `rtosim run .. --state` writes behind a run: where each task is after the last step, and who holds which mutex."""
+import enum
+import re
+from typing import Dict, List, NamedTuple, Optional
+
+from .faults import BadReport
+from .grammar import NAME, NUMBER
+
+PLAIN = rb"(runs|ready|awake|suspended) (" + NUMBER + rb")"
+TIMED = rb"(waits|sleeps) (" + NUMBER + rb") (forever|" + NUMBER + rb")"
+STATE_LINE = re.compile(rb"state (" + NAME + rb") (?:(ended)|" + PLAIN + rb"|" + TIMED + rb")")
+HELD_LINE = re.compile(rb"held (" + NUMBER + rb") (" + NAME + rb")")
+FIRST_WORDS = (b"state ", b"held ")
+A_STATE_LINE = "`state NAME WORD` or `held OBJECT NAME`, as `run --state` writes them behind the run"
+
+
+class Status(enum.Enum):
+    """Where a task is."""
+
+    RUNS = "runs"
+    READY = "ready"
+    AWAKE = "awake"
+    WAITS = "waits"
+    SLEEPS = "sleeps"
+    SUSPENDED = "suspended"
+    ENDED = "ended"
+
+
+class TaskState(NamedTuple):
+    """A task: the op that it is in, or that it does next, and the printed tick until which it waits or sleeps at most; None is for ever."""
+
+    name: str
+    status: Status
+    op: Optional[int] = None
+    until: Optional[int] = None
+
+
+class EndState(NamedTuple):
+    """The tasks in their order, the daemon last; the holders of mutexes by the numbers of these among all objects."""
+
+    tasks: List[TaskState]
+    holders: Dict[int, str]
+
+
+def first_of(body):
+    """Where the first line of a state begins, or None."""
+    if body.startswith(FIRST_WORDS):
+        return 0
+    found = [it + 1 for it in (body.find(b"\n" + word) for word in FIRST_WORDS) if it >= 0]
+    return min(found, default=None)
+
+
+def parted(body, line_number):
+    """The lines of a run, of which the first has this number, without the lines of its state; and these, which may be none."""
+    start = first_of(body)
+    if start is None:
+        return body, b""
+    state = body[start:]
+    first, is_held = line_number + body.count(b"\n", 0, start), False
+    for at, line in enumerate(state.split(b"\n")[:-1]):
+        is_held = is_held or line.startswith(b"held ")
+        if (HELD_LINE if is_held and at else STATE_LINE).fullmatch(line) is None:
+            raise BadReport(first + at, A_STATE_LINE, line)
+    return body[:start], state
+
+
+def state_of(lines) -> Optional[EndState]:
+    """The state that these lines say; None where there are none."""
+    if not lines:
+        return None
+    tasks, holders = [], {}
+    for line in lines.splitlines():
+        held = HELD_LINE.fullmatch(line)
+        if held:
+            holders[int(held[1])] = held[2].decode()
+        else:
+            tasks.append(task_of(STATE_LINE.fullmatch(line)))
+    return EndState(tasks, holders)
+
+
+def task_of(match):
+    name, ended, plain, op, timed, timed_op, until = match.groups()
+    name = name.decode()
+    if ended:
+        return TaskState(name, Status.ENDED)
+    if plain:
+        return TaskState(name, Status(plain.decode()), int(op))
+    return TaskState(name, Status(timed.decode()), int(timed_op), None if until == b"forever" else int(until))

@@ -1,0 +1,158 @@
+"""What a run that fails says at its end, in words with the names and the texts of the application: of a check what was expected and what
+the answer is; of a misuse what is wrong with it; of a run that is stuck, or comes to a limit, where each task is, who holds what it waits for, and who wait for each other."""
+from typing import List, Optional
+
+from .end_state import EndState, Status, TaskState, state_of
+from .progress import Walker, holds
+from .report import Kind, event_of
+
+NEVER_DONE = ("stuck", "ticks", "steps")
+# The daemon's first op, in which it waits for a command.
+OP_OF_RECEIVE = 0
+LOCKS, CHECKS = "lock", "expect"
+# What is wrong with the op of a misuse, by its code.
+MISUSES = {
+    1: "which may wait or switch, while a suspend_all is in force", 2: "while no suspend_all is in force",
+    3: "of a mutex that the task doesn't hold", 4: "which ends the task, while a suspend_all is in force",
+}
+PLAIN = {Status.RUNS: "runs", Status.READY: "is Ready", Status.AWAKE: "is Awake", Status.SUSPENDED: "is suspended"}
+
+
+class Endings:
+    """Words for the ends of runs of an application that is known. `ask` has the program write the state at the end of a row, or answers
+    None."""
+
+    def __init__(self, application, ask=lambda head: None):
+        self.application, self.ask = application, ask
+
+    def lines_of(self, run) -> List[str]:
+        """The lines for this run; none where it passes, or where no more is known than its head says."""
+        kind = run.head.verdict.kind
+        if self.application is None:
+            return []
+        if kind == "check":
+            return self.lines_of_check(run)
+        if kind == "misuse":
+            return self.lines_of_misuse(run.head.verdict)
+        state = (state_of(run.state) or self.ask(run.head)) if kind in NEVER_DONE else None
+        return [] if state is None else self.lines_of_state(kind, state)
+
+    def lines_of_check(self, run):
+        verdict = run.head.verdict
+        op = self.application.op(verdict.task, verdict.numbers[0])
+        found = self.failed_answer(run) if op is not None and op.word == CHECKS else None
+        if found is None:
+            return []
+        answer = "none" if found[0] is None else found[0]
+        return [f'{verdict.text}: "{op.text}", the answer is {answer}']
+
+    def lines_of_misuse(self, verdict):
+        index, code = verdict.numbers
+        op = self.application.op(verdict.task, index)
+        return [f'{verdict.text}: "{op.text}", {MISUSES[code]}'] if op is not None and code in MISUSES else []
+
+    def failed_answer(self, run):
+        """The answer of which the check was not true, in a list of one; None where it isn't found."""
+        verdict = run.head.verdict
+        events = [event_of(it) for it in run.lines()]
+        if verdict.task in self.application.tasks:
+            answers = [it.answer for it in events if it.kind is Kind.CALL and it.name == verdict.task]
+            found = answers[-1:] or [None]
+            return None if holds(self.application.op(verdict.task, verdict.numbers[0]).words[1:], found[0]) else found
+        last = [it for it in events if it.kind is Kind.ISR and it.name == verdict.task and it.step == run.head.steps - 1]
+        return answer_in_handler(self.application.handlers[verdict.task], last, verdict.numbers[0])
+
+    def lines_of_state(self, kind, state: EndState):
+        left = [it for it in state.tasks if it.status is not Status.ENDED and not self.is_idle_daemon(it)]
+        words = ", ".join(self.words_of_task(it, state) for it in left)
+        return [f"{kind}: {words}"] * bool(words) + [f"deadlock: {words_of_circle(it)}" for it in self.circles(state)]
+
+    def is_idle_daemon(self, it: TaskState):
+        return self.is_daemon(it.name) and it.status is Status.WAITS and it.op == OP_OF_RECEIVE
+
+    def is_daemon(self, name):
+        return self.application.daemon is not None and name == self.application.daemon.name
+
+    def words_of_task(self, it: TaskState, state: EndState):
+        until = "" if it.until is None else f" until tick {it.until}"
+        if it.status is Status.WAITS:
+            return f"{it.name} waits in {self.op_text(it)}{until}{self.held_text(it, state)}"
+        if it.status is Status.SLEEPS:
+            return f"{it.name} sleeps{until} before {self.op_text(it)}"
+        return f"{it.name} {PLAIN[it.status]} at {self.op_text(it)}"
+
+    def op_text(self, it: TaskState):
+        if self.is_daemon(it.name):
+            return "its next command" if it.op == OP_OF_RECEIVE else "a command"
+        op = self.application.op(it.name, it.op)
+        return f'op {it.op} "{op.text}"' if op is not None else f"op {it.op}"
+
+    def held_text(self, it: TaskState, state: EndState):
+        """By whom the mutex is held for which the task waits."""
+        holder = self.holder_before(it, state)
+        if holder is None:
+            return ""
+        if holder == it.name:
+            return " (held by itself)"
+        has_ended = any(other.name == holder and other.status is Status.ENDED for other in state.tasks)
+        return f" (held by {holder}{', which has ended' if has_ended else ''})"
+
+    def holder_before(self, it: TaskState, state: EndState) -> Optional[str]:
+        """Who holds the mutex for which the task waits; None where it waits for none."""
+        op = self.application.op(it.name, it.op) if it.status is Status.WAITS else None
+        if op is None or op.word != LOCKS or op.object not in self.application.objects:
+            return None
+        return state.holders.get(self.application.objects.index(op.object))
+
+    def circles(self, state: EndState) -> List[List[str]]:
+        """The tasks that wait for ever for each other, each circle once, from its first task on."""
+        forever = [it for it in state.tasks if it.until is None]
+        holder = {it.name: self.holder_before(it, state) for it in forever}
+        found, seen = [], set()
+        for name in holder:
+            way = []
+            while name is not None and name not in way and name not in seen:
+                way.append(name)
+                name = holder.get(name)
+            if name in way:
+                found.append(way[way.index(name) :])
+            seen.update(way)
+        return found
+
+
+def words_of_circle(names):
+    first, *others = [*names[1:], names[0]]
+    waits = f"{names[0]} waits for {'itself' if first == names[0] else first}"
+    return waits + "".join(f", which waits for {it}" for it in others)
+
+
+def answer_in_handler(script, events, index):
+    """The answer of which the check of this index was not true, in a list of one; the events are those of the handler in the last step.
+    It may have come several times there: each call of it begins with the op of its first line, as each begins with no answer."""
+    calls = [[]]
+    for it in events:
+        if it.op == events[0].op and calls[-1]:
+            calls.append([])
+        calls[-1].append(it)
+    for call in [*calls, []]:
+        found = first_failure({it.op: it.answer for it in call}, script)
+        if found is not None and found[0] == index:
+            return found[1:]
+    return None
+
+
+def first_failure(answers, script):
+    """The index of the first check that fails in a call of the handler, whose ops have these answers, and the last answer then; None where
+    all are true, or the ops aren't those of the answers."""
+    walker = Walker(script)
+    while not walker.has_ended:
+        op = walker.op
+        if op.word == CHECKS and not holds(op.words[1:], walker.answer):
+            return [walker.at, walker.answer]
+        if op.is_silent:
+            walker.go_past()
+        elif walker.at in answers:
+            walker.called(answers[walker.at])
+        else:
+            return None
+    return None
