@@ -41,13 +41,7 @@ fn inner_behind(inner: usize, edge: Edge) -> Option<usize>
 {
     match edge {
         Edge::OpensIf => Some(inner + 1),
-        Edge::OpensElse => {
-            if inner == 0 {
-                None
-            } else {
-                Some(inner)
-            }
-        }
+        Edge::OpensElse => { if inner == 0 { None } else { Some(inner) } }
         Edge::EndsIf => inner.checked_sub(1),
         _ => Some(inner),
     }

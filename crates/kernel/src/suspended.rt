@@ -98,6 +98,7 @@ fn held_tick_interrupt<L: Log>(machine: &mut Machine, app: &App, log: &mut L)
 }
 
 /// `work` while a `suspend_all` is in force: a tick of it is used up, and the tick that comes is held.
+#[inline(always)]
 fn work_on<L: Log>(machine: &mut Machine, app: &App, task: TaskId, ticks: u32, log: &mut L)
     requires room { 64 ≤ (L.logged log.old).room }
     requires can { CanHold app.now machine.old task (op.Work ticks) }

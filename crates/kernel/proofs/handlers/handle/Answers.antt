@@ -32,15 +32,15 @@ overflow_cast-op_index-else-is_failed g c = omega (arith, c.loop-op_index-test.t
 
 pub loop-op_index-preserved : goal.loop-op_index-preserved
 loop-op_index-preserved g c = elim c.if-over-gt0.branch [
-  then-over-gt0 w ↦
-    rw (w.machine-is, w.log-is, w.last-is, w.over-is)
-    (amid_jumped c.args.app.now c.args.handler c.handler_ops-ops.result.now c.args.machine.now (g.L.Log.logged c.args.log.now) c.loop-op_index.op_index c.loop-op_index.over c.loop-op_index.last c.loop-op_index.machine (g.L.Log.logged c.loop-op_index.log) c.loop-op_index.invariant c.index-ops-op_index.result c.loop-op_index-test.true c.index-ops-op_index.is w.if-over-gt0.true) |
-  else-over-gt0+else-is_failed w ↦
-    let none : c.loop-op_index.over ≡ 0 = (let l = w.if-over-gt0.false in omega arith) in
-    let jump : w.isr_jump-over.result ≡ isr_jump c.index-ops-op_index.result c.loop-op_index.last (drop (c.loop-op_index.op_index + 1) c.handler_ops-ops.result.now) =
-        w.isr_jump-over.ensures ∙ ap (isr_jump c.index-ops-op_index.result c.loop-op_index.last) (behind_is c.handler_ops-ops.result.now c.loop-op_index.op_index c.loop-op_index-test.true) in
-    rw (w.machine-is, w.log-is, w.last-is, w.over-is, jump)
-    (amid_did c.args.app.now c.args.handler c.handler_ops-ops.result.now c.args.machine.now (g.L.Log.logged c.args.log.now) c.loop-op_index.op_index c.loop-op_index.over c.loop-op_index.last c.loop-op_index.machine (g.L.Log.logged c.loop-op_index.log) c.loop-op_index.invariant c.index-ops-op_index.result c.loop-op_index-test.true c.index-ops-op_index.is none w.if-is_failed.ensures
+  | then-over-gt0 w ↦
+      rw (w.machine-is, w.log-is, w.last-is, w.over-is)
+      (amid_jumped c.args.app.now c.args.handler c.handler_ops-ops.result.now c.args.machine.now (g.L.Log.logged c.args.log.now) c.loop-op_index.op_index c.loop-op_index.over c.loop-op_index.last c.loop-op_index.machine (g.L.Log.logged c.loop-op_index.log) c.loop-op_index.invariant c.index-ops-op_index.result c.loop-op_index-test.true c.index-ops-op_index.is w.if-over-gt0.true)
+  | else-over-gt0+else-is_failed w ↦
+      let none : c.loop-op_index.over ≡ 0 = (let l = w.if-over-gt0.false in omega arith) in
+      let jump : w.isr_jump-over.result ≡ isr_jump c.index-ops-op_index.result c.loop-op_index.last (drop (c.loop-op_index.op_index + 1) c.handler_ops-ops.result.now) =
+      w.isr_jump-over.ensures ∙ ap (isr_jump c.index-ops-op_index.result c.loop-op_index.last) (behind_is c.handler_ops-ops.result.now c.loop-op_index.op_index c.loop-op_index-test.true) in
+      rw (w.machine-is, w.log-is, w.last-is, w.over-is, jump)
+      (amid_did c.args.app.now c.args.handler c.handler_ops-ops.result.now c.args.machine.now (g.L.Log.logged c.args.log.now) c.loop-op_index.op_index c.loop-op_index.over c.loop-op_index.last c.loop-op_index.machine (g.L.Log.logged c.loop-op_index.log) c.loop-op_index.invariant c.index-ops-op_index.result c.loop-op_index-test.true c.index-ops-op_index.is none w.if-is_failed.ensures
       w.isr-last.new.machine (g.L.Log.logged w.isr-last.new.log) w.isr-last.result w.isr-last.ensures.does w.isr-last.ensures.any w.isr-last.ensures.leaves w.isr-last.ensures.answer)
 ]
 

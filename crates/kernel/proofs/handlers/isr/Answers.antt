@@ -105,10 +105,10 @@ returns-in-Mark-clause-answer g c = λ s h. rw c.in-Mark.is refl
 
 pub returns-in-Expect-clause-any : goal.returns-in-Expect-clause-any
 returns-in-Expect-clause-any g c = elim c.in-Expect.is [
-  inl e ↦ same (e.1) (λ s. refl) |
-  inr e ↦ elim e [
-    inl e ↦ same (e.1) (λ s. refl) |
-    inr e ↦ elim e [ inl e ↦ same e (λ s. refl) | inr e ↦ same e (λ s. refl) ]
+  | inl e ↦ same (e.1) (λ s. refl)
+  | inr e ↦ elim e [
+    | inl e ↦ same (e.1) (λ s. refl)
+    | inr e ↦ elim e [ inl e ↦ same e (λ s. refl) | inr e ↦ same e (λ s. refl) ]
   ]
 ] where
   same : {op : IsrOp} → c.args.op.now ≡ op → ((s : State) → isr c.args.app.now c.args.handler c.args.op_index op s ≡ s)

@@ -14,7 +14,7 @@ loop-passed-preserved c =
     let edges = isr_edges_of (drop (c.loop-passed.passed + 1) c.args.ops.now) in
     let one = one_counted c.args.ops.now c.loop-passed.passed c.index-ops-passed.result c.loop-passed-test.true c.index-ops-passed.is _ c.loop-passed.inner so.is in
     let on : past_branch c.loop-passed.inner (edge_of_isr c.index-ops-passed.result ∷ edges) ≡ past_branch c.in-Some.behind edges + 1 =
-        rw (← c.edge.ensures) (c.in-Some.ensures.more edges) in
+    rw (← c.edge.ensures) (c.in-Some.ensures.more edges) in
     record { few = let a = so.few in let b = c.in-Some.ensures.few in omega arith; is = omega (arith, one, on) }
 
 pub returns-in-None : goal.returns-in-None
