@@ -5,3 +5,4 @@ pub mod Standing
 pub mod Taking
 pub mod Unmoved
 pub mod Nearest
+pub mod WakeTicks

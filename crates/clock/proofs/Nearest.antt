@@ -110,7 +110,7 @@ first_sleeper t n e = by_time (first_time t.delayed_list) e where
 
 module _ (t : Timeline) (s : State) (h : StandsFor t s) where
   -- who is among those of a time wakes then
-  wakes_at : (i w : ℕ) → among i (tasks_at w t.delayed_list) ≡ true → wake_time_of (status_at s i) ≡ Some w
+  pub wakes_at : (i w : ℕ) → among i (tasks_at w t.delayed_list) ≡ true → wake_time_of (status_at s i) ≡ Some w
   wakes_at i w a = at_time_only (wake_time_of (status_at s i)) w (due-until s.tasks i w (list_by delayed_key s.tasks) (sym (ap (among i) (h.delayed w)) ∙ a))
 
   -- and who wakes at a time is among those of it

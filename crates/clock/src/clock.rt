@@ -1,7 +1,7 @@
 //! The clock: its tick, and its two lists of sleepers.
 ghost use Rattle.std.specs.Prelude.{◌≡◌, ◌+◌, ◌-◌, ◌*◌, ◌^◌, ◌<◌, ◌≤◌, ◌%◌, [], min, true, false, length, IsTrue, ◌↔◌, Some, ◌≢◌, ℕ, Option, MatchOption, option_map};
 ghost use Rattle.lists.specs.Lists.{insert_sorted, without, Each};
-ghost use Rattle.model.specs.State.{State, Suspended, with_status};
+ghost use Rattle.model.specs.State.{State, Suspended, printed, status_at, wake_time_of, with_status};
 ghost use Rattle.model.specs.Order.{tasks_of};
 ghost use Rattle.model.specs.Switching as switching;
 ghost use Rattle.model.specs.Switching.{is_scheduler_suspended};
@@ -209,6 +209,18 @@ impl Clock {
         ensures asleep { result ≡ is_asleep self.now task }
     {
         self.lists.contains(task)
+    }
+
+    /// The tick that is shown when a task's sleep ends; `None` where it doesn't sleep.
+    pub fn wake_tick(&self, task: TaskId) -> Option<u32>
+        // In the definitions it wakes by itself at this time, or doesn't.
+        ensures stands { (s : State) → StandsFor self.now s
+            → result ≡ option_map printed (wake_time_of (status_at s task)) }
+    {
+        if !self.is_asleep(task) {
+            return None;
+        }
+        Some(self.lists.value(task))
     }
 
     /// Puts a task that isn't asleep (`is_asleep` tells) to sleep for 1 to 4294967295 ticks. It wakes

@@ -19,3 +19,4 @@ pub mod Along
 pub mod Resting
 pub mod Ahead
 pub mod Amid
+pub mod EndStates

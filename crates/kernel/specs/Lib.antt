@@ -10,3 +10,4 @@ pub mod InScript
 pub mod Bits
 pub mod Commands
 pub mod Left
+pub mod EndStates

@@ -4,6 +4,7 @@
 mod acting;
 mod bits;
 mod commands;
+mod end_state;
 mod handlers;
 mod idle;
 mod in_call;
@@ -15,6 +16,7 @@ mod rows;
 mod steps;
 mod suspended;
 
+pub use end_state::run_to_end_state;
 pub use kernel::Kernel;
 pub use machine::{Snapshot, StepLog, Trail};
 pub use rests::{RestEnding, run_rest};

@@ -1,5 +1,6 @@
 pub mod Adding
 mod Again
+pub mod EndStates
 pub mod Fronts
 pub mod Lanes
 pub mod Numbers

@@ -4,3 +4,4 @@ pub mod Fronts
 pub mod Tens
 pub mod Text
 pub mod Writing
+pub mod EndStates

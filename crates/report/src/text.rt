@@ -26,8 +26,8 @@ pub(crate) const MAX_NUMBER: usize = 14;
 // The room that the line of totals needs at most: eight numbers of 10 digits, and 69 bytes of words.
 pub(crate) const MAX_TOTALS: usize = 149;
 
-// The name of a task.
-fn name(app: &App, task: TaskId) -> &[u8]
+/// The name of a task.
+pub(crate) fn name(app: &App, task: TaskId) -> &[u8]
     ensures text { result.now ≡ name_of app.now task }
     ensures size { length result.now ≤ 16 }
 {

@@ -1,0 +1,6 @@
+//! What stands at the end of a run: what each task is doing, and who holds which mutex.
+#![tactic(auto)]
+
+mod end_state;
+
+pub use end_state::{EndState, HeldMutex, Situation};
